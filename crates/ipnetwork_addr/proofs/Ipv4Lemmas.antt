@@ -1,0 +1,164 @@
+-- An IPv4 text, octet by octet from the front.
+use Rattle.std.proofs.Common.{◌≡◌, ◌≢◌, ◌↔◌, ℕ, ◌+◌, ◌*◌, ◌^◌, ◌<◌, ◌≤◌, List, [], ◌∷◌, ◌++◌, length, get_or, map, decimal, refl, sym, ap, ◌∙◌, arith, lit≤, inl, append-nil, Bool, true, false, ◌==◌}
+use Rattle.std.proofs.lemmas.Bool.{eqb-true, eqb-false}
+use Rattle.std.proofs.lemmas.List.{nil_from_length}
+use Rattle.std.specs.List.{join_with_byte, AllZip}
+use Rattle.std.specs.Int.Digits.{number_from_digits}
+use Rattle.ipnetwork_addr.specs.Digits.{octets_of}
+use Rattle.ipnetwork_addr.specs.Texts.{IsJoined, dot}
+use Rattle.ipnetwork_addr.specs.Ipv4Text.{IsOctet, NamesV4, NamesNoV4, canonical_v4}
+use Rattle.ipnetwork_addr.specs.OctetFront.{NoDigit, BeginsWithOctet, NoOctet, BeginsWithDottedOctet, NoDottedOctet}
+use Rattle.ipnetwork_addr.proofs.Octets.{octet_unique, dotted_octet_unique}
+
+-- four octets, read one after the other, and nothing after them
+pub record Chain (text : List ℕ) (a b c d : ℕ) : Type 0 where
+  pub after_a : List ℕ
+  pub after_b : List ℕ
+  pub after_c : List ℕ
+  pub first : BeginsWithOctet text a after_a
+  pub second : BeginsWithDottedOctet after_a b after_b
+  pub third : BeginsWithDottedOctet after_b c after_c
+  pub fourth : BeginsWithDottedOctet after_c d []
+
+-- the digits of an address, highest first
+abbrev pub number_of : ℕ → ℕ → ℕ → ℕ → ℕ
+number_of a b c d = number_from_digits 256 (a ∷ b ∷ c ∷ d ∷ [])
+
+pub record Reading (text : List ℕ) (address : ℕ) : Type 0 where
+  pub a : ℕ
+  pub b : ℕ
+  pub c : ℕ
+  pub d : ℕ
+  pub chain : Chain text a b c d
+  pub value : address ≡ number_of a b c d
+
+begins : (part : List ℕ) (n : ℕ) (rest : List ℕ) → IsOctet part n → NoDigit rest → BeginsWithOctet (part ++ rest) n rest
+begins part n rest h stops = record { bound = h.0; split = ap (λ t. t ++ rest) h.1; stops = stops }
+
+at_dot : (rest : List ℕ) → NoDigit (46 ∷ rest)
+at_dot rest = inl (lit≤ tt)
+
+at_end : NoDigit []
+at_end = inl (lit≤ tt)
+
+reading_of_parts : (text : List ℕ) (parts : List (List ℕ)) (octets : List ℕ) (address : ℕ) → text ≡ join_with_byte 46 parts → AllZip IsOctet parts octets → length octets ≡ 4 → address ≡ number_from_digits 256 octets → Reading text address
+reading_of_parts text (p ∷ q ∷ r ∷ s ∷ []) (a ∷ b ∷ c ∷ d ∷ []) address spelled named four value = record {
+  a = a;
+  b = b;
+  c = c;
+  d = d;
+  chain = record {
+    after_a = 46 ∷ (q ++ 46 ∷ (r ++ 46 ∷ s));
+    after_b = 46 ∷ (r ++ 46 ∷ s);
+    after_c = 46 ∷ s;
+    first = rw spelled (begins p a (46 ∷ (q ++ 46 ∷ (r ++ 46 ∷ s))) named.0 (at_dot (q ++ 46 ∷ (r ++ 46 ∷ s))));
+    second = record { after_dot = q ++ 46 ∷ (r ++ 46 ∷ s); dotted = refl; begins = begins q b (46 ∷ (r ++ 46 ∷ s)) named.1.0 (at_dot (r ++ 46 ∷ s)) };
+    third = record { after_dot = r ++ 46 ∷ s; dotted = refl; begins = begins r c (46 ∷ s) named.1.1.0 (at_dot s) };
+    fourth = record { after_dot = s; dotted = refl; begins = rw append-nil at (begins s d [] named.1.1.1.0 at_end) };
+  };
+  value = value;
+}
+reading_of_parts text parts [] address spelled named four value = absurd (omega arith)
+reading_of_parts text parts (a ∷ []) address spelled named four value = absurd (omega arith)
+reading_of_parts text parts (a ∷ b ∷ []) address spelled named four value = absurd (omega arith)
+reading_of_parts text parts (a ∷ b ∷ c ∷ []) address spelled named four value = absurd (omega arith)
+reading_of_parts text parts (a ∷ b ∷ c ∷ d ∷ e ∷ more) address spelled named four value = absurd (omega arith)
+reading_of_parts text [] (a ∷ b ∷ c ∷ d ∷ []) address spelled named four value = absurd named
+reading_of_parts text (p ∷ []) (a ∷ b ∷ c ∷ d ∷ []) address spelled named four value = absurd named.1
+reading_of_parts text (p ∷ q ∷ []) (a ∷ b ∷ c ∷ d ∷ []) address spelled named four value = absurd named.1.1
+reading_of_parts text (p ∷ q ∷ r ∷ []) (a ∷ b ∷ c ∷ d ∷ []) address spelled named four value = absurd named.1.1.1
+reading_of_parts text (p ∷ q ∷ r ∷ s ∷ t ∷ more) (a ∷ b ∷ c ∷ d ∷ []) address spelled named four value = absurd named.1.1.1.1
+
+pub reading_of : (text : List ℕ) (address : ℕ) → NamesV4 text address → Reading text address
+reading_of text address h = reading_of_parts text h.joined.parts h.octets address h.joined.spelled h.joined.named h.four h.value
+
+-- ---- the answers of the reader
+
+-- what a test for the end tells
+pub is_nil : (b : Bool) (text : List ℕ) → b ≡ (length text == 0) → b ≡ true → text ≡ []
+is_nil b text e f = nil_from_length text (eqb-true (length text) 0 (sym e ∙ f))
+
+pub not_nil : (b : Bool) (text : List ℕ) → b ≡ (length text == 0) → b ≡ false → text ≢ []
+not_nil b text e f empty = eqb-false (length text) 0 (sym e ∙ f) (ap length empty)
+
+pub names_four : (text : List ℕ) (a b c d : ℕ) (r s t u : List ℕ) → BeginsWithOctet text a r → BeginsWithDottedOctet r b s → BeginsWithDottedOctet s c t → BeginsWithDottedOctet t d u → u ≡ [] → NamesV4 text (number_of a b c d)
+names_four text a b c d r s t u first second third fourth empty = record {
+  octets = a ∷ b ∷ c ∷ d ∷ [];
+  joined = record {
+    parts = decimal a ∷ decimal b ∷ decimal c ∷ decimal d ∷ [];
+    spelled =
+        first.split
+        ∙ ap (λ z. decimal a ++ z) (second.dotted
+            ∙ ap (λ z. 46 ∷ z) (second.begins.split
+                ∙ ap (λ z. decimal b ++ z) (third.dotted
+                    ∙ ap (λ z. 46 ∷ z) (third.begins.split
+                        ∙ ap (λ z. decimal c ++ z) (fourth.dotted
+                            ∙ ap (λ z. 46 ∷ z) (fourth.begins.split ∙ ap (λ z. decimal d ++ z) empty ∙ append-nil (decimal d)))))));
+    named = ((first.bound, refl), ((second.begins.bound, refl), ((third.begins.bound, refl), ((fourth.begins.bound, refl), tt))));
+  };
+  four = refl;
+  value = refl;
+}
+
+pub no_first : (text : List ℕ) → NoOctet text → NamesNoV4 text
+no_first text none address h = let k = reading_of text address h in none k.a k.chain.after_a k.chain.first
+
+-- where the first octets were read, those of any name are they
+same_after_a : (text : List ℕ) (a : ℕ) (r : List ℕ) (b' c' d' a' : ℕ) → BeginsWithOctet text a r → (k : Chain text a' b' c' d') → k.after_a ≡ r
+same_after_a text a r b' c' d' a' first k = (octet_unique text a' a k.after_a r k.first first).1
+
+same_after_b : (text : List ℕ) (a b : ℕ) (r s : List ℕ) (b' c' d' a' : ℕ) → BeginsWithOctet text a r → BeginsWithDottedOctet r b s → (k : Chain text a' b' c' d') → k.after_b ≡ s
+same_after_b text a b r s b' c' d' a' first second k =
+    (dotted_octet_unique r b' b k.after_b s (rw (same_after_a text a r b' c' d' a' first k) at k.second) second).1
+
+same_after_c : (text : List ℕ) (a b c : ℕ) (r s t : List ℕ) (b' c' d' a' : ℕ) → BeginsWithOctet text a r → BeginsWithDottedOctet r b s → BeginsWithDottedOctet s c t → (k : Chain text a' b' c' d') → k.after_c ≡ t
+same_after_c text a b c r s t b' c' d' a' first second third k =
+    (dotted_octet_unique s c' c k.after_c t (rw (same_after_b text a b r s b' c' d' a' first second k) at k.third) third).1
+
+pub no_second : (text : List ℕ) (a : ℕ) (r : List ℕ) → BeginsWithOctet text a r → NoDottedOctet r → NamesNoV4 text
+no_second text a r first none address h =
+    let k = reading_of text address h in
+    none k.b k.chain.after_b (rw (same_after_a text a r k.b k.c k.d k.a first k.chain) at k.chain.second)
+
+pub no_third : (text : List ℕ) (a b : ℕ) (r s : List ℕ) → BeginsWithOctet text a r → BeginsWithDottedOctet r b s → NoDottedOctet s → NamesNoV4 text
+no_third text a b r s first second none address h =
+    let k = reading_of text address h in
+    none k.c k.chain.after_c (rw (same_after_b text a b r s k.b k.c k.d k.a first second k.chain) at k.chain.third)
+
+pub no_fourth : (text : List ℕ) (a b c : ℕ) (r s t : List ℕ) → BeginsWithOctet text a r → BeginsWithDottedOctet r b s → BeginsWithDottedOctet s c t → NoDottedOctet t → NamesNoV4 text
+no_fourth text a b c r s t first second third none address h =
+    let k = reading_of text address h in
+    none k.d [] (rw (same_after_c text a b c r s t k.b k.c k.d k.a first second third k.chain) at k.chain.fourth)
+
+pub more_left : (text : List ℕ) (a b c d : ℕ) (r s t u : List ℕ) → BeginsWithOctet text a r → BeginsWithDottedOctet r b s → BeginsWithDottedOctet s c t → BeginsWithDottedOctet t d u → u ≢ [] → NamesNoV4 text
+more_left text a b c d r s t u first second third fourth more address h =
+    let k = reading_of text address h in
+    more (sym (dotted_octet_unique t k.d d [] u (rw (same_after_c text a b c r s t k.b k.c k.d k.a first second third k.chain) at k.chain.fourth) fourth).1)
+
+-- ---- the laws
+
+pub v4_unique : (text : List ℕ) (x y : ℕ) → NamesV4 text x → NamesV4 text y → x ≡ y
+v4_unique text x y h k =
+    let i = reading_of text x h in
+    let j = reading_of text y k in
+    let a = octet_unique text i.a j.a _ _ i.chain.first j.chain.first in
+    let b = dotted_octet_unique _ i.b j.b _ _ (rw a.1 at i.chain.second) j.chain.second in
+    let c = dotted_octet_unique _ i.c j.c _ _ (rw b.1 at i.chain.third) j.chain.third in
+    let d = dotted_octet_unique _ i.d j.d _ _ (rw c.1 at i.chain.fourth) j.chain.fourth in
+    i.value ∙ rw (a.0, b.0, c.0, d.0) (sym j.value)
+
+-- the octets of an address are its digits in base 256
+number-octets_of : (address : ℕ) → address < 2 ^ 32 → address ≡ number_from_digits 256 (octets_of address)
+number-octets_of address fits = omega arith
+
+pub canonical_v4_names : (address : ℕ) → address < 2 ^ 32 → NamesV4 (canonical_v4 address) address
+canonical_v4_names address fits = record {
+  octets = octets_of address;
+  joined = record {
+    parts = map decimal (octets_of address);
+    spelled = refl;
+    named = ((omega arith, refl), ((omega arith, refl), ((omega arith, refl), ((omega arith, refl), tt))));
+  };
+  four = refl;
+  value = number-octets_of address fits;
+}

@@ -1,0 +1,11 @@
+-- An address as its digits. An address is a number: one of 32 bits for IPv4 (RFC 791, section 2.3).
+use Rattle.std.specs.Prelude.{ℕ, zero, suc, ◌/◌, ◌%◌, List, [], ◌∷◌, ◌++◌}
+
+-- the last digits of a number in the base, this many, highest first
+abbrev pub digits_in : ℕ → ℕ → ℕ → List ℕ
+digits_in base zero n = []
+digits_in base (suc count) n = digits_in base count (n / base) ++ n % base ∷ []
+
+-- the octets of an IPv4 address: its four digits in base 256
+abbrev pub octets_of : ℕ → List ℕ
+octets_of address = digits_in 256 4 address

@@ -1,0 +1,34 @@
+//! Why a text is no address.
+
+use std::error::Error;
+use std::fmt;
+
+/// The text is no address of the kind that was asked for.
+#[derive(Clone, Copy, Debug, PartialEq, Eq)]
+pub enum AddrParseError {
+    /// No IPv4 address.
+    Ipv4,
+    /// No IPv6 address.
+    Ipv6,
+    /// No address of either family.
+    Ip,
+}
+
+impl fmt::Display for AddrParseError {
+    ghost use Rattle.std.specs.Prelude.{Some};
+    ghost use Rattle.ipnetwork_addr.specs.Faults.{fault_text};
+
+    ghost output = { λ fault. Some (fault_text fault) };
+
+    ghost styled_output = { λ fault _. Some (fault_text fault) };
+
+    fn fmt<W: fmt::Write>(&self, f: &mut fmt::Formatter<W>) -> fmt::Result {
+        f.write_str(match self {
+            AddrParseError::Ipv4 => "invalid IPv4 address syntax",
+            AddrParseError::Ipv6 => "invalid IPv6 address syntax",
+            AddrParseError::Ip => "invalid IP address syntax",
+        })
+    }
+}
+
+impl Error for AddrParseError {}

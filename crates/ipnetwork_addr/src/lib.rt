@@ -1,0 +1,18 @@
+//! IPv4 and IPv6 addresses: their texts, read and printed, and their numbers.
+//!
+//! Nothing here takes memory. A text is a slice of bytes, of any length and any bytes.
+#![tactic(auto)]
+
+mod digits;
+mod error;
+mod ipv4;
+pub mod laws;
+mod octet;
+#[cfg(test)]
+mod tests;
+
+pub use error::AddrParseError;
+pub use ipv4::Ipv4Addr;
+
+/// The length in bytes of the longest printed address, one of IPv6.
+pub const TEXT_CAPACITY: usize = 39;
