@@ -1,4 +1,5 @@
+pub mod AddressBytes
 pub mod Decimals
-pub mod Octets
 pub mod Ipv4Lemmas
+pub mod Octets
 pub mod PlainOctet

@@ -1,5 +1,5 @@
 -- Texts made of parts. A text is the list of its bytes.
-use Rattle.std.specs.Prelude.{◌≡◌, ℕ, List}
+use Rattle.std.specs.Prelude.{◌≡◌, ℕ, ◌≤◌, List}
 use Rattle.std.specs.List.{join_with_byte, AllZip}
 
 -- `b'.'`
@@ -11,3 +11,11 @@ pub record IsJoined (byte : ℕ) (Names : List ℕ → ℕ → Type 0) (text val
   pub parts : List (List ℕ)
   pub spelled : text ≡ join_with_byte byte parts
   pub named : AllZip Names parts values
+
+-- a hex digit of either case, `.` or `:`
+pub data IsAddressByte (byte : ℕ) : Type 0 where
+  Digit : 48 ≤ byte → byte ≤ 57 → IsAddressByte byte
+  UpperHex : 65 ≤ byte → byte ≤ 70 → IsAddressByte byte
+  LowerHex : 97 ≤ byte → byte ≤ 102 → IsAddressByte byte
+  Dot : byte ≡ 46 → IsAddressByte byte
+  Colon : byte ≡ 58 → IsAddressByte byte

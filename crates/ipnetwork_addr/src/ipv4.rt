@@ -5,7 +5,7 @@ ghost use Rattle.ipnetwork_addr.specs.Digits.{octets_of};
 ghost use Rattle.ipnetwork_addr.specs.Ipv4Text.{NamesV4, canonical_v4};
 ghost use Rattle.ipnetwork_addr.specs.Reading.{Reads};
 
-use crate::digits::push_decimal;
+use crate::decimal::push_decimal;
 use crate::octet::read_octets;
 use crate::{AddrParseError, TEXT_CAPACITY};
 use arrayvec::ArrayString;

@@ -2,6 +2,8 @@
 //! and a proof that calls it may use the law.
 ghost use Rattle.std.specs.Prelude.{◌≡◌, ◌↔◌, ℕ, ◌^◌, ◌<◌, List};
 ghost use Rattle.ipnetwork_addr.specs.Ipv4Text.{IsOctet, IsPlainOctet, NamesV4, canonical_v4};
+ghost use Rattle.ipnetwork_addr.specs.Texts.{IsAddressByte};
+ghost use Rattle.std.specs.List.{AllByRecursion};
 
 /// An octet text is one to three decimal digits of value at most 255, without a leading zero.
 pub fn octet_texts()
@@ -24,5 +26,11 @@ pub fn canonical_v4_names_its_address()
 /// Two IPv4 addresses are equal exactly if their canonical texts are.
 pub fn canonical_v4_is_one_to_one()
     ensures { (a b : ℕ) → a < 2 ^ 32 → b < 2 ^ 32 → (a ≡ b) ↔ (canonical_v4 a ≡ canonical_v4 b) }
+{
+}
+
+/// An IPv4 text holds digits and dots, which are bytes of addresses, and nothing else.
+pub fn v4_text_bytes()
+    ensures { (text : List ℕ) (address : ℕ) → NamesV4 text address → AllByRecursion IsAddressByte text }
 {
 }

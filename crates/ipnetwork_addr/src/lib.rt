@@ -3,7 +3,7 @@
 //! Nothing here takes memory. A text is a slice of bytes, of any length and any bytes.
 #![tactic(auto)]
 
-mod digits;
+pub mod decimal;
 mod error;
 mod ipv4;
 pub mod laws;

@@ -1,14 +1,14 @@
-//! Numbers, written at the end of a text.
+//! Small numbers, written at the end of a text.
 ghost use Rattle.std.specs.Prelude.{◌≡◌, ◌+◌, ◌<◌, ◌≤◌, ◌++◌, decimal};
 ghost use Rattle.arrayvec.specs.ArrayString.{array_string_len};
 
-use crate::TEXT_CAPACITY;
 use arrayvec::ArrayString;
 
-/// Writes the shortest decimal of a number up to 255.
+/// Writes the shortest decimal of a number at the end of a text: one to three bytes, for which there
+/// must be room. Takes no memory.
 #[tactic(auto, using(crate::proofs::Decimals::decimals))]
-pub(crate) fn push_decimal(text: &mut ArrayString<TEXT_CAPACITY>, number: u8)
-    requires { array_string_len text.old + 3 ≤ TEXT_CAPACITY }
+pub fn push_decimal<const N: usize>(text: &mut ArrayString<N>, number: u8)
+    requires { array_string_len text.old + 3 ≤ N }
     ensures bytes { text.new.bytes ≡ text.old.bytes ++ decimal number }
     ensures room { array_string_len text.new ≤ array_string_len text.old + 3 }
 {
