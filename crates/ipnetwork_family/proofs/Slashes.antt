@@ -1,0 +1,65 @@
+-- Where a text is cut.
+use Rattle.std.proofs.Common.{◌≡◌, ℕ, ◌+◌, ◌<◌, ◌≤◌, ◌==◌, Bool, true, false, cond, not, List, [], ◌∷◌, ◌++◌, length, take, drop, get_or, refl, sym, ap, ◌∙◌, arith, take-append-drop, append-nil}
+use Rattle.std.proofs.lemmas.List.{drop_more, take_at, take_all, append_cancel_left, get_or_at, length-take-le}
+use Rattle.std.proofs.lemmas.Str.{IsCharBoundary-after_ascii}
+use Rattle.std.specs.Str.{IsUtf8, IsCharBoundary}
+use Rattle.std.proofs.lemmas.List.Sums.{sum_by-append}
+use Rattle.std.specs.List.{prefix_len, position_or_len, before_first}
+use Rattle.ipnetwork_family.specs.NetworkText.{slashes, before_slash, IsFirstSlash}
+
+pub slashes-append : (a b : List ℕ) → slashes (a ++ b) ≡ slashes a + slashes b
+slashes-append a b = sum_by-append (λ x. cond (x == 47) 1 0) a b
+
+pub slashes-cons : (x : ℕ) (a : List ℕ) → slashes (x ∷ a) ≡ cond (x == 47) 1 0 + slashes a
+slashes-cons x a = let one = slashes-append (x ∷ []) a in omega arith
+
+pub slashes-slash : (a b : List ℕ) → slashes (a ++ 47 ∷ b) ≡ slashes a + (1 + slashes b)
+slashes-slash a b = slashes-append a (47 ∷ b) ∙ ap (λ n. slashes a + n) (slashes-cons 47 b)
+
+pub first_slash_at : (text : List ℕ) (at : ℕ) → at < length text → get_or text at 0 ≡ 47 → slashes (take at text) ≡ 0 → IsFirstSlash text at
+first_slash_at text at within here none = record {
+  within = within;
+  split = sym (take-append-drop at text) ∙ ap (λ t. take at text ++ t) (drop_more text at 0 within ∙ ap (λ b. b ∷ drop (at + 1) text) here);
+  first = none;
+}
+
+-- where the first byte is no slash
+no_slash_first : (x : ℕ) (a : List ℕ) → slashes (x ∷ a) ≡ 0 → ((x == 47) ≡ false) × (slashes a ≡ 0)
+no_slash_first x a e = go (x == 47) refl
+  where
+    go : (b : Bool) → (x == 47) ≡ b → ((x == 47) ≡ false) × (slashes a ≡ 0)
+    go true is = let one : slashes (x ∷ a) ≡ 1 + slashes a = slashes-cons x a ∙ ap (λ v. cond v 1 0 + slashes a) is in absurd (omega arith)
+    go false is = (is, let none : slashes (x ∷ a) ≡ 0 + slashes a = slashes-cons x a ∙ ap (λ v. cond v 1 0 + slashes a) is in omega arith)
+
+passed : (a rest : List ℕ) → slashes a ≡ 0 → position_or_len (λ x. x == 47) (a ++ rest) ≡ length a + position_or_len (λ x. x == 47) rest
+passed [] rest none = omega arith
+passed (x ∷ a) rest none =
+    let (other, later) = no_slash_first x a none in
+    ap (λ v. cond (not v) (1 + position_or_len (λ x. x == 47) (a ++ rest)) 0) other ∙ (omega (arith, passed a rest later))
+
+-- the part before the slash
+pub before_slash_cut : (a b : List ℕ) → slashes a ≡ 0 → before_slash (a ++ 47 ∷ b) ≡ a
+before_slash_cut a b none =
+    take_at a (47 ∷ b) (position_or_len (λ x. x == 47) (a ++ 47 ∷ b)) (sym (passed a (47 ∷ b) none ∙ (omega arith)))
+
+pub before_slash_whole : (a : List ℕ) → slashes a ≡ 0 → before_slash a ≡ a
+before_slash_whole a none =
+    let at_end : position_or_len (λ x. x == 47) (a ++ []) ≡ length a + 0 = passed a [] none in
+    take_all (position_or_len (λ x. x == 47) a) a (omega (arith, rw append-nil at at_end))
+
+-- a text is cut at its first slash in one way
+pub cut_unique : (a b c d : List ℕ) → slashes a ≡ 0 → slashes c ≡ 0 → a ++ 47 ∷ b ≡ c ++ 47 ∷ d → (a ≡ c) × (b ≡ d)
+cut_unique a b c d none_a none_c e =
+    let fronts : a ≡ c = sym (before_slash_cut a b none_a) ∙ ap before_slash e ∙ before_slash_cut c d none_c in
+    (fronts, ap tail (append_cancel_left a (47 ∷ b) (47 ∷ d) (e ∙ ap (λ t. t ++ 47 ∷ d) (sym fronts))))
+  where
+    tail : List ℕ → List ℕ
+    tail [] = []
+    tail (x ∷ xs) = xs
+
+-- a text may be cut after a slash
+pub boundary_after_slash : (text : List ℕ) (at : ℕ) → IsUtf8 text → IsFirstSlash text at → IsCharBoundary text (at + 1)
+boundary_after_slash text at valid h =
+    let here : get_or text at 0 ≡ 47 =
+    ap (λ t. get_or t at 0) h.split ∙ get_or_at (take at text) 47 (drop (at + 1) text) 0 at (length-take-le at text (omega (arith, h.within))) in
+    IsCharBoundary-after_ascii text at valid h.within (omega arith)

@@ -1,0 +1,61 @@
+-- The laws of networks, for addresses of any number of bits.
+use Rattle.std.specs.Prelude.{◌≡◌, ℕ, ◌+◌, ◌-◌, ◌*◌, ◌/◌, ◌^◌, ◌<◌, ◌≤◌, ◌⊎◌, ◌↔◌, List, Contains, slice_get, Some}
+use Rattle.std.specs.List.Sorted.{IsStrictlyIncreasing}
+use Rattle.ipnetwork_family.specs.Network.{Network, IsNetwork, Member, low, high, block_size, IsBlock, Subnet, Overlap, AtMost, members, mask_of}
+
+-- the ends are the least and the greatest member, and the address is a member
+pub record HasEnds (w : ℕ) (n : Network) : Type 0 where
+  pub low_is_member : Member w n (low w n)
+  pub high_is_member : Member w n (high w n)
+  pub address_is_member : Member w n n.address
+  pub within : (x : ℕ) → Member w n x → (low w n ≤ x) × (x ≤ high w n)
+
+abbrev pub EndsLaw : Type 0
+EndsLaw = (w : ℕ) (n : Network) → IsNetwork w n → HasEnds w n
+
+abbrev pub SubnetReflexive : Type 0
+SubnetReflexive = (w : ℕ) (a : Network) → Subnet w a a
+
+abbrev pub SubnetTransitive : Type 0
+SubnetTransitive = (w : ℕ) (a b c : Network) → Subnet w a b → Subnet w b c → Subnet w a c
+
+abbrev pub SameSet : Type 0
+SameSet = (w : ℕ) (a b : Network) → IsNetwork w a → IsNetwork w b
+  → (Subnet w a b × Subnet w b a) ↔ ((a.prefix ≡ b.prefix) × (low w a ≡ low w b))
+
+abbrev pub Nesting : Type 0
+Nesting = (w : ℕ) (a b : Network) → IsNetwork w a → IsNetwork w b → Overlap w a b → Subnet w a b ⊎ Subnet w b a
+
+abbrev pub OverlapSymmetric : Type 0
+OverlapSymmetric = (w : ℕ) (a b : Network) → Overlap w a b → Overlap w b a
+
+-- they overlap exactly if the address of one is in the other
+abbrev pub OverlapByAddress : Type 0
+OverlapByAddress = (w : ℕ) (a b : Network) → IsNetwork w a → IsNetwork w b
+  → Overlap w a b ↔ (Member w a b.address ⊎ Member w b a.address)
+
+-- four tests of membership
+abbrev pub OverlapByEnds : Type 0
+OverlapByEnds = (w : ℕ) (a b : Network) → IsNetwork w a → IsNetwork w b
+  → Overlap w a b ↔ ((Member w a b.address ⊎ Member w a (high w b)) ⊎ (Member w b a.address ⊎ Member w b (high w a)))
+
+abbrev pub SubnetComesAfter : Type 0
+SubnetComesAfter = (w : ℕ) (a c : Network) → IsNetwork w a → IsNetwork w c → IsBlock w a → IsBlock w c → Subnet w c a → AtMost a c
+
+abbrev pub BetweenIsSubnet : Type 0
+BetweenIsSubnet = (w : ℕ) (a b c : Network) → IsNetwork w a → IsNetwork w b → IsNetwork w c → IsBlock w a → IsBlock w b → IsBlock w c
+  → Subnet w c a → AtMost a b → AtMost b c → Subnet w b a
+
+-- the list of members is strictly ascending and has the members alone
+pub record ListsMembers (w : ℕ) (n : Network) : Type 0 where
+  pub ascending : IsStrictlyIncreasing (members w n)
+  pub each : (x : ℕ) → Contains (members w n) x → Member w n x
+  pub all : (x : ℕ) → Member w n x → Contains (members w n) x
+  pub at : (i : ℕ) → i < block_size w n.prefix → slice_get (members w n) i ≡ Some (low w n + i)
+
+abbrev pub MembersLaw : Type 0
+MembersLaw = (w : ℕ) (n : Network) → IsNetwork w n → ListsMembers w n
+
+-- the w + 1 masks differ
+abbrev pub MasksDiffer : Type 0
+MasksDiffer = (w p q : ℕ) → p ≤ w → q ≤ w → mask_of w p ≡ mask_of w q → p ≡ q

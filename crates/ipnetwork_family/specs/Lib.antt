@@ -1,0 +1,5 @@
+pub mod Ipv4NetworkText
+pub mod Laws
+pub mod Network
+pub mod NetworkText
+pub mod PrefixNumber

@@ -1,0 +1,72 @@
+-- Networks of addresses of w bits, as numbers: 32 for IPv4 and 128 for IPv6 (RFC 4632, section 3.1; RFC 4291,
+-- section 2.3).
+use Rattle.std.specs.Prelude.{◌≡◌, ◌≢◌, ℕ, zero, suc, ◌+◌, ◌-◌, ◌*◌, ◌/◌, ◌^◌, ◌<◌, ◌≤◌, ◌⊎◌, min, List, [], ◌∷◌}
+use Rattle.std.specs.declared.cmp.Ordering.{Ordering}
+use Rattle.std.specs.Ordering.{nat_cmp, ordering_then}
+
+-- an address with its host bits, and the prefix length: how many of its first bits are fixed
+pub record Network : Type 0 where
+  pub address : ℕ
+  pub prefix : ℕ
+
+-- an address of w bits, and a prefix length of at most w
+pub record IsNetwork (w : ℕ) (n : Network) : Type 0 where
+  pub address_fits : n.address < 2 ^ w
+  pub prefix_fits : n.prefix ≤ w
+
+-- how many addresses share their first p of w bits
+abbrev pub block_size : ℕ → ℕ → ℕ
+block_size w p = 2 ^ (w - p)
+
+-- x is an address of the network's set: it agrees with the network's address in the fixed bits
+abbrev pub Member : ℕ → Network → ℕ → Type 0
+Member w n x = (x < 2 ^ w) × (x / block_size w n.prefix ≡ n.address / block_size w n.prefix)
+
+-- the mask of a prefix length: the number of w bits whose first p are ones
+abbrev pub mask_of : ℕ → ℕ → ℕ
+mask_of w p = 2 ^ w - block_size w p
+
+-- the network's ends
+abbrev pub low : ℕ → Network → ℕ
+low w n = n.address / block_size w n.prefix * block_size w n.prefix
+
+abbrev pub high : ℕ → Network → ℕ
+high w n = low w n + block_size w n.prefix - 1
+
+-- the network without host bits that has the same set
+abbrev pub block_of : ℕ → Network → Network
+block_of w n = record { address = low w n; prefix = n.prefix }
+
+abbrev pub IsBlock : ℕ → Network → Type 0
+IsBlock w n = n.address ≡ low w n
+
+-- count numbers in a row, from start on
+unfoldable pub count_up : ℕ → ℕ → List ℕ
+count_up start zero = []
+count_up start (suc count) = start ∷ count_up (suc start) count
+
+-- the members in order
+abbrev pub members : ℕ → Network → List ℕ
+members w n = count_up (low w n) (block_size w n.prefix)
+
+-- the number of members, and one less where that needs w + 1 bits
+abbrev pub size_of : ℕ → Network → ℕ
+size_of w n = min (block_size w n.prefix) (2 ^ w - 1)
+
+abbrev pub Subnet : ℕ → Network → Network → Type 0
+Subnet w a b = (x : ℕ) → Member w a x → Member w b x
+
+abbrev pub Overlap : ℕ → Network → Network → Type 0
+Overlap w a b = (x : ℕ) × Member w a x × Member w b x
+
+-- by address, then prefix
+abbrev pub network_cmp : Network → Network → Ordering
+network_cmp a b = ordering_then (nat_cmp a.address b.address) (nat_cmp a.prefix b.prefix)
+
+-- a comes before b, or is b
+abbrev pub AtMost : Network → Network → Type 0
+AtMost a b = (a.address < b.address) ⊎ ((a.address ≡ b.address) × (a.prefix ≤ b.prefix))
+
+-- the number is no mask
+abbrev pub IsNoMask : ℕ → ℕ → Type 0
+IsNoMask w mask = (p : ℕ) → p ≤ w → mask ≢ mask_of w p

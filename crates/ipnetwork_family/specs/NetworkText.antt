@@ -1,0 +1,73 @@
+-- Which texts name a network, and why a text is refused: CIDR notation, an address, `/` and a suffix
+-- (RFC 4632, section 3.1; RFC 4291, section 2.3), of either family.
+use Rattle.std.specs.Prelude.{◌≡◌, ℕ, ◌+◌, ◌<◌, ◌≤◌, ◌==◌, List, ◌∷◌, ◌++◌, Option, None, Some, Result, MatchResult, take, drop, length, decimal, count_by}
+use Rattle.std.specs.List.{before_first}
+use Rattle.ipnetwork_family.specs.Network.{Network}
+use Rattle.ipnetwork_family.specs.declared.error.CidrFault.{CidrFault}
+use Rattle.ipnetwork_family.specs.declared.error.CidrFault.TheVariants.{Format, Addr, Prefix}
+
+-- `b'/'`
+abbrev pub slash : ℕ
+slash = 47
+
+-- how many `/` a text holds
+abbrev pub slashes : List ℕ → ℕ
+slashes text = count_by (λ byte. byte == slash) text
+
+-- two or more
+abbrev pub HasSlashes : List ℕ → Type 0
+HasSlashes text = 2 ≤ slashes text
+
+-- the first `/` stands here
+pub record IsFirstSlash (text : List ℕ) (at : ℕ) : Type 0 where
+  pub within : at < length text
+  pub split : text ≡ take at text ++ slash ∷ drop (at + 1) text
+  pub first : slashes (take at text) ≡ 0
+
+-- the only `/` stands here, or there is none
+abbrev pub IsOnlySlash : List ℕ → Option ℕ → Type 0
+IsOnlySlash text None = slashes text ≡ 0
+IsOnlySlash text (Some at) = IsFirstSlash text at × (slashes (drop (at + 1) text) ≡ 0)
+
+-- the part before the only `/` and the part after it, or the whole text where there is none
+abbrev pub IsSplit : List ℕ → List ℕ → Option (List ℕ) → Type 0
+IsSplit text address None = (address ≡ text) × (slashes text ≡ 0)
+IsSplit text address (Some suffix) = (text ≡ address ++ slash ∷ suffix) × (slashes address ≡ 0) × (slashes suffix ≡ 0)
+
+-- the prefix length that a suffix gives, or w where there is none
+abbrev pub GivesPrefix : ℕ → (List ℕ → ℕ → Type 0) → Option (List ℕ) → ℕ → Type 0
+GivesPrefix w IsSuffix None p = p ≡ w
+GivesPrefix w IsSuffix (Some suffix) p = IsSuffix suffix p
+
+-- it gives none
+abbrev pub GivesNoPrefix : ℕ → (List ℕ → ℕ → Type 0) → Option (List ℕ) → Type 0
+GivesNoPrefix w IsSuffix suffix = (p : ℕ) → ¬ (GivesPrefix w IsSuffix suffix p)
+
+-- the part before the first `/`, or the whole text where there is none
+abbrev pub before_slash : List ℕ → List ℕ
+before_slash text = before_first (λ byte. byte == slash) text
+
+-- the text is an address, or an address, `/` and a suffix; without a suffix the prefix length is w
+pub data NamesNetwork (w : ℕ) (NamesAddress IsSuffix : List ℕ → ℕ → Type 0) (text : List ℕ) (n : Network) : Type 0 where
+  Alone : NamesAddress text n.address → n.prefix ≡ w → NamesNetwork w NamesAddress IsSuffix text n
+  Suffixed : (address suffix : List ℕ) → text ≡ address ++ slash ∷ suffix → NamesAddress address n.address → IsSuffix suffix n.prefix → NamesNetwork w NamesAddress IsSuffix text n
+
+-- why a text that names nothing is refused. The first that holds is the cause
+abbrev pub IsCause : (List ℕ → ℕ → Type 0) → List ℕ → CidrFault → Type 0
+-- it holds two or more `/`
+IsCause NamesAddress text Format = HasSlashes text
+-- else what stands before the `/` is no address
+IsCause NamesAddress text Addr = (slashes text ≤ 1) × ((a : ℕ) → ¬ (NamesAddress (before_slash text) a))
+-- else what stands after it is no suffix
+IsCause NamesAddress text Prefix = (slashes text ≤ 1) × ((a : ℕ) × NamesAddress (before_slash text) a)
+
+-- the network that the text names, or the cause where it names none
+abbrev pub ReadsNetwork : ℕ → (List ℕ → ℕ → Type 0) → (List ℕ → ℕ → Type 0) → List ℕ → Result Network CidrFault → Type 0
+ReadsNetwork w NamesAddress IsSuffix text result =
+    MatchResult result (NamesNetwork w NamesAddress IsSuffix text)
+    (λ fault. IsCause NamesAddress text fault × ((n : Network) → ¬ (NamesNetwork w NamesAddress IsSuffix text n)))
+
+-- the one text that a network is printed as: the canonical address, `/` and the shortest decimal of the
+-- prefix length
+abbrev pub network_text : (ℕ → List ℕ) → Network → List ℕ
+network_text canonical n = canonical n.address ++ slash ∷ decimal n.prefix

@@ -1,0 +1,22 @@
+-- Which texts name a prefix length.
+use Rattle.std.specs.Prelude.{◌≡◌, ℕ, ◌≤◌, ◌⊎◌, List, ◌∷◌}
+use Rattle.std.specs.Str.Parse.{IsNumeral, digits_value}
+
+-- one or more decimal digits of this value
+pub record IsNumeralOf (text : List ℕ) (value : ℕ) : Type 0 where
+  pub digits : IsNumeral 10 text
+  pub is_value : digits_value 10 text ≡ value
+
+-- no such digits, or of a greater value
+abbrev pub IsNoNumeral : List ℕ → ℕ → Type 0
+IsNoNumeral text max = (value : ℕ) → IsNumeralOf text value → ¬ (value ≤ max)
+
+-- an optional `+`, and one or more decimal digits of this value
+pub record IsPrefixNumber (text : List ℕ) (value : ℕ) : Type 0 where
+  pub digits : List ℕ
+  pub spelled : (text ≡ digits) ⊎ (text ≡ 43 ∷ digits)
+  pub numeral : IsNumeralOf digits value
+
+-- the text names no prefix length of at most max
+abbrev pub IsNoPrefixNumber : List ℕ → ℕ → Type 0
+IsNoPrefixNumber text max = (value : ℕ) → IsPrefixNumber text value → ¬ (value ≤ max)

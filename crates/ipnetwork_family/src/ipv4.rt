@@ -1,0 +1,174 @@
+//! IPv4 networks.
+ghost use Rattle.std.specs.Prelude.{◌≡◌, ℕ, ◌^◌, ◌<◌, ◌≤◌, ◌↔◌, IsTrue, Some, MatchOption, length, option_copied};
+ghost use Rattle.std.specs.Option.{SomeIff};
+ghost use Rattle.ipnetwork_addr.specs.Ipv4Text.{NamesV4, canonical_v4};
+ghost use Rattle.ipnetwork_family.specs.Network.{Network, IsNetwork, Member, mask_of};
+ghost use Rattle.ipnetwork_family.specs.NetworkText.{GivesPrefix, GivesNoPrefix, network_text};
+ghost use Rattle.ipnetwork_family.specs.Ipv4NetworkText.{IsV4Suffix, IsNoV4Suffix, ReadsV4Network};
+
+use crate::ipv4_mask::{WIDTH, host_ones, prefix_of_mask};
+use crate::parse::{read_prefix, split};
+use crate::{CidrFault, TEXT_CAPACITY};
+use arrayvec::ArrayString;
+use ipnetwork_addr::decimal::push_decimal;
+use ipnetwork_addr::{Ipv4Addr, laws};
+use std::fmt;
+use std::marker::Model;
+use std::str::FromStr;
+
+/// An IPv4 address, host bits included, and a prefix length of 0 to 32. It stands for the set of all
+/// addresses that agree with the address in their first bits, as many as the prefix length says.
+/// Ordered by address, then by prefix length.
+#[derive(Clone, Copy, Debug, PartialEq, Eq, PartialOrd, Ord, Hash)]
+pub struct Ipv4Network {
+    address: u32,
+    prefix: u8,
+}
+
+// A contract sees a network as the pair of its address and its prefix length.
+impl Model for Ipv4Network {
+    ghost use Rattle.ipnetwork_family.specs.Network.{Network, IsNetwork};
+
+    ghost Value = { Network };
+
+    ghost view = { λ n. record { address = n.address; prefix = n.prefix } };
+
+    ghost invariant = { λ n. IsNetwork 32 (record { address = n.address; prefix = n.prefix }) };
+
+    ghost inverse = { λ n. record { address = n.address; prefix = n.prefix } };
+}
+
+impl Ipv4Network {
+    /// The network of this address, host bits kept, and this prefix length; `None` where that is
+    /// greater than 32.
+    pub fn new_checked(addr: Ipv4Addr, prefix: u8) -> Option<Self>
+        ensures { SomeIff result (prefix ≤ 32) (record { address = addr; prefix = prefix }) }
+    {
+        if prefix > WIDTH {
+            return None;
+        }
+        Some(Ipv4Network {
+            address: u32::from(addr),
+            prefix,
+        })
+    }
+
+    /// The address as made, host bits included.
+    pub fn ip(&self) -> Ipv4Addr
+        ensures made { result ≡ self.now.address }
+        ensures network { IsNetwork 32 self.now }
+    {
+        Ipv4Addr::from(self.address)
+    }
+
+    /// The prefix length, in bits.
+    pub fn prefix(&self) -> u8
+        ensures made { result ≡ self.now.prefix }
+        ensures network { IsNetwork 32 self.now }
+    {
+        self.prefix
+    }
+
+    /// The mask: as many ones in front as the prefix length says, and zeros behind them.
+    pub fn mask(&self) -> Ipv4Addr
+        ensures { result ≡ mask_of 32 self.now.prefix }
+    {
+        Ipv4Addr::from(!host_ones(self.prefix))
+    }
+
+    /// Whether an address lies in the network's set.
+    pub fn contains(&self, ip: Ipv4Addr) -> bool
+        ensures { IsTrue result ↔ Member 32 self.now ip }
+    {
+        let mask = !host_ones(self.prefix);
+        u32::from(ip) & mask == self.address & mask
+    }
+
+    /// The network that a text names: an IPv4 address, host bits kept, and after a `/` its suffix, a
+    /// prefix length of at most 32 or one of the 33 masks as an IPv4 address; without a `/` the prefix
+    /// length is 32. Any other text is refused with its cause. Takes no memory.
+    pub fn read_bytes(text: &[u8]) -> Result<Self, CidrFault>
+        ensures { ReadsV4Network text.now result }
+    {
+        laws::v4_text_bytes();
+        let (address, suffix) = split(text)?;
+        let Ok(address) = Ipv4Addr::read_bytes(address) else {
+            return Err(CidrFault::Addr);
+        };
+        let Some(prefix) = prefix_length(suffix) else {
+            return Err(CidrFault::Prefix);
+        };
+        Ok(Ipv4Network {
+            address: u32::from(address),
+            prefix,
+        })
+    }
+
+    /// The canonical text, at most 18 bytes: the canonical address, `/` and the shortest decimal of the
+    /// prefix length. Takes no memory.
+    pub fn canonical(&self) -> ArrayString<TEXT_CAPACITY>
+        ensures bytes { result.bytes ≡ network_text canonical_v4 self.now }
+        ensures short { length result.bytes ≤ 18 }
+        ensures network { IsNetwork 32 self.now }
+    {
+        let mut text = ArrayString::new();
+        text.push_str(self.ip().canonical().as_str());
+        text.push('/');
+        push_decimal(&mut text, self.prefix());
+        text
+    }
+}
+
+/// The prefix length that stands after the `/`, or that of an address alone.
+fn prefix_length(suffix: Option<&[u8]>) -> Option<u8>
+    ensures { MatchOption result (GivesNoPrefix 32 IsV4Suffix (option_copied suffix.entry)) (GivesPrefix 32 IsV4Suffix (option_copied suffix.entry)) }
+{
+    match suffix {
+        None => Some(WIDTH),
+        Some(suffix) => read_suffix(suffix),
+    }
+}
+
+/// The prefix length that a suffix gives: a number, or a mask.
+fn read_suffix(suffix: &[u8]) -> Option<u8>
+    ensures { MatchOption result (IsNoV4Suffix suffix.now) (IsV4Suffix suffix.now) }
+{
+    if let Some(prefix) = read_prefix(suffix, WIDTH) {
+        return Some(prefix);
+    }
+    laws::v4_text_names_one();
+    match Ipv4Addr::read_bytes(suffix) {
+        Ok(mask) => prefix_of_mask(u32::from(mask)),
+        Err(_) => None,
+    }
+}
+
+impl FromStr for Ipv4Network {
+    type Err = CidrFault;
+
+    ghost from_str_gives = { ReadsV4Network };
+
+    fn from_str(text: &str) -> Result<Self, CidrFault> {
+        Ipv4Network::read_bytes(text.as_bytes())
+    }
+}
+
+impl TryFrom<&str> for Ipv4Network {
+    type Error = CidrFault;
+
+    ghost try_from_gives = { λ text result. ReadsV4Network text.now result };
+
+    fn try_from(text: &str) -> Result<Self, CidrFault> {
+        Ipv4Network::read_bytes(text.as_bytes())
+    }
+}
+
+impl fmt::Display for Ipv4Network {
+    ghost output = { λ network. Some (network_text canonical_v4 network) };
+
+    ghost styled_output = { λ network _. Some (network_text canonical_v4 network) };
+
+    fn fmt<W: fmt::Write>(&self, f: &mut fmt::Formatter<W>) -> fmt::Result {
+        f.write_str(self.canonical().as_str())
+    }
+}

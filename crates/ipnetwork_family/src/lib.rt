@@ -1,0 +1,19 @@
+//! Networks of one family in CIDR notation (RFC 4632, section 3.1): read from texts, printed, and
+//! asked about the set of addresses that they stand for.
+//!
+//! Nothing here takes memory. A text is a slice of bytes, of any length and any bytes.
+#![tactic(auto)]
+
+mod error;
+mod ipv4;
+mod ipv4_mask;
+pub mod laws;
+pub mod parse;
+#[cfg(test)]
+mod tests;
+
+pub use error::CidrFault;
+pub use ipv4::Ipv4Network;
+
+/// The length in bytes of the longest printed network, one of IPv6.
+pub const TEXT_CAPACITY: usize = 43;

@@ -1,0 +1,98 @@
+//! The parts of a network text.
+ghost use Rattle.std.specs.Prelude.{◌≡◌, ◌≤◌, MatchResult, MatchOption, option_copied};
+ghost use Rattle.ipnetwork_family.specs.NetworkText.{slashes, HasSlashes, IsFirstSlash, IsOnlySlash, IsSplit};
+ghost use Rattle.ipnetwork_family.specs.PrefixNumber.{IsPrefixNumber, IsNoPrefixNumber, IsNumeralOf, IsNoNumeral};
+
+use crate::CidrFault;
+
+/// The part before the only `/` of a text and the part after it, or the whole text and `None` where
+/// there is no `/`. Both are slices of the text. Two or more `/` are `CidrFault::Format`. Takes no memory.
+pub fn cidr_parts(cidr: &str) -> Result<(&str, Option<&str>), CidrFault>
+    ensures { MatchResult result (λ parts. IsSplit cidr.now parts.0.now (option_copied parts.1))
+        (λ fault. (fault ≡ CidrFault.Format) × HasSlashes cidr.now) }
+{
+    match only_slash(cidr.as_bytes())? {
+        None => Ok((cidr, None)),
+        Some(at) => Ok((&cidr[..at], Some(&cidr[at + 1..]))),
+    }
+}
+
+/// The number that a prefix length text names, where it is at most `max`: an optional `+` and one or
+/// more decimal digits, with any number of leading zeros. Any other text is `CidrFault::Prefix`.
+/// Takes no memory.
+pub fn parse_prefix(prefix: &str, max: u8) -> Result<u8, CidrFault>
+    ensures { MatchResult result (λ value. IsPrefixNumber prefix.now value × (value ≤ max))
+        (λ fault. (fault ≡ CidrFault.Prefix) × IsNoPrefixNumber prefix.now max) }
+{
+    match read_prefix(prefix.as_bytes(), max) {
+        Some(value) => Ok(value),
+        None => Err(CidrFault::Prefix),
+    }
+}
+
+/// `cidr_parts`, over bytes.
+pub(crate) fn split(text: &[u8]) -> Result<(&[u8], Option<&[u8]>), CidrFault>
+    ensures { MatchResult result (λ parts. IsSplit text.now parts.0.now (option_copied parts.1))
+        (λ fault. (fault ≡ CidrFault.Format) × HasSlashes text.now) }
+{
+    match only_slash(text)? {
+        None => Ok((text, None)),
+        Some(at) => Ok((&text[..at], Some(&text[at + 1..]))),
+    }
+}
+
+/// `parse_prefix`, over bytes.
+pub(crate) fn read_prefix(text: &[u8], max: u8) -> Option<u8>
+    ensures { MatchOption result (IsNoPrefixNumber text.now max) (λ value. IsPrefixNumber text.now value × (value ≤ max)) }
+{
+    match text {
+        [b'+', digits @ ..] => read_digits(digits, max),
+        _ => read_digits(text, max),
+    }
+}
+
+/// The value of one or more decimal digits, where it is at most `max`.
+fn read_digits(text: &[u8], max: u8) -> Option<u8>
+    ensures { MatchOption result (IsNoNumeral text.now max) (λ value. IsNumeralOf text.now value × (value ≤ max)) }
+{
+    if text.is_empty() {
+        return None;
+    }
+    let mut value = 0;
+    for byte in text {
+        if !byte.is_ascii_digit() {
+            return None;
+        }
+        let next = u16::from(value) * 10 + u16::from(*byte - b'0');
+        if next > u16::from(max) {
+            return None;
+        }
+        value = next as u8;
+    }
+    Some(value)
+}
+
+/// Where the only `/` of a text stands, if there is one.
+fn only_slash(text: &[u8]) -> Result<Option<usize>, CidrFault>
+    ensures { MatchResult result (IsOnlySlash text.now) (λ fault. (fault ≡ CidrFault.Format) × HasSlashes text.now) }
+{
+    let Some(at) = first_slash(text) else {
+        return Ok(None);
+    };
+    match first_slash(&text[at + 1..]) {
+        None => Ok(Some(at)),
+        Some(_) => Err(CidrFault::Format),
+    }
+}
+
+/// Where the first `/` of a text stands, if there is one.
+fn first_slash(text: &[u8]) -> Option<usize>
+    ensures { MatchOption result (slashes text.now ≡ 0) (IsFirstSlash text.now) }
+{
+    for (at, byte) in text.iter().enumerate() {
+        if *byte == b'/' {
+            return Some(at);
+        }
+    }
+    None
+}
