@@ -1,4 +1,5 @@
 pub mod AddressBytes
+pub mod ComputedV4
 pub mod Decimals
 pub mod Ipv4Lemmas
 pub mod Octets

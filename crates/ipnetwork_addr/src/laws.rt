@@ -1,7 +1,7 @@
 //! The laws of address texts. Each function's contract is a law; it takes nothing and does nothing,
 //! and a proof that calls it may use the law.
-ghost use Rattle.std.specs.Prelude.{◌≡◌, ◌↔◌, ℕ, ◌^◌, ◌<◌, List};
-ghost use Rattle.ipnetwork_addr.specs.Ipv4Text.{IsOctet, IsPlainOctet, NamesV4, canonical_v4};
+ghost use Rattle.std.specs.Prelude.{◌≡◌, ◌↔◌, ℕ, ◌^◌, ◌<◌, List, Some};
+ghost use Rattle.ipnetwork_addr.specs.Ipv4Text.{IsOctet, IsPlainOctet, NamesV4, canonical_v4, v4_of};
 ghost use Rattle.ipnetwork_addr.specs.Texts.{IsAddressByte};
 ghost use Rattle.std.specs.List.{AllByRecursion};
 
@@ -32,5 +32,11 @@ pub fn canonical_v4_is_one_to_one()
 /// An IPv4 text holds digits and dots, which are bytes of addresses, and nothing else.
 pub fn v4_text_bytes()
     ensures { (text : List ℕ) (address : ℕ) → NamesV4 text address → AllByRecursion IsAddressByte text }
+{
+}
+
+/// The address that a text names can be computed from the text.
+pub fn v4_text_is_computed()
+    ensures { (text : List ℕ) (address : ℕ) → NamesV4 text address ↔ (v4_of text ≡ Some address) }
 {
 }

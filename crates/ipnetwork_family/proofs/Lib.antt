@@ -1,5 +1,8 @@
 pub mod Bits
 pub mod Blocks
+pub mod CanonicalNetworks
+pub mod ComputedNetworks
+pub mod ComputedV4
 pub mod Ipv4Texts
 pub mod Masks
 pub mod Members

@@ -1,10 +1,11 @@
 -- Where a text is cut.
-use Rattle.std.proofs.Common.{◌≡◌, ℕ, ◌+◌, ◌<◌, ◌≤◌, ◌==◌, Bool, true, false, cond, not, List, [], ◌∷◌, ◌++◌, length, take, drop, get_or, refl, sym, ap, ◌∙◌, arith, take-append-drop, append-nil}
-use Rattle.std.proofs.lemmas.List.{drop_more, take_at, take_all, append_cancel_left, get_or_at, length-take-le}
+use Rattle.std.proofs.Common.{◌≡◌, ℕ, ◌+◌, ◌<◌, ◌≤◌, ◌==◌, Bool, true, false, cond, not, List, [], ◌∷◌, ◌++◌, length, take, drop, get_or, refl, sym, ap, ◌∙◌, arith, take-append-drop, append-nil, ◌⊎◌, inl, inr}
+use Rattle.std.proofs.lemmas.List.{drop_more, take_at, take_all, append_cancel_left, get_or_at, length-take-le, drop_at, drop-drop}
+use Rattle.std.proofs.lemmas.Bool.{eqb-true}
 use Rattle.std.proofs.lemmas.Str.{IsCharBoundary-after_ascii}
 use Rattle.std.specs.Str.{IsUtf8, IsCharBoundary}
 use Rattle.std.proofs.lemmas.List.Sums.{sum_by-append}
-use Rattle.std.specs.List.{prefix_len, position_or_len, before_first}
+use Rattle.std.specs.List.{position_or_len, after_first}
 use Rattle.ipnetwork_family.specs.NetworkText.{slashes, before_slash, IsFirstSlash}
 
 pub slashes-append : (a b : List ℕ) → slashes (a ++ b) ≡ slashes a + slashes b
@@ -46,6 +47,25 @@ pub before_slash_whole : (a : List ℕ) → slashes a ≡ 0 → before_slash a �
 before_slash_whole a none =
     let at_end : position_or_len (λ x. x == 47) (a ++ []) ≡ length a + 0 = passed a [] none in
     take_all (position_or_len (λ x. x == 47) a) a (omega (arith, rw append-nil at at_end))
+
+-- the part after the slash
+pub after_slash_cut : (a b : List ℕ) → slashes a ≡ 0 → after_first (λ x. x == 47) (a ++ 47 ∷ b) ≡ b
+after_slash_cut a b none =
+    let at : position_or_len (λ x. x == 47) (a ++ 47 ∷ b) ≡ length a = passed a (47 ∷ b) none ∙ (omega arith) in
+    ap (λ n. drop (n + 1) (a ++ 47 ∷ b)) at
+    ∙ sym (drop-drop 1 (length a) (a ++ 47 ∷ b))
+    ∙ ap (drop 1) (drop_at a (47 ∷ b) (length a) refl)
+
+-- a text has no slash, or is cut at its first one
+pub cut_or_none : (text : List ℕ) → (slashes text ≡ 0) ⊎ ((a b : List ℕ) × (text ≡ a ++ 47 ∷ b) × (slashes a ≡ 0))
+cut_or_none [] = inl refl
+cut_or_none (x ∷ text) = go (x == 47) refl (cut_or_none text)
+  where
+    go : (v : Bool) → (x == 47) ≡ v → ((slashes text ≡ 0) ⊎ ((a b : List ℕ) × (text ≡ a ++ 47 ∷ b) × (slashes a ≡ 0)))
+      → (slashes (x ∷ text) ≡ 0) ⊎ ((a b : List ℕ) × (x ∷ text ≡ a ++ 47 ∷ b) × (slashes a ≡ 0))
+    go true is later = inr ([], text, ap (λ c. c ∷ text) (eqb-true x 47 is), refl)
+    go false is (inl none) = inl (slashes-cons x text ∙ ap (λ v. cond v 1 0 + slashes text) is ∙ (omega arith))
+    go false is (inr cut) = inr (x ∷ cut.0, cut.1, ap (λ t. x ∷ t) cut.2, slashes-cons x cut.0 ∙ ap (λ v. cond v 1 0 + slashes cut.0) is ∙ (omega (arith, cut.3)))
 
 -- a text is cut at its first slash in one way
 pub cut_unique : (a b c d : List ℕ) → slashes a ≡ 0 → slashes c ≡ 0 → a ++ 47 ∷ b ≡ c ++ 47 ∷ d → (a ≡ c) × (b ≡ d)

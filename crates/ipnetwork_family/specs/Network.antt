@@ -1,8 +1,9 @@
 -- Networks of addresses of w bits, as numbers: 32 for IPv4 and 128 for IPv6 (RFC 4632, section 3.1; RFC 4291,
 -- section 2.3).
-use Rattle.std.specs.Prelude.{◌≡◌, ◌≢◌, ℕ, zero, suc, ◌+◌, ◌-◌, ◌*◌, ◌/◌, ◌^◌, ◌<◌, ◌≤◌, ◌⊎◌, min, List, [], ◌∷◌}
+use Rattle.std.specs.Prelude.{◌≡◌, ◌≢◌, ◌==◌, if◌then◌else◌, Option, None, Some, ℕ, zero, suc, ◌+◌, ◌-◌, ◌*◌, ◌/◌, ◌^◌, ◌<◌, ◌≤◌, ◌⊎◌, min, List, [], ◌∷◌}
 use Rattle.std.specs.declared.cmp.Ordering.{Ordering}
 use Rattle.std.specs.Ordering.{nat_cmp, ordering_then}
+use Rattle.std.specs.Int.Count.{count_leading_zeros}
 
 -- an address with its host bits, and the prefix length: how many of its first bits are fixed
 pub record Network : Type 0 where
@@ -70,3 +71,7 @@ AtMost a b = (a.address < b.address) ⊎ ((a.address ≡ b.address) × (a.prefix
 -- the number is no mask
 abbrev pub IsNoMask : ℕ → ℕ → Type 0
 IsNoMask w mask = (p : ℕ) → p ≤ w → mask ≢ mask_of w p
+
+-- the prefix length of a mask, if the number is one, computed: as many as the ones in front of it
+abbrev pub prefix_of : ℕ → ℕ → Option ℕ
+prefix_of w mask = let p = count_leading_zeros w (2 ^ w - 1 - mask) in if mask == mask_of w p then Some p else None

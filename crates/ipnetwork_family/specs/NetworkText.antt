@@ -1,7 +1,8 @@
 -- Which texts name a network, and why a text is refused: CIDR notation, an address, `/` and a suffix
 -- (RFC 4632, section 3.1; RFC 4291, section 2.3), of either family.
-use Rattle.std.specs.Prelude.{◌≡◌, ℕ, ◌+◌, ◌<◌, ◌≤◌, ◌==◌, List, ◌∷◌, ◌++◌, Option, None, Some, Result, MatchResult, take, drop, length, decimal, count_by}
-use Rattle.std.specs.List.{before_first}
+use Rattle.std.specs.Prelude.{◌≡◌, ℕ, ◌+◌, ◌<◌, ◌≤◌, ◌⊎◌, ◌==◌, nat_le, if◌then◌else◌, List, ◌∷◌, ◌++◌, Option, None, Some, Result, Ok, Err, MatchResult, take, drop, length, decimal, count_by}
+use Rattle.std.specs.List.{before_first, after_first}
+use Rattle.ipnetwork_addr.specs.Texts.{IsAddressByte}
 use Rattle.ipnetwork_family.specs.Network.{Network}
 use Rattle.ipnetwork_family.specs.declared.error.CidrFault.{CidrFault}
 use Rattle.ipnetwork_family.specs.declared.error.CidrFault.TheVariants.{Format, Addr, Prefix}
@@ -71,3 +72,29 @@ ReadsNetwork w NamesAddress IsSuffix text result =
 -- prefix length
 abbrev pub network_text : (ℕ → List ℕ) → Network → List ℕ
 network_text canonical n = canonical n.address ++ slash ∷ decimal n.prefix
+
+-- a hex digit, `.`, `:` or `/`
+abbrev pub IsNetworkByte : ℕ → Type 0
+IsNetworkByte byte = IsAddressByte byte ⊎ (byte ≡ slash)
+
+-- ---- what reading answers, computed
+
+-- the part after the first `/`, if there is one
+abbrev pub suffix_of : List ℕ → Option (List ℕ)
+suffix_of text = if slashes text == 0 then None else Some (after_first (λ byte. byte == slash) text)
+
+-- the prefix length that a suffix gives
+abbrev pub prefix_given : ℕ → (List ℕ → Option ℕ) → Option (List ℕ) → Option ℕ
+prefix_given w length_of None = Some w
+prefix_given w length_of (Some suffix) = length_of suffix
+
+-- the network of an address and a prefix length, or which of them is missing
+abbrev pub network_from : Option ℕ → Option ℕ → Result Network CidrFault
+network_from None prefix = Err Addr
+network_from (Some a) None = Err Prefix
+network_from (Some a) (Some p) = Ok (record { address = a; prefix = p })
+
+-- the network that a text names, or the cause where it names none
+abbrev pub network_of : ℕ → (List ℕ → Option ℕ) → (List ℕ → Option ℕ) → List ℕ → Result Network CidrFault
+network_of w address_of length_of text =
+    if nat_le 2 (slashes text) then Err Format else network_from (address_of (before_slash text)) (prefix_given w length_of (suffix_of text))

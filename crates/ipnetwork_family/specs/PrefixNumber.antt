@@ -1,6 +1,7 @@
 -- Which texts name a prefix length.
-use Rattle.std.specs.Prelude.{◌≡◌, ℕ, ◌≤◌, ◌⊎◌, List, ◌∷◌}
-use Rattle.std.specs.Str.Parse.{IsNumeral, digits_value}
+use Rattle.std.specs.Prelude.{◌≡◌, ℕ, ◌≤◌, ◌⊎◌, nat_lt, if◌then◌else◌, List, ◌∷◌, length, Option, None, Some}
+use Rattle.std.specs.Str.{all_ascii_digits}
+use Rattle.std.specs.Str.Parse.{IsNumeral, digits_value, without_leading_plus}
 
 -- one or more decimal digits of this value
 pub record IsNumeralOf (text : List ℕ) (value : ℕ) : Type 0 where
@@ -20,3 +21,9 @@ pub record IsPrefixNumber (text : List ℕ) (value : ℕ) : Type 0 where
 -- the text names no prefix length of at most max
 abbrev pub IsNoPrefixNumber : List ℕ → ℕ → Type 0
 IsNoPrefixNumber text max = (value : ℕ) → IsPrefixNumber text value → ¬ (value ≤ max)
+
+-- the value that a text names as a prefix length, if it names one, computed
+abbrev pub prefix_number_of : List ℕ → Option ℕ
+prefix_number_of text =
+    let digits = without_leading_plus text in
+    if nat_lt 0 (length digits) then (if all_ascii_digits digits then Some (digits_value 10 digits) else None) else None
