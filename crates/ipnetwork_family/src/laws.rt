@@ -58,7 +58,7 @@ pub fn masks()
 }
 
 /// A text names at most one IPv4 network.
-pub fn v4_text_names_one_network()
+pub fn v4_network_text_names_one()
     ensures { (text : List ℕ) (a b : Network) → NamesV4Network text a → NamesV4Network text b → a ≡ b }
 {
     addresses::v4_text_is_computed();
@@ -66,7 +66,7 @@ pub fn v4_text_names_one_network()
 }
 
 /// What reading an IPv4 network answers can be computed from the text, and there is one answer.
-pub fn v4_reading_is_computed()
+pub fn v4_network_reading_is_computed()
     ensures { (text : List ℕ) (result : Result Network CidrFault) → ReadsV4Network text result ↔ (result ≡ v4_network_of text) }
 {
     addresses::v4_text_is_computed();
@@ -75,14 +75,14 @@ pub fn v4_reading_is_computed()
 
 /// The canonical text of an IPv4 network names it, host bits included. So reading it gives the network
 /// back, and printing that gives the text again.
-pub fn canonical_v4_names_its_network()
+pub fn canonical_v4_network_names_it()
     ensures { (n : Network) → IsNetwork 32 n → NamesV4Network (network_text canonical_v4 n) n }
 {
     addresses::canonical_v4_names_its_address();
 }
 
 /// Two IPv4 networks are equal exactly if their canonical texts are.
-pub fn canonical_v4_is_one_to_one()
+pub fn canonical_v4_network_is_one_to_one()
     ensures { (a b : Network) → IsNetwork 32 a → IsNetwork 32 b
         → (a ≡ b) ↔ (network_text canonical_v4 a ≡ network_text canonical_v4 b) }
 {
@@ -92,7 +92,7 @@ pub fn canonical_v4_is_one_to_one()
 }
 
 /// The bytes of a canonical text are hex digits, `.`, `:` and `/`.
-pub fn canonical_v4_bytes()
+pub fn canonical_v4_network_bytes()
     ensures { (n : Network) → IsNetwork 32 n → AllByRecursion IsNetworkByte (network_text canonical_v4 n) }
 {
     addresses::v4_text_bytes();

@@ -4,7 +4,7 @@ use Rattle.ipnetwork_family.specs.NetworkText.{network_text}
 use Rattle.ipnetwork_family.specs.Ipv4NetworkText.{NamesV4Network}
 use Rattle.ipnetwork_family.proofs.CanonicalNetworks.{v4_readable, v4_canonical_names}
 use Rattle.ipnetwork_family.proofs.ComputedNetworks.{network_unique}
-use Rattle.ipnetwork_family.proofs.laws.canonical_v4_is_one_to_one.Goals as goal
+use Rattle.ipnetwork_family.proofs.laws.canonical_v4_network_is_one_to_one.Goals as goal
 
 pub returns : goal.returns
 returns c a b h k =

@@ -2,7 +2,7 @@ use Rattle.std.proofs.Common.{sym, subst}
 use Rattle.ipnetwork_family.specs.Ipv4NetworkText.{ReadsV4Network, v4_network_of}
 use Rattle.ipnetwork_family.proofs.CanonicalNetworks.{v4_readable}
 use Rattle.ipnetwork_family.proofs.ComputedNetworks.{network_of_reads, reading_unique}
-use Rattle.ipnetwork_family.proofs.laws.v4_reading_is_computed.Goals as goal
+use Rattle.ipnetwork_family.proofs.laws.v4_network_reading_is_computed.Goals as goal
 
 pub returns : goal.returns
 returns c text result =

@@ -1,0 +1,57 @@
+-- The commands and their answers. A line is the list of its bytes, without its end.
+use Rattle.std.specs.Prelude.{ℕ, ◌/◌, ◌==◌, if◌then◌else◌, List, [], ◌∷◌, Option, None, Some, Result, Ok, Err, codes, bytes_eq}
+use Rattle.ipnetwork_addr.specs.Ipv4Text.{canonical_v4, v4_of}
+use Rattle.ipnetwork_family.specs.Network.{Network, block_size}
+use Rattle.ipnetwork_family.specs.NetworkText.{network_text}
+use Rattle.ipnetwork_family.specs.Ipv4NetworkText.{v4_network_of}
+use Rattle.ipnetwork_family.specs.declared.error.CidrFault.{CidrFault}
+use Rattle.ipnetwork_family.specs.declared.error.CidrFault.TheVariants.{Format, Addr, Prefix}
+use Rattle.cidr.specs.Words.{words}
+
+-- the answer to any other first word, or another number of words
+abbrev pub unknown : List ℕ
+unknown = codes "unknown command"
+
+-- why a text names no network
+abbrev pub refusal : CidrFault → List ℕ
+refusal Format = codes "refused format"
+refusal Addr = codes "refused address"
+refusal Prefix = codes "refused prefix"
+
+-- `read4 T`: the canonical text of the IPv4 network that T names, or why it names none
+abbrev pub printed_v4 : Result Network CidrFault → List ℕ
+printed_v4 (Ok network) = network_text canonical_v4 network
+printed_v4 (Err fault) = refusal fault
+
+abbrev pub read4_answer : List ℕ → List ℕ
+read4_answer text = printed_v4 (v4_network_of text)
+
+-- the address agrees with the network's in the bits that its prefix length fixes
+abbrev pub membership : Network → ℕ → List ℕ
+membership network address =
+    if address / block_size 32 network.prefix == network.address / block_size 32 network.prefix then codes "yes" else codes "no"
+
+-- `has4 T A`: whether the IPv4 network that T names holds the address that A names; T is judged first
+abbrev pub asked_v4 : Result Network CidrFault → Option ℕ → List ℕ
+asked_v4 (Err fault) address = codes "refused network"
+asked_v4 (Ok network) None = codes "refused address"
+asked_v4 (Ok network) (Some address) = membership network address
+
+abbrev pub has4_answer : List ℕ → List ℕ → List ℕ
+has4_answer network address = asked_v4 (v4_network_of network) (v4_of address)
+
+-- the commands that are asked of one word, and of two
+unfoldable pub one_word_answer : List ℕ → List ℕ → List ℕ
+one_word_answer command word = if bytes_eq command (codes "read4") then read4_answer word else unknown
+
+unfoldable pub two_words_answer : List ℕ → List ℕ → List ℕ → List ℕ
+two_words_answer command first second = if bytes_eq command (codes "has4") then has4_answer first second else unknown
+
+-- the answer to a line, by the number of its words
+unfoldable pub answer_to : List (List ℕ) → List ℕ
+answer_to (command ∷ word ∷ []) = one_word_answer command word
+answer_to (command ∷ first ∷ second ∷ []) = two_words_answer command first second
+answer_to _ = unknown
+
+unfoldable pub command_answer : List ℕ → List ℕ
+command_answer line = answer_to (words line)

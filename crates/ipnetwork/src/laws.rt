@@ -1,0 +1,12 @@
+//! The laws of addresses, of networks and of their texts. Each function's contract is a law; it takes
+//! nothing and does nothing, and a proof that calls it may use the law.
+
+pub use ipnetwork_addr::laws::{
+    canonical_v4_is_one_to_one, canonical_v4_names_its_address, octet_texts, v4_text_bytes,
+    v4_text_is_computed, v4_text_names_one,
+};
+pub use ipnetwork_family::laws::{
+    canonical_v4_network_bytes, canonical_v4_network_is_one_to_one, canonical_v4_network_names_it,
+    ends, listing, masks, nesting, order, subnets, v4_network_reading_is_computed,
+    v4_network_text_names_one,
+};
