@@ -1,4 +1,4 @@
-//! Why a text is no network.
+//! Why a text or a prefix length is refused.
 
 /// The cause for which a text is refused, without the text. Where there are several, the first of
 /// these is given.
@@ -10,4 +10,26 @@ pub enum CidrFault {
     Addr,
     /// What stands after the `/` is no prefix length and no mask.
     Prefix,
+}
+
+/// Why a network is refused, with its text.
+#[derive(Debug, PartialEq, Eq, Drop)]
+pub enum IpNetworkError {
+    /// What stands for the address is none.
+    InvalidAddr(String),
+    /// The prefix length is greater than the number of bits, or the mask is none.
+    InvalidPrefix,
+    /// The text holds two or more `/`.
+    InvalidCidrFormat(String),
+    /// A size does not fit. No call of this crate answers it.
+    NetworkSizeError(NetworkSizeError),
+    /// There was no memory for the text of a refusal. No call answers it in place of a network.
+    OutOfMemory,
+}
+
+/// Why a size is refused.
+#[derive(Clone, Copy, Debug, PartialEq, Eq)]
+pub enum NetworkSizeError {
+    /// It does not fit 32 bits.
+    NetworkIsTooLarge,
 }

@@ -1,14 +1,15 @@
 //! IPv4 networks.
-ghost use Rattle.std.specs.Prelude.{◌≡◌, ℕ, ◌^◌, ◌<◌, ◌≤◌, ◌↔◌, IsTrue, Some, MatchOption, length, option_copied};
+ghost use Rattle.std.specs.Prelude.{◌≡◌, ℕ, ◌+◌, ◌<◌, ◌≤◌, ◌↔◌, IsTrue, Some, MatchOption, MatchResult, length, option_copied};
 ghost use Rattle.std.specs.Option.{SomeIff};
 ghost use Rattle.ipnetwork_addr.specs.Ipv4Text.{NamesV4, canonical_v4};
-ghost use Rattle.ipnetwork_family.specs.Network.{Network, IsNetwork, Member, mask_of};
+ghost use Rattle.ipnetwork_family.specs.Network.{Network, IsNetwork, Member, IsNoMask, mask_of, low, high, size_of, members, Subnet, Overlap};
 ghost use Rattle.ipnetwork_family.specs.NetworkText.{GivesPrefix, GivesNoPrefix, network_text};
 ghost use Rattle.ipnetwork_family.specs.Ipv4NetworkText.{IsV4Suffix, IsNoV4Suffix, ReadsV4Network};
 
+use crate::ipv4_iter::Ipv4NetworkIterator;
 use crate::ipv4_mask::{WIDTH, host_ones, prefix_of_mask};
 use crate::parse::{read_prefix, split};
-use crate::{CidrFault, TEXT_CAPACITY};
+use crate::{CidrFault, IpNetworkError, TEXT_CAPACITY};
 use arrayvec::ArrayString;
 use ipnetwork_addr::decimal::push_decimal;
 use ipnetwork_addr::{Ipv4Addr, laws};
@@ -53,6 +54,30 @@ impl Ipv4Network {
         })
     }
 
+    /// The network of this address, host bits kept, and this prefix length; `InvalidPrefix` where that is
+    /// greater than 32. Takes no memory.
+    pub fn new(addr: Ipv4Addr, prefix: u8) -> Result<Self, IpNetworkError>
+        ensures { MatchResult result (λ n. (n ≡ record { address = addr; prefix = prefix }) × (prefix ≤ 32))
+            (λ fault. (fault ≡ IpNetworkError.InvalidPrefix) × (32 < prefix)) }
+    {
+        match Ipv4Network::new_checked(addr, prefix) {
+            Some(network) => Ok(network),
+            None => Err(IpNetworkError::InvalidPrefix),
+        }
+    }
+
+    /// The network of this address, host bits kept, and the prefix length of this mask; `InvalidPrefix`
+    /// where that is none of the 33 masks. Takes no memory.
+    pub fn with_netmask(netaddr: Ipv4Addr, netmask: Ipv4Addr) -> Result<Self, IpNetworkError>
+        ensures { MatchResult result (λ n. (n.address ≡ netaddr) × (n.prefix ≤ 32) × (netmask ≡ mask_of 32 n.prefix))
+            (λ fault. (fault ≡ IpNetworkError.InvalidPrefix) × IsNoMask 32 netmask) }
+    {
+        match prefix_of_mask(u32::from(netmask)) {
+            Some(prefix) => Ipv4Network::new(netaddr, prefix),
+            None => Err(IpNetworkError::InvalidPrefix),
+        }
+    }
+
     /// The address as made, host bits included.
     pub fn ip(&self) -> Ipv4Addr
         ensures made { result ≡ self.now.address }
@@ -76,12 +101,74 @@ impl Ipv4Network {
         Ipv4Addr::from(!host_ones(self.prefix))
     }
 
+    /// The least member: the address with its host bits cleared.
+    pub fn network(&self) -> Ipv4Addr
+        ensures least { result ≡ low 32 self.now }
+        ensures network { IsNetwork 32 self.now }
+    {
+        Ipv4Addr::from(self.address & !host_ones(self.prefix))
+    }
+
+    /// The greatest member: the address with its host bits set.
+    pub fn broadcast(&self) -> Ipv4Addr
+        ensures { result ≡ high 32 self.now }
+    {
+        let ones = host_ones(self.prefix);
+        Ipv4Addr::from(self.address & !ones | ones)
+    }
+
     /// Whether an address lies in the network's set.
     pub fn contains(&self, ip: Ipv4Addr) -> bool
         ensures { IsTrue result ↔ Member 32 self.now ip }
     {
         let mask = !host_ones(self.prefix);
         u32::from(ip) & mask == self.address & mask
+    }
+
+    /// The number of members, and at prefix length 0, where that needs 33 bits, one less: 4,294,967,295.
+    pub fn size(&self) -> u32
+        ensures { result ≡ size_of 32 self.now }
+    {
+        host_ones(self.prefix).saturating_add(1)
+    }
+
+    /// The member number `n` in order, counted from 0; `None` where `n` is not below `size`.
+    pub fn nth(self, n: u32) -> Option<Ipv4Addr>
+        ensures { SomeIff result (n < size_of 32 self) (low 32 self + n) }
+    {
+        if n < self.size() {
+            Some(Ipv4Addr::from(u32::from(self.network()) + n))
+        } else {
+            None
+        }
+    }
+
+    /// Whether each member is one of `other`, host bits or not.
+    pub fn is_subnet_of(self, other: Ipv4Network) -> bool
+        ensures { IsTrue result ↔ Subnet 32 self other }
+    {
+        other.prefix() <= self.prefix() && other.contains(self.ip())
+    }
+
+    /// Whether each member of `other` is one, host bits or not.
+    pub fn is_supernet_of(self, other: Ipv4Network) -> bool
+        ensures { IsTrue result ↔ Subnet 32 other self }
+    {
+        other.is_subnet_of(self)
+    }
+
+    /// Whether some address is a member of both.
+    pub fn overlaps(self, other: Ipv4Network) -> bool
+        ensures { IsTrue result ↔ Overlap 32 self other }
+    {
+        self.contains(other.ip()) || other.contains(self.ip())
+    }
+
+    /// The members, each once, in ascending order.
+    pub fn iter(&self) -> Ipv4NetworkIterator
+        ensures { result ≡ members 32 self.now }
+    {
+        Ipv4NetworkIterator::between(u32::from(self.network()), u32::from(self.broadcast()))
     }
 
     /// The network that a text names: an IPv4 address, host bits kept, and after a `/` its suffix, a
@@ -140,6 +227,40 @@ fn read_suffix(suffix: &[u8]) -> Option<u8>
     match Ipv4Addr::read_bytes(suffix) {
         Ok(mask) => prefix_of_mask(u32::from(mask)),
         Err(_) => None,
+    }
+}
+
+/// The prefix length of a mask, or `InvalidPrefix` where the address is none of the 33 masks. Takes no memory.
+pub fn ipv4_mask_to_prefix(mask: Ipv4Addr) -> Result<u8, IpNetworkError>
+    ensures { MatchResult result (λ p. (p ≤ 32) × (mask ≡ mask_of 32 p))
+        (λ fault. (fault ≡ IpNetworkError.InvalidPrefix) × IsNoMask 32 mask) }
+{
+    match prefix_of_mask(u32::from(mask)) {
+        Some(prefix) => Ok(prefix),
+        None => Err(IpNetworkError::InvalidPrefix),
+    }
+}
+
+impl From<Ipv4Addr> for Ipv4Network {
+    ghost from_gives = { λ address network. network ≡ record { address = address; prefix = 32 } };
+
+    fn from(addr: Ipv4Addr) -> Self {
+        Ipv4Network {
+            address: u32::from(addr),
+            prefix: WIDTH,
+        }
+    }
+}
+
+impl IntoIterator for &Ipv4Network {
+    type Item = Ipv4Addr;
+
+    type IntoIter = Ipv4NetworkIterator;
+
+    ghost into_iter_gives = { λ network left. left ≡ members 32 network.now };
+
+    fn into_iter(self) -> Ipv4NetworkIterator {
+        self.iter()
     }
 }
 

@@ -6,14 +6,16 @@
 
 mod error;
 mod ipv4;
+mod ipv4_iter;
 mod ipv4_mask;
 pub mod laws;
 pub mod parse;
 #[cfg(test)]
 mod tests;
 
-pub use error::CidrFault;
-pub use ipv4::Ipv4Network;
+pub use error::{CidrFault, IpNetworkError, NetworkSizeError};
+pub use ipv4::{Ipv4Network, ipv4_mask_to_prefix};
+pub use ipv4_iter::Ipv4NetworkIterator;
 
 /// The length in bytes of the longest printed network, one of IPv6.
 pub const TEXT_CAPACITY: usize = 43;
