@@ -4,6 +4,9 @@ ghost use Rattle.std.specs.Int.Digits.{number_from_digits};
 ghost use Rattle.ipnetwork_addr.specs.Ipv4Text.{NamesV4, NamesNoV4};
 ghost use Rattle.ipnetwork_addr.specs.OctetFront.{NoDigit, BeginsWithDigit, BeginsWithOctet, NoOctet, BeginsWithDottedOctet, NoDottedOctet};
 
+/// The greatest octet.
+const OCTET_MAX: u16 = 255;
+
 /// The four octets of a text that is an IPv4 address.
 pub(crate) fn read_octets(text: &[u8]) -> Option<[u8; 4]>
     ensures { MatchOption result (NamesNoV4 text.now) (λ octets. NamesV4 text.now (number_from_digits 256 octets)) }
@@ -45,7 +48,7 @@ fn read_octet(text: &[u8]) -> Option<(u8, &[u8])>
         return Some((tens, after_second));
     };
     let value = u16::from(tens) * 10 + u16::from(third);
-    if value > 255 {
+    if value > OCTET_MAX {
         return None;
     }
     match read_digit(after_third) {

@@ -15,13 +15,13 @@ pub returns-in_default-read_digit : goal.returns-in_default-read_digit
 returns-in_default-read_digit c =
     two_digits _ _ _ _ _ c.in_ok-first.ensures c.in-Some.ensures (omega arith) c.in_default-read_digit.ensures
 
-pub returns-then-value-gt255 : goal.returns-then-value-gt255
-returns-then-value-gt255 c =
+pub returns-then-value-gt-OCTET_MAX : goal.returns-then-value-gt-OCTET_MAX
+returns-then-value-gt-OCTET_MAX c =
     no_octet_of_three _ _ _ _ _ _ _ c.in_ok-first.ensures c.in-Some.ensures c.in-Some-read_digit.ensures (inl (omega arith))
 
 pub returns-in-None : goal.returns-in-None
 returns-in-None c =
-    three_digits _ _ _ _ _ _ _ _ c.in_ok-first.ensures c.in-Some.ensures c.in-Some-read_digit.ensures (omega arith) (omega (arith, c.from.ensures, c.from-2.ensures)) c.if-value-gt255.false c.in-None.ensures
+    three_digits _ _ _ _ _ _ _ _ c.in_ok-first.ensures c.in-Some.ensures c.in-Some-read_digit.ensures (omega arith) (omega (arith, c.from.ensures, c.from-2.ensures)) c.if-value-gt-OCTET_MAX.false c.in-None.ensures
 
 pub returns-in-Some-read_digit-2 : goal.returns-in-Some-read_digit-2
 returns-in-Some-read_digit-2 c =
