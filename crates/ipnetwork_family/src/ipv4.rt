@@ -280,7 +280,7 @@ impl TryFrom<&str> for Ipv4Network {
     ghost try_from_gives = { λ text result. ReadsV4Network text.now result };
 
     fn try_from(text: &str) -> Result<Self, CidrFault> {
-        Ipv4Network::read_bytes(text.as_bytes())
+        Ipv4Network::from_str(text)
     }
 }
 
