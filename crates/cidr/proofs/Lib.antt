@@ -1,2 +1,8 @@
 pub mod Answers
+pub mod BytesLemmas
 pub mod Cuts
+pub mod Gathering
+pub mod Kept
+pub mod Lines
+pub mod Runs
+pub mod Writes

@@ -1,2 +1,9 @@
+pub mod Bytes
 pub mod Commands
+pub mod Line
+pub mod Output
+pub mod Progress
+pub mod Replies
+pub mod Run
+pub mod Watched
 pub mod Words

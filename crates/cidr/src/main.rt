@@ -1,15 +1,31 @@
-//! Answers lines.
+//! Answers each line of standard input on standard output.
 #![tactic(auto)]
 
 mod answer;
+mod engine;
+mod fault;
+mod find;
+mod line;
+mod replies;
+#[cfg(test)]
+mod tests;
+mod watched;
 mod words;
 
-use crate::answer::answer;
+use crate::engine::run;
+use crate::fault::RunFault;
+use crate::watched::Watched;
+use std::process::ExitCode;
 
-fn main(rt: HostRuntime) {
-    let _ = rt.println(answer(b"has4 10.0.0.0/8 10.255.255.255").as_str());
-    let _ = rt.println(answer(b"read4 1.2.3.4/24/").as_str());
-    let _ = rt.println(answer(b"read4 1.2.3.4/024").as_str());
-    let _ = rt.println(answer(b"read4  1.2.3.4/024").as_str());
-    let _ = rt.println(answer(b"").as_str());
+fn main(rt: HostRuntime) -> ExitCode {
+    let mut reader = Watched::new(rt.stdin());
+    let mut writer = Watched::new(rt.stdout());
+    let fault = match run(rt.alloc(), &mut reader, &mut writer) {
+        Ok(()) => return ExitCode::SUCCESS,
+        Err(RunFault::Read) => "read error",
+        Err(RunFault::Write) => "write error",
+        Err(RunFault::InputTooLong) => "input too long",
+    };
+    let _ = rt.eprintln(fault);
+    ExitCode::FAILURE
 }

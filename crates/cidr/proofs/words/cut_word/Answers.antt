@@ -1,15 +1,10 @@
-use Rattle.std.proofs.Common.{◌+◌, arith, subst}
-use Rattle.std.proofs.lemmas.List.{take_rest, take_all}
-use Rattle.cidr.proofs.Cuts.{NoBlank, no_blank_more, cut_here, no_cut}
+use Rattle.std.proofs.Common.{◌+◌}
+use Rattle.std.proofs.lemmas.List.{take_rest}
+use Rattle.cidr.proofs.Cuts.{cut_here, no_cut}
 use Rattle.cidr.proofs.words.cut_word.Goals as goal
 
-pub returns-then-byte-eq32 : goal.returns-then-byte-eq32
-returns-then-byte-eq32 c =
-    rw (take_rest c.args.line.now (c.loop-at.at + 1))
-    (cut_here c.args.line.now c.loop-at.at c.loop-at-test.true c.loop-at.invariant c.if-byte-eq32.true)
+pub returns-in-None : goal.returns-in-None
+returns-in-None c = no_cut c.args.line.now c.in-None.ensures
 
-pub loop-at-preserved : goal.loop-at-preserved
-loop-at-preserved c = no_blank_more c.args.line.now c.loop-at.at c.loop-at-test.true c.loop-at.invariant c.if-byte-eq32.false
-
-pub returns : goal.returns
-returns c = no_cut c.args.line.now (subst NoBlank (take_all c.loop-at.at c.args.line.now c.loop-at-test.false) c.loop-at.invariant)
+pub returns-in-Some : goal.returns-in-Some
+returns-in-Some c = rw (take_rest c.args.line.now (c.in-Some.at + 1)) (cut_here c.args.line.now c.in-Some.at c.in-Some.ensures)

@@ -1,0 +1,148 @@
+-- The output, line by line and piece by piece.
+use Rattle.std.proofs.Common.{◌≡◌, ℕ, ◌<◌, ◌⊎◌, inl, inr, suc, Bool, true, false, None, Some, Option, List, [], ◌∷◌, ◌++◌, length, take, slice_index, ◌==◌, cond, arith, refl, sym, ap, ap₂, ◌∙◌, append_assoc, append-nil}
+use Rattle.std.proofs.lemmas.Bool.Decides.{eqb_tells}
+use Rattle.std.proofs.Math.Bool.{or-true}
+use Rattle.std.proofs.Math.Dec.{eqb-suc-zero}
+use Rattle.std.proofs.lemmas.Bool.{eqb-true}
+use Rattle.std.proofs.lemmas.List.{get_or-take, length-take}
+use Rattle.std.specs.List.{flat_map, list_any, slice_split, onto_first}
+use Rattle.std.specs.Str.Lines.{lines_of_parts, strip_carriage_return}
+use Rattle.cidr.specs.Bytes.{HasNo}
+use Rattle.cidr.proofs.BytesLemmas.{HasNo-push, split_at, split_none, split_cons}
+use Rattle.cidr.specs.Output.{reply_of, output_of, complete_part, IsBeginning}
+use Rattle.cidr.specs.Progress.{replies_from, pending_from, last_reply}
+parts_cons : (a b : List ℕ) → lines_of_parts (a ∷ slice_split (λ x. x == 10) b) ≡ strip_carriage_return a ∷ lines_of_parts (slice_split (λ x. x == 10) b)
+parts_cons a b = let e = (split_cons 10 b).2 in rw e refl
+
+-- a line, and the lines after it
+pub output_line : (a b : List ℕ) → HasNo 10 a → output_of (a ++ 10 ∷ b) ≡ reply_of (strip_carriage_return a) ++ output_of b
+unfolding output_of
+output_line a b h = rw (split_at 10 a b refl h, parts_cons a b) refl
+
+pub output_last : (a : List ℕ) → HasNo 10 a → output_of a ≡ last_reply a
+unfolding output_of last_reply
+output_last [] h = refl
+output_last (x ∷ a) h =
+    ap (λ parts. flat_map reply_of (lines_of_parts parts)) (split_none 10 (x ∷ a) h)
+    ∙ ap (λ v. flat_map reply_of (cond v [] ((x ∷ a) ∷ []))) (eqb-suc-zero (length a))
+    ∙ append-nil (reply_of (x ∷ a))
+
+newline_cases : (c : ℕ) → (c ≡ 10) ⊎ ((c == 10) ≡ false)
+newline_cases c = elim (eqb_tells c 10) [ inl same ↦ inl same.1 | inr apart ↦ inr apart.0 ]
+
+-- ---- one byte more
+
+pub replies_other : (p xs : List ℕ) (c : ℕ) → (c == 10) ≡ false → replies_from p (c ∷ xs) ≡ replies_from (p ++ c ∷ []) xs
+unfolding replies_from
+replies_other p xs c e = rw e refl
+
+pub pending_other : (p xs : List ℕ) (c : ℕ) → (c == 10) ≡ false → pending_from p (c ∷ xs) ≡ pending_from (p ++ c ∷ []) xs
+unfolding pending_from
+pending_other p xs c e = rw e refl
+
+-- ---- one piece more
+
+pub pending-append : (p a b : List ℕ) → pending_from p (a ++ b) ≡ pending_from (pending_from p a) b
+unfolding pending_from
+pending-append p [] b = refl
+pending-append p (c ∷ a) b =
+    elim (c == 10) as (λ v. cond v (pending_from [] (a ++ b)) (pending_from (p ++ c ∷ []) (a ++ b)) ≡ pending_from (cond v (pending_from [] a) (pending_from (p ++ c ∷ []) a)) b) [
+      | true ↦ pending-append [] a b
+      | false ↦ pending-append (p ++ c ∷ []) a b
+    ]
+
+pub replies-append : (p a b : List ℕ) → replies_from p (a ++ b) ≡ replies_from p a ++ replies_from (pending_from p a) b
+unfolding replies_from pending_from
+replies-append p [] b = refl
+replies-append p (c ∷ a) b =
+    let reply = reply_of (strip_carriage_return p) in
+    elim (c == 10) as (λ v. cond v (reply ++ replies_from [] (a ++ b)) (replies_from (p ++ c ∷ []) (a ++ b))
+    ≡ cond v (reply ++ replies_from [] a) (replies_from (p ++ c ∷ []) a) ++ replies_from (cond v (pending_from [] a) (pending_from (p ++ c ∷ []) a)) b) [
+      | true ↦ ap (λ l. reply ++ l) (replies-append [] a b) ∙ sym (append_assoc reply _ _)
+      | false ↦ replies-append (p ++ c ∷ []) a b
+    ]
+
+-- ---- no line feed, or one at the end
+
+pub replies_none : (p xs : List ℕ) → HasNo 10 xs → replies_from p xs ≡ []
+unfolding replies_from
+replies_none p [] h = refl
+replies_none p (c ∷ xs) h = replies_other p xs c h.0 ∙ replies_none (p ++ c ∷ []) xs h.1
+
+pub pending_none : (p xs : List ℕ) → HasNo 10 xs → pending_from p xs ≡ p ++ xs
+unfolding pending_from
+pending_none p [] h = sym (append-nil p)
+pending_none p (c ∷ xs) h = pending_other p xs c h.0 ∙ pending_none (p ++ c ∷ []) xs h.1 ∙ append_assoc p (c ∷ []) xs
+
+pub replies_line : (p xs : List ℕ) → HasNo 10 xs → replies_from p (xs ++ 10 ∷ []) ≡ reply_of (strip_carriage_return (p ++ xs))
+unfolding replies_from
+replies_line p xs h =
+    replies-append p xs (10 ∷ []) ∙ ap₂ (λ l m. l ++ replies_from m (10 ∷ [])) (replies_none p xs h) (pending_none p xs h)
+    ∙ append-nil (reply_of (strip_carriage_return (p ++ xs)))
+
+pub pending_line : (p xs : List ℕ) → HasNo 10 xs → pending_from p (xs ++ 10 ∷ []) ≡ []
+unfolding pending_from
+pending_line p xs h = pending-append p xs (10 ∷ []) ∙ ap (λ m. pending_from m (10 ∷ [])) (pending_none p xs h)
+
+-- ---- the whole input
+
+push_assoc : (p xs : List ℕ) (c : ℕ) → p ++ c ∷ xs ≡ (p ++ c ∷ []) ++ xs
+push_assoc p xs c = sym (append_assoc p (c ∷ []) xs)
+
+-- the output is the replies to the complete lines, and then the reply to what is pending
+pub output_split : (p xs : List ℕ) → HasNo 10 p → output_of (p ++ xs) ≡ replies_from p xs ++ last_reply (pending_from p xs)
+unfolding replies_from pending_from last_reply
+output_split p [] h = ap output_of (append-nil p) ∙ output_last p h
+output_split p (c ∷ xs) h = elim (newline_cases c) [
+  | inl e ↦ rw e (output_line p xs h ∙ ap (λ l. reply_of (strip_carriage_return p) ++ l) (output_split [] xs tt)
+      ∙ sym (append_assoc (reply_of (strip_carriage_return p)) (replies_from [] xs) (last_reply (pending_from [] xs))))
+  | inr e ↦ ap output_of (push_assoc p xs c) ∙ output_split (p ++ c ∷ []) xs (HasNo-push 10 p c h e)
+      ∙ ap₂ (λ l m. l ++ last_reply m) (sym (replies_other p xs c e)) (sym (pending_other p xs c e))
+]
+
+any_none : (p : List ℕ) → HasNo 10 p → list_any (λ b. b == 10) p ≡ false
+any_none [] h = refl
+any_none (x ∷ p) h = rw h.0 (any_none p h.1)
+
+any_line : (p xs : List ℕ) → list_any (λ b. b == 10) (p ++ 10 ∷ xs) ≡ true
+any_line [] xs = refl
+any_line (x ∷ p) xs = rw (any_line p xs) (or-true (x == 10))
+
+complete_none : (p : List ℕ) → HasNo 10 p → complete_part p ≡ []
+unfolding complete_part
+complete_none [] h = refl
+complete_none (x ∷ p) h = ap (λ v. cond v (x ∷ complete_part p) []) (any_none (x ∷ p) h)
+
+complete_line : (p xs : List ℕ) → complete_part (p ++ 10 ∷ xs) ≡ p ++ 10 ∷ complete_part xs
+unfolding complete_part
+complete_line [] xs = refl
+complete_line (x ∷ p) xs = ap (λ v. cond v (x ∷ complete_part (p ++ 10 ∷ xs)) []) (any_line (x ∷ p) xs) ∙ ap (λ l. x ∷ l) (complete_line p xs)
+
+output_nil : (p : List ℕ) → output_of [] ≡ replies_from p []
+unfolding output_of replies_from
+output_nil p = refl
+
+-- the output of the bytes up to the last line feed is the replies to the complete lines
+pub output_complete : (p xs : List ℕ) → HasNo 10 p → output_of (complete_part (p ++ xs)) ≡ replies_from p xs
+unfolding replies_from
+output_complete p [] h = ap (λ l. output_of (complete_part l)) (append-nil p) ∙ ap output_of (complete_none p h) ∙ output_nil p
+output_complete p (c ∷ xs) h = elim (newline_cases c) [
+  | inl e ↦ rw e (ap output_of (complete_line p xs) ∙ output_line p (complete_part xs) h ∙ ap (λ l. reply_of (strip_carriage_return p) ++ l) (output_complete [] xs tt))
+  | inr e ↦ ap (λ l. output_of (complete_part l)) (push_assoc p xs c) ∙ output_complete (p ++ c ∷ []) xs (HasNo-push 10 p c h e) ∙ sym (replies_other p xs c e)
+]
+
+-- ---- beginnings
+
+pub begins_itself : (a : List ℕ) → IsBeginning a a
+begins_itself a = ([], sym (append-nil a))
+
+pub begins_with_nothing : (a : List ℕ) → IsBeginning [] a
+begins_with_nothing a = (a, refl)
+
+-- what begins a begins a ++ b
+pub begins_longer : (w a b : List ℕ) → IsBeginning w a → IsBeginning w (a ++ b)
+begins_longer w a b h = (h.0 ++ b, ap (λ l. l ++ b) h.1 ∙ append_assoc w h.0 b)
+
+-- what begins b begins a ++ b after a
+pub begins_after : (a w b : List ℕ) → IsBeginning w b → IsBeginning (a ++ w) (a ++ b)
+begins_after a w b h = (h.0, ap (λ l. a ++ l) h.1 ∙ sym (append_assoc a w h.0))

@@ -1,0 +1,56 @@
+-- How a run ends.
+use Rattle.std.specs.Prelude.{◌≡◌, ℕ, ◌<◌, ◌≤◌, Bool, true, false, List, length, Option, Result, Ok, Err}
+use Rattle.std.specs.Io.KnownBytes.{Appends, Consumes, IsAtEnd}
+use Rattle.cidr.specs.declared.fault.RunFault.{RunFault}
+use Rattle.cidr.specs.declared.fault.RunFault.TheVariants.{Read, Write, InputTooLong}
+use Rattle.cidr.specs.Output.{output_of, complete_part, IsBeginning}
+
+-- the replies to the lines that some first bytes complete, within the limit, and no others
+abbrev pub AnswersPart : ℕ → List ℕ → List ℕ → Type 0
+AnswersPart limit read written = (front : List ℕ) × IsBeginning front read × (length front ≤ limit) × (written ≡ output_of (complete_part front))
+
+-- what a run may have read and written, by how it ended. `rest` is what the reader has left
+abbrev pub EndsAs : ℕ → Option (List ℕ) → Result (Unit {0}) RunFault → List ℕ → List ℕ → Type 0
+-- the whole input, and its output
+EndsAs limit rest (Ok done) read written = IsAtEnd rest × (length read ≤ limit) × (written ≡ output_of read)
+-- the replies to the lines whose line feed was read, and no others
+EndsAs limit rest (Err Read) read written = (length read ≤ limit) × (written ≡ output_of (complete_part read))
+-- the same of the bytes that were read before the limit was passed
+EndsAs limit rest (Err InputTooLong) read written = (limit < length read) × AnswersPart limit read written
+-- no more than the output of what was read
+EndsAs limit rest (Err Write) read written = (length read ≤ limit) × IsBeginning written (output_of read)
+
+-- how a run went, where the reader and the writer tell their bytes
+pub record Ran (limit : ℕ) (left rest held holds : Option (List ℕ)) (result : Result (Unit {0}) RunFault) : Type 0 where
+  -- the bytes that were read
+  pub read : List ℕ
+  -- the bytes that were written
+  pub written : List ℕ
+  -- the reader gave the first
+  pub reads : Consumes left rest read
+  -- the writer took the second
+  pub writes : Appends held holds written
+  -- how much of the input they are, and of its output
+  pub ends : EndsAs limit rest result read written
+
+-- whether a read ended the run
+abbrev pub ended_by_read : Result (Unit {0}) RunFault → Bool
+-- no: it came to the end of the input
+ended_by_read (Ok done) = false
+-- yes: a read failed
+ended_by_read (Err Read) = true
+-- no: the writer did
+ended_by_read (Err Write) = false
+-- no: the limit did
+ended_by_read (Err InputTooLong) = false
+
+-- whether a write or the flush ended the run
+abbrev pub ended_by_write : Result (Unit {0}) RunFault → Bool
+-- no: it came to the end of the input
+ended_by_write (Ok done) = false
+-- no: the reader did
+ended_by_write (Err Read) = false
+-- yes: a write or the flush failed
+ended_by_write (Err Write) = true
+-- no: the limit did
+ended_by_write (Err InputTooLong) = false

@@ -1,0 +1,111 @@
+//! A reader and a writer.
+ghost use Rattle.std.specs.Prelude.{◌<◌, None, Some, if◌then◌else◌};
+
+use std::alloc::Global;
+use std::io;
+use std::io::{ErrorKind, Read, Write};
+
+/// Gives these bytes, `step` a call at most, and counts its calls.
+///
+/// The call `fails_at` fails. An endless one gives its bytes again and again.
+#[derive(Drop)]
+pub(crate) struct Source<'a> {
+    pub(crate) bytes: &'a [u8],
+    pub(crate) step: usize,
+    pub(crate) endless: bool,
+    pub(crate) fails_at: usize,
+    pub(crate) kind: ErrorKind,
+    pub(crate) calls: usize,
+    ghost moves: { 0 < step },
+}
+
+impl<'a> Source<'a> {
+    pub(crate) fn new(bytes: &'a [u8], step: usize) -> Source<'a>
+        requires { 0 < step }
+    {
+        Source {
+            bytes,
+            step,
+            endless: false,
+            fails_at: 0,
+            kind: ErrorKind::Interrupted,
+            calls: 0,
+        }
+    }
+}
+
+impl Read for Source<'_> {
+    ghost remaining = { λ s. if s.endless then None else Some s.bytes.now };
+
+    fn read(&mut self, buf: &mut [u8]) -> io::Result<usize> {
+        self.calls = self.calls.saturating_add(1);
+        if self.calls == self.fails_at {
+            return Err(io::Error::from(self.kind));
+        }
+        let count = self.step.min(self.bytes.len()).min(buf.len());
+        buf[..count].copy_from_slice(&self.bytes[..count]);
+        if !self.endless {
+            self.bytes = &self.bytes[count..];
+        }
+        Ok(count)
+    }
+}
+
+/// Takes bytes, `step` a call at most, and counts its calls.
+///
+/// The write `fails_at` fails, the write `idles_at` takes nothing, and the flush may fail.
+#[derive(Drop)]
+pub(crate) struct Sink {
+    pub(crate) taken: Vec<u8>,
+    pub(crate) step: usize,
+    pub(crate) fails_at: usize,
+    pub(crate) idles_at: usize,
+    pub(crate) flush_fails: bool,
+    pub(crate) kind: ErrorKind,
+    pub(crate) writes: usize,
+    pub(crate) flushes: usize,
+}
+
+impl Sink {
+    pub(crate) fn new(alloc: Global, step: usize) -> Sink {
+        Sink {
+            taken: Vec::new(alloc),
+            step,
+            fails_at: 0,
+            idles_at: 0,
+            flush_fails: false,
+            kind: ErrorKind::Interrupted,
+            writes: 0,
+            flushes: 0,
+        }
+    }
+
+    pub(crate) fn into_taken(self) -> Vec<u8> {
+        self.taken
+    }
+}
+
+impl Write for Sink {
+    ghost contents = { λ s. Some s.taken.items };
+
+    fn write(&mut self, buf: &[u8]) -> io::Result<usize> {
+        self.writes = self.writes.saturating_add(1);
+        if self.writes == self.fails_at {
+            return Err(io::Error::from(self.kind));
+        }
+        if self.writes == self.idles_at {
+            return Ok(0);
+        }
+        let count = self.step.min(buf.len());
+        self.taken.extend_from_slice(&buf[..count])?;
+        Ok(count)
+    }
+
+    fn flush(&mut self) -> io::Result<()> {
+        self.flushes = self.flushes.saturating_add(1);
+        if self.flush_fails {
+            return Err(io::Error::from(self.kind));
+        }
+        Ok(())
+    }
+}
