@@ -1,5 +1,6 @@
 //! Runs over devices that cut what passes through them, count their calls and fail.
 
+mod answers;
 mod devices;
 mod faults;
 mod lines;

@@ -1,0 +1,60 @@
+use crate::answer::answer;
+
+#[test]
+fn commands_are_answered(rt: HostRuntime) {
+    for (line, text) in [
+        ("read4 1.2.3.4", "1.2.3.4/32"),
+        ("read4 1.2.3.4/24", "1.2.3.4/24"),
+        ("read4 10.0.0.0/+008", "10.0.0.0/8"),
+        ("read4 192.168.1.0/255.255.255.0", "192.168.1.0/24"),
+        ("read4 255.255.255.255/255.255.255.255", "255.255.255.255/32"),
+        ("read4 1.2.3.4/24/", "refused format"),
+        ("read4 //", "refused format"),
+        ("read4 01.2.3.4/24", "refused address"),
+        ("read4 ", "refused address"),
+        ("read4 ::1", "refused address"),
+        ("read4 1.2.3.4/33", "refused prefix"),
+        ("read4 1.2.3.4/255.0.255.0", "refused prefix"),
+        ("has4 10.0.0.0/8 10.255.255.255", "yes"),
+        ("has4 10.0.0.0/8 11.0.0.0", "no"),
+        ("has4 0.0.0.0/0 255.255.255.255", "yes"),
+        ("has4 1.2.3.4 1.2.3.4", "yes"),
+        ("has4 1.2.3.4/31 1.2.3.5", "yes"),
+        ("has4 1.2.3.4/31 1.2.3.6", "no"),
+        ("has4 x y", "refused network"),
+        ("has4 10.0.0.0/33 10.0.0.1", "refused network"),
+        ("has4 10.0.0.0/8 x", "refused address"),
+        ("has4 10.0.0.0/8 10.0.0.1/32", "refused address"),
+        ("has4 10.0.0.0/8 ", "refused address"),
+    ] {
+        assert_eq!(rt; answer(line.as_bytes()).as_str(), text, "{line}");
+    }
+}
+
+#[test]
+fn other_lines_are_unknown(rt: HostRuntime) {
+    for line in [
+        "",
+        " ",
+        "read4",
+        "has4",
+        "has4 1.2.3.4",
+        "read4  1.2.3.4",
+        "read4 1.2.3.4 ",
+        " read4 1.2.3.4",
+        "read4 1.2.3.4 1.2.3.4",
+        "has4 10.0.0.0/8 10.0.0.1 ",
+        "has4  10.0.0.0/8 10.0.0.1",
+        "has4 10.0.0.0/8 10.0.0.1 x y z",
+        "Read4 1.2.3.4",
+        "read44 1.2.3.4",
+        "read41.2.3.4",
+        "read4\t1.2.3.4",
+        "read4 1.2.3.4\t1 ",
+        "\u{e9} 1.2.3.4",
+    ] {
+        assert_eq!(rt; answer(line.as_bytes()).as_str(), "unknown command", "{line}");
+    }
+    assert_eq!(rt; answer(b"\xff \xff").as_str(), "unknown command");
+    assert_eq!(rt; answer(b"read4 \xff").as_str(), "refused address");
+}
