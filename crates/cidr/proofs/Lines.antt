@@ -1,16 +1,15 @@
 -- The output, line by line and piece by piece.
-use Rattle.std.proofs.Common.{◌≡◌, ℕ, ◌<◌, ◌⊎◌, inl, inr, suc, Bool, true, false, None, Some, Option, List, [], ◌∷◌, ◌++◌, length, take, slice_index, ◌==◌, cond, arith, refl, sym, ap, ap₂, ◌∙◌, append_assoc, append-nil}
+use Rattle.std.proofs.Common.{◌≡◌, ℕ, ◌⊎◌, inl, inr, true, false, List, [], ◌∷◌, ◌++◌, length, ◌==◌, cond, refl, sym, ap, ap₂, ◌∙◌, append_assoc, append-nil}
 use Rattle.std.proofs.lemmas.Bool.Decides.{eqb_tells}
 use Rattle.std.proofs.Math.Bool.{or-true}
 use Rattle.std.proofs.Math.Dec.{eqb-suc-zero}
-use Rattle.std.proofs.lemmas.Bool.{eqb-true}
-use Rattle.std.proofs.lemmas.List.{get_or-take, length-take}
-use Rattle.std.specs.List.{flat_map, list_any, slice_split, onto_first}
+use Rattle.std.specs.List.{flat_map, list_any, slice_split}
 use Rattle.std.specs.Str.Lines.{lines_of_parts, strip_carriage_return}
 use Rattle.cidr.specs.Bytes.{HasNo}
 use Rattle.cidr.proofs.BytesLemmas.{HasNo-push, split_at, split_none, split_cons}
 use Rattle.cidr.specs.Output.{reply_of, output_of, complete_part, IsBeginning}
 use Rattle.cidr.specs.Progress.{replies_from, pending_from, last_reply}
+
 parts_cons : (a b : List ℕ) → lines_of_parts (a ∷ slice_split (λ x. x == 10) b) ≡ strip_carriage_return a ∷ lines_of_parts (slice_split (λ x. x == 10) b)
 parts_cons a b = let e = (split_cons 10 b).2 in rw e refl
 

@@ -76,7 +76,11 @@ fn has4(network: &[u8], address: &[u8]) -> ArrayString<ANSWER_MAX>
     let Ok(address) = Ipv4Addr::read_bytes(address) else {
         return say("refused address");
     };
-    say(if network.contains(address) { "yes" } else { "no" })
+    say(if network.contains(address) {
+        "yes"
+    } else {
+        "no"
+    })
 }
 
 fn refusal(fault: CidrFault) -> &'static str

@@ -1,6 +1,6 @@
 -- Blocks of addresses: what it means to share the first bits.
-use Rattle.std.proofs.Common.{◌≡◌, ◌↔◌, ℕ, ◌+◌, ◌-◌, ◌*◌, ◌/◌, ◌^◌, ◌<◌, ◌≤◌, ◌⊎◌, inl, inr, sym, refl, ap, subst, ◌∙◌, Bool, true, false, IsTrue, leb, ◌≢◌, arith, add_assoc, ⊎_elim}
-use Rattle.std.proofs.Math.Nat.{div-mul-le_self, lt-div-mul-add, div-lt_iff_lt-mul, le-div_iff_mul-le, div-div-eq-div-mul, mul_comm, mul_assoc}
+use Rattle.std.proofs.Common.{◌≡◌, ◌↔◌, ℕ, ◌+◌, ◌-◌, ◌*◌, ◌/◌, ◌^◌, ◌<◌, ◌≤◌, ◌⊎◌, inl, inr, sym, refl, ap, subst, ◌∙◌, Bool, true, false, IsTrue, leb, ◌≢◌, arith, ⊎_elim}
+use Rattle.std.proofs.Math.Nat.{div-mul-le_self, lt-div-mul-add, div-lt_iff_lt-mul, div-div-eq-div-mul}
 use Rattle.std.proofs.lemmas.Nat.{pow_pos, pow-add, div-mul-add, mul-le, pow_below}
 use Rattle.std.specs.declared.cmp.Ordering.TheVariants.{Less, Equal, Greater}
 use Rattle.std.specs.Ordering.{nat_cmp, ordering_then}
@@ -85,14 +85,14 @@ pub subnet_prefix : (w : ℕ) (a b : Network) → IsNetwork w a → IsNetwork w 
 subnet_prefix w a b h k sub =
     let Goal : Type 0 = b.prefix ≤ a.prefix in
     ⊎_elim (λ (less : a.prefix < b.prefix).
-      let s = size_pos w b.prefix in
-      let ends = has_ends w a h in
-      let e : block_size w a.prefix ≡ block_size w b.prefix * 2 ^ (b.prefix - a.prefix) = size_divides w a.prefix b.prefix (omega arith) k.prefix_fits in
-      let m : block_size w b.prefix * 2 ≤ block_size w b.prefix * 2 ^ (b.prefix - a.prefix) =
-          mul-le (block_size w b.prefix) 2 (block_size w b.prefix) (2 ^ (b.prefix - a.prefix)) (omega arith) (pow_below 0 (b.prefix - a.prefix) (omega arith)) in
-      let from = within_member w b (low w a) (sub (low w a) ends.low_is_member) in
-      let to = within_member w b (high w a) (sub (high w a) ends.high_is_member) in
-      let r : Goal = absurd (omega (arith, e, m, from.0, from.1, to.0, to.1, s)) in r)
+    let s = size_pos w b.prefix in
+    let ends = has_ends w a h in
+    let e : block_size w a.prefix ≡ block_size w b.prefix * 2 ^ (b.prefix - a.prefix) = size_divides w a.prefix b.prefix (omega arith) k.prefix_fits in
+    let m : block_size w b.prefix * 2 ≤ block_size w b.prefix * 2 ^ (b.prefix - a.prefix) =
+    mul-le (block_size w b.prefix) 2 (block_size w b.prefix) (2 ^ (b.prefix - a.prefix)) (omega arith) (pow_below 0 (b.prefix - a.prefix) (omega arith)) in
+    let from = within_member w b (low w a) (sub (low w a) ends.low_is_member) in
+    let to = within_member w b (high w a) (sub (high w a) ends.high_is_member) in
+    let r : Goal = absurd (omega (arith, e, m, from.0, from.1, to.0, to.1, s)) in r)
     (λ (le : b.prefix ≤ a.prefix). le) (cases_lt a.prefix b.prefix)
 
 pub shares_address : (w : ℕ) (a b : Network) (x : ℕ) → b.prefix ≤ a.prefix → IsNetwork w a → IsNetwork w b → Member w a x → Member w b x → Member w b a.address
@@ -107,43 +107,47 @@ nested w a b h k o =
 
 pub same_set : (w : ℕ) (a b : Network) → IsNetwork w a → IsNetwork w b → (Subnet w a b × Subnet w b a) ↔ ((a.prefix ≡ b.prefix) × (low w a ≡ low w b))
 same_set w a b h k = (
-    (λ (s : Subnet w a b × Subnet w b a).
+  (λ (s : Subnet w a b × Subnet w b a).
       let p : a.prefix ≡ b.prefix = omega (arith, subnet_prefix w a b h k s.0, subnet_prefix w b a k h s.1) in
       let l = within_member w b (low w a) (s.0 (low w a) (has_ends w a h).low_is_member) in
       let m = within_member w a (low w b) (s.1 (low w b) (has_ends w b k).low_is_member) in
       (p, omega (arith, l.0, m.0))),
-    (λ (e : (a.prefix ≡ b.prefix) × (low w a ≡ low w b)).
-      let same : block_size w a.prefix ≡ block_size w b.prefix = ap (block_size w) e.0 in
-      (λ x m. let i = within_member w a x m in member_within w b k x (omega (arith, i.0, e.1)) (omega (arith, i.1, e.1, same)),
-       λ x m. let i = within_member w b x m in member_within w a h x (omega (arith, i.0, e.1)) (omega (arith, i.1, e.1, same)))))
+  (λ (e : (a.prefix ≡ b.prefix) × (low w a ≡ low w b)).
+      let same : block_size w a.prefix ≡ block_size w b.prefix = ap (block_size w) e.0 in (
+        λ x m. let i = within_member w a x m in member_within w b k x (omega (arith, i.0, e.1)) (omega (arith, i.1, e.1, same)),
+        λ x m. let i = within_member w b x m in member_within w a h x (omega (arith, i.0, e.1)) (omega (arith, i.1, e.1, same)),
+      )),
+)
 
 pub overlap_turned : (w : ℕ) (a b : Network) → Overlap w a b → Overlap w b a
 overlap_turned w a b o = (o.0, o.2, o.1)
 
 pub overlap_by_address : (w : ℕ) (a b : Network) → IsNetwork w a → IsNetwork w b → Overlap w a b ↔ (Member w a b.address ⊎ Member w b a.address)
 overlap_by_address w a b h k = (
-    (λ (o : Overlap w a b). ⊎_elim
+  (λ (o : Overlap w a b). ⊎_elim
       (λ (s : Subnet w a b). inr (s a.address (h.address_fits, refl)))
       (λ (s : Subnet w b a). inl (s b.address (k.address_fits, refl)))
       (nested w a b h k o)),
-    (λ (m : Member w a b.address ⊎ Member w b a.address). ⊎_elim
+  (λ (m : Member w a b.address ⊎ Member w b a.address). ⊎_elim
       (λ (m : Member w a b.address). (b.address, m, (k.address_fits, refl)))
-      (λ (m : Member w b a.address). (a.address, (h.address_fits, refl), m)) m))
+      (λ (m : Member w b a.address). (a.address, (h.address_fits, refl), m)) m),
+)
 
 pub overlap_by_ends : (w : ℕ) (a b : Network) → IsNetwork w a → IsNetwork w b
-  → Overlap w a b ↔ ((Member w a b.address ⊎ Member w a (high w b)) ⊎ (Member w b a.address ⊎ Member w b (high w a)))
+    → Overlap w a b ↔ ((Member w a b.address ⊎ Member w a (high w b)) ⊎ (Member w b a.address ⊎ Member w b (high w a)))
 overlap_by_ends w a b h k = (
-    (λ (o : Overlap w a b). ⊎_elim
+  (λ (o : Overlap w a b). ⊎_elim
       (λ (m : Member w a b.address). inl (inl m))
       (λ (m : Member w b a.address). inr (inl m))
       ((overlap_by_address w a b h k).0 o)),
-    (λ (m : (Member w a b.address ⊎ Member w a (high w b)) ⊎ (Member w b a.address ⊎ Member w b (high w a))). ⊎_elim
+  (λ (m : (Member w a b.address ⊎ Member w a (high w b)) ⊎ (Member w b a.address ⊎ Member w b (high w a))). ⊎_elim
       (λ (m : Member w a b.address ⊎ Member w a (high w b)). ⊎_elim
-        (λ (m : Member w a b.address). (b.address, m, (k.address_fits, refl)))
-        (λ (m : Member w a (high w b)). (high w b, m, (has_ends w b k).high_is_member)) m)
+      (λ (m : Member w a b.address). (b.address, m, (k.address_fits, refl)))
+      (λ (m : Member w a (high w b)). (high w b, m, (has_ends w b k).high_is_member)) m)
       (λ (m : Member w b a.address ⊎ Member w b (high w a)). ⊎_elim
-        (λ (m : Member w b a.address). (a.address, (h.address_fits, refl), m))
-        (λ (m : Member w b (high w a)). (high w a, (has_ends w a h).high_is_member, m)) m) m))
+      (λ (m : Member w b a.address). (a.address, (h.address_fits, refl), m))
+      (λ (m : Member w b (high w a)). (high w a, (has_ends w a h).high_is_member, m)) m) m),
+)
 
 -- the order: what lies in a block comes after it
 pub subnet_after : (w : ℕ) (a c : Network) → IsNetwork w a → IsNetwork w c → IsBlock w a → IsBlock w c → Subnet w c a → AtMost a c
@@ -160,7 +164,7 @@ pub multiple_begins : (s q : ℕ) → 0 < s → q * s / s * s ≡ q * s
 multiple_begins s q p = ap (λ k. k * s) (div_within q s (q * s) (omega arith) (omega (arith, p)))
 
 pub between_is_subnet : (w : ℕ) (a b c : Network) → IsNetwork w a → IsNetwork w b → IsNetwork w c → IsBlock w a → IsBlock w b → IsBlock w c
-  → Subnet w c a → AtMost a b → AtMost b c → Subnet w b a
+    → Subnet w c a → AtMost a b → AtMost b c → Subnet w b a
 between_is_subnet w a b c ha hb hc ba bb bc s ab bc' =
     let i = within_member w a c.address (s c.address (hc.address_fits, refl)) in
     let from : a.address ≤ b.address = ⊎_elim (λ (l : a.address < b.address). omega arith) (λ (e : (a.address ≡ b.address) × (a.prefix ≤ b.prefix)). omega arith) ab in
@@ -168,17 +172,17 @@ between_is_subnet w a b c ha hb hc ba bb bc s ab bc' =
     let inside : Member w a b.address = member_within w a ha b.address (omega (arith, ba, from)) (omega (arith, i.1, to)) in
     ⊎_elim
     (λ (less : b.prefix < a.prefix).
-      ⊎_elim
-      (λ (l : a.address < b.address).
-        let size : ℕ = block_size w a.prefix in
-        let more : ℕ = 2 ^ (a.prefix - b.prefix) in
-        let e : block_size w b.prefix ≡ size * more = size_divides w b.prefix a.prefix (omega arith) ha.prefix_fits in
-        let q : ℕ = b.address / block_size w b.prefix in
-        let at : b.address ≡ (q * more) * size = bb ∙ ap (λ k. q * k) e ∙ (omega arith) in
-        let again : b.address / size * size ≡ b.address = ap (λ k. k / size * size) at ∙ multiple_begins size (q * more) (size_pos w a.prefix) ∙ sym at in
-        let one : b.address / size * size ≡ a.address = ap (λ k. k * size) inside.1 ∙ sym ba in
-        absurd (omega (arith, again, one, l)))
-      (λ (e : (a.address ≡ b.address) × (a.prefix ≤ b.prefix)). absurd (omega (arith, e.1, less))) ab)
+    ⊎_elim
+    (λ (l : a.address < b.address).
+    let size : ℕ = block_size w a.prefix in
+    let more : ℕ = 2 ^ (a.prefix - b.prefix) in
+    let e : block_size w b.prefix ≡ size * more = size_divides w b.prefix a.prefix (omega arith) ha.prefix_fits in
+    let q : ℕ = b.address / block_size w b.prefix in
+    let at : b.address ≡ (q * more) * size = bb ∙ ap (λ k. q * k) e ∙ (omega arith) in
+    let again : b.address / size * size ≡ b.address = ap (λ k. k / size * size) at ∙ multiple_begins size (q * more) (size_pos w a.prefix) ∙ sym at in
+    let one : b.address / size * size ≡ a.address = ap (λ k. k * size) inside.1 ∙ sym ba in
+    absurd (omega (arith, again, one, l)))
+    (λ (e : (a.address ≡ b.address) × (a.prefix ≤ b.prefix)). absurd (omega (arith, e.1, less))) ab)
     (λ (le : a.prefix ≤ b.prefix). subnet_from w b a hb le inside)
     (cases_lt b.prefix a.prefix)
 
@@ -190,34 +194,38 @@ masks_differ w p q h k e =
     ⊎_elim
     (λ (l : p < q). absurd (omega (arith, same, pow_below (w - q) (w - p) (omega arith))))
     (λ (le : q ≤ p). ⊎_elim
-      (λ (l : q < p). absurd (omega (arith, same, pow_below (w - p) (w - q) (omega arith))))
-      (λ (ge : p ≤ q). omega arith) (cases_lt q p))
+    (λ (l : q < p). absurd (omega (arith, same, pow_below (w - p) (w - q) (omega arith))))
+    (λ (ge : p ≤ q). omega arith) (cases_lt q p))
     (cases_lt p q)
 
 -- the answers of tests
 pub subnet_if_longer : (w : ℕ) (a b : Network) (r : Bool) → IsNetwork w a → b.prefix ≤ a.prefix → (IsTrue r ↔ Member w b a.address) → IsTrue r ↔ Subnet w a b
 subnet_if_longer w a b r h p t = (
-    (λ (y : IsTrue r). subnet_from w a b h p (t.0 y)),
-    (λ (s : Subnet w a b). t.1 (s a.address (h.address_fits, refl))))
+  (λ (y : IsTrue r). subnet_from w a b h p (t.0 y)),
+  (λ (s : Subnet w a b). t.1 (s a.address (h.address_fits, refl))),
+)
 
 pub no_subnet_if_shorter : (w : ℕ) (a b : Network) (p q : ℕ) → IsNetwork w a → IsNetwork w b → p ≡ a.prefix → q ≡ b.prefix → p < q → IsTrue (leb q p) ↔ Subnet w a b
 no_subnet_if_shorter w a b p q h k e f l = (
-    (λ (y : IsTrue (leb q p)). absurd (omega (arith, l, leb-true q p y))),
-    (λ (s : Subnet w a b). absurd (omega (arith, l, e, f, subnet_prefix w a b h k s))))
+  (λ (y : IsTrue (leb q p)). absurd (omega (arith, l, leb-true q p y))),
+  (λ (s : Subnet w a b). absurd (omega (arith, l, e, f, subnet_prefix w a b h k s))),
+)
 
 pub overlap_if_not_first : (w : ℕ) (a b : Network) (q r : Bool) → IsNetwork w a → IsNetwork w b → q ≡ false
-  → (IsTrue q ↔ Member w a b.address) → (IsTrue r ↔ Member w b a.address) → IsTrue r ↔ Overlap w a b
+    → (IsTrue q ↔ Member w a b.address) → (IsTrue r ↔ Member w b a.address) → IsTrue r ↔ Overlap w a b
 overlap_if_not_first w a b q r h k e s t = (
-    (λ (y : IsTrue r). (overlap_by_address w a b h k).1 (inr (t.0 y))),
-    (λ (o : Overlap w a b). ⊎_elim
+  (λ (y : IsTrue r). (overlap_by_address w a b h k).1 (inr (t.0 y))),
+  (λ (o : Overlap w a b). ⊎_elim
       (λ (m : Member w a b.address). let y : q ≡ true = s.1 m in absurd (cc))
-      (λ (m : Member w b a.address). t.1 m) ((overlap_by_address w a b h k).0 o)))
+      (λ (m : Member w b a.address). t.1 m) ((overlap_by_address w a b h k).0 o)),
+)
 
 pub overlap_if_first : (w : ℕ) (a b : Network) (q : Bool) → IsNetwork w a → IsNetwork w b → q ≡ true
-  → (IsTrue q ↔ Member w a b.address) → IsTrue q ↔ Overlap w a b
+    → (IsTrue q ↔ Member w a b.address) → IsTrue q ↔ Overlap w a b
 overlap_if_first w a b q h k e s = (
-    (λ (y : IsTrue q). (overlap_by_address w a b h k).1 (inl (s.0 y))),
-    (λ (o : Overlap w a b). e))
+  (λ (y : IsTrue q). (overlap_by_address w a b h k).1 (inl (s.0 y))),
+  (λ (o : Overlap w a b). e),
+)
 
 -- the order as a comparison
 pub at_most_from_cmp : (a b : Network) → network_cmp a b ≢ Greater → AtMost a b
@@ -225,9 +233,9 @@ at_most_from_cmp a b h =
     by_ranked (a.address < b.address) (a.address ≡ b.address) (b.address < a.address) (nat_cmp a.address b.address) (ranked a.address b.address _ refl)
     (λ _ l. inl l)
     (λ e f. by_ranked (a.prefix < b.prefix) (a.prefix ≡ b.prefix) (b.prefix < a.prefix) (nat_cmp a.prefix b.prefix) (ranked a.prefix b.prefix _ refl)
-      (λ _ l. inr (f, omega arith))
-      (λ _ m. inr (f, omega arith))
-      (λ g _. absurd (h (ap (λ o. ordering_then o (nat_cmp a.prefix b.prefix)) e ∙ g))))
+    (λ _ l. inr (f, omega arith))
+    (λ _ m. inr (f, omega arith))
+    (λ g _. absurd (h (ap (λ o. ordering_then o (nat_cmp a.prefix b.prefix)) e ∙ g))))
     (λ e _. absurd (h (ap (λ o. ordering_then o (nat_cmp a.prefix b.prefix)) e)))
 
 less_not_greater : Less ≡ Greater → ⊥
@@ -241,21 +249,23 @@ cmp_from_at_most a b m greater =
     by_ranked (a.address < b.address) (a.address ≡ b.address) (b.address < a.address) (nat_cmp a.address b.address) (ranked a.address b.address _ refl)
     (λ e _. less_not_greater (sym (ap (λ o. ordering_then o (nat_cmp a.prefix b.prefix)) e) ∙ greater))
     (λ e f. by_ranked (a.prefix < b.prefix) (a.prefix ≡ b.prefix) (b.prefix < a.prefix) (nat_cmp a.prefix b.prefix) (ranked a.prefix b.prefix _ refl)
-      (λ g _. less_not_greater (sym (ap (λ o. ordering_then o (nat_cmp a.prefix b.prefix)) e ∙ g) ∙ greater))
-      (λ g _. equal_not_greater (sym (ap (λ o. ordering_then o (nat_cmp a.prefix b.prefix)) e ∙ g) ∙ greater))
-      (λ _ l. ⊎_elim (λ (k : a.address < b.address). let r : ⊥ = omega arith in r) (λ (k : (a.address ≡ b.address) × (a.prefix ≤ b.prefix)). let r : ⊥ = omega arith in r) m))
+    (λ g _. less_not_greater (sym (ap (λ o. ordering_then o (nat_cmp a.prefix b.prefix)) e ∙ g) ∙ greater))
+    (λ g _. equal_not_greater (sym (ap (λ o. ordering_then o (nat_cmp a.prefix b.prefix)) e ∙ g) ∙ greater))
+    (λ _ l. ⊎_elim (λ (k : a.address < b.address). let r : ⊥ = omega arith in r) (λ (k : (a.address ≡ b.address) × (a.prefix ≤ b.prefix)). let r : ⊥ = omega arith in r) m))
     (λ _ l. ⊎_elim (λ (k : a.address < b.address). let r : ⊥ = omega arith in r) (λ (k : (a.address ≡ b.address) × (a.prefix ≤ b.prefix)). let r : ⊥ = omega arith in r) m)
 
 -- the four tests in turn
 pub overlap_at_end : (w : ℕ) (a b : Network) (q : Bool) → IsNetwork w b → q ≡ true → (IsTrue q ↔ Member w a (high w b)) → IsTrue true ↔ Overlap w a b
 overlap_at_end w a b q k e t = (
-    (λ (y : IsTrue true). (high w b, t.0 e, (has_ends w b k).high_is_member)),
-    (λ (o : Overlap w a b). refl))
+  (λ (y : IsTrue true). (high w b, t.0 e, (has_ends w b k).high_is_member)),
+  (λ (o : Overlap w a b). refl),
+)
 
 pub overlap_if_last : (w : ℕ) (a b : Network) (q r s : Bool) → IsNetwork w a → IsNetwork w b → q ≡ false → r ≡ false
-  → (IsTrue q ↔ Member w a b.address) → (IsTrue r ↔ Member w b a.address) → (IsTrue s ↔ Member w b (high w a)) → IsTrue s ↔ Overlap w a b
+    → (IsTrue q ↔ Member w a b.address) → (IsTrue r ↔ Member w b a.address) → (IsTrue s ↔ Member w b (high w a)) → IsTrue s ↔ Overlap w a b
 overlap_if_last w a b q r s h k e f t u v = (
-    (λ (y : IsTrue s). (high w a, (has_ends w a h).high_is_member, v.0 y)),
-    (λ (o : Overlap w a b). ⊎_elim
+  (λ (y : IsTrue s). (high w a, (has_ends w a h).high_is_member, v.0 y)),
+  (λ (o : Overlap w a b). ⊎_elim
       (λ (m : Member w a b.address). let y : q ≡ true = t.1 m in absurd (cc))
-      (λ (m : Member w b a.address). let y : r ≡ true = u.1 m in absurd (cc)) ((overlap_by_address w a b h k).0 o)))
+      (λ (m : Member w b a.address). let y : r ≡ true = u.1 m in absurd (cc)) ((overlap_by_address w a b h k).0 o)),
+)

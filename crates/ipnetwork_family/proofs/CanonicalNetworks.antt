@@ -1,5 +1,5 @@
 -- The canonical texts of networks.
-use Rattle.std.proofs.Common.{◌≡◌, ◌↔◌, ℕ, ◌+◌, ◌^◌, ◌<◌, ◌≤◌, ◌⊎◌, inl, inr, List, [], ◌∷◌, ◌++◌, decimal, Some, refl, arith}
+use Rattle.std.proofs.Common.{ℕ, ◌^◌, ◌<◌, inl, inr, List, [], ◌∷◌, ◌++◌, decimal, refl, arith}
 use Rattle.std.specs.List.{AllByRecursion}
 use Rattle.std.specs.Str.Parse.{AllDigits}
 use Rattle.std.proofs.lemmas.Fmt.{decimal_is_IsNumeral}

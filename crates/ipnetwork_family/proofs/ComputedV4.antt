@@ -1,19 +1,18 @@
 -- The prefix length that a suffix of an IPv4 network gives, computed.
-use Rattle.std.proofs.Common.{◌≡◌, ◌≢◌, ◌↔◌, ℕ, ◌+◌, ◌-◌, ◌^◌, ◌<◌, ◌≤◌, ◌==◌, ◌⊎◌, inl, inr, Bool, true, false, cond, List, [], ◌∷◌, ◌++◌, length, drop, get_or, Option, None, Some, refl, sym, ap, subst, ◌∙◌, arith, true≢false}
-use Rattle.std.proofs.lemmas.Bool.{eqb-true, eq-eqb, ne_eqb, ltb-true, lt-ltb, leb-true, le-leb, cond_both}
+use Rattle.std.proofs.Common.{◌≡◌, ℕ, ◌≤◌, ◌==◌, ◌⊎◌, inl, inr, Bool, true, false, cond, List, [], ◌∷◌, ◌++◌, length, drop, get_or, Option, None, Some, refl, sym, ap, subst, ◌∙◌, arith}
+use Rattle.std.proofs.lemmas.Bool.{eqb-true, ne_eqb, ltb-true, lt-ltb, leb-true, le-leb, cond_both}
 use Rattle.std.proofs.lemmas.Option.{none-some, same_Some}
-use Rattle.std.proofs.lemmas.Str.Parse.{IsDigitsTest, tells_all_ascii_digits, tells_digits, digit_from_value}
+use Rattle.std.proofs.lemmas.Str.Parse.{tells_all_ascii_digits, tells_digits, digit_from_value}
 use Rattle.std.specs.Prelude.{nat_le, nat_lt}
-use Rattle.std.specs.Int.Count.{count_leading_zeros}
-use Rattle.std.specs.List.{AllByRecursion, AllZip, join_with_byte}
+use Rattle.std.specs.List.{AllZip, join_with_byte}
 use Rattle.std.specs.Str.{all_ascii_digits}
 use Rattle.std.specs.Str.Parse.{AllDigits, digits_value, without_leading_plus}
 use Rattle.ipnetwork_addr.specs.Ipv4Text.{NamesV4, v4_of, IsOctet}
-use Rattle.ipnetwork_family.specs.Network.{mask_of, IsNoMask, prefix_of}
+use Rattle.ipnetwork_family.specs.Network.{mask_of}
 use Rattle.ipnetwork_family.specs.PrefixNumber.{IsNumeralOf, IsPrefixNumber, prefix_number_of}
 use Rattle.ipnetwork_family.specs.Ipv4NetworkText.{IsV4Suffix, masked, v4_length_from, v4_length_of}
 use Rattle.ipnetwork_family.proofs.Masks.{prefix_of_sound, prefix_of_complete}
-use Rattle.ipnetwork_family.proofs.ComputedNetworks.{Computes, Readable}
+use Rattle.ipnetwork_family.proofs.ComputedNetworks.{Computes}
 
 -- ---- the number
 
@@ -39,12 +38,12 @@ prefix_number_sound text value =
     let ds : List ℕ = without_leading_plus text in
     cond_both (nat_lt 0 (length ds)) _ _ (λ (r : Option ℕ). r ≡ Some value → IsPrefixNumber text value)
     (λ some. cond_both (all_ascii_digits ds) _ _ (λ (r : Option ℕ). r ≡ Some value → IsPrefixNumber text value)
-      (λ digits e. record {
-        digits = ds;
-        spelled = plus_or_not text;
-        numeral = record { digits = (ltb-true 0 (length ds) some, all_digits ds digits); is_value = same_Some _ value e };
-      })
-      (λ other e. absurd (none-some value e)))
+    (λ digits e. record {
+      digits = ds;
+      spelled = plus_or_not text;
+      numeral = record { digits = (ltb-true 0 (length ds) some, all_digits ds digits); is_value = same_Some _ value e };
+    })
+    (λ other e. absurd (none-some value e)))
     (λ empty e. absurd (none-some value e))
 
 unsigned : (ds : List ℕ) → AllDigits 10 ds → without_leading_plus ds ≡ ds
@@ -99,7 +98,6 @@ number_is_no_mask text value address h k = go (v4_has_dot text address k) h.spel
 -- ---- the suffix
 
 module _ (addresses : Computes NamesV4 v4_of) where
-
   masked_sound : (text : List ℕ) (mask : Option ℕ) → v4_of text ≡ mask → (p : ℕ) → masked mask ≡ Some p → IsV4Suffix text p
   masked_sound text None e p f = absurd (none-some p f)
   masked_sound text (Some m) e p f =
@@ -111,7 +109,7 @@ module _ (addresses : Computes NamesV4 v4_of) where
   from_sound text (Some n) mask e f p =
       cond_both (nat_le n 32) _ _ (λ (r : Option ℕ). r ≡ Some p → IsV4Suffix text p)
       (λ fits g. let same = same_Some n p g in
-        (subst (λ (x : ℕ). x ≤ 32) same (leb-true n 32 fits), inl (subst (λ (x : ℕ). IsPrefixNumber text x) same (prefix_number_sound text n e))))
+      (subst (λ (x : ℕ). x ≤ 32) same (leb-true n 32 fits), inl (subst (λ (x : ℕ). IsPrefixNumber text x) same (prefix_number_sound text n e))))
       (λ past g. masked_sound text mask f p g)
 
   none_from : (r : Option ℕ) → ((p : ℕ) → ¬ (r ≡ Some p)) → r ≡ None

@@ -1,5 +1,5 @@
 -- A network text and its parts, of either family.
-use Rattle.std.proofs.Common.{◌≡◌, ℕ, ◌+◌, ◌<◌, ◌≤◌, List, [], ◌∷◌, ◌++◌, Option, None, Some, refl, sym, ap, ◌∙◌, subst, arith}
+use Rattle.std.proofs.Common.{◌≡◌, ℕ, ◌+◌, ◌≤◌, List, Option, None, Some, sym, ap, ◌∙◌, subst, arith}
 use Rattle.ipnetwork_family.specs.Network.{Network}
 use Rattle.ipnetwork_family.specs.NetworkText.{slashes, HasSlashes, IsSplit, before_slash, NamesNetwork, Alone, Suffixed, GivesPrefix, GivesNoPrefix}
 use Rattle.ipnetwork_family.proofs.Slashes.{slashes-slash, before_slash_cut, before_slash_whole, cut_unique}

@@ -1,5 +1,5 @@
 -- Where a text is cut.
-use Rattle.std.proofs.Common.{◌≡◌, ℕ, ◌+◌, ◌<◌, ◌≤◌, ◌==◌, Bool, true, false, cond, not, List, [], ◌∷◌, ◌++◌, length, take, drop, get_or, refl, sym, ap, ◌∙◌, arith, take-append-drop, append-nil, ◌⊎◌, inl, inr}
+use Rattle.std.proofs.Common.{◌≡◌, ℕ, ◌+◌, ◌<◌, ◌==◌, Bool, true, false, cond, not, List, [], ◌∷◌, ◌++◌, length, take, drop, get_or, refl, sym, ap, ◌∙◌, arith, take-append-drop, append-nil, ◌⊎◌, inl, inr}
 use Rattle.std.proofs.lemmas.List.{drop_more, take_at, take_all, append_cancel_left, get_or_at, length-take-le, drop_at, drop-drop}
 use Rattle.std.proofs.lemmas.Bool.{eqb-true}
 use Rattle.std.proofs.lemmas.Str.{IsCharBoundary-after_ascii}
@@ -62,7 +62,7 @@ cut_or_none [] = inl refl
 cut_or_none (x ∷ text) = go (x == 47) refl (cut_or_none text)
   where
     go : (v : Bool) → (x == 47) ≡ v → ((slashes text ≡ 0) ⊎ ((a b : List ℕ) × (text ≡ a ++ 47 ∷ b) × (slashes a ≡ 0)))
-      → (slashes (x ∷ text) ≡ 0) ⊎ ((a b : List ℕ) × (x ∷ text ≡ a ++ 47 ∷ b) × (slashes a ≡ 0))
+        → (slashes (x ∷ text) ≡ 0) ⊎ ((a b : List ℕ) × (x ∷ text ≡ a ++ 47 ∷ b) × (slashes a ≡ 0))
     go true is later = inr ([], text, ap (λ c. c ∷ text) (eqb-true x 47 is), refl)
     go false is (inl none) = inl (slashes-cons x text ∙ ap (λ v. cond v 1 0 + slashes text) is ∙ (omega arith))
     go false is (inr cut) = inr (x ∷ cut.0, cut.1, ap (λ t. x ∷ t) cut.2, slashes-cons x cut.0 ∙ ap (λ v. cond v 1 0 + slashes cut.0) is ∙ (omega (arith, cut.3)))

@@ -1,5 +1,5 @@
 -- The laws of networks, for addresses of any number of bits.
-use Rattle.std.specs.Prelude.{◌≡◌, ℕ, ◌+◌, ◌-◌, ◌*◌, ◌/◌, ◌^◌, ◌<◌, ◌≤◌, ◌⊎◌, ◌↔◌, List, Contains, slice_get, Some}
+use Rattle.std.specs.Prelude.{◌≡◌, ℕ, ◌+◌, ◌<◌, ◌≤◌, ◌⊎◌, ◌↔◌, Contains, slice_get, Some}
 use Rattle.std.specs.List.Sorted.{IsStrictlyIncreasing}
 use Rattle.ipnetwork_family.specs.Network.{Network, IsNetwork, Member, low, high, block_size, IsBlock, Subnet, Overlap, AtMost, members, mask_of}
 
@@ -10,41 +10,49 @@ pub record HasEnds (w : ℕ) (n : Network) : Type 0 where
   pub address_is_member : Member w n n.address
   pub within : (x : ℕ) → Member w n x → (low w n ≤ x) × (x ≤ high w n)
 
+-- every network has its ends so
 abbrev pub EndsLaw : Type 0
 EndsLaw = (w : ℕ) (n : Network) → IsNetwork w n → HasEnds w n
 
+-- each set is part of itself
 abbrev pub SubnetReflexive : Type 0
 SubnetReflexive = (w : ℕ) (a : Network) → Subnet w a a
 
+-- a part of a part is a part
 abbrev pub SubnetTransitive : Type 0
 SubnetTransitive = (w : ℕ) (a b c : Network) → Subnet w a b → Subnet w b c → Subnet w a c
 
+-- two sets are parts of each other exactly if prefix length and least member agree
 abbrev pub SameSet : Type 0
 SameSet = (w : ℕ) (a b : Network) → IsNetwork w a → IsNetwork w b
-  → (Subnet w a b × Subnet w b a) ↔ ((a.prefix ≡ b.prefix) × (low w a ≡ low w b))
+    → (Subnet w a b × Subnet w b a) ↔ ((a.prefix ≡ b.prefix) × (low w a ≡ low w b))
 
+-- of two sets that share an address one is part of the other
 abbrev pub Nesting : Type 0
 Nesting = (w : ℕ) (a b : Network) → IsNetwork w a → IsNetwork w b → Overlap w a b → Subnet w a b ⊎ Subnet w b a
 
+-- sharing an address goes both ways
 abbrev pub OverlapSymmetric : Type 0
 OverlapSymmetric = (w : ℕ) (a b : Network) → Overlap w a b → Overlap w b a
 
 -- they overlap exactly if the address of one is in the other
 abbrev pub OverlapByAddress : Type 0
 OverlapByAddress = (w : ℕ) (a b : Network) → IsNetwork w a → IsNetwork w b
-  → Overlap w a b ↔ (Member w a b.address ⊎ Member w b a.address)
+    → Overlap w a b ↔ (Member w a b.address ⊎ Member w b a.address)
 
--- four tests of membership
+-- they share an address exactly if one of four tests of membership says so
 abbrev pub OverlapByEnds : Type 0
 OverlapByEnds = (w : ℕ) (a b : Network) → IsNetwork w a → IsNetwork w b
-  → Overlap w a b ↔ ((Member w a b.address ⊎ Member w a (high w b)) ⊎ (Member w b a.address ⊎ Member w b (high w a)))
+    → Overlap w a b ↔ ((Member w a b.address ⊎ Member w a (high w b)) ⊎ (Member w b a.address ⊎ Member w b (high w a)))
 
+-- of networks without host bits, one comes before what lies in it
 abbrev pub SubnetComesAfter : Type 0
 SubnetComesAfter = (w : ℕ) (a c : Network) → IsNetwork w a → IsNetwork w c → IsBlock w a → IsBlock w c → Subnet w c a → AtMost a c
 
+-- and what stands between the two in order lies in it too
 abbrev pub BetweenIsSubnet : Type 0
 BetweenIsSubnet = (w : ℕ) (a b c : Network) → IsNetwork w a → IsNetwork w b → IsNetwork w c → IsBlock w a → IsBlock w b → IsBlock w c
-  → Subnet w c a → AtMost a b → AtMost b c → Subnet w b a
+    → Subnet w c a → AtMost a b → AtMost b c → Subnet w b a
 
 -- the list of members is strictly ascending and has the members alone
 pub record ListsMembers (w : ℕ) (n : Network) : Type 0 where
@@ -53,6 +61,7 @@ pub record ListsMembers (w : ℕ) (n : Network) : Type 0 where
   pub all : (x : ℕ) → Member w n x → Contains (members w n) x
   pub at : (i : ℕ) → i < block_size w n.prefix → slice_get (members w n) i ≡ Some (low w n + i)
 
+-- every network lists its members so
 abbrev pub MembersLaw : Type 0
 MembersLaw = (w : ℕ) (n : Network) → IsNetwork w n → ListsMembers w n
 

@@ -27,10 +27,11 @@ Member w n x = (x < 2 ^ w) × (x / block_size w n.prefix ≡ n.address / block_s
 abbrev pub mask_of : ℕ → ℕ → ℕ
 mask_of w p = 2 ^ w - block_size w p
 
--- the network's ends
+-- the least address of the set: the network's address with its host bits cleared
 abbrev pub low : ℕ → Network → ℕ
 low w n = n.address / block_size w n.prefix * block_size w n.prefix
 
+-- the greatest: the least and as many more as the block has, less one
 abbrev pub high : ℕ → Network → ℕ
 high w n = low w n + block_size w n.prefix - 1
 
@@ -38,6 +39,7 @@ high w n = low w n + block_size w n.prefix - 1
 abbrev pub block_of : ℕ → Network → Network
 block_of w n = record { address = low w n; prefix = n.prefix }
 
+-- the network has no host bits
 abbrev pub IsBlock : ℕ → Network → Type 0
 IsBlock w n = n.address ≡ low w n
 
@@ -46,7 +48,7 @@ unfoldable pub count_up : ℕ → ℕ → List ℕ
 count_up start zero = []
 count_up start (suc count) = start ∷ count_up (suc start) count
 
--- the members in order
+-- the members in ascending order
 abbrev pub members : ℕ → Network → List ℕ
 members w n = count_up (low w n) (block_size w n.prefix)
 
@@ -54,9 +56,11 @@ members w n = count_up (low w n) (block_size w n.prefix)
 abbrev pub size_of : ℕ → Network → ℕ
 size_of w n = min (block_size w n.prefix) (2 ^ w - 1)
 
+-- each member of a is one of b
 abbrev pub Subnet : ℕ → Network → Network → Type 0
 Subnet w a b = (x : ℕ) → Member w a x → Member w b x
 
+-- some address is a member of both
 abbrev pub Overlap : ℕ → Network → Network → Type 0
 Overlap w a b = (x : ℕ) × Member w a x × Member w b x
 

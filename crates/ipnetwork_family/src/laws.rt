@@ -15,8 +15,7 @@ use ipnetwork_addr::laws as addresses;
 /// The ends of a network are its least and its greatest member, and its address is a member.
 pub fn ends()
     ensures { EndsLaw }
-{
-}
+{}
 
 /// Each set is part of itself, a part of a part is a part, and two sets are equal exactly if the prefix
 /// lengths and the least members agree.
@@ -24,8 +23,7 @@ pub fn subnets()
     ensures reflexive { SubnetReflexive }
     ensures transitive { SubnetTransitive }
     ensures same { SameSet }
-{
-}
+{}
 
 /// Two sets that share an address are nested; they share one exactly if the address of one network lies
 /// in the other, and exactly if one of the four tests of addresses and greatest members says so.
@@ -34,28 +32,24 @@ pub fn nesting()
     ensures symmetric { OverlapSymmetric }
     ensures by_address { OverlapByAddress }
     ensures by_ends { OverlapByEnds }
-{
-}
+{}
 
 /// In order, a network without host bits comes before what lies in it, and what stands between the two
 /// lies in it too.
 pub fn order()
     ensures after { SubnetComesAfter }
     ensures between { BetweenIsSubnet }
-{
-}
+{}
 
 /// The list of the members is strictly ascending, and has the members and no others.
 pub fn listing()
     ensures { MembersLaw }
-{
-}
+{}
 
 /// No two prefix lengths have one mask.
 pub fn masks()
     ensures { MasksDiffer }
-{
-}
+{}
 
 /// A text names at most one IPv4 network.
 pub fn v4_network_text_names_one()

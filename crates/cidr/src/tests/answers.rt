@@ -7,7 +7,10 @@ fn commands_are_answered(rt: HostRuntime) {
         ("read4 1.2.3.4/24", "1.2.3.4/24"),
         ("read4 10.0.0.0/+008", "10.0.0.0/8"),
         ("read4 192.168.1.0/255.255.255.0", "192.168.1.0/24"),
-        ("read4 255.255.255.255/255.255.255.255", "255.255.255.255/32"),
+        (
+            "read4 255.255.255.255/255.255.255.255",
+            "255.255.255.255/32",
+        ),
         ("read4 1.2.3.4/24/", "refused format"),
         ("read4 //", "refused format"),
         ("read4 01.2.3.4/24", "refused address"),
@@ -53,7 +56,11 @@ fn other_lines_are_unknown(rt: HostRuntime) {
         "read4 1.2.3.4\t1 ",
         "\u{e9} 1.2.3.4",
     ] {
-        assert_eq!(rt; answer(line.as_bytes()).as_str(), "unknown command", "{line}");
+        assert_eq!(rt;
+            answer(line.as_bytes()).as_str(),
+            "unknown command",
+            "{line}"
+        );
     }
     assert_eq!(rt; answer(b"\xff \xff").as_str(), "unknown command");
     assert_eq!(rt; answer(b"read4 \xff").as_str(), "refused address");

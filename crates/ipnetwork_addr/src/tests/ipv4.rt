@@ -49,11 +49,22 @@ fn accepted_texts_print_themselves(rt: HostRuntime) -> Result<(), Fail> {
 #[test]
 fn other_texts_are_refused(rt: HostRuntime) -> Result<(), Fail> {
     for text in REFUSED {
-        assert_eq!(rt; Ipv4Addr::read_bytes(text.as_bytes()), Err(AddrParseError::Ipv4), "{text}");
-        assert_eq!(rt; Ipv4Addr::from_str(text), Err(AddrParseError::Ipv4), "{text}");
+        assert_eq!(rt;
+            Ipv4Addr::read_bytes(text.as_bytes()),
+            Err(AddrParseError::Ipv4),
+            "{text}"
+        );
+        assert_eq!(rt;
+            Ipv4Addr::from_str(text),
+            Err(AddrParseError::Ipv4),
+            "{text}"
+        );
     }
     assert_eq!(rt; Ipv4Addr::read_bytes(b"\xff"), Err(AddrParseError::Ipv4));
-    assert_eq!(rt; Ipv4Addr::read_bytes(b"1.2.3.\xc3\xa9"), Err(AddrParseError::Ipv4));
+    assert_eq!(rt;
+        Ipv4Addr::read_bytes(b"1.2.3.\xc3\xa9"),
+        Err(AddrParseError::Ipv4)
+    );
     Ok(())
 }
 

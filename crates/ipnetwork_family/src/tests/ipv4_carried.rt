@@ -9,13 +9,19 @@ use std::test::Fail;
 
 #[test]
 fn create_v4(rt: HostRuntime) -> Result<(), Fail> {
-    assert_eq!(rt; Ipv4Network::new(Ipv4Addr::new(77, 88, 21, 11), 24)?.prefix(), 24);
+    assert_eq!(rt;
+        Ipv4Network::new(Ipv4Addr::new(77, 88, 21, 11), 24)?.prefix(),
+        24
+    );
     Ok(())
 }
 
 #[test]
 fn create_v4_invalid_prefix(rt: HostRuntime) {
-    assert_eq!(rt; Ipv4Network::new(Ipv4Addr::new(0, 0, 0, 0), 33), Err(IpNetworkError::InvalidPrefix));
+    assert_eq!(rt;
+        Ipv4Network::new(Ipv4Addr::new(0, 0, 0, 0), 33),
+        Err(IpNetworkError::InvalidPrefix)
+    );
 }
 
 #[test]
@@ -27,7 +33,10 @@ fn create_checked_v4(rt: HostRuntime) -> Result<(), Fail> {
 
 #[test]
 fn try_create_invalid_checked_v4(rt: HostRuntime) {
-    assert_eq!(rt; Ipv4Network::new_checked(Ipv4Addr::new(0, 0, 0, 0), 33), None);
+    assert_eq!(rt;
+        Ipv4Network::new_checked(Ipv4Addr::new(0, 0, 0, 0), 33),
+        None
+    );
 }
 
 #[test]
@@ -84,12 +93,18 @@ fn parse_v4_fail_prefix(rt: HostRuntime) {
 
 #[test]
 fn parse_v4_fail_two_slashes(rt: HostRuntime) {
-    assert_eq!(rt; Ipv4Network::from_str("10.1.1.1/24/"), Err(CidrFault::Format));
+    assert_eq!(rt;
+        Ipv4Network::from_str("10.1.1.1/24/"),
+        Err(CidrFault::Format)
+    );
 }
 
 #[test]
 fn parse_netmask(rt: HostRuntime) -> Result<(), Fail> {
-    assert_eq!(rt; network("192.168.1.0/255.255.255.0")?, network("192.168.1.0/24")?);
+    assert_eq!(rt;
+        network("192.168.1.0/255.255.255.0")?,
+        network("192.168.1.0/24")?
+    );
     assert_eq!(rt; network("192.168.1.0/0.0.0.0")?.prefix(), 0);
     Ok(())
 }
@@ -97,7 +112,11 @@ fn parse_netmask(rt: HostRuntime) -> Result<(), Fail> {
 #[test]
 fn parse_netmask_broken_v4(rt: HostRuntime) {
     for text in ["192.168.1.0/255.0.255.0", "192.168.1.0/255.255.255"] {
-        assert_eq!(rt; Ipv4Network::from_str(text), Err(CidrFault::Prefix), "{text}");
+        assert_eq!(rt;
+            Ipv4Network::from_str(text),
+            Err(CidrFault::Prefix),
+            "{text}"
+        );
     }
 }
 
@@ -138,7 +157,10 @@ fn copy_compatibility_v4(rt: HostRuntime) -> Result<(), Fail> {
 
 #[test]
 fn mask_v4(rt: HostRuntime) -> Result<(), Fail> {
-    assert_eq!(rt; network("74.125.227.0/29")?.mask(), address("255.255.255.248")?);
+    assert_eq!(rt;
+        network("74.125.227.0/29")?.mask(),
+        address("255.255.255.248")?
+    );
     Ok(())
 }
 
@@ -150,7 +172,10 @@ fn network_v4(rt: HostRuntime) -> Result<(), Fail> {
 
 #[test]
 fn broadcast_v4(rt: HostRuntime) -> Result<(), Fail> {
-    assert_eq!(rt; network("10.10.1.97/23")?.broadcast(), address("10.10.1.255")?);
+    assert_eq!(rt;
+        network("10.10.1.97/23")?.broadcast(),
+        address("10.10.1.255")?
+    );
     Ok(())
 }
 
@@ -168,7 +193,12 @@ fn not_contains_v4(rt: HostRuntime) -> Result<(), Fail> {
 
 #[test]
 fn iterator_v4(rt: HostRuntime) -> Result<(), Fail> {
-    let four = ["192.168.122.0", "192.168.122.1", "192.168.122.2", "192.168.122.3"];
+    let four = [
+        "192.168.122.0",
+        "192.168.122.1",
+        "192.168.122.2",
+        "192.168.122.3",
+    ];
     lists(&rt, network("192.168.122.0/30")?.iter(), &four)
 }
 
@@ -180,21 +210,33 @@ fn v4_mask_to_prefix(rt: HostRuntime) -> Result<(), Fail> {
 
 #[test]
 fn invalid_v4_mask_to_prefix(rt: HostRuntime) -> Result<(), Fail> {
-    assert_eq!(rt; ipv4_mask_to_prefix(address("255.0.255.0")?), Err(IpNetworkError::InvalidPrefix));
+    assert_eq!(rt;
+        ipv4_mask_to_prefix(address("255.0.255.0")?),
+        Err(IpNetworkError::InvalidPrefix)
+    );
     Ok(())
 }
 
 #[test]
 fn ipv4network_with_netmask(rt: HostRuntime) -> Result<(), Fail> {
     let local = Ipv4Addr::new(127, 0, 0, 1);
-    assert_eq!(rt; Ipv4Network::with_netmask(local, Ipv4Addr::new(255, 0, 0, 0))?, network("127.0.0.1/8")?);
-    assert_eq!(rt; Ipv4Network::with_netmask(local, Ipv4Addr::new(255, 0, 255, 0)), Err(IpNetworkError::InvalidPrefix));
+    assert_eq!(rt;
+        Ipv4Network::with_netmask(local, Ipv4Addr::new(255, 0, 0, 0))?,
+        network("127.0.0.1/8")?
+    );
+    assert_eq!(rt;
+        Ipv4Network::with_netmask(local, Ipv4Addr::new(255, 0, 255, 0)),
+        Err(IpNetworkError::InvalidPrefix)
+    );
     Ok(())
 }
 
 #[test]
 fn ipv4network_from_ipv4addr(rt: HostRuntime) -> Result<(), Fail> {
-    assert_eq!(rt; Ipv4Network::from(Ipv4Addr::new(127, 0, 0, 1)), network("127.0.0.1/32")?);
+    assert_eq!(rt;
+        Ipv4Network::from(Ipv4Addr::new(127, 0, 0, 1)),
+        network("127.0.0.1/32")?
+    );
     Ok(())
 }
 

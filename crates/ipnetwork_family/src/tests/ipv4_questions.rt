@@ -1,4 +1,6 @@
-use crate::{IpNetworkError, Ipv4Network, Ipv4NetworkIterator, NetworkSizeError, ipv4_mask_to_prefix};
+use crate::{
+    IpNetworkError, Ipv4Network, Ipv4NetworkIterator, NetworkSizeError, ipv4_mask_to_prefix,
+};
 use ipnetwork_addr::Ipv4Addr;
 use std::test::Fail;
 
@@ -12,14 +14,62 @@ pub(super) fn network(text: &str) -> Result<Ipv4Network, Fail> {
 
 // A network, and its least member, greatest member, mask and size.
 const ENDS: [(&str, &str, &str, &str, u32); 9] = [
-    ("10.1.9.32/16", "10.1.0.0", "10.1.255.255", "255.255.0.0", 65536),
-    ("10.10.1.97/23", "10.10.0.0", "10.10.1.255", "255.255.254.0", 512),
-    ("74.125.227.0/29", "74.125.227.0", "74.125.227.7", "255.255.255.248", 8),
-    ("0.0.0.0/0", "0.0.0.0", "255.255.255.255", "0.0.0.0", 4294967295),
-    ("255.255.255.255/0", "0.0.0.0", "255.255.255.255", "0.0.0.0", 4294967295),
-    ("255.255.255.255/1", "128.0.0.0", "255.255.255.255", "128.0.0.0", 2147483648),
-    ("255.255.255.254/31", "255.255.255.254", "255.255.255.255", "255.255.255.254", 2),
-    ("255.255.255.255/32", "255.255.255.255", "255.255.255.255", "255.255.255.255", 1),
+    (
+        "10.1.9.32/16",
+        "10.1.0.0",
+        "10.1.255.255",
+        "255.255.0.0",
+        65536,
+    ),
+    (
+        "10.10.1.97/23",
+        "10.10.0.0",
+        "10.10.1.255",
+        "255.255.254.0",
+        512,
+    ),
+    (
+        "74.125.227.0/29",
+        "74.125.227.0",
+        "74.125.227.7",
+        "255.255.255.248",
+        8,
+    ),
+    (
+        "0.0.0.0/0",
+        "0.0.0.0",
+        "255.255.255.255",
+        "0.0.0.0",
+        4294967295,
+    ),
+    (
+        "255.255.255.255/0",
+        "0.0.0.0",
+        "255.255.255.255",
+        "0.0.0.0",
+        4294967295,
+    ),
+    (
+        "255.255.255.255/1",
+        "128.0.0.0",
+        "255.255.255.255",
+        "128.0.0.0",
+        2147483648,
+    ),
+    (
+        "255.255.255.254/31",
+        "255.255.255.254",
+        "255.255.255.255",
+        "255.255.255.254",
+        2,
+    ),
+    (
+        "255.255.255.255/32",
+        "255.255.255.255",
+        "255.255.255.255",
+        "255.255.255.255",
+        1,
+    ),
     ("0.0.0.0/32", "0.0.0.0", "0.0.0.0", "255.255.255.255", 1),
 ];
 
@@ -44,13 +94,22 @@ fn makers(rt: HostRuntime) -> Result<(), Fail> {
     assert_eq!(rt; made.ip(), a);
     assert_eq!(rt; Ipv4Network::new_checked(a, 24), Some(made));
     let zero = Ipv4Addr::new(0, 0, 0, 0);
-    assert_eq!(rt; Ipv4Network::new(zero, 33), Err(IpNetworkError::InvalidPrefix));
+    assert_eq!(rt;
+        Ipv4Network::new(zero, 33),
+        Err(IpNetworkError::InvalidPrefix)
+    );
     assert_eq!(rt; Ipv4Network::new_checked(zero, 33), None);
     assert_eq!(rt; Ipv4Network::new_checked(zero, 255), None);
 
     let local = Ipv4Addr::new(127, 0, 0, 1);
-    assert_eq!(rt; Ipv4Network::with_netmask(local, Ipv4Addr::new(255, 0, 0, 0))?, network("127.0.0.1/8")?);
-    assert_eq!(rt; Ipv4Network::with_netmask(local, Ipv4Addr::new(255, 0, 255, 0)), Err(IpNetworkError::InvalidPrefix));
+    assert_eq!(rt;
+        Ipv4Network::with_netmask(local, Ipv4Addr::new(255, 0, 0, 0))?,
+        network("127.0.0.1/8")?
+    );
+    assert_eq!(rt;
+        Ipv4Network::with_netmask(local, Ipv4Addr::new(255, 0, 255, 0)),
+        Err(IpNetworkError::InvalidPrefix)
+    );
     assert_eq!(rt; Ipv4Network::from(local), network("127.0.0.1/32")?);
     Ok(())
 }
@@ -61,7 +120,11 @@ fn masks_and_prefix_lengths(rt: HostRuntime) -> Result<(), Fail> {
     assert_eq!(rt; ipv4_mask_to_prefix(address("255.255.255.255")?), Ok(32));
     assert_eq!(rt; ipv4_mask_to_prefix(address("0.0.0.0")?), Ok(0));
     for text in ["255.0.255.0", "0.0.0.1", "0.255.255.255", "255.255.255.253"] {
-        assert_eq!(rt; ipv4_mask_to_prefix(address(text)?), Err(IpNetworkError::InvalidPrefix), "{text}");
+        assert_eq!(rt;
+            ipv4_mask_to_prefix(address(text)?),
+            Err(IpNetworkError::InvalidPrefix),
+            "{text}"
+        );
     }
     for prefix in 0..=32u8 {
         let Some(n) = Ipv4Network::new_checked(Ipv4Addr::new(0, 0, 0, 0), prefix) else {
@@ -84,7 +147,10 @@ fn members_by_number(rt: HostRuntime) -> Result<(), Fail> {
     let all = network("0.0.0.0/0")?;
     assert_eq!(rt; all.nth(4294967294), Some(address("255.255.255.254")?));
     assert_eq!(rt; all.nth(4294967295), None);
-    assert_eq!(rt; network("255.255.255.255/32")?.nth(0), Some(address("255.255.255.255")?));
+    assert_eq!(rt;
+        network("255.255.255.255/32")?.nth(0),
+        Some(address("255.255.255.255")?)
+    );
     assert_eq!(rt; network("255.255.255.255/32")?.nth(1), None);
     Ok(())
 }
@@ -101,7 +167,11 @@ fn membership(rt: HostRuntime) -> Result<(), Fail> {
         ("10.0.0.5/24", "10.0.0.255", true),
         ("10.0.0.5/24", "10.0.1.0", false),
     ] {
-        assert_eq!(rt; network(text)?.contains(address(ip)?), inside, "{text} {ip}");
+        assert_eq!(rt;
+            network(text)?.contains(address(ip)?),
+            inside,
+            "{text} {ip}"
+        );
     }
     Ok(())
 }
@@ -143,7 +213,11 @@ fn overlapping(rt: HostRuntime) -> Result<(), Fail> {
     Ok(())
 }
 
-pub(super) fn lists(rt: &impl std::process::Abort, mut left: Ipv4NetworkIterator, texts: &[&str]) -> Result<(), Fail> {
+pub(super) fn lists(
+    rt: &impl std::process::Abort,
+    mut left: Ipv4NetworkIterator,
+    texts: &[&str],
+) -> Result<(), Fail> {
     for text in texts {
         assert_eq!(rt; left.next(), Some(address(text)?));
     }
@@ -154,18 +228,39 @@ pub(super) fn lists(rt: &impl std::process::Abort, mut left: Ipv4NetworkIterator
 
 #[test]
 fn members_in_order(rt: HostRuntime) -> Result<(), Fail> {
-    let four = ["192.168.122.0", "192.168.122.1", "192.168.122.2", "192.168.122.3"];
+    let four = [
+        "192.168.122.0",
+        "192.168.122.1",
+        "192.168.122.2",
+        "192.168.122.3",
+    ];
     lists(&rt, network("192.168.122.0/30")?.iter(), &four)?;
     lists(&rt, network("192.168.122.3/30")?.iter(), &four)?;
-    lists(&rt, network("255.255.255.254/31")?.iter(), &["255.255.255.254", "255.255.255.255"])?;
-    lists(&rt, network("255.255.255.255/32")?.iter(), &["255.255.255.255"])?;
+    lists(
+        &rt,
+        network("255.255.255.254/31")?.iter(),
+        &["255.255.255.254", "255.255.255.255"],
+    )?;
+    lists(
+        &rt,
+        network("255.255.255.255/32")?.iter(),
+        &["255.255.255.255"],
+    )?;
     let mut first = network("255.255.255.255/0")?.iter();
     assert_eq!(rt; first.next(), Some(address("0.0.0.0")?));
     assert_eq!(rt; first.next(), Some(address("0.0.0.1")?));
-    lists(&rt, (&network("255.255.255.254/31")?).into_iter(), &["255.255.255.254", "255.255.255.255"])?;
+    lists(
+        &rt,
+        (&network("255.255.255.254/31")?).into_iter(),
+        &["255.255.255.254", "255.255.255.255"],
+    )?;
     let mut left = network("192.168.122.0/30")?.iter();
     let _ = left.next();
-    lists(&rt, left.clone()?, &["192.168.122.1", "192.168.122.2", "192.168.122.3"])?;
+    lists(
+        &rt,
+        left.clone()?,
+        &["192.168.122.1", "192.168.122.2", "192.168.122.3"],
+    )?;
     Ok(())
 }
 
@@ -195,8 +290,19 @@ fn whole_blocks(rt: HostRuntime) -> Result<(), Fail> {
 
 #[test]
 fn order_is_by_address_and_prefix_length(rt: HostRuntime) -> Result<(), Fail> {
-    let sorted = ["10.0.0.0/8", "10.0.0.0/16", "10.0.5.0/24", "10.1.0.0/16", "11.0.0.0/8"];
-    for from in [[0, 1, 2, 3, 4], [4, 3, 2, 1, 0], [2, 4, 0, 3, 1], [3, 0, 4, 1, 2]] {
+    let sorted = [
+        "10.0.0.0/8",
+        "10.0.0.0/16",
+        "10.0.5.0/24",
+        "10.1.0.0/16",
+        "11.0.0.0/8",
+    ];
+    for from in [
+        [0, 1, 2, 3, 4],
+        [4, 3, 2, 1, 0],
+        [2, 4, 0, 3, 1],
+        [3, 0, 4, 1, 2],
+    ] {
         let mut list = Vec::new(rt.alloc());
         for i in from {
             list.push(network(sorted.get(i).copied().unwrap_or(""))?)?;
@@ -211,6 +317,9 @@ fn order_is_by_address_and_prefix_length(rt: HostRuntime) -> Result<(), Fail> {
 
 #[test]
 fn errors_are_compared(rt: HostRuntime) {
-    assert_eq!(rt; NetworkSizeError::NetworkIsTooLarge, NetworkSizeError::NetworkIsTooLarge);
+    assert_eq!(rt;
+        NetworkSizeError::NetworkIsTooLarge,
+        NetworkSizeError::NetworkIsTooLarge
+    );
     assert_ne!(rt; IpNetworkError::InvalidPrefix, IpNetworkError::OutOfMemory);
 }

@@ -11,13 +11,33 @@ const ACCEPTED: [(&str, [u8; 4], u8, &str); 18] = [
     ("10.1.9.32/16", [10, 1, 9, 32], 16, "10.1.9.32/16"),
     ("10.0.0.0/+8", [10, 0, 0, 0], 8, "10.0.0.0/8"),
     ("10.0.0.0/008", [10, 0, 0, 0], 8, "10.0.0.0/8"),
-    ("192.168.1.0/255.255.255.0", [192, 168, 1, 0], 24, "192.168.1.0/24"),
+    (
+        "192.168.1.0/255.255.255.0",
+        [192, 168, 1, 0],
+        24,
+        "192.168.1.0/24",
+    ),
     ("192.168.1.0/0.0.0.0", [192, 168, 1, 0], 0, "192.168.1.0/0"),
-    ("192.168.1.0/255.255.255.255", [192, 168, 1, 0], 32, "192.168.1.0/32"),
+    (
+        "192.168.1.0/255.255.255.255",
+        [192, 168, 1, 0],
+        32,
+        "192.168.1.0/32",
+    ),
     ("10.0.0.0/8", [10, 0, 0, 0], 8, "10.0.0.0/8"),
     ("0.0.0.0/0", [0, 0, 0, 0], 0, "0.0.0.0/0"),
-    ("255.255.255.255/0", [255, 255, 255, 255], 0, "255.255.255.255/0"),
-    ("255.255.255.255/32", [255, 255, 255, 255], 32, "255.255.255.255/32"),
+    (
+        "255.255.255.255/0",
+        [255, 255, 255, 255],
+        0,
+        "255.255.255.255/0",
+    ),
+    (
+        "255.255.255.255/32",
+        [255, 255, 255, 255],
+        32,
+        "255.255.255.255/32",
+    ),
     ("127.1.0.0/24", [127, 1, 0, 0], 24, "127.1.0.0/24"),
     ("127.0.0.0/32", [127, 0, 0, 0], 32, "127.0.0.0/32"),
     ("127.0.0.0", [127, 0, 0, 0], 32, "127.0.0.0/32"),
@@ -66,8 +86,14 @@ const REFUSED: [(&str, CidrFault); 32] = [
 #[test]
 fn accepted_texts(rt: HostRuntime) -> Result<(), Fail> {
     for (text, octets, prefix, canonical) in ACCEPTED {
-        let network = Ipv4Network::new_checked(Ipv4Addr::from(octets), prefix).ok_or("a prefix length")?;
-        assert_eq!(rt; Ipv4Network::read_bytes(text.as_bytes()), Ok(network), "{text}");
+        let network = Ipv4Network::new_checked(Ipv4Addr::from(octets), prefix).ok_or(
+            "a prefix length",
+        )?;
+        assert_eq!(rt;
+            Ipv4Network::read_bytes(text.as_bytes()),
+            Ok(network),
+            "{text}"
+        );
         assert_eq!(rt; Ipv4Network::from_str(text), Ok(network), "{text}");
         assert_eq!(rt; Ipv4Network::try_from(text), Ok(network), "{text}");
         assert_eq!(rt; network.canonical().as_str(), canonical);
@@ -82,7 +108,11 @@ fn accepted_texts(rt: HostRuntime) -> Result<(), Fail> {
 #[test]
 fn refused_texts_and_their_causes(rt: HostRuntime) {
     for (text, fault) in REFUSED {
-        assert_eq!(rt; Ipv4Network::read_bytes(text.as_bytes()), Err(fault), "{text}");
+        assert_eq!(rt;
+            Ipv4Network::read_bytes(text.as_bytes()),
+            Err(fault),
+            "{text}"
+        );
         assert_eq!(rt; Ipv4Network::from_str(text), Err(fault), "{text}");
         assert_eq!(rt; Ipv4Network::try_from(text), Err(fault), "{text}");
     }
@@ -114,7 +144,11 @@ fn long_texts(rt: HostRuntime) -> Result<(), Fail> {
 #[test]
 fn display_ignores_width_and_fill(rt: HostRuntime) -> Result<(), Fail> {
     let mut printed = ArrayString::<43>::new();
-    write!(printed, "{:*>30.3}", Ipv4Network::from(Ipv4Addr::new(1, 2, 3, 4)))?;
+    write!(
+        printed,
+        "{:*>30.3}",
+        Ipv4Network::from(Ipv4Addr::new(1, 2, 3, 4))
+    )?;
     assert_eq!(rt; printed.as_str(), "1.2.3.4/32");
     Ok(())
 }

@@ -4,10 +4,18 @@ use std::test::Fail;
 
 #[test]
 fn prefix_numbers(rt: HostRuntime) {
-    for (text, value) in [("0", 0), ("32", 32), ("+32", 32), ("00032", 32), ("+008", 8)] {
+    for (text, value) in [
+        ("0", 0),
+        ("32", 32),
+        ("+32", 32),
+        ("00032", 32),
+        ("+008", 8),
+    ] {
         assert_eq!(rt; parse_prefix(text, 32), Ok(value), "{text}");
     }
-    for text in ["", "+", "-0", "++1", "33", "256", "264", "0x8", "8.", " 1", "1 ", "1/", "\u{e9}"] {
+    for text in [
+        "", "+", "-0", "++1", "33", "256", "264", "0x8", "8.", " 1", "1 ", "1/", "\u{e9}",
+    ] {
         assert_eq!(rt; parse_prefix(text, 32), Err(CidrFault::Prefix), "{text}");
     }
     assert_eq!(rt; parse_prefix("255", 255), Ok(255));

@@ -1,5 +1,4 @@
-use Rattle.std.proofs.Common.{sym, ◌∙◌, Ok}
-use Rattle.ipnetwork_family.specs.Ipv4NetworkText.{v4_network_of}
+use Rattle.std.proofs.Common.{Ok}
 use Rattle.cidr.proofs.Answers.{gives_none}
 use Rattle.cidr.proofs.answer.has4.Goals as goal
 

@@ -1,4 +1,4 @@
-use Rattle.std.proofs.Common.{◌≡◌, ◌∙◌}
+use Rattle.std.proofs.Common.{◌∙◌}
 use Rattle.ipnetwork_family.proofs.Bits.{set_hosts}
 use Rattle.ipnetwork_family.proofs.ipv4.Ipv4Network.broadcast.Goals as goal
 

@@ -10,4 +10,4 @@ returns-then-prefix c =
 pub returns-else-prefix : goal.returns-else-prefix
 returns-else-prefix c =
     no_subnet_if_shorter 32 c.args.self c.args.other c.prefix-2.result c.prefix.result
-      c.prefix-2.ensures.network c.prefix.ensures.network c.prefix-2.ensures.made c.prefix.ensures.made c.if-prefix.false
+    c.prefix-2.ensures.network c.prefix.ensures.network c.prefix-2.ensures.made c.prefix.ensures.made c.if-prefix.false

@@ -1,4 +1,4 @@
-use Rattle.std.proofs.Common.{◌≡◌, ◌∙◌}
+use Rattle.std.proofs.Common.{◌∙◌}
 use Rattle.ipnetwork_family.proofs.Bits.{clear_hosts}
 use Rattle.ipnetwork_family.proofs.ipv4.Ipv4Network.network.Goals as goal
 
