@@ -1,6 +1,12 @@
 pub mod AddressBytes
 pub mod ComputedV4
 pub mod Decimals
+pub mod Gaps
+pub mod Groups
 pub mod Ipv4Lemmas
+pub mod Ipv6Names
 pub mod Octets
+pub mod PartSteps
+pub mod Parts
+pub mod Shifts
 pub mod PlainOctet

@@ -3,8 +3,10 @@
 //! Nothing here takes memory. A text is a slice of bytes, of any length and any bytes.
 #![tactic(auto)]
 
+mod colons;
 pub mod decimal;
 mod error;
+mod group;
 mod ipv4;
 pub mod laws;
 mod octet;
