@@ -1,4 +1,5 @@
 pub mod Digits
+pub mod Either
 pub mod Faults
 pub mod GroupFront
 pub mod Ipv4Text

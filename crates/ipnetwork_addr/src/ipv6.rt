@@ -82,7 +82,7 @@ impl Ipv6Addr {
         ensures canonical { IsCanonicalV6 result.bytes self.now }
         ensures bytes { result.bytes ≡ canonical_v6 self.now }
     {
-        canonical_text(self.segments())
+        canonical_text(self.number, &self.segments())
     }
 }
 
