@@ -6,6 +6,10 @@ use Rattle.std.specs.List.{join_with_byte, AllZip}
 abbrev pub dot : ℕ
 dot = 46
 
+-- `b':'`
+abbrev pub colon : ℕ
+colon = 58
+
 -- the text is parts joined by the byte, and the parts name the values, one each, in order
 pub record IsJoined (byte : ℕ) (Names : List ℕ → ℕ → Type 0) (text values : List ℕ) : Type 0 where
   pub parts : List (List ℕ)

@@ -3,16 +3,24 @@
 //! Nothing here takes memory. A text is a slice of bytes, of any length and any bytes.
 #![tactic(auto)]
 
+mod canonical;
+mod colons;
 pub mod decimal;
 mod error;
+mod group;
+mod hexadecimal;
+mod ip;
 mod ipv4;
+mod ipv6;
 pub mod laws;
 mod octet;
 #[cfg(test)]
 mod tests;
 
 pub use error::AddrParseError;
+pub use ip::IpAddr;
 pub use ipv4::Ipv4Addr;
+pub use ipv6::Ipv6Addr;
 
 /// The length in bytes of the longest printed address, one of IPv6.
 pub const TEXT_CAPACITY: usize = 39;

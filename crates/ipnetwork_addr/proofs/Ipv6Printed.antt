@@ -1,0 +1,181 @@
+-- The canonical text of an IPv6 address names it, and is one.
+use Rattle.std.proofs.Common.{◌≡◌, ◌↔◌, subst, ℕ, suc, zero, ◌+◌, ◌-◌, ◌%◌, ◌^◌, ◌<◌, ◌≤◌, false, List, [], ◌∷◌, ◌++◌, length, get_or, map, take, drop, replicate, refl, sym, ap, ◌∙◌, inl, inr, arith, lit≤, take-add, take-append-drop, length-take-le, length-drop}
+use Rattle.std.proofs.Common.{true≢false}
+use Rattle.std.proofs.lemmas.Bool.{cases_lt, cond_both, leb-true, leb-false}
+use Rattle.std.proofs.lemmas.Slice.Eq.{bytes_eq-Decides}
+use Rattle.ipnetwork_addr.proofs.Printed.{gap_found, no_gap}
+use Rattle.std.specs.List.{AllZip}
+use Rattle.std.specs.Int.Digits.{number_from_digits, AllBelowBase}
+use Rattle.std.proofs.lemmas.Fmt.{digits_is_IsNumeral, hex_one_digit, hex_two_digits}
+use Rattle.ipnetwork_addr.specs.Digits.{segments_of}
+use Rattle.ipnetwork_addr.specs.Ipv4Text.{canonical_v4}
+use Rattle.ipnetwork_addr.specs.Ipv6Text.{IsGroup, IsPlain, NamesV6, halves}
+use Rattle.ipnetwork_addr.specs.Ipv6Canonical.{hex, hex_groups, IsMapped, IsGap, IsCanonicalV6, Mapped, Gap, Whole, longest_zero_run, canonical_v6}
+use Rattle.ipnetwork_addr.proofs.Ipv4Lemmas.{canonical_v4_names}
+use Rattle.ipnetwork_addr.proofs.Ipv6Names.{v6_unique}
+use Rattle.ipnetwork_addr.proofs.Hexes.{hex_three, hex_four}
+
+length-hex-le : (g : ℕ) → g < 2 ^ 16 → length (hex g) ≤ 4
+length-hex-le g fits = elim (cases_lt g 16) [
+  | inl one ↦ rw (hex_one_digit false g one) (lit≤ tt)
+  | inr h ↦ elim (cases_lt g 256) [
+    | inl two ↦ rw (hex_two_digits false g h two) (lit≤ tt)
+    | inr h ↦ elim (cases_lt g 4096) [
+      | inl three ↦ rw (hex_three g h three) (lit≤ tt)
+      | inr h ↦ rw (hex_four g h fits) (lit≤ tt)
+    ]
+  ]
+]
+
+IsGroup-hex : (g : ℕ) → g < 2 ^ 16 → IsGroup (hex g) g
+IsGroup-hex g fits =
+    let (numeral, value) = digits_is_IsNumeral 16 false (lit≤ tt) (lit≤ tt) g (omega arith) in
+    record { digits = numeral; short = length-hex-le g fits; value = sym value }
+
+named_hex : (groups : List ℕ) → AllBelowBase (2 ^ 16) groups → AllZip IsGroup (map hex groups) groups
+named_hex [] fit = tt
+named_hex (g ∷ groups) fit = (IsGroup-hex g fit.0, named_hex groups fit.1)
+
+IsPlain-hex_groups : (groups : List ℕ) → AllBelowBase (2 ^ 16) groups → IsPlain (hex_groups groups) groups
+IsPlain-hex_groups groups fit = record { parts = map hex groups; spelled = refl; named = named_hex groups fit }
+
+fit_take : (n : ℕ) (groups : List ℕ) → AllBelowBase (2 ^ 16) groups → AllBelowBase (2 ^ 16) (take n groups)
+fit_take zero groups h = tt
+fit_take (suc n) [] h = tt
+fit_take (suc n) (g ∷ groups) h = (h.0, fit_take n groups h.1)
+
+fit_drop : (n : ℕ) (groups : List ℕ) → AllBelowBase (2 ^ 16) groups → AllBelowBase (2 ^ 16) (drop n groups)
+fit_drop zero groups h = h
+fit_drop (suc n) [] h = h
+fit_drop (suc n) (g ∷ groups) h = fit_drop n groups h.1
+
+segments_fit : (address : ℕ) → AllBelowBase (2 ^ 16) (segments_of address)
+segments_fit address =
+    (omega arith, (omega arith, (omega arith, (omega arith, (omega arith, (omega arith, (omega arith, (omega arith, tt))))))))
+
+pub number-segments_of : (address : ℕ) → address < 2 ^ 128 → address ≡ number_from_digits (2 ^ 16) (segments_of address)
+number-segments_of address fits = omega arith
+
+-- groups with a run of zeros left out, and put back
+put_back : (groups : List ℕ) (i n : ℕ) → length groups ≡ 8 → i + n ≤ 8 → take n (drop i groups) ≡ replicate n 0 → groups ≡ take i groups ++ replicate (8 - length (take i groups) - length (drop (i + n) groups)) 0 ++ drop (i + n) groups
+put_back groups i n eight within zeros =
+    let front = length-take-le i groups (omega arith) in
+    let back = length-drop (i + n) groups in
+    let gap : 8 - length (take i groups) - length (drop (i + n) groups) ≡ n = omega arith in
+    rw (gap, ← zeros, ← take-add i n groups) (sym (take-append-drop (i + n) groups))
+
+gap_named : (address : ℕ) (groups text : List ℕ) (i n : ℕ) → length groups ≡ 8 → AllBelowBase (2 ^ 16) groups → address ≡ number_from_digits (2 ^ 16) groups → IsGap groups i n → text ≡ hex_groups (take i groups) ++ (58 ∷ 58 ∷ []) ++ hex_groups (drop (i + n) groups) → NamesV6 text address
+gap_named address groups text i n eight fit value gap spelled =
+    let within : i + n ≤ 8 = omega (arith, gap.zeros.0) in
+    let front = length-take-le i groups (omega arith) in
+    let back = length-drop (i + n) groups in
+    let several : 2 ≤ n = gap.several in
+    inr (record {
+      left_text = hex_groups (take i groups);
+      right_text = hex_groups (drop (i + n) groups);
+      left = take i groups;
+      right = drop (i + n) groups;
+      spelled = spelled;
+      left_plain = IsPlain-hex_groups _ (fit_take i groups fit);
+      right_ended = inl (IsPlain-hex_groups _ (fit_drop (i + n) groups fit));
+      room = omega arith;
+      value = value ∙ ap (number_from_digits (2 ^ 16)) (put_back groups i n eight within gap.zeros.1);
+    })
+
+-- the number of an address that has an IPv4 address in it
+mapped_number : (address : ℕ) → address < 2 ^ 128 → IsMapped (segments_of address) → address ≡ number_from_digits (2 ^ 16) (0 ∷ 0 ∷ 0 ∷ 0 ∷ 0 ∷ 0xffff ∷ halves (address % 2 ^ 32))
+mapped_number address fits mapped =
+    let a = ap (λ t. get_or t 0 0) mapped in
+    let b = ap (λ t. get_or t 1 0) mapped in
+    let c = ap (λ t. get_or t 2 0) mapped in
+    let d = ap (λ t. get_or t 3 0) mapped in
+    let e = ap (λ t. get_or t 4 0) mapped in
+    let f = ap (λ t. get_or t 5 0) mapped in
+    omega arith
+
+mapped_named : (address : ℕ) (text : List ℕ) → address < 2 ^ 128 → IsMapped (segments_of address) → text ≡ (58 ∷ 58 ∷ 102 ∷ 102 ∷ 102 ∷ 102 ∷ 58 ∷ []) ++ canonical_v4 (address % 2 ^ 32) → NamesV6 text address
+mapped_named address text fits mapped spelled = inr (record {
+  left_text = [];
+  right_text = 102 ∷ 102 ∷ 102 ∷ 102 ∷ 58 ∷ canonical_v4 (address % 2 ^ 32);
+  left = [];
+  right = 0xffff ∷ halves (address % 2 ^ 32);
+  spelled = spelled;
+  left_plain = record { parts = []; spelled = refl; named = tt };
+  right_ended = inr (record {
+    parts = (102 ∷ 102 ∷ 102 ∷ 102 ∷ []) ∷ [];
+    front = 0xffff ∷ [];
+    last = canonical_v4 (address % 2 ^ 32);
+    address = address % 2 ^ 32;
+    spelled = refl;
+    named = (record { digits = (lit≤ tt, (lit≤ tt, (lit≤ tt, (lit≤ tt, (lit≤ tt, tt))))); short = lit≤ tt; value = refl }, tt);
+    dotted = canonical_v4_names (address % 2 ^ 32) (omega arith);
+    value = refl;
+  });
+  room = lit≤ tt;
+  value = mapped_number address fits mapped;
+})
+
+pub canonical_v6_names : (text : List ℕ) (address : ℕ) → address < 2 ^ 128 → IsCanonicalV6 text address → NamesV6 text address
+canonical_v6_names text address fits (Mapped mapped spelled) = mapped_named address text fits mapped spelled
+canonical_v6_names text address fits (Gap other i n gap spelled) =
+    gap_named address (segments_of address) text i n refl (segments_fit address) (number-segments_of address fits) gap spelled
+canonical_v6_names text address fits (Whole other none spelled) = inl (record {
+  groups = segments_of address;
+  ended = inl (rw spelled (IsPlain-hex_groups (segments_of address) (segments_fit address)));
+  eight = refl;
+  value = number-segments_of address fits;
+})
+
+-- there is one gap
+same_gap : (groups : List ℕ) (i n j m : ℕ) → IsGap groups i n → IsGap groups j m → (i ≡ j) × (n ≡ m)
+same_gap groups i n j m g h =
+    let up : n ≤ m = h.longest i n g.zeros in
+    let down : m ≤ n = g.longest j m h.zeros in
+    let same : n ≡ m = omega arith in
+    let left : i ≤ j = g.leftmost j (rw same h.zeros) in
+    let right : j ≤ i = h.leftmost i (rw (← same) g.zeros) in
+    (omega arith, same)
+
+pub canonical_v6_unique : (address : ℕ) (text other : List ℕ) → IsCanonicalV6 text address → IsCanonicalV6 other address → text ≡ other
+canonical_v6_unique address text other (Mapped mapped e) (Mapped mapped' e') = e ∙ sym e'
+canonical_v6_unique address text other (Mapped mapped e) (Gap not i n gap e') = absurd (not mapped)
+canonical_v6_unique address text other (Mapped mapped e) (Whole not none e') = absurd (not mapped)
+canonical_v6_unique address text other (Gap not i n gap e) (Mapped mapped e') = absurd (not mapped)
+canonical_v6_unique address text other (Gap not i n gap e) (Gap not' j m gap' e') =
+    let (same_i, same_n) = same_gap (segments_of address) i n j m gap gap' in
+    e ∙ rw (same_i, same_n) (sym e')
+canonical_v6_unique address text other (Gap not i n gap e) (Whole not' none e') = absurd (none i n gap)
+canonical_v6_unique address text other (Whole not none e) (Mapped mapped e') = absurd (not mapped)
+canonical_v6_unique address text other (Whole not none e) (Gap not' i n gap e') = absurd (none i n gap)
+canonical_v6_unique address text other (Whole not none e) (Whole not' none' e') = e ∙ sym e'
+
+-- the function gives the one text
+pub canonical_v6_is : (address : ℕ) → IsCanonicalV6 (canonical_v6 address) address
+canonical_v6_is address =
+    let groups = segments_of address in
+    let run = longest_zero_run groups in
+    let test = bytes_eq-Decides (take 6 groups) (0 ∷ 0 ∷ 0 ∷ 0 ∷ 0 ∷ 0xffff ∷ []) in
+    cond_both _ _ _ (λ text. IsCanonicalV6 text address)
+    (λ yes. Mapped (test.0 yes) refl)
+    (λ no.
+    let other : ¬ (IsMapped groups) = λ mapped. true≢false (sym (test.1 mapped) ∙ no) in
+    cond_both _ _ _ (λ text. IsCanonicalV6 text address)
+    (λ several. Gap other run.0 run.1 (gap_found groups (leb-true 2 run.1 several)) refl)
+    (λ few. Whole other (no_gap groups (leb-false 2 run.1 few)) refl))
+
+pub canonical_v6_from : (text : List ℕ) (address : ℕ) → IsCanonicalV6 text address → text ≡ canonical_v6 address
+canonical_v6_from text address h = canonical_v6_unique address text (canonical_v6 address) h (canonical_v6_is address)
+
+pub canonical_v6_is_only : (text : List ℕ) (address : ℕ) → IsCanonicalV6 text address ↔ (text ≡ canonical_v6 address)
+canonical_v6_is_only text address = (
+  canonical_v6_from text address,
+  λ e. subst (λ (t : List ℕ). IsCanonicalV6 t address) (sym e) (canonical_v6_is address),
+)
+
+pub canonical_v6_one_to_one : (a b : ℕ) → a < 2 ^ 128 → b < 2 ^ 128 → (a ≡ b) ↔ (canonical_v6 a ≡ canonical_v6 b)
+canonical_v6_one_to_one a b fits_a fits_b = (
+  λ e. ap canonical_v6 e,
+  λ e.
+      let named = canonical_v6_names (canonical_v6 b) b fits_b (canonical_v6_is b) in
+      v6_unique (canonical_v6 a) a b (canonical_v6_names (canonical_v6 a) a fits_a (canonical_v6_is a)) (subst (λ (t : List ℕ). NamesV6 t b) (sym e) named),
+)

@@ -1,0 +1,5 @@
+use Rattle.ipnetwork_addr.proofs.Shifts.{shifted}
+use Rattle.ipnetwork_addr.proofs.colons.shift.Goals as goal
+
+pub returns : goal.returns
+returns c = shifted c.args.number c.args.count c.requires.counted c.requires.small

@@ -1,0 +1,5 @@
+use Rattle.ipnetwork_addr.proofs.PartSteps.{PartSoFar}
+use Rattle.ipnetwork_addr.proofs.group.read_part.Given as goal
+
+abbrev pub invariant-loop-count : goal.invariant-loop-count
+invariant-loop-count l = PartSoFar l.text l.rest l.count l.number

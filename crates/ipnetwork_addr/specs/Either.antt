@@ -1,0 +1,22 @@
+-- Texts of an address of either family.
+use Rattle.std.specs.Prelude.{ℕ, ◌^◌, ◌<◌, List}
+use Rattle.ipnetwork_addr.specs.declared.ip.IpAddr.{IpAddr}
+use Rattle.ipnetwork_addr.specs.declared.ip.IpAddr.TheVariants.{V4, V6}
+use Rattle.ipnetwork_addr.specs.Ipv4Text.{NamesV4, canonical_v4}
+use Rattle.ipnetwork_addr.specs.Ipv6Text.{NamesV6}
+use Rattle.ipnetwork_addr.specs.Ipv6Canonical.{canonical_v6}
+
+-- the text names the address
+abbrev pub NamesIp : List ℕ → IpAddr → Type 0
+NamesIp text (V4 address) = NamesV4 text address
+NamesIp text (V6 address) = NamesV6 text address
+
+-- the one text that an address is printed as
+abbrev pub canonical_ip : IpAddr → List ℕ
+canonical_ip (V4 address) = canonical_v4 address
+canonical_ip (V6 address) = canonical_v6 address
+
+-- the number fits the bits of its family
+abbrev pub FitsIp : IpAddr → Type 0
+FitsIp (V4 address) = address < 2 ^ 32
+FitsIp (V6 address) = address < 2 ^ 128

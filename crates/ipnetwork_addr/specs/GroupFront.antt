@@ -1,0 +1,94 @@
+-- What stands at the front of a text, for the private functions that read groups.
+use Rattle.std.specs.Prelude.{◌≡◌, ℕ, ◌^◌, ◌<◌, ◌≤◌, ◌⊎◌, List, [], ◌∷◌, ◌++◌, length, slice_index, Option, None, Some}
+use Rattle.std.specs.Char.{digit_value}
+use Rattle.std.specs.Int.Digits.{number_from_digits}
+use Rattle.ipnetwork_addr.specs.Ipv4Text.{NamesV4}
+use Rattle.ipnetwork_addr.specs.Ipv6Text.{IsGroup, halves}
+use Rattle.ipnetwork_addr.specs.Texts.{colon}
+
+-- no hex digit stands at the front
+abbrev pub NoHex : List ℕ → Type 0
+NoHex text = 16 ≤ digit_value (slice_index text 0)
+
+-- a hex digit of this value stands at the front, and this follows it
+pub record BeginsWithHex (text : List ℕ) (digit : ℕ) (rest : List ℕ) : Type 0 where
+  pub byte : ℕ
+  pub value : digit_value byte ≡ digit
+  pub below_sixteen : digit < 16
+  pub split : text ≡ byte ∷ rest
+
+-- a group stands at the front, and this follows it, with no further hex digit
+pub record BeginsWithGroup (text : List ℕ) (group : ℕ) (rest : List ℕ) : Type 0 where
+  pub front : List ℕ
+  pub named : IsGroup front group
+  pub split : text ≡ front ++ rest
+  pub stops : NoHex rest
+
+-- none stands there
+abbrev pub NoGroup : List ℕ → Type 0
+NoGroup text = (group : ℕ) (rest : List ℕ) → ¬ (BeginsWithGroup text group rest)
+
+-- A part of an IPv6 text is one group or more, joined by colons, up to the end of the text, which may come after an
+-- IPv4 text in place of the last two groups, or up to a `::`. The end is what follows the `::`, if there is one.
+-- Here: the first group of a part, where More says the rest of the part of the text behind its colon.
+pub data IsPartFrom (More : List ℕ → Type 0) (text : List ℕ) (group : ℕ) (groups : List ℕ) (end : Option (List ℕ)) : Type 0 where
+  Last : BeginsWithGroup text group [] → groups ≡ [] → end ≡ None → IsPartFrom More text group groups end
+  Dotted : (address : ℕ) → NamesV4 text address → group ∷ groups ≡ halves address → end ≡ None → IsPartFrom More text group groups end
+  Gap : (next : List ℕ) → BeginsWithGroup text group (colon ∷ colon ∷ next) → groups ≡ [] → end ≡ Some next → IsPartFrom More text group groups end
+  Next : (next : List ℕ) → BeginsWithGroup text group (colon ∷ next) → More next → IsPartFrom More text group groups end
+
+-- the text begins with a part of these groups and this end
+abbrev pub IsPart : List ℕ → List ℕ → Option (List ℕ) → Type 0
+IsPart [] text end = ⊥
+IsPart (group ∷ groups) text end = IsPartFrom (λ next. IsPart groups next end) text group groups end
+
+-- the text begins with a part of so many groups, up to the room, of this number and this end
+pub record BeginsWithPart (room : ℕ) (text : List ℕ) (count number : ℕ) (end : Option (List ℕ)) : Type 0 where
+  pub groups : List ℕ
+  pub part : IsPart groups text end
+  pub counted : count ≡ length groups
+  pub fits : count ≤ room
+  pub value : number ≡ number_from_digits (2 ^ 16) groups
+  pub small : number < (2 ^ 16) ^ count
+
+-- it begins with none
+abbrev pub NoPart : ℕ → List ℕ → Type 0
+NoPart room text = (groups : List ℕ) (end : Option (List ℕ)) → IsPart groups text end → room < length groups
+
+-- the text begins with `::`, and there are no groups
+pub record IsNoLeft (groups text : List ℕ) (end : Option (List ℕ)) : Type 0 where
+  pub next : List ℕ
+  pub none : groups ≡ []
+  pub spelled : text ≡ colon ∷ colon ∷ next
+  pub ends : end ≡ Some next
+
+-- the text begins with groups up to an end, none of them where it begins with `::`
+abbrev pub IsLeft : List ℕ → List ℕ → Option (List ℕ) → Type 0
+IsLeft groups text end = IsPart groups text end ⊎ IsNoLeft groups text end
+
+-- so many, up to eight
+pub record BeginsWithLeft (text : List ℕ) (count number : ℕ) (end : Option (List ℕ)) : Type 0 where
+  pub groups : List ℕ
+  pub left : IsLeft groups text end
+  pub counted : count ≡ length groups
+  pub fits : count ≤ 8
+  pub value : number ≡ number_from_digits (2 ^ 16) groups
+  pub small : number < (2 ^ 16) ^ count
+
+abbrev pub NoLeft : List ℕ → Type 0
+NoLeft text = (groups : List ℕ) (end : Option (List ℕ)) → IsLeft groups text end → 8 < length groups
+
+-- the text is groups up to its end, or empty
+abbrev pub IsRight : List ℕ → List ℕ → Type 0
+IsRight groups text = IsPart groups text None ⊎ ((groups ≡ []) × (text ≡ []))
+
+-- so many, up to the room
+pub record EndsWithRight (room : ℕ) (text : List ℕ) (number : ℕ) : Type 0 where
+  pub groups : List ℕ
+  pub right : IsRight groups text
+  pub fits : length groups ≤ room
+  pub value : number ≡ number_from_digits (2 ^ 16) groups
+  pub small : number < (2 ^ 16) ^ room
+
+abbrev pub NoRight : ℕ → List ℕ → Type 0
+NoRight room text = (groups : List ℕ) → IsRight groups text → room < length groups

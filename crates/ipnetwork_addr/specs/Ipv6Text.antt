@@ -1,0 +1,63 @@
+-- Which texts name an IPv6 address: the three forms of RFC 4291, section 2.2.
+use Rattle.std.specs.Prelude.{◌≡◌, ℕ, ◌+◌, ◌-◌, ◌/◌, ◌%◌, ◌^◌, ◌≤◌, ◌⊎◌, List, [], ◌∷◌, ◌++◌, length, replicate, codes}
+use Rattle.std.specs.List.{join_with_byte, AllZip}
+use Rattle.std.specs.Int.Digits.{number_from_digits}
+use Rattle.std.specs.Str.Parse.{IsNumeral, digits_value}
+use Rattle.ipnetwork_addr.specs.Ipv4Text.{NamesV4}
+use Rattle.ipnetwork_addr.specs.Texts.{colon, IsJoined}
+
+-- one to four hex digits of either case, and their value
+pub record IsGroup (text : List ℕ) (group : ℕ) : Type 0 where
+  pub digits : IsNumeral 16 text
+  pub short : length text ≤ 4
+  pub value : group ≡ digits_value 16 text
+
+-- groups joined by colons, or nothing
+abbrev pub IsPlain : List ℕ → List ℕ → Type 0
+IsPlain text groups = IsJoined colon IsGroup text groups
+
+-- the two groups that an IPv4 address stands for
+abbrev pub halves : ℕ → List ℕ
+halves address = address / 2 ^ 16 ∷ address % 2 ^ 16 ∷ []
+
+-- groups and, after them, an IPv4 text, all joined by colons
+pub record IsDotted (text groups : List ℕ) : Type 0 where
+  pub parts : List (List ℕ)
+  pub front : List ℕ
+  pub last : List ℕ
+  pub address : ℕ
+  pub spelled : text ≡ join_with_byte colon (parts ++ last ∷ [])
+  pub named : AllZip IsGroup parts front
+  pub dotted : NamesV4 last address
+  pub value : groups ≡ front ++ halves address
+
+-- groups joined by colons, the last two of which may be written as an IPv4 text
+abbrev pub IsEnded : List ℕ → List ℕ → Type 0
+IsEnded text groups = IsPlain text groups ⊎ IsDotted text groups
+
+-- all eight groups
+pub record IsFull (text : List ℕ) (address : ℕ) : Type 0 where
+  pub groups : List ℕ
+  pub ended : IsEnded text groups
+  pub eight : length groups ≡ 8
+  pub value : address ≡ number_from_digits (2 ^ 16) groups
+
+-- at most seven groups, with `::` for the zero groups that are missing to eight
+pub record HasGap (text : List ℕ) (address : ℕ) : Type 0 where
+  pub left_text : List ℕ
+  pub right_text : List ℕ
+  pub left : List ℕ
+  pub right : List ℕ
+  pub spelled : text ≡ left_text ++ codes "::" ++ right_text
+  pub left_plain : IsPlain left_text left
+  pub right_ended : IsEnded right_text right
+  pub room : length left + length right ≤ 7
+  pub value : address ≡ number_from_digits (2 ^ 16) (left ++ replicate (8 - length left - length right) 0 ++ right)
+
+-- the text names the address
+abbrev pub NamesV6 : List ℕ → ℕ → Type 0
+NamesV6 text address = IsFull text address ⊎ HasGap text address
+
+-- the text names no IPv6 address
+abbrev pub NamesNoV6 : List ℕ → Type 0
+NamesNoV6 text = (address : ℕ) → ¬ (NamesV6 text address)

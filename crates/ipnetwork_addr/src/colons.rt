@@ -1,0 +1,57 @@
+//! Reads an IPv6 text: the groups to the left of a `::` and those to the right of it.
+ghost use Rattle.std.specs.Prelude.{◌≡◌, ◌^◌, ◌+◌, ◌-◌, ◌*◌, ◌<◌, ◌≤◌, MatchOption};
+ghost use Rattle.std.specs.Option.{option_copied};
+ghost use Rattle.ipnetwork_addr.specs.Ipv6Text.{NamesV6, NamesNoV6};
+ghost use Rattle.ipnetwork_addr.specs.GroupFront.{BeginsWithLeft, NoLeft, EndsWithRight, NoRight};
+
+use crate::group::read_part;
+
+/// The number of the address that a text names.
+pub(crate) fn read_address(text: &[u8]) -> Option<u128>
+    ensures { MatchOption result (NamesNoV6 text.now) (λ address. NamesV6 text.now address) }
+{
+    let (count, left, end) = read_left(text)?;
+    let Some(behind_gap) = end else {
+        return if count == 8 { Some(left) } else { None };
+    };
+    if count == 8 {
+        return None;
+    }
+    let right = read_right(behind_gap, 7 - count)?;
+    Some(shift(left, count) + right)
+}
+
+/// The groups before the end of the text or before a `::`: how many, the number whose digits in base
+/// 2^16 they are, and what follows the `::`.
+fn read_left(text: &[u8]) -> Option<(usize, u128, Option<&[u8]>)>
+    ensures { MatchOption result (NoLeft text.now) (λ found. BeginsWithLeft text.now found.0 found.1 (option_copied found.2)) }
+{
+    match text {
+        [b':', b':', behind_gap @ ..] => Some((0, 0, Some(behind_gap))),
+        _ => read_part(text, 8),
+    }
+}
+
+/// The number of the groups that a text is, of which there are no more than there is room for.
+fn read_right(text: &[u8], room: usize) -> Option<u128>
+    requires { room ≤ 8 }
+    ensures { MatchOption result (NoRight room text.now) (λ number. EndsWithRight room text.now number) }
+{
+    if text.is_empty() {
+        return Some(0);
+    }
+    let (_, number, end) = read_part(text, room)?;
+    match end {
+        None => Some(number),
+        Some(_) => None,
+    }
+}
+
+/// The number of so many groups, moved to the front of eight.
+fn shift(number: u128, count: usize) -> u128
+    requires counted { count ≤ 7 }
+    requires small { number < (2 ^ 16) ^ count }
+    ensures { result ≡ number * (2 ^ 16) ^ (8 - count) }
+{
+    number << (112 - 16 * count) << 16
+}

@@ -1,0 +1,110 @@
+//! Reads the groups of an IPv6 text, from the front.
+ghost use Rattle.std.specs.Prelude.{◌≡◌, ◌≢◌, ℕ, ◌^◌, ◌+◌, ◌*◌, ◌<◌, ◌≤◌, List, ◌∷◌, MatchOption};
+ghost use Rattle.std.specs.Option.{option_copied};
+ghost use Rattle.ipnetwork_addr.specs.Ipv4Text.{NamesV4, NamesNoV4};
+ghost use Rattle.ipnetwork_addr.specs.GroupFront.{NoHex, BeginsWithHex, BeginsWithGroup, NoGroup, BeginsWithPart, NoPart};
+
+use crate::octet::read_octets;
+
+/// Groups joined by colons, up to the end of the text or to a `::`, and no more of them than there is
+/// room for: how many, the number whose digits in base 2^16 they are, and what follows the `::`.
+pub(crate) fn read_part(text: &[u8], room: usize) -> Option<(usize, u128, Option<&[u8]>)>
+    requires { room ≤ 8 }
+    ensures { MatchOption result (NoPart room text.now) (λ found. BeginsWithPart room text.now found.0 found.1 (option_copied found.2)) }
+{
+    let mut rest = text;
+    let mut number = 0u128;
+    for count in 0..room {
+        let (group, after) = read_group(rest)?;
+        let Some(next) = after_byte(after, b':') else {
+            if after.is_empty() {
+                return Some((count + 1, append(number, group), None));
+            }
+            let Some(_) = after_byte(after, b'.') else {
+                return None;
+            };
+            if count + 2 > room {
+                return None;
+            }
+            let address = read_v4(rest)?;
+            return Some((count + 2, append_v4(number, address), None));
+        };
+        number = append(number, group);
+        if let Some(behind_gap) = after_byte(next, b':') {
+            return Some((count + 1, number, Some(behind_gap)));
+        }
+        rest = next;
+    }
+    None
+}
+
+/// What follows this byte at the front.
+fn after_byte(text: &[u8], byte: u8) -> Option<&[u8]>
+    ensures { MatchOption result ((rest : List ℕ) → text.now ≢ byte ∷ rest) (λ rest. text.now ≡ byte ∷ rest.now) }
+{
+    match text {
+        [first, rest @ ..] if *first == byte => Some(rest),
+        _ => None,
+    }
+}
+
+/// The number with one more digit in base 2^16.
+fn append(number: u128, group: u16) -> u128
+    requires { number < 2 ^ 112 }
+    ensures { result ≡ number * 2 ^ 16 + group }
+{
+    number * 0x1_0000 + u128::from(group)
+}
+
+/// The number with two more digits in base 2^16.
+fn append_v4(number: u128, address: u32) -> u128
+    requires { number < 2 ^ 96 }
+    ensures { result ≡ number * 2 ^ 32 + address }
+{
+    number * 0x1_0000_0000 + u128::from(address)
+}
+
+/// The number of an IPv4 text.
+fn read_v4(text: &[u8]) -> Option<u32>
+    ensures { MatchOption result (NamesNoV4 text.now) (λ address. NamesV4 text.now address) }
+{
+    match read_octets(text) {
+        Some(octets) => Some(u32::from_be_bytes(octets)),
+        None => None,
+    }
+}
+
+/// The group at the front, which no further hex digit follows, and the rest.
+fn read_group(text: &[u8]) -> Option<(u16, &[u8])>
+    ensures { MatchOption result (NoGroup text.now) (λ found. BeginsWithGroup text.now found.0 found.1.now) }
+{
+    let (first, after_first) = read_hex(text)?;
+    let Some((second, after_second)) = read_hex(after_first) else {
+        return Some((first, after_first));
+    };
+    let two = first * 16 + second;
+    let Some((third, after_third)) = read_hex(after_second) else {
+        return Some((two, after_second));
+    };
+    let three = two * 16 + third;
+    let Some((fourth, after_fourth)) = read_hex(after_third) else {
+        return Some((three, after_third));
+    };
+    match read_hex(after_fourth) {
+        None => Some((three * 16 + fourth, after_fourth)),
+        Some(_) => None,
+    }
+}
+
+/// The value of the hex digit at the front, and the rest.
+fn read_hex(text: &[u8]) -> Option<(u16, &[u8])>
+    ensures { MatchOption result (NoHex text.now) (λ found. BeginsWithHex text.now found.0 found.1.now) }
+{
+    let [byte, rest @ ..] = text else {
+        return None;
+    };
+    match char::from(*byte).to_digit(16) {
+        Some(digit) => Some((digit as u16, rest)),
+        None => None,
+    }
+}

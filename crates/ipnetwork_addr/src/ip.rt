@@ -1,0 +1,72 @@
+//! Addresses of either family.
+
+use crate::{AddrParseError, Ipv4Addr, Ipv6Addr, TEXT_CAPACITY};
+use arrayvec::ArrayString;
+use std::fmt;
+use std::str::FromStr;
+
+/// An address of either family. Each IPv4 address is before each IPv6 address.
+#[derive(Clone, Copy, Debug, PartialEq, Eq, PartialOrd, Ord, Hash)]
+pub enum IpAddr {
+    /// An IPv4 address.
+    V4(Ipv4Addr),
+    /// An IPv6 address.
+    V6(Ipv6Addr),
+}
+
+impl IpAddr {
+    ghost use Rattle.std.specs.Prelude.{◌≡◌};
+    ghost use Rattle.ipnetwork_addr.specs.Reading.{Reads};
+    ghost use Rattle.ipnetwork_addr.specs.Either.{NamesIp, canonical_ip};
+
+    /// The address that a text names, as `Ipv4Addr::read_bytes` or `Ipv6Addr::read_bytes` reads it: no
+    /// text names one of each family. Any other text is `AddrParseError::Ip`. Takes no memory.
+    pub fn read_bytes(text: &[u8]) -> Result<Self, AddrParseError>
+        ensures { Reads NamesIp AddrParseError.Ip text.now result }
+    {
+        if let Ok(address) = Ipv4Addr::read_bytes(text) {
+            Ok(IpAddr::V4(address))
+        } else if let Ok(address) = Ipv6Addr::read_bytes(text) {
+            Ok(IpAddr::V6(address))
+        } else {
+            Err(AddrParseError::Ip)
+        }
+    }
+
+    /// The canonical text of the address, at most 39 bytes. Takes no memory.
+    pub fn canonical(&self) -> ArrayString<TEXT_CAPACITY>
+        ensures { result.bytes ≡ canonical_ip self.now }
+    {
+        match self {
+            IpAddr::V4(address) => address.canonical(),
+            IpAddr::V6(address) => address.canonical(),
+        }
+    }
+}
+
+impl FromStr for IpAddr {
+    type Err = AddrParseError;
+
+    ghost use Rattle.ipnetwork_addr.specs.Reading.{Reads};
+    ghost use Rattle.ipnetwork_addr.specs.Either.{NamesIp};
+    ghost use Rattle.ipnetwork_addr.specs.declared.error.AddrParseError.TheVariants as faults;
+
+    ghost from_str_gives = { Reads NamesIp faults.Ip };
+
+    fn from_str(text: &str) -> Result<Self, AddrParseError> {
+        IpAddr::read_bytes(text.as_bytes())
+    }
+}
+
+impl fmt::Display for IpAddr {
+    ghost use Rattle.std.specs.Prelude.{Some};
+    ghost use Rattle.ipnetwork_addr.specs.Either.{canonical_ip};
+
+    ghost output = { λ address. Some (canonical_ip address) };
+
+    ghost styled_output = { λ address _. Some (canonical_ip address) };
+
+    fn fmt<W: fmt::Write>(&self, f: &mut fmt::Formatter<W>) -> fmt::Result {
+        f.write_str(self.canonical().as_str())
+    }
+}
