@@ -1,9 +1,11 @@
 -- The commands and their answers. A line is the list of its bytes, without its end.
 use Rattle.std.specs.Prelude.{ℕ, ◌/◌, ◌==◌, if◌then◌else◌, List, [], ◌∷◌, Option, None, Some, Result, Ok, Err, codes, bytes_eq}
 use Rattle.ipnetwork_addr.specs.Ipv4Text.{canonical_v4, v4_of}
+use Rattle.ipnetwork_addr.specs.Ipv6Canonical.{canonical_v6}
 use Rattle.ipnetwork_family.specs.Network.{Network, block_size}
 use Rattle.ipnetwork_family.specs.NetworkText.{network_text}
 use Rattle.ipnetwork_family.specs.Ipv4NetworkText.{v4_network_of}
+use Rattle.ipnetwork_family.specs.Ipv6NetworkText.{v6_network_of}
 use Rattle.ipnetwork_family.specs.declared.error.CidrFault.{CidrFault}
 use Rattle.ipnetwork_family.specs.declared.error.CidrFault.TheVariants.{Format, Addr, Prefix}
 use Rattle.cidr.specs.Words.{words}
@@ -26,6 +28,14 @@ printed_v4 (Err fault) = refusal fault
 abbrev pub read4_answer : List ℕ → List ℕ
 read4_answer text = printed_v4 (v4_network_of text)
 
+-- `read6 T`: the same for an IPv6 network
+abbrev pub printed_v6 : Result Network CidrFault → List ℕ
+printed_v6 (Ok network) = network_text canonical_v6 network
+printed_v6 (Err fault) = refusal fault
+
+unfoldable pub read6_answer : List ℕ → List ℕ
+read6_answer text = printed_v6 (v6_network_of text)
+
 -- the address agrees with the network's in the bits that its prefix length fixes
 abbrev pub membership : Network → ℕ → List ℕ
 membership network address =
@@ -42,7 +52,9 @@ has4_answer network address = asked_v4 (v4_network_of network) (v4_of address)
 
 -- the commands that are asked of one word, and of two
 unfoldable pub one_word_answer : List ℕ → List ℕ → List ℕ
-one_word_answer command word = if bytes_eq command (codes "read4") then read4_answer word else unknown
+one_word_answer command word =
+    if bytes_eq command (codes "read4") then read4_answer word
+    else (if bytes_eq command (codes "read6") then read6_answer word else unknown)
 
 unfoldable pub two_words_answer : List ℕ → List ℕ → List ℕ → List ℕ
 two_words_answer command first second = if bytes_eq command (codes "has4") then has4_answer first second else unknown

@@ -1,10 +1,10 @@
 //! The answer to a line.
 ghost use Rattle.std.specs.Prelude.{◌≡◌, ◌≤◌, length, codes};
-ghost use Rattle.cidr.specs.Commands.{command_answer, one_word_answer, two_words_answer, unknown, read4_answer, has4_answer, refusal};
+ghost use Rattle.cidr.specs.Commands.{command_answer, one_word_answer, two_words_answer, unknown, read4_answer, read6_answer, has4_answer, refusal};
 
 use crate::words::cut_word;
 use arrayvec::ArrayString;
-use ipnetwork::{CidrFault, Ipv4Addr, Ipv4Network, laws};
+use ipnetwork::{CidrFault, Ipv4Addr, Ipv4Network, Ipv6Network, laws};
 
 /// The room for an answer and its line feed.
 pub(crate) const ANSWER_MAX: usize = 160;
@@ -34,6 +34,8 @@ fn answer_one(command: &[u8], word: &[u8]) -> ArrayString<ANSWER_MAX>
 {
     if command == b"read4".as_slice() {
         read4(word)
+    } else if command == b"read6".as_slice() {
+        read6(word)
     } else {
         say("unknown command")
     }
@@ -58,6 +60,18 @@ fn read4(word: &[u8]) -> ArrayString<ANSWER_MAX>
 {
     laws::v4_network_reading_is_computed();
     match Ipv4Network::read_bytes(word) {
+        Ok(network) => say(network.canonical().as_str()),
+        Err(fault) => say(refusal(fault)),
+    }
+}
+
+/// `read6`: the canonical text of an IPv6 network, or why the word names none.
+fn read6(word: &[u8]) -> ArrayString<ANSWER_MAX>
+    ensures text { result.bytes ≡ read6_answer word.now }
+    ensures short { length result.bytes ≤ 159 }
+{
+    laws::v6_network_reading_is_computed();
+    match Ipv6Network::read_bytes(word) {
         Ok(network) => say(network.canonical().as_str()),
         Err(fault) => say(refusal(fault)),
     }

@@ -1,5 +1,5 @@
 -- The canonical texts of networks.
-use Rattle.std.proofs.Common.{ℕ, ◌^◌, ◌<◌, inl, inr, List, [], ◌∷◌, ◌++◌, decimal, refl, arith}
+use Rattle.std.proofs.Common.{◌≡◌, ℕ, ◌^◌, ◌<◌, inl, inr, List, [], ◌∷◌, ◌++◌, decimal, refl, arith, ◌↔◌, ap, sym, ◌∙◌, append_assoc, subst}
 use Rattle.std.specs.List.{AllByRecursion}
 use Rattle.std.specs.Str.Parse.{AllDigits}
 use Rattle.std.proofs.lemmas.Fmt.{decimal_is_IsNumeral}
@@ -10,16 +10,29 @@ use Rattle.ipnetwork_family.specs.Network.{Network, IsNetwork}
 use Rattle.ipnetwork_family.specs.PrefixNumber.{IsPrefixNumber}
 use Rattle.ipnetwork_family.specs.NetworkText.{Suffixed, network_text, IsNetworkByte}
 use Rattle.ipnetwork_family.specs.Ipv4NetworkText.{IsV4Suffix, NamesV4Network, v4_length_of}
-use Rattle.ipnetwork_family.proofs.Ipv4Texts.{v4_no_slash, v4_suffix_no_slash}
+use Rattle.ipnetwork_family.proofs.Suffixes.{HoldAddressBytes, address_no_slash, v4_suffix_no_slash, v6_suffix_no_slash}
 use Rattle.ipnetwork_family.proofs.ComputedNetworks.{Computes, Readable}
-use Rattle.ipnetwork_family.proofs.ComputedV4.{suffixes}
+use Rattle.ipnetwork_family.proofs.ComputedV4.{v4_suffixes}
+use Rattle.ipnetwork_family.proofs.ComputedV6.{v6_suffixes}
+use Rattle.ipnetwork_addr.specs.Ipv6Text.{NamesV6}
+use Rattle.ipnetwork_addr.specs.Ipv6Canonical.{IsCanonicalV6, canonical_v6}
+use Rattle.ipnetwork_addr.specs.Ipv6Computed.{v6_of}
+use Rattle.ipnetwork_family.specs.Ipv6NetworkText.{IsV6Suffix, NamesV6Network, v6_length_of}
 
-pub v4_readable : Computes NamesV4 v4_of → ((text : List ℕ) (address : ℕ) → NamesV4 text address → AllByRecursion IsAddressByte text) → Readable 32 NamesV4 IsV4Suffix v4_of v4_length_of
+pub v4_readable : Computes NamesV4 v4_of → HoldAddressBytes NamesV4 → Readable 32 NamesV4 IsV4Suffix v4_of v4_length_of
 v4_readable addresses bytes = record {
   addresses = addresses;
-  lengths = suffixes addresses;
-  address_clean = v4_no_slash bytes;
+  lengths = v4_suffixes addresses;
+  address_clean = address_no_slash NamesV4 bytes;
   suffix_clean = v4_suffix_no_slash bytes;
+}
+
+pub v6_readable : Computes NamesV6 v6_of → HoldAddressBytes NamesV6 → Readable 128 NamesV6 IsV6Suffix v6_of v6_length_of
+v6_readable addresses bytes = record {
+  addresses = addresses;
+  lengths = v6_suffixes;
+  address_clean = address_no_slash NamesV6 bytes;
+  suffix_clean = v6_suffix_no_slash;
 }
 
 -- a shortest decimal is a prefix length text
@@ -31,6 +44,25 @@ decimal_is_number p fits =
 pub v4_canonical_names : ((address : ℕ) → address < 2 ^ 32 → NamesV4 (canonical_v4 address) address) → (n : Network) → IsNetwork 32 n → NamesV4Network (network_text canonical_v4 n) n
 v4_canonical_names names n h =
     Suffixed (canonical_v4 n.address) (decimal n.prefix) refl (names n.address h.address_fits) (h.prefix_fits, inl (decimal_is_number n.prefix (omega (arith, h.prefix_fits))))
+
+-- the one canonical text of an IPv6 address names it
+pub own_text_names : ((text : List ℕ) (address : ℕ) → address < 2 ^ 128 → IsCanonicalV6 text address → NamesV6 text address) → ((text : List ℕ) (address : ℕ) → IsCanonicalV6 text address ↔ (text ≡ canonical_v6 address))
+    → (address : ℕ) → address < 2 ^ 128 → NamesV6 (canonical_v6 address) address
+own_text_names names one address fits = names (canonical_v6 address) address fits ((one (canonical_v6 address) address).1 refl)
+
+pub v6_canonical_names : ((address : ℕ) → address < 2 ^ 128 → NamesV6 (canonical_v6 address) address) → (n : Network) → IsNetwork 128 n → NamesV6Network (network_text canonical_v6 n) n
+v6_canonical_names names n h =
+    Suffixed (canonical_v6 n.address) (decimal n.prefix) refl (names n.address h.address_fits) (h.prefix_fits, decimal_is_number n.prefix (omega (arith, h.prefix_fits)))
+
+-- a text, after an address, a slash and a prefix length were pushed
+pub printed : (canonical : ℕ → List ℕ) (n : Network) (none shown one two out : List ℕ) (a p : ℕ) → none ≡ [] → shown ≡ canonical a → a ≡ n.address → one ≡ none ++ shown → two ≡ one ++ 47 ∷ [] → out ≡ two ++ decimal p → p ≡ n.prefix
+    → out ≡ network_text canonical n
+printed canonical n none shown one two out a p empty is_shown is_a is_one is_two is_out is_p =
+    let text : one ≡ canonical n.address = is_one ∙ ap (λ t. t ++ shown) empty ∙ is_shown ∙ ap canonical is_a in
+    is_out
+    ∙ ap (λ t. t ++ decimal p) (is_two ∙ ap (λ t. t ++ 47 ∷ []) text)
+    ∙ append_assoc (canonical n.address) (47 ∷ []) (decimal p)
+    ∙ ap (λ (q : ℕ). canonical n.address ++ 47 ∷ decimal q) is_p
 
 -- ---- their bytes
 

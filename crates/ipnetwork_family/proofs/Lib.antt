@@ -3,9 +3,10 @@ pub mod Blocks
 pub mod CanonicalNetworks
 pub mod ComputedNetworks
 pub mod ComputedV4
-pub mod Ipv4Texts
+pub mod ComputedV6
 pub mod Masks
 pub mod Members
 pub mod NetworkTexts
 pub mod Numerals
 pub mod Slashes
+pub mod Suffixes

@@ -1,4 +1,5 @@
 pub mod Ipv4NetworkText
+pub mod Ipv6NetworkText
 pub mod Laws
 pub mod Network
 pub mod NetworkText

@@ -4,9 +4,11 @@
 ghost use Rattle.std.specs.Prelude.{◌≡◌, ◌↔◌, ℕ, List, Result};
 ghost use Rattle.std.specs.List.{AllByRecursion};
 ghost use Rattle.ipnetwork_addr.specs.Ipv4Text.{canonical_v4};
+ghost use Rattle.ipnetwork_addr.specs.Ipv6Canonical.{canonical_v6};
 ghost use Rattle.ipnetwork_family.specs.Network.{Network, IsNetwork};
 ghost use Rattle.ipnetwork_family.specs.NetworkText.{network_text, IsNetworkByte};
 ghost use Rattle.ipnetwork_family.specs.Ipv4NetworkText.{NamesV4Network, ReadsV4Network, v4_network_of};
+ghost use Rattle.ipnetwork_family.specs.Ipv6NetworkText.{NamesV6Network, ReadsV6Network, v6_network_of};
 ghost use Rattle.ipnetwork_family.specs.Laws.{EndsLaw, SubnetReflexive, SubnetTransitive, SameSet, Nesting, OverlapSymmetric, OverlapByAddress, OverlapByEnds, SubnetComesAfter, BetweenIsSubnet, MembersLaw, MasksDiffer};
 ghost use Rattle.ipnetwork_family.specs.declared.error.CidrFault.{CidrFault};
 
@@ -91,4 +93,49 @@ pub fn canonical_v4_network_bytes()
 {
     addresses::v4_text_bytes();
     addresses::canonical_v4_names_its_address();
+}
+
+/// A text names at most one IPv6 network.
+pub fn v6_network_text_names_one()
+    ensures { (text : List ℕ) (a b : Network) → NamesV6Network text a → NamesV6Network text b → a ≡ b }
+{
+    addresses::v6_text_is_computed();
+    addresses::v6_text_bytes();
+}
+
+/// What reading an IPv6 network answers can be computed from the text, and there is one answer.
+pub fn v6_network_reading_is_computed()
+    ensures { (text : List ℕ) (result : Result Network CidrFault) → ReadsV6Network text result ↔ (result ≡ v6_network_of text) }
+{
+    addresses::v6_text_is_computed();
+    addresses::v6_text_bytes();
+}
+
+/// The canonical text of an IPv6 network names it, host bits included. So reading it gives the network
+/// back, and printing that gives the text again.
+pub fn canonical_v6_network_names_it()
+    ensures { (n : Network) → IsNetwork 128 n → NamesV6Network (network_text canonical_v6 n) n }
+{
+    addresses::canonical_v6_names_its_address();
+    addresses::canonical_v6_is_one_text();
+}
+
+/// Two IPv6 networks are equal exactly if their canonical texts are.
+pub fn canonical_v6_network_is_one_to_one()
+    ensures { (a b : Network) → IsNetwork 128 a → IsNetwork 128 b
+        → (a ≡ b) ↔ (network_text canonical_v6 a ≡ network_text canonical_v6 b) }
+{
+    addresses::v6_text_is_computed();
+    addresses::v6_text_bytes();
+    addresses::canonical_v6_names_its_address();
+    addresses::canonical_v6_is_one_text();
+}
+
+/// The bytes of a canonical text are hex digits, `.`, `:` and `/`.
+pub fn canonical_v6_network_bytes()
+    ensures { (n : Network) → IsNetwork 128 n → AllByRecursion IsNetworkByte (network_text canonical_v6 n) }
+{
+    addresses::v6_text_bytes();
+    addresses::canonical_v6_names_its_address();
+    addresses::canonical_v6_is_one_text();
 }

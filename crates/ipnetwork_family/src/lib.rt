@@ -8,6 +8,9 @@ mod error;
 mod ipv4;
 mod ipv4_iter;
 mod ipv4_mask;
+mod ipv6;
+mod ipv6_iter;
+mod ipv6_mask;
 pub mod laws;
 pub mod parse;
 #[cfg(test)]
@@ -16,6 +19,8 @@ mod tests;
 pub use error::{CidrFault, IpNetworkError, NetworkSizeError};
 pub use ipv4::{Ipv4Network, ipv4_mask_to_prefix};
 pub use ipv4_iter::Ipv4NetworkIterator;
+pub use ipv6::{Ipv6Network, ipv6_mask_to_prefix};
+pub use ipv6_iter::Ipv6NetworkIterator;
 
 /// The length in bytes of the longest printed network, one of IPv6.
 pub const TEXT_CAPACITY: usize = 43;

@@ -7,6 +7,14 @@ pub returns-then-eq-clause-text : goal.returns-then-eq-clause-text
 unfolding one_word_answer
 returns-then-eq-clause-text c = chosen (codes "read4") c.args.command.now _ _ _ _ _ c.eq.ensures c.as_slice.ensures c.if-eq.true c.read4.ensures.text
 
-pub returns-else-eq-clause-text : goal.returns-else-eq-clause-text
+pub returns-then-eq-2-clause-text : goal.returns-then-eq-2-clause-text
 unfolding one_word_answer
-returns-else-eq-clause-text c = other (codes "read4") c.args.command.now _ _ _ _ _ c.eq.ensures c.as_slice.ensures c.if-eq.false c.say.ensures
+returns-then-eq-2-clause-text c =
+    other (codes "read4") c.args.command.now _ _ _ _ _ c.eq.ensures c.as_slice.ensures c.if-eq.false
+    (chosen (codes "read6") c.args.command.now _ _ _ _ _ c.eq-else-eq.ensures c.as_slice-else-eq.ensures c.if-eq-2.true c.read6.ensures.text)
+
+pub returns-else-eq-2-clause-text : goal.returns-else-eq-2-clause-text
+unfolding one_word_answer
+returns-else-eq-2-clause-text c =
+    other (codes "read4") c.args.command.now _ _ _ _ _ c.eq.ensures c.as_slice.ensures c.if-eq.false
+    (other (codes "read6") c.args.command.now _ _ _ _ _ c.eq-else-eq.ensures c.as_slice-else-eq.ensures c.if-eq-2.false c.say.ensures)

@@ -1,4 +1,4 @@
-use Rattle.ipnetwork_family.proofs.Ipv4Texts.{suffix_as_mask, suffix_as_neither}
+use Rattle.ipnetwork_family.proofs.Suffixes.{suffix_as_mask, suffix_as_neither}
 use Rattle.ipnetwork_family.proofs.ipv4.read_suffix.Goals as goal
 
 pub returns-in-Ok : goal.returns-in-Ok

@@ -2,7 +2,7 @@ use Rattle.std.proofs.lemmas.Result.{err_from_is_err_and}
 use Rattle.ipnetwork_addr.specs.Ipv4Text.{NamesV4}
 use Rattle.ipnetwork_family.specs.Ipv4NetworkText.{IsV4Suffix}
 use Rattle.ipnetwork_family.proofs.NetworkTexts.{slashes_name_nothing, no_address, no_prefix, named_by_parts}
-use Rattle.ipnetwork_family.proofs.Ipv4Texts.{v4_no_slash, v4_suffix_no_slash}
+use Rattle.ipnetwork_family.proofs.Suffixes.{address_no_slash, v4_suffix_no_slash}
 use Rattle.ipnetwork_family.proofs.ipv4.Ipv4Network.read_bytes.Goals as goal
 
 pub returns-in_err-address : goal.returns-in_err-address
@@ -10,15 +10,15 @@ returns-in_err-address c =
     let p = err_from_is_err_and c.from_residual.result c.from_residual.ensures.1 in
     let fault = c.in_err-address.ensures in
     rw (p.1, p.2, fault.0)
-    (fault.1, slashes_name_nothing 32 NamesV4 IsV4Suffix (v4_no_slash c.v4_text_bytes.ensures) (v4_suffix_no_slash c.v4_text_bytes.ensures) c.args.text.now fault.1)
+    (fault.1, slashes_name_nothing 32 NamesV4 IsV4Suffix (address_no_slash NamesV4 c.v4_text_bytes.ensures) (v4_suffix_no_slash c.v4_text_bytes.ensures) c.args.text.now fault.1)
 
 pub returns-in_default : goal.returns-in_default
 returns-in_default c =
-    no_address 32 NamesV4 IsV4Suffix (v4_no_slash c.v4_text_bytes.ensures) c.args.text.now _ _ c.in_ok-address.ensures c.in_default.ensures.1
+    no_address 32 NamesV4 IsV4Suffix (address_no_slash NamesV4 c.v4_text_bytes.ensures) c.args.text.now _ _ c.in_ok-address.ensures c.in_default.ensures.1
 
 pub returns-in_default-prefix_length : goal.returns-in_default-prefix_length
 returns-in_default-prefix_length c =
-    no_prefix 32 NamesV4 IsV4Suffix (v4_no_slash c.v4_text_bytes.ensures) c.args.text.now _ _ c.in_ok-address.ensures _ c.in-Ok.ensures c.in_default-prefix_length.ensures
+    no_prefix 32 NamesV4 IsV4Suffix (address_no_slash NamesV4 c.v4_text_bytes.ensures) c.args.text.now _ _ c.in_ok-address.ensures _ c.in-Ok.ensures c.in_default-prefix_length.ensures
 
 pub returns : goal.returns
 returns c =

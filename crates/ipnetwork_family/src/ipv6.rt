@@ -1,0 +1,281 @@
+//! IPv6 networks.
+ghost use Rattle.std.specs.Prelude.{◌≡◌, ℕ, ◌+◌, ◌<◌, ◌≤◌, ◌↔◌, IsTrue, Some, MatchOption, MatchResult, option_copied};
+ghost use Rattle.std.specs.Option.{SomeIff};
+ghost use Rattle.ipnetwork_addr.specs.Ipv6Text.{NamesV6};
+ghost use Rattle.ipnetwork_addr.specs.Ipv6Canonical.{canonical_v6};
+ghost use Rattle.ipnetwork_family.specs.Network.{Network, IsNetwork, Member, IsNoMask, mask_of, low, high, size_of, members, Subnet, Overlap};
+ghost use Rattle.ipnetwork_family.specs.NetworkText.{GivesPrefix, GivesNoPrefix, network_text};
+ghost use Rattle.ipnetwork_family.specs.Ipv6NetworkText.{IsV6Suffix, ReadsV6Network};
+
+use crate::ipv6_iter::Ipv6NetworkIterator;
+use crate::ipv6_mask::{WIDTH, host_ones, prefix_of_mask};
+use crate::parse::{read_prefix, split};
+use crate::{CidrFault, IpNetworkError, TEXT_CAPACITY};
+use arrayvec::ArrayString;
+use ipnetwork_addr::decimal::push_decimal;
+use ipnetwork_addr::{Ipv6Addr, laws};
+use std::fmt;
+use std::marker::Model;
+use std::str::FromStr;
+
+/// An IPv6 address, host bits included, and a prefix length of 0 to 128. It stands for the set of all
+/// addresses that agree with the address in their first bits, as many as the prefix length says.
+/// Ordered by address, then by prefix length.
+#[derive(Clone, Copy, Debug, PartialEq, Eq, PartialOrd, Ord, Hash)]
+pub struct Ipv6Network {
+    address: u128,
+    prefix: u8,
+}
+
+// A contract sees a network as the pair of its address and its prefix length.
+impl Model for Ipv6Network {
+    ghost use Rattle.ipnetwork_family.specs.Network.{Network, IsNetwork};
+
+    ghost Value = { Network };
+
+    ghost view = { λ n. record { address = n.address; prefix = n.prefix } };
+
+    ghost invariant = { λ n. IsNetwork 128 (record { address = n.address; prefix = n.prefix }) };
+
+    ghost inverse = { λ n. record { address = n.address; prefix = n.prefix } };
+}
+
+impl Ipv6Network {
+    /// The network of this address, host bits kept, and this prefix length; `None` where that is
+    /// greater than 128.
+    pub fn new_checked(addr: Ipv6Addr, prefix: u8) -> Option<Self>
+        ensures { SomeIff result (prefix ≤ 128) (record { address = addr; prefix = prefix }) }
+    {
+        if prefix > WIDTH {
+            return None;
+        }
+        Some(Ipv6Network {
+            address: u128::from(addr),
+            prefix,
+        })
+    }
+
+    /// The network of this address, host bits kept, and this prefix length; `InvalidPrefix` where that is
+    /// greater than 128. Takes no memory.
+    pub fn new(addr: Ipv6Addr, prefix: u8) -> Result<Self, IpNetworkError>
+        ensures { MatchResult result (λ n. (n ≡ record { address = addr; prefix = prefix }) × (prefix ≤ 128))
+            (λ fault. (fault ≡ IpNetworkError.InvalidPrefix) × (128 < prefix)) }
+    {
+        match Ipv6Network::new_checked(addr, prefix) {
+            Some(network) => Ok(network),
+            None => Err(IpNetworkError::InvalidPrefix),
+        }
+    }
+
+    /// The network of this address, host bits kept, and the prefix length of this mask; `InvalidPrefix`
+    /// where that is none of the 129 masks. Takes no memory.
+    pub fn with_netmask(netaddr: Ipv6Addr, netmask: Ipv6Addr) -> Result<Self, IpNetworkError>
+        ensures { MatchResult result (λ n. (n.address ≡ netaddr) × (n.prefix ≤ 128) × (netmask ≡ mask_of 128 n.prefix))
+            (λ fault. (fault ≡ IpNetworkError.InvalidPrefix) × IsNoMask 128 netmask) }
+    {
+        match prefix_of_mask(u128::from(netmask)) {
+            Some(prefix) => Ipv6Network::new(netaddr, prefix),
+            None => Err(IpNetworkError::InvalidPrefix),
+        }
+    }
+
+    /// The address as made, host bits included.
+    pub fn ip(&self) -> Ipv6Addr
+        ensures made { result ≡ self.now.address }
+        ensures network { IsNetwork 128 self.now }
+    {
+        Ipv6Addr::from(self.address)
+    }
+
+    /// The prefix length, in bits.
+    pub fn prefix(&self) -> u8
+        ensures made { result ≡ self.now.prefix }
+        ensures network { IsNetwork 128 self.now }
+    {
+        self.prefix
+    }
+
+    /// The mask: as many ones in front as the prefix length says, and zeros behind them.
+    pub fn mask(&self) -> Ipv6Addr
+        ensures { result ≡ mask_of 128 self.now.prefix }
+    {
+        Ipv6Addr::from(!host_ones(self.prefix))
+    }
+
+    /// The least member: the address with its host bits cleared.
+    pub fn network(&self) -> Ipv6Addr
+        ensures least { result ≡ low 128 self.now }
+        ensures network { IsNetwork 128 self.now }
+    {
+        Ipv6Addr::from(self.address & !host_ones(self.prefix))
+    }
+
+    /// The greatest member: the address with its host bits set.
+    pub fn broadcast(&self) -> Ipv6Addr
+        ensures { result ≡ high 128 self.now }
+    {
+        let ones = host_ones(self.prefix);
+        Ipv6Addr::from(self.address & !ones | ones)
+    }
+
+    /// Whether an address lies in the network's set.
+    pub fn contains(&self, ip: Ipv6Addr) -> bool
+        ensures { IsTrue result ↔ Member 128 self.now ip }
+    {
+        let mask = !host_ones(self.prefix);
+        u128::from(ip) & mask == self.address & mask
+    }
+
+    /// The number of members, and at prefix length 0, where that needs 129 bits, one less: 2^128 - 1.
+    pub fn size(&self) -> u128
+        ensures { result ≡ size_of 128 self.now }
+    {
+        host_ones(self.prefix).saturating_add(1)
+    }
+
+    /// The member number `n` in order, counted from 0; `None` where `n` is not below `size`.
+    pub fn nth(self, n: u128) -> Option<Ipv6Addr>
+        ensures { SomeIff result (n < size_of 128 self) (low 128 self + n) }
+    {
+        if n < self.size() {
+            Some(Ipv6Addr::from(u128::from(self.network()) + n))
+        } else {
+            None
+        }
+    }
+
+    /// Whether each member is one of `other`, host bits or not.
+    pub fn is_subnet_of(self, other: Ipv6Network) -> bool
+        ensures { IsTrue result ↔ Subnet 128 self other }
+    {
+        other.prefix() <= self.prefix() && other.contains(self.ip())
+    }
+
+    /// Whether each member of `other` is one, host bits or not.
+    pub fn is_supernet_of(self, other: Ipv6Network) -> bool
+        ensures { IsTrue result ↔ Subnet 128 other self }
+    {
+        other.is_subnet_of(self)
+    }
+
+    /// Whether some address is a member of both.
+    pub fn overlaps(self, other: Ipv6Network) -> bool
+        ensures { IsTrue result ↔ Overlap 128 self other }
+    {
+        self.contains(other.ip()) || other.contains(self.ip())
+    }
+
+    /// The members, each once, in ascending order.
+    pub fn iter(&self) -> Ipv6NetworkIterator
+        ensures { result ≡ members 128 self.now }
+    {
+        Ipv6NetworkIterator::between(u128::from(self.network()), u128::from(self.broadcast()))
+    }
+
+    /// The network that a text names: an IPv6 address, host bits kept, and after a `/` its suffix, a
+    /// prefix length of at most 128; without a `/` the prefix length is 128. Any other text is refused
+    /// with its cause. Takes no memory.
+    pub fn read_bytes(text: &[u8]) -> Result<Self, CidrFault>
+        ensures { ReadsV6Network text.now result }
+    {
+        laws::v6_text_bytes();
+        let (address, suffix) = split(text)?;
+        let Ok(address) = Ipv6Addr::read_bytes(address) else {
+            return Err(CidrFault::Addr);
+        };
+        let Some(prefix) = prefix_length(suffix) else {
+            return Err(CidrFault::Prefix);
+        };
+        Ok(Ipv6Network {
+            address: u128::from(address),
+            prefix,
+        })
+    }
+
+    /// The canonical text, at most 43 bytes: the canonical address, `/` and the shortest decimal of the
+    /// prefix length. Takes no memory.
+    pub fn canonical(&self) -> ArrayString<TEXT_CAPACITY>
+        ensures bytes { result.bytes ≡ network_text canonical_v6 self.now }
+        ensures network { IsNetwork 128 self.now }
+    {
+        let mut text = ArrayString::new();
+        text.push_str(self.ip().canonical().as_str());
+        text.push('/');
+        push_decimal(&mut text, self.prefix());
+        text
+    }
+}
+
+/// The prefix length that stands after the `/`, or that of an address alone.
+fn prefix_length(suffix: Option<&[u8]>) -> Option<u8>
+    ensures { MatchOption result (GivesNoPrefix 128 IsV6Suffix (option_copied suffix.entry)) (GivesPrefix 128 IsV6Suffix (option_copied suffix.entry)) }
+{
+    match suffix {
+        None => Some(WIDTH),
+        Some(suffix) => read_prefix(suffix, WIDTH),
+    }
+}
+
+/// The prefix length of a mask, or `InvalidPrefix` where the address is none of the 129 masks. Takes no memory.
+pub fn ipv6_mask_to_prefix(mask: Ipv6Addr) -> Result<u8, IpNetworkError>
+    ensures { MatchResult result (λ p. (p ≤ 128) × (mask ≡ mask_of 128 p))
+        (λ fault. (fault ≡ IpNetworkError.InvalidPrefix) × IsNoMask 128 mask) }
+{
+    match prefix_of_mask(u128::from(mask)) {
+        Some(prefix) => Ok(prefix),
+        None => Err(IpNetworkError::InvalidPrefix),
+    }
+}
+
+impl From<Ipv6Addr> for Ipv6Network {
+    ghost from_gives = { λ address network. network ≡ record { address = address; prefix = 128 } };
+
+    fn from(addr: Ipv6Addr) -> Self {
+        Ipv6Network {
+            address: u128::from(addr),
+            prefix: WIDTH,
+        }
+    }
+}
+
+impl IntoIterator for &Ipv6Network {
+    type Item = Ipv6Addr;
+
+    type IntoIter = Ipv6NetworkIterator;
+
+    ghost into_iter_gives = { λ network left. left ≡ members 128 network.now };
+
+    fn into_iter(self) -> Ipv6NetworkIterator {
+        self.iter()
+    }
+}
+
+impl FromStr for Ipv6Network {
+    type Err = CidrFault;
+
+    ghost from_str_gives = { ReadsV6Network };
+
+    fn from_str(text: &str) -> Result<Self, CidrFault> {
+        Ipv6Network::read_bytes(text.as_bytes())
+    }
+}
+
+impl TryFrom<&str> for Ipv6Network {
+    type Error = CidrFault;
+
+    ghost try_from_gives = { λ text result. ReadsV6Network text.now result };
+
+    fn try_from(text: &str) -> Result<Self, CidrFault> {
+        Ipv6Network::from_str(text)
+    }
+}
+
+impl fmt::Display for Ipv6Network {
+    ghost output = { λ network. Some (network_text canonical_v6 network) };
+
+    ghost styled_output = { λ network _. Some (network_text canonical_v6 network) };
+
+    fn fmt<W: fmt::Write>(&self, f: &mut fmt::Formatter<W>) -> fmt::Result {
+        f.write_str(self.canonical().as_str())
+    }
+}
