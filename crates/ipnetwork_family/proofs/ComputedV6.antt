@@ -15,7 +15,7 @@ from_sound text None e p f = absurd (none-some p f)
 from_sound text (Some n) e p f =
     cond_both (nat_le n 128) _ _ (λ (r : Option ℕ). r ≡ Some p → IsV6Suffix text p)
     (λ fits g. let same = same_Some n p g in
-      (subst (λ (x : ℕ). x ≤ 128) same (leb-true n 128 fits), subst (λ (x : ℕ). IsPrefixNumber text x) same (prefix_number_sound text n e)))
+    (subst (λ (x : ℕ). x ≤ 128) same (leb-true n 128 fits), subst (λ (x : ℕ). IsPrefixNumber text x) same (prefix_number_sound text n e)))
     (λ past g. absurd (none-some p g)) f
 
 pub v6_suffixes : Computes IsV6Suffix v6_length_of

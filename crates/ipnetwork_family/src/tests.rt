@@ -3,4 +3,7 @@
 mod ipv4_carried;
 mod ipv4_questions;
 mod ipv4_texts;
+mod ipv6_carried;
+mod ipv6_questions;
+mod ipv6_texts;
 mod parts;
