@@ -1,5 +1,5 @@
 -- The address that a text names, computed.
-use Rattle.std.proofs.Common.{◌≡◌, ℕ, ◌+◌, ◌*◌, ◌/◌, ◌%◌, ◌^◌, ◌<◌, ◌≤◌, ◌==◌, Bool, true, false, cond, List, [], ◌∷◌, ◌++◌, map, decimal, Option, None, Some, refl, sym, ap, subst, ◌∙◌, arith, append-nil}
+use Rattle.std.proofs.Common.{◌≡◌, ℕ, ◌/◌, ◌%◌, ◌^◌, ◌<◌, ◌≤◌, ◌==◌, true, false, cond, List, [], ◌∷◌, ◌++◌, map, decimal, Option, None, Some, refl, sym, ap, subst, ◌∙◌, arith, append-nil}
 use Rattle.std.proofs.lemmas.Bool.{cond_both, ltb-true, lt-ltb, ne_eqb}
 use Rattle.std.proofs.lemmas.Option.{none-some, same_Some}
 use Rattle.std.proofs.lemmas.Slice.Eq.{bytes_eq-Decides}
@@ -9,10 +9,8 @@ use Rattle.std.specs.Prelude.{nat_lt, bytes_eq}
 use Rattle.std.specs.List.{slice_split}
 use Rattle.std.specs.Int.Digits.{number_from_digits}
 use Rattle.std.specs.Str.Parse.{AllDigits, digits_value}
-use Rattle.ipnetwork_addr.specs.Digits.{octets_of}
 use Rattle.ipnetwork_addr.specs.Ipv4Text.{NamesV4, canonical_v4, v4_of}
-use Rattle.ipnetwork_addr.specs.OctetFront.{BeginsWithOctet, BeginsWithDottedOctet}
-use Rattle.ipnetwork_addr.proofs.Ipv4Lemmas.{Chain, Reading, reading_of, number_of, canonical_v4_names}
+use Rattle.ipnetwork_addr.proofs.Ipv4Lemmas.{Chain, reading_of, number_of, canonical_v4_names}
 
 named_by_print : (text : List ℕ) (n : ℕ) → n < 2 ^ 32 → text ≡ canonical_v4 n → NamesV4 text n
 named_by_print text n fits e = subst (λ (t : List ℕ). NamesV4 t n) (sym e) (canonical_v4_names n fits)
@@ -22,8 +20,8 @@ v4_of_sound text address =
     let n : ℕ = number_from_digits 256 (map (digits_value 10) (slice_split (λ b. b == 46) text)) in
     cond_both (nat_lt n (2 ^ 32)) _ _ (λ (r : Option ℕ). r ≡ Some address → NamesV4 text address)
     (λ fits. cond_both (bytes_eq text (canonical_v4 n)) _ _ (λ (r : Option ℕ). r ≡ Some address → NamesV4 text address)
-      (λ same e. subst (NamesV4 text) (same_Some n address e) (named_by_print text n (ltb-true n (2 ^ 32) fits) ((bytes_eq-Decides text (canonical_v4 n)).0 same)))
-      (λ other e. absurd (none-some address e)))
+    (λ same e. subst (NamesV4 text) (same_Some n address e) (named_by_print text n (ltb-true n (2 ^ 32) fits) ((bytes_eq-Decides text (canonical_v4 n)).0 same)))
+    (λ other e. absurd (none-some address e)))
     (λ past e. absurd (none-some address e))
 
 -- ---- the other way: digits hold no dot
@@ -54,11 +52,11 @@ spelled_out : (text : List ℕ) (a b c d : ℕ) → Chain text a b c d → text 
 spelled_out text a b c d k =
     k.first.split
     ∙ ap (λ z. decimal a ++ z) (k.second.dotted
-        ∙ ap (λ z. 46 ∷ z) (k.second.begins.split
-            ∙ ap (λ z. decimal b ++ z) (k.third.dotted
-                ∙ ap (λ z. 46 ∷ z) (k.third.begins.split
-                    ∙ ap (λ z. decimal c ++ z) (k.fourth.dotted
-                        ∙ ap (λ z. 46 ∷ z) (k.fourth.begins.split ∙ append-nil (decimal d)))))))
+    ∙ ap (λ z. 46 ∷ z) (k.second.begins.split
+    ∙ ap (λ z. decimal b ++ z) (k.third.dotted
+    ∙ ap (λ z. 46 ∷ z) (k.third.begins.split
+    ∙ ap (λ z. decimal c ++ z) (k.fourth.dotted
+    ∙ ap (λ z. 46 ∷ z) (k.fourth.begins.split ∙ append-nil (decimal d)))))))
 
 parts_of : (text : List ℕ) (a b c d : ℕ) → Chain text a b c d → map (digits_value 10) (slice_split (λ x. x == 46) text) ≡ a ∷ b ∷ c ∷ d ∷ []
 parts_of text a b c d k =
@@ -67,11 +65,11 @@ parts_of text a b c d k =
     let bound_c = k.third.begins.bound in
     let bound_d = k.fourth.begins.bound in
     let parts : slice_split (λ x. x == 46) text ≡ decimal a ∷ decimal b ∷ decimal c ∷ decimal d ∷ [] =
-        ap (slice_split (λ x. x == 46)) (spelled_out text a b c d k)
-        ∙ split_at (decimal a) (decimal b ++ 46 ∷ (decimal c ++ 46 ∷ decimal d)) (decimal_no_dot a bound_a)
-        ∙ ap (λ z. decimal a ∷ z) (split_at (decimal b) (decimal c ++ 46 ∷ decimal d) (decimal_no_dot b bound_b)
-            ∙ ap (λ z. decimal b ∷ z) (split_at (decimal c) (decimal d) (decimal_no_dot c bound_c)
-                ∙ ap (λ z. decimal c ∷ z) (split_none (decimal d) (decimal_no_dot d bound_d)))) in
+    ap (slice_split (λ x. x == 46)) (spelled_out text a b c d k)
+    ∙ split_at (decimal a) (decimal b ++ 46 ∷ (decimal c ++ 46 ∷ decimal d)) (decimal_no_dot a bound_a)
+    ∙ ap (λ z. decimal a ∷ z) (split_at (decimal b) (decimal c ++ 46 ∷ decimal d) (decimal_no_dot b bound_b)
+    ∙ ap (λ z. decimal b ∷ z) (split_at (decimal c) (decimal d) (decimal_no_dot c bound_c)
+    ∙ ap (λ z. decimal c ∷ z) (split_none (decimal d) (decimal_no_dot d bound_d)))) in
     ap (map (digits_value 10)) parts ∙ rw (decimal_value a bound_a, decimal_value b bound_b, decimal_value c bound_c, decimal_value d bound_d)
 
 -- a text that names an address is its canonical text
@@ -94,7 +92,7 @@ v4_of_complete text address h =
     let whole = own_text text k.a k.b k.c k.d k.chain in
     let n : ℕ = number_of k.a k.b k.c k.d in
     let read : number_from_digits 256 (map (digits_value 10) (slice_split (λ b. b == 46) text)) ≡ n =
-        ap (number_from_digits 256) (parts_of text k.a k.b k.c k.d k.chain) in
+    ap (number_from_digits 256) (parts_of text k.a k.b k.c k.d k.chain) in
     let fits : nat_lt n (2 ^ 32) ≡ true = lt-ltb n (2 ^ 32) whole.0 in
     let same : bytes_eq text (canonical_v4 n) ≡ true = (bytes_eq-Decides text (canonical_v4 n)).1 whole.1 in
     ap (λ (m : ℕ). cond (nat_lt m (2 ^ 32)) (cond (bytes_eq text (canonical_v4 m)) (Some m) None) None) read

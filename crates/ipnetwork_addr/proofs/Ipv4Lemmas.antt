@@ -1,11 +1,10 @@
 -- An IPv4 text, octet by octet from the front.
-use Rattle.std.proofs.Common.{◌≡◌, ◌≢◌, ◌↔◌, ℕ, ◌+◌, ◌*◌, ◌^◌, ◌<◌, ◌≤◌, List, [], ◌∷◌, ◌++◌, length, get_or, map, decimal, refl, sym, ap, ◌∙◌, arith, lit≤, inl, append-nil, Bool, true, false, ◌==◌}
+use Rattle.std.proofs.Common.{◌≡◌, ◌≢◌, ℕ, ◌^◌, ◌<◌, List, [], ◌∷◌, ◌++◌, length, map, decimal, refl, sym, ap, ◌∙◌, arith, lit≤, inl, append-nil, Bool, true, false, ◌==◌}
 use Rattle.std.proofs.lemmas.Bool.{eqb-true, eqb-false}
 use Rattle.std.proofs.lemmas.List.{nil_from_length}
 use Rattle.std.specs.List.{join_with_byte, AllZip}
 use Rattle.std.specs.Int.Digits.{number_from_digits}
 use Rattle.ipnetwork_addr.specs.Digits.{octets_of}
-use Rattle.ipnetwork_addr.specs.Texts.{IsJoined, dot}
 use Rattle.ipnetwork_addr.specs.Ipv4Text.{IsOctet, NamesV4, NamesNoV4, canonical_v4}
 use Rattle.ipnetwork_addr.specs.OctetFront.{NoDigit, BeginsWithOctet, NoOctet, BeginsWithDottedOctet, NoDottedOctet}
 use Rattle.ipnetwork_addr.proofs.Octets.{octet_unique, dotted_octet_unique}
@@ -89,11 +88,11 @@ names_four text a b c d r s t u first second third fourth empty = record {
     spelled =
         first.split
         ∙ ap (λ z. decimal a ++ z) (second.dotted
-            ∙ ap (λ z. 46 ∷ z) (second.begins.split
-                ∙ ap (λ z. decimal b ++ z) (third.dotted
-                    ∙ ap (λ z. 46 ∷ z) (third.begins.split
-                        ∙ ap (λ z. decimal c ++ z) (fourth.dotted
-                            ∙ ap (λ z. 46 ∷ z) (fourth.begins.split ∙ ap (λ z. decimal d ++ z) empty ∙ append-nil (decimal d)))))));
+        ∙ ap (λ z. 46 ∷ z) (second.begins.split
+        ∙ ap (λ z. decimal b ++ z) (third.dotted
+        ∙ ap (λ z. 46 ∷ z) (third.begins.split
+        ∙ ap (λ z. decimal c ++ z) (fourth.dotted
+        ∙ ap (λ z. 46 ∷ z) (fourth.begins.split ∙ ap (λ z. decimal d ++ z) empty ∙ append-nil (decimal d)))))));
     named = ((first.bound, refl), ((second.begins.bound, refl), ((third.begins.bound, refl), ((fourth.begins.bound, refl), tt))));
   };
   four = refl;

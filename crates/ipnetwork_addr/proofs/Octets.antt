@@ -1,5 +1,5 @@
 -- The octet at the front of a text.
-use Rattle.std.proofs.Common.{◌≡◌, ℕ, ◌+◌, ◌*◌, ◌/◌, ◌%◌, ◌<◌, ◌≤◌, ◌⊎◌, inl, inr, List, [], ◌∷◌, ◌++◌, get_or, decimal, refl, sym, ap, ◌∙◌, arith, append_assoc}
+use Rattle.std.proofs.Common.{◌≡◌, ℕ, ◌+◌, ◌*◌, ◌/◌, ◌%◌, ◌<◌, ◌≤◌, ◌⊎◌, inl, inr, List, [], ◌∷◌, ◌++◌, get_or, decimal, refl, sym, ap, ◌∙◌, arith}
 use Rattle.std.proofs.lemmas.Bool.{cases_lt}
 use Rattle.std.proofs.lemmas.List.{append_cancel_left}
 use Rattle.std.proofs.lemmas.Fmt.{decimal_digit}
@@ -59,15 +59,15 @@ data Bytes (text : List ℕ) (n : ℕ) : Type 0 where
 bytes_of : (text : List ℕ) (n : ℕ) (rest : List ℕ) → BeginsWithOctet text n rest → Bytes text n
 bytes_of text n rest h = elim (cases_lt n 10) [
   | inl one ↦
-    let e : text ≡ (48 + n) ∷ rest = h.split ∙ ap (λ front. front ++ rest) (decimal_digit n one) in
-    rw e (One one refl h.stops)
+      let e : text ≡ (48 + n) ∷ rest = h.split ∙ ap (λ front. front ++ rest) (decimal_digit n one) in
+      rw e (One one refl h.stops)
   | inr ten ↦ elim (cases_lt n 100) [
     | inl two ↦
-      let e : text ≡ (48 + n / 10) ∷ (48 + n % 10) ∷ rest = h.split ∙ ap (λ front. front ++ rest) (decimal_two n ten two) in
-      rw e (Two ten two refl refl h.stops)
+        let e : text ≡ (48 + n / 10) ∷ (48 + n % 10) ∷ rest = h.split ∙ ap (λ front. front ++ rest) (decimal_two n ten two) in
+        rw e (Two ten two refl refl h.stops)
     | inr hundred ↦
-      let e : text ≡ (48 + n / 100) ∷ (48 + n / 10 % 10) ∷ (48 + n % 10) ∷ rest = h.split ∙ ap (λ front. front ++ rest) (decimal_three n hundred (omega (arith, h.bound))) in
-      rw e (Three hundred h.bound refl refl refl h.stops)
+        let e : text ≡ (48 + n / 100) ∷ (48 + n / 10 % 10) ∷ (48 + n % 10) ∷ rest = h.split ∙ ap (λ front. front ++ rest) (decimal_three n hundred (omega (arith, h.bound))) in
+        rw e (Three hundred h.bound refl refl refl h.stops)
   ]
 ]
 

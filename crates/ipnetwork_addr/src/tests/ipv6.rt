@@ -36,10 +36,18 @@ fn texts_print_their_canonical_text(rt: HostRuntime) -> Result<(), Fail> {
     ] {
         let address = Ipv6Addr::read_bytes(text.as_bytes())?;
         assert_eq!(rt; text.parse::<Ipv6Addr>(), Ok(address), "{text}");
-        assert_eq!(rt; IpAddr::read_bytes(text.as_bytes()), Ok(IpAddr::V6(address)), "{text}");
+        assert_eq!(rt;
+            IpAddr::read_bytes(text.as_bytes()),
+            Ok(IpAddr::V6(address)),
+            "{text}"
+        );
         assert_eq!(rt; text.parse::<IpAddr>(), Ok(IpAddr::V6(address)), "{text}");
         assert_eq!(rt; address.canonical().as_str(), canonical, "{text}");
-        assert_eq!(rt; IpAddr::V6(address).canonical().as_str(), canonical, "{text}");
+        assert_eq!(rt;
+            IpAddr::V6(address).canonical().as_str(),
+            canonical,
+            "{text}"
+        );
         let mut shown: ArrayString<40> = ArrayString::new();
         write!(shown, "{address}")?;
         assert_eq!(rt; shown.as_str(), canonical, "{text}");
@@ -87,13 +95,28 @@ fn other_texts_are_refused(rt: HostRuntime) {
         "::é",
         "1.2.3.4.5",
     ] {
-        assert_eq!(rt; Ipv6Addr::read_bytes(text.as_bytes()), Err(AddrParseError::Ipv6), "{text}");
-        assert_eq!(rt; text.parse::<Ipv6Addr>(), Err(AddrParseError::Ipv6), "{text}");
-        assert_eq!(rt; IpAddr::read_bytes(text.as_bytes()), Err(AddrParseError::Ip), "{text}");
+        assert_eq!(rt;
+            Ipv6Addr::read_bytes(text.as_bytes()),
+            Err(AddrParseError::Ipv6),
+            "{text}"
+        );
+        assert_eq!(rt;
+            text.parse::<Ipv6Addr>(),
+            Err(AddrParseError::Ipv6),
+            "{text}"
+        );
+        assert_eq!(rt;
+            IpAddr::read_bytes(text.as_bytes()),
+            Err(AddrParseError::Ip),
+            "{text}"
+        );
         assert_eq!(rt; text.parse::<IpAddr>(), Err(AddrParseError::Ip), "{text}");
     }
     assert_eq!(rt; Ipv6Addr::read_bytes(b"1.2.3.4"), Err(AddrParseError::Ipv6));
-    assert_eq!(rt; Ipv6Addr::read_bytes(&[0x3a, 0x3a, 0xff]), Err(AddrParseError::Ipv6));
+    assert_eq!(rt;
+        Ipv6Addr::read_bytes(&[0x3a, 0x3a, 0xff]),
+        Err(AddrParseError::Ipv6)
+    );
     assert_eq!(rt; Ipv6Addr::read_bytes(&[0x80]), Err(AddrParseError::Ipv6));
 }
 
@@ -108,13 +131,26 @@ fn long_texts_are_refused(rt: HostRuntime) -> Result<(), Fail> {
         ("", "1.", 50_000),
     ] {
         let text = repeated(rt.alloc(), front.as_bytes(), piece.as_bytes(), times)?;
-        assert_eq!(rt; Ipv6Addr::read_bytes(&text), Err(AddrParseError::Ipv6), "{front} {piece}");
-        assert_eq!(rt; IpAddr::read_bytes(&text), Err(AddrParseError::Ip), "{front} {piece}");
+        assert_eq!(rt;
+            Ipv6Addr::read_bytes(&text),
+            Err(AddrParseError::Ipv6),
+            "{front} {piece}"
+        );
+        assert_eq!(rt;
+            IpAddr::read_bytes(&text),
+            Err(AddrParseError::Ip),
+            "{front} {piece}"
+        );
     }
     Ok(())
 }
 
-fn repeated<A: Allocator + Copy>(alloc: A, front: &[u8], piece: &[u8], times: usize) -> Result<Vec<u8, A>, Fail> {
+fn repeated<A: Allocator + Copy>(
+    alloc: A,
+    front: &[u8],
+    piece: &[u8],
+    times: usize,
+) -> Result<Vec<u8, A>, Fail> {
     let mut text = Vec::new(alloc);
     text.extend_from_slice(front)?;
     for _ in 0..times {
@@ -131,10 +167,16 @@ fn addresses_are_numbers(rt: HostRuntime) -> Result<(), Fail> {
     assert_eq!(rt; Ipv6Addr::from(number), address);
     assert_eq!(rt; address.segments(), [0x2001, 0xdb8, 0, 0, 1, 0, 0, 0x203]);
     assert_eq!(rt; Ipv6Addr::from(address.segments()), address);
-    assert_eq!(rt; address.octets(), [0x20, 1, 0xd, 0xb8, 0, 0, 0, 0, 0, 1, 0, 0, 0, 0, 2, 3]);
+    assert_eq!(rt;
+        address.octets(),
+        [0x20, 1, 0xd, 0xb8, 0, 0, 0, 0, 0, 1, 0, 0, 0, 0, 2, 3]
+    );
     assert!(rt; address < Ipv6Addr::from(number + 1));
     assert!(rt; Ipv6Addr::from(0x1_0000) > Ipv6Addr::from(0xffff));
     assert!(rt; IpAddr::V4(Ipv4Addr::from(0xffff_ffff)) < IpAddr::V6(Ipv6Addr::from(0)));
-    assert_eq!(rt; IpAddr::read_bytes(b"1.2.3.4"), Ok(IpAddr::V4(Ipv4Addr::new(1, 2, 3, 4))));
+    assert_eq!(rt;
+        IpAddr::read_bytes(b"1.2.3.4"),
+        Ok(IpAddr::V4(Ipv4Addr::new(1, 2, 3, 4)))
+    );
     Ok(())
 }

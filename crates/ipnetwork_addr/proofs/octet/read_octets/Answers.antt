@@ -1,4 +1,3 @@
-use Rattle.std.proofs.Common.{arith, inl, inr}
 use Rattle.ipnetwork_addr.proofs.Ipv4Lemmas.{names_four, no_first, no_second, no_third, no_fourth, more_left, is_nil, not_nil}
 use Rattle.ipnetwork_addr.proofs.octet.read_octets.Goals as goal
 
