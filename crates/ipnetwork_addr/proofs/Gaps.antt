@@ -1,12 +1,12 @@
 -- What the reader of an IPv6 text found, and what the text names.
-use Rattle.std.proofs.Common.{◌≡◌, ◌≢◌, ℕ, ◌+◌, ◌-◌, ◌*◌, ◌^◌, ◌<◌, ◌≤◌, List, [], length, Option, None, Some, refl, sym, ap, ◌∙◌, subst, inl, inr, arith, lit≤}
+use Rattle.std.proofs.Common.{◌≡◌, ◌≢◌, ℕ, ◌+◌, ◌-◌, ◌*◌, ◌^◌, ◌≤◌, List, [], length, Option, None, Some, refl, sym, ap, ◌∙◌, subst, inl, inr, arith, lit≤}
 use Rattle.std.proofs.Math.Nat.{pow-le-pow_right}
 use Rattle.std.proofs.lemmas.Option.{none-some, same_Some}
 use Rattle.std.specs.Int.Digits.{number_from_digits}
 use Rattle.ipnetwork_addr.specs.Ipv6Text.{NamesV6, NamesNoV6}
 use Rattle.ipnetwork_addr.specs.GroupFront.{IsPart, BeginsWithPart, NoPart, IsLeft, BeginsWithLeft, NoLeft, IsRight, EndsWithRight, NoRight}
 use Rattle.ipnetwork_addr.proofs.Parts.{part_unique, no_part_of_nothing}
-use Rattle.ipnetwork_addr.proofs.Ipv6Names.{Shape, Full, Gapped, shape_of, names_of, left_unique, right_unique}
+use Rattle.ipnetwork_addr.proofs.Ipv6Names.{Shape, Full, Gapped, shape_of, names_of, left_unique}
 use Rattle.ipnetwork_addr.proofs.Shifts.{positive, number_with_gap}
 
 -- ---- the right part
@@ -82,4 +82,4 @@ module _ (text : List ℕ) (count number : ℕ) (end : Option (List ℕ)) (h : B
   names_gap next high low e few is_high r =
       let room : length h.groups + length r.groups ≤ 7 = omega (arith, h.counted, h.fits, r.fits) in
       names_of text (high + low) (Gapped h.groups r.groups next (subst (IsLeft h.groups text) e h.left) r.right room
-        (ap (λ m. m + low) (is_high ∙ rw (h.counted, h.value) refl) ∙ ap (λ m. number_from_digits (2 ^ 16) h.groups * (2 ^ 16) ^ (8 - length h.groups) + m) r.value ∙ sym (number_with_gap h.groups r.groups room)))
+      (ap (λ m. m + low) (is_high ∙ rw (h.counted, h.value) refl) ∙ ap (λ m. number_from_digits (2 ^ 16) h.groups * (2 ^ 16) ^ (8 - length h.groups) + m) r.value ∙ sym (number_with_gap h.groups r.groups room)))

@@ -1,5 +1,5 @@
 -- The bytes that an IPv6 text holds.
-use Rattle.std.proofs.Common.{◌≡◌, ℕ, ◌-◌, ◌<◌, ◌≤◌, cond, List, [], ◌∷◌, ◌++◌, refl, sym, ap, ◌∙◌, subst, inl, inr, arith}
+use Rattle.std.proofs.Common.{ℕ, ◌-◌, ◌<◌, List, [], ◌∷◌, ◌++◌, refl, sym, subst, inl, inr, arith}
 use Rattle.std.specs.Prelude.{nat_lt}
 use Rattle.std.proofs.lemmas.Bool.{cond_both, ltb-true, ltb-false}
 use Rattle.std.specs.Char.{digit_value}
@@ -13,11 +13,11 @@ hex_byte : (c : ℕ) → digit_value c < 16 → IsAddressByte c
 hex_byte c =
     cond_both (nat_lt c 48) 36 _ (λ v. v < 16 → IsAddressByte c) (λ _ h. absurd (omega (arith, h)))
     (λ a. cond_both (nat_lt c 58) (c - 48) _ (λ v. v < 16 → IsAddressByte c) (λ b h. Digit (ltb-false c 48 a) (let k = ltb-true c 58 b in omega arith))
-      (λ b. cond_both (nat_lt c 65) 36 _ (λ v. v < 16 → IsAddressByte c) (λ _ h. absurd (omega (arith, h)))
-        (λ d. cond_both (nat_lt c 91) (c - 55) _ (λ v. v < 16 → IsAddressByte c) (λ _ h. UpperHex (ltb-false c 65 d) (omega (arith, h)))
-          (λ e. cond_both (nat_lt c 97) 36 _ (λ v. v < 16 → IsAddressByte c) (λ _ h. absurd (omega (arith, h)))
-            (λ f. cond_both (nat_lt c 123) (c - 87) _ (λ v. v < 16 → IsAddressByte c) (λ _ h. LowerHex (ltb-false c 97 f) (omega (arith, h)))
-              (λ _ h. absurd (omega (arith, h))))))))
+    (λ b. cond_both (nat_lt c 65) 36 _ (λ v. v < 16 → IsAddressByte c) (λ _ h. absurd (omega (arith, h)))
+    (λ d. cond_both (nat_lt c 91) (c - 55) _ (λ v. v < 16 → IsAddressByte c) (λ _ h. UpperHex (ltb-false c 65 d) (omega (arith, h)))
+    (λ e. cond_both (nat_lt c 97) 36 _ (λ v. v < 16 → IsAddressByte c) (λ _ h. absurd (omega (arith, h)))
+    (λ f. cond_both (nat_lt c 123) (c - 87) _ (λ v. v < 16 → IsAddressByte c) (λ _ h. LowerHex (ltb-false c 97 f) (omega (arith, h)))
+    (λ _ h. absurd (omega (arith, h))))))))
 
 hex_bytes : (ds : List ℕ) → AllDigits 16 ds → AllByRecursion IsAddressByte ds
 hex_bytes [] h = tt
@@ -49,5 +49,5 @@ v6_bytes text address (inl h) = is_ended_bytes text h.groups h.ended
 v6_bytes text address (inr h) =
     subst (AllByRecursion IsAddressByte) (sym h.spelled)
     (AllBytes-append (h.left_text ++ 58 ∷ 58 ∷ []) h.right_text
-      (AllBytes-append h.left_text (58 ∷ 58 ∷ []) (is_plain_bytes h.left_text h.left h.left_plain) (Colon refl, (Colon refl, tt)))
-      (is_ended_bytes h.right_text h.right h.right_ended))
+    (AllBytes-append h.left_text (58 ∷ 58 ∷ []) (is_plain_bytes h.left_text h.left h.left_plain) (Colon refl, (Colon refl, tt)))
+    (is_ended_bytes h.right_text h.right h.right_ended))

@@ -1,14 +1,14 @@
 -- A part of an IPv6 text, read group by group.
-use Rattle.std.proofs.Common.{◌≡◌, ◌≢◌, ℕ, ◌+◌, ◌*◌, ◌/◌, ◌%◌, ◌^◌, ◌<◌, ◌≤◌, List, [], ◌∷◌, ◌++◌, length, get_or, drop, Option, None, Some, refl, sym, ap, ◌∙◌, subst, arith, lit≤, length-append}
+use Rattle.std.proofs.Common.{◌≡◌, ◌≢◌, ℕ, ◌+◌, ◌*◌, ◌/◌, ◌%◌, ◌^◌, ◌<◌, ◌≤◌, List, [], ◌∷◌, ◌++◌, length, drop, Option, None, Some, refl, sym, ap, ◌∙◌, subst, arith, lit≤, length-append}
 use Rattle.std.proofs.Math.Nat.{pow-le-pow_right}
 use Rattle.std.proofs.lemmas.Nat.{pow-add}
 use Rattle.std.proofs.lemmas.Int.Digits.{number_after_append}
 use Rattle.std.specs.Int.Digits.{number_from_digits}
 use Rattle.ipnetwork_addr.specs.Ipv4Text.{NamesV4, NamesNoV4}
 use Rattle.ipnetwork_addr.specs.Ipv6Text.{halves}
-use Rattle.ipnetwork_addr.specs.GroupFront.{BeginsWithGroup, NoGroup, IsPartFrom, Last, Dotted, Gap, Next, IsPart, BeginsWithPart, NoPart}
+use Rattle.ipnetwork_addr.specs.GroupFront.{BeginsWithGroup, NoGroup, Last, Dotted, Gap, Next, IsPart, BeginsWithPart, NoPart}
 use Rattle.ipnetwork_addr.proofs.Groups.{group_fits}
-use Rattle.ipnetwork_addr.proofs.Parts.{Kind, IsLast, IsDot, IsGap, IsNext, kind_of, no_group_no_part, no_part_at_colon, nil_cons, other_first}
+use Rattle.ipnetwork_addr.proofs.Parts.{IsLast, IsDot, IsGap, IsNext, kind_of, no_group_no_part, nil_cons, other_first}
 
 -- the text begins with these groups, a colon after each, and this follows them
 abbrev pub Steps : List ℕ → List ℕ → List ℕ → Type 0
@@ -44,8 +44,8 @@ steps_back (g ∷ groups) part text rest end s p = elim (kind_of part text end g
   | IsDot _ more e _ _ _ ↦ absurd (other_first 58 46 s.0 more e (omega arith))
   | IsGap next e _ _ ↦ absurd (s.2 next (ap (drop 1) e))
   | IsNext next more e is_part p' ↦
-    let later = steps_back groups more s.0 rest end s.3 (subst (λ (t : List ℕ). IsPart more t end) (sym (ap (drop 1) e)) p') in
-    record { more = later.more; is = is_part ∙ ap (λ t. g ∷ t) later.is; later = later.later }
+      let later = steps_back groups more s.0 rest end s.3 (subst (λ (t : List ℕ). IsPart more t end) (sym (ap (drop 1) e)) p') in
+      record { more = later.more; is = is_part ∙ ap (λ t. g ∷ t) later.is; later = later.later }
 ]
 
 -- ---- numbers

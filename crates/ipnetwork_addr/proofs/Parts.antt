@@ -1,14 +1,13 @@
 -- A part of an IPv6 text: groups joined by colons.
-use Rattle.std.proofs.Common.{◌≡◌, ◌≢◌, ℕ, ◌+◌, ◌^◌, ◌<◌, ◌≤◌, List, [], ◌∷◌, ◌++◌, length, get_or, drop, decimal, Option, None, Some, refl, sym, ap, ◌∙◌, subst, arith, lit≤}
-use Rattle.std.proofs.lemmas.Option.{none-some, same_Some}
+use Rattle.std.proofs.Common.{◌≡◌, ◌≢◌, ℕ, ◌<◌, ◌≤◌, List, [], ◌∷◌, ◌++◌, length, get_or, drop, decimal, Option, None, Some, refl, sym, ap, ◌∙◌, subst, arith, lit≤}
 use Rattle.std.proofs.lemmas.Fmt.{decimal_is_IsNumeral, length-decimal-le}
 use Rattle.std.specs.Char.{digit_value}
 use Rattle.std.specs.Str.Parse.{AllDigits, digits_value}
 use Rattle.ipnetwork_addr.specs.Ipv4Text.{NamesV4}
-use Rattle.ipnetwork_addr.specs.Ipv6Text.{IsGroup, halves}
-use Rattle.ipnetwork_addr.specs.GroupFront.{NoHex, BeginsWithGroup, NoGroup, IsPartFrom, Last, Dotted, Gap, Next, IsPart}
+use Rattle.ipnetwork_addr.specs.Ipv6Text.{halves}
+use Rattle.ipnetwork_addr.specs.GroupFront.{NoHex, BeginsWithGroup, NoGroup, Last, Dotted, Gap, Next, IsPart}
 use Rattle.ipnetwork_addr.proofs.Groups.{group_unique}
-use Rattle.ipnetwork_addr.proofs.Ipv4Lemmas.{Reading, reading_of, v4_unique}
+use Rattle.ipnetwork_addr.proofs.Ipv4Lemmas.{reading_of, v4_unique}
 
 -- ---- the octet that an IPv4 text begins with is a group before a dot
 
@@ -131,6 +130,6 @@ part_unique (g ∷ gs) hs text e f (Next next b part) q = elim (kind_of hs text 
   | IsDot _ more s _ _ _ ↦ absurd (other_first 58 46 next more s (omega arith))
   | IsGap other s _ _ ↦ absurd (no_part_at_colon gs other e (subst (λ (t : List ℕ). IsPart gs t e) (ap (drop 1) s) part))
   | IsNext other more s is_hs part' ↦
-    let later = part_unique gs more next e f part (subst (λ (t : List ℕ). IsPart more t f) (sym (ap (drop 1) s)) part') in
-    (ap (λ t. g ∷ t) later.0 ∙ sym is_hs, later.1)
+      let later = part_unique gs more next e f part (subst (λ (t : List ℕ). IsPart more t f) (sym (ap (drop 1) s)) part') in
+      (ap (λ t. g ∷ t) later.0 ∙ sym is_hs, later.1)
 ]

@@ -1,7 +1,7 @@
 -- The longest run of zeros, the first one of that length.
 use Rattle.std.proofs.Common.{◌≡◌, ℕ, zero, suc, ◌+◌, ◌-◌, ◌<◌, ◌≤◌, ◌==◌, cond, List, [], ◌∷◌, length, get_or, take, drop, replicate, drop-cons, length-drop, Bool, true, false, refl, sym, ap, ap₂, ◌∙◌, subst, arith, lit≤}
 use Rattle.std.specs.Prelude.{nat_le}
-use Rattle.std.proofs.lemmas.Bool.{cond_both, leb-true, leb-false, eqb-true, eq-eqb, ne_eqb, eqb-false}
+use Rattle.std.proofs.lemmas.Bool.{cond_both, leb-true, leb-false, eqb-true}
 use Rattle.ipnetwork_addr.specs.Ipv6Canonical.{IsZeroRun, zeros_in_front, longest_zero_run}
 
 zeros_are : (groups : List ℕ) → (zeros_in_front groups ≤ length groups) × (take (zeros_in_front groups) groups ≡ replicate (zeros_in_front groups) 0)
@@ -71,10 +71,10 @@ scanned_at groups at before run start len next found h is_before within is_next 
     let step : suc at ≡ before = omega (arith, is_before) in
     let e : drop at groups ≡ g ∷ drop before groups = drop-cons groups at 0 within ∙ ap (λ n. g ∷ drop n groups) step in
     let runs : next ≡ zeros_in_front (drop at groups) =
-        is_next ∙ ap (λ r. cond (g == 0) (suc r) 0) h.runs ∙ sym (ap zeros_in_front e) in
+    is_next ∙ ap (λ r. cond (g == 0) (suc r) 0) h.runs ∙ sym (ap zeros_in_front e) in
     let here : next ≡ zeros_in_front (g ∷ drop before groups) = runs ∙ ap zeros_in_front e in
     let whole : longest_zero_run (drop at groups) ≡ better later.0 len next =
-        ap longest_zero_run e ∙ ap (λ l. better later.0 l (zeros_in_front (g ∷ drop before groups))) (sym h.is_long) ∙ ap (better later.0 len) (sym here) in
+    ap longest_zero_run e ∙ ap (λ l. better later.0 l (zeros_in_front (g ∷ drop before groups))) (sym h.is_long) ∙ ap (better later.0 len) (sym here) in
     let picked = better_is (nat_le len next) at next start len later.0 found (h.starts ∙ ap (λ n. n + later.0) is_before) is_found in
     record {
       runs = runs;

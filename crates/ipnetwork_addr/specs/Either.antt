@@ -1,5 +1,5 @@
 -- Texts of an address of either family.
-use Rattle.std.specs.Prelude.{ℕ, ◌^◌, ◌<◌, List}
+use Rattle.std.specs.Prelude.{⊤, ℕ, ◌^◌, ◌<◌, List}
 use Rattle.ipnetwork_addr.specs.declared.ip.IpAddr.{IpAddr}
 use Rattle.ipnetwork_addr.specs.declared.ip.IpAddr.TheVariants.{V4, V6}
 use Rattle.ipnetwork_addr.specs.Ipv4Text.{NamesV4, canonical_v4}
@@ -20,3 +20,10 @@ canonical_ip (V6 address) = canonical_v6 address
 abbrev pub FitsIp : IpAddr → Type 0
 FitsIp (V4 address) = address < 2 ^ 32
 FitsIp (V6 address) = address < 2 ^ 128
+
+-- the first address is before the second: by number in a family, and IPv4 before IPv6
+abbrev pub IsBefore : IpAddr → IpAddr → Type 0
+IsBefore (V4 a) (V4 b) = a < b
+IsBefore (V4 a) (V6 b) = ⊤
+IsBefore (V6 a) (V4 b) = ⊥
+IsBefore (V6 a) (V6 b) = a < b

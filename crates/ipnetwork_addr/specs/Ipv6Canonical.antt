@@ -1,6 +1,6 @@
 -- The one text that an IPv6 address is printed as: RFC 5952, sections 4.1 to 4.3, and section 5 for the addresses
 -- that hold an IPv4 address.
-use Rattle.std.specs.Prelude.{◌≡◌, false, nat_le, bytes_eq, if◌then◌else◌, ℕ, zero, suc, ◌+◌, ◌%◌, ◌^◌, ◌≤◌, ◌==◌, List, [], ◌∷◌, ◌++◌, length, take, drop, replicate, map, codes}
+use Rattle.std.specs.Prelude.{◌≡◌, false, nat_le, bytes_eq, if◌then◌else◌, ℕ, suc, ◌+◌, ◌%◌, ◌^◌, ◌≤◌, ◌==◌, List, [], ◌∷◌, ◌++◌, length, take, drop, replicate, map, codes}
 use Rattle.std.specs.List.{join_with_byte}
 use Rattle.std.specs.Fmt.{digits}
 use Rattle.ipnetwork_addr.specs.Digits.{segments_of}

@@ -35,8 +35,9 @@ impl Ipv6Addr {
         ensures { result ≡ number_from_digits (2 ^ 16) (a ∷ b ∷ c ∷ d ∷ e ∷ f ∷ g ∷ h ∷ []) }
     {
         let four = join(join(join(u128::from(a), b), c), d);
-        let number = join(join(join(join(four, e), f), g), h);
-        Ipv6Addr { number }
+        Ipv6Addr {
+            number: join(join(join(join(four, e), f), g), h),
+        }
     }
 
     /// The eight groups, highest first.

@@ -1,14 +1,36 @@
-//! The laws of address texts. Each function's contract is a law; it takes nothing and does nothing,
-//! and a proof that calls it may use the law.
-ghost use Rattle.std.specs.Prelude.{◌≡◌, ◌↔◌, ℕ, ◌^◌, ◌<◌, List, Some};
+//! The laws of addresses and of their texts. Each function's contract is a law. One of texts takes
+//! nothing and does nothing, and a proof that calls it may use the law.
+ghost use Rattle.std.specs.Prelude.{◌≡◌, ◌↔◌, ℕ, ◌^◌, ◌<◌, List, IsTrue, Some};
 ghost use Rattle.ipnetwork_addr.specs.Ipv4Text.{IsOctet, IsPlainOctet, NamesV4, canonical_v4, v4_of};
-ghost use Rattle.ipnetwork_addr.specs.declared.ip.IpAddr.{IpAddr};
-ghost use Rattle.ipnetwork_addr.specs.Either.{NamesIp, FitsIp, canonical_ip};
+ghost use Rattle.ipnetwork_addr.specs.Either.{NamesIp, FitsIp, IsBefore, canonical_ip};
 ghost use Rattle.ipnetwork_addr.specs.Ipv6Canonical.{IsCanonicalV6, canonical_v6};
 ghost use Rattle.ipnetwork_addr.specs.Ipv6Computed.{v6_of};
 ghost use Rattle.ipnetwork_addr.specs.Ipv6Text.{NamesV6};
 ghost use Rattle.ipnetwork_addr.specs.Texts.{IsAddressByte};
 ghost use Rattle.std.specs.List.{AllByRecursion};
+
+use crate::{IpAddr, Ipv4Addr, Ipv6Addr};
+
+/// Of two IPv4 addresses the one with the lower number is before the other.
+pub fn v4_order(a: Ipv4Addr, b: Ipv4Addr) -> bool
+    ensures { IsTrue result ↔ (a < b) }
+{
+    a < b
+}
+
+/// Of two IPv6 addresses the one with the lower number is before the other.
+pub fn v6_order(a: Ipv6Addr, b: Ipv6Addr) -> bool
+    ensures { IsTrue result ↔ (a < b) }
+{
+    a < b
+}
+
+/// Each IPv4 address is before each IPv6 address, and in a family the lower number is before.
+pub fn ip_order(a: IpAddr, b: IpAddr) -> bool
+    ensures { IsTrue result ↔ IsBefore a b }
+{
+    a < b
+}
 
 /// An octet text is one to three decimal digits of value at most 255, without a leading zero.
 pub fn octet_texts()

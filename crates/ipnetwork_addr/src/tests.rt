@@ -1,3 +1,5 @@
 //! Rows over the public calls.
 
 mod ipv4;
+mod ipv6;
+mod ipv6_comparison;

@@ -125,4 +125,5 @@ fn laws_are_called() {
     laws::canonical_v4_is_one_to_one();
     laws::v4_text_bytes();
     laws::v4_text_is_computed();
+    laws::v6_text_is_computed();
 }

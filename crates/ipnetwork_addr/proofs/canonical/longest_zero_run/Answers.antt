@@ -1,4 +1,4 @@
-use Rattle.std.proofs.Common.{arith, ◌-◌}
+use Rattle.std.proofs.Common.{arith}
 use Rattle.ipnetwork_addr.proofs.ZeroRuns.{scanned_more, scanned_within}
 use Rattle.ipnetwork_addr.proofs.canonical.longest_zero_run.Goals as goal
 
