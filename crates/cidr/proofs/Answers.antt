@@ -1,5 +1,5 @@
 -- The answer to a line, by its words.
-use Rattle.std.proofs.Common.{◌≡◌, ℕ, Bool, true, false, cond, List, ◌∷◌, Option, None, Some, refl, sym, ap, ◌∙◌}
+use Rattle.std.proofs.Common.{◌≡◌, ℕ, Bool, true, false, cond, List, [], ◌∷◌, ◌++◌, Option, None, Some, refl, sym, ap, ◌∙◌}
 use Rattle.std.specs.Prelude.{bytes_eq}
 use Rattle.cidr.specs.Words.{IsLastWord, IsWordBefore}
 use Rattle.cidr.specs.Commands.{unknown, one_word_answer, two_words_answer, answer_to, command_answer}
@@ -39,3 +39,7 @@ other name command slice text x y test says is fails e =
 pub gives_none : (o : Option ℕ) → ((x : ℕ) → ¬ (o ≡ Some x)) → o ≡ None
 gives_none None h = refl
 gives_none (Some x) h = absurd (h x refl)
+
+-- an answer that began empty, after it was written
+pub said : (old new text : List ℕ) → old ≡ [] → new ≡ old ++ text → new ≡ text
+said old new text empty pushed = pushed ∙ ap (λ t. t ++ text) empty

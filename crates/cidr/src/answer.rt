@@ -1,5 +1,5 @@
 //! The answer to a line.
-ghost use Rattle.std.specs.Prelude.{◌≡◌, ◌≤◌, length, codes};
+ghost use Rattle.std.specs.Prelude.{◌≡◌, ◌≤◌, [], length, codes};
 ghost use Rattle.cidr.specs.Commands.{command_answer, one_word_answer, two_words_answer, unknown, read4_answer, read6_answer, has4_answer, refusal};
 
 use crate::words::cut_word;
@@ -9,94 +9,105 @@ use ipnetwork::{CidrFault, Ipv4Addr, Ipv4Network, Ipv6Network, laws};
 /// The room for an answer and its line feed.
 pub(crate) const ANSWER_MAX: usize = 160;
 
-/// The answer to a line of at most 1,024 bytes: its words are split at each blank, the first names the
-/// command, and the others are what it is asked of.
-pub(crate) fn answer(line: &[u8]) -> ArrayString<ANSWER_MAX>
-    ensures text { result.bytes ≡ command_answer line.now }
-    ensures short { length result.bytes ≤ 159 }
+/// An answer, which begins empty and is written once.
+pub(crate) type Answer = ArrayString<ANSWER_MAX>;
+
+/// Writes the answer to a line of at most 1,024 bytes: its words are split at each blank, the first
+/// names the command, and the others are what it is asked of.
+pub(crate) fn answer(line: &[u8], text: &mut Answer)
+    requires { text.old.bytes ≡ [] }
+    ensures text { text.new.bytes ≡ command_answer line.now }
+    ensures short { length text.new.bytes ≤ 159 }
 {
     let Some((command, words)) = cut_word(line) else {
-        return say("unknown command");
+        text.push_str("unknown command");
+        return;
     };
     let Some((first, words)) = cut_word(words) else {
-        return answer_one(command, words);
+        answer_one(command, words, text);
+        return;
     };
     match cut_word(words) {
-        None => answer_two(command, first, words),
-        Some(_) => say("unknown command"),
+        None => answer_two(command, first, words, text),
+        Some(_) => text.push_str("unknown command"),
     }
 }
 
 /// The answer of a command that is asked of one word.
-fn answer_one(command: &[u8], word: &[u8]) -> ArrayString<ANSWER_MAX>
-    ensures text { result.bytes ≡ one_word_answer command.now word.now }
-    ensures short { length result.bytes ≤ 159 }
+fn answer_one(command: &[u8], word: &[u8], text: &mut Answer)
+    requires { text.old.bytes ≡ [] }
+    ensures text { text.new.bytes ≡ one_word_answer command.now word.now }
+    ensures short { length text.new.bytes ≤ 159 }
 {
     if command == b"read4".as_slice() {
-        read4(word)
+        read4(word, text);
     } else if command == b"read6".as_slice() {
-        read6(word)
+        read6(word, text);
     } else {
-        say("unknown command")
+        text.push_str("unknown command");
     }
 }
 
 /// The answer of a command that is asked of two words.
-fn answer_two(command: &[u8], first: &[u8], second: &[u8]) -> ArrayString<ANSWER_MAX>
-    ensures text { result.bytes ≡ two_words_answer command.now first.now second.now }
-    ensures short { length result.bytes ≤ 159 }
+fn answer_two(command: &[u8], first: &[u8], second: &[u8], text: &mut Answer)
+    requires { text.old.bytes ≡ [] }
+    ensures text { text.new.bytes ≡ two_words_answer command.now first.now second.now }
+    ensures short { length text.new.bytes ≤ 159 }
 {
     if command == b"has4".as_slice() {
-        has4(first, second)
+        text.push_str(has4(first, second));
     } else {
-        say("unknown command")
+        text.push_str("unknown command");
     }
 }
 
 /// `read4`: the canonical text of an IPv4 network, or why the word names none.
-fn read4(word: &[u8]) -> ArrayString<ANSWER_MAX>
-    ensures text { result.bytes ≡ read4_answer word.now }
-    ensures short { length result.bytes ≤ 159 }
+fn read4(word: &[u8], text: &mut Answer)
+    requires { text.old.bytes ≡ [] }
+    ensures text { text.new.bytes ≡ read4_answer word.now }
+    ensures short { length text.new.bytes ≤ 159 }
 {
     laws::v4_network_reading_is_computed();
     match Ipv4Network::read_bytes(word) {
-        Ok(network) => say(network.canonical().as_str()),
-        Err(fault) => say(refusal(fault)),
+        Ok(network) => text.push_str(network.canonical().as_str()),
+        Err(fault) => text.push_str(refusal(fault)),
     }
 }
 
 /// `read6`: the canonical text of an IPv6 network, or why the word names none.
-fn read6(word: &[u8]) -> ArrayString<ANSWER_MAX>
-    ensures text { result.bytes ≡ read6_answer word.now }
-    ensures short { length result.bytes ≤ 159 }
+fn read6(word: &[u8], text: &mut Answer)
+    requires { text.old.bytes ≡ [] }
+    ensures text { text.new.bytes ≡ read6_answer word.now }
+    ensures short { length text.new.bytes ≤ 159 }
 {
     laws::v6_network_reading_is_computed();
     match Ipv6Network::read_bytes(word) {
-        Ok(network) => say(network.canonical().as_str()),
-        Err(fault) => say(refusal(fault)),
+        Ok(network) => text.push_str(network.canonical().as_str()),
+        Err(fault) => text.push_str(refusal(fault)),
     }
 }
 
 /// `has4`: whether an IPv4 network holds an address.
-fn has4(network: &[u8], address: &[u8]) -> ArrayString<ANSWER_MAX>
-    ensures text { result.bytes ≡ has4_answer network.now address.now }
-    ensures short { length result.bytes ≤ 159 }
+fn has4(network: &[u8], address: &[u8]) -> &'static str
+    ensures text { result.now ≡ has4_answer network.now address.now }
+    ensures short { length result.now ≤ 15 }
 {
     laws::v4_network_reading_is_computed();
     laws::v4_text_is_computed();
     let Ok(network) = Ipv4Network::read_bytes(network) else {
-        return say("refused network");
+        return "refused network";
     };
     let Ok(address) = Ipv4Addr::read_bytes(address) else {
-        return say("refused address");
+        return "refused address";
     };
-    say(if network.contains(address) {
+    if network.contains(address) {
         "yes"
     } else {
         "no"
-    })
+    }
 }
 
+/// The answer to a text that names no network.
 fn refusal(fault: CidrFault) -> &'static str
     ensures text { result.now ≡ refusal fault }
     ensures short { length result.now ≤ 15 }
@@ -106,13 +117,4 @@ fn refusal(fault: CidrFault) -> &'static str
         CidrFault::Addr => "refused address",
         CidrFault::Prefix => "refused prefix",
     }
-}
-
-fn say(text: &str) -> ArrayString<ANSWER_MAX>
-    requires { length text.now ≤ 159 }
-    ensures { result.bytes ≡ text.now }
-{
-    let mut answer = ArrayString::new();
-    answer.push_str(text);
-    answer
 }

@@ -2,7 +2,7 @@
 ghost use Rattle.std.specs.Prelude.{◌≡◌, ◌+◌, ◌≤◌, ◌↔◌, [], ◌∷◌, ◌++◌, length, IsTrue};
 ghost use Rattle.cidr.specs.Output.{reply_of};
 
-use crate::answer::{ANSWER_MAX, answer};
+use crate::answer::{ANSWER_MAX, Answer, answer};
 use crate::line::LINE_MAX;
 use arrayvec::ArrayVec;
 
@@ -58,7 +58,9 @@ impl Replies {
             self.push("line too long");
             return;
         }
-        self.push(answer(line).as_str());
+        let mut text = Answer::new();
+        answer(line, &mut text);
+        self.push(text.as_str());
     }
 
     fn push(&mut self, text: &str)

@@ -1,4 +1,10 @@
-use crate::answer::answer;
+use crate::answer::{Answer, answer};
+
+fn answered(line: &[u8]) -> Answer {
+    let mut text = Answer::new();
+    answer(line, &mut text);
+    text
+}
 
 #[test]
 fn commands_are_answered(rt: HostRuntime) {
@@ -18,6 +24,18 @@ fn commands_are_answered(rt: HostRuntime) {
         ("read4 ::1", "refused address"),
         ("read4 1.2.3.4/33", "refused prefix"),
         ("read4 1.2.3.4/255.0.255.0", "refused prefix"),
+        ("read6 ::1/129", "refused prefix"),
+        ("read6 1.2.3.4/24", "refused address"),
+        ("read6 ::1/24/", "refused format"),
+        ("read6 2001:DB8::/+032", "2001:db8::/32"),
+        ("read6 ::ffff:102:304", "::ffff:1.2.3.4/128"),
+        ("read6 2001:db8:0:0:1:0:0:1/064", "2001:db8::1:0:0:1/64"),
+        ("read6 ", "refused address"),
+        ("read6 fe80::1%eth0/64", "refused address"),
+        (
+            "read6 ffff:ffff:ffff:ffff:ffff:ffff:ffff:ffff",
+            "ffff:ffff:ffff:ffff:ffff:ffff:ffff:ffff/128",
+        ),
         ("has4 10.0.0.0/8 10.255.255.255", "yes"),
         ("has4 10.0.0.0/8 11.0.0.0", "no"),
         ("has4 0.0.0.0/0 255.255.255.255", "yes"),
@@ -30,7 +48,7 @@ fn commands_are_answered(rt: HostRuntime) {
         ("has4 10.0.0.0/8 10.0.0.1/32", "refused address"),
         ("has4 10.0.0.0/8 ", "refused address"),
     ] {
-        assert_eq!(rt; answer(line.as_bytes()).as_str(), text, "{line}");
+        assert_eq!(rt; answered(line.as_bytes()).as_str(), text, "{line}");
     }
 }
 
@@ -40,6 +58,9 @@ fn other_lines_are_unknown(rt: HostRuntime) {
         "",
         " ",
         "read4",
+        "read6",
+        "read6 ::1 ::1",
+        "read",
         "has4",
         "has4 1.2.3.4",
         "read4  1.2.3.4",
@@ -57,11 +78,11 @@ fn other_lines_are_unknown(rt: HostRuntime) {
         "\u{e9} 1.2.3.4",
     ] {
         assert_eq!(rt;
-            answer(line.as_bytes()).as_str(),
+            answered(line.as_bytes()).as_str(),
             "unknown command",
             "{line}"
         );
     }
-    assert_eq!(rt; answer(b"\xff \xff").as_str(), "unknown command");
-    assert_eq!(rt; answer(b"read4 \xff").as_str(), "refused address");
+    assert_eq!(rt; answered(b"\xff \xff").as_str(), "unknown command");
+    assert_eq!(rt; answered(b"read4 \xff").as_str(), "refused address");
 }

@@ -1,9 +1,9 @@
 use Rattle.std.proofs.Common.{sym, ◌∙◌}
-use Rattle.cidr.proofs.Answers.{one_word_line, two_word_line, three_word_line, longer_line}
+use Rattle.cidr.proofs.Answers.{said, one_word_line, two_word_line, three_word_line, longer_line}
 use Rattle.cidr.proofs.answer.answer.Goals as goal
 
 pub returns-in_default-clause-text : goal.returns-in_default-clause-text
-returns-in_default-clause-text c = c.say.ensures ∙ sym (one_word_line c.args.line.now c.in_default.ensures)
+returns-in_default-clause-text c = said _ _ _ c.requires c.push_str.ensures.bytes ∙ sym (one_word_line c.args.line.now c.in_default.ensures)
 
 pub returns-in_default-cut_word-clause-text : goal.returns-in_default-cut_word-clause-text
 returns-in_default-cut_word-clause-text c = c.answer_one.ensures.text ∙ sym (two_word_line c.args.line.now _ _ c.in-Some.ensures c.in_default-cut_word.ensures)
@@ -14,5 +14,5 @@ returns-in-None-clause-text c =
 
 pub returns-in-Some-cut_word-2-clause-text : goal.returns-in-Some-cut_word-2-clause-text
 returns-in-Some-cut_word-2-clause-text c =
-    c.say-in-Some-cut_word-2.ensures
+    said _ _ _ c.requires c.push_str-in-Some-cut_word-2.ensures.bytes
     ∙ sym (longer_line c.args.line.now _ c.in-Some.words.now _ c.in-Some-cut_word.words.now _ c.in-Some-cut_word-2.field-0.1.now c.in-Some.ensures c.in-Some-cut_word.ensures c.in-Some-cut_word-2.ensures)

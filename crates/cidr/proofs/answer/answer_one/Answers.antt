@@ -1,6 +1,6 @@
 use Rattle.std.specs.Prelude.{codes}
 use Rattle.cidr.specs.Commands.{one_word_answer}
-use Rattle.cidr.proofs.Answers.{chosen, other}
+use Rattle.cidr.proofs.Answers.{said, chosen, other}
 use Rattle.cidr.proofs.answer.answer_one.Goals as goal
 
 pub returns-then-eq-clause-text : goal.returns-then-eq-clause-text
@@ -17,4 +17,4 @@ pub returns-else-eq-2-clause-text : goal.returns-else-eq-2-clause-text
 unfolding one_word_answer
 returns-else-eq-2-clause-text c =
     other (codes "read4") c.args.command.now _ _ _ _ _ c.eq.ensures c.as_slice.ensures c.if-eq.false
-    (other (codes "read6") c.args.command.now _ _ _ _ _ c.eq-else-eq.ensures c.as_slice-else-eq.ensures c.if-eq-2.false c.say.ensures)
+    (other (codes "read6") c.args.command.now _ _ _ _ _ c.eq-else-eq.ensures c.as_slice-else-eq.ensures c.if-eq-2.false (said _ _ _ c.requires c.push_str.ensures.bytes))

@@ -1,15 +1,16 @@
 use Rattle.std.proofs.Common.{Ok, Err, ap, ◌∙◌}
 use Rattle.cidr.specs.Commands.{printed_v6, read6_answer}
+use Rattle.cidr.proofs.Answers.{said}
 use Rattle.cidr.proofs.answer.read6.Goals as goal
 
 pub returns-in-Ok-clause-text : goal.returns-in-Ok-clause-text
 unfolding read6_answer
 returns-in-Ok-clause-text c =
     let reading = (c.v6_network_reading_is_computed.ensures c.args.word.now (Ok c.in-Ok.network)).0 c.in-Ok.ensures in
-    c.say.ensures ∙ c.as_str.ensures.value ∙ c.canonical.ensures.bytes ∙ ap printed_v6 reading
+    said _ _ _ c.requires c.push_str.ensures.bytes ∙ c.as_str.ensures.value ∙ c.canonical.ensures.bytes ∙ ap printed_v6 reading
 
 pub returns-in-Err-clause-text : goal.returns-in-Err-clause-text
 unfolding read6_answer
 returns-in-Err-clause-text c =
     let reading = (c.v6_network_reading_is_computed.ensures c.args.word.now (Err c.in-Err.fault)).0 c.in-Err.ensures in
-    c.say-in-Err.ensures ∙ c.refusal.ensures.text ∙ ap printed_v6 reading
+    said _ _ _ c.requires c.push_str-in-Err.ensures.bytes ∙ c.refusal.ensures.text ∙ ap printed_v6 reading
