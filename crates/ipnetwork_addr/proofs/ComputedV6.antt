@@ -1,5 +1,5 @@
 -- The address that an IPv6 text names, computed.
-use Rattle.std.proofs.Common.{◌≡◌, ℕ, zero, suc, ◌+◌, ◌-◌, ◌^◌, ◌<◌, ◌≤◌, ◌==◌, ◌⊎◌, inl, inr, Bool, true, false, cond, List, [], ◌∷◌, ◌++◌, length, take, drop, replicate, Option, None, Some, refl, sym, ap, subst, ◌∙◌, arith, append-nil, append_assoc, take-append-drop, length-append, decimal}
+use Rattle.std.proofs.Common.{◌≡◌, ℕ, zero, suc, ◌+◌, ◌-◌, ◌^◌, ◌<◌, ◌≤◌, ◌==◌, inl, inr, Bool, true, false, cond, List, [], ◌∷◌, ◌++◌, length, take, drop, replicate, Option, None, Some, refl, sym, ap, subst, ◌∙◌, arith, append_assoc, take-append-drop, length-append, decimal}
 use Rattle.std.proofs.lemmas.Bool.{cond_both, ltb-true, lt-ltb, leb-true, le-leb, eqb-true, eq-eqb, ne_eqb, cases_eq}
 use Rattle.std.proofs.lemmas.Option.{none-some, same_Some}
 use Rattle.std.proofs.lemmas.List.{take_at, drop_at, drop-drop}
@@ -7,11 +7,11 @@ use Rattle.std.proofs.lemmas.List.Splits.{join_with_byte-slice_split}
 use Rattle.std.proofs.lemmas.Slice.Eq.{bytes_eq-Decides}
 use Rattle.std.specs.Prelude.{◌&&◌, nat_lt, nat_le, bytes_eq, codes}
 use Rattle.std.specs.Char.{digit_value, is_digit}
-use Rattle.std.specs.List.{slice_split, onto_first, list_all, join_with_byte, AllZip}
+use Rattle.std.specs.List.{list_all, join_with_byte, AllZip}
 use Rattle.std.specs.Int.Digits.{number_from_digits}
 use Rattle.std.specs.Str.Parse.{AllDigits, digits_value}
 use Rattle.ipnetwork_addr.specs.Ipv4Text.{NamesV4, v4_of}
-use Rattle.ipnetwork_addr.specs.Ipv6Text.{IsGroup, IsPlain, IsDotted, IsEnded, IsFull, HasGap, NamesV6, halves}
+use Rattle.ipnetwork_addr.specs.Ipv6Text.{IsGroup, IsPlain, IsDotted, IsEnded, NamesV6, halves}
 use Rattle.ipnetwork_addr.specs.Ipv6Computed.{or_else, group_of, grouped, groups_of, halves_of, dotted_groups_of, colon_parts, plain_of, dotted_of, full_number, gap_number, gap_at, gap_below, v6_of}
 use Rattle.std.proofs.lemmas.Fmt.{decimal_is_IsNumeral}
 use Rattle.std.proofs.lemmas.Str.Parse.{digit_from_value}
@@ -40,10 +40,10 @@ group_sound : (text : List ℕ) (g : ℕ) → group_of text ≡ Some g → IsGro
 group_sound text g =
     cond_both (nat_lt 0 (length text)) _ _ (λ (r : Option ℕ). r ≡ Some g → IsGroup text g)
     (λ some. cond_both (nat_le (length text) 4) _ _ (λ (r : Option ℕ). r ≡ Some g → IsGroup text g)
-      (λ short. cond_both (list_all (λ b. is_digit b 16) text) _ _ (λ (r : Option ℕ). r ≡ Some g → IsGroup text g)
-        (λ digits e. record { digits = (ltb-true 0 (length text) some, hex_digits text digits); short = leb-true (length text) 4 short; value = sym (same_Some _ g e) })
-        (λ other e. absurd (none-some g e)))
-      (λ long e. absurd (none-some g e)))
+    (λ short. cond_both (list_all (λ b. is_digit b 16) text) _ _ (λ (r : Option ℕ). r ≡ Some g → IsGroup text g)
+    (λ digits e. record { digits = (ltb-true 0 (length text) some, hex_digits text digits); short = leb-true (length text) 4 short; value = sym (same_Some _ g e) })
+    (λ other e. absurd (none-some g e)))
+    (λ long e. absurd (none-some g e)))
     (λ empty e. absurd (none-some g e))
 
 group_complete : (text : List ℕ) (g : ℕ) → IsGroup text g → group_of text ≡ Some g
@@ -279,9 +279,9 @@ gap_at_sound : (text : List ℕ) (i a : ℕ) → gap_at text i ≡ Some a → Na
 gap_at_sound text i a =
     cond_both (bytes_eq (take 2 (drop i text)) (codes "::")) _ _ (λ (r : Option ℕ). r ≡ Some a → NamesV6 text a)
     (λ here. let cut = cut_at text i ((bytes_eq-Decides (take 2 (drop i text)) (codes "::")).0 here) in
-      or_else_sound (NamesV6 text) _ _ a
-        (λ y. gap_sound text _ _ _ _ y cut (plain_sound (take i text)) (λ gs e. inl (plain_sound (drop (i + 2) text) gs e)))
-        (λ y. gap_sound text _ _ _ _ y cut (plain_sound (take i text)) (λ gs e. inr (dotted_sound (drop (i + 2) text) gs e))))
+    or_else_sound (NamesV6 text) _ _ a
+    (λ y. gap_sound text _ _ _ _ y cut (plain_sound (take i text)) (λ gs e. inl (plain_sound (drop (i + 2) text) gs e)))
+    (λ y. gap_sound text _ _ _ _ y cut (plain_sound (take i text)) (λ gs e. inr (dotted_sound (drop (i + 2) text) gs e))))
     (λ elsewhere e. absurd (none-some a e))
 
 gap_below_sound : (text : List ℕ) (n a : ℕ) → gap_below text n ≡ Some a → NamesV6 text a
@@ -295,8 +295,8 @@ v6_of_sound text a e =
     or_else_sound (NamesV6 text) (full_number (plain_of text)) _ a
     (λ y. full_sound text (plain_of text) y (λ gs f. inl (plain_sound text gs f)))
     (λ y. or_else_sound (NamesV6 text) (full_number (dotted_of text)) _ y
-      (λ z. full_sound text (dotted_of text) z (λ gs f. inr (dotted_sound text gs f)))
-      (gap_below_sound text (length text)))
+    (λ z. full_sound text (dotted_of text) z (λ gs f. inr (dotted_sound text gs f)))
+    (gap_below_sound text (length text)))
     e
 
 -- ---- something is found where the text names something
@@ -327,10 +327,10 @@ gap_at_found text l r ls rs cut plain ended room =
     let test : bytes_eq (take 2 (drop i text)) (codes "::") ≡ true = (bytes_eq-Decides (take 2 (drop i text)) (codes "::")).1 (ap (take 2) here) in
     let left : plain_of (take i text) ≡ Some ls = ap plain_of front ∙ plain_complete l ls plain in
     let found : Found (or_else (gap_number (plain_of (take i text)) (plain_of (drop (i + 2) text))) (gap_number (plain_of (take i text)) (dotted_of (drop (i + 2) text)))) =
-        elim ended [
-          | inl k ↦ found_first _ _ (gap_found ls rs _ _ left (ap plain_of back ∙ plain_complete r rs k) room)
-          | inr k ↦ found_second _ _ (gap_found ls rs _ _ left (ap dotted_of back ∙ dotted_complete r rs k) room)
-        ] in
+    elim ended [
+      | inl k ↦ found_first _ _ (gap_found ls rs _ _ left (ap plain_of back ∙ plain_complete r rs k) room)
+      | inr k ↦ found_second _ _ (gap_found ls rs _ _ left (ap dotted_of back ∙ dotted_complete r rs k) room)
+    ] in
     (found.0, ap (λ v. cond v (or_else (gap_number (plain_of (take i text)) (plain_of (drop (i + 2) text))) (gap_number (plain_of (take i text)) (dotted_of (drop (i + 2) text)))) None) test ∙ found.1)
 
 gap_below_found : (text : List ℕ) (n i : ℕ) → i < n → Found (gap_at text i) → Found (gap_below text n)
@@ -349,9 +349,9 @@ found text a (inl h) = elim h.ended [
 ]
 found text a (inr h) =
     let count : length text ≡ length h.left_text + (2 + length h.right_text) =
-        ap length h.spelled ∙ length-append (h.left_text ++ (58 ∷ 58 ∷ [])) h.right_text ∙ (let k = length-append h.left_text (58 ∷ 58 ∷ []) in omega arith) in
+    ap length h.spelled ∙ length-append (h.left_text ++ (58 ∷ 58 ∷ [])) h.right_text ∙ (let k = length-append h.left_text (58 ∷ 58 ∷ []) in omega arith) in
     found_second _ _ (found_second _ _ (gap_below_found text (length text) (length h.left_text) (omega arith)
-        (gap_at_found text h.left_text h.right_text h.left h.right h.spelled h.left_plain h.right_ended h.room)))
+    (gap_at_found text h.left_text h.right_text h.left h.right h.spelled h.left_plain h.right_ended h.room)))
 
 pub v6_of_complete : (text : List ℕ) (a : ℕ) → NamesV6 text a → v6_of text ≡ Some a
 v6_of_complete text a h =

@@ -19,17 +19,17 @@ pub fn v4_order(a: Ipv4Addr, b: Ipv4Addr) -> bool
 }
 
 /// Of two IPv6 addresses the one with the lower number is before the other.
-pub fn v6_order(a: Ipv6Addr, b: Ipv6Addr) -> bool
-    ensures { IsTrue result ↔ (a < b) }
+pub fn v6_order(first: Ipv6Addr, second: Ipv6Addr) -> bool
+    ensures { IsTrue result ↔ (first < second) }
 {
-    a < b
+    first < second
 }
 
 /// Each IPv4 address is before each IPv6 address, and in a family the lower number is before.
-pub fn ip_order(a: IpAddr, b: IpAddr) -> bool
-    ensures { IsTrue result ↔ IsBefore a b }
+pub fn ip_order(one: IpAddr, other: IpAddr) -> bool
+    ensures { IsTrue result ↔ IsBefore one other }
 {
-    a < b
+    one < other
 }
 
 /// An octet text is one to three decimal digits of value at most 255, without a leading zero.

@@ -3,3 +3,4 @@
 mod ipv4;
 mod ipv6;
 mod ipv6_comparison;
+mod laws;

@@ -6,4 +6,5 @@ mod ipv4_texts;
 mod ipv6_carried;
 mod ipv6_questions;
 mod ipv6_texts;
+mod laws;
 mod parts;

@@ -1,4 +1,4 @@
-use crate::{AddrParseError, Ipv4Addr, laws};
+use crate::{AddrParseError, Ipv4Addr};
 use arrayvec::ArrayString;
 use std::collections::HashSet;
 use std::fmt::Write;
@@ -115,15 +115,4 @@ fn fault_texts(rt: HostRuntime) -> Result<(), Fail> {
         assert_eq!(rt; printed.as_str(), text);
     }
     Ok(())
-}
-
-#[test]
-fn laws_are_called() {
-    laws::octet_texts();
-    laws::v4_text_names_one();
-    laws::canonical_v4_names_its_address();
-    laws::canonical_v4_is_one_to_one();
-    laws::v4_text_bytes();
-    laws::v4_text_is_computed();
-    laws::v6_text_is_computed();
 }

@@ -1,5 +1,5 @@
 use crate::CidrFault::{Addr, Format, Prefix};
-use crate::{CidrFault, Ipv4Network, laws};
+use crate::{CidrFault, Ipv4Network};
 use arrayvec::ArrayString;
 use ipnetwork_addr::Ipv4Addr;
 use std::fmt::Write;
@@ -151,24 +151,4 @@ fn display_ignores_width_and_fill(rt: HostRuntime) -> Result<(), Fail> {
     )?;
     assert_eq!(rt; printed.as_str(), "1.2.3.4/32");
     Ok(())
-}
-
-#[test]
-fn laws_are_called() {
-    laws::ends();
-    laws::subnets();
-    laws::nesting();
-    laws::order();
-    laws::listing();
-    laws::masks();
-    laws::v4_network_text_names_one();
-    laws::v4_network_reading_is_computed();
-    laws::canonical_v4_network_names_it();
-    laws::canonical_v4_network_is_one_to_one();
-    laws::canonical_v4_network_bytes();
-    laws::v6_network_text_names_one();
-    laws::v6_network_reading_is_computed();
-    laws::canonical_v6_network_names_it();
-    laws::canonical_v6_network_is_one_to_one();
-    laws::canonical_v6_network_bytes();
 }

@@ -1,0 +1,22 @@
+//! The laws, each called once.
+use crate::laws;
+
+#[test]
+fn laws_are_called() {
+    laws::ends();
+    laws::subnets();
+    laws::nesting();
+    laws::order();
+    laws::listing();
+    laws::masks();
+    laws::v4_network_text_names_one();
+    laws::v4_network_reading_is_computed();
+    laws::canonical_v4_network_names_it();
+    laws::canonical_v4_network_is_one_to_one();
+    laws::canonical_v4_network_bytes();
+    laws::v6_network_text_names_one();
+    laws::v6_network_reading_is_computed();
+    laws::canonical_v6_network_names_it();
+    laws::canonical_v6_network_is_one_to_one();
+    laws::canonical_v6_network_bytes();
+}
