@@ -1,12 +1,9 @@
 -- Blocks of addresses: what it means to share the first bits.
-use Rattle.std.proofs.Common.{◌≡◌, ◌↔◌, ℕ, ◌+◌, ◌-◌, ◌*◌, ◌/◌, ◌^◌, ◌<◌, ◌≤◌, ◌⊎◌, inl, inr, sym, refl, ap, subst, ◌∙◌, Bool, true, false, IsTrue, leb, ◌≢◌, arith, ⊎_elim}
+use Rattle.std.proofs.Common.{◌≡◌, ◌↔◌, ℕ, ◌+◌, ◌-◌, ◌*◌, ◌/◌, ◌^◌, ◌<◌, ◌≤◌, ◌⊎◌, inl, inr, sym, refl, ap, subst, ◌∙◌, Bool, true, false, IsTrue, leb, arith, ⊎_elim}
 use Rattle.std.proofs.Math.Nat.{div-mul-le_self, lt-div-mul-add, div-lt_iff_lt-mul, div-div-eq-div-mul}
 use Rattle.std.proofs.lemmas.Nat.{pow_pos, pow-add, div-mul-add, mul-le, pow_below}
-use Rattle.std.specs.declared.cmp.Ordering.TheVariants.{Less, Equal, Greater}
-use Rattle.std.specs.Ordering.{nat_cmp, ordering_then}
-use Rattle.std.proofs.lemmas.Cmp.{ranked, by_ranked}
 use Rattle.std.proofs.lemmas.Bool.{cases_lt, leb-true}
-use Rattle.ipnetwork_family.specs.Network.{Network, IsNetwork, Member, low, high, block_size, IsBlock, Subnet, Overlap, AtMost, mask_of, network_cmp}
+use Rattle.ipnetwork_family.specs.Network.{Network, IsNetwork, Member, low, high, block_size, IsBlock, Subnet, Overlap, AtMost, mask_of}
 use Rattle.ipnetwork_family.specs.Laws.{HasEnds}
 
 -- the quotient is q for each number from q * s on, below q * s + s
@@ -226,33 +223,6 @@ overlap_if_first w a b q h k e s = (
   (λ (y : IsTrue q). (overlap_by_address w a b h k).1 (inl (s.0 y))),
   (λ (o : Overlap w a b). e),
 )
-
--- the order as a comparison
-pub at_most_from_cmp : (a b : Network) → network_cmp a b ≢ Greater → AtMost a b
-at_most_from_cmp a b h =
-    by_ranked (a.address < b.address) (a.address ≡ b.address) (b.address < a.address) (nat_cmp a.address b.address) (ranked a.address b.address _ refl)
-    (λ _ l. inl l)
-    (λ e f. by_ranked (a.prefix < b.prefix) (a.prefix ≡ b.prefix) (b.prefix < a.prefix) (nat_cmp a.prefix b.prefix) (ranked a.prefix b.prefix _ refl)
-    (λ _ l. inr (f, omega arith))
-    (λ _ m. inr (f, omega arith))
-    (λ g _. absurd (h (ap (λ o. ordering_then o (nat_cmp a.prefix b.prefix)) e ∙ g))))
-    (λ e _. absurd (h (ap (λ o. ordering_then o (nat_cmp a.prefix b.prefix)) e)))
-
-less_not_greater : Less ≡ Greater → ⊥
-less_not_greater e = cc
-
-equal_not_greater : Equal ≡ Greater → ⊥
-equal_not_greater e = cc
-
-pub cmp_from_at_most : (a b : Network) → AtMost a b → network_cmp a b ≢ Greater
-cmp_from_at_most a b m greater =
-    by_ranked (a.address < b.address) (a.address ≡ b.address) (b.address < a.address) (nat_cmp a.address b.address) (ranked a.address b.address _ refl)
-    (λ e _. less_not_greater (sym (ap (λ o. ordering_then o (nat_cmp a.prefix b.prefix)) e) ∙ greater))
-    (λ e f. by_ranked (a.prefix < b.prefix) (a.prefix ≡ b.prefix) (b.prefix < a.prefix) (nat_cmp a.prefix b.prefix) (ranked a.prefix b.prefix _ refl)
-    (λ g _. less_not_greater (sym (ap (λ o. ordering_then o (nat_cmp a.prefix b.prefix)) e ∙ g) ∙ greater))
-    (λ g _. equal_not_greater (sym (ap (λ o. ordering_then o (nat_cmp a.prefix b.prefix)) e ∙ g) ∙ greater))
-    (λ _ l. ⊎_elim (λ (k : a.address < b.address). let r : ⊥ = omega arith in r) (λ (k : (a.address ≡ b.address) × (a.prefix ≤ b.prefix)). let r : ⊥ = omega arith in r) m))
-    (λ _ l. ⊎_elim (λ (k : a.address < b.address). let r : ⊥ = omega arith in r) (λ (k : (a.address ≡ b.address) × (a.prefix ≤ b.prefix)). let r : ⊥ = omega arith in r) m)
 
 -- the four tests in turn
 pub overlap_at_end : (w : ℕ) (a b : Network) (q : Bool) → IsNetwork w b → q ≡ true → (IsTrue q ↔ Member w a (high w b)) → IsTrue true ↔ Overlap w a b

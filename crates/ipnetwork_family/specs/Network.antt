@@ -1,8 +1,6 @@
 -- Networks of addresses of w bits, as numbers: 32 for IPv4 and 128 for IPv6 (RFC 4632, section 3.1; RFC 4291,
 -- section 2.3).
 use Rattle.std.specs.Prelude.{◌≡◌, ◌≢◌, ◌==◌, if◌then◌else◌, Option, None, Some, ℕ, zero, suc, ◌+◌, ◌-◌, ◌*◌, ◌/◌, ◌^◌, ◌<◌, ◌≤◌, ◌⊎◌, min, List, [], ◌∷◌}
-use Rattle.std.specs.declared.cmp.Ordering.{Ordering}
-use Rattle.std.specs.Ordering.{nat_cmp, ordering_then}
 use Rattle.std.specs.Int.Count.{count_leading_zeros}
 
 -- an address with its host bits, and the prefix length: how many of its first bits are fixed
@@ -64,11 +62,7 @@ Subnet w a b = (x : ℕ) → Member w a x → Member w b x
 abbrev pub Overlap : ℕ → Network → Network → Type 0
 Overlap w a b = (x : ℕ) × Member w a x × Member w b x
 
--- by address, then prefix
-abbrev pub network_cmp : Network → Network → Ordering
-network_cmp a b = ordering_then (nat_cmp a.address b.address) (nat_cmp a.prefix b.prefix)
-
--- a comes before b, or is b
+-- in order, a comes before b, or is b: by address, then by prefix length
 abbrev pub AtMost : Network → Network → Type 0
 AtMost a b = (a.address < b.address) ⊎ ((a.address ≡ b.address) × (a.prefix ≤ b.prefix))
 

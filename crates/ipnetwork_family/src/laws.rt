@@ -1,17 +1,18 @@
-//! The laws of networks and of their texts. Each function's contract is a law; it takes nothing and
-//! does nothing, and a proof that calls it may use the law. The laws of sets hold of addresses of any
-//! number of bits.
-ghost use Rattle.std.specs.Prelude.{◌≡◌, ◌↔◌, ℕ, List, Result};
+//! The laws of networks and of their texts. Each function's contract is a law. One of sets or texts
+//! takes nothing and does nothing, and a proof that calls it may use the law. The laws of sets hold of
+//! addresses of any number of bits.
+ghost use Rattle.std.specs.Prelude.{◌≡◌, ◌↔◌, ℕ, List, Result, IsTrue};
 ghost use Rattle.std.specs.List.{AllByRecursion};
 ghost use Rattle.ipnetwork_addr.specs.Ipv4Text.{canonical_v4};
 ghost use Rattle.ipnetwork_addr.specs.Ipv6Canonical.{canonical_v6};
-ghost use Rattle.ipnetwork_family.specs.Network.{Network, IsNetwork};
+ghost use Rattle.ipnetwork_family.specs.Network.{Network, IsNetwork, AtMost};
 ghost use Rattle.ipnetwork_family.specs.NetworkText.{network_text, IsNetworkByte};
 ghost use Rattle.ipnetwork_family.specs.Ipv4NetworkText.{NamesV4Network, ReadsV4Network, v4_network_of};
 ghost use Rattle.ipnetwork_family.specs.Ipv6NetworkText.{NamesV6Network, ReadsV6Network, v6_network_of};
 ghost use Rattle.ipnetwork_family.specs.Laws.{EndsLaw, SubnetReflexive, SubnetTransitive, SameSet, Nesting, OverlapSymmetric, OverlapByAddress, OverlapByEnds, SubnetComesAfter, BetweenIsSubnet, MembersLaw, MasksDiffer};
 ghost use Rattle.ipnetwork_family.specs.declared.error.CidrFault.{CidrFault};
 
+use crate::{Ipv4Network, Ipv6Network};
 use ipnetwork_addr::laws as addresses;
 
 /// The ends of a network are its least and its greatest member, and its address is a member.
@@ -52,6 +53,20 @@ pub fn listing()
 pub fn masks()
     ensures { MasksDiffer }
 {}
+
+/// IPv4 networks are ordered by address, then by prefix length.
+pub fn v4_network_order(a: Ipv4Network, b: Ipv4Network) -> bool
+    ensures { IsTrue result ↔ AtMost a b }
+{
+    a <= b
+}
+
+/// IPv6 networks are ordered by address, then by prefix length.
+pub fn v6_network_order(one: Ipv6Network, other: Ipv6Network) -> bool
+    ensures { IsTrue result ↔ AtMost one other }
+{
+    one <= other
+}
 
 /// A text names at most one IPv4 network.
 pub fn v4_network_text_names_one()
