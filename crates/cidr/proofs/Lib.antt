@@ -1,6 +1,7 @@
 pub mod Answers
 pub mod BytesLemmas
 pub mod Cuts
+pub mod Examples
 pub mod Gathering
 pub mod Kept
 pub mod Lines

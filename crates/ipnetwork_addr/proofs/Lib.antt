@@ -4,6 +4,7 @@ pub mod ComputedV4
 pub mod ComputedV6
 pub mod Decimals
 pub mod EitherFamily
+pub mod Examples
 pub mod Gaps
 pub mod Groups
 pub mod Hexes
