@@ -10,8 +10,9 @@ pub use ipnetwork_addr::laws::{
 };
 pub use ipnetwork_family::laws::{
     canonical_v4_network_bytes, canonical_v4_network_is_one_to_one, canonical_v4_network_names_it,
-    canonical_v6_network_bytes, canonical_v6_network_is_one_to_one, canonical_v6_network_names_it,
-    ends, listing, masks, nesting, order, subnets, v4_network_order,
-    v4_network_reading_is_computed, v4_network_text_names_one, v6_network_order,
+    canonical_v4_network_reads_back, canonical_v6_network_bytes,
+    canonical_v6_network_is_one_to_one, canonical_v6_network_names_it,
+    canonical_v6_network_reads_back, ends, listing, masks, nesting, order, subnets,
+    v4_network_order, v4_network_reading_is_computed, v4_network_text_names_one, v6_network_order,
     v6_network_reading_is_computed, v6_network_text_names_one,
 };

@@ -1,7 +1,7 @@
 //! The laws of networks and of their texts. Each function's contract is a law. One of sets or texts
 //! takes nothing and does nothing, and a proof that calls it may use the law. The laws of sets hold of
 //! addresses of any number of bits.
-ghost use Rattle.std.specs.Prelude.{◌≡◌, ◌↔◌, ℕ, List, Result, IsTrue};
+ghost use Rattle.std.specs.Prelude.{◌≡◌, ◌↔◌, ℕ, List, Result, Ok, IsTrue};
 ghost use Rattle.std.specs.List.{AllByRecursion};
 ghost use Rattle.ipnetwork_addr.specs.Ipv4Text.{canonical_v4};
 ghost use Rattle.ipnetwork_addr.specs.Ipv6Canonical.{canonical_v6};
@@ -92,6 +92,16 @@ pub fn canonical_v4_network_names_it()
     addresses::canonical_v4_names_its_address();
 }
 
+/// Reading the canonical text of an IPv4 network answers that network and nothing else, so printing it
+/// again changes nothing.
+pub fn canonical_v4_network_reads_back()
+    ensures { (n : Network) (result : Result Network CidrFault) → IsNetwork 32 n
+        → ReadsV4Network (network_text canonical_v4 n) result ↔ (result ≡ Ok n) }
+{
+    v4_network_reading_is_computed();
+    canonical_v4_network_names_it();
+}
+
 /// Two IPv4 networks are equal exactly if their canonical texts are.
 pub fn canonical_v4_network_is_one_to_one()
     ensures { (a b : Network) → IsNetwork 32 a → IsNetwork 32 b
@@ -133,6 +143,16 @@ pub fn canonical_v6_network_names_it()
 {
     addresses::canonical_v6_names_its_address();
     addresses::canonical_v6_is_one_text();
+}
+
+/// Reading the canonical text of an IPv6 network answers that network and nothing else, so printing it
+/// again changes nothing.
+pub fn canonical_v6_network_reads_back()
+    ensures { (n : Network) (result : Result Network CidrFault) → IsNetwork 128 n
+        → ReadsV6Network (network_text canonical_v6 n) result ↔ (result ≡ Ok n) }
+{
+    v6_network_reading_is_computed();
+    canonical_v6_network_names_it();
 }
 
 /// Two IPv6 networks are equal exactly if their canonical texts are.

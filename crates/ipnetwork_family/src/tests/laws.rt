@@ -14,11 +14,13 @@ fn laws_are_called() {
     laws::v4_network_text_names_one();
     laws::v4_network_reading_is_computed();
     laws::canonical_v4_network_names_it();
+    laws::canonical_v4_network_reads_back();
     laws::canonical_v4_network_is_one_to_one();
     laws::canonical_v4_network_bytes();
     laws::v6_network_text_names_one();
     laws::v6_network_reading_is_computed();
     laws::canonical_v6_network_names_it();
+    laws::canonical_v6_network_reads_back();
     laws::canonical_v6_network_is_one_to_one();
     laws::canonical_v6_network_bytes();
 }
