@@ -18,4 +18,5 @@ pub mod Parts
 pub mod PlainOctet
 pub mod Printed
 pub mod Shifts
+mod WideDecimals
 pub mod ZeroRuns

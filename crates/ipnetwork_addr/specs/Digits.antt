@@ -1,6 +1,6 @@
 -- An address as its digits. An address is a number: one of 32 bits for IPv4 (RFC 791, section 2.3), and one of
 -- 128 bits for IPv6 (RFC 4291, section 2).
-use Rattle.std.specs.Prelude.{ℕ, zero, suc, ◌/◌, ◌%◌, ◌^◌, List, [], ◌∷◌, ◌++◌}
+use Rattle.std.specs.Prelude.{ℕ, zero, suc, ◌+◌, ◌/◌, ◌%◌, ◌^◌, List, [], ◌∷◌, ◌++◌}
 
 -- the last digits of a number in the base, this many, highest first
 abbrev pub digits_in : ℕ → ℕ → ℕ → List ℕ
@@ -18,3 +18,8 @@ octets_of_v6 address = digits_in 256 16 address
 -- the groups of an IPv6 address: its eight digits in base 2^16
 abbrev pub segments_of : ℕ → List ℕ
 segments_of address = digits_in (2 ^ 16) 8 address
+
+-- the last decimal digits of a number, this many, as bytes
+unfoldable pub padded_decimal : ℕ → ℕ → List ℕ
+padded_decimal zero n = []
+padded_decimal (suc count) n = padded_decimal count (n / 10) ++ (48 + n % 10) ∷ []

@@ -1,6 +1,7 @@
-//! Small numbers, written at the end of a text.
-ghost use Rattle.std.specs.Prelude.{◌≡◌, ◌+◌, ◌<◌, ◌≤◌, ◌++◌, decimal};
+//! Numbers, written in decimal at the end of a text.
+ghost use Rattle.std.specs.Prelude.{◌≡◌, ◌+◌, ◌^◌, ◌<◌, ◌≤◌, ◌++◌, length, decimal};
 ghost use Rattle.arrayvec.specs.ArrayString.{array_string_len};
+ghost use Rattle.ipnetwork_addr.specs.Digits.{padded_decimal};
 
 use arrayvec::ArrayString;
 
@@ -29,4 +30,67 @@ fn digit(value: u8) -> char
     ensures { result ≡ 48 + value }
 {
     char::from(b'0' + value)
+}
+
+/// Ten to the power of `CHUNK_DIGITS`: the greatest power of ten that fits 64 bits.
+const CHUNK: u128 = 10_000_000_000_000_000_000;
+
+/// How many digits of a large number are written at a time.
+const CHUNK_DIGITS: u8 = 19;
+
+/// Writes the shortest decimal of a number at the end of a text: one to 39 bytes, for which there must
+/// be room. Does not allocate.
+pub fn push_number<const N: usize>(text: &mut ArrayString<N>, number: u128)
+    requires { array_string_len text.old + 39 ≤ N }
+    ensures bytes { text.new.bytes ≡ text.old.bytes ++ decimal number }
+    ensures room { array_string_len text.new ≤ array_string_len text.old + 39 }
+{
+    let high = number / CHUNK;
+    let low = (number % CHUNK) as u64;
+    if high == 0 {
+        push_shortest(text, low);
+    } else if high < CHUNK {
+        push_shortest(text, high as u64);
+        push_padded(text, low, CHUNK_DIGITS);
+    } else {
+        text.push(digit((high / CHUNK) as u8));
+        push_padded(text, (high % CHUNK) as u64, CHUNK_DIGITS);
+        push_padded(text, low, CHUNK_DIGITS);
+    }
+}
+
+/// Writes the shortest decimal of a number: one to 20 bytes.
+fn push_shortest<const N: usize>(text: &mut ArrayString<N>, number: u64)
+    requires { array_string_len text.old + 20 ≤ N }
+    ensures bytes { text.new.bytes ≡ text.old.bytes ++ decimal number }
+    ensures room { array_string_len text.new ≤ array_string_len text.old + 20 }
+{
+    push_padded(text, number, digit_count(number));
+}
+
+/// The number of digits of a number's shortest decimal.
+fn digit_count(number: u64) -> u8
+    ensures counted { result ≡ length (decimal number) }
+    ensures few { result ≤ 20 }
+{
+    let mut count = 1;
+    let mut rest = number;
+    'digits: while rest >= 10 {
+        count += 1;
+        rest /= 10;
+    }
+    count
+}
+
+/// Writes the last digits of a number, this many, zeros among them.
+fn push_padded<const N: usize>(text: &mut ArrayString<N>, number: u64, count: u8)
+    requires { array_string_len text.old + count ≤ N }
+    ensures bytes { text.new.bytes ≡ text.old.bytes ++ padded_decimal count number }
+    ensures room { array_string_len text.new ≡ array_string_len text.old + count }
+{
+    if count == 0 {
+        return;
+    }
+    push_padded(text, number / 10, count - 1);
+    text.push(digit((number % 10) as u8));
 }

@@ -1,0 +1,110 @@
+-- Long decimals: their lengths, and how one is written in parts.
+use Rattle.std.proofs.Common.{◌≡◌, ℕ, zero, suc, ◌+◌, ◌-◌, ◌*◌, ◌/◌, ◌%◌, ◌^◌, ◌<◌, ◌≤◌, List, [], ◌∷◌, ◌++◌, length, decimal, refl, sym, ap, ◌∙◌, arith, add-one, append_assoc, length-append, mul-le-mul_right}
+use Rattle.std.proofs.lemmas.Fmt.{decimal_digit, decimal_step, decimal_step_wide, decimal_by_steps, length-decimal-le}
+use Rattle.std.proofs.Math.Nat.{pow-succ'}
+use Rattle.std.proofs.lemmas.List.{append-nil}
+use Rattle.ipnetwork_addr.specs.Digits.{padded_decimal}
+
+pub length-decimal_step : (n : ℕ) → 10 ≤ n → n < 2 ^ 64 → length (decimal n) ≡ length (decimal (n / 10)) + 1
+length-decimal_step n low high =
+    ap length (decimal_step n low high) ∙ length-append (decimal (n / 10)) ((48 + n % 10) ∷ [])
+
+pub length-decimal_digit : (n : ℕ) → n < 10 → length (decimal n) ≡ 1
+length-decimal_digit n h = ap length (decimal_digit n h)
+
+pub length-padded : (count n : ℕ) → length (padded_decimal count n) ≡ count
+unfolding padded_decimal
+length-padded zero n = refl
+length-padded (suc count) n =
+    length-append (padded_decimal count (n / 10)) ((48 + n % 10) ∷ []) ∙ omega (arith, length-padded count (n / 10))
+
+pub padded_step : (count n : ℕ) → 0 < count → padded_decimal count n ≡ padded_decimal (count - 1) (n / 10) ++ (48 + n % 10) ∷ []
+unfolding padded_decimal
+padded_step zero n h = absurd (omega arith)
+padded_step (suc count) n h =
+    let e : suc count - 1 ≡ count = omega arith in
+    rw e refl
+
+-- a number in two parts: what stands above its last digits, and these
+pub decimal-parts : (count high low : ℕ) → 0 < high → low < 10 ^ count → high * 10 ^ count + low < 10 ^ 64
+    → decimal (high * 10 ^ count + low) ≡ decimal high ++ padded_decimal count low
+unfolding padded_decimal
+decimal-parts zero high low positive fits small =
+    let e : high * 10 ^ 0 + low ≡ high = omega arith in
+    ap decimal e ∙ sym (append-nil (decimal high))
+decimal-parts (suc count) high low positive fits small =
+    let power : 10 ^ suc count ≡ 10 * 10 ^ count = pow-succ' 10 count in
+    let product : high * 10 ^ suc count ≡ 10 * (high * 10 ^ count) = ap (λ p. high * p) power ∙ omega arith in
+    let above : 1 * 10 ^ count ≤ high * 10 ^ count = mul-le-mul_right (10 ^ count) positive in
+    let front : (high * 10 ^ suc count + low) / 10 ≡ high * 10 ^ count + low / 10 = omega arith in
+    let last : (high * 10 ^ suc count + low) % 10 ≡ low % 10 = omega arith in
+    let more : 10 ≤ high * 10 ^ suc count + low = omega arith in
+    let below : low / 10 < 10 ^ count = omega arith in
+    let rest : high * 10 ^ count + low / 10 < 10 ^ 64 = omega arith in
+    decimal_step_wide (high * 10 ^ suc count + low) more small
+    ∙ rw (front, last, decimal-parts count high (low / 10) positive below rest, append_assoc)
+
+-- a text, after the last digits of a number were pushed
+pub padded_none : (text : List ℕ) (count n : ℕ) → count ≡ 0 → text ≡ text ++ padded_decimal count n
+unfolding padded_decimal
+padded_none text count n none = rw none (sym (append-nil text))
+
+pub padded_pushed : (text one two : List ℕ) (count n d : ℕ) → 0 < count → one ≡ text ++ padded_decimal (count - 1) (n / 10)
+    → d ≡ 48 + n % 10 → two ≡ one ++ d ∷ [] → two ≡ text ++ padded_decimal count n
+padded_pushed text one two count n d some h is_d k = k ∙ rw (h, is_d, padded_step count n some, append_assoc)
+
+-- a text, after as many digits were pushed as the shortest decimal has
+pub padded-shortest : (n : ℕ) → n < 2 ^ 64 → padded_decimal (length (decimal n)) n ≡ decimal n
+unfolding padded_decimal
+padded-shortest n small =
+    decimal_by_steps (λ m ds. padded_decimal (length ds) m ≡ ds)
+    (λ m h. ap (λ d. (48 + d) ∷ []) (omega arith))
+    (λ m ds h same. rw (length-append ds ((48 + m % 10) ∷ []), add-one) (ap (λ front. front ++ (48 + m % 10) ∷ []) same))
+    n small
+
+pub shortest_pushed : (text one : List ℕ) (n count : ℕ) → n < 2 ^ 64 → count ≡ length (decimal n) → one ≡ text ++ padded_decimal count n
+    → one ≡ text ++ decimal n
+shortest_pushed text one n count small counted h = h ∙ ap (λ d. text ++ d) (rw counted (padded-shortest n small))
+
+-- the digits that were counted, and those that are left, of which one is not counted yet
+abbrev pub CountsDigits : ℕ → ℕ → ℕ → Type 0
+CountsDigits n count rest = length (decimal n) + 1 ≡ count + length (decimal rest)
+
+pub counted_step : (n count rest : ℕ) → 10 ≤ rest → rest < 2 ^ 64 → CountsDigits n count rest → CountsDigits n (count + 1) (rest / 10)
+counted_step n count rest low fits all = omega (arith, all, length-decimal_step rest low fits)
+
+pub counted_end : (n count rest : ℕ) → rest < 10 → CountsDigits n count rest → count ≡ length (decimal n)
+counted_end n count rest last all = omega (arith, all, length-decimal_digit rest last)
+
+-- no number of 64 bits has more than 20 digits
+pub counted_few : (n count rest : ℕ) → n < 2 ^ 64 → CountsDigits n count rest → count ≤ 21
+counted_few n count rest fits all = omega (arith, all, length-decimal-le 20 n (omega arith) (omega arith) fits)
+
+pub count_few : (n count : ℕ) → n < 2 ^ 64 → count ≡ length (decimal n) → count ≤ 20
+count_few n count fits e = omega (arith, e, length-decimal-le 20 n (omega arith) (omega arith) fits)
+
+pub digit_pushed : (text one : List ℕ) (n d : ℕ) → n < 10 → d ≡ 48 + n → one ≡ text ++ d ∷ [] → one ≡ text ++ decimal n
+digit_pushed text one n d small is_d h = h ∙ rw (is_d, decimal_digit n small)
+
+-- a number of up to 39 digits, written in two parts or in three
+pub parts_two : (n high low : ℕ) → n < 2 ^ 128 → high ≡ n / 10 ^ 19 → low ≡ n % 10 ^ 19 → 0 < high
+    → decimal n ≡ decimal high ++ padded_decimal 19 low
+parts_two n high low fits is_high is_low some =
+    let whole : n ≡ high * 10 ^ 19 + low = omega arith in
+    let below : low < 10 ^ 19 = omega arith in
+    rw whole (decimal-parts 19 high low some below (omega arith))
+
+pub two_pushed : (text one two : List ℕ) (n high low : ℕ) → n < 2 ^ 128 → high ≡ n / 10 ^ 19 → low ≡ n % 10 ^ 19 → 0 < high
+    → one ≡ text ++ decimal high → two ≡ one ++ padded_decimal 19 low → two ≡ text ++ decimal n
+two_pushed text one two n high low fits is_high is_low some h k =
+    k ∙ rw (h, parts_two n high low fits is_high is_low some, append_assoc)
+
+pub three_pushed : (text one two three : List ℕ) (n high top middle low d : ℕ) → n < 2 ^ 128 → high ≡ n / 10 ^ 19 → low ≡ n % 10 ^ 19
+    → 10 ^ 19 ≤ high → top ≡ high / 10 ^ 19 → middle ≡ high % 10 ^ 19 → d ≡ 48 + top
+    → one ≡ text ++ d ∷ [] → two ≡ one ++ padded_decimal 19 middle → three ≡ two ++ padded_decimal 19 low → three ≡ text ++ decimal n
+three_pushed text one two three n high top middle low d fits is_high is_low large is_top is_middle is_d h k l =
+    let small : high < 2 ^ 128 = omega arith in
+    let digit : top < 10 = omega arith in
+    let some : 0 < top = omega arith in
+    two_pushed text two three n high low fits is_high is_low (omega arith)
+        (two_pushed text one two high top middle small is_top is_middle some (digit_pushed text one top d digit is_d h) k) l
