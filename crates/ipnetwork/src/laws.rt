@@ -1,6 +1,17 @@
 //! The laws of addresses, of networks and of their texts. Each function's contract is a law, and a
 //! proof that calls it may use the law.
+ghost use Rattle.std.specs.Prelude.{◌≡◌, ◌↔◌, ℕ, List, Result, Ok, IsTrue};
+ghost use Rattle.std.specs.List.{AllByRecursion};
+ghost use Rattle.ipnetwork_family.specs.NetworkText.{IsNetworkByte};
+ghost use Rattle.ipnetwork_family.specs.declared.error.CidrFault.{CidrFault};
+ghost use Rattle.ipnetwork.specs.IpNetworks.{IsIpNetwork, IsAtMost, AreApart};
+ghost use Rattle.ipnetwork.specs.IpNetworkText.{NamesIpNetwork, ReadsIpNetwork, ip_network_text, ip_network_of};
+ghost use Rattle.ipnetwork.specs.Sizes.{number_of};
+ghost use Rattle.ipnetwork_family.specs.Network.{Network, IsNetwork};
+ghost use Rattle.ipnetwork.specs.declared.ip_network.IpNetwork.TheVariants as networks;
 
+use crate::{IpNetwork, NetworkSize};
+use ipnetwork_addr::laws as addresses;
 pub use ipnetwork_addr::laws::{
     canonical_ip_is_one_to_one, canonical_ip_names_its_address, canonical_v4_is_one_to_one,
     canonical_v4_names_its_address, canonical_v6_is_one_text, canonical_v6_is_one_to_one,
@@ -8,6 +19,7 @@ pub use ipnetwork_addr::laws::{
     v4_order, v4_text_bytes, v4_text_is_computed, v4_text_names_one, v6_order, v6_text_bytes,
     v6_text_is_computed, v6_text_names_one,
 };
+use ipnetwork_family::laws as families;
 pub use ipnetwork_family::laws::{
     canonical_v4_network_bytes, canonical_v4_network_is_one_to_one, canonical_v4_network_names_it,
     canonical_v4_network_reads_back, canonical_v6_network_bytes,
@@ -16,3 +28,78 @@ pub use ipnetwork_family::laws::{
     v4_network_order, v4_network_reading_is_computed, v4_network_text_names_one, v6_network_order,
     v6_network_reading_is_computed, v6_network_text_names_one,
 };
+
+/// A text names at most one network, across both families.
+pub fn ip_network_text_names_one()
+    ensures { (text : List ℕ) (a b : IpNetwork) → NamesIpNetwork text a → NamesIpNetwork text b → a ≡ b }
+{
+    addresses::v4_text_is_computed();
+    addresses::v6_text_is_computed();
+    addresses::no_text_names_both();
+    families::v4_network_reading_is_computed();
+    families::v6_network_reading_is_computed();
+}
+
+/// What reading a network of either family answers can be computed from the text, and there is one
+/// answer.
+pub fn ip_network_reading_is_computed()
+    ensures { (text : List ℕ) (result : Result IpNetwork CidrFault) → ReadsIpNetwork text result ↔ (result ≡ ip_network_of text) }
+{
+    ip_network_text_names_one();
+    families::v4_network_reading_is_computed();
+    families::v6_network_reading_is_computed();
+}
+
+/// The canonical text of a network names it, host bits included.
+pub fn canonical_ip_network_names_it()
+    ensures { (n : IpNetwork) → IsIpNetwork n → NamesIpNetwork (ip_network_text n) n }
+{
+    families::canonical_v4_network_names_it();
+    families::canonical_v6_network_names_it();
+}
+
+/// Reading the canonical text of a network answers that network and nothing else, so printing it again
+/// changes nothing.
+pub fn canonical_ip_network_reads_back()
+    ensures { (n : IpNetwork) (result : Result IpNetwork CidrFault) → IsIpNetwork n
+        → ReadsIpNetwork (ip_network_text n) result ↔ (result ≡ Ok n) }
+{
+    ip_network_text_names_one();
+    canonical_ip_network_names_it();
+}
+
+/// Two networks are equal exactly if their canonical texts are, across families too.
+pub fn canonical_ip_network_is_one_to_one()
+    ensures { (a b : IpNetwork) → IsIpNetwork a → IsIpNetwork b
+        → (a ≡ b) ↔ (ip_network_text a ≡ ip_network_text b) }
+{
+    ip_network_text_names_one();
+    canonical_ip_network_names_it();
+}
+
+/// The bytes of a canonical text are hex digits, `.`, `:` and `/`.
+pub fn canonical_ip_network_bytes()
+    ensures { (n : IpNetwork) → IsIpNetwork n → AllByRecursion IsNetworkByte (ip_network_text n) }
+{
+    families::canonical_v4_network_bytes();
+    families::canonical_v6_network_bytes();
+}
+
+/// Networks of two families have no address in common, and neither is part of the other.
+pub fn families_are_apart()
+    ensures { (a b : Network) → IsNetwork 32 a → IsNetwork 128 b → AreApart (networks.V4 a) (networks.V6 b) }
+{}
+
+/// `==` of networks of either family is equality of what contracts see.
+pub fn ip_network_equality(a: IpNetwork, b: IpNetwork) -> bool
+    ensures { IsTrue result ↔ (a ≡ b) }
+{
+    a == b
+}
+
+/// `==` of sizes is equality of their numbers.
+pub fn network_size_equality(a: NetworkSize, b: NetworkSize) -> bool
+    ensures { IsTrue result ↔ (number_of a ≡ number_of b) }
+{
+    a == b
+}

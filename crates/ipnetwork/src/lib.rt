@@ -5,10 +5,20 @@
 //! `ipnetwork_family`, the networks of one family.
 #![tactic(auto)]
 
+mod error;
+mod ip_iter;
+mod ip_mask;
+mod ip_network;
 pub mod laws;
+mod size;
 
+pub use error::WrongFamily;
+pub use ip_iter::IpNetworkIterator;
+pub use ip_mask::ip_mask_to_prefix;
+pub use ip_network::IpNetwork;
 pub use ipnetwork_addr::{AddrParseError, IpAddr, Ipv4Addr, Ipv6Addr};
 pub use ipnetwork_family::{
     CidrFault, IpNetworkError, Ipv4Network, Ipv4NetworkIterator, Ipv6Network, Ipv6NetworkIterator,
     NetworkSizeError, ipv4_mask_to_prefix, ipv6_mask_to_prefix, parse,
 };
+pub use size::NetworkSize;

@@ -1,0 +1,2 @@
+mod EitherNetworks
+mod Families

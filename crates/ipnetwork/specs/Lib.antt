@@ -1,0 +1,4 @@
+pub mod IpNetworks
+pub mod IpNetworkText
+pub mod Sizes
+pub mod Private

@@ -1,0 +1,16 @@
+-- The number of addresses of a network of either family.
+use Rattle.std.specs.Prelude.{◌≡◌, ℕ, Result, Ok, Err}
+use Rattle.ipnetwork_family.specs.declared.error.NetworkSizeError.{NetworkSizeError}
+use Rattle.ipnetwork_family.specs.declared.error.NetworkSizeError.TheVariants.{NetworkIsTooLarge}
+use Rattle.ipnetwork.specs.declared.size.NetworkSize.{NetworkSize}
+use Rattle.ipnetwork.specs.declared.size.NetworkSize.TheVariants.{V4, V6}
+
+-- the number that a size means, whatever its family
+abbrev pub number_of : NetworkSize → ℕ
+number_of (V4 number) = number
+number_of (V6 number) = number
+
+-- what converting a size to a number of 32 bits answers: the number of an IPv4 size, and a refusal of any other
+abbrev pub FitsV4 : NetworkSize → Result ℕ NetworkSizeError → Type 0
+FitsV4 (V4 number) result = result ≡ Ok number
+FitsV4 (V6 number) result = result ≡ Err NetworkIsTooLarge

@@ -1,0 +1,86 @@
+//! The members of a network of either family, in order.
+
+use ipnetwork_addr::IpAddr;
+use ipnetwork_family::{Ipv4NetworkIterator, Ipv6NetworkIterator};
+use std::alloc::AllocError;
+use std::marker::Model;
+
+/// The members of a network that are still to come, in ascending order.
+#[derive(Debug, Drop)]
+pub struct IpNetworkIterator {
+    members: Members,
+}
+
+#[derive(Debug, Drop)]
+enum Members {
+    V4(Ipv4NetworkIterator),
+    V6(Ipv6NetworkIterator),
+}
+
+// A contract sees an iterator as the list of the addresses still to come.
+impl Model for IpNetworkIterator {
+    ghost use Rattle.std.specs.Prelude.{List};
+    ghost use Rattle.ipnetwork_addr.specs.declared.ip.IpAddr.{IpAddr};
+    ghost use Rattle.ipnetwork.specs.Private.Members.{listed};
+
+    ghost Value = { List IpAddr };
+
+    ghost view = { λ i. listed i.members };
+}
+
+impl IpNetworkIterator {
+    ghost use Rattle.std.specs.Prelude.{◌≡◌, map};
+    ghost use Rattle.ipnetwork_addr.specs.declared.ip.IpAddr.TheVariants as addresses;
+
+    /// The members of an IPv4 network.
+    pub(crate) fn of_v4(members: Ipv4NetworkIterator) -> Self
+        ensures { result ≡ map addresses.V4 members }
+    {
+        IpNetworkIterator {
+            members: Members::V4(members),
+        }
+    }
+
+    /// The members of an IPv6 network.
+    pub(crate) fn of_v6(members: Ipv6NetworkIterator) -> Self
+        ensures { result ≡ map addresses.V6 members }
+    {
+        IpNetworkIterator {
+            members: Members::V6(members),
+        }
+    }
+}
+
+impl Iterator for IpNetworkIterator {
+    type Item = IpAddr;
+
+    ghost use Rattle.std.specs.Iterator.{YieldsFirst, item_count};
+
+    ghost next_gives = { YieldsFirst (λ left. left) };
+
+    ghost remaining = { item_count (λ left. left) };
+
+    fn next(&mut self) -> Option<IpAddr> {
+        match &mut self.members {
+            Members::V4(members) => Some(IpAddr::V4(members.next()?)),
+            Members::V6(members) => Some(IpAddr::V6(members.next()?)),
+        }
+    }
+}
+
+impl Clone for IpNetworkIterator {
+    ghost use Rattle.std.specs.Prelude.{◌≡◌};
+
+    ghost is_clone = { λ left copy. copy ≡ left };
+
+    ghost is_infallible = { λ _. Unit {0} };
+
+    fn clone(&self) -> Result<Self, AllocError> {
+        Ok(IpNetworkIterator {
+            members: match &self.members {
+                Members::V4(members) => Members::V4(members.clone()?),
+                Members::V6(members) => Members::V6(members.clone()?),
+            },
+        })
+    }
+}

@@ -1,0 +1,340 @@
+//! Networks of either family.
+
+use crate::error::WrongFamily;
+use crate::ip_iter::IpNetworkIterator;
+use crate::ip_mask::ip_mask_to_prefix;
+use crate::size::NetworkSize;
+use arrayvec::ArrayString;
+use ipnetwork_addr::IpAddr;
+use ipnetwork_family::{CidrFault, IpNetworkError, Ipv4Network, Ipv6Network, TEXT_CAPACITY, laws};
+use std::fmt;
+use std::str::FromStr;
+
+/// A network of either family. Its set holds addresses of its family alone. Each IPv4 network is before
+/// each IPv6 network.
+#[derive(Clone, Copy, Debug, PartialEq, Eq, PartialOrd, Ord, Hash)]
+pub enum IpNetwork {
+    /// An IPv4 network.
+    V4(Ipv4Network),
+    /// An IPv6 network.
+    V6(Ipv6Network),
+}
+
+impl IpNetwork {
+    ghost use Rattle.std.specs.Prelude.{◌≡◌, ◌≤◌, ◌↔◌, IsTrue, MatchResult, length};
+    ghost use Rattle.ipnetwork.specs.IpNetworks.{IsIpNetwork, address_of, prefix_of, ip_mask_of, ip_low, ip_high, ip_size, ip_members, IpMember, IpSubnet, IpOverlap, Makes, MakesWithMask, IsV4, IsV6};
+    ghost use Rattle.ipnetwork.specs.IpNetworkText.{ReadsIpNetwork, ip_network_text};
+
+    /// The network of this address, host bits kept, and this prefix length; `InvalidPrefix` where that is
+    /// greater than the number of bits of the address, 32 or 128. Does not allocate.
+    pub fn new(ip: IpAddr, prefix: u8) -> Result<Self, IpNetworkError>
+        ensures { Makes ip prefix result }
+    {
+        match ip {
+            IpAddr::V4(address) => Ok(IpNetwork::V4(Ipv4Network::new(address, prefix)?)),
+            IpAddr::V6(address) => Ok(IpNetwork::V6(Ipv6Network::new(address, prefix)?)),
+        }
+    }
+
+    /// The network of this address, host bits kept, and the prefix length of this mask; `InvalidPrefix`
+    /// where the mask is none of its family's, or its prefix length is greater than the number of bits of
+    /// the address. The two need not be of one family: the mask only gives a prefix length. Does not allocate.
+    pub fn with_netmask(netaddr: IpAddr, netmask: IpAddr) -> Result<Self, IpNetworkError>
+        ensures { MakesWithMask netaddr netmask result }
+    {
+        laws::masks();
+        match ip_mask_to_prefix(netmask) {
+            Ok(prefix) => IpNetwork::new(netaddr, prefix),
+            Err(fault) => Err(fault),
+        }
+    }
+
+    /// The address as made, host bits included.
+    pub fn ip(&self) -> IpAddr
+        ensures made { result ≡ address_of self.now }
+        ensures network { IsIpNetwork self.now }
+    {
+        match self {
+            IpNetwork::V4(network) => IpAddr::V4(network.ip()),
+            IpNetwork::V6(network) => IpAddr::V6(network.ip()),
+        }
+    }
+
+    /// The prefix length, in bits.
+    pub fn prefix(&self) -> u8
+        ensures made { result ≡ prefix_of self.now }
+        ensures network { IsIpNetwork self.now }
+    {
+        match self {
+            IpNetwork::V4(network) => network.prefix(),
+            IpNetwork::V6(network) => network.prefix(),
+        }
+    }
+
+    /// The mask of the prefix length, in the network's family.
+    pub fn mask(&self) -> IpAddr
+        ensures { result ≡ ip_mask_of self.now }
+    {
+        match self {
+            IpNetwork::V4(network) => IpAddr::V4(network.mask()),
+            IpNetwork::V6(network) => IpAddr::V6(network.mask()),
+        }
+    }
+
+    /// The least member: the address with its host bits cleared.
+    pub fn network(&self) -> IpAddr
+        ensures { result ≡ ip_low self.now }
+    {
+        match self {
+            IpNetwork::V4(network) => IpAddr::V4(network.network()),
+            IpNetwork::V6(network) => IpAddr::V6(network.network()),
+        }
+    }
+
+    /// The greatest member: the address with its host bits set.
+    pub fn broadcast(&self) -> IpAddr
+        ensures { result ≡ ip_high self.now }
+    {
+        match self {
+            IpNetwork::V4(network) => IpAddr::V4(network.broadcast()),
+            IpNetwork::V6(network) => IpAddr::V6(network.broadcast()),
+        }
+    }
+
+    /// Whether the network is an IPv4 network.
+    pub fn is_ipv4(&self) -> bool
+        ensures { IsTrue result ↔ IsV4 self.now }
+    {
+        match self {
+            IpNetwork::V4(_) => true,
+            IpNetwork::V6(_) => false,
+        }
+    }
+
+    /// Whether the network is an IPv6 network.
+    pub fn is_ipv6(&self) -> bool
+        ensures { IsTrue result ↔ IsV6 self.now }
+    {
+        match self {
+            IpNetwork::V4(_) => false,
+            IpNetwork::V6(_) => true,
+        }
+    }
+
+    /// Whether an address lies in the network's set. No address of the other family does, an IPv4-mapped
+    /// IPv6 address in an IPv4 network neither.
+    pub fn contains(&self, ip: IpAddr) -> bool
+        ensures { IsTrue result ↔ IpMember self.now ip }
+    {
+        match (self, ip) {
+            (IpNetwork::V4(network), IpAddr::V4(address)) => network.contains(address),
+            (IpNetwork::V6(network), IpAddr::V6(address)) => network.contains(address),
+            _ => false,
+        }
+    }
+
+    /// The number of members, in the variant of the network's family; at prefix length 0 one less.
+    pub fn size(&self) -> NetworkSize
+        ensures { result ≡ ip_size self.now }
+    {
+        match self {
+            IpNetwork::V4(network) => NetworkSize::V4(network.size()),
+            IpNetwork::V6(network) => NetworkSize::V6(network.size()),
+        }
+    }
+
+    /// The members, each once, in ascending order.
+    pub fn iter(&self) -> IpNetworkIterator
+        ensures { result ≡ ip_members self.now }
+    {
+        match self {
+            IpNetwork::V4(network) => IpNetworkIterator::of_v4(network.iter()),
+            IpNetwork::V6(network) => IpNetworkIterator::of_v6(network.iter()),
+        }
+    }
+
+    /// Whether each member is one of `other`, host bits or not. No network of the other family is.
+    pub fn is_subnet_of(self, other: IpNetwork) -> bool
+        ensures { IsTrue result ↔ IpSubnet self other }
+    {
+        // Its clause tells that the address is a member, so that the set is not empty.
+        let _ = self.ip();
+        match self {
+            IpNetwork::V4(inner) => match other {
+                IpNetwork::V4(outer) => inner.is_subnet_of(outer),
+                IpNetwork::V6(_) => false,
+            },
+            IpNetwork::V6(inner) => match other {
+                IpNetwork::V4(_) => false,
+                IpNetwork::V6(outer) => inner.is_subnet_of(outer),
+            },
+        }
+    }
+
+    /// Whether each member of `other` is one, host bits or not.
+    pub fn is_supernet_of(self, other: IpNetwork) -> bool
+        ensures { IsTrue result ↔ IpSubnet other self }
+    {
+        other.is_subnet_of(self)
+    }
+
+    /// Whether some address is a member of both.
+    pub fn overlaps(self, other: IpNetwork) -> bool
+        ensures { IsTrue result ↔ IpOverlap self other }
+    {
+        match self {
+            IpNetwork::V4(one) => match other {
+                IpNetwork::V4(other) => one.overlaps(other),
+                IpNetwork::V6(_) => false,
+            },
+            IpNetwork::V6(one) => match other {
+                IpNetwork::V4(_) => false,
+                IpNetwork::V6(other) => one.overlaps(other),
+            },
+        }
+    }
+
+    /// The network that a text names, as `Ipv4Network::read_bytes` or `Ipv6Network::read_bytes` reads it: no
+    /// text names one of each family. Any other text is `CidrFault::Addr`, whatever is wrong with it.
+    /// Does not allocate.
+    pub fn read_bytes(text: &[u8]) -> Result<Self, CidrFault>
+        ensures { ReadsIpNetwork text.now result }
+    {
+        if let Ok(network) = Ipv4Network::read_bytes(text) {
+            Ok(IpNetwork::V4(network))
+        } else if let Ok(network) = Ipv6Network::read_bytes(text) {
+            Ok(IpNetwork::V6(network))
+        } else {
+            Err(CidrFault::Addr)
+        }
+    }
+
+    /// The canonical text, at most 43 bytes: that of the network in its family. Does not allocate.
+    pub fn canonical(&self) -> ArrayString<TEXT_CAPACITY>
+        ensures bytes { result.bytes ≡ ip_network_text self.now }
+        ensures network { IsIpNetwork self.now }
+    {
+        match self {
+            IpNetwork::V4(network) => network.canonical(),
+            IpNetwork::V6(network) => network.canonical(),
+        }
+    }
+}
+
+impl From<Ipv4Network> for IpNetwork {
+    ghost use Rattle.std.specs.Prelude.{◌≡◌};
+    ghost use Rattle.ipnetwork.specs.declared.ip_network.IpNetwork.TheVariants as networks;
+
+    ghost from_gives = { λ network either. either ≡ networks.V4 network };
+
+    fn from(network: Ipv4Network) -> Self {
+        IpNetwork::V4(network)
+    }
+}
+
+impl From<Ipv6Network> for IpNetwork {
+    ghost use Rattle.std.specs.Prelude.{◌≡◌};
+    ghost use Rattle.ipnetwork.specs.declared.ip_network.IpNetwork.TheVariants as networks;
+
+    ghost from_gives = { λ network either. either ≡ networks.V6 network };
+
+    fn from(network: Ipv6Network) -> Self {
+        IpNetwork::V6(network)
+    }
+}
+
+impl From<IpAddr> for IpNetwork {
+    ghost use Rattle.std.specs.Prelude.{◌≡◌};
+    ghost use Rattle.ipnetwork.specs.IpNetworks.{made_of, width_of};
+
+    ghost from_gives = { λ address network. network ≡ made_of address (width_of address) };
+
+    fn from(address: IpAddr) -> Self {
+        match address {
+            IpAddr::V4(address) => IpNetwork::V4(Ipv4Network::from(address)),
+            IpAddr::V6(address) => IpNetwork::V6(Ipv6Network::from(address)),
+        }
+    }
+}
+
+impl TryFrom<IpNetwork> for Ipv4Network {
+    type Error = WrongFamily;
+
+    ghost use Rattle.ipnetwork.specs.IpNetworks.{TakesV4};
+
+    ghost try_from_gives = { TakesV4 };
+
+    fn try_from(network: IpNetwork) -> Result<Self, WrongFamily> {
+        match network {
+            IpNetwork::V4(network) => Ok(network),
+            IpNetwork::V6(_) => Err(WrongFamily),
+        }
+    }
+}
+
+impl TryFrom<IpNetwork> for Ipv6Network {
+    type Error = WrongFamily;
+
+    ghost use Rattle.ipnetwork.specs.IpNetworks.{TakesV6};
+
+    ghost try_from_gives = { TakesV6 };
+
+    fn try_from(network: IpNetwork) -> Result<Self, WrongFamily> {
+        match network {
+            IpNetwork::V4(_) => Err(WrongFamily),
+            IpNetwork::V6(network) => Ok(network),
+        }
+    }
+}
+
+impl IntoIterator for &IpNetwork {
+    type Item = IpAddr;
+
+    type IntoIter = IpNetworkIterator;
+
+    ghost use Rattle.std.specs.Prelude.{◌≡◌};
+    ghost use Rattle.ipnetwork.specs.IpNetworks.{ip_members};
+
+    ghost into_iter_gives = { λ network left. left ≡ ip_members network.now };
+
+    fn into_iter(self) -> IpNetworkIterator {
+        self.iter()
+    }
+}
+
+impl FromStr for IpNetwork {
+    type Err = CidrFault;
+
+    ghost use Rattle.ipnetwork.specs.IpNetworkText.{ReadsIpNetwork};
+
+    ghost from_str_gives = { ReadsIpNetwork };
+
+    fn from_str(text: &str) -> Result<Self, CidrFault> {
+        IpNetwork::read_bytes(text.as_bytes())
+    }
+}
+
+impl TryFrom<&str> for IpNetwork {
+    type Error = CidrFault;
+
+    ghost use Rattle.ipnetwork.specs.IpNetworkText.{ReadsIpNetwork};
+
+    ghost try_from_gives = { λ text result. ReadsIpNetwork text.now result };
+
+    fn try_from(text: &str) -> Result<Self, CidrFault> {
+        IpNetwork::from_str(text)
+    }
+}
+
+impl fmt::Display for IpNetwork {
+    ghost use Rattle.std.specs.Prelude.{Some};
+    ghost use Rattle.ipnetwork.specs.IpNetworkText.{ip_network_text};
+
+    ghost output = { λ network. Some (ip_network_text network) };
+
+    ghost styled_output = { λ network _. Some (ip_network_text network) };
+
+    fn fmt<W: fmt::Write>(&self, f: &mut fmt::Formatter<W>) -> fmt::Result {
+        f.write_str(self.canonical().as_str())
+    }
+}
