@@ -1,6 +1,8 @@
 //! The laws of addresses, of networks and of their texts. Each function's contract is a law, and a
 //! proof that calls it may use the law.
-ghost use Rattle.std.specs.Prelude.{◌≡◌, ◌↔◌, ℕ, List, Result, Ok, IsTrue};
+ghost use Rattle.std.specs.Prelude.{◌≡◌, ◌<◌, ◌≤◌, ◌↔◌, ℕ, List, fold, Result, Ok, IsTrue};
+ghost use Rattle.std.specs.Hash as fed;
+ghost use Rattle.std.specs.Ordering.{nat_cmp};
 ghost use Rattle.std.specs.List.{AllByRecursion};
 ghost use Rattle.ipnetwork_family.specs.NetworkText.{IsNetworkByte};
 ghost use Rattle.ipnetwork_family.specs.declared.error.CidrFault.{CidrFault};
@@ -20,6 +22,9 @@ pub use ipnetwork_addr::laws::{
     v6_text_is_computed, v6_text_names_one,
 };
 use ipnetwork_family::laws as families;
+use std::alloc::AllocError;
+use std::cmp::Ordering;
+use std::hash::{Hash, Hasher};
 pub use ipnetwork_family::laws::{
     canonical_v4_network_bytes, canonical_v4_network_is_one_to_one, canonical_v4_network_names_it,
     canonical_v4_network_reads_back, canonical_v6_network_bytes,
@@ -102,4 +107,44 @@ pub fn network_size_equality(a: NetworkSize, b: NetworkSize) -> bool
     ensures { IsTrue result ↔ (number_of a ≡ number_of b) }
 {
     a == b
+}
+
+/// Sizes are ordered by their numbers: `<`, `<=` and `cmp`.
+pub fn network_size_order(a: NetworkSize, b: NetworkSize) -> (bool, bool, Ordering)
+    ensures less { IsTrue result.0 ↔ (number_of a < number_of b) }
+    ensures at_most { IsTrue result.1 ↔ (number_of a ≤ number_of b) }
+    ensures compare { result.2 ≡ nat_cmp (number_of a) (number_of b) }
+{
+    (a < b, a <= b, a.cmp(&b))
+}
+
+/// A size is hashed as its number of 128 bits, so that equal sizes leave a hasher in one state.
+pub fn network_size_hash<H: Hasher>(size: NetworkSize, state: &mut H)
+    ensures { state.new ≡ fold H.write state.old (fed.u128 (number_of size)) }
+{
+    size.hash(state);
+}
+
+/// A clone of a size is the size.
+pub fn network_size_clone(size: NetworkSize) -> Result<NetworkSize, AllocError>
+    ensures { result ≡ Ok size }
+{
+    size.clone()
+}
+
+/// Equal networks leave a hasher in one state.
+pub fn ip_network_hash<H: Hasher>(a: IpNetwork, b: IpNetwork, first: &mut H, second: &mut H)
+    requires equal { a ≡ b }
+    requires same_state { first.old ≡ second.old }
+    ensures { first.new ≡ second.new }
+{
+    a.hash(first);
+    b.hash(second);
+}
+
+/// A clone of a network is the network.
+pub fn ip_network_clone(network: IpNetwork) -> Result<IpNetwork, AllocError>
+    ensures { result ≡ Ok network }
+{
+    network.clone()
 }
