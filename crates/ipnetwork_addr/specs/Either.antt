@@ -1,5 +1,9 @@
 -- Texts of an address of either family.
-use Rattle.std.specs.Prelude.{⊤, ℕ, ◌^◌, ◌<◌, List}
+use Rattle.std.specs.Prelude.{⊤, ℕ, ◌^◌, ◌<◌, ◌≤◌, List, ◌++◌, pos}
+use Rattle.std.specs.Hash.{HashWrites, isize, u32, u128}
+use Rattle.std.specs.Ordering.{nat_cmp}
+use Rattle.std.specs.declared.cmp.Ordering.{Ordering}
+use Rattle.std.specs.declared.cmp.Ordering.TheVariants.{Less, Greater}
 use Rattle.ipnetwork_addr.specs.declared.ip.IpAddr.{IpAddr}
 use Rattle.ipnetwork_addr.specs.declared.ip.IpAddr.TheVariants.{V4, V6}
 use Rattle.ipnetwork_addr.specs.Ipv4Text.{NamesV4, canonical_v4}
@@ -27,3 +31,22 @@ IsBefore (V4 a) (V4 b) = a < b
 IsBefore (V4 a) (V6 b) = ⊤
 IsBefore (V6 a) (V4 b) = ⊥
 IsBefore (V6 a) (V6 b) = a < b
+
+-- the first address is before the second, or is the second
+abbrev pub IsAtMost : IpAddr → IpAddr → Type 0
+IsAtMost (V4 a) (V4 b) = a ≤ b
+IsAtMost (V4 a) (V6 b) = ⊤
+IsAtMost (V6 a) (V4 b) = ⊥
+IsAtMost (V6 a) (V6 b) = a ≤ b
+
+-- the same order, as an answer of three
+abbrev pub ip_cmp : IpAddr → IpAddr → Ordering
+ip_cmp (V4 a) (V4 b) = nat_cmp a b
+ip_cmp (V4 a) (V6 b) = Less
+ip_cmp (V6 a) (V4 b) = Greater
+ip_cmp (V6 a) (V6 b) = nat_cmp a b
+
+-- what an address feeds a hasher: its family, 0 or 1, and its number
+abbrev pub ip_writes : IpAddr → HashWrites
+ip_writes (V4 address) = isize (pos 0) ++ u32 address
+ip_writes (V6 address) = isize (pos 1) ++ u128 address
