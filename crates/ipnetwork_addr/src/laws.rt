@@ -1,13 +1,14 @@
 //! The laws of addresses and of their texts. Each function's contract is a law. One of texts takes
 //! nothing and does nothing, and a proof that calls it may use the law.
-ghost use Rattle.std.specs.Prelude.{◌≡◌, ◌↔◌, ℕ, ◌^◌, ◌<◌, ◌≤◌, List, IsTrue, Ok, Some, fold};
+ghost use Rattle.std.specs.Prelude.{◌≡◌, ◌↔◌, ℕ, ◌^◌, ◌<◌, ◌≤◌, List, IsTrue, Ok, Result, Some, fold};
 ghost use Rattle.std.specs.Hash as writes;
 ghost use Rattle.std.specs.Ordering.{nat_cmp};
 ghost use Rattle.ipnetwork_addr.specs.Ipv4Text.{IsOctet, IsPlainOctet, NamesV4, canonical_v4, v4_of};
-ghost use Rattle.ipnetwork_addr.specs.Either.{NamesIp, FitsIp, IsBefore, IsAtMost, ip_cmp, ip_writes, canonical_ip};
+ghost use Rattle.ipnetwork_addr.specs.Either.{NamesIp, FitsIp, IsBefore, IsAtMost, ip_cmp, ip_writes, canonical_ip, ip_of};
 ghost use Rattle.ipnetwork_addr.specs.Ipv6Canonical.{IsCanonicalV6, canonical_v6};
 ghost use Rattle.ipnetwork_addr.specs.Ipv6Computed.{v6_of};
 ghost use Rattle.ipnetwork_addr.specs.Ipv6Text.{NamesV6};
+ghost use Rattle.ipnetwork_addr.specs.Reading.{Reads, answer_from};
 ghost use Rattle.ipnetwork_addr.specs.Texts.{IsAddressByte};
 ghost use Rattle.std.specs.List.{AllByRecursion};
 
@@ -150,7 +151,7 @@ pub fn canonical_v4_is_one_to_one()
     ensures { (a b : ℕ) → a < 2 ^ 32 → b < 2 ^ 32 → (a ≡ b) ↔ (canonical_v4 a ≡ canonical_v4 b) }
 {}
 
-/// An IPv4 text holds digits and dots, which are bytes of addresses, and nothing else.
+/// Each byte of an IPv4 text is a byte of addresses: a hex digit, `.` or `:`.
 pub fn v4_text_bytes()
     ensures { (text : List ℕ) (address : ℕ) → NamesV4 text address → AllByRecursion IsAddressByte text }
 {}
@@ -185,7 +186,7 @@ pub fn canonical_v6_is_one_to_one()
     ensures { (a b : ℕ) → a < 2 ^ 128 → b < 2 ^ 128 → (a ≡ b) ↔ (canonical_v6 a ≡ canonical_v6 b) }
 {}
 
-/// An IPv6 text holds hex digits, colons and dots, which are bytes of addresses, and nothing else.
+/// Each byte of an IPv6 text is a byte of addresses: a hex digit, `.` or `:`.
 pub fn v6_text_bytes()
     ensures { (text : List ℕ) (address : ℕ) → NamesV6 text address → AllByRecursion IsAddressByte text }
 {}
@@ -208,4 +209,23 @@ pub fn canonical_ip_is_one_to_one()
 /// The address that an IPv6 text names can be computed from the text.
 pub fn v6_text_is_computed()
     ensures { (text : List ℕ) (address : ℕ) → NamesV6 text address ↔ (v6_of text ≡ Some address) }
+{}
+
+/// What reading an IPv4 address answers can be computed from the text, and there is one answer.
+pub fn v4_reading_is_computed()
+    ensures { (text : List ℕ) (result : Result ℕ AddrParseError)
+        → Reads NamesV4 AddrParseError.Ipv4 text result ↔ (result ≡ answer_from AddrParseError.Ipv4 (v4_of text)) }
+{}
+
+/// What reading an IPv6 address answers can be computed from the text, and there is one answer.
+pub fn v6_reading_is_computed()
+    ensures { (text : List ℕ) (result : Result ℕ AddrParseError)
+        → Reads NamesV6 AddrParseError.Ipv6 text result ↔ (result ≡ answer_from AddrParseError.Ipv6 (v6_of text)) }
+{}
+
+/// What reading an address of either family answers can be computed from the text, and there is one
+/// answer.
+pub fn ip_reading_is_computed()
+    ensures { (text : List ℕ) (result : Result IpAddr AddrParseError)
+        → Reads NamesIp AddrParseError.Ip text result ↔ (result ≡ answer_from AddrParseError.Ip (ip_of text)) }
 {}

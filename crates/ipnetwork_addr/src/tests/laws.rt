@@ -20,6 +20,9 @@ fn laws_are_called() {
     laws::canonical_ip_names_its_address();
     laws::canonical_ip_is_one_to_one();
     laws::v6_text_is_computed();
+    laws::v4_reading_is_computed();
+    laws::v6_reading_is_computed();
+    laws::ip_reading_is_computed();
 }
 
 #[test]
