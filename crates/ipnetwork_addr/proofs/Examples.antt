@@ -1,11 +1,164 @@
--- Texts at which a misreading of the definitions would show. Each of these computes.
-use Rattle.std.proofs.Common.{◌≡◌, ◌^◌, [], ◌∷◌, None, Some, refl}
-use Rattle.std.specs.Prelude.{codes}
+-- Texts and values at which a misreading of the definitions would show. Each of these computes.
+use Rattle.std.proofs.Common.{◌≡◌, ℕ, ◌^◌, ◌-◌, [], ◌∷◌, length, None, Some, refl, ap, arith, lit≤}
+use Rattle.std.specs.Prelude.{codes, Ok, Err}
 use Rattle.std.specs.Fmt.{digits}
 use Rattle.std.specs.Int.Digits.{number_from_digits}
-use Rattle.ipnetwork_addr.specs.Ipv4Text.{v4_of}
+use Rattle.std.specs.declared.cmp.Ordering.TheVariants.{Less, Equal, Greater}
+use Rattle.ipnetwork_addr.specs.declared.error.AddrParseError.{AddrParseError}
+use Rattle.ipnetwork_addr.specs.declared.error.AddrParseError.TheVariants.{Ipv4, Ipv6, Ip}
+use Rattle.ipnetwork_addr.specs.declared.ip.IpAddr.TheVariants.{V4, V6}
+use Rattle.ipnetwork_addr.specs.Digits.{octets_of, octets_of_v6, segments_of}
+use Rattle.ipnetwork_addr.specs.Either.{FitsIp, IsBefore, IsAtMost, ip_cmp, ip_writes, ip_of, canonical_ip}
+use Rattle.ipnetwork_addr.specs.Faults.{fault_text}
+use Rattle.ipnetwork_addr.specs.Reading.{Reads, answer_from}
+use Rattle.ipnetwork_addr.specs.Texts.{IsAddressByte, Digit, UpperHex, LowerHex, Dot, Colon}
+use Rattle.ipnetwork_addr.specs.Ipv4Text.{NamesV4, v4_of}
+use Rattle.ipnetwork_addr.specs.Ipv6Text.{NamesV6}
 use Rattle.ipnetwork_addr.specs.Ipv6Canonical.{canonical_v6}
 use Rattle.ipnetwork_addr.specs.Ipv6Computed.{v6_of, gap_below}
+
+-- ---- digits of numbers
+
+pub octets_by_place : octets_of 0xc0000201 ≡ 192 ∷ 0 ∷ 2 ∷ 1 ∷ []
+octets_by_place = refl
+
+pub greatest_v4 : octets_of (2 ^ 32 - 1) ≡ 255 ∷ 255 ∷ 255 ∷ 255 ∷ []
+greatest_v4 = refl
+
+pub sixteen_octets : octets_of_v6 0x000102030405060708090a0b0c0d0eff ≡ 0 ∷ 1 ∷ 2 ∷ 3 ∷ 4 ∷ 5 ∷ 6 ∷ 7 ∷ 8 ∷ 9 ∷ 10 ∷ 11 ∷ 12 ∷ 13 ∷ 14 ∷ 255 ∷ []
+sixteen_octets = refl
+
+pub octet_in_front : octets_of_v6 (2 ^ 120) ≡ 1 ∷ 0 ∷ 0 ∷ 0 ∷ 0 ∷ 0 ∷ 0 ∷ 0 ∷ 0 ∷ 0 ∷ 0 ∷ 0 ∷ 0 ∷ 0 ∷ 0 ∷ 0 ∷ []
+octet_in_front = refl
+
+pub eight_groups : segments_of 0x20010db800000001000200030004ffff ≡ 0x2001 ∷ 0xdb8 ∷ 0 ∷ 1 ∷ 2 ∷ 3 ∷ 4 ∷ 0xffff ∷ []
+eight_groups = refl
+
+pub group_in_front : segments_of (2 ^ 112) ≡ 1 ∷ 0 ∷ 0 ∷ 0 ∷ 0 ∷ 0 ∷ 0 ∷ 0 ∷ []
+group_in_front = refl
+
+-- ---- either family
+
+pub v4_fits : FitsIp (V4 0xc0000201)
+v4_fits = lit≤ tt
+
+pub greatest_v4_fits : FitsIp (V4 0xffffffff)
+greatest_v4_fits = lit≤ tt
+
+pub v4_of_33_bits : ¬ (FitsIp (V4 (2 ^ 32)))
+v4_of_33_bits h = omega (arith, h)
+
+pub v6_fits : FitsIp (V6 (2 ^ 32))
+v6_fits = lit≤ tt
+
+pub greatest_v6_fits : FitsIp (V6 0xffffffffffffffffffffffffffffffff)
+greatest_v6_fits = lit≤ tt
+
+pub v6_of_129_bits : ¬ (FitsIp (V6 (2 ^ 128)))
+v6_of_129_bits h = omega (arith, h)
+
+pub lower_v4_before : IsBefore (V4 1) (V4 2)
+lower_v4_before = lit≤ tt
+
+pub v4_not_before_itself : ¬ (IsBefore (V4 2) (V4 2))
+v4_not_before_itself h = omega (arith, h)
+
+pub v4_before_v6 : IsBefore (V4 0xffffffff) (V6 0)
+v4_before_v6 = tt
+
+pub v6_not_before_v4 : ¬ (IsBefore (V6 0) (V4 0xffffffff))
+v6_not_before_v4 h = h
+
+pub lower_v6_before : IsBefore (V6 1) (V6 2)
+lower_v6_before = lit≤ tt
+
+pub higher_v6_not_before : ¬ (IsBefore (V6 2) (V6 1))
+higher_v6_not_before h = omega (arith, h)
+
+pub v4_at_most_itself : IsAtMost (V4 2) (V4 2)
+v4_at_most_itself = lit≤ tt
+
+pub v4_at_most_v6 : IsAtMost (V4 2) (V6 1)
+v4_at_most_v6 = tt
+
+pub v6_not_at_most_v4 : ¬ (IsAtMost (V6 1) (V4 2))
+v6_not_at_most_v4 h = h
+
+pub higher_v6_not_at_most : ¬ (IsAtMost (V6 2) (V6 1))
+higher_v6_not_at_most h = omega (arith, h)
+
+pub compared : ip_cmp (V4 1) (V4 2) ∷ ip_cmp (V4 2) (V6 1) ∷ ip_cmp (V6 1) (V4 2) ∷ ip_cmp (V6 2) (V6 1) ∷ ip_cmp (V6 2) (V6 2) ∷ [] ≡ Less ∷ Less ∷ Greater ∷ Greater ∷ Equal ∷ []
+compared = refl
+
+pub v4_text_first : ip_of (codes "1.2.3.4") ≡ Some (V4 0x01020304)
+unfolding digits v6_of gap_below
+v4_text_first = refl
+
+pub v6_text_too : ip_of (codes "::1.2.3.4") ≡ Some (V6 0x01020304)
+unfolding digits v6_of gap_below
+v6_text_too = refl
+
+pub neither : ip_of (codes "1.2.3") ≡ None
+unfolding digits v6_of gap_below
+neither = refl
+
+pub v4_of_either : canonical_ip (V4 1) ≡ codes "0.0.0.1"
+unfolding digits
+v4_of_either = refl
+
+pub v6_of_either : canonical_ip (V6 1) ≡ codes "::1"
+unfolding digits
+v6_of_either = refl
+
+-- ---- what a reader answers
+
+abbrev kind : AddrParseError → ℕ
+kind Ipv4 = 4
+kind Ipv6 = 6
+kind Ip = 0
+
+pub v4_fault_alone : ¬ (Reads NamesV4 Ipv4 (codes "x") (Err Ipv6))
+v4_fault_alone h = let e : 6 ≡ 4 = ap kind h.0 in omega (arith, e)
+
+pub v6_fault_alone : ¬ (Reads NamesV6 Ipv6 (codes "x") (Err Ip))
+v6_fault_alone h = let e : 0 ≡ 6 = ap kind h.0 in omega (arith, e)
+
+pub answers : answer_from {A = ℕ} Ipv6 (Some 1) ∷ answer_from Ipv6 None ∷ [] ≡ Ok 1 ∷ Err Ipv6 ∷ []
+answers = refl
+
+pub v4_fault : fault_text Ipv4 ≡ codes "invalid IPv4 address syntax"
+v4_fault = refl
+
+pub v6_fault : fault_text Ipv6 ≡ codes "invalid IPv6 address syntax"
+v6_fault = refl
+
+pub ip_fault : fault_text Ip ≡ codes "invalid IP address syntax"
+ip_fault = refl
+
+-- ---- bytes of addresses
+
+pub slash_is_none : ¬ (IsAddressByte 47)
+slash_is_none (Digit low high) = omega (arith, low)
+slash_is_none (UpperHex low high) = omega (arith, low)
+slash_is_none (LowerHex low high) = omega (arith, low)
+slash_is_none (Dot e) = omega (arith, e)
+slash_is_none (Colon e) = omega (arith, e)
+
+pub letter_g_is_none : ¬ (IsAddressByte 103)
+letter_g_is_none (Digit low high) = omega (arith, high)
+letter_g_is_none (UpperHex low high) = omega (arith, high)
+letter_g_is_none (LowerHex low high) = omega (arith, high)
+letter_g_is_none (Dot e) = omega (arith, e)
+letter_g_is_none (Colon e) = omega (arith, e)
+
+pub capital_g_is_none : ¬ (IsAddressByte 71)
+capital_g_is_none (Digit low high) = omega (arith, high)
+capital_g_is_none (UpperHex low high) = omega (arith, high)
+capital_g_is_none (LowerHex low high) = omega (arith, low)
+capital_g_is_none (Dot e) = omega (arith, e)
+capital_g_is_none (Colon e) = omega (arith, e)
+
+-- ---- IPv4 texts
 
 pub four_octets : v4_of (codes "1.2.3.4") ≡ Some 16909060
 unfolding digits
@@ -30,6 +183,8 @@ three_octets = refl
 pub blank_behind : v4_of (codes "1.2.3.4 ") ≡ None
 unfolding digits
 blank_behind = refl
+
+-- ---- IPv6 texts
 
 pub gap_for_one_group : v6_of (codes "1:2:3:4:5:6:7::") ≡ Some (number_from_digits (2 ^ 16) (1 ∷ 2 ∷ 3 ∷ 4 ∷ 5 ∷ 6 ∷ 7 ∷ 0 ∷ []))
 unfolding digits v6_of gap_below
@@ -58,6 +213,28 @@ dotted_before_a_gap = refl
 pub group_of_five_digits : v6_of (codes "12345::") ≡ None
 unfolding digits v6_of gap_below
 group_of_five_digits = refl
+
+pub gap_alone : v6_of (codes "::") ≡ Some 0
+unfolding digits v6_of gap_below
+gap_alone = refl
+
+pub dotted_after_six : v6_of (codes "0:0:0:0:0:0:1.2.3.4") ≡ Some 16909060
+unfolding digits v6_of gap_below
+dotted_after_six = refl
+
+pub dotted_after_three_colons : v6_of (codes ":::1.2.3.4") ≡ None
+unfolding digits v6_of gap_below
+dotted_after_three_colons = refl
+
+-- ---- canonical texts of IPv6
+
+pub longest_text : length (canonical_v6 (2 ^ 128 - 1)) ≡ 39
+unfolding digits
+longest_text = refl
+
+pub lower_case_hex : canonical_v6 (number_from_digits (2 ^ 16) (0xabcd ∷ 0xef ∷ 0x10 ∷ 0x100 ∷ 0x1000 ∷ 6 ∷ 7 ∷ 8 ∷ [])) ≡ codes "abcd:ef:10:100:1000:6:7:8"
+unfolding digits
+lower_case_hex = refl
 
 pub first_of_equal_runs : canonical_v6 (number_from_digits (2 ^ 16) (0 ∷ 0 ∷ 1 ∷ 0 ∷ 0 ∷ 1 ∷ 0 ∷ 0 ∷ [])) ≡ codes "::1:0:0:1:0:0"
 unfolding digits

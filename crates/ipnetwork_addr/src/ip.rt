@@ -15,7 +15,7 @@ pub enum IpAddr {
 }
 
 impl IpAddr {
-    ghost use Rattle.std.specs.Prelude.{◌≡◌};
+    ghost use Rattle.std.specs.Prelude.{◌≡◌, ◌≤◌, length};
     ghost use Rattle.ipnetwork_addr.specs.Reading.{Reads};
     ghost use Rattle.ipnetwork_addr.specs.Either.{NamesIp, canonical_ip};
 
@@ -35,7 +35,8 @@ impl IpAddr {
 
     /// The canonical text of the address, at most 39 bytes. Takes no memory.
     pub fn canonical(&self) -> ArrayString<TEXT_CAPACITY>
-        ensures { result.bytes ≡ canonical_ip self.now }
+        ensures bytes { result.bytes ≡ canonical_ip self.now }
+        ensures short { length result.bytes ≤ 39 }
     {
         match self {
             IpAddr::V4(address) => address.canonical(),

@@ -82,6 +82,7 @@ impl Ipv6Addr {
     pub fn canonical(&self) -> ArrayString<TEXT_CAPACITY>
         ensures canonical { IsCanonicalV6 result.bytes self.now }
         ensures bytes { result.bytes ≡ canonical_v6 self.now }
+        ensures short { length result.bytes ≤ 39 }
     {
         canonical_text(self.number, &self.segments())
     }

@@ -1,35 +1,134 @@
 //! The laws of addresses and of their texts. Each function's contract is a law. One of texts takes
 //! nothing and does nothing, and a proof that calls it may use the law.
-ghost use Rattle.std.specs.Prelude.{◌≡◌, ◌↔◌, ℕ, ◌^◌, ◌<◌, List, IsTrue, Some};
+ghost use Rattle.std.specs.Prelude.{◌≡◌, ◌↔◌, ℕ, ◌^◌, ◌<◌, ◌≤◌, List, IsTrue, Ok, Result, Some, fold};
+ghost use Rattle.std.specs.Hash as writes;
+ghost use Rattle.std.specs.Ordering.{nat_cmp};
 ghost use Rattle.ipnetwork_addr.specs.Ipv4Text.{IsOctet, IsPlainOctet, NamesV4, canonical_v4, v4_of};
-ghost use Rattle.ipnetwork_addr.specs.Either.{NamesIp, FitsIp, IsBefore, canonical_ip};
+ghost use Rattle.ipnetwork_addr.specs.Either.{NamesIp, FitsIp, IsBefore, IsAtMost, ip_cmp, ip_writes, canonical_ip, ip_of};
 ghost use Rattle.ipnetwork_addr.specs.Ipv6Canonical.{IsCanonicalV6, canonical_v6};
 ghost use Rattle.ipnetwork_addr.specs.Ipv6Computed.{v6_of};
 ghost use Rattle.ipnetwork_addr.specs.Ipv6Text.{NamesV6};
+ghost use Rattle.ipnetwork_addr.specs.Reading.{Reads, answer_from};
 ghost use Rattle.ipnetwork_addr.specs.Texts.{IsAddressByte};
 ghost use Rattle.std.specs.List.{AllByRecursion};
 
-use crate::{IpAddr, Ipv4Addr, Ipv6Addr};
+use crate::{AddrParseError, IpAddr, Ipv4Addr, Ipv6Addr};
+use std::alloc::AllocError;
+use std::cmp::Ordering;
+use std::hash::{Hash, Hasher};
 
-/// Of two IPv4 addresses the one with the lower number is before the other.
-pub fn v4_order(a: Ipv4Addr, b: Ipv4Addr) -> bool
-    ensures { IsTrue result ↔ (a < b) }
+/// `==` holds exactly of equal addresses.
+pub fn v4_equality(a: Ipv4Addr, b: Ipv4Addr) -> bool
+    ensures { IsTrue result ↔ (a ≡ b) }
 {
-    a < b
+    a == b
 }
 
-/// Of two IPv6 addresses the one with the lower number is before the other.
-pub fn v6_order(first: Ipv6Addr, second: Ipv6Addr) -> bool
-    ensures { IsTrue result ↔ (first < second) }
+/// `==` holds exactly of equal addresses.
+pub fn v6_equality(a: Ipv6Addr, b: Ipv6Addr) -> bool
+    ensures { IsTrue result ↔ (a ≡ b) }
 {
-    first < second
+    a == b
 }
 
-/// Each IPv4 address is before each IPv6 address, and in a family the lower number is before.
-pub fn ip_order(one: IpAddr, other: IpAddr) -> bool
-    ensures { IsTrue result ↔ IsBefore one other }
+/// `==` holds exactly of equal addresses, which have one family and one number.
+pub fn ip_equality(a: IpAddr, b: IpAddr) -> bool
+    ensures { IsTrue result ↔ (a ≡ b) }
 {
-    one < other
+    a == b
+}
+
+/// `==` holds exactly of equal errors.
+pub fn addr_parse_error_equality(a: AddrParseError, b: AddrParseError) -> bool
+    ensures { IsTrue result ↔ (a ≡ b) }
+{
+    a == b
+}
+
+/// `<`, `<=` and `cmp` compare IPv4 addresses by their numbers.
+pub fn v4_order(a: Ipv4Addr, b: Ipv4Addr) -> (bool, bool, Ordering)
+    ensures less { IsTrue result.0 ↔ (a < b) }
+    ensures at_most { IsTrue result.1 ↔ (a ≤ b) }
+    ensures compare { result.2 ≡ nat_cmp a b }
+{
+    (a < b, a <= b, a.cmp(&b))
+}
+
+/// `<`, `<=` and `cmp` compare IPv6 addresses by their numbers.
+pub fn v6_order(a: Ipv6Addr, b: Ipv6Addr) -> (bool, bool, Ordering)
+    ensures less { IsTrue result.0 ↔ (a < b) }
+    ensures at_most { IsTrue result.1 ↔ (a ≤ b) }
+    ensures compare { result.2 ≡ nat_cmp a b }
+{
+    (a < b, a <= b, a.cmp(&b))
+}
+
+/// `<`, `<=` and `cmp` put each IPv4 address before each IPv6 address, and compare two of one family
+/// by their numbers.
+pub fn ip_order(a: IpAddr, b: IpAddr) -> (bool, bool, Ordering)
+    ensures less { IsTrue result.0 ↔ IsBefore a b }
+    ensures at_most { IsTrue result.1 ↔ IsAtMost a b }
+    ensures compare { result.2 ≡ ip_cmp a b }
+{
+    (a < b, a <= b, a.cmp(&b))
+}
+
+/// An IPv4 address is hashed as its number is, so that equal addresses take two hashers from one
+/// state to one state.
+pub fn v4_hash<H: Hasher>(a: Ipv4Addr, b: Ipv4Addr, first: &mut H, second: &mut H)
+    ensures fed { first.new ≡ fold H.write first.old (writes.u32 a) }
+    ensures alike { a ≡ b → first.old ≡ second.old → first.new ≡ second.new }
+{
+    a.hash(first);
+    b.hash(second);
+}
+
+/// An IPv6 address is hashed as its number is, so that equal addresses take two hashers from one
+/// state to one state.
+pub fn v6_hash<H: Hasher>(a: Ipv6Addr, b: Ipv6Addr, first: &mut H, second: &mut H)
+    ensures fed { first.new ≡ fold H.write first.old (writes.u128 a) }
+    ensures alike { a ≡ b → first.old ≡ second.old → first.new ≡ second.new }
+{
+    a.hash(first);
+    b.hash(second);
+}
+
+/// An address of either family is hashed as its family and then its number, so that equal addresses
+/// take two hashers from one state to one state.
+pub fn ip_hash<H: Hasher>(a: IpAddr, b: IpAddr, first: &mut H, second: &mut H)
+    ensures fed { first.new ≡ fold H.write first.old (ip_writes a) }
+    ensures alike { a ≡ b → first.old ≡ second.old → first.new ≡ second.new }
+{
+    a.hash(first);
+    b.hash(second);
+}
+
+/// The clone of an address is the address.
+pub fn v4_clone(a: Ipv4Addr) -> Result<Ipv4Addr, AllocError>
+    ensures { result ≡ Ok a }
+{
+    a.clone()
+}
+
+/// The clone of an address is the address.
+pub fn v6_clone(a: Ipv6Addr) -> Result<Ipv6Addr, AllocError>
+    ensures { result ≡ Ok a }
+{
+    a.clone()
+}
+
+/// The clone of an address is the address.
+pub fn ip_clone(a: IpAddr) -> Result<IpAddr, AllocError>
+    ensures { result ≡ Ok a }
+{
+    a.clone()
+}
+
+/// The clone of an error is the error.
+pub fn addr_parse_error_clone(a: AddrParseError) -> Result<AddrParseError, AllocError>
+    ensures { result ≡ Ok a }
+{
+    a.clone()
 }
 
 /// An octet text is one to three decimal digits of value at most 255, without a leading zero.
@@ -52,7 +151,7 @@ pub fn canonical_v4_is_one_to_one()
     ensures { (a b : ℕ) → a < 2 ^ 32 → b < 2 ^ 32 → (a ≡ b) ↔ (canonical_v4 a ≡ canonical_v4 b) }
 {}
 
-/// An IPv4 text holds digits and dots, which are bytes of addresses, and nothing else.
+/// Each byte of an IPv4 text is a byte of addresses: a hex digit, `.` or `:`.
 pub fn v4_text_bytes()
     ensures { (text : List ℕ) (address : ℕ) → NamesV4 text address → AllByRecursion IsAddressByte text }
 {}
@@ -87,7 +186,7 @@ pub fn canonical_v6_is_one_to_one()
     ensures { (a b : ℕ) → a < 2 ^ 128 → b < 2 ^ 128 → (a ≡ b) ↔ (canonical_v6 a ≡ canonical_v6 b) }
 {}
 
-/// An IPv6 text holds hex digits, colons and dots, which are bytes of addresses, and nothing else.
+/// Each byte of an IPv6 text is a byte of addresses: a hex digit, `.` or `:`.
 pub fn v6_text_bytes()
     ensures { (text : List ℕ) (address : ℕ) → NamesV6 text address → AllByRecursion IsAddressByte text }
 {}
@@ -110,4 +209,23 @@ pub fn canonical_ip_is_one_to_one()
 /// The address that an IPv6 text names can be computed from the text.
 pub fn v6_text_is_computed()
     ensures { (text : List ℕ) (address : ℕ) → NamesV6 text address ↔ (v6_of text ≡ Some address) }
+{}
+
+/// What reading an IPv4 address answers can be computed from the text, and there is one answer.
+pub fn v4_reading_is_computed()
+    ensures { (text : List ℕ) (result : Result ℕ AddrParseError)
+        → Reads NamesV4 AddrParseError.Ipv4 text result ↔ (result ≡ answer_from AddrParseError.Ipv4 (v4_of text)) }
+{}
+
+/// What reading an IPv6 address answers can be computed from the text, and there is one answer.
+pub fn v6_reading_is_computed()
+    ensures { (text : List ℕ) (result : Result ℕ AddrParseError)
+        → Reads NamesV6 AddrParseError.Ipv6 text result ↔ (result ≡ answer_from AddrParseError.Ipv6 (v6_of text)) }
+{}
+
+/// What reading an address of either family answers can be computed from the text, and there is one
+/// answer.
+pub fn ip_reading_is_computed()
+    ensures { (text : List ℕ) (result : Result IpAddr AddrParseError)
+        → Reads NamesIp AddrParseError.Ip text result ↔ (result ≡ answer_from AddrParseError.Ip (ip_of text)) }
 {}
