@@ -1,9 +1,9 @@
 -- Blocks of addresses: what it means to share the first bits.
-use Rattle.std.proofs.Common.{◌≡◌, ◌↔◌, ℕ, ◌+◌, ◌-◌, ◌*◌, ◌/◌, ◌^◌, ◌<◌, ◌≤◌, ◌⊎◌, inl, inr, sym, refl, ap, subst, ◌∙◌, Bool, true, false, IsTrue, leb, arith, ⊎_elim}
+use Rattle.std.proofs.Common.{◌≡◌, ◌↔◌, ℕ, ◌+◌, ◌-◌, ◌*◌, ◌/◌, ◌^◌, ◌<◌, ◌≤◌, ◌⊎◌, inl, inr, sym, refl, ap, subst, ◌∙◌, Bool, true, false, IsTrue, leb, ltb, ◌==◌, ◌&&◌, arith, ⊎_elim}
 use Rattle.std.proofs.Math.Nat.{div-mul-le_self, lt-div-mul-add, div-lt_iff_lt-mul, div-div-eq-div-mul}
 use Rattle.std.proofs.lemmas.Nat.{pow_pos, pow-add, div-mul-add, mul-le, pow_below}
-use Rattle.std.proofs.lemmas.Bool.{cases_lt, leb-true}
-use Rattle.ipnetwork_family.specs.Network.{Network, IsNetwork, Member, low, high, block_size, IsBlock, Subnet, Overlap, AtMost, mask_of}
+use Rattle.std.proofs.lemmas.Bool.{cases_lt, leb-true, and_parts, ltb-true, lt-ltb, eqb-true, eq-eqb}
+use Rattle.ipnetwork_family.specs.Network.{Network, IsNetwork, Member, is_member, low, high, block_size, block_of, IsBlock, Subnet, Overlap, AtMost, mask_of}
 use Rattle.ipnetwork_family.specs.Laws.{HasEnds}
 
 -- the quotient is q for each number from q * s on, below q * s + s
@@ -159,6 +159,32 @@ subnet_after w a c h k b d s =
 -- a multiple of a size is where its own block begins
 pub multiple_begins : (s q : ℕ) → 0 < s → q * s / s * s ≡ q * s
 multiple_begins s q p = ap (λ k. k * s) (div_within q s (q * s) (omega arith) (omega (arith, p)))
+
+-- the network without host bits
+pub block_fits_too : (w : ℕ) (n : Network) → IsNetwork w n → IsNetwork w (block_of w n)
+block_fits_too w n h = record {
+  address_fits = omega (arith, high_fits w n h, size_pos w n.prefix);
+  prefix_fits = h.prefix_fits;
+}
+
+pub block_begins : (w : ℕ) (n : Network) → IsBlock w (block_of w n)
+block_begins w n = sym (multiple_begins (block_size w n.prefix) (n.address / block_size w n.prefix) (size_pos w n.prefix))
+
+pub block_same_set : (w : ℕ) (n : Network) (x : ℕ) → Member w (block_of w n) x ↔ Member w n x
+block_same_set w n x =
+    let size : ℕ = block_size w n.prefix in
+    let same : low w n / size ≡ n.address / size = div_within (n.address / size) size (low w n) (omega arith) (omega (arith, size_pos w n.prefix)) in
+    ((λ m. (m.0, m.1 ∙ same)), (λ m. (m.0, m.1 ∙ sym same)))
+
+-- the test of membership
+pub membership_computed : (w : ℕ) (n : Network) (x : ℕ) → IsTrue (is_member w n x) ↔ Member w n x
+membership_computed w n x =
+    let size : ℕ = block_size w n.prefix in
+    let within : Bool = ltb x (2 ^ w) in
+    let agrees : Bool = x / size == n.address / size in (
+      (λ t. let both = and_parts within agrees t in (ltb-true x (2 ^ w) both.0, eqb-true (x / size) (n.address / size) both.1)),
+      (λ m. ap (λ b. b && agrees) (lt-ltb x (2 ^ w) m.0) ∙ eq-eqb (x / size) (n.address / size) m.1),
+    )
 
 pub between_is_subnet : (w : ℕ) (a b c : Network) → IsNetwork w a → IsNetwork w b → IsNetwork w c → IsBlock w a → IsBlock w b → IsBlock w c
     → Subnet w c a → AtMost a b → AtMost b c → Subnet w b a

@@ -1,7 +1,7 @@
 -- The laws of networks, for addresses of any number of bits.
-use Rattle.std.specs.Prelude.{◌≡◌, ℕ, ◌+◌, ◌<◌, ◌≤◌, ◌⊎◌, ◌↔◌, Contains, slice_get, Some}
+use Rattle.std.specs.Prelude.{◌≡◌, ℕ, ◌+◌, ◌<◌, ◌≤◌, ◌⊎◌, ◌↔◌, Contains, slice_get, Some, IsTrue}
 use Rattle.std.specs.List.Sorted.{IsStrictlyIncreasing}
-use Rattle.ipnetwork_family.specs.Network.{Network, IsNetwork, Member, low, high, block_size, IsBlock, Subnet, Overlap, AtMost, members, mask_of}
+use Rattle.ipnetwork_family.specs.Network.{Network, IsNetwork, Member, is_member, low, high, block_size, block_of, IsBlock, Subnet, Overlap, AtMost, members, mask_of}
 
 -- the ends are the least and the greatest member, and the address is a member
 pub record HasEnds (w : ℕ) (n : Network) : Type 0 where
@@ -26,6 +26,18 @@ SubnetTransitive = (w : ℕ) (a b c : Network) → Subnet w a b → Subnet w b c
 abbrev pub SameSet : Type 0
 SameSet = (w : ℕ) (a b : Network) → IsNetwork w a → IsNetwork w b
     → (Subnet w a b × Subnet w b a) ↔ ((a.prefix ≡ b.prefix) × (low w a ≡ low w b))
+
+-- the network without host bits that has the set of a network: it is a network,
+abbrev pub BlockFits : Type 0
+BlockFits = (w : ℕ) (n : Network) → IsNetwork w n → IsNetwork w (block_of w n)
+
+-- has no host bits,
+abbrev pub BlockHasNoHostBits : Type 0
+BlockHasNoHostBits = (w : ℕ) (n : Network) → IsBlock w (block_of w n)
+
+-- and the same members
+abbrev pub BlockHasSameSet : Type 0
+BlockHasSameSet = (w : ℕ) (n : Network) (x : ℕ) → Member w (block_of w n) x ↔ Member w n x
 
 -- of two sets that share an address one is part of the other
 abbrev pub Nesting : Type 0
@@ -64,6 +76,10 @@ pub record ListsMembers (w : ℕ) (n : Network) : Type 0 where
 -- every network lists its members so
 abbrev pub MembersLaw : Type 0
 MembersLaw = (w : ℕ) (n : Network) → IsNetwork w n → ListsMembers w n
+
+-- the test of membership is true exactly for members
+abbrev pub MembershipComputed : Type 0
+MembershipComputed = (w : ℕ) (n : Network) (x : ℕ) → IsTrue (is_member w n x) ↔ Member w n x
 
 -- the w + 1 masks differ
 abbrev pub MasksDiffer : Type 0

@@ -1,7 +1,9 @@
 -- Networks of addresses of w bits, as numbers: 32 for IPv4 and 128 for IPv6 (RFC 4632, section 3.1; RFC 4291,
 -- section 2.3).
-use Rattle.std.specs.Prelude.{◌≡◌, ◌≢◌, ◌==◌, if◌then◌else◌, Option, None, Some, ℕ, zero, suc, ◌+◌, ◌-◌, ◌*◌, ◌/◌, ◌^◌, ◌<◌, ◌≤◌, ◌⊎◌, min, List, [], ◌∷◌}
+use Rattle.std.specs.Prelude.{◌≡◌, ◌≢◌, ◌==◌, ◌&&◌, nat_lt, if◌then◌else◌, Bool, Option, None, Some, ℕ, zero, suc, ◌+◌, ◌-◌, ◌*◌, ◌/◌, ◌^◌, ◌<◌, ◌≤◌, ◌⊎◌, min, List, [], ◌∷◌}
 use Rattle.std.specs.Int.Count.{count_leading_zeros}
+use Rattle.std.specs.declared.cmp.Ordering.{Ordering}
+use Rattle.std.specs.Ordering.{nat_cmp, ordering_then}
 
 -- an address with its host bits, and the prefix length: how many of its first bits are fixed
 pub record Network : Type 0 where
@@ -20,6 +22,10 @@ block_size w p = 2 ^ (w - p)
 -- x is an address of the network's set: it agrees with the network's address in the fixed bits
 abbrev pub Member : ℕ → Network → ℕ → Type 0
 Member w n x = (x < 2 ^ w) × (x / block_size w n.prefix ≡ n.address / block_size w n.prefix)
+
+-- the same as a test
+abbrev pub is_member : ℕ → Network → ℕ → Bool
+is_member w n x = nat_lt x (2 ^ w) && (x / block_size w n.prefix == n.address / block_size w n.prefix)
 
 -- the mask of a prefix length: the number of w bits whose first p are ones
 abbrev pub mask_of : ℕ → ℕ → ℕ
@@ -62,9 +68,17 @@ Subnet w a b = (x : ℕ) → Member w a x → Member w b x
 abbrev pub Overlap : ℕ → Network → Network → Type 0
 Overlap w a b = (x : ℕ) × Member w a x × Member w b x
 
--- in order, a comes before b, or is b: by address, then by prefix length
+-- in order, a comes before b: by address, then by prefix length
+abbrev pub IsBefore : Network → Network → Type 0
+IsBefore a b = (a.address < b.address) ⊎ ((a.address ≡ b.address) × (a.prefix < b.prefix))
+
+-- a comes before b, or is b
 abbrev pub AtMost : Network → Network → Type 0
 AtMost a b = (a.address < b.address) ⊎ ((a.address ≡ b.address) × (a.prefix ≤ b.prefix))
+
+-- which of the two comes first, or that they are equal: by address, then by prefix length
+abbrev pub network_cmp : Network → Network → Ordering
+network_cmp a b = ordering_then (nat_cmp a.address b.address) (nat_cmp a.prefix b.prefix)
 
 -- the number is no mask
 abbrev pub IsNoMask : ℕ → ℕ → Type 0

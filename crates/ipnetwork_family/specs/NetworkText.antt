@@ -16,8 +16,8 @@ abbrev pub slashes : List ℕ → ℕ
 slashes text = count_by (λ byte. byte == slash) text
 
 -- two or more
-abbrev pub HasSlashes : List ℕ → Type 0
-HasSlashes text = 2 ≤ slashes text
+abbrev pub HasSeveralSlashes : List ℕ → Type 0
+HasSeveralSlashes text = 2 ≤ slashes text
 
 -- the first `/` stands here
 pub record IsFirstSlash (text : List ℕ) (at : ℕ) : Type 0 where
@@ -56,7 +56,7 @@ pub data NamesNetwork (w : ℕ) (NamesAddress IsSuffix : List ℕ → ℕ → Ty
 -- why a text that names nothing is refused. The first that holds is the cause
 abbrev pub IsCause : (List ℕ → ℕ → Type 0) → List ℕ → CidrFault → Type 0
 -- it holds two or more `/`
-IsCause NamesAddress text Format = HasSlashes text
+IsCause NamesAddress text Format = HasSeveralSlashes text
 -- else what stands before the `/` is no address
 IsCause NamesAddress text Addr = (slashes text ≤ 1) × ((a : ℕ) → ¬ (NamesAddress (before_slash text) a))
 -- else what stands after it is no suffix

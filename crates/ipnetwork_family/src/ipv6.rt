@@ -1,5 +1,5 @@
 //! IPv6 networks.
-ghost use Rattle.std.specs.Prelude.{◌≡◌, ℕ, ◌+◌, ◌<◌, ◌≤◌, ◌↔◌, IsTrue, Some, MatchOption, MatchResult, option_copied};
+ghost use Rattle.std.specs.Prelude.{◌≡◌, ℕ, ◌+◌, ◌<◌, ◌≤◌, ◌↔◌, IsTrue, Some, MatchOption, MatchResult, length, option_copied};
 ghost use Rattle.std.specs.Option.{SomeIff};
 ghost use Rattle.ipnetwork_addr.specs.Ipv6Text.{NamesV6};
 ghost use Rattle.ipnetwork_addr.specs.Ipv6Canonical.{canonical_v6};
@@ -196,6 +196,7 @@ impl Ipv6Network {
     /// prefix length. Takes no memory.
     pub fn canonical(&self) -> ArrayString<TEXT_CAPACITY>
         ensures bytes { result.bytes ≡ network_text canonical_v6 self.now }
+        ensures short { length result.bytes ≤ 43 }
         ensures network { IsNetwork 128 self.now }
     {
         let mut text = ArrayString::new();

@@ -1,6 +1,6 @@
 //! The parts of a network text.
 ghost use Rattle.std.specs.Prelude.{◌≡◌, ◌≤◌, MatchResult, MatchOption, option_copied};
-ghost use Rattle.ipnetwork_family.specs.NetworkText.{slashes, HasSlashes, IsFirstSlash, IsOnlySlash, IsSplit};
+ghost use Rattle.ipnetwork_family.specs.NetworkText.{slashes, HasSeveralSlashes, IsFirstSlash, IsOnlySlash, IsSplit};
 ghost use Rattle.ipnetwork_family.specs.PrefixNumber.{IsPrefixNumber, IsNoPrefixNumber, IsNumeralOf, IsNoNumeral};
 
 use crate::CidrFault;
@@ -9,7 +9,7 @@ use crate::CidrFault;
 /// there is no `/`. Both are slices of the text. Two or more `/` are `CidrFault::Format`. Takes no memory.
 pub fn cidr_parts(cidr: &str) -> Result<(&str, Option<&str>), CidrFault>
     ensures { MatchResult result (λ parts. IsSplit cidr.now parts.0.now (option_copied parts.1))
-        (λ fault. (fault ≡ CidrFault.Format) × HasSlashes cidr.now) }
+        (λ fault. (fault ≡ CidrFault.Format) × HasSeveralSlashes cidr.now) }
 {
     match only_slash(cidr.as_bytes())? {
         None => Ok((cidr, None)),
@@ -33,7 +33,7 @@ pub fn parse_prefix(prefix: &str, max: u8) -> Result<u8, CidrFault>
 /// `cidr_parts`, over bytes.
 pub(crate) fn split(text: &[u8]) -> Result<(&[u8], Option<&[u8]>), CidrFault>
     ensures { MatchResult result (λ parts. IsSplit text.now parts.0.now (option_copied parts.1))
-        (λ fault. (fault ≡ CidrFault.Format) × HasSlashes text.now) }
+        (λ fault. (fault ≡ CidrFault.Format) × HasSeveralSlashes text.now) }
 {
     match only_slash(text)? {
         None => Ok((text, None)),
@@ -74,7 +74,7 @@ fn read_digits(text: &[u8], max: u8) -> Option<u8>
 
 /// Where the only `/` of a text stands, if there is one.
 fn only_slash(text: &[u8]) -> Result<Option<usize>, CidrFault>
-    ensures { MatchResult result (IsOnlySlash text.now) (λ fault. (fault ≡ CidrFault.Format) × HasSlashes text.now) }
+    ensures { MatchResult result (IsOnlySlash text.now) (λ fault. (fault ≡ CidrFault.Format) × HasSeveralSlashes text.now) }
 {
     let Some(at) = first_slash(text) else {
         return Ok(None);

@@ -8,3 +8,4 @@ mod ipv6_questions;
 mod ipv6_texts;
 mod laws;
 mod parts;
+mod values;

@@ -1,0 +1,13 @@
+-- When two refusals are the same.
+use Rattle.std.specs.Prelude.{◌≡◌, ⊤, string_bytes}
+use Rattle.ipnetwork_family.specs.declared.error.IpNetworkError.{IpNetworkError}
+use Rattle.ipnetwork_family.specs.declared.error.IpNetworkError.TheVariants.{InvalidAddr, InvalidPrefix, InvalidCidrFormat, NetworkSizeError, OutOfMemory}
+
+-- the same variant, and the same text or the same cause in it
+abbrev pub SameError : IpNetworkError → IpNetworkError → Type 0
+SameError (InvalidAddr a) (InvalidAddr b) = string_bytes a ≡ string_bytes b
+SameError InvalidPrefix InvalidPrefix = ⊤
+SameError (InvalidCidrFormat a) (InvalidCidrFormat b) = string_bytes a ≡ string_bytes b
+SameError (NetworkSizeError a) (NetworkSizeError b) = a ≡ b
+SameError OutOfMemory OutOfMemory = ⊤
+SameError _ _ = ⊥
