@@ -9,5 +9,6 @@ pub mod Masks
 pub mod Members
 pub mod NetworkTexts
 pub mod Numerals
+mod Shown
 pub mod Slashes
 pub mod Suffixes

@@ -1,3 +1,4 @@
+pub mod ErrorTexts
 pub mod Faults
 pub mod Ipv4NetworkText
 pub mod Ipv6NetworkText
