@@ -5,4 +5,5 @@ pub mod Ipv6NetworkText
 pub mod Laws
 pub mod Network
 pub mod NetworkText
+pub mod Parsing
 pub mod PrefixNumber

@@ -1,11 +1,12 @@
 //! IPv6 networks.
-ghost use Rattle.std.specs.Prelude.{◌≡◌, ℕ, ◌+◌, ◌<◌, ◌≤◌, ◌↔◌, IsTrue, Some, MatchOption, MatchResult, length, option_copied};
+ghost use Rattle.std.specs.Prelude.{◌≡◌, ℕ, ◌+◌, ◌<◌, ◌≤◌, ◌↔◌, IsTrue, Some, MatchOption, MatchResult, IfOk, string_bytes, length, option_copied};
 ghost use Rattle.std.specs.Option.{SomeIff};
 ghost use Rattle.ipnetwork_addr.specs.Ipv6Text.{NamesV6};
 ghost use Rattle.ipnetwork_addr.specs.Ipv6Canonical.{canonical_v6};
 ghost use Rattle.ipnetwork_family.specs.Network.{Network, IsNetwork, Member, IsNoMask, mask_of, low, high, size_of, members, Subnet, Overlap};
 ghost use Rattle.ipnetwork_family.specs.NetworkText.{GivesPrefix, GivesNoPrefix, network_text};
 ghost use Rattle.ipnetwork_family.specs.Ipv6NetworkText.{IsV6Suffix, ReadsV6Network};
+ghost use Rattle.ipnetwork_family.specs.Parsing.{ParsesV6Network};
 
 use crate::ipv6_iter::Ipv6NetworkIterator;
 use crate::ipv6_mask::{WIDTH, host_ones, prefix_of_mask};
@@ -13,7 +14,8 @@ use crate::parse::{read_prefix, split};
 use crate::{CidrFault, IpNetworkError, TEXT_CAPACITY};
 use arrayvec::ArrayString;
 use ipnetwork_addr::decimal::push_decimal;
-use ipnetwork_addr::{Ipv6Addr, laws};
+use ipnetwork_addr::{AddrParseError, Ipv6Addr, laws};
+use std::alloc::{AllocError, Global};
 use std::fmt;
 use std::marker::Model;
 use std::str::FromStr;
@@ -192,6 +194,18 @@ impl Ipv6Network {
         })
     }
 
+    /// The network that a text names, as `read_bytes` reads it; where it names none, the error for its
+    /// cause, as `IpNetworkError::from_fault` of `AddrParseError::Ipv6` and the text gives it. Allocates
+    /// once, for a refusal that carries a text, and answers `OutOfMemory` only in place of one.
+    pub fn parse(alloc: Global, text: &str) -> Result<Self, IpNetworkError>
+        ensures { ParsesV6Network text.now result }
+    {
+        match Ipv6Network::read_bytes(text.as_bytes()) {
+            Ok(network) => Ok(network),
+            Err(fault) => Err(IpNetworkError::from_fault(alloc, fault, AddrParseError::Ipv6, text)),
+        }
+    }
+
     /// The canonical text, at most 43 bytes: the canonical address, `/` and the shortest decimal of the
     /// prefix length. Takes no memory.
     pub fn canonical(&self) -> ArrayString<TEXT_CAPACITY>
@@ -204,6 +218,13 @@ impl Ipv6Network {
         text.push('/');
         push_decimal(&mut text, self.prefix());
         text
+    }
+
+    /// The canonical text as a `String`. Allocates once.
+    pub fn to_text(&self, alloc: Global) -> Result<String, AllocError>
+        ensures { IfOk result (λ text. string_bytes text ≡ network_text canonical_v6 self.now) }
+    {
+        String::from_str(alloc, self.canonical().as_str())
     }
 }
 

@@ -1,0 +1,27 @@
+-- What parsing answers: reading with an error that carries a text.
+use Rattle.std.specs.Prelude.{List, ℕ, Result, MatchResult}
+use Rattle.ipnetwork_addr.specs.declared.error.AddrParseError.{AddrParseError}
+use Rattle.ipnetwork_addr.specs.declared.error.AddrParseError.TheVariants as kinds
+use Rattle.ipnetwork_addr.specs.Ipv4Text.{NamesV4}
+use Rattle.ipnetwork_addr.specs.Ipv6Text.{NamesV6}
+use Rattle.ipnetwork_family.specs.Network.{Network}
+use Rattle.ipnetwork_family.specs.NetworkText.{IsCause}
+use Rattle.ipnetwork_family.specs.Ipv4NetworkText.{NamesV4Network}
+use Rattle.ipnetwork_family.specs.Ipv6NetworkText.{NamesV6Network}
+use Rattle.ipnetwork_family.specs.ErrorTexts.{fault_of, IsRefusal}
+use Rattle.ipnetwork_family.specs.declared.error.CidrFault.{CidrFault}
+use Rattle.ipnetwork_family.specs.declared.error.IpNetworkError.{IpNetworkError}
+
+-- the network that the text names; where it names none, the refusal of the text for its cause, which may be that there
+-- was no memory for the text of the refusal
+abbrev pub Parses : {N : Type 0} → (List ℕ → N → Type 0) → (List ℕ → CidrFault → Type 0) → AddrParseError → List ℕ → Result N IpNetworkError → Type 0
+Parses {N} Names IsCauseOf kind text result =
+    MatchResult result (Names text)
+    (λ error. ((n : N) → ¬ (Names text n)) × ((fault : CidrFault) × IsCauseOf text fault × IsRefusal (fault_of fault kind text) error))
+
+-- of IPv4 networks, and of IPv6 networks
+abbrev pub ParsesV4Network : List ℕ → Result Network IpNetworkError → Type 0
+ParsesV4Network text result = Parses NamesV4Network (IsCause NamesV4) kinds.Ipv4 text result
+
+abbrev pub ParsesV6Network : List ℕ → Result Network IpNetworkError → Type 0
+ParsesV6Network text result = Parses NamesV6Network (IsCause NamesV6) kinds.Ipv6 text result
