@@ -5,8 +5,9 @@ use crate::ip_iter::IpNetworkIterator;
 use crate::ip_mask::ip_mask_to_prefix;
 use crate::size::NetworkSize;
 use arrayvec::ArrayString;
-use ipnetwork_addr::IpAddr;
+use ipnetwork_addr::{AddrParseError, IpAddr};
 use ipnetwork_family::{CidrFault, IpNetworkError, Ipv4Network, Ipv6Network, TEXT_CAPACITY, laws};
+use std::alloc::{AllocError, Global};
 use std::fmt;
 use std::str::FromStr;
 
@@ -21,9 +22,9 @@ pub enum IpNetwork {
 }
 
 impl IpNetwork {
-    ghost use Rattle.std.specs.Prelude.{◌≡◌, ◌≤◌, ◌↔◌, IsTrue, MatchResult, length};
+    ghost use Rattle.std.specs.Prelude.{◌≡◌, ◌≤◌, ◌↔◌, IsTrue, IfOk, string_bytes};
     ghost use Rattle.ipnetwork.specs.IpNetworks.{IsIpNetwork, address_of, prefix_of, ip_mask_of, ip_low, ip_high, ip_size, ip_members, IpMember, IpSubnet, IpOverlap, Makes, MakesWithMask, IsV4, IsV6};
-    ghost use Rattle.ipnetwork.specs.IpNetworkText.{ReadsIpNetwork, ip_network_text};
+    ghost use Rattle.ipnetwork.specs.IpNetworkText.{ReadsIpNetwork, ParsesIpNetwork, ip_network_text};
 
     /// The network of this address, host bits kept, and this prefix length; `InvalidPrefix` where that is
     /// greater than the number of bits of the address, 32 or 128. Does not allocate.
@@ -209,6 +210,17 @@ impl IpNetwork {
         }
     }
 
+    /// The network that a text names, as `read_bytes` reads it; any other text is `InvalidAddr` with the
+    /// whole text, or `OutOfMemory`. Allocates once, for a refusal.
+    pub fn parse(alloc: Global, text: &str) -> Result<Self, IpNetworkError>
+        ensures { ParsesIpNetwork text.now result }
+    {
+        match IpNetwork::read_bytes(text.as_bytes()) {
+            Ok(network) => Ok(network),
+            Err(fault) => Err(IpNetworkError::from_fault(alloc, fault, AddrParseError::Ip, text)),
+        }
+    }
+
     /// The canonical text, at most 43 bytes: that of the network in its family. Does not allocate.
     pub fn canonical(&self) -> ArrayString<TEXT_CAPACITY>
         ensures bytes { result.bytes ≡ ip_network_text self.now }
@@ -218,6 +230,13 @@ impl IpNetwork {
             IpNetwork::V4(network) => network.canonical(),
             IpNetwork::V6(network) => network.canonical(),
         }
+    }
+
+    /// The canonical text as a `String`. Allocates once.
+    pub fn to_text(&self, alloc: Global) -> Result<String, AllocError>
+        ensures { IfOk result (λ text. string_bytes text ≡ ip_network_text self.now) }
+    {
+        String::from_str(alloc, self.canonical().as_str())
     }
 }
 

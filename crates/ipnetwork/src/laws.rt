@@ -22,9 +22,6 @@ pub use ipnetwork_addr::laws::{
     v6_text_is_computed, v6_text_names_one,
 };
 use ipnetwork_family::laws as families;
-use std::alloc::AllocError;
-use std::cmp::Ordering;
-use std::hash::{Hash, Hasher};
 pub use ipnetwork_family::laws::{
     canonical_v4_network_bytes, canonical_v4_network_is_one_to_one, canonical_v4_network_names_it,
     canonical_v4_network_reads_back, canonical_v6_network_bytes,
@@ -33,6 +30,9 @@ pub use ipnetwork_family::laws::{
     v4_network_order, v4_network_reading_is_computed, v4_network_text_names_one, v6_network_order,
     v6_network_reading_is_computed, v6_network_text_names_one,
 };
+use std::alloc::AllocError;
+use std::cmp::Ordering;
+use std::hash::{Hash, Hasher};
 
 /// A text names at most one network, across both families.
 pub fn ip_network_text_names_one()
