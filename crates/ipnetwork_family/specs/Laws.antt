@@ -1,7 +1,7 @@
 -- The laws of networks, for addresses of any number of bits.
 use Rattle.std.specs.Prelude.{◌≡◌, ℕ, ◌+◌, ◌<◌, ◌≤◌, ◌⊎◌, ◌↔◌, Contains, slice_get, Some, IsTrue}
 use Rattle.std.specs.List.Sorted.{IsStrictlyIncreasing}
-use Rattle.ipnetwork_family.specs.Network.{Network, IsNetwork, Member, is_member, low, high, block_size, block_of, IsBlock, Subnet, Overlap, AtMost, members, mask_of}
+use Rattle.ipnetwork_family.specs.Network.{Network, IsNetwork, Member, is_member, is_subnet, low, high, block_size, block_of, IsBlock, Subnet, Overlap, AtMost, members, mask_of}
 
 -- the ends are the least and the greatest member, and the address is a member
 pub record HasEnds (w : ℕ) (n : Network) : Type 0 where
@@ -80,6 +80,10 @@ MembersLaw = (w : ℕ) (n : Network) → IsNetwork w n → ListsMembers w n
 -- the test of membership is true exactly for members
 abbrev pub MembershipComputed : Type 0
 MembershipComputed = (w : ℕ) (n : Network) (x : ℕ) → IsTrue (is_member w n x) ↔ Member w n x
+
+-- the test of subnets is true exactly where each member of one is a member of the other
+abbrev pub SubnetComputed : Type 0
+SubnetComputed = (w : ℕ) (a b : Network) → IsNetwork w a → IsNetwork w b → IsTrue (is_subnet w a b) ↔ Subnet w a b
 
 -- the w + 1 masks differ
 abbrev pub MasksDiffer : Type 0

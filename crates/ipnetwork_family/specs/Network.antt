@@ -1,6 +1,6 @@
 -- Networks of addresses of w bits, as numbers: 32 for IPv4 and 128 for IPv6 (RFC 4632, section 3.1; RFC 4291,
 -- section 2.3).
-use Rattle.std.specs.Prelude.{◌≡◌, ◌≢◌, ◌==◌, ◌&&◌, nat_lt, if◌then◌else◌, Bool, Option, None, Some, ℕ, zero, suc, ◌+◌, ◌-◌, ◌*◌, ◌/◌, ◌^◌, ◌<◌, ◌≤◌, ◌⊎◌, min, List, [], ◌∷◌}
+use Rattle.std.specs.Prelude.{◌≡◌, ◌≢◌, ◌==◌, ◌&&◌, nat_le, nat_lt, if◌then◌else◌, Bool, Option, None, Some, ℕ, zero, suc, ◌+◌, ◌-◌, ◌*◌, ◌/◌, ◌^◌, ◌<◌, ◌≤◌, ◌⊎◌, min, List, [], ◌∷◌}
 use Rattle.std.specs.Int.Count.{count_leading_zeros}
 use Rattle.std.specs.declared.cmp.Ordering.{Ordering}
 use Rattle.std.specs.Ordering.{nat_cmp, ordering_then}
@@ -63,6 +63,10 @@ size_of w n = min (block_size w n.prefix) (2 ^ w - 1)
 -- each member of a is one of b
 abbrev pub Subnet : ℕ → Network → Network → Type 0
 Subnet w a b = (x : ℕ) → Member w a x → Member w b x
+
+-- the same as a test, of networks: b fixes no more bits than a, and the address of a is a member of b
+abbrev pub is_subnet : ℕ → Network → Network → Bool
+is_subnet w a b = nat_le b.prefix a.prefix && is_member w b a.address
 
 -- some address is a member of both
 abbrev pub Overlap : ℕ → Network → Network → Type 0

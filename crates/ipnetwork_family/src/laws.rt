@@ -5,7 +5,10 @@ mod sets;
 mod texts;
 mod values;
 
-pub use sets::{blocks, ends, listing, masks, membership_is_computed, nesting, order, subnets};
+pub use sets::{
+    blocks, ends, listing, masks, membership_is_computed, nesting, order, subnet_is_computed,
+    subnets,
+};
 pub use texts::{
     canonical_v4_network_bytes, canonical_v4_network_is_one_to_one, canonical_v4_network_names_it,
     canonical_v4_network_reads_back, canonical_v6_network_bytes,

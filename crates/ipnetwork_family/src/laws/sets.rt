@@ -1,5 +1,5 @@
 //! Laws of the sets that networks stand for. They hold of addresses of any number of bits.
-ghost use Rattle.ipnetwork_family.specs.Laws.{EndsLaw, SubnetReflexive, SubnetTransitive, SameSet, BlockFits, BlockHasNoHostBits, BlockHasSameSet, Nesting, OverlapSymmetric, OverlapByAddress, OverlapByEnds, SubnetComesAfter, BetweenIsSubnet, MembersLaw, MembershipComputed, MasksDiffer};
+ghost use Rattle.ipnetwork_family.specs.Laws.{EndsLaw, SubnetReflexive, SubnetTransitive, SameSet, BlockFits, BlockHasNoHostBits, BlockHasSameSet, Nesting, OverlapSymmetric, OverlapByAddress, OverlapByEnds, SubnetComesAfter, BetweenIsSubnet, MembersLaw, MembershipComputed, SubnetComputed, MasksDiffer};
 
 /// The ends of a network are its least and its greatest member, and its address is a member.
 pub fn ends()
@@ -24,6 +24,11 @@ pub fn blocks()
 /// An address is a member exactly if the computing test says so.
 pub fn membership_is_computed()
     ensures { MembershipComputed }
+{}
+
+/// A network is a subnet of another exactly if the computing test says so.
+pub fn subnet_is_computed()
+    ensures { SubnetComputed }
 {}
 
 /// Two sets that share an address are nested; they share one exactly if the address of one network lies
