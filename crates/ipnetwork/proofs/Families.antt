@@ -3,13 +3,13 @@ use Rattle.std.proofs.Common.{◌≡◌, ℕ, ◌<◌, ◌≤◌, Bool, false, I
 use Rattle.std.specs.Prelude.{◌↔◌}
 use Rattle.ipnetwork_addr.specs.declared.ip.IpAddr.{IpAddr}
 use Rattle.ipnetwork_addr.specs.declared.ip.IpAddr.TheVariants as addresses
-use Rattle.ipnetwork_family.specs.Network.{Network, IsNetwork, Member, Subnet, Overlap}
+use Rattle.ipnetwork_family.specs.Network.{Network, IsNetwork, Member, is_member, Subnet, is_subnet, Overlap}
 use Rattle.ipnetwork.specs.declared.ip_network.IpNetwork.{IpNetwork}
 use Rattle.ipnetwork.specs.declared.ip_network.IpNetwork.TheVariants.{V4, V6}
 use Rattle.ipnetwork_family.specs.Ipv4NetworkText.{NamesV4Network}
 use Rattle.ipnetwork_family.specs.Ipv6NetworkText.{NamesV6Network}
 use Rattle.ipnetwork.specs.IpNetworkText.{NamesIpNetwork}
-use Rattle.ipnetwork.specs.IpNetworks.{IpMember, IpSubnet, IpOverlap, IsIpNetwork, address_of}
+use Rattle.ipnetwork.specs.IpNetworks.{IpMember, is_ip_member, IpSubnet, is_ip_subnet, IpOverlap, IsIpNetwork, address_of}
 
 no_true : IsTrue false → ⊥
 no_true t = cc
@@ -75,3 +75,17 @@ overlap_answer_v6 self other a b r is_a is_b h = rw (is_a, is_b) ((λ t. let o =
 pub names_none : (text : List ℕ) → ((n : Network) → ¬ (NamesV4Network text n)) → ((n : Network) → ¬ (NamesV6Network text n)) → (n : IpNetwork) → ¬ (NamesIpNetwork text n)
 names_none text no_v4 no_v6 (V4 n) h = no_v4 n h
 names_none text no_v4 no_v6 (V6 n) h = no_v6 n h
+
+-- the tests, by the families' tests
+pub member_computed : ((w : ℕ) (n : Network) (x : ℕ) → IsTrue (is_member w n x) ↔ Member w n x) → (n : IpNetwork) (x : IpAddr) → IsTrue (is_ip_member n x) ↔ IpMember n x
+member_computed test (V4 n) (addresses.V4 x) = test 32 n x
+member_computed test (V4 n) (addresses.V6 x) = (λ t. no_true t, λ m. absurd m)
+member_computed test (V6 n) (addresses.V4 x) = (λ t. no_true t, λ m. absurd m)
+member_computed test (V6 n) (addresses.V6 x) = test 128 n x
+
+pub subnet_computed : ((w : ℕ) (a b : Network) → IsNetwork w a → IsNetwork w b → IsTrue (is_subnet w a b) ↔ Subnet w a b)
+    → (a b : IpNetwork) → IsIpNetwork a → IsIpNetwork b → IsTrue (is_ip_subnet a b) ↔ IpSubnet a b
+subnet_computed test (V4 a) (V4 b) h k = subnet_answer_v4 (V4 a) (V4 b) a b (is_subnet 32 a b) refl refl (test 32 a b h k)
+subnet_computed test (V4 a) (V6 b) h k = subnet_refused_v4 (V4 a) (V6 b) a b refl refl h
+subnet_computed test (V6 a) (V4 b) h k = subnet_refused_v6 (V6 a) (V4 b) a b refl refl h
+subnet_computed test (V6 a) (V6 b) h k = subnet_answer_v6 (V6 a) (V6 b) a b (is_subnet 128 a b) refl refl (test 128 a b h k)

@@ -1,8 +1,8 @@
 -- Networks of either family: a network of one of the two, whose set holds addresses of that family alone.
-use Rattle.std.specs.Prelude.{⊤, ◌≡◌, ◌<◌, ◌≤◌, ℕ, List, map, Result, Ok, IsErr, MatchResult}
+use Rattle.std.specs.Prelude.{⊤, Bool, false, ◌≡◌, ◌<◌, ◌≤◌, ℕ, List, map, Result, Ok, IsErr, MatchResult}
 use Rattle.ipnetwork_addr.specs.declared.ip.IpAddr.{IpAddr}
 use Rattle.ipnetwork_addr.specs.declared.ip.IpAddr.TheVariants as addresses
-use Rattle.ipnetwork_family.specs.Network.{Network, IsNetwork, Member, low, high, mask_of, size_of, members, AtMost}
+use Rattle.ipnetwork_family.specs.Network.{Network, IsNetwork, Member, is_member, is_subnet, low, high, mask_of, size_of, members, AtMost}
 use Rattle.ipnetwork_family.specs.declared.error.IpNetworkError.{IpNetworkError}
 use Rattle.ipnetwork_family.specs.declared.error.IpNetworkError.TheVariants.{InvalidPrefix}
 use Rattle.ipnetwork.specs.declared.ip_network.IpNetwork.{IpNetwork}
@@ -57,9 +57,23 @@ IpMember (V4 n) (addresses.V6 a) = ⊥
 IpMember (V6 n) (addresses.V4 a) = ⊥
 IpMember (V6 n) (addresses.V6 a) = Member 128 n a
 
+-- the same as a test
+abbrev pub is_ip_member : IpNetwork → IpAddr → Bool
+is_ip_member (V4 n) (addresses.V4 a) = is_member 32 n a
+is_ip_member (V4 n) (addresses.V6 a) = false
+is_ip_member (V6 n) (addresses.V4 a) = false
+is_ip_member (V6 n) (addresses.V6 a) = is_member 128 n a
+
 -- each member of a is one of b
 abbrev pub IpSubnet : IpNetwork → IpNetwork → Type 0
 IpSubnet a b = (x : IpAddr) → IpMember a x → IpMember b x
+
+-- the same as a test, of networks: in one family as the families test it, and false across families
+abbrev pub is_ip_subnet : IpNetwork → IpNetwork → Bool
+is_ip_subnet (V4 a) (V4 b) = is_subnet 32 a b
+is_ip_subnet (V4 a) (V6 b) = false
+is_ip_subnet (V6 a) (V4 b) = false
+is_ip_subnet (V6 a) (V6 b) = is_subnet 128 a b
 
 -- some address is a member of both
 abbrev pub IpOverlap : IpNetwork → IpNetwork → Type 0

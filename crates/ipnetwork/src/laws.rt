@@ -6,13 +6,13 @@ ghost use Rattle.std.specs.Ordering.{nat_cmp};
 ghost use Rattle.std.specs.List.{AllByRecursion};
 ghost use Rattle.ipnetwork_family.specs.NetworkText.{IsNetworkByte};
 ghost use Rattle.ipnetwork_family.specs.declared.error.CidrFault.{CidrFault};
-ghost use Rattle.ipnetwork.specs.IpNetworks.{IsIpNetwork, IsAtMost, AreApart};
+ghost use Rattle.ipnetwork.specs.IpNetworks.{IsIpNetwork, IsAtMost, AreApart, IpMember, IpSubnet, is_ip_member, is_ip_subnet};
 ghost use Rattle.ipnetwork.specs.IpNetworkText.{NamesIpNetwork, ReadsIpNetwork, ip_network_text, ip_network_of};
 ghost use Rattle.ipnetwork.specs.Sizes.{number_of};
 ghost use Rattle.ipnetwork_family.specs.Network.{Network, IsNetwork};
 ghost use Rattle.ipnetwork.specs.declared.ip_network.IpNetwork.TheVariants as networks;
 
-use crate::{IpNetwork, NetworkSize};
+use crate::{IpAddr, IpNetwork, NetworkSize};
 use ipnetwork_addr::laws as addresses;
 pub use ipnetwork_addr::laws::{
     canonical_ip_is_one_to_one, canonical_ip_names_its_address, canonical_v4_is_one_to_one,
@@ -94,6 +94,20 @@ pub fn canonical_ip_network_bytes()
 pub fn families_are_apart()
     ensures { (a b : Network) → IsNetwork 32 a → IsNetwork 128 b → AreApart (networks.V4 a) (networks.V6 b) }
 {}
+
+/// An address is a member exactly if the computing test says so.
+pub fn ip_membership_is_computed()
+    ensures { (n : IpNetwork) (x : IpAddr) → IsTrue (is_ip_member n x) ↔ IpMember n x }
+{
+    families::membership_is_computed();
+}
+
+/// A network is a subnet of another exactly if the computing test says so.
+pub fn ip_subnet_is_computed()
+    ensures { (a b : IpNetwork) → IsIpNetwork a → IsIpNetwork b → IsTrue (is_ip_subnet a b) ↔ IpSubnet a b }
+{
+    families::subnet_is_computed();
+}
 
 /// `==` of networks of either family is equality of what contracts see.
 pub fn ip_network_equality(a: IpNetwork, b: IpNetwork) -> bool
