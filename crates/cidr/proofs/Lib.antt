@@ -1,7 +1,8 @@
 pub mod Answers
 pub mod BytesLemmas
 pub mod Cuts
-pub mod Examples
+pub mod EitherAnswers
+mod Examples
 pub mod Gathering
 pub mod Kept
 pub mod Lines

@@ -1,5 +1,6 @@
 pub mod Bytes
 pub mod Commands
+pub mod EitherCommands
 pub mod Line
 pub mod Output
 pub mod Progress

@@ -2,6 +2,7 @@
 #![tactic(auto)]
 
 mod answer;
+mod either;
 mod engine;
 mod fault;
 mod find;

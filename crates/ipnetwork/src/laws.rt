@@ -15,20 +15,26 @@ ghost use Rattle.ipnetwork.specs.declared.ip_network.IpNetwork.TheVariants as ne
 use crate::{IpAddr, IpNetwork, NetworkSize};
 use ipnetwork_addr::laws as addresses;
 pub use ipnetwork_addr::laws::{
-    canonical_ip_is_one_to_one, canonical_ip_names_its_address, canonical_v4_is_one_to_one,
-    canonical_v4_names_its_address, canonical_v6_is_one_text, canonical_v6_is_one_to_one,
-    canonical_v6_names_its_address, ip_order, ip_text_names_one, no_text_names_both, octet_texts,
-    v4_order, v4_text_bytes, v4_text_is_computed, v4_text_names_one, v6_order, v6_text_bytes,
-    v6_text_is_computed, v6_text_names_one,
+    addr_parse_error_clone, addr_parse_error_equality, canonical_ip_is_one_to_one,
+    canonical_ip_names_its_address, canonical_v4_is_one_to_one, canonical_v4_names_its_address,
+    canonical_v6_is_one_text, canonical_v6_is_one_to_one, canonical_v6_names_its_address, ip_clone,
+    ip_equality, ip_hash, ip_order, ip_reading_is_computed, ip_text_names_one, no_text_names_both,
+    octet_texts, v4_clone, v4_equality, v4_hash, v4_order, v4_reading_is_computed, v4_text_bytes,
+    v4_text_is_computed, v4_text_names_one, v6_clone, v6_equality, v6_hash, v6_order,
+    v6_reading_is_computed, v6_text_bytes, v6_text_is_computed, v6_text_names_one,
 };
 use ipnetwork_family::laws as families;
 pub use ipnetwork_family::laws::{
-    canonical_v4_network_bytes, canonical_v4_network_is_one_to_one, canonical_v4_network_names_it,
-    canonical_v4_network_reads_back, canonical_v6_network_bytes,
+    blocks, canonical_v4_network_bytes, canonical_v4_network_is_one_to_one,
+    canonical_v4_network_names_it, canonical_v4_network_reads_back, canonical_v6_network_bytes,
     canonical_v6_network_is_one_to_one, canonical_v6_network_names_it,
-    canonical_v6_network_reads_back, ends, listing, masks, nesting, order, subnets,
-    v4_network_order, v4_network_reading_is_computed, v4_network_text_names_one, v6_network_order,
-    v6_network_reading_is_computed, v6_network_text_names_one,
+    canonical_v6_network_reads_back, cidr_fault_clone, cidr_fault_equality, ends,
+    ip_network_error_equality, listing, masks, membership_is_computed, nesting,
+    network_size_error_clone, network_size_error_equality, order, subnet_is_computed, subnets,
+    v4_network_clone, v4_network_equality, v4_network_hash, v4_network_order,
+    v4_network_reading_is_computed, v4_network_text_names_one, v6_network_clone,
+    v6_network_equality, v6_network_hash, v6_network_order, v6_network_reading_is_computed,
+    v6_network_text_names_one,
 };
 use std::alloc::AllocError;
 use std::cmp::Ordering;

@@ -16,9 +16,12 @@ pub use error::WrongFamily;
 pub use ip_iter::IpNetworkIterator;
 pub use ip_mask::ip_mask_to_prefix;
 pub use ip_network::IpNetwork;
-pub use ipnetwork_addr::{AddrParseError, IpAddr, Ipv4Addr, Ipv6Addr};
+pub use ipnetwork_addr::{
+    AddrParseError, IpAddr, Ipv4Addr, Ipv6Addr, TEXT_CAPACITY as ADDRESS_TEXT_CAPACITY, decimal,
+};
 pub use ipnetwork_family::{
     CidrFault, IpNetworkError, Ipv4Network, Ipv4NetworkIterator, Ipv6Network, Ipv6NetworkIterator,
-    NetworkSizeError, ipv4_mask_to_prefix, ipv6_mask_to_prefix, parse,
+    NetworkSizeError, TEXT_CAPACITY as NETWORK_TEXT_CAPACITY, ipv4_mask_to_prefix,
+    ipv6_mask_to_prefix, parse,
 };
 pub use size::NetworkSize;
