@@ -8,10 +8,10 @@ use Rattle.std.specs.Io.KnownBytes.{Appends}
 use Rattle.std.specs.Prelude.{Option, Result, Ok, Err, OnOk, OnErr, is_ok}
 use Rattle.std.specs.Str.Lines.{strip_carriage_return}
 use Rattle.cidr.specs.declared.line.Line.{Line}
-use Rattle.cidr.specs.Line.{Holds}
+use Rattle.cidr.specs.Private.Line.{Holds}
 use Rattle.cidr.specs.Output.{reply_of, IsBeginning}
-use Rattle.cidr.specs.Bytes.{HasNo, IsFirst}
-use Rattle.cidr.specs.Progress.{replies_from, pending_from, last_reply, AppendsBeginning, Gathers, AnswersLine, StopsAtLine, GathersPiece, AnswersPiece, StopsInPiece}
+use Rattle.cidr.specs.Private.Bytes.{HasNo, IsFirst}
+use Rattle.cidr.specs.Private.Progress.{replies_from, pending_from, last_reply, AppendsBeginning, Gathers, AnswersLine, StopsAtLine, GathersPiece, AnswersPiece, StopsInPiece}
 use Rattle.cidr.proofs.Lines.{pending-append, replies-append, replies_none, pending_none, replies_line, pending_line, begins_after, begins_longer}
 
 pub on_err_any : {T E P : Type 0} (r : Result T E) → P → OnErr r P

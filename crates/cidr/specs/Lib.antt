@@ -1,9 +1,6 @@
-pub mod Bytes
 pub mod Commands
-pub mod Line
 pub mod Output
-pub mod Progress
-pub mod Replies
+pub mod Private
 pub mod Run
 pub mod Watched
 pub mod Words

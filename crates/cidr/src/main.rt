@@ -7,13 +7,14 @@ mod fault;
 mod find;
 mod line;
 mod replies;
+mod run;
 #[cfg(test)]
 mod tests;
 mod watched;
 mod words;
 
-use crate::engine::run;
 use crate::fault::RunFault;
+use crate::run::run;
 use crate::watched::Watched;
 use std::process::ExitCode;
 

@@ -16,7 +16,7 @@ pub(crate) struct Replies {
 }
 
 impl Replies {
-    ghost use Rattle.cidr.specs.Replies.{gathered, HasRoom};
+    ghost use Rattle.cidr.specs.Private.Replies.{gathered, HasRoom};
 
     /// No reply.
     pub(crate) fn new() -> Replies

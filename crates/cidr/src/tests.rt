@@ -6,8 +6,8 @@ mod faults;
 mod lines;
 mod watched;
 
-use crate::engine::run_limited;
 use crate::fault::RunFault;
+use crate::run::run_limited;
 use crate::tests::devices::{Sink, Source};
 use crate::watched::Watched;
 use std::alloc::Global;

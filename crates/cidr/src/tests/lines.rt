@@ -1,7 +1,7 @@
 //! Where a line ends, where it is too long, and where the input is.
 
-use crate::engine::run;
 use crate::fault::RunFault;
+use crate::run::run;
 use crate::tests::devices::{Sink, Source};
 use crate::tests::{REPLIES, REQUESTS, run_over};
 use crate::watched::Watched;

@@ -3,7 +3,7 @@ use Rattle.std.specs.Prelude.{◌≡◌, ℕ, ◌+◌, List, [], ◌∷◌, ◌+
 use Rattle.std.specs.Io.KnownBytes.{Appends, Consumes}
 use Rattle.std.specs.Str.Lines.{strip_carriage_return}
 use Rattle.cidr.specs.declared.line.Line.{Line}
-use Rattle.cidr.specs.Line.{Holds}
+use Rattle.cidr.specs.Private.Line.{Holds}
 use Rattle.cidr.specs.Output.{reply_of, IsBeginning}
 
 -- the replies to the lines that a piece completes
