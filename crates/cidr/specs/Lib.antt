@@ -1,4 +1,5 @@
 pub mod Commands
+pub mod Laws
 pub mod Output
 pub mod Private
 pub mod Run

@@ -5,6 +5,7 @@ mod answer;
 mod engine;
 mod fault;
 mod find;
+mod laws;
 mod line;
 mod replies;
 mod run;
