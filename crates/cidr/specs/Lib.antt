@@ -1,4 +1,5 @@
 pub mod Commands
+pub mod Faults
 pub mod Laws
 pub mod Output
 pub mod Private

@@ -53,7 +53,11 @@ fn answers_lines(rt: HostRuntime) -> Result<(), Fail> {
                 output,
                 "{ones} and {back:?} by {step}"
             );
-            assert_eq!(rt; end.flushes, 1);
+            assert_eq!(rt;
+                [end.flushes, end.flushed],
+                [1, output.len()],
+                "{ones} and {back:?} by {step}"
+            );
         }
     }
     Ok(())
