@@ -1,10 +1,10 @@
-//! Lines in, replies out.
+//! Lines in, replies out: `gather_..` adds replies to those that wait, and `answer_..` leaves none waiting.
 ghost use Rattle.std.specs.Prelude.{◌≡◌, ◌||◌, is_err, List, ℕ, ◌++◌, [], Err, OnOk, OnErr, IsOkUnless, IsFalse, IsTrue};
 ghost use Rattle.std.specs.Io.KnownBytes.{Appends};
 ghost use Rattle.cidr.specs.Private.Device.{inner_of, failed_of};
 ghost use Rattle.cidr.specs.Private.Line.{Holds};
 ghost use Rattle.cidr.specs.Private.Replies.{gathered, HasRoom};
-ghost use Rattle.cidr.specs.Private.Progress.{AppendsBeginning, Gathers, AnswersLine, StopsAtLine, GathersPiece, AnswersPiece, StopsInPiece, last_reply};
+ghost use Rattle.cidr.specs.Private.Progress.{AppendsBeginning, Gathers, GathersLine, StopsAtLine, GathersPiece, AnswersPiece, StopsInPiece, last_reply};
 ghost use Rattle.cidr.specs.Output.{reply_of};
 ghost use Rattle.cidr.specs.Run.{Ran, ended_by_read, ended_by_write};
 
@@ -78,7 +78,7 @@ fn answer_all<R: Read, W: Write>(
     }
 }
 
-/// Answers each line that a piece completes.
+/// Answers each line that a piece completes: no reply waits afterwards.
 fn answer_piece<W: Write>(
     writer: &mut Device<W>,
     replies: &mut Replies,
@@ -119,20 +119,20 @@ fn gather_piece<W: Write>(
             line.push(rest);
             return Ok(());
         };
-        answer_line(writer, replies, line, &rest[..length])?;
+        gather_line(writer, replies, line, &rest[..length])?;
         start += length + 1;
     }
 }
 
 /// Gathers the reply to the line that these bytes and a line feed end.
-fn answer_line<W: Write>(
+fn gather_line<W: Write>(
     writer: &mut Device<W>,
     replies: &mut Replies,
     line: &mut Line,
     bytes: &[u8],
 ) -> Result<(), RunFault>
     requires { IsFalse (failed_of writer.old) }
-    ensures ok { OnOk result (AnswersLine line.old line.new
+    ensures ok { OnOk result (GathersLine line.old line.new
         (W.contents (inner_of writer.old)) (gathered replies.old) (W.contents (inner_of writer.new)) (gathered replies.new) bytes.now) }
     ensures err { OnErr result (StopsAtLine line.old
         (W.contents (inner_of writer.old)) (gathered replies.old) (W.contents (inner_of writer.new)) bytes.now) }
@@ -170,7 +170,7 @@ fn finish<W: Write>(
     Ok(())
 }
 
-/// Answers what is pending at the end of the input.
+/// Answers what is pending at the end of the input: no reply waits afterwards.
 fn answer_rest<W: Write>(
     writer: &mut Device<W>,
     replies: &mut Replies,

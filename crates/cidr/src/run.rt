@@ -13,7 +13,7 @@ use std::io::{Read, Write};
 
 /// Answers each line that `reader` gives, up to 4,294,967,295 bytes, and then flushes.
 ///
-/// It is `run_limited` at that limit, and takes no memory.
+/// It is `run_limited` at that limit. Does not allocate: `alloc` is not used.
 pub fn run<R: Read, W: Write>(
     alloc: Global,
     reader: &mut Watched<R>,
@@ -35,7 +35,7 @@ pub fn run<R: Read, W: Write>(
     run_limited(alloc, u32::MAX, reader, writer)
 }
 
-/// Answers each line that `reader` gives, up to `limit` bytes, and then flushes. Takes no memory.
+/// Answers each line that `reader` gives, up to `limit` bytes, and then flushes.
 ///
 /// Each line that a read completes is answered before the next read. The errors:
 ///
@@ -46,7 +46,13 @@ pub fn run<R: Read, W: Write>(
 ///
 /// No call is made on a device after one that failed, nor on the writer after a read that failed. Where the reader
 /// has failed before, the answer is `Read`, and else where the writer has, `Write`, without any call.
+///
+/// What is promised of bytes holds of a reader and a writer whose contracts tell their bytes, as those over memory
+/// do. Standard input and output do not tell theirs.
+///
+/// Does not allocate: the allocator is not used.
 pub fn run_limited<R: Read, W: Write>(
+    // A run needs no memory but its own frame, and is given an allocator all the same.
     _alloc: Global,
     limit: u32,
     reader: &mut Watched<R>,
