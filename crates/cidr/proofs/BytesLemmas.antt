@@ -3,7 +3,7 @@ use Rattle.std.proofs.Common.{◌≡◌, ◌≢◌, ℕ, ◌+◌, ◌<◌, ◌==
 use Rattle.std.proofs.lemmas.Bool.{ne_eqb}
 use Rattle.std.proofs.lemmas.List.{drop_more, take_more}
 use Rattle.std.specs.List.{slice_split, onto_first}
-use Rattle.cidr.specs.Bytes.{HasNo, IsFirst}
+use Rattle.cidr.specs.Private.Bytes.{HasNo, IsFirst}
 
 pub HasNo-push : (byte : ℕ) (a : List ℕ) (c : ℕ) → HasNo byte a → (c == byte) ≡ false → HasNo byte (a ++ c ∷ [])
 HasNo-push byte [] c h e = (e, tt)

@@ -1,6 +1,6 @@
 -- A line, cut at its first blank.
 use Rattle.std.proofs.Common.{◌≡◌, ℕ, ◌+◌, List, ◌∷◌, take, drop, refl, ap, ◌∙◌}
-use Rattle.cidr.specs.Bytes.{HasNo, IsFirst}
+use Rattle.cidr.specs.Private.Bytes.{HasNo, IsFirst}
 use Rattle.cidr.specs.Words.{words, IsLastWord, IsWordBefore}
 use Rattle.cidr.proofs.BytesLemmas.{split_at, split_none, split_cons, split_text}
 

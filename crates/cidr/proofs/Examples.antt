@@ -33,6 +33,11 @@ pub network_judged_first : command_answer (codes "has4 x y") ≡ codes "refused 
 unfolding digits command_answer answer_to two_words_answer
 network_judged_first = refl
 
+-- an address below the network's own is a member all the same
+pub member_below_the_address : command_answer (codes "has4 10.0.0.5/8 10.0.0.1") ≡ codes "yes"
+unfolding digits command_answer answer_to two_words_answer
+member_below_the_address = refl
+
 pub unfinished_line : complete_part (codes "ab" ++ (10 ∷ codes "cd")) ≡ codes "ab" ++ (10 ∷ [])
 unfolding complete_part
 unfinished_line = refl

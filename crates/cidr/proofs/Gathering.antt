@@ -8,10 +8,10 @@ use Rattle.std.specs.Io.KnownBytes.{Appends}
 use Rattle.std.specs.Prelude.{Option, Result, Ok, Err, OnOk, OnErr, is_ok}
 use Rattle.std.specs.Str.Lines.{strip_carriage_return}
 use Rattle.cidr.specs.declared.line.Line.{Line}
-use Rattle.cidr.specs.Line.{Holds}
+use Rattle.cidr.specs.Private.Line.{Holds}
 use Rattle.cidr.specs.Output.{reply_of, IsBeginning}
-use Rattle.cidr.specs.Bytes.{HasNo, IsFirst}
-use Rattle.cidr.specs.Progress.{replies_from, pending_from, last_reply, AppendsBeginning, Gathers, AnswersLine, StopsAtLine, GathersPiece, AnswersPiece, StopsInPiece}
+use Rattle.cidr.specs.Private.Bytes.{HasNo, IsFirst}
+use Rattle.cidr.specs.Private.Progress.{replies_from, pending_from, last_reply, AppendsBeginning, Gathers, GathersLine, StopsAtLine, GathersPiece, AnswersPiece, StopsInPiece}
 use Rattle.cidr.proofs.Lines.{pending-append, replies-append, replies_none, pending_none, replies_line, pending_line, begins_after, begins_longer}
 
 pub on_err_any : {T E P : Type 0} (r : Result T E) → P → OnErr r P
@@ -60,7 +60,7 @@ at_once p bytes line empty says is stripped = ap reply_of stripped ∙ ap (λ l.
 
 pub line_at_once : {T E : Type 0} (r : Result T E) (old : Line) (x y : Option (List ℕ)) (a b bytes line : List ℕ) (empty : Bool)
     → ((p : List ℕ) → Holds old p → empty ≡ (length p == 0)) → empty ≡ true → line ≡ strip_carriage_return bytes
-    → OnOk r (Gathers x a y b (reply_of line)) → OnOk r (AnswersLine old old x a y b bytes)
+    → OnOk r (Gathers x a y b (reply_of line)) → OnOk r (GathersLine old old x a y b bytes)
 line_at_once (Err e) old x y a b bytes line empty says is stripped h = tt
 line_at_once (Ok v) old x y a b bytes line empty says is stripped h = λ p holds. (
   subst (Holds old) (nothing_pending p empty (says p holds) is) holds,
@@ -90,7 +90,7 @@ lines_and_one piece rest start n is f = take-add start (n + 1) piece ∙ ap (λ 
 
 pub piece_goes_on : (one two three : Line) (x m y : Option (List ℕ)) (a b c piece rest : List ℕ) (start n : ℕ)
     → rest ≡ drop start piece → IsFirst 10 rest n
-    → GathersPiece one two x a m b (take start piece) → AnswersLine two three m b y c (take n rest)
+    → GathersPiece one two x a m b (take start piece) → GathersLine two three m b y c (take n rest)
     → GathersPiece one three x a y c (take (start + (n + 1)) piece)
 piece_goes_on one two three x m y a b c piece rest start n is f before line = λ p holds.
     let first = before p holds in

@@ -5,10 +5,10 @@ use Rattle.std.proofs.Math.Bool.{or-true}
 use Rattle.std.proofs.Math.Dec.{eqb-suc-zero}
 use Rattle.std.specs.List.{flat_map, list_any, slice_split}
 use Rattle.std.specs.Str.Lines.{lines_of_parts, strip_carriage_return}
-use Rattle.cidr.specs.Bytes.{HasNo}
+use Rattle.cidr.specs.Private.Bytes.{HasNo}
 use Rattle.cidr.proofs.BytesLemmas.{HasNo-push, split_at, split_none, split_cons}
 use Rattle.cidr.specs.Output.{reply_of, output_of, complete_part, IsBeginning}
-use Rattle.cidr.specs.Progress.{replies_from, pending_from, last_reply}
+use Rattle.cidr.specs.Private.Progress.{replies_from, pending_from, last_reply}
 
 parts_cons : (a b : List ℕ) → lines_of_parts (a ∷ slice_split (λ x. x == 10) b) ≡ strip_carriage_return a ∷ lines_of_parts (slice_split (λ x. x == 10) b)
 parts_cons a b = let e = (split_cons 10 b).2 in rw e refl

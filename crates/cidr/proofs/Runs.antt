@@ -7,9 +7,9 @@ use Rattle.std.proofs.Math.Bool.{or-true}
 use Rattle.cidr.specs.declared.line.Line.{Line}
 use Rattle.cidr.specs.declared.fault.RunFault.{RunFault}
 use Rattle.cidr.specs.declared.fault.RunFault.TheVariants.{Read, Write, InputTooLong}
-use Rattle.cidr.specs.Line.{Holds}
+use Rattle.cidr.specs.Private.Line.{Holds}
 use Rattle.cidr.specs.Output.{output_of, complete_part, IsBeginning}
-use Rattle.cidr.specs.Progress.{replies_from, pending_from, last_reply, AppendsBeginning, AnswersPiece, StopsInPiece, Sofar}
+use Rattle.cidr.specs.Private.Progress.{replies_from, pending_from, last_reply, AppendsBeginning, AnswersPiece, StopsInPiece, Sofar}
 use Rattle.cidr.specs.Run.{Ran, ended_by_read, ended_by_write}
 use Rattle.cidr.proofs.Lines.{pending-append, replies-append, output_split, output_complete, begins_with_nothing, begins_after, begins_longer}
 

@@ -7,7 +7,7 @@ use Rattle.std.proofs.Math.Bool.{or-false}
 use Rattle.std.proofs.KnownBytes.{Appends-trans}
 use Rattle.std.specs.Io.KnownBytes.{Appends}
 use Rattle.std.specs.Prelude.{Option}
-use Rattle.cidr.specs.Progress.{AppendsBeginning}
+use Rattle.cidr.specs.Private.Progress.{AppendsBeginning}
 
 -- one more write, of the rest of these bytes
 pub written_more : (b m a : Option (List ℕ)) (at n : ℕ) (bytes : List ℕ) → Appends b m (take at bytes)

@@ -1,5 +1,5 @@
 -- The commands and their answers. A line is the list of its bytes, without its end.
-use Rattle.std.specs.Prelude.{ℕ, ◌/◌, ◌==◌, if◌then◌else◌, List, [], ◌∷◌, Option, None, Some, Result, Ok, Err, codes, bytes_eq}
+use Rattle.std.specs.Prelude.{ℕ, ◌/◌, ◌^◌, ◌==◌, ◌&&◌, nat_lt, Bool, if◌then◌else◌, List, [], ◌∷◌, Option, None, Some, Result, Ok, Err, codes, bytes_eq}
 use Rattle.ipnetwork_addr.specs.Ipv4Text.{canonical_v4, v4_of}
 use Rattle.ipnetwork_addr.specs.Ipv6Canonical.{canonical_v6}
 use Rattle.ipnetwork_family.specs.Network.{Network, block_size}
@@ -36,10 +36,13 @@ printed_v6 (Err fault) = refusal fault
 unfoldable pub read6_answer : List ℕ → List ℕ
 read6_answer text = printed_v6 (v6_network_of text)
 
--- the address agrees with the network's in the bits that its prefix length fixes
+-- whether x is an address of the network's set, computed
+abbrev pub is_member : ℕ → Network → ℕ → Bool
+is_member w n x = nat_lt x (2 ^ w) && (x / block_size w n.prefix == n.address / block_size w n.prefix)
+
+-- whether the network holds the address
 abbrev pub membership : Network → ℕ → List ℕ
-membership network address =
-    if address / block_size 32 network.prefix == network.address / block_size 32 network.prefix then codes "yes" else codes "no"
+membership network address = if is_member 32 network address then codes "yes" else codes "no"
 
 -- `has4 T A`: whether the IPv4 network that T names holds the address that A names; T is judged first
 abbrev pub asked_v4 : Result Network CidrFault → Option ℕ → List ℕ

@@ -1,10 +1,9 @@
-pub mod Bytes
 pub mod Commands
 pub mod EitherCommands
-pub mod Line
+pub mod Faults
+pub mod Laws
 pub mod Output
-pub mod Progress
-pub mod Replies
+pub mod Private
 pub mod Run
 pub mod Watched
 pub mod Words

@@ -1,14 +1,15 @@
 -- What a clause reads of a `Watched`.
 use Rattle.std.specs.Prelude.{ℕ, Bool, true, ◌&&◌, List, length, nat_lt, ◌==◌, Result, Ok, Err}
 use Rattle.cidr.specs.declared.watched.Watched.{Watched}
+use Rattle.cidr.specs.Private.Device.{inner_of, failed_of}
 
 -- the device under the watch
 abbrev pub device_of : {D : Type 0} → Watched D → D
-device_of watched = watched.device
+device_of watched = inner_of watched.device
 
 -- whether a call of the device failed
 abbrev pub has_failed : {D : Type 0} → Watched D → Bool
-has_failed watched = watched.failed
+has_failed watched = failed_of watched.device
 
 -- whether a write of these bytes failed
 abbrev pub write_fails : {E : Type 0} → Result ℕ E → List ℕ → Bool

@@ -1,13 +1,17 @@
 //! The answer to a line.
-ghost use Rattle.std.specs.Prelude.{◌≡◌, ◌≤◌, [], length, codes};
+ghost use Rattle.std.specs.Prelude.{◌≡◌, ◌<◌, ◌≤◌, [], length};
 ghost use Rattle.cidr.specs.Commands.{command_answer, one_word_answer, two_words_answer, unknown, read4_answer, read6_answer, has4_answer, refusal};
+ghost use Rattle.cidr.specs.declared.answer.TheConstants.{ANSWER_MAX};
 
 use crate::words::cut_word;
 use arrayvec::ArrayString;
 use ipnetwork::{CidrFault, Ipv4Addr, Ipv4Network, Ipv6Network, laws};
 
-/// The room for an answer and its line feed.
+/// The most bytes of an answer and its line feed.
 pub(crate) const ANSWER_MAX: usize = 160;
+
+/// The answer to a line that is no command.
+const UNKNOWN: &str = "unknown command";
 
 /// An answer, which begins empty and is written once.
 pub(crate) type Answer = ArrayString<ANSWER_MAX>;
@@ -17,10 +21,10 @@ pub(crate) type Answer = ArrayString<ANSWER_MAX>;
 pub(crate) fn answer(line: &[u8], text: &mut Answer)
     requires { text.old.bytes ≡ [] }
     ensures text { text.new.bytes ≡ command_answer line.now }
-    ensures short { length text.new.bytes ≤ 159 }
+    ensures short { length text.new.bytes < ANSWER_MAX }
 {
     let Some((command, words)) = cut_word(line) else {
-        text.push_str("unknown command");
+        text.push_str(UNKNOWN);
         return;
     };
     let Some((first, words)) = cut_word(words) else {
@@ -29,7 +33,7 @@ pub(crate) fn answer(line: &[u8], text: &mut Answer)
     };
     match cut_word(words) {
         None => answer_two(command, first, words, text),
-        Some(_) => text.push_str("unknown command"),
+        Some(_) => text.push_str(UNKNOWN),
     }
 }
 
@@ -37,14 +41,14 @@ pub(crate) fn answer(line: &[u8], text: &mut Answer)
 fn answer_one(command: &[u8], word: &[u8], text: &mut Answer)
     requires { text.old.bytes ≡ [] }
     ensures text { text.new.bytes ≡ one_word_answer command.now word.now }
-    ensures short { length text.new.bytes ≤ 159 }
+    ensures short { length text.new.bytes < ANSWER_MAX }
 {
     if command == b"read4".as_slice() {
         read4(word, text);
     } else if command == b"read6".as_slice() {
         read6(word, text);
     } else {
-        text.push_str("unknown command");
+        text.push_str(UNKNOWN);
     }
 }
 
@@ -52,12 +56,12 @@ fn answer_one(command: &[u8], word: &[u8], text: &mut Answer)
 fn answer_two(command: &[u8], first: &[u8], second: &[u8], text: &mut Answer)
     requires { text.old.bytes ≡ [] }
     ensures text { text.new.bytes ≡ two_words_answer command.now first.now second.now }
-    ensures short { length text.new.bytes ≤ 159 }
+    ensures short { length text.new.bytes < ANSWER_MAX }
 {
     if command == b"has4".as_slice() {
         text.push_str(has4(first, second));
     } else {
-        text.push_str("unknown command");
+        text.push_str(UNKNOWN);
     }
 }
 
@@ -65,7 +69,7 @@ fn answer_two(command: &[u8], first: &[u8], second: &[u8], text: &mut Answer)
 fn read4(word: &[u8], text: &mut Answer)
     requires { text.old.bytes ≡ [] }
     ensures text { text.new.bytes ≡ read4_answer word.now }
-    ensures short { length text.new.bytes ≤ 159 }
+    ensures short { length text.new.bytes < ANSWER_MAX }
 {
     laws::v4_network_reading_is_computed();
     match Ipv4Network::read_bytes(word) {
@@ -78,7 +82,7 @@ fn read4(word: &[u8], text: &mut Answer)
 fn read6(word: &[u8], text: &mut Answer)
     requires { text.old.bytes ≡ [] }
     ensures text { text.new.bytes ≡ read6_answer word.now }
-    ensures short { length text.new.bytes ≤ 159 }
+    ensures short { length text.new.bytes < ANSWER_MAX }
 {
     laws::v6_network_reading_is_computed();
     match Ipv6Network::read_bytes(word) {

@@ -1,76 +1,39 @@
-//! Lines in, replies out.
-ghost use Rattle.std.specs.Prelude.{◌≡◌, ◌||◌, is_err, List, ℕ, ◌++◌, [], OnOk, OnErr, IsOkUnless, IsOk, IsFalse, IfSome, Some, ◌≤◌, length};
+//! Lines in, replies out: `gather_..` adds replies to those that wait, and `answer_..` leaves none waiting.
+ghost use Rattle.std.specs.Prelude.{◌≡◌, ◌||◌, is_err, List, ℕ, ◌++◌, [], Err, OnOk, OnErr, IsOkUnless, IsFalse, IsTrue};
 ghost use Rattle.std.specs.Io.KnownBytes.{Appends};
-ghost use Rattle.cidr.specs.Watched.{device_of, has_failed};
-ghost use Rattle.cidr.specs.Line.{Holds};
-ghost use Rattle.cidr.specs.Replies.{gathered, HasRoom};
-ghost use Rattle.cidr.specs.Progress.{AppendsBeginning, Gathers, AnswersLine, StopsAtLine, GathersPiece, AnswersPiece, StopsInPiece, last_reply};
-ghost use Rattle.cidr.specs.Output.{output_of, reply_of};
+ghost use Rattle.cidr.specs.Private.Device.{inner_of, failed_of};
+ghost use Rattle.cidr.specs.Private.Line.{Holds};
+ghost use Rattle.cidr.specs.Private.Replies.{gathered, HasRoom};
+ghost use Rattle.cidr.specs.Private.Progress.{AppendsBeginning, Gathers, GathersLine, StopsAtLine, GathersPiece, AnswersPiece, StopsInPiece, last_reply};
+ghost use Rattle.cidr.specs.Output.{reply_of};
 ghost use Rattle.cidr.specs.Run.{Ran, ended_by_read, ended_by_write};
 
 use crate::fault::RunFault;
 use crate::find::find;
 use crate::line::{Line, without_carriage_return};
 use crate::replies::Replies;
-use crate::watched::Watched;
-use std::alloc::Global;
+use crate::watched::device::Device;
 use std::io::{Read, Write};
 
 /// The most bytes that are asked for at a time.
 const PIECE_MAX: usize = 65536;
 
-/// Answers each line that `reader` gives, up to 4,294,967,295 bytes, and then flushes.
+/// Answers each line that `reader` gives, up to `limit` bytes, and then flushes.
 ///
-/// It is `run_limited` at that limit, and takes no memory.
-pub fn run<R: Read, W: Write>(
-    alloc: Global,
-    reader: &mut Watched<R>,
-    writer: &mut Watched<W>,
-) -> Result<(), RunFault>
-    ensures ran { Ran u32.MAX
-        (R.remaining (device_of reader.old)) (R.remaining (device_of reader.new))
-        (W.contents (device_of writer.old)) (W.contents (device_of writer.new)) result }
-    ensures reader_failed { has_failed reader.new ≡ (has_failed reader.old || ended_by_read result) }
-    ensures writer_failed { has_failed writer.new ≡ (has_failed writer.old || ended_by_write result) }
-    ensures output { OnOk result (IfSome (R.remaining (device_of reader.old)) (λ input.
-        Appends (W.contents (device_of writer.old)) (W.contents (device_of writer.new)) (output_of input))) }
-    ensures succeeds { (input : List ℕ) → R.remaining (device_of reader.old) ≡ Some input → length input ≤ u32.MAX
-        → IsFalse (has_failed reader.new) → IsFalse (has_failed writer.new) → IsOk result }
-{
-    run_limited(alloc, u32::MAX, reader, writer)
-}
-
-/// Answers each line that `reader` gives, up to `limit` bytes, and then flushes. Takes no memory.
-///
-/// Each line that a read completes is answered before the next read. The errors:
-///
-/// - `RunFault::Read`: a read failed. Each line that was completed was answered, and nothing was flushed.
-/// - `RunFault::Write`: a write or the flush failed, or a write took no byte. A beginning of the output was written.
-/// - `RunFault::InputTooLong`: a read passed the limit. No line that it completed was answered, and nothing was
-///   flushed.
-///
-/// No call is made on a device after one that failed, nor on the writer after a read that failed. Where the reader
-/// has failed before, the answer is `Read`, and else where the writer has, `Write`, without any call.
-pub fn run_limited<R: Read, W: Write>(
-    _alloc: Global,
+/// Where a device has failed before, no call of either is made.
+pub(crate) fn answer_input<R: Read, W: Write>(
     limit: u32,
-    reader: &mut Watched<R>,
-    writer: &mut Watched<W>,
+    reader: &mut Device<R>,
+    writer: &mut Device<W>,
 ) -> Result<(), RunFault>
-    // What was read and written, by how the run ended.
     ensures ran { Ran limit
-        (R.remaining (device_of reader.old)) (R.remaining (device_of reader.new))
-        (W.contents (device_of writer.old)) (W.contents (device_of writer.new)) result }
-
-    // A device has failed exactly if it had failed before, or its failure ended the run.
-    ensures reader_failed { has_failed reader.new ≡ (has_failed reader.old || ended_by_read result) }
-    ensures writer_failed { has_failed writer.new ≡ (has_failed writer.old || ended_by_write result) }
-
-    // So the output is that of the whole input, and comes where the input fits and no device fails.
-    ensures output { OnOk result (IfSome (R.remaining (device_of reader.old)) (λ input.
-        Appends (W.contents (device_of writer.old)) (W.contents (device_of writer.new)) (output_of input))) }
-    ensures succeeds { (input : List ℕ) → R.remaining (device_of reader.old) ≡ Some input → length input ≤ limit
-        → IsFalse (has_failed reader.new) → IsFalse (has_failed writer.new) → IsOk result }
+        (R.remaining (inner_of reader.old)) (R.remaining (inner_of reader.new))
+        (W.contents (inner_of writer.old)) (W.contents (inner_of writer.new)) result }
+    ensures reader_failed { failed_of reader.new ≡ (failed_of reader.old || ended_by_read result) }
+    ensures writer_failed { failed_of writer.new ≡ (failed_of writer.old || ended_by_write result) }
+    ensures reader_first { IsTrue (failed_of reader.old) → result ≡ Err RunFault.Read }
+    ensures uncalled { IsTrue (failed_of reader.old || failed_of writer.old)
+        → (inner_of reader.new ≡ inner_of reader.old) × (inner_of writer.new ≡ inner_of writer.old) }
 {
     if reader.failed() {
         return Err(RunFault::Read);
@@ -84,23 +47,23 @@ pub fn run_limited<R: Read, W: Write>(
 /// Answers each line, on devices that have not failed.
 fn answer_all<R: Read, W: Write>(
     limit: u32,
-    reader: &mut Watched<R>,
-    writer: &mut Watched<W>,
+    reader: &mut Device<R>,
+    writer: &mut Device<W>,
 ) -> Result<(), RunFault>
-    requires reader_works { IsFalse (has_failed reader.old) }
-    requires writer_works { IsFalse (has_failed writer.old) }
+    requires reader_works { IsFalse (failed_of reader.old) }
+    requires writer_works { IsFalse (failed_of writer.old) }
     ensures ran { Ran limit
-        (R.remaining (device_of reader.old)) (R.remaining (device_of reader.new))
-        (W.contents (device_of writer.old)) (W.contents (device_of writer.new)) result }
-    ensures reader_failed { has_failed reader.new ≡ (has_failed reader.old || ended_by_read result) }
-    ensures writer_failed { has_failed writer.new ≡ (has_failed writer.old || ended_by_write result) }
+        (R.remaining (inner_of reader.old)) (R.remaining (inner_of reader.new))
+        (W.contents (inner_of writer.old)) (W.contents (inner_of writer.new)) result }
+    ensures reader_failed { failed_of reader.new ≡ (failed_of reader.old || ended_by_read result) }
+    ensures writer_failed { failed_of writer.new ≡ (failed_of writer.old || ended_by_write result) }
 {
     let mut piece = [0u8; PIECE_MAX];
     let mut line = Line::new();
     let mut replies = Replies::new();
     let mut room = limit as usize;
     'pieces: loop {
-        let count = match reader.read_on(&mut piece) {
+        let count = match reader.read(&mut piece) {
             Ok(count) => count,
             Err(_) => return Err(RunFault::Read),
         };
@@ -115,19 +78,19 @@ fn answer_all<R: Read, W: Write>(
     }
 }
 
-/// Answers each line that a piece completes.
+/// Answers each line that a piece completes: no reply waits afterwards.
 fn answer_piece<W: Write>(
-    writer: &mut Watched<W>,
+    writer: &mut Device<W>,
     replies: &mut Replies,
     line: &mut Line,
     piece: &[u8],
 ) -> Result<(), RunFault>
-    requires works { IsFalse (has_failed writer.old) }
+    requires works { IsFalse (failed_of writer.old) }
     requires empty { gathered replies.old ≡ [] }
-    ensures ok { OnOk result (AnswersPiece line.old line.new (W.contents (device_of writer.old)) (W.contents (device_of writer.new)) piece.now) }
-    ensures err { OnErr result (StopsInPiece line.old (W.contents (device_of writer.old)) [] (W.contents (device_of writer.new)) piece.now) }
+    ensures ok { OnOk result (AnswersPiece line.old line.new (W.contents (inner_of writer.old)) (W.contents (inner_of writer.new)) piece.now) }
+    ensures err { OnErr result (StopsInPiece line.old (W.contents (inner_of writer.old)) [] (W.contents (inner_of writer.new)) piece.now) }
     ensures emptied { OnOk result (gathered replies.new ≡ []) }
-    ensures watched { has_failed writer.new ≡ (has_failed writer.old || is_err result) }
+    ensures watched { failed_of writer.new ≡ (failed_of writer.old || is_err result) }
     ensures fault { IsOkUnless result RunFault.Write }
 {
     gather_piece(writer, replies, line, piece)?;
@@ -136,17 +99,17 @@ fn answer_piece<W: Write>(
 
 /// Gathers the reply to each line that a piece completes.
 fn gather_piece<W: Write>(
-    writer: &mut Watched<W>,
+    writer: &mut Device<W>,
     replies: &mut Replies,
     line: &mut Line,
     piece: &[u8],
 ) -> Result<(), RunFault>
-    requires { IsFalse (has_failed writer.old) }
+    requires { IsFalse (failed_of writer.old) }
     ensures ok { OnOk result (GathersPiece line.old line.new
-        (W.contents (device_of writer.old)) (gathered replies.old) (W.contents (device_of writer.new)) (gathered replies.new) piece.now) }
+        (W.contents (inner_of writer.old)) (gathered replies.old) (W.contents (inner_of writer.new)) (gathered replies.new) piece.now) }
     ensures err { OnErr result (StopsInPiece line.old
-        (W.contents (device_of writer.old)) (gathered replies.old) (W.contents (device_of writer.new)) piece.now) }
-    ensures watched { has_failed writer.new ≡ (has_failed writer.old || is_err result) }
+        (W.contents (inner_of writer.old)) (gathered replies.old) (W.contents (inner_of writer.new)) piece.now) }
+    ensures watched { failed_of writer.new ≡ (failed_of writer.old || is_err result) }
     ensures fault { IsOkUnless result RunFault.Write }
 {
     let mut start = 0;
@@ -156,24 +119,24 @@ fn gather_piece<W: Write>(
             line.push(rest);
             return Ok(());
         };
-        answer_line(writer, replies, line, &rest[..length])?;
+        gather_line(writer, replies, line, &rest[..length])?;
         start += length + 1;
     }
 }
 
 /// Gathers the reply to the line that these bytes and a line feed end.
-fn answer_line<W: Write>(
-    writer: &mut Watched<W>,
+fn gather_line<W: Write>(
+    writer: &mut Device<W>,
     replies: &mut Replies,
     line: &mut Line,
     bytes: &[u8],
 ) -> Result<(), RunFault>
-    requires { IsFalse (has_failed writer.old) }
-    ensures ok { OnOk result (AnswersLine line.old line.new
-        (W.contents (device_of writer.old)) (gathered replies.old) (W.contents (device_of writer.new)) (gathered replies.new) bytes.now) }
+    requires { IsFalse (failed_of writer.old) }
+    ensures ok { OnOk result (GathersLine line.old line.new
+        (W.contents (inner_of writer.old)) (gathered replies.old) (W.contents (inner_of writer.new)) (gathered replies.new) bytes.now) }
     ensures err { OnErr result (StopsAtLine line.old
-        (W.contents (device_of writer.old)) (gathered replies.old) (W.contents (device_of writer.new)) bytes.now) }
-    ensures watched { has_failed writer.new ≡ (has_failed writer.old || is_err result) }
+        (W.contents (inner_of writer.old)) (gathered replies.old) (W.contents (inner_of writer.new)) bytes.now) }
+    ensures watched { failed_of writer.new ≡ (failed_of writer.old || is_err result) }
     ensures fault { IsOkUnless result RunFault.Write }
 {
     if line.is_empty() {
@@ -187,39 +150,39 @@ fn answer_line<W: Write>(
 
 /// Answers what is pending at the end of the input, and flushes.
 fn finish<W: Write>(
-    writer: &mut Watched<W>,
+    writer: &mut Device<W>,
     replies: &mut Replies,
     line: &Line,
 ) -> Result<(), RunFault>
-    requires works { IsFalse (has_failed writer.old) }
+    requires works { IsFalse (failed_of writer.old) }
     requires empty { gathered replies.old ≡ [] }
     ensures ok { (pending : List ℕ) → Holds line.now pending
-        → OnOk result (Appends (W.contents (device_of writer.old)) (W.contents (device_of writer.new)) (last_reply pending)) }
+        → OnOk result (Appends (W.contents (inner_of writer.old)) (W.contents (inner_of writer.new)) (last_reply pending)) }
     ensures err { (pending : List ℕ) → Holds line.now pending
-        → OnErr result (AppendsBeginning (W.contents (device_of writer.old)) (W.contents (device_of writer.new)) (last_reply pending)) }
-    ensures watched { has_failed writer.new ≡ (has_failed writer.old || is_err result) }
+        → OnErr result (AppendsBeginning (W.contents (inner_of writer.old)) (W.contents (inner_of writer.new)) (last_reply pending)) }
+    ensures watched { failed_of writer.new ≡ (failed_of writer.old || is_err result) }
     ensures fault { IsOkUnless result RunFault.Write }
 {
     answer_rest(writer, replies, line)?;
-    if writer.flush_on().is_err() {
+    if writer.flush().is_err() {
         return Err(RunFault::Write);
     }
     Ok(())
 }
 
-/// Answers what is pending at the end of the input.
+/// Answers what is pending at the end of the input: no reply waits afterwards.
 fn answer_rest<W: Write>(
-    writer: &mut Watched<W>,
+    writer: &mut Device<W>,
     replies: &mut Replies,
     line: &Line,
 ) -> Result<(), RunFault>
-    requires works { IsFalse (has_failed writer.old) }
+    requires works { IsFalse (failed_of writer.old) }
     requires empty { gathered replies.old ≡ [] }
     ensures ok { (pending : List ℕ) → Holds line.now pending
-        → OnOk result (Appends (W.contents (device_of writer.old)) (W.contents (device_of writer.new)) (last_reply pending)) }
+        → OnOk result (Appends (W.contents (inner_of writer.old)) (W.contents (inner_of writer.new)) (last_reply pending)) }
     ensures err { (pending : List ℕ) → Holds line.now pending
-        → OnErr result (AppendsBeginning (W.contents (device_of writer.old)) (W.contents (device_of writer.new)) (last_reply pending)) }
-    ensures watched { has_failed writer.new ≡ (has_failed writer.old || is_err result) }
+        → OnErr result (AppendsBeginning (W.contents (inner_of writer.old)) (W.contents (inner_of writer.new)) (last_reply pending)) }
+    ensures watched { failed_of writer.new ≡ (failed_of writer.old || is_err result) }
     ensures fault { IsOkUnless result RunFault.Write }
 {
     if line.is_empty() {
@@ -231,16 +194,16 @@ fn answer_rest<W: Write>(
 
 /// Gathers the reply to a line.
 fn gather_reply<W: Write>(
-    writer: &mut Watched<W>,
+    writer: &mut Device<W>,
     replies: &mut Replies,
     line: &[u8],
 ) -> Result<(), RunFault>
-    requires { IsFalse (has_failed writer.old) }
-    ensures ok { OnOk result (Gathers (W.contents (device_of writer.old)) (gathered replies.old)
-        (W.contents (device_of writer.new)) (gathered replies.new) (reply_of line.now)) }
-    ensures err { OnErr result (AppendsBeginning (W.contents (device_of writer.old)) (W.contents (device_of writer.new))
+    requires { IsFalse (failed_of writer.old) }
+    ensures ok { OnOk result (Gathers (W.contents (inner_of writer.old)) (gathered replies.old)
+        (W.contents (inner_of writer.new)) (gathered replies.new) (reply_of line.now)) }
+    ensures err { OnErr result (AppendsBeginning (W.contents (inner_of writer.old)) (W.contents (inner_of writer.new))
         (gathered replies.old ++ reply_of line.now)) }
-    ensures watched { has_failed writer.new ≡ (has_failed writer.old || is_err result) }
+    ensures watched { failed_of writer.new ≡ (failed_of writer.old || is_err result) }
     ensures fault { IsOkUnless result RunFault.Write }
 {
     make_room(writer, replies)?;
@@ -249,14 +212,14 @@ fn gather_reply<W: Write>(
 }
 
 /// Hands the gathered replies on where one more might not fit.
-fn make_room<W: Write>(writer: &mut Watched<W>, replies: &mut Replies) -> Result<(), RunFault>
-    requires { IsFalse (has_failed writer.old) }
-    ensures ok { OnOk result (Gathers (W.contents (device_of writer.old)) (gathered replies.old)
-        (W.contents (device_of writer.new)) (gathered replies.new) []) }
+fn make_room<W: Write>(writer: &mut Device<W>, replies: &mut Replies) -> Result<(), RunFault>
+    requires { IsFalse (failed_of writer.old) }
+    ensures ok { OnOk result (Gathers (W.contents (inner_of writer.old)) (gathered replies.old)
+        (W.contents (inner_of writer.new)) (gathered replies.new) []) }
     ensures room { OnOk result (HasRoom replies.new) }
-    ensures err { OnErr result (AppendsBeginning (W.contents (device_of writer.old)) (W.contents (device_of writer.new))
+    ensures err { OnErr result (AppendsBeginning (W.contents (inner_of writer.old)) (W.contents (inner_of writer.new))
         (gathered replies.old)) }
-    ensures watched { has_failed writer.new ≡ (has_failed writer.old || is_err result) }
+    ensures watched { failed_of writer.new ≡ (failed_of writer.old || is_err result) }
     ensures fault { IsOkUnless result RunFault.Write }
 {
     if replies.has_room() {
@@ -266,14 +229,14 @@ fn make_room<W: Write>(writer: &mut Watched<W>, replies: &mut Replies) -> Result
 }
 
 /// Writes the gathered replies, and drops them.
-fn hand_on<W: Write>(writer: &mut Watched<W>, replies: &mut Replies) -> Result<(), RunFault>
-    requires { IsFalse (has_failed writer.old) }
-    ensures ok { OnOk result (Appends (W.contents (device_of writer.old)) (W.contents (device_of writer.new)) (gathered replies.old)) }
+fn hand_on<W: Write>(writer: &mut Device<W>, replies: &mut Replies) -> Result<(), RunFault>
+    requires { IsFalse (failed_of writer.old) }
+    ensures ok { OnOk result (Appends (W.contents (inner_of writer.old)) (W.contents (inner_of writer.new)) (gathered replies.old)) }
     ensures emptied { OnOk result (gathered replies.new ≡ []) }
     ensures room { OnOk result (HasRoom replies.new) }
-    ensures err { OnErr result (AppendsBeginning (W.contents (device_of writer.old)) (W.contents (device_of writer.new))
+    ensures err { OnErr result (AppendsBeginning (W.contents (inner_of writer.old)) (W.contents (inner_of writer.new))
         (gathered replies.old)) }
-    ensures watched { has_failed writer.new ≡ (has_failed writer.old || is_err result) }
+    ensures watched { failed_of writer.new ≡ (failed_of writer.old || is_err result) }
     ensures fault { IsOkUnless result RunFault.Write }
 {
     write_whole(writer, replies.as_slice())?;
@@ -282,16 +245,16 @@ fn hand_on<W: Write>(writer: &mut Watched<W>, replies: &mut Replies) -> Result<(
 }
 
 /// Writes these bytes, however many the device takes at a time.
-fn write_whole<W: Write>(writer: &mut Watched<W>, bytes: &[u8]) -> Result<(), RunFault>
-    requires { IsFalse (has_failed writer.old) }
-    ensures ok { OnOk result (Appends (W.contents (device_of writer.old)) (W.contents (device_of writer.new)) bytes.now) }
-    ensures err { OnErr result (AppendsBeginning (W.contents (device_of writer.old)) (W.contents (device_of writer.new)) bytes.now) }
-    ensures watched { has_failed writer.new ≡ (has_failed writer.old || is_err result) }
+fn write_whole<W: Write>(writer: &mut Device<W>, bytes: &[u8]) -> Result<(), RunFault>
+    requires { IsFalse (failed_of writer.old) }
+    ensures ok { OnOk result (Appends (W.contents (inner_of writer.old)) (W.contents (inner_of writer.new)) bytes.now) }
+    ensures err { OnErr result (AppendsBeginning (W.contents (inner_of writer.old)) (W.contents (inner_of writer.new)) bytes.now) }
+    ensures watched { failed_of writer.new ≡ (failed_of writer.old || is_err result) }
     ensures fault { IsOkUnless result RunFault.Write }
 {
     let mut at = 0;
     while at < bytes.len() {
-        let count = match writer.write_on(&bytes[at..]) {
+        let count = match writer.write(&bytes[at..]) {
             Ok(count) => count,
             Err(_) => return Err(RunFault::Write),
         };

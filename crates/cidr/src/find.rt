@@ -1,6 +1,6 @@
 //! Where a byte stands.
 ghost use Rattle.std.specs.Prelude.{MatchOption};
-ghost use Rattle.cidr.specs.Bytes.{HasNo, IsFirst};
+ghost use Rattle.cidr.specs.Private.Bytes.{HasNo, IsFirst};
 
 /// Where a byte stands first in a text, if it stands there.
 pub(crate) fn find(text: &[u8], byte: u8) -> Option<usize>

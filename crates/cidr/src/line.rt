@@ -18,7 +18,7 @@ pub(crate) struct Line {
 }
 
 impl Line {
-    ghost use Rattle.cidr.specs.Line.{Holds};
+    ghost use Rattle.cidr.specs.Private.Line.{Holds};
 
     /// A line of which nothing was read yet.
     pub(crate) fn new() -> Line

@@ -1,6 +1,7 @@
 //! Replies that are gathered before they are written.
 ghost use Rattle.std.specs.Prelude.{◌≡◌, ◌+◌, ◌≤◌, ◌↔◌, [], ◌∷◌, ◌++◌, length, IsTrue};
 ghost use Rattle.cidr.specs.Output.{reply_of};
+ghost use Rattle.cidr.specs.declared.replies.TheConstants.{GATHERED_MAX};
 
 use crate::answer::{ANSWER_MAX, Answer, answer};
 use crate::line::LINE_MAX;
@@ -16,7 +17,7 @@ pub(crate) struct Replies {
 }
 
 impl Replies {
-    ghost use Rattle.cidr.specs.Replies.{gathered, HasRoom};
+    ghost use Rattle.cidr.specs.Private.Replies.{gathered, HasRoom};
 
     /// No reply.
     pub(crate) fn new() -> Replies
@@ -64,7 +65,7 @@ impl Replies {
     }
 
     fn push(&mut self, text: &str)
-        requires { length (gathered self.old) + (length text.now + 1) ≤ 65536 }
+        requires { length (gathered self.old) + (length text.now + 1) ≤ GATHERED_MAX }
         ensures { gathered self.new ≡ gathered self.old ++ (text.now ++ 10 ∷ []) }
     {
         let _ = self.bytes.try_extend_from_slice(text.as_bytes());

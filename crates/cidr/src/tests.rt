@@ -6,8 +6,8 @@ mod faults;
 mod lines;
 mod watched;
 
-use crate::engine::run_limited;
 use crate::fault::RunFault;
+use crate::run::run_limited;
 use crate::tests::devices::{Sink, Source};
 use crate::watched::Watched;
 use std::alloc::Global;
@@ -19,7 +19,8 @@ const REQUESTS: &[u8] =
 /// What is written for them.
 const REPLIES: &[u8] = b"yes\nno\nunknown command\nrefused format\n";
 
-/// How a run ended, what was written, and how often each call of a device was made.
+/// How a run ended, what was written, how often each call of a device was made, and how much was written before the
+/// last flush.
 #[derive(Drop)]
 struct Outcome {
     result: Result<(), RunFault>,
@@ -27,6 +28,7 @@ struct Outcome {
     reads: usize,
     writes: usize,
     flushes: usize,
+    flushed: usize,
 }
 
 fn run_over(
@@ -43,6 +45,7 @@ fn run_over(
         reads: source.calls,
         writes: sink.writes,
         flushes: sink.flushes,
+        flushed: sink.flushed,
         written: sink.into_taken(),
     }
 }

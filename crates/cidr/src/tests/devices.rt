@@ -5,6 +5,52 @@ use std::alloc::Global;
 use std::io;
 use std::io::{ErrorKind, Read, Write};
 
+/// Each kind of error.
+pub(crate) const KINDS: [ErrorKind; 42] = [
+    ErrorKind::NotFound,
+    ErrorKind::PermissionDenied,
+    ErrorKind::ConnectionRefused,
+    ErrorKind::ConnectionReset,
+    ErrorKind::HostUnreachable,
+    ErrorKind::NetworkUnreachable,
+    ErrorKind::ConnectionAborted,
+    ErrorKind::NotConnected,
+    ErrorKind::AddrInUse,
+    ErrorKind::AddrNotAvailable,
+    ErrorKind::NetworkDown,
+    ErrorKind::BrokenPipe,
+    ErrorKind::AlreadyExists,
+    ErrorKind::WouldBlock,
+    ErrorKind::NotADirectory,
+    ErrorKind::IsADirectory,
+    ErrorKind::DirectoryNotEmpty,
+    ErrorKind::ReadOnlyFilesystem,
+    ErrorKind::FilesystemLoop,
+    ErrorKind::StaleNetworkFileHandle,
+    ErrorKind::InvalidInput,
+    ErrorKind::InvalidData,
+    ErrorKind::TimedOut,
+    ErrorKind::WriteZero,
+    ErrorKind::StorageFull,
+    ErrorKind::NotSeekable,
+    ErrorKind::QuotaExceeded,
+    ErrorKind::FileTooLarge,
+    ErrorKind::ResourceBusy,
+    ErrorKind::ExecutableFileBusy,
+    ErrorKind::Deadlock,
+    ErrorKind::CrossesDevices,
+    ErrorKind::TooManyLinks,
+    ErrorKind::InvalidFilename,
+    ErrorKind::ArgumentListTooLong,
+    ErrorKind::Interrupted,
+    ErrorKind::Unsupported,
+    ErrorKind::UnexpectedEof,
+    ErrorKind::OutOfMemory,
+    ErrorKind::InProgress,
+    ErrorKind::Other,
+    ErrorKind::Uncategorized,
+];
+
 /// Gives these bytes, `step` a call at most, and counts its calls.
 ///
 /// The call `fails_at` fails. An endless one gives its bytes again and again.
@@ -51,9 +97,9 @@ impl Read for Source<'_> {
     }
 }
 
-/// Takes bytes, `step` a call at most, and counts its calls.
+/// Takes bytes, `step` a call at most, counts its calls, and notes how much it had taken at its last flush.
 ///
-/// The write `fails_at` fails, the write `idles_at` takes nothing, and the flush may fail.
+/// The write `fails_at` fails, the write `idles_at` takes nothing, and each flush may fail.
 #[derive(Drop)]
 pub(crate) struct Sink {
     pub(crate) taken: Vec<u8>,
@@ -64,6 +110,7 @@ pub(crate) struct Sink {
     pub(crate) kind: ErrorKind,
     pub(crate) writes: usize,
     pub(crate) flushes: usize,
+    pub(crate) flushed: usize,
 }
 
 impl Sink {
@@ -77,6 +124,7 @@ impl Sink {
             kind: ErrorKind::Interrupted,
             writes: 0,
             flushes: 0,
+            flushed: 0,
         }
     }
 
@@ -103,6 +151,7 @@ impl Write for Sink {
 
     fn flush(&mut self) -> io::Result<()> {
         self.flushes = self.flushes.saturating_add(1);
+        self.flushed = self.taken.len();
         if self.flush_fails {
             return Err(io::Error::from(self.kind));
         }

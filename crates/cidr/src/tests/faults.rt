@@ -1,16 +1,9 @@
 //! Devices that fail, at each of their calls.
 
 use crate::fault::RunFault;
-use crate::tests::devices::{Sink, Source};
+use crate::tests::devices::{KINDS, Sink, Source};
 use crate::tests::{REPLIES, REQUESTS, run_over};
 use crate::watched::Watched;
-use std::io::ErrorKind;
-
-const KINDS: [ErrorKind; 3] = [
-    ErrorKind::Interrupted,
-    ErrorKind::WouldBlock,
-    ErrorKind::Other,
-];
 
 #[test]
 fn writes_fail(rt: HostRuntime) {
@@ -45,6 +38,7 @@ fn flush_fails(rt: HostRuntime) {
         assert_eq!(rt; end.result, Err(RunFault::Write));
         assert_eq!(rt; end.written.as_slice(), REPLIES);
         assert_eq!(rt; [end.reads, end.writes, end.flushes], [76, 38, 1]);
+        assert_eq!(rt; end.flushed, 38);
     }
 }
 

@@ -1,7 +1,7 @@
 //! Where a line ends, where it is too long, and where the input is.
 
-use crate::engine::run;
 use crate::fault::RunFault;
+use crate::run::run;
 use crate::tests::devices::{Sink, Source};
 use crate::tests::{REPLIES, REQUESTS, run_over};
 use crate::watched::Watched;
@@ -53,7 +53,11 @@ fn answers_lines(rt: HostRuntime) -> Result<(), Fail> {
                 output,
                 "{ones} and {back:?} by {step}"
             );
-            assert_eq!(rt; end.flushes, 1);
+            assert_eq!(rt;
+                [end.flushes, end.flushed],
+                [1, output.len()],
+                "{ones} and {back:?} by {step}"
+            );
         }
     }
     Ok(())

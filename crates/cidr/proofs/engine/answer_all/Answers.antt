@@ -17,8 +17,8 @@ returns-in-Err-clause-ran g c = read_failed c.args.limit c.pieces.room c.pieces.
 
 pub returns-then-count-eq0-clause-ran : goal.returns-then-count-eq0-clause-ran
 returns-then-count-eq0-clause-ran g c =
-    let room : 0 < length c.read_on.new.buf = omega arith in
-    finished c.args.limit c.pieces.room c.pieces.line _ _ _ _ _ _ c.read_on.new.buf c.in-Ok.count c.finish.result c.pieces.invariant.sofar
+    let room : 0 < length c.read.new.buf = omega arith in
+    finished c.args.limit c.pieces.room c.pieces.line _ _ _ _ _ _ c.read.new.buf c.in-Ok.count c.finish.result c.pieces.invariant.sofar
     c.if-count-eq0.true c.in-Ok.ensures.bytes.0 (c.in-Ok.ensures.bytes.1 c.if-count-eq0.true room)
     c.finish.ensures.ok c.finish.ensures.err c.finish.ensures.fault
 

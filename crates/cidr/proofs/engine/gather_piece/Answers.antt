@@ -16,11 +16,11 @@ returns-in_default-clause-ok g c =
     piece_ends c.args.line.now c.lines.line c.push.new.self _ _ _ _ c.args.piece.now _ c.lines.start
     (take_rest c.args.piece.now c.lines.start) c.in_default.ensures c.lines.invariant.gathers c.push.ensures
 
-pub returns-in_err-answer_line-clause-err : goal.returns-in_err-answer_line-clause-err
-returns-in_err-answer_line-clause-err g c =
+pub returns-in_err-gather_line-clause-err : goal.returns-in_err-gather_line-clause-err
+returns-in_err-gather_line-clause-err g c =
     on_err_any c.from_residual.result
     (piece_stops c.args.line.now c.lines.line _ _ _ _ _ c.args.piece.now _ c.lines.start c.in-Some.length
-    (take_rest c.args.piece.now c.lines.start) c.in-Some.ensures c.lines.invariant.gathers c.in_err-answer_line.ensures.err)
+    (take_rest c.args.piece.now c.lines.start) c.in-Some.ensures c.lines.invariant.gathers c.in_err-gather_line.ensures.err)
 
 pub lines-preserved : goal.lines-preserved
 lines-preserved g c =
@@ -28,7 +28,7 @@ lines-preserved g c =
     let start = c.lines.start in
     record {
       within = omega (arith, c.in-Some.ensures.within, length-take (length piece - start) (drop start piece), length-drop start piece);
-      gathers = piece_goes_on c.args.line.now c.lines.line c.answer_line.new.line _ _ _ _ _ _ piece _ start c.in-Some.length
-          (take_rest piece start) c.in-Some.ensures c.lines.invariant.gathers c.in_ok-answer_line.ensures.ok;
-      watched = still_works _ _ _ c.in_ok-answer_line.ensures.watched c.lines.invariant.watched;
+      gathers = piece_goes_on c.args.line.now c.lines.line c.gather_line.new.line _ _ _ _ _ _ piece _ start c.in-Some.length
+          (take_rest piece start) c.in-Some.ensures c.lines.invariant.gathers c.in_ok-gather_line.ensures.ok;
+      watched = still_works _ _ _ c.in_ok-gather_line.ensures.watched c.lines.invariant.watched;
     }

@@ -1,16 +1,16 @@
 use Rattle.std.proofs.Common.{◌≡◌, ◌≤◌, ◌-◌, length, take}
-use Rattle.cidr.specs.Watched.{device_of, has_failed}
-use Rattle.cidr.specs.Replies.{gathered}
-use Rattle.cidr.specs.Progress.{GathersPiece}
+use Rattle.cidr.specs.Private.Device.{inner_of, failed_of}
+use Rattle.cidr.specs.Private.Replies.{gathered}
+use Rattle.cidr.specs.Private.Progress.{GathersPiece}
 use Rattle.cidr.proofs.engine.gather_piece.Given as goal
 
 abbrev pub invariant-lines : goal.invariant-lines
 invariant-lines g l = record {
   within : l.start ≤ length l.piece;
   gathers : GathersPiece l.initial.line l.line
-      (g.W.Write.contents (device_of l.initial.writer)) (gathered l.initial.replies)
-      (g.W.Write.contents (device_of l.writer)) (gathered l.replies) (take l.start l.piece);
-  watched : has_failed l.writer ≡ has_failed l.initial.writer;
+      (g.W.Write.contents (inner_of l.initial.writer)) (gathered l.initial.replies)
+      (g.W.Write.contents (inner_of l.writer)) (gathered l.replies) (take l.start l.piece);
+  watched : failed_of l.writer ≡ failed_of l.initial.writer;
 }
 
 abbrev pub decreases-lines : goal.decreases-lines

@@ -1,6 +1,6 @@
 use Rattle.std.proofs.Common.{subst}
 use Rattle.std.proofs.lemmas.List.{take_all}
-use Rattle.cidr.specs.Bytes.{HasNo}
+use Rattle.cidr.specs.Private.Bytes.{HasNo}
 use Rattle.cidr.proofs.BytesLemmas.{none_more}
 use Rattle.cidr.proofs.find.find.Goals as goal
 

@@ -1,5 +1,5 @@
 use Rattle.std.proofs.Common.{take}
-use Rattle.cidr.specs.Bytes.{HasNo}
+use Rattle.cidr.specs.Private.Bytes.{HasNo}
 use Rattle.cidr.proofs.find.find.Given as goal
 
 abbrev pub invariant-loop-at : goal.invariant-loop-at

@@ -1,5 +1,5 @@
 use Rattle.std.proofs.Common.{◌∙◌, ◌∷◌, ◌++◌, [], ap, sym}
-use Rattle.cidr.specs.Replies.{gathered}
+use Rattle.cidr.specs.Private.Replies.{gathered}
 use Rattle.cidr.proofs.Kept.{reply_long, reply_short}
 use Rattle.cidr.proofs.replies.Replies.reply_to.Goals as goal
 

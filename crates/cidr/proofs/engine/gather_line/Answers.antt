@@ -1,5 +1,5 @@
 use Rattle.cidr.proofs.Gathering.{on_err_any, line_at_once, stops_gathered}
-use Rattle.cidr.proofs.engine.answer_line.Goals as goal
+use Rattle.cidr.proofs.engine.gather_line.Goals as goal
 
 pub returns-then-is_empty-clause-ok : goal.returns-then-is_empty-clause-ok
 returns-then-is_empty-clause-ok g c =

@@ -3,7 +3,7 @@ use Rattle.std.specs.Prelude.{◌≡◌, ℕ, ◌+◌, List, [], ◌∷◌, ◌+
 use Rattle.std.specs.Io.KnownBytes.{Appends, Consumes}
 use Rattle.std.specs.Str.Lines.{strip_carriage_return}
 use Rattle.cidr.specs.declared.line.Line.{Line}
-use Rattle.cidr.specs.Line.{Holds}
+use Rattle.cidr.specs.Private.Line.{Holds}
 use Rattle.cidr.specs.Output.{reply_of, IsBeginning}
 
 -- the replies to the lines that a piece completes
@@ -37,8 +37,8 @@ abbrev pub Gathers : Option (List ℕ) → List ℕ → Option (List ℕ) → Li
 Gathers held before holds after bytes = (written : List ℕ) × Appends held holds written × (before ++ bytes ≡ written ++ after)
 
 -- a line feed after these bytes ends the line: its reply was gathered, and a new line begins
-abbrev pub AnswersLine : Line → Line → Option (List ℕ) → List ℕ → Option (List ℕ) → List ℕ → List ℕ → Type 0
-AnswersLine old new held before holds after bytes = (pending : List ℕ) → Holds old pending
+abbrev pub GathersLine : Line → Line → Option (List ℕ) → List ℕ → Option (List ℕ) → List ℕ → List ℕ → Type 0
+GathersLine old new held before holds after bytes = (pending : List ℕ) → Holds old pending
     → Holds new [] × Gathers held before holds after (reply_of (strip_carriage_return (pending ++ bytes)))
 
 -- the writer failed within what was gathered before and the reply to that line

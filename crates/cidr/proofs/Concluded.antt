@@ -1,0 +1,49 @@
+-- What follows from how a run went, where the reader and the writer tell their bytes.
+use Rattle.std.proofs.Common.{◌≡◌, ℕ, ◌<◌, ◌≤◌, List, ◌++◌, length, take, sym, ap, ◌∙◌, subst, append-nil}
+use Rattle.std.proofs.lemmas.List.{append_cancel_right}
+use Rattle.std.proofs.Math.Seq.{take-append_seam}
+use Rattle.std.specs.Prelude.{Option, None, Some, Result, Err}
+use Rattle.cidr.specs.declared.fault.RunFault.{RunFault}
+use Rattle.cidr.specs.declared.fault.RunFault.TheVariants.{Read, Write, InputTooLong}
+use Rattle.cidr.specs.Output.{output_of, complete_part, IsBeginning}
+use Rattle.cidr.specs.Run.{Ran}
+use Rattle.cidr.specs.Laws.{AfterOk, AfterReadFault, AfterWriteFault, AfterTooLong}
+
+-- the run read what the reader lost
+was_read : (limit : ℕ) (read rest : List ℕ) (held holds : Option (List ℕ)) (result : Result (Unit {0}) RunFault)
+    → (ran : Ran limit (Some (read ++ rest)) (Some rest) held holds result) → ran.read ≡ read
+was_read limit read rest held holds result ran = sym (append_cancel_right read ran.read rest ran.reads)
+
+pub after_ok : AfterOk
+after_ok limit input held holds None done ran = absurd ran.reads
+after_ok limit input held holds (Some rest) done ran =
+    let all : ran.read ≡ input = sym (ran.reads ∙ ap (λ l. ran.read ++ l) ran.ends.0 ∙ append-nil ran.read) in
+    (subst (λ (l : List ℕ). length l ≤ limit) all ran.ends.1, ran.writes ∙ ap (λ l. held ++ l) (ran.ends.2 ∙ ap output_of all))
+
+pub after_read_fault : AfterReadFault
+after_read_fault limit read rest held holds ran =
+    let same = was_read limit read rest (Some held) (Some holds) (Err Read) ran in
+    (subst (λ (l : List ℕ). length l ≤ limit) same ran.ends.0, ran.writes ∙ ap (λ l. held ++ l) (ran.ends.1 ∙ ap (λ l. output_of (complete_part l)) same))
+
+pub after_write_fault : AfterWriteFault
+after_write_fault limit read rest held holds ran =
+    let same = was_read limit read rest (Some held) (Some holds) (Err Write) ran in (
+      subst (λ (l : List ℕ). length l ≤ limit) same ran.ends.0,
+      ran.written,
+      ran.writes,
+      subst (λ (l : List ℕ). IsBeginning ran.written (output_of l)) same ran.ends.1,
+    )
+
+-- a beginning is so many of the first bytes
+first_bytes : (front whole : List ℕ) → IsBeginning front whole → front ≡ take (length front) whole
+first_bytes front whole h = sym (ap (take (length front)) h.1 ∙ take-append_seam front h.0)
+
+pub after_too_long : AfterTooLong
+after_too_long limit read rest held holds ran =
+    let same = was_read limit read rest (Some held) (Some holds) (Err InputTooLong) ran in
+    let part = ran.ends.1 in (
+      subst (λ (l : List ℕ). limit < length l) same ran.ends.0,
+      length part.0,
+      part.2,
+      ran.writes ∙ ap (λ l. held ++ l) (part.3 ∙ ap (λ l. output_of (complete_part l)) (first_bytes part.0 ran.read part.1 ∙ ap (take (length part.0)) same)),
+    )

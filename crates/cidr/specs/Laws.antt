@@ -1,0 +1,42 @@
+-- What a caller may conclude, each law in one statement.
+use Rattle.std.specs.Prelude.{◌≡◌, ◌↔◌, ℕ, ◌<◌, ◌≤◌, List, ◌++◌, length, take, Option, Some, Ok, Err, codes}
+use Rattle.ipnetwork_addr.specs.Ipv4Text.{NamesV4}
+use Rattle.ipnetwork_family.specs.Network.{Network, Member}
+use Rattle.ipnetwork_family.specs.Ipv4NetworkText.{NamesV4Network}
+use Rattle.cidr.specs.declared.fault.RunFault.TheVariants.{Read, Write, InputTooLong}
+use Rattle.cidr.specs.Commands.{has4_answer}
+use Rattle.cidr.specs.Output.{output_of, complete_part, IsBeginning}
+use Rattle.cidr.specs.Run.{Ran}
+
+-- of texts that name a network and an address, `has4` answers `yes` exactly if the address is a member of the
+-- network's set, and `no` exactly if it is none
+abbrev pub HasMembers : Type 0
+HasMembers = (text word : List ℕ) (n : Network) (a : ℕ) → NamesV4Network text n → NamesV4 word a
+    → ((has4_answer text word ≡ codes "yes") ↔ Member 32 n a) × ((has4_answer text word ≡ codes "no") ↔ ¬ (Member 32 n a))
+
+-- The reader had `read` and then `rest`, and the writer held `held` and holds `holds`.
+
+-- after Ok the input was within the limit, and its output was written
+abbrev pub AfterOk : Type 0
+AfterOk = (limit : ℕ) (input held holds : List ℕ) (left : Option (List ℕ)) (done : Unit {0})
+    → Ran limit (Some input) left (Some held) (Some holds) (Ok done)
+    → (length input ≤ limit) × (holds ≡ held ++ output_of input)
+
+-- after a read fault what was read is within the limit, and exactly the lines that it completes were answered
+abbrev pub AfterReadFault : Type 0
+AfterReadFault = (limit : ℕ) (read rest held holds : List ℕ)
+    → Ran limit (Some (read ++ rest)) (Some rest) (Some held) (Some holds) (Err Read)
+    → (length read ≤ limit) × (holds ≡ held ++ output_of (complete_part read))
+
+-- after a write fault what was read is within the limit, and what was written is a beginning of its output
+abbrev pub AfterWriteFault : Type 0
+AfterWriteFault = (limit : ℕ) (read rest held holds : List ℕ)
+    → Ran limit (Some (read ++ rest)) (Some rest) (Some held) (Some holds) (Err Write)
+    → (length read ≤ limit) × (written : List ℕ) × (holds ≡ held ++ written) × IsBeginning written (output_of read)
+
+-- where the input is too long, more than the limit was read, and exactly the lines were answered that its first
+-- bytes complete, so many of them, and no more than the limit
+abbrev pub AfterTooLong : Type 0
+AfterTooLong = (limit : ℕ) (read rest held holds : List ℕ)
+    → Ran limit (Some (read ++ rest)) (Some rest) (Some held) (Some holds) (Err InputTooLong)
+    → (limit < length read) × (count : ℕ) × (count ≤ limit) × (holds ≡ held ++ output_of (complete_part (take count read)))

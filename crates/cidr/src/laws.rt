@@ -1,0 +1,51 @@
+//! What follows from the promises of a run and of the commands. Each function's contract is a law.
+ghost use Rattle.std.specs.Prelude.{◌≡◌, ◌↔◌, ◌&&◌, IsTrue, IsFalse, Ok, Result};
+ghost use Rattle.cidr.specs.Laws.{HasMembers, AfterOk, AfterReadFault, AfterWriteFault, AfterTooLong};
+ghost use Rattle.cidr.specs.Run.{ended_by_read, ended_by_write};
+
+use crate::fault::RunFault;
+use ipnetwork::laws;
+use std::alloc::AllocError;
+
+/// `has4` answers `yes` exactly for the members of the network's set, and `no` exactly for the other addresses.
+pub fn has4_answers_membership()
+    ensures { HasMembers }
+{
+    laws::v4_network_reading_is_computed();
+    laws::v4_text_is_computed();
+}
+
+/// After Ok the input was within the limit, and its output was written.
+pub fn after_ok()
+    ensures { AfterOk }
+{}
+
+/// After a read fault exactly the lines that were read whole, with their line feed, were answered.
+pub fn after_a_read_fault()
+    ensures { AfterReadFault }
+{}
+
+/// After a write fault a beginning of the output of what was read was written.
+pub fn after_a_write_fault()
+    ensures { AfterWriteFault }
+{}
+
+/// Where the input is too long, exactly the lines were answered that some of its first bytes, no more than the limit,
+/// complete.
+pub fn after_too_long_an_input()
+    ensures { AfterTooLong }
+{}
+
+/// Two faults are equal exactly if they are the same fault.
+pub fn fault_equality(a: RunFault, b: RunFault) -> bool
+    ensures { IsTrue result ↔ (a ≡ b) }
+{
+    a == b
+}
+
+/// A clone of a fault is the same fault, and there is always one.
+pub fn fault_clone(fault: RunFault) -> Result<RunFault, AllocError>
+    ensures { result ≡ Ok fault }
+{
+    fault.clone()
+}

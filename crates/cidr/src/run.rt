@@ -1,0 +1,82 @@
+//! The run that the program makes, and what it promises.
+ghost use Rattle.std.specs.Prelude.{◌≡◌, ◌||◌, List, ℕ, Err, OnOk, IsOk, IsFalse, IsTrue, IfSome, Some, ◌≤◌, length};
+ghost use Rattle.std.specs.Io.KnownBytes.{Appends};
+ghost use Rattle.cidr.specs.Watched.{device_of, has_failed};
+ghost use Rattle.cidr.specs.Output.{output_of};
+ghost use Rattle.cidr.specs.Run.{Ran, ended_by_read, ended_by_write};
+
+use crate::engine::answer_input;
+use crate::fault::RunFault;
+use crate::watched::Watched;
+use std::alloc::Global;
+use std::io::{Read, Write};
+
+/// Answers each line that `reader` gives, up to 4,294,967,295 bytes, and then flushes.
+///
+/// It is `run_limited` at that limit. Does not allocate: `alloc` is not used.
+pub fn run<R: Read, W: Write>(
+    alloc: Global,
+    reader: &mut Watched<R>,
+    writer: &mut Watched<W>,
+) -> Result<(), RunFault>
+    ensures ran { Ran u32.MAX
+        (R.remaining (device_of reader.old)) (R.remaining (device_of reader.new))
+        (W.contents (device_of writer.old)) (W.contents (device_of writer.new)) result }
+    ensures reader_failed { has_failed reader.new ≡ (has_failed reader.old || ended_by_read result) }
+    ensures writer_failed { has_failed writer.new ≡ (has_failed writer.old || ended_by_write result) }
+    ensures reader_first { IsTrue (has_failed reader.old) → result ≡ Err RunFault.Read }
+    ensures uncalled { IsTrue (has_failed reader.old || has_failed writer.old)
+        → (device_of reader.new ≡ device_of reader.old) × (device_of writer.new ≡ device_of writer.old) }
+    ensures output { OnOk result (IfSome (R.remaining (device_of reader.old)) (λ input.
+        Appends (W.contents (device_of writer.old)) (W.contents (device_of writer.new)) (output_of input))) }
+    ensures succeeds { (input : List ℕ) → R.remaining (device_of reader.old) ≡ Some input → length input ≤ u32.MAX
+        → IsFalse (has_failed reader.new) → IsFalse (has_failed writer.new) → IsOk result }
+{
+    run_limited(alloc, u32::MAX, reader, writer)
+}
+
+/// Answers each line that `reader` gives, up to `limit` bytes, and then flushes.
+///
+/// Each line that a read completes is answered before the next read. The errors:
+///
+/// - `RunFault::Read`: a read failed. Each line that was completed was answered, and nothing was flushed.
+/// - `RunFault::Write`: a write or the flush failed, or a write took no byte. A beginning of the output was written.
+/// - `RunFault::InputTooLong`: a read passed the limit. No line that it completed was answered, and nothing was
+///   flushed.
+///
+/// No call is made on a device after one that failed, nor on the writer after a read that failed. Where the reader
+/// has failed before, the answer is `Read`, and else where the writer has, `Write`, without any call.
+///
+/// What is promised of bytes holds of a reader and a writer whose contracts tell their bytes, as those over memory
+/// do. Standard input and output do not tell theirs.
+///
+/// Does not allocate: the allocator is not used.
+pub fn run_limited<R: Read, W: Write>(
+    // A run needs no memory but its own frame, and is given an allocator all the same.
+    _alloc: Global,
+    limit: u32,
+    reader: &mut Watched<R>,
+    writer: &mut Watched<W>,
+) -> Result<(), RunFault>
+    // What was read and written, by how the run ended.
+    ensures ran { Ran limit
+        (R.remaining (device_of reader.old)) (R.remaining (device_of reader.new))
+        (W.contents (device_of writer.old)) (W.contents (device_of writer.new)) result }
+
+    // A device has failed exactly if it had failed before, or its failure ended the run.
+    ensures reader_failed { has_failed reader.new ≡ (has_failed reader.old || ended_by_read result) }
+    ensures writer_failed { has_failed writer.new ≡ (has_failed writer.old || ended_by_write result) }
+
+    // Where the reader had failed before, it is `Read`, whatever the writer; and no call is made where one had.
+    ensures reader_first { IsTrue (has_failed reader.old) → result ≡ Err RunFault.Read }
+    ensures uncalled { IsTrue (has_failed reader.old || has_failed writer.old)
+        → (device_of reader.new ≡ device_of reader.old) × (device_of writer.new ≡ device_of writer.old) }
+
+    // So the output is that of the whole input, and comes where the input fits and no device fails.
+    ensures output { OnOk result (IfSome (R.remaining (device_of reader.old)) (λ input.
+        Appends (W.contents (device_of writer.old)) (W.contents (device_of writer.new)) (output_of input))) }
+    ensures succeeds { (input : List ℕ) → R.remaining (device_of reader.old) ≡ Some input → length input ≤ limit
+        → IsFalse (has_failed reader.new) → IsFalse (has_failed writer.new) → IsOk result }
+{
+    answer_input(limit, &mut reader.device, &mut writer.device)
+}
