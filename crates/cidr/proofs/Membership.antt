@@ -6,7 +6,8 @@ use Rattle.std.specs.Prelude.{Ok, Some, nat_lt}
 use Rattle.ipnetwork_addr.specs.Ipv4Text.{v4_of}
 use Rattle.ipnetwork_family.specs.Network.{Network, Member, block_size}
 use Rattle.ipnetwork_family.specs.Ipv4NetworkText.{v4_network_of}
-use Rattle.cidr.specs.Commands.{is_member, has4_answer}
+use Rattle.ipnetwork_family.specs.Network.{is_member}
+use Rattle.cidr.specs.Commands.{has4_answer}
 
 less_tells : (a b : ℕ) → ((nat_lt a b ≡ true) × (a < b)) ⊎ ((nat_lt a b ≡ false) × (b ≤ a))
 less_tells a b = elim (leb_tells b a) [ inl le ↦ inr (le-ltb a b le.1, le.1) | inr lt ↦ inl (lt-ltb a b lt.1, lt.1) ]

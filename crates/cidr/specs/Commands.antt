@@ -1,13 +1,14 @@
 -- The commands and their answers. A line is the list of its bytes, without its end.
-use Rattle.std.specs.Prelude.{ℕ, ◌/◌, ◌^◌, ◌==◌, ◌&&◌, nat_lt, Bool, if◌then◌else◌, List, [], ◌∷◌, Option, None, Some, Result, Ok, Err, codes, bytes_eq}
+use Rattle.std.specs.Prelude.{ℕ, if◌then◌else◌, List, [], ◌∷◌, Option, None, Some, Result, Ok, Err, codes, bytes_eq}
 use Rattle.ipnetwork_addr.specs.Ipv4Text.{canonical_v4, v4_of}
 use Rattle.ipnetwork_addr.specs.Ipv6Canonical.{canonical_v6}
-use Rattle.ipnetwork_family.specs.Network.{Network, block_size}
+use Rattle.ipnetwork_family.specs.Network.{Network, is_member}
 use Rattle.ipnetwork_family.specs.NetworkText.{network_text}
 use Rattle.ipnetwork_family.specs.Ipv4NetworkText.{v4_network_of}
 use Rattle.ipnetwork_family.specs.Ipv6NetworkText.{v6_network_of}
 use Rattle.ipnetwork_family.specs.declared.error.CidrFault.{CidrFault}
 use Rattle.ipnetwork_family.specs.declared.error.CidrFault.TheVariants.{Format, Addr, Prefix}
+use Rattle.cidr.specs.EitherCommands.{read_answer, has_answer, ends_answer, rel_answer}
 use Rattle.cidr.specs.Words.{words}
 
 -- the answer to any other first word, or another number of words
@@ -36,10 +37,6 @@ printed_v6 (Err fault) = refusal fault
 unfoldable pub read6_answer : List ℕ → List ℕ
 read6_answer text = printed_v6 (v6_network_of text)
 
--- whether x is an address of the network's set, computed
-abbrev pub is_member : ℕ → Network → ℕ → Bool
-is_member w n x = nat_lt x (2 ^ w) && (x / block_size w n.prefix == n.address / block_size w n.prefix)
-
 -- whether the network holds the address
 abbrev pub membership : Network → ℕ → List ℕ
 membership network address = if is_member 32 network address then codes "yes" else codes "no"
@@ -57,10 +54,15 @@ has4_answer network address = asked_v4 (v4_network_of network) (v4_of address)
 unfoldable pub one_word_answer : List ℕ → List ℕ → List ℕ
 one_word_answer command word =
     if bytes_eq command (codes "read4") then read4_answer word
-    else (if bytes_eq command (codes "read6") then read6_answer word else unknown)
+    else (if bytes_eq command (codes "read6") then read6_answer word
+    else (if bytes_eq command (codes "read") then read_answer word
+    else (if bytes_eq command (codes "ends") then ends_answer word else unknown)))
 
 unfoldable pub two_words_answer : List ℕ → List ℕ → List ℕ → List ℕ
-two_words_answer command first second = if bytes_eq command (codes "has4") then has4_answer first second else unknown
+two_words_answer command first second =
+    if bytes_eq command (codes "has4") then has4_answer first second
+    else (if bytes_eq command (codes "has") then has_answer first second
+    else (if bytes_eq command (codes "rel") then rel_answer first second else unknown))
 
 -- the answer to a line, by the number of its words
 unfoldable pub answer_to : List (List ℕ) → List ℕ

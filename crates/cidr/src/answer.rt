@@ -3,6 +3,7 @@ ghost use Rattle.std.specs.Prelude.{◌≡◌, ◌<◌, ◌≤◌, [], length};
 ghost use Rattle.cidr.specs.Commands.{command_answer, one_word_answer, two_words_answer, unknown, read4_answer, read6_answer, has4_answer, refusal};
 ghost use Rattle.cidr.specs.declared.answer.TheConstants.{ANSWER_MAX};
 
+use crate::either;
 use crate::words::cut_word;
 use arrayvec::ArrayString;
 use ipnetwork::{CidrFault, Ipv4Addr, Ipv4Network, Ipv6Network, laws};
@@ -47,6 +48,10 @@ fn answer_one(command: &[u8], word: &[u8], text: &mut Answer)
         read4(word, text);
     } else if command == b"read6".as_slice() {
         read6(word, text);
+    } else if command == b"read".as_slice() {
+        either::read(word, text);
+    } else if command == b"ends".as_slice() {
+        either::ends(word, text);
     } else {
         text.push_str(UNKNOWN);
     }
@@ -60,6 +65,10 @@ fn answer_two(command: &[u8], first: &[u8], second: &[u8], text: &mut Answer)
 {
     if command == b"has4".as_slice() {
         text.push_str(has4(first, second));
+    } else if command == b"has".as_slice() {
+        text.push_str(either::has(first, second));
+    } else if command == b"rel".as_slice() {
+        text.push_str(either::rel(first, second));
     } else {
         text.push_str(UNKNOWN);
     }

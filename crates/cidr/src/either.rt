@@ -1,9 +1,9 @@
 //! The answers of the commands that are asked of networks of either family.
 ghost use Rattle.std.specs.Prelude.{◌≡◌, ◌<◌, ◌≤◌, [], length};
-ghost use Rattle.ipnetwork.specs.IpNetworks.{IsIpNetwork};
+ghost use Rattle.cidr.specs.declared.answer.TheConstants.{ANSWER_MAX};
 ghost use Rattle.cidr.specs.EitherCommands.{read_answer, has_answer, ends_answer, ends_text, rel_answer, relation};
 
-use crate::answer::{ANSWER_MAX, Answer};
+use crate::answer::Answer;
 use ipnetwork::decimal::push_number;
 use ipnetwork::{IpAddr, IpNetwork, laws};
 
@@ -14,7 +14,7 @@ const REFUSED: &str = "refused";
 pub(crate) fn read(word: &[u8], text: &mut Answer)
     requires { text.old.bytes ≡ [] }
     ensures text { text.new.bytes ≡ read_answer word.now }
-    ensures short { length text.new.bytes ≤ 159 }
+    ensures short { length text.new.bytes < ANSWER_MAX }
 {
     laws::ip_network_reading_is_computed();
     match IpNetwork::read_bytes(word) {
@@ -48,7 +48,7 @@ pub(crate) fn has(network: &[u8], address: &[u8]) -> &'static str
 pub(crate) fn ends(word: &[u8], text: &mut Answer)
     requires { text.old.bytes ≡ [] }
     ensures text { text.new.bytes ≡ ends_answer word.now }
-    ensures short { length text.new.bytes ≤ 159 }
+    ensures short { length text.new.bytes < ANSWER_MAX }
 {
     laws::ip_network_reading_is_computed();
     match IpNetwork::read_bytes(word) {
@@ -62,7 +62,7 @@ pub(crate) fn ends(word: &[u8], text: &mut Answer)
 fn push_ends(network: IpNetwork, text: &mut Answer)
     requires { text.old.bytes ≡ [] }
     ensures text { text.new.bytes ≡ ends_text network }
-    ensures short { length text.new.bytes ≤ 159 }
+    ensures short { length text.new.bytes < ANSWER_MAX }
 {
     text.push_str(network.network().canonical().as_str());
     text.push(' ');
