@@ -4,7 +4,7 @@ use Rattle.std.proofs.Math.Nat.{pow-le-pow_right}
 use Rattle.std.proofs.lemmas.Int.Digits.{digits_value-lt}
 use Rattle.std.specs.Char.{digit_value}
 use Rattle.std.specs.Str.Parse.{AllDigits, digits_value}
-use Rattle.ipnetwork_addr.specs.GroupFront.{NoHex, BeginsWithHex, BeginsWithGroup, NoGroup}
+use Rattle.ipnetwork_addr.specs.Private.GroupFront.{NoHex, BeginsWithHex, BeginsWithGroup, NoGroup}
 
 below : (text : List ℕ) (d : ℕ) (r : List ℕ) → (h : BeginsWithHex text d r) → digit_value h.byte < 16
 below text d r h = subst (λ (v : ℕ). v < 16) (sym h.value) h.below_sixteen

@@ -3,7 +3,7 @@ use Rattle.std.proofs.Common.{◌≡◌, ℕ, ◌+◌, ◌*◌, ◌/◌, ◌%◌
 use Rattle.std.proofs.lemmas.Bool.{cases_lt}
 use Rattle.std.proofs.lemmas.List.{append_cancel_left}
 use Rattle.std.proofs.lemmas.Fmt.{decimal_digit}
-use Rattle.ipnetwork_addr.specs.OctetFront.{NoDigit, BeginsWithDigit, BeginsWithOctet, NoOctet, BeginsWithDottedOctet}
+use Rattle.ipnetwork_addr.specs.Private.OctetFront.{NoDigit, BeginsWithDigit, BeginsWithOctet, NoOctet, BeginsWithDottedOctet}
 use Rattle.ipnetwork_addr.proofs.Decimals.{decimal_two, decimal_three}
 
 -- the byte is no decimal digit

@@ -8,6 +8,7 @@ ghost use Rattle.ipnetwork_addr.specs.Reading.{Reads};
 
 use crate::canonical::canonical_text;
 use crate::colons::read_address;
+use crate::group::append;
 use crate::{AddrParseError, TEXT_CAPACITY};
 use arrayvec::ArrayString;
 use std::fmt;
@@ -34,9 +35,9 @@ impl Ipv6Addr {
     pub fn new(a: u16, b: u16, c: u16, d: u16, e: u16, f: u16, g: u16, h: u16) -> Self
         ensures { result ≡ number_from_digits (2 ^ 16) (a ∷ b ∷ c ∷ d ∷ e ∷ f ∷ g ∷ h ∷ []) }
     {
-        let four = join(join(join(u128::from(a), b), c), d);
+        let four = append(append(append(u128::from(a), b), c), d);
         Ipv6Addr {
-            number: join(join(join(join(four, e), f), g), h),
+            number: append(append(append(append(four, e), f), g), h),
         }
     }
 
@@ -86,14 +87,6 @@ impl Ipv6Addr {
     {
         canonical_text(self.number, &self.segments())
     }
-}
-
-/// The number with one more digit in base 2^16.
-fn join(high: u128, low: u16) -> u128
-    requires { high < 2 ^ 112 }
-    ensures { result ≡ high * 2 ^ 16 + low }
-{
-    high * 0x1_0000 + u128::from(low)
 }
 
 /// The number without its last digit in base 2^16, and that digit.

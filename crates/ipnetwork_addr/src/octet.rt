@@ -2,7 +2,7 @@
 ghost use Rattle.std.specs.Prelude.{◌≡◌, ◌+◌, ◌<◌, ◌∷◌, MatchOption};
 ghost use Rattle.std.specs.Int.Digits.{number_from_digits};
 ghost use Rattle.ipnetwork_addr.specs.Ipv4Text.{NamesV4, NamesNoV4};
-ghost use Rattle.ipnetwork_addr.specs.OctetFront.{NoDigit, BeginsWithDigit, BeginsWithOctet, NoOctet, BeginsWithDottedOctet, NoDottedOctet};
+ghost use Rattle.ipnetwork_addr.specs.Private.OctetFront.{NoDigit, BeginsWithDigit, BeginsWithOctet, NoOctet, BeginsWithDottedOctet, NoDottedOctet};
 
 /// The greatest octet.
 const OCTET_MAX: u16 = 255;
