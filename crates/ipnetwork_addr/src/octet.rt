@@ -40,7 +40,8 @@ fn read_octet(text: &[u8]) -> Option<(u8, &[u8])>
     let Some((second, after_second)) = read_digit(after_first) else {
         return Some((first, after_first));
     };
-    if first == 0 {
+    let leading_zero = first == 0;
+    if leading_zero {
         return None;
     }
     let tens = first * 10 + second;
