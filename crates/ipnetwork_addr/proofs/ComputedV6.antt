@@ -308,6 +308,9 @@ gap_found ls rs left right e f room =
     let n : ℕ = number_from_digits (2 ^ 16) (ls ++ replicate (8 - length ls - length rs) 0 ++ rs) in
     (n, rw (e, f) (ap (λ v. cond v (Some n) None) (le-leb (length ls + length rs) 7 room)))
 
+found_where : (b : Bool) (o : Option ℕ) → b ≡ true → Found o → Found (cond b o None)
+found_where b o e h = (h.0, ap (λ v. cond v o None) e ∙ h.1)
+
 gap_at_found : (text l r ls rs : List ℕ) → text ≡ l ++ (58 ∷ 58 ∷ []) ++ r → IsPlain l ls → IsEnded r rs → length ls + length rs ≤ 7 → Found (gap_at text (length l))
 gap_at_found text l r ls rs cut plain ended room =
     let i : ℕ = length l in
@@ -317,12 +320,10 @@ gap_at_found text l r ls rs cut plain ended room =
     let back : drop (i + 2) text ≡ r = sym (drop-drop 2 i text) ∙ ap (drop 2) here in
     let test : bytes_eq (take 2 (drop i text)) (codes "::") ≡ true = (bytes_eq-Decides (take 2 (drop i text)) (codes "::")).1 (ap (take 2) here) in
     let left : plain_of (take i text) ≡ Some ls = ap plain_of front ∙ plain_complete l ls plain in
-    let found : Found (or_else (gap_number (plain_of (take i text)) (plain_of (drop (i + 2) text))) (gap_number (plain_of (take i text)) (dotted_of (drop (i + 2) text)))) =
-    elim ended [
+    found_where (bytes_eq (take 2 (drop i text)) (codes "::")) _ test (elim ended [
       | inl k ↦ found_first _ _ (gap_found ls rs _ _ left (ap plain_of back ∙ plain_complete r rs k) room)
       | inr k ↦ found_second _ _ (gap_found ls rs _ _ left (ap dotted_of back ∙ dotted_complete r rs k) room)
-    ] in
-    (found.0, ap (λ v. cond v (or_else (gap_number (plain_of (take i text)) (plain_of (drop (i + 2) text))) (gap_number (plain_of (take i text)) (dotted_of (drop (i + 2) text)))) None) test ∙ found.1)
+    ])
 
 gap_below_found : (text : List ℕ) (n i : ℕ) → i < n → Found (gap_at text i) → Found (gap_below text n)
 unfolding gap_below

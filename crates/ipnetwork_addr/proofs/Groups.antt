@@ -1,4 +1,4 @@
--- The group at the front of a text.
+-- The group that a text begins with.
 use Rattle.std.proofs.Common.{◌≡◌, ℕ, ◌+◌, ◌*◌, ◌^◌, ◌<◌, ◌≤◌, List, [], ◌∷◌, ◌++◌, length, get_or, drop, refl, sym, ap, ◌∙◌, subst, arith, lit≤}
 use Rattle.std.proofs.Math.Nat.{pow-le-pow_right}
 use Rattle.std.proofs.lemmas.Int.Digits.{digits_value-lt}
@@ -83,7 +83,7 @@ no_group_of_five text a r b s c t d u e v first second third fourth fifth group 
     go (x ∷ y ∷ z ∷ w ∷ []) some short split = goes_on u e v fifth (subst NoHex (sym (ap (drop 4) split) ∙ is_u) h.stops)
     go (x ∷ y ∷ z ∷ w ∷ q ∷ more) some short split = omega (arith, short)
 
--- ---- there is one group at the front, and one rest
+-- ---- a text begins with one group at most
 
 pub same_digits : (a b r s : List ℕ) → AllDigits 16 a → AllDigits 16 b → NoHex r → NoHex s → a ++ r ≡ b ++ s → (a ≡ b) × (r ≡ s)
 same_digits [] [] r s h k f g e = (refl, e)

@@ -1,4 +1,4 @@
-//! Reads the groups of an IPv6 text, from the front.
+//! Reads the groups of an IPv6 text, from left to right.
 ghost use Rattle.std.specs.Prelude.{◌≡◌, ◌≢◌, ℕ, ◌^◌, ◌+◌, ◌*◌, ◌<◌, ◌≤◌, List, ◌∷◌, MatchOption};
 ghost use Rattle.std.specs.Option.{option_copied};
 ghost use Rattle.ipnetwork_addr.specs.Ipv4Text.{NamesV4, NamesNoV4};
@@ -74,7 +74,8 @@ fn read_v4(text: &[u8]) -> Option<u32>
     }
 }
 
-/// The group at the front, which no further hex digit follows, and the rest.
+/// The group that the text begins with, up to the first byte that is no hex digit, and the text from
+/// there.
 fn read_group(text: &[u8]) -> Option<(u16, &[u8])>
     ensures { MatchOption result (NoGroup text.now) (λ found. BeginsWithGroup text.now found.0 found.1.now) }
 {
@@ -96,7 +97,7 @@ fn read_group(text: &[u8]) -> Option<(u16, &[u8])>
     }
 }
 
-/// The value of the hex digit at the front, and the rest.
+/// The value of the first byte as a hex digit, and the text behind it.
 fn read_hex(text: &[u8]) -> Option<(u16, &[u8])>
     ensures { MatchOption result (NoHex text.now) (λ found. BeginsWithHex text.now found.0 found.1.now) }
 {

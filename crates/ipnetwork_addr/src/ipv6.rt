@@ -67,7 +67,7 @@ impl Ipv6Addr {
     /// The address that a text names: eight groups of one to four hex digits of either case, joined by
     /// `:`, of which the last two may be an IPv4 text, and of which `::` may stand once for all the
     /// zero groups that are missing (RFC 4291, section 2.2), with nothing before or after. Any other
-    /// text is `AddrParseError::Ipv6`. Takes no memory.
+    /// text is `AddrParseError::Ipv6`. Does not allocate.
     pub fn read_bytes(text: &[u8]) -> Result<Self, AddrParseError>
         ensures { Reads NamesV6 AddrParseError.Ipv6 text.now result }
     {
@@ -77,9 +77,9 @@ impl Ipv6Addr {
         }
     }
 
-    /// The canonical text, at most 39 bytes: shortest lower-case hex, with `::` for the longest run of
-    /// two or more zero groups, the first one of that length (RFC 5952, section 4), and `::ffff:` and
-    /// an IPv4 text for the addresses of `::ffff:0:0/96` (section 5). Takes no memory.
+    /// The canonical text, at most 39 bytes (RFC 5952). An address of `::ffff:0:0/96` is `::ffff:` and
+    /// an IPv4 text (section 5). Any other is its groups in shortest lower-case hex, with `::` for the
+    /// longest run of two or more zero groups, and of two as long for the one on the left (section 4). Does not allocate.
     pub fn canonical(&self) -> ArrayString<TEXT_CAPACITY>
         ensures canonical { IsCanonicalV6 result.bytes self.now }
         ensures bytes { result.bytes ≡ canonical_v6 self.now }
