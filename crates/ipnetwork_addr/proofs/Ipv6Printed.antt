@@ -26,17 +26,17 @@ length-hex-le g fits = elim (cases_lt g 16) [
   ]
 ]
 
-IsGroup-hex : (g : ℕ) → g < 2 ^ 16 → IsGroup (hex g) g
-IsGroup-hex g fits =
+hex_is_group : (g : ℕ) → g < 2 ^ 16 → IsGroup (hex g) g
+hex_is_group g fits =
     let (numeral, value) = digits_is_IsNumeral 16 false (lit≤ tt) (lit≤ tt) g (omega arith) in
     record { digits = numeral; short = length-hex-le g fits; value = sym value }
 
 named_hex : (groups : List ℕ) → AllBelowBase (2 ^ 16) groups → AllZip IsGroup (map hex groups) groups
 named_hex [] fit = tt
-named_hex (g ∷ groups) fit = (IsGroup-hex g fit.0, named_hex groups fit.1)
+named_hex (g ∷ groups) fit = (hex_is_group g fit.0, named_hex groups fit.1)
 
-IsPlain-hex_groups : (groups : List ℕ) → AllBelowBase (2 ^ 16) groups → IsPlain (hex_groups groups) groups
-IsPlain-hex_groups groups fit = record { parts = map hex groups; spelled = refl; named = named_hex groups fit }
+hex_groups_are_plain : (groups : List ℕ) → AllBelowBase (2 ^ 16) groups → IsPlain (hex_groups groups) groups
+hex_groups_are_plain groups fit = record { parts = map hex groups; spelled = refl; named = named_hex groups fit }
 
 fit_take : (n : ℕ) (groups : List ℕ) → AllBelowBase (2 ^ 16) groups → AllBelowBase (2 ^ 16) (take n groups)
 fit_take zero groups h = tt
@@ -71,8 +71,8 @@ gap_named address groups text i n eight fit value gap spelled =
       low = drop (i + n) groups;
       missing = n;
       split = spelled;
-      high_groups = IsPlain-hex_groups _ (fit_take i groups fit);
-      low_groups = inl (IsPlain-hex_groups _ (fit_drop (i + n) groups fit));
+      high_groups = hex_groups_are_plain _ (fit_take i groups fit);
+      low_groups = inl (hex_groups_are_plain _ (fit_drop (i + n) groups fit));
       some_missing = omega (arith, gap.several);
       eight = omega (arith, front, back, eight, within);
       value = value ∙ ap (number_from_digits (2 ^ 16)) (put_back groups i n gap.zeros);
@@ -112,7 +112,7 @@ canonical_v6_names text address fits (Gap other i n gap spelled) =
     gap_named address (segments_of address) text i n refl (segments_fit address) (number-segments_of address fits) gap spelled
 canonical_v6_names text address fits (Whole other none spelled) = inl (record {
   groups = segments_of address;
-  ended = inl (rw spelled (IsPlain-hex_groups (segments_of address) (segments_fit address)));
+  ended = inl (rw spelled (hex_groups_are_plain (segments_of address) (segments_fit address)));
   eight = refl;
   value = number-segments_of address fits;
 })
