@@ -15,7 +15,8 @@ use Rattle.ipnetwork_addr.specs.Ipv6Text.{IsGroup, IsPlain, IsDotted, IsEnded, N
 use Rattle.ipnetwork_addr.specs.Ipv6Computed.{or_else, group_of, grouped, groups_of, halves_of, dotted_groups_of, colon_parts, plain_of, dotted_of, full_number, gap_number, gap_at, gap_below, v6_of}
 use Rattle.std.proofs.lemmas.Fmt.{decimal_is_IsNumeral}
 use Rattle.std.proofs.lemmas.Str.Parse.{digit_from_value}
-use Rattle.ipnetwork_addr.specs.OctetFront.{BeginsWithOctet, BeginsWithDottedOctet}
+use Rattle.ipnetwork_addr.specs.Private.OctetFront.{BeginsWithOctet, BeginsWithDottedOctet}
+use Rattle.ipnetwork_addr.proofs.Compressed.{room_of, compressed}
 use Rattle.ipnetwork_addr.proofs.Ipv4Lemmas.{reading_of}
 use Rattle.ipnetwork_addr.proofs.ComputedV4.{v4_of_sound, v4_of_complete}
 use Rattle.ipnetwork_addr.proofs.Ipv6Names.{v6_unique}
@@ -252,17 +253,7 @@ gap_sound text l r None right a cut plain ended e = absurd (none-some a e)
 gap_sound text l r (Some ls) None a cut plain ended e = absurd (none-some a e)
 gap_sound text l r (Some ls) (Some rs) a cut plain ended e =
     cond_both (nat_le (length ls + length rs) 7) _ _ (λ (o : Option ℕ). o ≡ Some a → NamesV6 text a)
-    (λ room f. inr (record {
-      left_text = l;
-      right_text = r;
-      left = ls;
-      right = rs;
-      spelled = cut;
-      left_plain = plain ls refl;
-      right_ended = ended rs refl;
-      room = leb-true (length ls + length rs) 7 room;
-      value = sym (same_Some _ a f);
-    }))
+    (λ room f. inr (compressed text l r ls rs a cut (plain ls refl) (ended rs refl) (leb-true (length ls + length rs) 7 room) (sym (same_Some _ a f))))
     (λ none f. absurd (none-some a f)) e
 
 or_else_sound : (P : ℕ → Type 0) (a b : Option ℕ) (x : ℕ) → ((y : ℕ) → a ≡ Some y → P y) → ((y : ℕ) → b ≡ Some y → P y) → or_else a b ≡ Some x → P x
@@ -317,6 +308,9 @@ gap_found ls rs left right e f room =
     let n : ℕ = number_from_digits (2 ^ 16) (ls ++ replicate (8 - length ls - length rs) 0 ++ rs) in
     (n, rw (e, f) (ap (λ v. cond v (Some n) None) (le-leb (length ls + length rs) 7 room)))
 
+found_where : (b : Bool) (o : Option ℕ) → b ≡ true → Found o → Found (cond b o None)
+found_where b o e h = (h.0, ap (λ v. cond v o None) e ∙ h.1)
+
 gap_at_found : (text l r ls rs : List ℕ) → text ≡ l ++ (58 ∷ 58 ∷ []) ++ r → IsPlain l ls → IsEnded r rs → length ls + length rs ≤ 7 → Found (gap_at text (length l))
 gap_at_found text l r ls rs cut plain ended room =
     let i : ℕ = length l in
@@ -326,12 +320,10 @@ gap_at_found text l r ls rs cut plain ended room =
     let back : drop (i + 2) text ≡ r = sym (drop-drop 2 i text) ∙ ap (drop 2) here in
     let test : bytes_eq (take 2 (drop i text)) (codes "::") ≡ true = (bytes_eq-Decides (take 2 (drop i text)) (codes "::")).1 (ap (take 2) here) in
     let left : plain_of (take i text) ≡ Some ls = ap plain_of front ∙ plain_complete l ls plain in
-    let found : Found (or_else (gap_number (plain_of (take i text)) (plain_of (drop (i + 2) text))) (gap_number (plain_of (take i text)) (dotted_of (drop (i + 2) text)))) =
-    elim ended [
+    found_where (bytes_eq (take 2 (drop i text)) (codes "::")) _ test (elim ended [
       | inl k ↦ found_first _ _ (gap_found ls rs _ _ left (ap plain_of back ∙ plain_complete r rs k) room)
       | inr k ↦ found_second _ _ (gap_found ls rs _ _ left (ap dotted_of back ∙ dotted_complete r rs k) room)
-    ] in
-    (found.0, ap (λ v. cond v (or_else (gap_number (plain_of (take i text)) (plain_of (drop (i + 2) text))) (gap_number (plain_of (take i text)) (dotted_of (drop (i + 2) text)))) None) test ∙ found.1)
+    ])
 
 gap_below_found : (text : List ℕ) (n i : ℕ) → i < n → Found (gap_at text i) → Found (gap_below text n)
 unfolding gap_below
@@ -348,10 +340,10 @@ found text a (inl h) = elim h.ended [
   | inr k ↦ found_second _ _ (found_first _ _ (number_from_digits (2 ^ 16) h.groups, full_complete h.groups (dotted_of text) (dotted_complete text h.groups k) h.eight))
 ]
 found text a (inr h) =
-    let count : length text ≡ length h.left_text + (2 + length h.right_text) =
-    ap length h.spelled ∙ length-append (h.left_text ++ (58 ∷ 58 ∷ [])) h.right_text ∙ (let k = length-append h.left_text (58 ∷ 58 ∷ []) in omega arith) in
-    found_second _ _ (found_second _ _ (gap_below_found text (length text) (length h.left_text) (omega arith)
-    (gap_at_found text h.left_text h.right_text h.left h.right h.spelled h.left_plain h.right_ended h.room)))
+    let count : length text ≡ length h.before + (2 + length h.behind) =
+    ap length h.split ∙ length-append (h.before ++ (58 ∷ 58 ∷ [])) h.behind ∙ (let k = length-append h.before (58 ∷ 58 ∷ []) in omega arith) in
+    found_second _ _ (found_second _ _ (gap_below_found text (length text) (length h.before) (omega arith)
+    (gap_at_found text h.before h.behind h.high h.low h.split h.high_groups h.low_groups (room_of text a h))))
 
 pub v6_of_complete : (text : List ℕ) (a : ℕ) → NamesV6 text a → v6_of text ≡ Some a
 v6_of_complete text a h =

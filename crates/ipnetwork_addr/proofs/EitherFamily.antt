@@ -7,7 +7,7 @@ use Rattle.ipnetwork_addr.specs.Ipv4Text.{NamesV4}
 use Rattle.ipnetwork_addr.specs.Ipv6Text.{NamesV6}
 use Rattle.ipnetwork_addr.specs.Ipv6Canonical.{canonical_v6}
 use Rattle.ipnetwork_addr.specs.Either.{NamesIp, canonical_ip, FitsIp}
-use Rattle.ipnetwork_addr.specs.GroupFront.{NoHex, IsPart, IsLeft}
+use Rattle.ipnetwork_addr.specs.Private.GroupFront.{NoHex, IsPart, IsLeft}
 use Rattle.ipnetwork_addr.proofs.Ipv4Lemmas.{v4_unique, canonical_v4_names}
 use Rattle.ipnetwork_addr.proofs.Parts.{v4_begins, IsLast, IsDot, IsGap, IsNext, kind_of, no_hex_no_group, nil_cons, other_first}
 use Rattle.ipnetwork_addr.proofs.Ipv6Names.{Shape, Full, Gapped, shape_of, v6_unique}

@@ -4,7 +4,7 @@ use Rattle.std.proofs.Math.Nat.{pow-le-pow_right}
 use Rattle.std.proofs.lemmas.Option.{none-some, same_Some}
 use Rattle.std.specs.Int.Digits.{number_from_digits}
 use Rattle.ipnetwork_addr.specs.Ipv6Text.{NamesV6, NamesNoV6}
-use Rattle.ipnetwork_addr.specs.GroupFront.{IsPart, BeginsWithPart, NoPart, IsLeft, BeginsWithLeft, NoLeft, IsRight, EndsWithRight, NoRight}
+use Rattle.ipnetwork_addr.specs.Private.GroupFront.{IsPart, BeginsWithPart, NoPart, IsLeft, BeginsWithLeft, NoLeft, IsRight, EndsWithRight, NoRight}
 use Rattle.ipnetwork_addr.proofs.Parts.{part_unique, no_part_of_nothing}
 use Rattle.ipnetwork_addr.proofs.Ipv6Names.{Shape, Full, Gapped, shape_of, names_of, left_unique}
 use Rattle.ipnetwork_addr.proofs.Shifts.{positive, number_with_gap}

@@ -1,10 +1,10 @@
--- The group at the front of a text.
+-- The group that a text begins with.
 use Rattle.std.proofs.Common.{◌≡◌, ℕ, ◌+◌, ◌*◌, ◌^◌, ◌<◌, ◌≤◌, List, [], ◌∷◌, ◌++◌, length, get_or, drop, refl, sym, ap, ◌∙◌, subst, arith, lit≤}
 use Rattle.std.proofs.Math.Nat.{pow-le-pow_right}
 use Rattle.std.proofs.lemmas.Int.Digits.{digits_value-lt}
 use Rattle.std.specs.Char.{digit_value}
 use Rattle.std.specs.Str.Parse.{AllDigits, digits_value}
-use Rattle.ipnetwork_addr.specs.GroupFront.{NoHex, BeginsWithHex, BeginsWithGroup, NoGroup}
+use Rattle.ipnetwork_addr.specs.Private.GroupFront.{NoHex, BeginsWithHex, BeginsWithGroup, NoGroup}
 
 below : (text : List ℕ) (d : ℕ) (r : List ℕ) → (h : BeginsWithHex text d r) → digit_value h.byte < 16
 below text d r h = subst (λ (v : ℕ). v < 16) (sym h.value) h.below_sixteen
@@ -83,7 +83,7 @@ no_group_of_five text a r b s c t d u e v first second third fourth fifth group 
     go (x ∷ y ∷ z ∷ w ∷ []) some short split = goes_on u e v fifth (subst NoHex (sym (ap (drop 4) split) ∙ is_u) h.stops)
     go (x ∷ y ∷ z ∷ w ∷ q ∷ more) some short split = omega (arith, short)
 
--- ---- there is one group at the front, and one rest
+-- ---- a text begins with one group at most
 
 pub same_digits : (a b r s : List ℕ) → AllDigits 16 a → AllDigits 16 b → NoHex r → NoHex s → a ++ r ≡ b ++ s → (a ≡ b) × (r ≡ s)
 same_digits [] [] r s h k f g e = (refl, e)

@@ -47,7 +47,7 @@ is_ended_bytes text groups (inr h) = subst (AllByRecursion IsAddressByte) (sym h
 pub v6_bytes : (text : List ℕ) (address : ℕ) → NamesV6 text address → AllByRecursion IsAddressByte text
 v6_bytes text address (inl h) = is_ended_bytes text h.groups h.ended
 v6_bytes text address (inr h) =
-    subst (AllByRecursion IsAddressByte) (sym h.spelled)
-    (AllBytes-append (h.left_text ++ 58 ∷ 58 ∷ []) h.right_text
-    (AllBytes-append h.left_text (58 ∷ 58 ∷ []) (is_plain_bytes h.left_text h.left h.left_plain) (Colon refl, (Colon refl, tt)))
-    (is_ended_bytes h.right_text h.right h.right_ended))
+    subst (AllByRecursion IsAddressByte) (sym h.split)
+    (AllBytes-append (h.before ++ 58 ∷ 58 ∷ []) h.behind
+    (AllBytes-append h.before (58 ∷ 58 ∷ []) (is_plain_bytes h.before h.high h.high_groups) (Colon refl, (Colon refl, tt)))
+    (is_ended_bytes h.behind h.low h.low_groups))

@@ -5,7 +5,8 @@ use Rattle.std.specs.List.{join_with_byte, AllZip}
 use Rattle.std.specs.Int.Digits.{number_from_digits}
 use Rattle.ipnetwork_addr.specs.Ipv4Text.{NamesV4}
 use Rattle.ipnetwork_addr.specs.Ipv6Text.{IsGroup, IsPlain, IsDotted, IsEnded, NamesV6, halves}
-use Rattle.ipnetwork_addr.specs.GroupFront.{NoHex, BeginsWithGroup, Last, Dotted, Gap, Next, IsPart, IsLeft, IsRight}
+use Rattle.ipnetwork_addr.specs.Private.GroupFront.{NoHex, BeginsWithGroup, Last, Dotted, Gap, Next, IsPart, IsLeft, IsRight}
+use Rattle.ipnetwork_addr.proofs.Compressed.{room_of, value_of, compressed}
 use Rattle.ipnetwork_addr.proofs.Parts.{part_unique, no_part_at_colon, no_part_of_nothing}
 
 -- the two forms of a text, in the words of the reader
@@ -75,7 +76,7 @@ left_of text left_text (g ∷ groups) next e h =
 pub shape_of : (text : List ℕ) (address : ℕ) → NamesV6 text address → Shape text address
 shape_of text address (inl h) = Full h.groups (ended_part text h.groups h.ended (omega (arith, h.eight))) h.eight h.value
 shape_of text address (inr h) =
-    Gapped h.left h.right h.right_text (left_of text h.left_text h.left h.right_text (h.spelled ∙ append_assoc h.left_text (58 ∷ 58 ∷ []) h.right_text) h.left_plain) (right_of h.right_text h.right h.right_ended) h.room h.value
+    Gapped h.high h.low h.behind (left_of text h.before h.high h.behind (h.split ∙ append_assoc h.before (58 ∷ 58 ∷ []) h.behind) h.high_groups) (right_of h.behind h.low h.low_groups) (room_of text address h) (value_of text address h)
 
 -- ---- and back
 
@@ -166,17 +167,7 @@ pub names_of : (text : List ℕ) (address : ℕ) → Shape text address → Name
 names_of text address (Full groups part eight value) = inl (record { groups = groups; ended = part_ended groups text part; eight = eight; value = value })
 names_of text address (Gapped left right next l r room value) =
     let front = left_text_of left text next l in
-    inr (record {
-      left_text = front.front;
-      right_text = next;
-      left = left;
-      right = right;
-      spelled = front.spelled ∙ sym (append_assoc front.front (58 ∷ 58 ∷ []) next);
-      left_plain = front.plain;
-      right_ended = right_ended right next r;
-      room = room;
-      value = value;
-    })
+    inr (compressed text front.front next left right address (front.spelled ∙ sym (append_assoc front.front (58 ∷ 58 ∷ []) next)) front.plain (right_ended right next r) room value)
 
 -- ---- there is one left part, and one right part
 

@@ -1,16 +1,15 @@
 -- The canonical text of an IPv6 address names it, and is one.
 use Rattle.std.proofs.Common.{◌≡◌, ◌↔◌, subst, ℕ, suc, zero, ◌+◌, ◌-◌, ◌%◌, ◌^◌, ◌<◌, ◌≤◌, false, List, [], ◌∷◌, ◌++◌, length, get_or, map, take, drop, replicate, refl, sym, ap, ◌∙◌, inl, inr, arith, lit≤, take-add, take-append-drop, length-take-le, length-drop}
-use Rattle.std.proofs.Common.{true≢false}
-use Rattle.std.proofs.lemmas.Bool.{cases_lt, cond_both, leb-true, leb-false}
-use Rattle.std.proofs.lemmas.Slice.Eq.{bytes_eq-Decides}
-use Rattle.ipnetwork_addr.proofs.Printed.{gap_found, no_gap}
+use Rattle.std.proofs.Common.{true≢false, eq-eqb, ◌/◌}
+use Rattle.std.proofs.lemmas.Bool.{cases_lt, cond_both, leb-true, leb-false, eqb-true}
+use Rattle.ipnetwork_addr.proofs.ZeroRuns.{gap_found, no_gap, run_is_zeros}
 use Rattle.std.specs.List.{AllZip}
 use Rattle.std.specs.Int.Digits.{number_from_digits, AllBelowBase}
 use Rattle.std.proofs.lemmas.Fmt.{digits_is_IsNumeral, hex_one_digit, hex_two_digits}
 use Rattle.ipnetwork_addr.specs.Digits.{segments_of}
 use Rattle.ipnetwork_addr.specs.Ipv4Text.{canonical_v4}
 use Rattle.ipnetwork_addr.specs.Ipv6Text.{IsGroup, IsPlain, NamesV6, halves}
-use Rattle.ipnetwork_addr.specs.Ipv6Canonical.{hex, hex_groups, IsMapped, IsGap, IsCanonicalV6, Mapped, Gap, Whole, longest_zero_run, canonical_v6}
+use Rattle.ipnetwork_addr.specs.Ipv6Canonical.{hex, hex_groups, IsMapped, IsZeroRun, IsGap, IsCanonicalV6, Mapped, Gap, Whole, gap_among, canonical_v6}
 use Rattle.ipnetwork_addr.proofs.Ipv4Lemmas.{canonical_v4_names}
 use Rattle.ipnetwork_addr.proofs.Ipv6Names.{v6_unique}
 use Rattle.ipnetwork_addr.proofs.Hexes.{hex_three, hex_four}
@@ -27,17 +26,17 @@ length-hex-le g fits = elim (cases_lt g 16) [
   ]
 ]
 
-IsGroup-hex : (g : ℕ) → g < 2 ^ 16 → IsGroup (hex g) g
-IsGroup-hex g fits =
+hex_is_group : (g : ℕ) → g < 2 ^ 16 → IsGroup (hex g) g
+hex_is_group g fits =
     let (numeral, value) = digits_is_IsNumeral 16 false (lit≤ tt) (lit≤ tt) g (omega arith) in
     record { digits = numeral; short = length-hex-le g fits; value = sym value }
 
 named_hex : (groups : List ℕ) → AllBelowBase (2 ^ 16) groups → AllZip IsGroup (map hex groups) groups
 named_hex [] fit = tt
-named_hex (g ∷ groups) fit = (IsGroup-hex g fit.0, named_hex groups fit.1)
+named_hex (g ∷ groups) fit = (hex_is_group g fit.0, named_hex groups fit.1)
 
-IsPlain-hex_groups : (groups : List ℕ) → AllBelowBase (2 ^ 16) groups → IsPlain (hex_groups groups) groups
-IsPlain-hex_groups groups fit = record { parts = map hex groups; spelled = refl; named = named_hex groups fit }
+hex_groups_are_plain : (groups : List ℕ) → AllBelowBase (2 ^ 16) groups → IsPlain (hex_groups groups) groups
+hex_groups_are_plain groups fit = record { parts = map hex groups; spelled = refl; named = named_hex groups fit }
 
 fit_take : (n : ℕ) (groups : List ℕ) → AllBelowBase (2 ^ 16) groups → AllBelowBase (2 ^ 16) (take n groups)
 fit_take zero groups h = tt
@@ -57,51 +56,42 @@ pub number-segments_of : (address : ℕ) → address < 2 ^ 128 → address ≡ n
 number-segments_of address fits = omega arith
 
 -- groups with a run of zeros left out, and put back
-put_back : (groups : List ℕ) (i n : ℕ) → length groups ≡ 8 → i + n ≤ 8 → take n (drop i groups) ≡ replicate n 0 → groups ≡ take i groups ++ replicate (8 - length (take i groups) - length (drop (i + n) groups)) 0 ++ drop (i + n) groups
-put_back groups i n eight within zeros =
-    let front = length-take-le i groups (omega arith) in
-    let back = length-drop (i + n) groups in
-    let gap : 8 - length (take i groups) - length (drop (i + n) groups) ≡ n = omega arith in
-    rw (gap, ← zeros, ← take-add i n groups) (sym (take-append-drop (i + n) groups))
+put_back : (groups : List ℕ) (i n : ℕ) → IsZeroRun groups i n → groups ≡ take i groups ++ replicate n 0 ++ drop (i + n) groups
+put_back groups i n run = rw (← run_is_zeros groups i n run, ← take-add i n groups) (sym (take-append-drop (i + n) groups))
 
 gap_named : (address : ℕ) (groups text : List ℕ) (i n : ℕ) → length groups ≡ 8 → AllBelowBase (2 ^ 16) groups → address ≡ number_from_digits (2 ^ 16) groups → IsGap groups i n → text ≡ hex_groups (take i groups) ++ (58 ∷ 58 ∷ []) ++ hex_groups (drop (i + n) groups) → NamesV6 text address
 gap_named address groups text i n eight fit value gap spelled =
-    let within : i + n ≤ 8 = omega (arith, gap.zeros.0) in
+    let within : i + n ≤ 8 = omega (arith, gap.zeros.there, eight) in
     let front = length-take-le i groups (omega arith) in
     let back = length-drop (i + n) groups in
-    let several : 2 ≤ n = gap.several in
     inr (record {
-      left_text = hex_groups (take i groups);
-      right_text = hex_groups (drop (i + n) groups);
-      left = take i groups;
-      right = drop (i + n) groups;
-      spelled = spelled;
-      left_plain = IsPlain-hex_groups _ (fit_take i groups fit);
-      right_ended = inl (IsPlain-hex_groups _ (fit_drop (i + n) groups fit));
-      room = omega arith;
-      value = value ∙ ap (number_from_digits (2 ^ 16)) (put_back groups i n eight within gap.zeros.1);
+      before = hex_groups (take i groups);
+      behind = hex_groups (drop (i + n) groups);
+      high = take i groups;
+      low = drop (i + n) groups;
+      missing = n;
+      split = spelled;
+      high_groups = hex_groups_are_plain _ (fit_take i groups fit);
+      low_groups = inl (hex_groups_are_plain _ (fit_drop (i + n) groups fit));
+      some_missing = omega (arith, gap.several);
+      eight = omega (arith, front, back, eight, within);
+      value = value ∙ ap (number_from_digits (2 ^ 16)) (put_back groups i n gap.zeros);
     })
 
 -- the number of an address that has an IPv4 address in it
-mapped_number : (address : ℕ) → address < 2 ^ 128 → IsMapped (segments_of address) → address ≡ number_from_digits (2 ^ 16) (0 ∷ 0 ∷ 0 ∷ 0 ∷ 0 ∷ 0xffff ∷ halves (address % 2 ^ 32))
-mapped_number address fits mapped =
-    let a = ap (λ t. get_or t 0 0) mapped in
-    let b = ap (λ t. get_or t 1 0) mapped in
-    let c = ap (λ t. get_or t 2 0) mapped in
-    let d = ap (λ t. get_or t 3 0) mapped in
-    let e = ap (λ t. get_or t 4 0) mapped in
-    let f = ap (λ t. get_or t 5 0) mapped in
-    omega arith
+mapped_number : (address : ℕ) → IsMapped address → address ≡ number_from_digits (2 ^ 16) (0 ∷ 0 ∷ 0 ∷ 0 ∷ 0 ∷ 0xffff ∷ halves (address % 2 ^ 32))
+mapped_number address mapped = omega (arith, mapped)
 
-mapped_named : (address : ℕ) (text : List ℕ) → address < 2 ^ 128 → IsMapped (segments_of address) → text ≡ (58 ∷ 58 ∷ 102 ∷ 102 ∷ 102 ∷ 102 ∷ 58 ∷ []) ++ canonical_v4 (address % 2 ^ 32) → NamesV6 text address
-mapped_named address text fits mapped spelled = inr (record {
-  left_text = [];
-  right_text = 102 ∷ 102 ∷ 102 ∷ 102 ∷ 58 ∷ canonical_v4 (address % 2 ^ 32);
-  left = [];
-  right = 0xffff ∷ halves (address % 2 ^ 32);
-  spelled = spelled;
-  left_plain = record { parts = []; spelled = refl; named = tt };
-  right_ended = inr (record {
+mapped_named : (address : ℕ) (text : List ℕ) → IsMapped address → text ≡ (58 ∷ 58 ∷ 102 ∷ 102 ∷ 102 ∷ 102 ∷ 58 ∷ []) ++ canonical_v4 (address % 2 ^ 32) → NamesV6 text address
+mapped_named address text mapped spelled = inr (record {
+  before = [];
+  behind = 102 ∷ 102 ∷ 102 ∷ 102 ∷ 58 ∷ canonical_v4 (address % 2 ^ 32);
+  high = [];
+  low = 0xffff ∷ halves (address % 2 ^ 32);
+  missing = 5;
+  split = spelled;
+  high_groups = record { parts = []; spelled = refl; named = tt };
+  low_groups = inr (record {
     parts = (102 ∷ 102 ∷ 102 ∷ 102 ∷ []) ∷ [];
     front = 0xffff ∷ [];
     last = canonical_v4 (address % 2 ^ 32);
@@ -111,17 +101,18 @@ mapped_named address text fits mapped spelled = inr (record {
     dotted = canonical_v4_names (address % 2 ^ 32) (omega arith);
     value = refl;
   });
-  room = lit≤ tt;
-  value = mapped_number address fits mapped;
+  some_missing = lit≤ tt;
+  eight = refl;
+  value = mapped_number address mapped;
 })
 
 pub canonical_v6_names : (text : List ℕ) (address : ℕ) → address < 2 ^ 128 → IsCanonicalV6 text address → NamesV6 text address
-canonical_v6_names text address fits (Mapped mapped spelled) = mapped_named address text fits mapped spelled
+canonical_v6_names text address fits (Mapped mapped spelled) = mapped_named address text mapped spelled
 canonical_v6_names text address fits (Gap other i n gap spelled) =
     gap_named address (segments_of address) text i n refl (segments_fit address) (number-segments_of address fits) gap spelled
 canonical_v6_names text address fits (Whole other none spelled) = inl (record {
   groups = segments_of address;
-  ended = inl (rw spelled (IsPlain-hex_groups (segments_of address) (segments_fit address)));
+  ended = inl (rw spelled (hex_groups_are_plain (segments_of address) (segments_fit address)));
   eight = refl;
   value = number-segments_of address fits;
 })
@@ -153,15 +144,14 @@ canonical_v6_unique address text other (Whole not none e) (Whole not' none' e') 
 pub canonical_v6_is : (address : ℕ) → IsCanonicalV6 (canonical_v6 address) address
 canonical_v6_is address =
     let groups = segments_of address in
-    let run = longest_zero_run groups in
-    let test = bytes_eq-Decides (take 6 groups) (0 ∷ 0 ∷ 0 ∷ 0 ∷ 0 ∷ 0xffff ∷ []) in
+    let gap = gap_among groups 8 in
     cond_both _ _ _ (λ text. IsCanonicalV6 text address)
-    (λ yes. Mapped (test.0 yes) refl)
+    (λ yes. Mapped (eqb-true (address / 2 ^ 32) 0xffff yes) refl)
     (λ no.
-    let other : ¬ (IsMapped groups) = λ mapped. true≢false (sym (test.1 mapped) ∙ no) in
+    let other : ¬ (IsMapped address) = λ mapped. true≢false (sym (eq-eqb (address / 2 ^ 32) 0xffff mapped) ∙ no) in
     cond_both _ _ _ (λ text. IsCanonicalV6 text address)
-    (λ several. Gap other run.0 run.1 (gap_found groups (leb-true 2 run.1 several)) refl)
-    (λ few. Whole other (no_gap groups (leb-false 2 run.1 few)) refl))
+    (λ several. Gap other gap.0 gap.1 (gap_found groups refl (leb-true 2 gap.1 several)) refl)
+    (λ few. Whole other (no_gap groups refl (leb-false 2 gap.1 few)) refl))
 
 pub canonical_v6_from : (text : List ℕ) (address : ℕ) → IsCanonicalV6 text address → text ≡ canonical_v6 address
 canonical_v6_from text address h = canonical_v6_unique address text (canonical_v6 address) h (canonical_v6_is address)

@@ -1,5 +1,6 @@
 pub mod AddressBytes
 pub mod ByteDigits
+pub mod Compressed
 pub mod ComputedReading
 pub mod ComputedV4
 pub mod ComputedV6

@@ -1,9 +1,9 @@
--- The octet at the front of a text.
+-- The octet that a text begins with.
 use Rattle.std.proofs.Common.{◌≡◌, ℕ, ◌+◌, ◌*◌, ◌/◌, ◌%◌, ◌<◌, ◌≤◌, ◌⊎◌, inl, inr, List, [], ◌∷◌, ◌++◌, get_or, decimal, refl, sym, ap, ◌∙◌, arith}
 use Rattle.std.proofs.lemmas.Bool.{cases_lt}
 use Rattle.std.proofs.lemmas.List.{append_cancel_left}
 use Rattle.std.proofs.lemmas.Fmt.{decimal_digit}
-use Rattle.ipnetwork_addr.specs.OctetFront.{NoDigit, BeginsWithDigit, BeginsWithOctet, NoOctet, BeginsWithDottedOctet}
+use Rattle.ipnetwork_addr.specs.Private.OctetFront.{NoDigit, BeginsWithDigit, BeginsWithOctet, NoOctet, BeginsWithDottedOctet}
 use Rattle.ipnetwork_addr.proofs.Decimals.{decimal_two, decimal_three}
 
 -- the byte is no decimal digit
@@ -48,7 +48,7 @@ three_digits text a r b s c rest n first second third positive value bound stops
       stops = stops;
     }
 
--- ---- the bytes at the front of a text that begins with an octet
+-- ---- the first bytes of a text that begins with an octet
 
 -- the first bytes, of one, two or three digits, and that no digit follows them
 data Bytes (text : List ℕ) (n : ℕ) : Type 0 where
@@ -132,7 +132,7 @@ no_octet_of_three text a r b s c t first second third over n rest h = go (bytes_
     go (Three low high e f g stops) (inl past) = let i = is_a in let j = is_b in let k = is_c in omega arith
     go (Three low high e f g stops) (inr digit) = digit (rw (← is_next) stops)
 
--- ---- there is one octet at the front, and one rest
+-- ---- a text begins with one octet at most
 
 same_octet : (text : List ℕ) (n m : ℕ) → Bytes text n → Bytes text m → n ≡ m
 same_octet text n m (One below e stops) (One below' e' stops') = omega arith

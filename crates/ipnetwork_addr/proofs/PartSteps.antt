@@ -6,7 +6,7 @@ use Rattle.std.proofs.lemmas.Int.Digits.{number_after_append}
 use Rattle.std.specs.Int.Digits.{number_from_digits}
 use Rattle.ipnetwork_addr.specs.Ipv4Text.{NamesV4, NamesNoV4}
 use Rattle.ipnetwork_addr.specs.Ipv6Text.{halves}
-use Rattle.ipnetwork_addr.specs.GroupFront.{BeginsWithGroup, NoGroup, Last, Dotted, Gap, Next, IsPart, BeginsWithPart, NoPart}
+use Rattle.ipnetwork_addr.specs.Private.GroupFront.{BeginsWithGroup, NoGroup, Last, Dotted, Gap, Next, IsPart, BeginsWithPart, NoPart}
 use Rattle.ipnetwork_addr.proofs.Groups.{group_fits}
 use Rattle.ipnetwork_addr.proofs.Parts.{IsLast, IsDot, IsGap, IsNext, kind_of, no_group_no_part, nil_cons, other_first}
 

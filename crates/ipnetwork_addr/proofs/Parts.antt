@@ -5,7 +5,7 @@ use Rattle.std.specs.Char.{digit_value}
 use Rattle.std.specs.Str.Parse.{AllDigits, digits_value}
 use Rattle.ipnetwork_addr.specs.Ipv4Text.{NamesV4}
 use Rattle.ipnetwork_addr.specs.Ipv6Text.{halves}
-use Rattle.ipnetwork_addr.specs.GroupFront.{NoHex, BeginsWithGroup, NoGroup, Last, Dotted, Gap, Next, IsPart}
+use Rattle.ipnetwork_addr.specs.Private.GroupFront.{NoHex, BeginsWithGroup, NoGroup, Last, Dotted, Gap, Next, IsPart}
 use Rattle.ipnetwork_addr.proofs.Groups.{group_unique}
 use Rattle.ipnetwork_addr.proofs.Ipv4Lemmas.{reading_of, v4_unique}
 

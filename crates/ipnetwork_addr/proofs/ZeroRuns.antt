@@ -1,92 +1,172 @@
--- The longest run of zeros, the first one of that length.
-use Rattle.std.proofs.Common.{◌≡◌, ℕ, zero, suc, ◌+◌, ◌-◌, ◌<◌, ◌≤◌, ◌==◌, cond, List, [], ◌∷◌, length, get_or, take, drop, replicate, drop-cons, length-drop, Bool, true, false, refl, sym, ap, ap₂, ◌∙◌, subst, arith, lit≤}
+-- The leftmost of the longest runs of zero groups is found.
+use Rattle.std.proofs.Common.{◌≡◌, ◌≢◌, ℕ, zero, suc, ◌+◌, ◌-◌, ◌<◌, ◌≤◌, ◌==◌, List, [], ◌∷◌, length, get_or, take, drop, replicate, drop-cons, length-drop, get_or-drop, cond, ne_eqb, refl, sym, ap, ap₂, ◌∙◌, subst, arith, inl, inr}
 use Rattle.std.specs.Prelude.{nat_le}
-use Rattle.std.proofs.lemmas.Bool.{cond_both, leb-true, leb-false, eqb-true}
-use Rattle.ipnetwork_addr.specs.Ipv6Canonical.{IsZeroRun, zeros_in_front, longest_zero_run}
+use Rattle.std.proofs.lemmas.Bool.{cond_both, leb-true, leb-false, eqb-true, cases_eq, cases_lt}
+use Rattle.ipnetwork_addr.specs.Ipv6Canonical.{IsZeroRun, IsGap, zeros_in_front, gap_among}
 
-zeros_are : (groups : List ℕ) → (zeros_in_front groups ≤ length groups) × (take (zeros_in_front groups) groups ≡ replicate (zeros_in_front groups) 0)
-zeros_are [] = (lit≤ tt, refl)
-zeros_are (g ∷ groups) =
-    let more = zeros_are groups in
-    cond_both (g == 0) (suc (zeros_in_front groups)) 0 (λ n. (n ≤ length (g ∷ groups)) × (take n (g ∷ groups) ≡ replicate n 0))
-    (λ zeros. (omega (arith, more.0), ap₂ (λ x xs. x ∷ xs) (eqb-true g 0 zeros) more.1))
-    (λ other. (omega arith, refl))
+-- ---- the zeros before the first other group
 
-zeros_most : (groups : List ℕ) (m : ℕ) → m ≤ length groups → take m groups ≡ replicate m 0 → m ≤ zeros_in_front groups
-zeros_most groups zero h e = omega arith
-zeros_most [] (suc m) h e = absurd (omega (arith, h))
-zeros_most (g ∷ groups) (suc m) h e =
-    let is_zero : g ≡ 0 = ap (λ t. get_or t 0 0) e in
-    let more = zeros_most groups m (omega (arith, h)) (ap (drop 1) e) in
+pub zeros_fit : (groups : List ℕ) → zeros_in_front groups ≤ length groups
+zeros_fit [] = omega arith
+zeros_fit (g ∷ groups) =
+    let more = zeros_fit groups in
+    cond_both (g == 0) (suc (zeros_in_front groups)) 0 (λ n. n ≤ length (g ∷ groups)) (λ _. omega (arith, more)) (λ _. omega arith)
+
+zero_first : (g : ℕ) (groups : List ℕ) → g ≡ 0 → ((place : ℕ) → place < zeros_in_front groups → get_or groups place 0 ≡ 0) → (place : ℕ) → place < suc (zeros_in_front groups) → get_or (g ∷ groups) place 0 ≡ 0
+zero_first g groups e later zero h = e
+zero_first g groups e later (suc place) h = later place (omega (arith, h))
+
+zeros_are : (groups : List ℕ) (place : ℕ) → place < zeros_in_front groups → get_or groups place 0 ≡ 0
+zeros_are [] place h = refl
+zeros_are (g ∷ groups) place h =
+    let later : (p : ℕ) → p < zeros_in_front groups → get_or groups p 0 ≡ 0 = zeros_are groups in
+    cond_both (g == 0) (suc (zeros_in_front groups)) 0 (λ n. place < n → get_or (g ∷ groups) place 0 ≡ 0)
+    (λ is_zero k. zero_first g groups (eqb-true g 0 is_zero) later place k)
+    (λ other k. absurd (omega (arith, k))) h
+
+zeros_most : (groups : List ℕ) (n : ℕ) → n ≤ length groups → ((place : ℕ) → place < n → get_or groups place 0 ≡ 0) → n ≤ zeros_in_front groups
+zeros_most groups zero within zeros = omega arith
+zeros_most [] (suc n) within zeros = absurd (omega (arith, within))
+zeros_most (g ∷ groups) (suc n) within zeros =
+    let is_zero : g ≡ 0 = zeros 0 (omega arith) in
+    let more = zeros_most groups n (omega (arith, within)) (λ place below. zeros (suc place) (omega (arith, below))) in
     rw is_zero (omega (arith, more))
 
-pub IsZeroRun-longest_zero_run : (groups : List ℕ) → IsZeroRun groups (longest_zero_run groups).0 (longest_zero_run groups).1
-IsZeroRun-longest_zero_run [] = (lit≤ tt, refl)
-IsZeroRun-longest_zero_run (g ∷ groups) =
-    let here : ℕ = zeros_in_front (g ∷ groups) in
-    let later = longest_zero_run groups in
-    let more = IsZeroRun-longest_zero_run groups in
-    let own = zeros_are (g ∷ groups) in
-    cond_both {A = ℕ × ℕ} (nat_le later.1 here) (0, here) (suc later.0, later.1) (λ run. IsZeroRun (g ∷ groups) run.0 run.1)
-    (λ yes. (omega (arith, own.0), own.1))
-    (λ no. (omega (arith, more.0), more.1))
+-- ---- the run that begins at a group
 
-pub longest_zero_run_first : (groups : List ℕ) (j m : ℕ) → IsZeroRun groups j m → (m ≤ (longest_zero_run groups).1) × (m ≡ (longest_zero_run groups).1 → (longest_zero_run groups).0 ≤ j)
-longest_zero_run_first [] j m run = (omega (arith, run.0), λ e. omega arith)
-longest_zero_run_first (g ∷ groups) zero m run =
-    let here : ℕ = zeros_in_front (g ∷ groups) in
-    let later = longest_zero_run groups in
-    let most : m ≤ here = zeros_most (g ∷ groups) m (omega (arith, run.0)) run.1 in
-    cond_both {A = ℕ × ℕ} (nat_le later.1 here) (0, here) (suc later.0, later.1) (λ found. (m ≤ found.1) × (m ≡ found.1 → found.0 ≤ zero))
-    (λ yes. (most, λ e. omega arith))
-    (λ no. let short = leb-false later.1 here no in (omega (arith, most, short), λ e. absurd (omega (arith, most, short, e))))
-longest_zero_run_first (g ∷ groups) (suc j) m run =
-    let here : ℕ = zeros_in_front (g ∷ groups) in
-    let later = longest_zero_run groups in
-    let more = longest_zero_run_first groups j m (omega (arith, run.0), run.1) in
-    cond_both {A = ℕ × ℕ} (nat_le later.1 here) (0, here) (suc later.0, later.1) (λ found. (m ≤ found.1) × (m ≡ found.1 → found.0 ≤ suc j))
-    (λ yes. let long = leb-true later.1 here yes in (omega (arith, more.0, long), λ e. omega arith))
-    (λ no. (more.0, λ e. omega (arith, more.1 e)))
+abbrev run_at : List ℕ → ℕ → ℕ
+run_at groups start = zeros_in_front (drop start groups)
 
--- ---- the scan, from the end
+run_there : (groups : List ℕ) (start : ℕ) → start ≤ length groups → IsZeroRun groups start (run_at groups start)
+run_there groups start within = record {
+  there = omega (arith, zeros_fit (drop start groups), length-drop start groups, within);
+  zero_groups = λ place from below. zero_at place from below;
+}
+  where
+    zero_at : (place : ℕ) → start ≤ place → place < start + run_at groups start → get_or groups place 0 ≡ 0
+    zero_at place from below =
+        let k : ℕ = place - start in
+        let e : start + k ≡ place = omega (arith, from) in
+        ap (λ p. get_or groups p 0) (sym e) ∙ sym (get_or-drop start groups k 0) ∙ zeros_are (drop start groups) k (omega (arith, below, from))
 
-pub record IsScanned (groups : List ℕ) (start run longest_start longest_len : ℕ) : Type 0 where
-  pub runs : run ≡ zeros_in_front (drop start groups)
-  pub starts : longest_start ≡ start + (longest_zero_run (drop start groups)).0
-  pub is_long : longest_len ≡ (longest_zero_run (drop start groups)).1
-  pub short : run ≤ length groups - start
+run_most : (groups : List ℕ) (start n : ℕ) → IsZeroRun groups start n → n ≤ run_at groups start
+run_most groups start n run =
+    zeros_most (drop start groups) n (omega (arith, run.there, length-drop start groups))
+    (λ place below. get_or-drop start groups place 0 ∙ run.zero_groups (start + place) (omega arith) (omega (arith, below)))
 
--- the answer of the scan at a group, from the answer behind it
-abbrev better : ℕ → ℕ → ℕ → ℕ × ℕ
-better later_start later_len run = cond (nat_le later_len run) (0, run) (suc later_start, later_len)
+-- ---- the longest of the runs that begin at the first groups
 
-better_is : (b : Bool) (at run start len later : ℕ) (found : ℕ × ℕ) → start ≡ at + 1 + later → found ≡ cond b (at, run) (start, len) → (found.0 ≡ at + (cond {A = ℕ × ℕ} b (0, run) (suc later, len)).0) × (found.1 ≡ (cond {A = ℕ × ℕ} b (0, run) (suc later, len)).1)
-better_is true at run start len later found e f = (ap (λ p. p.0) f ∙ omega arith, ap (λ p. p.1) f)
-better_is false at run start len later found e f = (ap (λ p. p.0) f ∙ omega (arith, e), ap (λ p. p.1) f)
+record IsLongest (groups : List ℕ) (count : ℕ) (found : ℕ × ℕ) : Type 0 where
+  is_run : IsZeroRun groups found.0 found.1
+  among : found.0 ≤ count
+  none_longer : (start : ℕ) → start < count → run_at groups start ≤ found.1
+  none_before : (start : ℕ) → start < count → run_at groups start ≡ found.1 → found.0 ≤ start
 
-scanned_at : (groups : List ℕ) (at before run start len next : ℕ) (found : ℕ × ℕ) → IsScanned groups before run start len → before ≡ at + 1 → at < length groups → next ≡ cond (get_or groups at 0 == 0) (suc run) 0 → found ≡ cond (nat_le len next) (at, next) (start, len) → IsScanned groups at next found.0 found.1
-scanned_at groups at before run start len next found h is_before within is_next is_found =
-    let g : ℕ = get_or groups at 0 in
-    let later = longest_zero_run (drop before groups) in
-    let step : suc at ≡ before = omega (arith, is_before) in
-    let e : drop at groups ≡ g ∷ drop before groups = drop-cons groups at 0 within ∙ ap (λ n. g ∷ drop n groups) step in
-    let runs : next ≡ zeros_in_front (drop at groups) =
-    is_next ∙ ap (λ r. cond (g == 0) (suc r) 0) h.runs ∙ sym (ap zeros_in_front e) in
-    let here : next ≡ zeros_in_front (g ∷ drop before groups) = runs ∙ ap zeros_in_front e in
-    let whole : longest_zero_run (drop at groups) ≡ better later.0 len next =
-    ap longest_zero_run e ∙ ap (λ l. better later.0 l (zeros_in_front (g ∷ drop before groups))) (sym h.is_long) ∙ ap (better later.0 len) (sym here) in
-    let picked = better_is (nat_le len next) at next start len later.0 found (h.starts ∙ ap (λ n. n + later.0) is_before) is_found in
+nothing : (groups : List ℕ) → IsZeroRun groups 0 0
+nothing groups = record { there = omega arith; zero_groups = λ place from below. absurd (omega (arith, below)) }
+
+longest_among : (groups : List ℕ) (count : ℕ) → count ≤ length groups → IsLongest groups count (gap_among groups count)
+longest_among groups zero within = record {
+  is_run = nothing groups;
+  among = omega arith;
+  none_longer = λ start below. absurd (omega (arith, below));
+  none_before = λ start below. absurd (omega (arith, below));
+}
+longest_among groups (suc count) within =
+    let left : ℕ × ℕ = gap_among groups count in
+    let right : ℕ × ℕ = (count, run_at groups count) in
+    let h = longest_among groups count (omega (arith, within)) in
+    cond_both {A = ℕ × ℕ} (nat_le right.1 left.1) left right (IsLongest groups (suc count))
+    (λ yes.
+    let short : run_at groups count ≤ left.1 = leb-true right.1 left.1 yes in
     record {
-      runs = runs;
-      starts = picked.0 ∙ ap (λ p. at + p.0) (sym whole);
-      is_long = picked.1 ∙ ap (λ p. p.1) (sym whole);
-      short = omega (arith, runs, (zeros_are (drop at groups)).0, length-drop at groups);
-    }
+      is_run = h.is_run;
+      among = omega (arith, h.among);
+      none_longer = λ start below. elim (cases_eq start count) [
+        | inl same ↦ rw same short
+        | inr other ↦ h.none_longer start (omega (arith, below, other))
+      ];
+      none_before = λ start below e. elim (cases_eq start count) [
+        | inl same ↦ omega (arith, same, h.among)
+        | inr other ↦ h.none_before start (omega (arith, below, other)) e
+      ];
+    })
+    (λ no.
+    let long : left.1 < run_at groups count = leb-false right.1 left.1 no in
+    record {
+      is_run = run_there groups count (omega (arith, within));
+      among = omega arith;
+      none_longer = λ start below. elim (cases_eq start count) [
+        | inl same ↦ rw same (omega arith)
+        | inr other ↦ omega (arith, h.none_longer start (omega (arith, below, other)), long)
+      ];
+      none_before = λ start below e. elim (cases_eq start count) [
+        | inl same ↦ omega (arith, same)
+        | inr other ↦ absurd (omega (arith, h.none_longer start (omega (arith, below, other)), long, e))
+      ];
+    })
 
-pub scanned_more : (groups : List ℕ) (to at before run start len next : ℕ) (found : ℕ × ℕ) → IsScanned groups before run start len → to ≡ at → before ≡ at + 1 → at < length groups → next ≡ cond (get_or groups at 0 == 0) (suc run) 0 → found ≡ cond (nat_le len next) (at, next) (start, len) → IsScanned groups to next found.0 found.1
-scanned_more groups to at before run start len next found h same is_before within is_next is_found =
-    subst (λ (n : ℕ). IsScanned groups n next found.0 found.1) (sym same) (scanned_at groups at before run start len next found h is_before within is_next is_found)
+-- ---- of eight groups
 
-pub scanned_within : (groups : List ℕ) (at run start len : ℕ) → IsScanned groups at run start len → length groups ≡ 8 → at ≡ 0 → start + len ≤ 8
-scanned_within groups at run start len h eight end =
-    omega (arith, h.starts, h.is_long, (IsZeroRun-longest_zero_run (drop at groups)).0, length-drop at groups, eight, end)
+module _ (groups : List ℕ) (eight : length groups ≡ 8) where
+  found : IsLongest groups 8 (gap_among groups 8)
+  found = longest_among groups 8 (omega (arith, eight))
+
+  gap_within : (gap_among groups 8).0 + (gap_among groups 8).1 ≤ 8
+  gap_within = omega (arith, found.is_run.there, eight)
+
+  none_longer_than : (start n : ℕ) → IsZeroRun groups start n → n ≤ (gap_among groups 8).1
+  none_longer_than start n run = elim (cases_lt start 8) [
+    | inl below ↦ omega (arith, run_most groups start n run, found.none_longer start below)
+    | inr past ↦ omega (arith, run.there, eight, past)
+  ]
+
+  pub gap_found : 2 ≤ (gap_among groups 8).1 → IsGap groups (gap_among groups 8).0 (gap_among groups 8).1
+  gap_found several = record {
+    several = several;
+    zeros = found.is_run;
+    longest = none_longer_than;
+    leftmost = λ start run.
+        let below : start < 8 = omega (arith, run.there, eight, several) in
+        found.none_before start below (omega (arith, run_most groups start _ run, found.none_longer start below));
+  }
+
+  pub no_gap : (gap_among groups 8).1 < 2 → (i n : ℕ) → ¬ (IsGap groups i n)
+  no_gap few i n gap = omega (arith, none_longer_than i n gap.zeros, gap.several, few)
+
+-- the same of the printer's answer
+pub gap_ends : (groups : List ℕ) (start : ℕ) (longest : ℕ × ℕ) → length groups ≡ 8 → start ≡ 8 → longest ≡ gap_among groups start → longest.0 + longest.1 ≤ 8
+gap_ends groups start longest eight end e =
+    subst (λ (run : ℕ × ℕ). run.0 + run.1 ≤ 8) (sym (e ∙ ap (gap_among groups) end)) (gap_within groups eight)
+
+-- ---- the groups of a run
+
+all_zeros : (n : ℕ) (groups : List ℕ) → n ≤ length groups → ((place : ℕ) → place < n → get_or groups place 0 ≡ 0) → take n groups ≡ replicate n 0
+all_zeros zero groups within zeros = refl
+all_zeros (suc n) [] within zeros = absurd (omega (arith, within))
+all_zeros (suc n) (g ∷ groups) within zeros =
+    ap₂ (λ x xs. x ∷ xs) (zeros 0 (omega arith)) (all_zeros n groups (omega (arith, within)) (λ place below. zeros (suc place) (omega (arith, below))))
+
+pub run_is_zeros : (groups : List ℕ) (i n : ℕ) → IsZeroRun groups i n → take n (drop i groups) ≡ replicate n 0
+run_is_zeros groups i n run =
+    all_zeros n (drop i groups) (omega (arith, run.there, length-drop i groups))
+    (λ place below. get_or-drop i groups place 0 ∙ run.zero_groups (i + place) (omega arith) (omega (arith, below)))
+
+-- ---- the printer's count of zeros
+
+module _ (groups : List ℕ) (count : ℕ) (counted : zeros_in_front groups ≡ count + zeros_in_front (drop count groups)) where
+  pub zeros_more : (next : ℕ) → next ≡ count + 1 → count < length groups → get_or groups count 0 ≡ 0 → zeros_in_front groups ≡ next + zeros_in_front (drop next groups)
+  zeros_more next is_next within is_zero =
+      let step : suc count ≡ next = omega (arith, is_next) in
+      let here : drop count groups ≡ 0 ∷ drop next groups = drop-cons groups count 0 within ∙ ap₂ (λ x n. x ∷ drop n groups) is_zero step in
+      let later : zeros_in_front (drop count groups) ≡ suc (zeros_in_front (drop next groups)) = ap zeros_in_front here in
+      omega (arith, counted, later, is_next)
+
+  pub zeros_stop : count < length groups → get_or groups count 0 ≢ 0 → count ≡ zeros_in_front groups
+  zeros_stop within other =
+      let here : drop count groups ≡ get_or groups count 0 ∷ drop (suc count) groups = drop-cons groups count 0 within in
+      let none : zeros_in_front (drop count groups) ≡ 0 = ap zeros_in_front here ∙ ap (λ b. cond b (suc (zeros_in_front (drop (suc count) groups))) 0) (ne_eqb (get_or groups count 0) 0 other) in
+      omega (arith, counted, none)
+
+  pub zeros_end : count ≡ length groups → count ≡ zeros_in_front groups
+  zeros_end e = omega (arith, counted, e, zeros_fit (drop count groups), length-drop count groups)

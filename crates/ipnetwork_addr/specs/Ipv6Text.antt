@@ -1,5 +1,5 @@
 -- Which texts name an IPv6 address: the three forms of RFC 4291, section 2.2.
-use Rattle.std.specs.Prelude.{◌≡◌, ℕ, ◌+◌, ◌-◌, ◌/◌, ◌%◌, ◌^◌, ◌≤◌, ◌⊎◌, List, [], ◌∷◌, ◌++◌, length, replicate, codes}
+use Rattle.std.specs.Prelude.{◌≡◌, ℕ, ◌+◌, ◌/◌, ◌%◌, ◌^◌, ◌≤◌, ◌⊎◌, List, [], ◌∷◌, ◌++◌, length, replicate, codes}
 use Rattle.std.specs.List.{join_with_byte, AllZip}
 use Rattle.std.specs.Int.Digits.{number_from_digits}
 use Rattle.std.specs.Str.Parse.{IsNumeral, digits_value}
@@ -42,21 +42,23 @@ pub record IsFull (text : List ℕ) (address : ℕ) : Type 0 where
   pub eight : length groups ≡ 8
   pub value : address ≡ number_from_digits (2 ^ 16) groups
 
--- at most seven groups, with `::` for the zero groups that are missing to eight
-pub record HasGap (text : List ℕ) (address : ℕ) : Type 0 where
-  pub left_text : List ℕ
-  pub right_text : List ℕ
-  pub left : List ℕ
-  pub right : List ℕ
-  pub spelled : text ≡ left_text ++ codes "::" ++ right_text
-  pub left_plain : IsPlain left_text left
-  pub right_ended : IsEnded right_text right
-  pub room : length left + length right ≤ 7
-  pub value : address ≡ number_from_digits (2 ^ 16) (left ++ replicate (8 - length left - length right) 0 ++ right)
+-- an address of which some zero groups are not written: a `::` stands in their place, and with them there are eight
+pub record IsCompressed (text : List ℕ) (address : ℕ) : Type 0 where
+  pub before : List ℕ
+  pub behind : List ℕ
+  pub high : List ℕ
+  pub low : List ℕ
+  pub missing : ℕ
+  pub split : text ≡ before ++ codes "::" ++ behind
+  pub high_groups : IsPlain before high
+  pub low_groups : IsEnded behind low
+  pub some_missing : 1 ≤ missing
+  pub eight : length high + missing + length low ≡ 8
+  pub value : address ≡ number_from_digits (2 ^ 16) (high ++ replicate missing 0 ++ low)
 
 -- the text names the address
 abbrev pub NamesV6 : List ℕ → ℕ → Type 0
-NamesV6 text address = IsFull text address ⊎ HasGap text address
+NamesV6 text address = IsFull text address ⊎ IsCompressed text address
 
 -- the text names no IPv6 address
 abbrev pub NamesNoV6 : List ℕ → Type 0

@@ -1,11 +1,10 @@
 pub mod Digits
 pub mod Either
 pub mod Faults
-pub mod GroupFront
 pub mod Ipv4Text
 pub mod Ipv6Canonical
 pub mod Ipv6Computed
 pub mod Ipv6Text
-pub mod OctetFront
+pub mod Private
 pub mod Reading
 pub mod Texts

@@ -2,11 +2,11 @@
 use Rattle.std.specs.Prelude.{◌≡◌, ℕ, ◌≤◌, List}
 use Rattle.std.specs.List.{join_with_byte, AllZip}
 
--- `b'.'`
+-- the byte `.`
 abbrev pub dot : ℕ
 dot = 46
 
--- `b':'`
+-- the byte `:`
 abbrev pub colon : ℕ
 colon = 58
 

@@ -1,7 +1,7 @@
 //! The canonical text of an IPv6 address.
-ghost use Rattle.std.specs.Prelude.{◌≡◌, ◌↔◌, ℕ, suc, zero, ◌+◌, ◌%◌, ◌^◌, ◌<◌, ◌≤◌, ◌==◌, nat_le, if◌then◌else◌, length, IsTrue};
+ghost use Rattle.std.specs.Prelude.{◌≡◌, ◌↔◌, ℕ, suc, zero, ◌+◌, ◌/◌, ◌%◌, ◌^◌, ◌<◌, ◌≤◌, nat_le, if◌then◌else◌, length, IsTrue};
 ghost use Rattle.ipnetwork_addr.specs.Digits.{segments_of};
-ghost use Rattle.ipnetwork_addr.specs.Ipv6Canonical.{IsMapped, IsCanonicalV6, longest_zero_run};
+ghost use Rattle.ipnetwork_addr.specs.Ipv6Canonical.{IsMapped, IsCanonicalV6, zeros_in_front, longer_run, gap_among};
 
 use crate::hexadecimal::push_groups;
 use crate::{Ipv4Addr, TEXT_CAPACITY};
@@ -10,19 +10,22 @@ use arrayvec::ArrayString;
 /// The fewest zero groups that are written as `::`.
 const SHORTEST_GAP: usize = 2;
 
+/// The high 96 bits of an address that holds an IPv4 address, `::ffff:0:0/96`.
+const MAPPED_PREFIX: u128 = 0xffff;
+
 /// The canonical text of the address of this number, which has these groups.
 pub(crate) fn canonical_text(number: u128, groups: &[u16; 8]) -> ArrayString<TEXT_CAPACITY>
     requires { groups.now ≡ segments_of number }
     ensures { IsCanonicalV6 result.bytes number }
 {
     let mut text = ArrayString::new();
-    if is_mapped(groups) {
+    if is_mapped(number) {
         let last = Ipv4Addr::from((number % 0x1_0000_0000) as u32).canonical();
         text.push_str("::ffff:");
         text.push_str(last.as_str());
         return text;
     }
-    let (start, len) = longest_zero_run(groups);
+    let (start, len) = longest_gap(groups);
     if len >= SHORTEST_GAP {
         push_groups(&mut text, &groups[..start]);
         text.push_str("::");
@@ -33,39 +36,42 @@ pub(crate) fn canonical_text(number: u128, groups: &[u16; 8]) -> ArrayString<TEX
     text
 }
 
-fn is_mapped(groups: &[u16; 8]) -> bool
-    ensures { IsTrue result ↔ IsMapped groups.now }
+/// Whether the address of this number holds an IPv4 address.
+fn is_mapped(number: u128) -> bool
+    ensures { IsTrue result ↔ IsMapped number }
 {
-    matches!(groups, [0, 0, 0, 0, 0, 0xffff, _, _])
+    number / 0x1_0000_0000 == MAPPED_PREFIX
 }
 
-/// The start and the length of the longest run of zeros, the first one of that length: in one scan,
-/// from the end.
-fn longest_zero_run(groups: &[u16; 8]) -> (usize, usize)
-    ensures value { result ≡ longest_zero_run groups.now }
+/// The longest of the runs of zero groups that begin at each group: its first group and its length.
+/// Of two runs as long, the one on the left.
+fn longest_gap(groups: &[u16; 8]) -> (usize, usize)
+    ensures value { result ≡ gap_among groups.now 8 }
     ensures within { result.0 + result.1 ≤ 8 }
 {
-    let mut longest = (8, 0);
-    let mut run = 0;
-    for behind in 0..8 {
-        let start = 7 - behind;
-        run = run_from(groups[start], run);
-        longest = longer((start, run), longest);
+    let mut longest = (0, 0);
+    for start in 0..8 {
+        longest = longer_run(longest, (start, zeros_in_front(&groups[start..])));
     }
     longest
 }
 
-/// The length of the run of zeros that begins with a group, before a run of this length.
-fn run_from(group: u16, run: usize) -> usize
-    requires { run < 8 }
-    ensures { result ≡ (if group == 0 then suc run else 0) }
+/// The longer of two runs, and of two as long the one on the left.
+fn longer_run(left: (usize, usize), right: (usize, usize)) -> (usize, usize)
+    ensures { result ≡ longer_run left right }
 {
-    if group == 0 { run + 1 } else { 0 }
+    if right.1 <= left.1 { left } else { right }
 }
 
-/// The longer run, the first one of two as long.
-fn longer(first: (usize, usize), later: (usize, usize)) -> (usize, usize)
-    ensures { result ≡ (if nat_le later.1 first.1 then first else later) }
+/// How many zero groups there are before the first other group, or before the end.
+fn zeros_in_front(groups: &[u16]) -> usize
+    ensures value { result ≡ zeros_in_front groups.now }
+    ensures within { result ≤ length groups.now }
 {
-    if later.1 <= first.1 { first } else { later }
+    for count in 0..groups.len() {
+        if groups[count] != 0 {
+            return count;
+        }
+    }
+    groups.len()
 }

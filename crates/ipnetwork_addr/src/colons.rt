@@ -2,7 +2,7 @@
 ghost use Rattle.std.specs.Prelude.{◌≡◌, ◌^◌, ◌+◌, ◌-◌, ◌*◌, ◌<◌, ◌≤◌, MatchOption};
 ghost use Rattle.std.specs.Option.{option_copied};
 ghost use Rattle.ipnetwork_addr.specs.Ipv6Text.{NamesV6, NamesNoV6};
-ghost use Rattle.ipnetwork_addr.specs.GroupFront.{BeginsWithLeft, NoLeft, EndsWithRight, NoRight};
+ghost use Rattle.ipnetwork_addr.specs.Private.GroupFront.{BeginsWithLeft, NoLeft, EndsWithRight, NoRight};
 
 use crate::group::read_part;
 

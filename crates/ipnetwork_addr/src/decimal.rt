@@ -6,7 +6,7 @@ ghost use Rattle.ipnetwork_addr.specs.Digits.{padded_decimal};
 use arrayvec::ArrayString;
 
 /// Writes the shortest decimal of a number at the end of a text: one to three bytes, for which there
-/// must be room. Takes no memory.
+/// must be room. Does not allocate.
 #[tactic(auto, using(crate::proofs::Decimals::decimals))]
 pub fn push_decimal<const N: usize>(text: &mut ArrayString<N>, number: u8)
     requires { array_string_len text.old + 3 ≤ N }

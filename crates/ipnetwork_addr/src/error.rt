@@ -1,16 +1,16 @@
-//! Why a text is no address.
+//! The error of reading an address.
 
 use std::error::Error;
 use std::fmt;
 
-/// The text is no address of the kind that was asked for.
+/// A text was refused, and this is what it was read as. Says nothing of where the text goes wrong.
 #[derive(Clone, Copy, Debug, PartialEq, Eq)]
 pub enum AddrParseError {
-    /// No IPv4 address.
+    /// The text names no IPv4 address.
     Ipv4,
-    /// No IPv6 address.
+    /// The text names no IPv6 address.
     Ipv6,
-    /// No address of either family.
+    /// The text names an address of neither family.
     Ip,
 }
 

@@ -1,8 +1,8 @@
-//! Reads the groups of an IPv6 text, from the front.
+//! Reads the groups of an IPv6 text, from left to right.
 ghost use Rattle.std.specs.Prelude.{◌≡◌, ◌≢◌, ℕ, ◌^◌, ◌+◌, ◌*◌, ◌<◌, ◌≤◌, List, ◌∷◌, MatchOption};
 ghost use Rattle.std.specs.Option.{option_copied};
 ghost use Rattle.ipnetwork_addr.specs.Ipv4Text.{NamesV4, NamesNoV4};
-ghost use Rattle.ipnetwork_addr.specs.GroupFront.{NoHex, BeginsWithHex, BeginsWithGroup, NoGroup, BeginsWithPart, NoPart};
+ghost use Rattle.ipnetwork_addr.specs.Private.GroupFront.{NoHex, BeginsWithHex, BeginsWithGroup, NoGroup, BeginsWithPart, NoPart};
 
 use crate::octet::read_octets;
 
@@ -38,18 +38,18 @@ pub(crate) fn read_part(text: &[u8], room: usize) -> Option<(usize, u128, Option
     None
 }
 
-/// What follows this byte at the front.
+/// The text without its first byte, where that is this one.
 fn after_byte(text: &[u8], byte: u8) -> Option<&[u8]>
     ensures { MatchOption result ((rest : List ℕ) → text.now ≢ byte ∷ rest) (λ rest. text.now ≡ byte ∷ rest.now) }
 {
-    match text {
-        [first, rest @ ..] if *first == byte => Some(rest),
-        _ => None,
-    }
+    let [first, rest @ ..] = text else {
+        return None;
+    };
+    if *first == byte { Some(rest) } else { None }
 }
 
 /// The number with one more digit in base 2^16.
-fn append(number: u128, group: u16) -> u128
+pub(crate) fn append(number: u128, group: u16) -> u128
     requires { number < 2 ^ 112 }
     ensures { result ≡ number * 2 ^ 16 + group }
 {
@@ -74,7 +74,8 @@ fn read_v4(text: &[u8]) -> Option<u32>
     }
 }
 
-/// The group at the front, which no further hex digit follows, and the rest.
+/// The group that the text begins with, up to the first byte that is no hex digit, and the text from
+/// there.
 fn read_group(text: &[u8]) -> Option<(u16, &[u8])>
     ensures { MatchOption result (NoGroup text.now) (λ found. BeginsWithGroup text.now found.0 found.1.now) }
 {
@@ -96,7 +97,7 @@ fn read_group(text: &[u8]) -> Option<(u16, &[u8])>
     }
 }
 
-/// The value of the hex digit at the front, and the rest.
+/// The value of the first byte as a hex digit, and the text behind it.
 fn read_hex(text: &[u8]) -> Option<(u16, &[u8])>
     ensures { MatchOption result (NoHex text.now) (λ found. BeginsWithHex text.now found.0 found.1.now) }
 {

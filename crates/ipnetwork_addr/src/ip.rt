@@ -20,7 +20,7 @@ impl IpAddr {
     ghost use Rattle.ipnetwork_addr.specs.Either.{NamesIp, canonical_ip};
 
     /// The address that a text names, as `Ipv4Addr::read_bytes` or `Ipv6Addr::read_bytes` reads it: no
-    /// text names one of each family. Any other text is `AddrParseError::Ip`. Takes no memory.
+    /// text names one of each family. Any other text is `AddrParseError::Ip`. Does not allocate.
     pub fn read_bytes(text: &[u8]) -> Result<Self, AddrParseError>
         ensures { Reads NamesIp AddrParseError.Ip text.now result }
     {
@@ -33,7 +33,7 @@ impl IpAddr {
         }
     }
 
-    /// The canonical text of the address, at most 39 bytes. Takes no memory.
+    /// The canonical text of the address, at most 39 bytes. Does not allocate.
     pub fn canonical(&self) -> ArrayString<TEXT_CAPACITY>
         ensures bytes { result.bytes ≡ canonical_ip self.now }
         ensures short { length result.bytes ≤ 39 }

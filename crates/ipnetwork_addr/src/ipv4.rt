@@ -48,7 +48,7 @@ impl Ipv4Addr {
 
     /// The address that a text names: four decimal octets joined by `.`, each at most 255 and without
     /// a leading zero, with nothing before or after. Any other text is `AddrParseError::Ipv4`.
-    /// Takes no memory.
+    /// Does not allocate.
     pub fn read_bytes(text: &[u8]) -> Result<Self, AddrParseError>
         ensures { Reads NamesV4 AddrParseError.Ipv4 text.now result }
     {
@@ -58,7 +58,7 @@ impl Ipv4Addr {
         }
     }
 
-    /// The canonical text, at most 15 bytes: four shortest decimals joined by `.`. Takes no memory.
+    /// The canonical text, at most 15 bytes: four shortest decimals joined by `.`. Does not allocate.
     pub fn canonical(&self) -> ArrayString<TEXT_CAPACITY>
         ensures bytes { result.bytes ≡ canonical_v4 self.now }
         ensures short { length result.bytes ≤ 15 }

@@ -8,6 +8,7 @@ ghost use Rattle.ipnetwork_addr.specs.Reading.{Reads};
 
 use crate::canonical::canonical_text;
 use crate::colons::read_address;
+use crate::group::append;
 use crate::{AddrParseError, TEXT_CAPACITY};
 use arrayvec::ArrayString;
 use std::fmt;
@@ -34,9 +35,9 @@ impl Ipv6Addr {
     pub fn new(a: u16, b: u16, c: u16, d: u16, e: u16, f: u16, g: u16, h: u16) -> Self
         ensures { result ≡ number_from_digits (2 ^ 16) (a ∷ b ∷ c ∷ d ∷ e ∷ f ∷ g ∷ h ∷ []) }
     {
-        let four = join(join(join(u128::from(a), b), c), d);
+        let four = append(append(append(u128::from(a), b), c), d);
         Ipv6Addr {
-            number: join(join(join(join(four, e), f), g), h),
+            number: append(append(append(append(four, e), f), g), h),
         }
     }
 
@@ -66,7 +67,7 @@ impl Ipv6Addr {
     /// The address that a text names: eight groups of one to four hex digits of either case, joined by
     /// `:`, of which the last two may be an IPv4 text, and of which `::` may stand once for all the
     /// zero groups that are missing (RFC 4291, section 2.2), with nothing before or after. Any other
-    /// text is `AddrParseError::Ipv6`. Takes no memory.
+    /// text is `AddrParseError::Ipv6`. Does not allocate.
     pub fn read_bytes(text: &[u8]) -> Result<Self, AddrParseError>
         ensures { Reads NamesV6 AddrParseError.Ipv6 text.now result }
     {
@@ -76,9 +77,9 @@ impl Ipv6Addr {
         }
     }
 
-    /// The canonical text, at most 39 bytes: shortest lower-case hex, with `::` for the longest run of
-    /// two or more zero groups, the first one of that length (RFC 5952, section 4), and `::ffff:` and
-    /// an IPv4 text for the addresses of `::ffff:0:0/96` (section 5). Takes no memory.
+    /// The canonical text, at most 39 bytes (RFC 5952). An address of `::ffff:0:0/96` is `::ffff:` and
+    /// an IPv4 text (section 5). Any other is its groups in shortest lower-case hex, with `::` for the
+    /// longest run of two or more zero groups, and of two as long for the one on the left (section 4). Does not allocate.
     pub fn canonical(&self) -> ArrayString<TEXT_CAPACITY>
         ensures canonical { IsCanonicalV6 result.bytes self.now }
         ensures bytes { result.bytes ≡ canonical_v6 self.now }
@@ -86,14 +87,6 @@ impl Ipv6Addr {
     {
         canonical_text(self.number, &self.segments())
     }
-}
-
-/// The number with one more digit in base 2^16.
-fn join(high: u128, low: u16) -> u128
-    requires { high < 2 ^ 112 }
-    ensures { result ≡ high * 2 ^ 16 + low }
-{
-    high * 0x1_0000 + u128::from(low)
 }
 
 /// The number without its last digit in base 2^16, and that digit.

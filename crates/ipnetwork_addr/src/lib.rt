@@ -1,6 +1,6 @@
 //! IPv4 and IPv6 addresses: their texts, read and printed, and their numbers.
 //!
-//! Nothing here takes memory. A text is a slice of bytes, of any length and any bytes.
+//! Nothing here allocates. A text is a slice of bytes, of any length and any bytes.
 #![tactic(auto)]
 
 mod canonical;
@@ -22,5 +22,5 @@ pub use ip::IpAddr;
 pub use ipv4::Ipv4Addr;
 pub use ipv6::Ipv6Addr;
 
-/// The length in bytes of the longest printed address, one of IPv6.
+/// The length in bytes of the longest canonical text of an address: eight groups of four hex digits.
 pub const TEXT_CAPACITY: usize = 39;

@@ -1,8 +1,8 @@
-//! Reads octets off the front of a text.
+//! Reads the octets of an IPv4 text, from left to right.
 ghost use Rattle.std.specs.Prelude.{◌≡◌, ◌+◌, ◌<◌, ◌∷◌, MatchOption};
 ghost use Rattle.std.specs.Int.Digits.{number_from_digits};
 ghost use Rattle.ipnetwork_addr.specs.Ipv4Text.{NamesV4, NamesNoV4};
-ghost use Rattle.ipnetwork_addr.specs.OctetFront.{NoDigit, BeginsWithDigit, BeginsWithOctet, NoOctet, BeginsWithDottedOctet, NoDottedOctet};
+ghost use Rattle.ipnetwork_addr.specs.Private.OctetFront.{NoDigit, BeginsWithDigit, BeginsWithOctet, NoOctet, BeginsWithDottedOctet, NoDottedOctet};
 
 /// The greatest octet.
 const OCTET_MAX: u16 = 255;
@@ -22,7 +22,7 @@ pub(crate) fn read_octets(text: &[u8]) -> Option<[u8; 4]>
     }
 }
 
-/// The octet after a dot, and the rest.
+/// The octet behind a dot, and the text behind the octet.
 fn read_dotted_octet(text: &[u8]) -> Option<(u8, &[u8])>
     ensures { MatchOption result (NoDottedOctet text.now) (λ found. BeginsWithDottedOctet text.now found.0 found.1.now) }
 {
@@ -32,7 +32,7 @@ fn read_dotted_octet(text: &[u8]) -> Option<(u8, &[u8])>
     }
 }
 
-/// The octet at the front, which no further digit follows, and the rest.
+/// The octet that the text begins with, up to the first byte that is no digit, and the text from there.
 fn read_octet(text: &[u8]) -> Option<(u8, &[u8])>
     ensures { MatchOption result (NoOctet text.now) (λ found. BeginsWithOctet text.now found.0 found.1.now) }
 {
@@ -40,7 +40,8 @@ fn read_octet(text: &[u8]) -> Option<(u8, &[u8])>
     let Some((second, after_second)) = read_digit(after_first) else {
         return Some((first, after_first));
     };
-    if first == 0 {
+    let leading_zero = first == 0;
+    if leading_zero {
         return None;
     }
     let tens = first * 10 + second;
@@ -57,7 +58,7 @@ fn read_octet(text: &[u8]) -> Option<(u8, &[u8])>
     }
 }
 
-/// The value of the decimal digit at the front, and the rest.
+/// The value of the first byte as a decimal digit, and the text behind it.
 fn read_digit(text: &[u8]) -> Option<(u8, &[u8])>
     ensures { MatchOption result (NoDigit text.now) (λ found. BeginsWithDigit text.now found.0 found.1.now) }
 {

@@ -8,8 +8,8 @@ returns-in_err-first c = rw c.from_residual.ensures (no_digit _ c.in_err-first.e
 pub returns-in_default : goal.returns-in_default
 returns-in_default c = one_digit _ _ _ c.in_ok-first.ensures c.in_default.ensures
 
-pub returns-then-first-eq0 : goal.returns-then-first-eq0
-returns-then-first-eq0 c = leading_zero _ _ _ _ _ c.in_ok-first.ensures c.in-Some.ensures c.if-first-eq0.true
+pub returns-then-leading_zero : goal.returns-then-leading_zero
+returns-then-leading_zero c = leading_zero _ _ _ _ _ c.in_ok-first.ensures c.in-Some.ensures c.if-leading_zero.true
 
 pub returns-in_default-read_digit : goal.returns-in_default-read_digit
 returns-in_default-read_digit c =

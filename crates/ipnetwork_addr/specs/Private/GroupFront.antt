@@ -1,4 +1,4 @@
--- What stands at the front of a text, for the private functions that read groups.
+-- The groups that a text begins with.
 use Rattle.std.specs.Prelude.{◌≡◌, ℕ, ◌^◌, ◌<◌, ◌≤◌, ◌⊎◌, List, [], ◌∷◌, ◌++◌, length, slice_index, Option, None, Some}
 use Rattle.std.specs.Char.{digit_value}
 use Rattle.std.specs.Int.Digits.{number_from_digits}
@@ -6,25 +6,25 @@ use Rattle.ipnetwork_addr.specs.Ipv4Text.{NamesV4}
 use Rattle.ipnetwork_addr.specs.Ipv6Text.{IsGroup, halves}
 use Rattle.ipnetwork_addr.specs.Texts.{colon}
 
--- no hex digit stands at the front
+-- the text does not begin with a hex digit
 abbrev pub NoHex : List ℕ → Type 0
 NoHex text = 16 ≤ digit_value (slice_index text 0)
 
--- a hex digit of this value stands at the front, and this follows it
+-- the text is a hex digit of this value, and then the rest
 pub record BeginsWithHex (text : List ℕ) (digit : ℕ) (rest : List ℕ) : Type 0 where
   pub byte : ℕ
   pub value : digit_value byte ≡ digit
   pub below_sixteen : digit < 16
   pub split : text ≡ byte ∷ rest
 
--- a group stands at the front, and this follows it, with no further hex digit
+-- the text is a group, and then the rest, which does not begin with a hex digit
 pub record BeginsWithGroup (text : List ℕ) (group : ℕ) (rest : List ℕ) : Type 0 where
   pub front : List ℕ
   pub named : IsGroup front group
   pub split : text ≡ front ++ rest
   pub stops : NoHex rest
 
--- none stands there
+-- the text begins with no group
 abbrev pub NoGroup : List ℕ → Type 0
 NoGroup text = (group : ℕ) (rest : List ℕ) → ¬ (BeginsWithGroup text group rest)
 
