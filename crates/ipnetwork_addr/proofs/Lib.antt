@@ -7,6 +7,7 @@ pub mod ComputedV6
 pub mod Decimals
 pub mod EitherFamily
 pub mod Examples
+pub mod FirstMarks
 pub mod Gaps
 pub mod Groups
 pub mod Hexes

@@ -1,5 +1,5 @@
 -- Texts made of parts. A text is the list of its bytes.
-use Rattle.std.specs.Prelude.{◌≡◌, ℕ, ◌≤◌, List}
+use Rattle.std.specs.Prelude.{◌≡◌, ℕ, ◌≤◌, List, [], ◌∷◌, ◌==◌, Bool, true, false, if◌then◌else◌}
 use Rattle.std.specs.List.{join_with_byte, AllZip}
 
 -- the byte `.`
@@ -23,3 +23,8 @@ pub data IsAddressByte (byte : ℕ) : Type 0 where
   LowerHex : 97 ≤ byte → byte ≤ 102 → IsAddressByte byte
   Dot : byte ≡ 46 → IsAddressByte byte
   Colon : byte ≡ 58 → IsAddressByte byte
+
+-- of the dots and colons of a text the first is a colon
+abbrev pub colon_first : List ℕ → Bool
+colon_first [] = false
+colon_first (byte ∷ text) = if byte == colon then true else (if byte == dot then false else colon_first text)

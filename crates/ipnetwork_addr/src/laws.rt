@@ -1,6 +1,6 @@
 //! The laws of addresses and of their texts. Each function's contract is a law. One of texts takes
 //! nothing and does nothing, and a proof that calls it may use the law.
-ghost use Rattle.std.specs.Prelude.{◌≡◌, ◌↔◌, ℕ, ◌^◌, ◌<◌, ◌≤◌, List, IsTrue, Ok, Result, Some, fold};
+ghost use Rattle.std.specs.Prelude.{true, false, ◌++◌, ◌≡◌, ◌↔◌, ℕ, ◌^◌, ◌<◌, ◌≤◌, List, IsTrue, Ok, Result, Some, fold};
 ghost use Rattle.std.specs.Hash as writes;
 ghost use Rattle.std.specs.Ordering.{nat_cmp};
 ghost use Rattle.ipnetwork_addr.specs.Ipv4Text.{IsOctet, IsPlainOctet, NamesV4, canonical_v4, v4_of};
@@ -9,7 +9,7 @@ ghost use Rattle.ipnetwork_addr.specs.Ipv6Canonical.{IsCanonicalV6, canonical_v6
 ghost use Rattle.ipnetwork_addr.specs.Ipv6Computed.{v6_of};
 ghost use Rattle.ipnetwork_addr.specs.Ipv6Text.{NamesV6};
 ghost use Rattle.ipnetwork_addr.specs.Reading.{Reads, answer_from};
-ghost use Rattle.ipnetwork_addr.specs.Texts.{IsAddressByte};
+ghost use Rattle.ipnetwork_addr.specs.Texts.{IsAddressByte, colon_first};
 ghost use Rattle.std.specs.List.{AllByRecursion};
 
 use crate::{AddrParseError, IpAddr, Ipv4Addr, Ipv6Addr};
@@ -228,4 +228,14 @@ pub fn v6_reading_is_computed()
 pub fn ip_reading_is_computed()
     ensures { (text : List ℕ) (result : Result IpAddr AddrParseError)
         → Reads NamesIp AddrParseError.Ip text result ↔ (result ≡ answer_from AddrParseError.Ip (ip_of text)) }
+{}
+
+/// In an IPv4 text, whatever follows it, a dot comes before any colon.
+pub fn v4_text_has_a_dot_first()
+    ensures { (text rest : List ℕ) (address : ℕ) → NamesV4 text address → colon_first (text ++ rest) ≡ false }
+{}
+
+/// In an IPv6 text, whatever follows it, a colon comes before any dot.
+pub fn v6_text_has_a_colon_first()
+    ensures { (text rest : List ℕ) (address : ℕ) → NamesV6 text address → colon_first (text ++ rest) ≡ true }
 {}

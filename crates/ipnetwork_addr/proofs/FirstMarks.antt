@@ -1,0 +1,86 @@
+-- The first dot or colon of an address text.
+use Rattle.std.proofs.Common.{◌≡◌, ℕ, ◌+◌, ◌/◌, ◌%◌, ◌<◌, ◌≤◌, Bool, true, false, ◌==◌, List, [], ◌∷◌, ◌++◌, length, length-append, decimal, refl, sym, ap, ◌∙◌, inl, inr, arith, append_assoc}
+use Rattle.std.proofs.lemmas.Bool.{cases_lt, ne_eqb}
+use Rattle.std.proofs.lemmas.Fmt.{decimal_digit}
+use Rattle.std.specs.Char.{digit_value}
+use Rattle.std.specs.List.{join_with_byte, AllZip}
+use Rattle.std.specs.Str.Parse.{AllDigits}
+use Rattle.ipnetwork_addr.specs.Texts.{colon_first}
+use Rattle.ipnetwork_addr.specs.Ipv4Text.{NamesV4}
+use Rattle.ipnetwork_addr.specs.Ipv6Text.{IsGroup, IsPlain, IsEnded, NamesV6, halves}
+use Rattle.ipnetwork_addr.proofs.Decimals.{decimal_two, decimal_three}
+use Rattle.ipnetwork_addr.proofs.Ipv4Lemmas.{reading_of}
+
+-- a byte that is neither is passed over
+passed : (byte : ℕ) (text : List ℕ) → (byte == 58) ≡ false → (byte == 46) ≡ false → colon_first (byte ∷ text) ≡ colon_first text
+passed byte text no_colon no_dot = rw (no_colon, no_dot) refl
+
+digit_passed : (d : ℕ) (text : List ℕ) → d < 10 → colon_first ((48 + d) ∷ text) ≡ colon_first text
+digit_passed d text small = passed (48 + d) text (ne_eqb (48 + d) 58 (λ e. omega arith)) (ne_eqb (48 + d) 46 (λ e. omega arith))
+
+decimal_passed : (n : ℕ) (text : List ℕ) → n ≤ 255 → colon_first (decimal n ++ text) ≡ colon_first text
+decimal_passed n text bound = elim (cases_lt n 10) [
+  | inl one ↦ rw (decimal_digit n one) (digit_passed n text one)
+  | inr ten ↦ elim (cases_lt n 100) [
+    | inl two ↦ rw (decimal_two n ten two) (digit_passed (n / 10) ((48 + n % 10) ∷ text) (omega arith) ∙ digit_passed (n % 10) text (omega arith))
+    | inr hundred ↦ rw (decimal_three n hundred (omega arith))
+      (digit_passed (n / 100) ((48 + n / 10 % 10) ∷ (48 + n % 10) ∷ text) (omega arith)
+      ∙ digit_passed (n / 10 % 10) ((48 + n % 10) ∷ text) (omega arith) ∙ digit_passed (n % 10) text (omega arith))
+  ]
+]
+
+-- in an IPv4 text a dot comes first
+pub v4_dot_first : (text rest : List ℕ) (address : ℕ) → NamesV4 text address → colon_first (text ++ rest) ≡ false
+v4_dot_first text rest address h =
+    let read = reading_of text address h in
+    let first = read.chain.first in
+    let second = read.chain.second in
+    rw (first.split, second.dotted, append_assoc) (decimal_passed read.a (46 ∷ (second.after_dot ++ rest)) first.bound)
+
+-- hex digits are passed over
+hex_passed : (ds text : List ℕ) → AllDigits 16 ds → colon_first (ds ++ text) ≡ colon_first text
+hex_passed [] text h = refl
+hex_passed (d ∷ ds) text h =
+    passed d (ds ++ text) (ne_eqb d 58 (λ e. omega (arith, h.0, ap digit_value e))) (ne_eqb d 46 (λ e. omega (arith, h.0, ap digit_value e)))
+    ∙ hex_passed ds text h.1
+
+-- after a group a colon comes first
+group_colon : (part text : List ℕ) (group : ℕ) → IsGroup part group → colon_first (part ++ 58 ∷ text) ≡ true
+group_colon part text group h = hex_passed part (58 ∷ text) h.digits.1
+
+-- two groups or more, joined by colons
+groups_colon : (parts : List (List ℕ)) (groups rest : List ℕ) → AllZip IsGroup parts groups → 2 ≤ length groups → colon_first (join_with_byte 58 parts ++ rest) ≡ true
+groups_colon [] [] rest h two = absurd (omega arith)
+groups_colon [] (g ∷ groups) rest h two = absurd h
+groups_colon (p ∷ parts) [] rest h two = absurd h
+groups_colon (p ∷ []) (g ∷ []) rest h two = absurd (omega arith)
+groups_colon (p ∷ []) (g ∷ k ∷ groups) rest h two = absurd h.1
+groups_colon (p ∷ q ∷ parts) (g ∷ groups) rest h two = rw append_assoc (group_colon p (join_with_byte 58 (q ∷ parts) ++ rest) g h.0)
+
+-- one group or more before a last part
+dotted_colon : (parts : List (List ℕ)) (groups last rest : List ℕ) → AllZip IsGroup parts groups → 1 ≤ length groups → colon_first (join_with_byte 58 (parts ++ last ∷ []) ++ rest) ≡ true
+dotted_colon [] [] last rest h one = absurd (omega arith)
+dotted_colon [] (g ∷ groups) last rest h one = absurd h
+dotted_colon (p ∷ parts) [] last rest h one = absurd h
+dotted_colon (p ∷ []) (g ∷ groups) last rest h one = rw append_assoc (group_colon p (last ++ rest) g h.0)
+dotted_colon (p ∷ q ∷ parts) (g ∷ groups) last rest h one = rw append_assoc (group_colon p (join_with_byte 58 (q ∷ (parts ++ last ∷ [])) ++ rest) g h.0)
+
+-- groups, or none, before a gap
+gap_colon : (parts : List (List ℕ)) (groups rest : List ℕ) → AllZip IsGroup parts groups → colon_first (join_with_byte 58 parts ++ 58 ∷ rest) ≡ true
+gap_colon [] groups rest h = refl
+gap_colon (p ∷ parts) [] rest h = absurd h
+gap_colon (p ∷ []) (g ∷ groups) rest h = group_colon p rest g h.0
+gap_colon (p ∷ q ∷ parts) (g ∷ groups) rest h = rw append_assoc (group_colon p (join_with_byte 58 (q ∷ parts) ++ 58 ∷ rest) g h.0)
+
+full_colon : (text groups rest : List ℕ) → IsEnded text groups → length groups ≡ 8 → colon_first (text ++ rest) ≡ true
+full_colon text groups rest (inl h) eight = rw h.spelled (groups_colon h.parts groups rest h.named (omega arith))
+full_colon text groups rest (inr h) eight =
+    let count : length groups ≡ length h.front + 2 = ap length h.value ∙ length-append h.front (halves h.address) in
+    rw h.spelled (dotted_colon h.parts h.front h.last rest h.named (omega arith))
+
+-- in an IPv6 text a colon comes first
+pub v6_colon_first : (text rest : List ℕ) (address : ℕ) → NamesV6 text address → colon_first (text ++ rest) ≡ true
+v6_colon_first text rest address (inl h) = full_colon text h.groups rest h.ended h.eight
+v6_colon_first text rest address (inr h) =
+    let front = h.high_groups in
+    rw (h.split, front.spelled) (simp append_assoc (gap_colon front.parts h.high (58 ∷ (h.behind ++ rest)) front.named))
