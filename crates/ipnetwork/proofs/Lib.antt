@@ -1,2 +1,3 @@
 mod EitherNetworks
 mod Families
+mod FirstMarks

@@ -1,12 +1,15 @@
 //! Networks of either family.
+ghost use Rattle.std.specs.Prelude.{◌≡◌};
+ghost use Rattle.ipnetwork_addr.specs.Texts.{colon_first};
 
 use crate::error::WrongFamily;
 use crate::ip_iter::IpNetworkIterator;
 use crate::ip_mask::ip_mask_to_prefix;
+use crate::laws;
 use crate::size::NetworkSize;
 use arrayvec::ArrayString;
 use ipnetwork_addr::{AddrParseError, IpAddr};
-use ipnetwork_family::{CidrFault, IpNetworkError, Ipv4Network, Ipv6Network, TEXT_CAPACITY, laws};
+use ipnetwork_family::{CidrFault, IpNetworkError, Ipv4Network, Ipv6Network, TEXT_CAPACITY};
 use std::alloc::{AllocError, Global};
 use std::fmt;
 use std::str::FromStr;
@@ -201,12 +204,18 @@ impl IpNetwork {
     pub fn read_bytes(text: &[u8]) -> Result<Self, CidrFault>
         ensures { ReadsIpNetwork text.now result }
     {
-        if let Ok(network) = Ipv4Network::read_bytes(text) {
-            Ok(IpNetwork::V4(network))
-        } else if let Ok(network) = Ipv6Network::read_bytes(text) {
-            Ok(IpNetwork::V6(network))
+        laws::v4_text_has_a_dot_first();
+        laws::v6_text_has_a_colon_first();
+        if has_colon_first(text) {
+            match Ipv6Network::read_bytes(text) {
+                Ok(network) => Ok(IpNetwork::V6(network)),
+                Err(_) => Err(CidrFault::Addr),
+            }
         } else {
-            Err(CidrFault::Addr)
+            match Ipv4Network::read_bytes(text) {
+                Ok(network) => Ok(IpNetwork::V4(network)),
+                Err(_) => Err(CidrFault::Addr),
+            }
         }
     }
 
@@ -238,6 +247,22 @@ impl IpNetwork {
     {
         String::from_str(alloc, self.canonical().as_str())
     }
+}
+
+/// Whether of the dots and colons of a text the first is a colon, as in each IPv6 text; in an IPv4 text a
+/// dot comes first. So a text is read in one family alone.
+fn has_colon_first(text: &[u8]) -> bool
+    ensures { result ≡ colon_first text.now }
+{
+    for byte in text {
+        if *byte == b':' {
+            return true;
+        }
+        if *byte == b'.' {
+            return false;
+        }
+    }
+    false
 }
 
 impl From<Ipv4Network> for IpNetwork {

@@ -20,8 +20,9 @@ pub use ipnetwork_addr::laws::{
     canonical_v6_is_one_text, canonical_v6_is_one_to_one, canonical_v6_names_its_address, ip_clone,
     ip_equality, ip_hash, ip_order, ip_reading_is_computed, ip_text_names_one, no_text_names_both,
     octet_texts, v4_clone, v4_equality, v4_hash, v4_order, v4_reading_is_computed, v4_text_bytes,
-    v4_text_is_computed, v4_text_names_one, v6_clone, v6_equality, v6_hash, v6_order,
-    v6_reading_is_computed, v6_text_bytes, v6_text_is_computed, v6_text_names_one,
+    v4_text_has_a_dot_first, v4_text_is_computed, v4_text_names_one, v6_clone, v6_equality,
+    v6_hash, v6_order, v6_reading_is_computed, v6_text_bytes, v6_text_has_a_colon_first,
+    v6_text_is_computed, v6_text_names_one,
 };
 use ipnetwork_family::laws as families;
 pub use ipnetwork_family::laws::{
