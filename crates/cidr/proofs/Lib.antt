@@ -3,6 +3,7 @@ pub mod BytesLemmas
 pub mod Concluded
 pub mod Cuts
 pub mod EitherAnswers
+mod EitherExamples
 mod Examples
 pub mod Gathering
 pub mod Kept

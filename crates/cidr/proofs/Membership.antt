@@ -1,39 +1,70 @@
--- Membership, computed.
-use Rattle.std.proofs.Common.{◌≡◌, ◌↔◌, ◌⊎◌, inl, inr, ℕ, ◌^◌, ◌/◌, ◌&&◌, ◌==◌, ◌<◌, ◌≤◌, List, length, Bool, true, false, cond, codes, refl, ap, ◌∙◌, arith}
-use Rattle.std.proofs.lemmas.Bool.{lt-ltb, le-ltb}
-use Rattle.std.proofs.lemmas.Bool.Decides.{leb_tells, eqb_tells}
-use Rattle.std.specs.Prelude.{Ok, Some, nat_lt}
+-- The answers by membership and by sets, of texts that name networks and addresses.
+use Rattle.std.proofs.Common.{◌≡◌, ◌↔◌, ℕ, List, length, Bool, true, false, cond, IsTrue, codes, get_or, refl, sym, ap, arith}
+use Rattle.std.specs.Prelude.{Ok, Some}
 use Rattle.ipnetwork_addr.specs.Ipv4Text.{v4_of}
-use Rattle.ipnetwork_family.specs.Network.{Network, Member, block_size}
+use Rattle.ipnetwork_addr.specs.Either.{ip_of}
+use Rattle.ipnetwork_addr.specs.declared.ip.IpAddr.{IpAddr}
+use Rattle.ipnetwork_family.specs.Network.{Network, Member, is_member}
 use Rattle.ipnetwork_family.specs.Ipv4NetworkText.{v4_network_of}
-use Rattle.ipnetwork_family.specs.Network.{is_member}
+use Rattle.ipnetwork.specs.IpNetworks.{IpMember, is_ip_member, IpSubnet, is_ip_subnet}
+use Rattle.ipnetwork.specs.IpNetworkText.{ip_network_of}
+use Rattle.ipnetwork.specs.declared.ip_network.IpNetwork.{IpNetwork}
 use Rattle.cidr.specs.Commands.{has4_answer}
+use Rattle.cidr.specs.EitherCommands.{has_answer, rel_answer}
+use Rattle.cidr.specs.Laws.{Relates}
 
-less_tells : (a b : ℕ) → ((nat_lt a b ≡ true) × (a < b)) ⊎ ((nat_lt a b ≡ false) × (b ≤ a))
-less_tells a b = elim (leb_tells b a) [ inl le ↦ inr (le-ltb a b le.1, le.1) | inr lt ↦ inl (lt-ltb a b lt.1, lt.1) ]
+no_truth : false ≡ true → ⊥
+no_truth e = cc
 
-pub is_member_tells : (w : ℕ) (n : Network) (x : ℕ) → ((is_member w n x ≡ true) × Member w n x) ⊎ ((is_member w n x ≡ false) × (¬ (Member w n x)))
-is_member_tells w n x = elim (less_tells x (2 ^ w)) [
-  | inl fits ↦ elim (eqb_tells (x / block_size w n.prefix) (n.address / block_size w n.prefix)) [
-    | inl equal ↦ inl (ap (λ t. t && (x / block_size w n.prefix == n.address / block_size w n.prefix)) fits.0 ∙ equal.0, (fits.1, equal.1))
-    | inr apart ↦ inr (ap (λ t. t && (x / block_size w n.prefix == n.address / block_size w n.prefix)) fits.0 ∙ apart.0, λ m. apart.1 m.1)
-  ]
-  | inr over ↦ inr (ap (λ t. t && (x / block_size w n.prefix == n.address / block_size w n.prefix)) over.0, λ m. absurd (omega (arith, over.1, m.0)))
-]
-
--- the answer tells which it was
-said_by : (t : Bool) (P : Type 0) → ((t ≡ true) × P) ⊎ ((t ≡ false) × (¬ P))
+-- the answer tells whether the test held, and so whether the fact does
+told_by : (t : Bool) (P : Type 0) → (IsTrue t ↔ P)
     → ((cond t (codes "yes") (codes "no") ≡ codes "yes") ↔ P) × ((cond t (codes "yes") (codes "no") ≡ codes "no") ↔ ¬ P)
-said_by true P h = elim h [
-  | inl is ↦ ((λ e. is.1, λ p. refl), (λ e. absurd (omega (arith, ap length e)), λ np. absurd (np is.1)))
-  | inr none ↦ cc
-]
-said_by false P h = elim h [
-  | inl is ↦ cc
-  | inr none ↦ ((λ e. absurd (omega (arith, ap length e)), λ p. absurd (none.1 p)), (λ e. none.1, λ np. refl))
-]
+told_by true P h = ((λ e. h.0 refl, λ p. refl), (λ e. absurd (omega (arith, ap length e)), λ np. absurd (np (h.0 refl))))
+told_by false P h = ((λ e. absurd (omega (arith, ap length e)), λ p. absurd (no_truth (h.1 p))), (λ e p. no_truth (h.1 p), λ np. refl))
 
--- `has4`, of texts that name a network and an address
-pub has_members : (text word : List ℕ) (n : Network) (a : ℕ) → Ok n ≡ v4_network_of text → v4_of word ≡ Some a
+-- `has4`
+pub has_members : (text word : List ℕ) (n : Network) (a : ℕ) → (IsTrue (is_member 32 n a) ↔ Member 32 n a) → Ok n ≡ v4_network_of text → v4_of word ≡ Some a
     → ((has4_answer text word ≡ codes "yes") ↔ Member 32 n a) × ((has4_answer text word ≡ codes "no") ↔ ¬ (Member 32 n a))
-has_members text word n a network address = rw (← network, address) (said_by (is_member 32 n a) (Member 32 n a) (is_member_tells 32 n a))
+has_members text word n a test network address = rw (← network, address) (told_by (is_member 32 n a) (Member 32 n a) test)
+
+-- `has`
+pub has_ip_members : (text word : List ℕ) (n : IpNetwork) (a : IpAddr) → (IsTrue (is_ip_member n a) ↔ IpMember n a) → Ok n ≡ ip_network_of text → ip_of word ≡ Some a
+    → ((has_answer text word ≡ codes "yes") ↔ IpMember n a) × ((has_answer text word ≡ codes "no") ↔ ¬ (IpMember n a))
+unfolding has_answer
+has_ip_members text word n a test network address = rw (← network, address) (told_by (is_ip_member n a) (IpMember n a) test)
+
+abbrev first : List ℕ → ℕ
+first text = get_or text 0 0
+
+-- `rel`: the word tells which of the two tests held
+relates : (s t : Bool) (a b : IpNetwork) → (IsTrue s ↔ IpSubnet a b) → (IsTrue t ↔ IpSubnet b a)
+    → Relates (cond s (cond t (codes "same") (codes "inside")) (cond t (codes "around") (codes "apart"))) a b
+relates true true a b h k = record {
+  same = (λ e. (h.0 refl, k.0 refl), λ p. refl);
+  inside = (λ e. absurd (omega (arith, ap length e)), λ p. absurd (p.1 (k.0 refl)));
+  around = (λ e. absurd (omega (arith, ap length e)), λ p. absurd (p.0 (h.0 refl)));
+  apart = (λ e. absurd (omega (arith, ap length e)), λ p. absurd (p.0 (h.0 refl)));
+}
+relates true false a b h k = record {
+  same = (λ e. absurd (omega (arith, ap length e)), λ p. absurd (no_truth (k.1 p.1)));
+  inside = (λ e. (h.0 refl, λ q. no_truth (k.1 q)), λ p. refl);
+  around = (λ e. absurd (omega (arith, ap first e)), λ p. absurd (p.0 (h.0 refl)));
+  apart = (λ e. absurd (omega (arith, ap length e)), λ p. absurd (p.0 (h.0 refl)));
+}
+relates false true a b h k = record {
+  same = (λ e. absurd (omega (arith, ap length e)), λ p. absurd (no_truth (h.1 p.0)));
+  inside = (λ e. absurd (omega (arith, ap first e)), λ p. absurd (no_truth (h.1 p.0)));
+  around = (λ e. (λ q. no_truth (h.1 q), k.0 refl), λ p. refl);
+  apart = (λ e. absurd (omega (arith, ap length e)), λ p. absurd (p.1 (k.0 refl)));
+}
+relates false false a b h k = record {
+  same = (λ e. absurd (omega (arith, ap length e)), λ p. absurd (no_truth (h.1 p.0)));
+  inside = (λ e. absurd (omega (arith, ap length e)), λ p. absurd (no_truth (h.1 p.0)));
+  around = (λ e. absurd (omega (arith, ap length e)), λ p. absurd (no_truth (k.1 p.1)));
+  apart = (λ e. (λ q. no_truth (h.1 q), λ q. no_truth (k.1 q)), λ p. refl);
+}
+
+pub relates_sets : (text other : List ℕ) (a b : IpNetwork) → (IsTrue (is_ip_subnet a b) ↔ IpSubnet a b) → (IsTrue (is_ip_subnet b a) ↔ IpSubnet b a)
+    → Ok a ≡ ip_network_of text → Ok b ≡ ip_network_of other → Relates (rel_answer text other) a b
+unfolding rel_answer
+relates_sets text other a b h k first_is second_is = rw (← first_is, ← second_is) (relates (is_ip_subnet a b) (is_ip_subnet b a) a b h k)

@@ -4,7 +4,13 @@ use Rattle.ipnetwork_addr.specs.Ipv4Text.{NamesV4}
 use Rattle.ipnetwork_family.specs.Network.{Network, Member}
 use Rattle.ipnetwork_family.specs.Ipv4NetworkText.{NamesV4Network}
 use Rattle.cidr.specs.declared.fault.RunFault.TheVariants.{Read, Write, InputTooLong}
+use Rattle.ipnetwork_addr.specs.Either.{NamesIp}
+use Rattle.ipnetwork_addr.specs.declared.ip.IpAddr.{IpAddr}
+use Rattle.ipnetwork.specs.IpNetworks.{IsIpNetwork, IpMember, IpSubnet}
+use Rattle.ipnetwork.specs.IpNetworkText.{NamesIpNetwork}
+use Rattle.ipnetwork.specs.declared.ip_network.IpNetwork.{IpNetwork}
 use Rattle.cidr.specs.Commands.{has4_answer}
+use Rattle.cidr.specs.EitherCommands.{has_answer, rel_answer}
 use Rattle.cidr.specs.Output.{output_of, complete_part, IsBeginning}
 use Rattle.cidr.specs.Run.{Ran}
 
@@ -13,6 +19,24 @@ use Rattle.cidr.specs.Run.{Ran}
 abbrev pub HasMembers : Type 0
 HasMembers = (text word : List ℕ) (n : Network) (a : ℕ) → NamesV4Network text n → NamesV4 word a
     → ((has4_answer text word ≡ codes "yes") ↔ Member 32 n a) × ((has4_answer text word ≡ codes "no") ↔ ¬ (Member 32 n a))
+
+-- the same of `has`, over both families
+abbrev pub HasIpMembers : Type 0
+HasIpMembers = (text word : List ℕ) (n : IpNetwork) (a : IpAddr) → NamesIpNetwork text n → NamesIp word a
+    → ((has_answer text word ≡ codes "yes") ↔ IpMember n a) × ((has_answer text word ≡ codes "no") ↔ ¬ (IpMember n a))
+
+-- of texts that name two networks, `rel` answers by their sets: `same` exactly if each is part of the other, `inside`
+-- exactly if only the first is part of the second, `around` exactly if only the second is part of the first, and `apart`
+-- exactly if neither is
+pub record Relates (answer : List ℕ) (a b : IpNetwork) : Type 0 where
+  pub same : (answer ≡ codes "same") ↔ (IpSubnet a b × IpSubnet b a)
+  pub inside : (answer ≡ codes "inside") ↔ (IpSubnet a b × (¬ (IpSubnet b a)))
+  pub around : (answer ≡ codes "around") ↔ ((¬ (IpSubnet a b)) × IpSubnet b a)
+  pub apart : (answer ≡ codes "apart") ↔ ((¬ (IpSubnet a b)) × (¬ (IpSubnet b a)))
+
+abbrev pub RelatesSets : Type 0
+RelatesSets = (text other : List ℕ) (a b : IpNetwork) → IsIpNetwork a → IsIpNetwork b
+    → NamesIpNetwork text a → NamesIpNetwork other b → Relates (rel_answer text other) a b
 
 -- The reader had `read` and then `rest`, and the writer held `held` and holds `holds`.
 

@@ -1,6 +1,6 @@
 //! What follows from the promises of a run and of the commands. Each function's contract is a law.
 ghost use Rattle.std.specs.Prelude.{◌≡◌, ◌↔◌, ◌&&◌, IsTrue, IsFalse, Ok, Result};
-ghost use Rattle.cidr.specs.Laws.{HasMembers, AfterOk, AfterReadFault, AfterWriteFault, AfterTooLong};
+ghost use Rattle.cidr.specs.Laws.{HasMembers, HasIpMembers, RelatesSets, AfterOk, AfterReadFault, AfterWriteFault, AfterTooLong};
 ghost use Rattle.cidr.specs.Run.{ended_by_read, ended_by_write};
 
 use crate::fault::RunFault;
@@ -13,6 +13,25 @@ pub fn has4_answers_membership()
 {
     laws::v4_network_reading_is_computed();
     laws::v4_text_is_computed();
+    laws::membership_is_computed();
+}
+
+/// `has` answers `yes` exactly for the members of the network's set, and `no` exactly for the other addresses, those of
+/// the other family among them.
+pub fn has_answers_membership()
+    ensures { HasIpMembers }
+{
+    laws::ip_network_reading_is_computed();
+    laws::ip_reading_is_computed();
+    laws::ip_membership_is_computed();
+}
+
+/// `rel` answers by the sets: whether they are the same, one is a part of the other, or neither is.
+pub fn rel_answers_sets()
+    ensures { RelatesSets }
+{
+    laws::ip_network_reading_is_computed();
+    laws::ip_subnet_is_computed();
 }
 
 /// After Ok the input was within the limit, and its output was written.

@@ -53,6 +53,61 @@ fn commands_are_answered(rt: HostRuntime) {
 }
 
 #[test]
+fn commands_over_both_families_are_answered(rt: HostRuntime) {
+    for (line, text) in [
+        ("read 10.1.9.32/16", "10.1.9.32/16"),
+        ("read 10.0.0.0/99", "refused"),
+        ("read x//", "refused"),
+        ("read ", "refused"),
+        ("read 1", "refused"),
+        ("read ::ffff:102:304", "::ffff:1.2.3.4/128"),
+        ("read FF01:0:0:17:0:0:0:2/65", "ff01:0:0:17::2/65"),
+        ("read ::1/129", "refused"),
+        ("read ::1/255.0.0.0", "refused"),
+        ("has 0.0.0.0/0 ::1", "no"),
+        ("has ::/0 0.0.0.1", "no"),
+        ("has ::ffff:0:0/96 1.2.3.4", "no"),
+        ("has ::ffff:0:0/96 ::ffff:1.2.3.4", "yes"),
+        ("has 10.0.0.5/8 10.0.0.1", "yes"),
+        ("has 10.0.0.0/8 11.0.0.0", "no"),
+        ("has 10.0.0.0/8 x", "refused address"),
+        ("has x y", "refused network"),
+        (
+            "ends 10.1.9.32/16",
+            "10.1.0.0 10.1.255.255 255.255.0.0 65536",
+        ),
+        (
+            "ends 10.0.0.0/0",
+            "0.0.0.0 255.255.255.255 0.0.0.0 4294967295",
+        ),
+        (
+            "ends 255.255.255.255",
+            "255.255.255.255 255.255.255.255 255.255.255.255 1",
+        ),
+        (
+            "ends ::/96",
+            ":: ::ffff:ffff ffff:ffff:ffff:ffff:ffff:ffff:: 4294967296",
+        ),
+        (
+            "ends ::/0",
+            ":: ffff:ffff:ffff:ffff:ffff:ffff:ffff:ffff :: 340282366920938463463374607431768211455",
+        ),
+        ("ends 10/8", "refused"),
+        ("rel 10.0.0.1/24 10.0.0.0/24", "same"),
+        ("rel 10.0.0.0/30 10.0.0.5/24", "inside"),
+        ("rel 10.0.0.0/8 10.0.0.5/24", "around"),
+        ("rel 10.0.0.0/8 ::/0", "apart"),
+        ("rel ::ffff:0:0/96 0.0.0.0/0", "apart"),
+        ("rel 10.0.0.0/9 10.128.0.0/9", "apart"),
+        ("rel ::1/0 ffff::/16", "around"),
+        ("rel x 10.0.0.0/8", "refused"),
+        ("rel 10.0.0.0/8 x", "refused"),
+    ] {
+        assert_eq!(rt; answered(line.as_bytes()).as_str(), text, "{line}");
+    }
+}
+
+#[test]
 fn other_lines_are_unknown(rt: HostRuntime) {
     for line in [
         "",
