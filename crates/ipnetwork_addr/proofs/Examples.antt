@@ -2,6 +2,7 @@
 use Rattle.std.proofs.Common.{◌≡◌, ℕ, ◌^◌, ◌-◌, [], ◌∷◌, length, None, Some, refl, ap, arith, lit≤}
 use Rattle.std.specs.Prelude.{codes, Ok, Err}
 use Rattle.std.specs.Fmt.{digits}
+use Rattle.std.specs.Hash.{le_bytes}
 use Rattle.std.specs.Int.Digits.{number_from_digits}
 use Rattle.std.specs.declared.cmp.Ordering.TheVariants.{Less, Equal, Greater}
 use Rattle.ipnetwork_addr.specs.declared.error.AddrParseError.{AddrParseError}
@@ -89,6 +90,14 @@ higher_v6_not_at_most h = omega (arith, h)
 
 pub compared : ip_cmp (V4 1) (V4 2) ∷ ip_cmp (V4 2) (V6 1) ∷ ip_cmp (V6 1) (V4 2) ∷ ip_cmp (V6 2) (V6 1) ∷ ip_cmp (V6 2) (V6 2) ∷ [] ≡ Less ∷ Less ∷ Greater ∷ Greater ∷ Equal ∷ []
 compared = refl
+
+pub family_and_number : ip_writes (V4 1) ≡ (0 ∷ 0 ∷ 0 ∷ 0 ∷ 0 ∷ 0 ∷ 0 ∷ 0 ∷ []) ∷ (1 ∷ 0 ∷ 0 ∷ 0 ∷ []) ∷ []
+unfolding le_bytes
+family_and_number = refl
+
+pub other_family_and_number : ip_writes (V6 1) ≡ (1 ∷ 0 ∷ 0 ∷ 0 ∷ 0 ∷ 0 ∷ 0 ∷ 0 ∷ []) ∷ (1 ∷ 0 ∷ 0 ∷ 0 ∷ 0 ∷ 0 ∷ 0 ∷ 0 ∷ 0 ∷ 0 ∷ 0 ∷ 0 ∷ 0 ∷ 0 ∷ 0 ∷ 0 ∷ []) ∷ []
+unfolding le_bytes
+other_family_and_number = refl
 
 pub v4_text_first : ip_of (codes "1.2.3.4") ≡ Some (V4 0x01020304)
 unfolding digits v6_of gap_below

@@ -1,5 +1,5 @@
 -- The canonical text of an IPv6 address names it, and is one.
-use Rattle.std.proofs.Common.{◌≡◌, ◌↔◌, subst, ℕ, suc, zero, ◌+◌, ◌-◌, ◌%◌, ◌^◌, ◌<◌, ◌≤◌, false, List, [], ◌∷◌, ◌++◌, length, get_or, map, take, drop, replicate, refl, sym, ap, ◌∙◌, inl, inr, arith, lit≤, take-add, take-append-drop, length-take-le, length-drop}
+use Rattle.std.proofs.Common.{◌≡◌, ◌↔◌, subst, ℕ, suc, zero, ◌+◌, ◌%◌, ◌^◌, ◌<◌, ◌≤◌, false, List, [], ◌∷◌, ◌++◌, length, map, take, drop, replicate, refl, sym, ap, ◌∙◌, inl, inr, arith, lit≤, take-add, take-append-drop, length-take-le, length-drop}
 use Rattle.std.proofs.Common.{true≢false, eq-eqb, ◌/◌}
 use Rattle.std.proofs.lemmas.Bool.{cases_lt, cond_both, leb-true, leb-false, eqb-true}
 use Rattle.ipnetwork_addr.proofs.ZeroRuns.{gap_found, no_gap, run_is_zeros}

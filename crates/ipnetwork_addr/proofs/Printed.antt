@@ -1,5 +1,5 @@
 -- The printer writes the canonical text.
-use Rattle.std.proofs.Common.{◌≡◌, ◌↔◌, Bool, false, true≢false, IsTrue, sym, ap, ℕ, ◌+◌, ◌<◌, ◌≤◌, List, [], ◌∷◌, ◌++◌, length, take, drop, refl, ◌∙◌, subst, arith}
+use Rattle.std.proofs.Common.{◌≡◌, ◌↔◌, Bool, false, true≢false, IsTrue, sym, ap, ℕ, ◌+◌, ◌<◌, ◌≤◌, List, [], ◌∷◌, ◌++◌, length, take, drop, ◌∙◌, subst}
 use Rattle.ipnetwork_addr.specs.Digits.{segments_of}
 use Rattle.ipnetwork_addr.specs.Ipv6Canonical.{IsMapped, IsGap, IsCanonicalV6, Gap, Whole, hex_groups, gap_among}
 use Rattle.ipnetwork_addr.proofs.ZeroRuns.{gap_found, no_gap}
