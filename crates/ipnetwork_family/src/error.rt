@@ -23,7 +23,8 @@ pub enum IpNetworkError {
     InvalidCidrFormat(String),
     /// A size does not fit. No call of this crate answers it.
     NetworkSizeError(NetworkSizeError),
-    /// There was no memory for the text of a refusal. No call answers it in place of a network.
+    /// Out of memory for the text of an error. A text that names a network never gives it. No call of
+    /// this crate answers it.
     OutOfMemory,
 }
 
