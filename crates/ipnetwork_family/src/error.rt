@@ -30,7 +30,7 @@ pub enum IpNetworkError {
     InvalidCidrFormat(String),
     /// A size does not fit. No call answers it but `try_clone` of one.
     NetworkSizeError(NetworkSizeError),
-    /// There was no memory for the text of a refusal. No call answers it in place of a network, nor of
+    /// Out of memory for the text of an error. No call answers it in place of a network, nor of
     /// `InvalidPrefix`.
     OutOfMemory,
 }
@@ -45,6 +45,7 @@ pub enum NetworkSizeError {
 impl IpNetworkError {
     ghost use Rattle.std.specs.Prelude.{◌≡◌, IfOk, OnErr};
     ghost use Rattle.ipnetwork_addr.specs.Faults.{fault_text};
+    ghost use Rattle.ipnetwork_family.specs.Faults.{SameError};
     ghost use Rattle.ipnetwork_family.specs.ErrorTexts.{refusal_of, description_of, fault_of, IsRefusal, HasText, BadAddress};
 
     /// The kind of the error in a few words, without its text. Does not allocate.
@@ -62,7 +63,7 @@ impl IpNetworkError {
 
     /// An equal error. Allocates once, where the error carries a text, and answers `AllocError` only then.
     pub fn try_clone(&self, alloc: Global) -> Result<Self, AllocError>
-        ensures same { IfOk result (λ copy. refusal_of copy ≡ refusal_of self.now) }
+        ensures same { IfOk result (λ copy. SameError copy self.now) }
         ensures err { OnErr result (HasText (refusal_of self.now)) }
     {
         match self {

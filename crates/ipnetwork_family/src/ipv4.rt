@@ -41,6 +41,8 @@ impl Model for Ipv4Network {
     ghost inverse = { λ n. record { address = n.address; prefix = n.prefix } };
 }
 
+// The clause `network` tells a proof in another crate what holds of each network: both fields are private,
+// so nothing else says it. It stands on the calls that such proofs begin with.
 impl Ipv4Network {
     /// The network of this address, host bits kept, and this prefix length; `None` where that is
     /// greater than 32.
@@ -57,7 +59,7 @@ impl Ipv4Network {
     }
 
     /// The network of this address, host bits kept, and this prefix length; `InvalidPrefix` where that is
-    /// greater than 32. Takes no memory.
+    /// greater than 32. Does not allocate.
     pub fn new(addr: Ipv4Addr, prefix: u8) -> Result<Self, IpNetworkError>
         ensures { MatchResult result (λ n. (n ≡ record { address = addr; prefix = prefix }) × (prefix ≤ 32))
             (λ fault. (fault ≡ IpNetworkError.InvalidPrefix) × (32 < prefix)) }
@@ -69,7 +71,7 @@ impl Ipv4Network {
     }
 
     /// The network of this address, host bits kept, and the prefix length of this mask; `InvalidPrefix`
-    /// where that is none of the 33 masks. Takes no memory.
+    /// where that is none of the 33 masks. Does not allocate.
     pub fn with_netmask(netaddr: Ipv4Addr, netmask: Ipv4Addr) -> Result<Self, IpNetworkError>
         ensures { MatchResult result (λ n. (n.address ≡ netaddr) × (n.prefix ≤ 32) × (netmask ≡ mask_of 32 n.prefix))
             (λ fault. (fault ≡ IpNetworkError.InvalidPrefix) × IsNoMask 32 netmask) }
@@ -175,10 +177,11 @@ impl Ipv4Network {
 
     /// The network that a text names: an IPv4 address, host bits kept, and after a `/` its suffix, a
     /// prefix length of at most 32 or one of the 33 masks as an IPv4 address; without a `/` the prefix
-    /// length is 32. Any other text is refused with its cause. Takes no memory.
+    /// length is 32. Any other text is refused with its cause. Does not allocate.
     pub fn read_bytes(text: &[u8]) -> Result<Self, CidrFault>
         ensures { ReadsV4Network text.now result }
     {
+        // Does nothing. The proof needs the law: no byte of an address text is a `/`.
         laws::v4_text_bytes();
         let (address, suffix) = split(text)?;
         let Ok(address) = Ipv4Addr::read_bytes(address) else {
@@ -206,7 +209,7 @@ impl Ipv4Network {
     }
 
     /// The canonical text, at most 18 bytes: the canonical address, `/` and the shortest decimal of the
-    /// prefix length. Takes no memory.
+    /// prefix length. Does not allocate.
     pub fn canonical(&self) -> ArrayString<TEXT_CAPACITY>
         ensures bytes { result.bytes ≡ network_text canonical_v4 self.now }
         ensures short { length result.bytes ≤ 18 }
@@ -244,6 +247,7 @@ fn read_suffix(suffix: &[u8]) -> Option<u8>
     if let Some(prefix) = read_prefix(suffix, WIDTH) {
         return Some(prefix);
     }
+    // Does nothing. The proof needs the law: the text names no other address, so no other mask.
     laws::v4_text_names_one();
     match Ipv4Addr::read_bytes(suffix) {
         Ok(mask) => prefix_of_mask(u32::from(mask)),
@@ -251,7 +255,7 @@ fn read_suffix(suffix: &[u8]) -> Option<u8>
     }
 }
 
-/// The prefix length of a mask, or `InvalidPrefix` where the address is none of the 33 masks. Takes no memory.
+/// The prefix length of a mask, or `InvalidPrefix` where the address is none of the 33 masks. Does not allocate.
 pub fn ipv4_mask_to_prefix(mask: Ipv4Addr) -> Result<u8, IpNetworkError>
     ensures { MatchResult result (λ p. (p ≤ 32) × (mask ≡ mask_of 32 p))
         (λ fault. (fault ≡ IpNetworkError.InvalidPrefix) × IsNoMask 32 mask) }

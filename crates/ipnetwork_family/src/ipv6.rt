@@ -42,6 +42,8 @@ impl Model for Ipv6Network {
     ghost inverse = { λ n. record { address = n.address; prefix = n.prefix } };
 }
 
+// The clause `network` tells a proof in another crate what holds of each network: both fields are private,
+// so nothing else says it. It stands on the calls that such proofs begin with.
 impl Ipv6Network {
     /// The network of this address, host bits kept, and this prefix length; `None` where that is
     /// greater than 128.
@@ -58,7 +60,7 @@ impl Ipv6Network {
     }
 
     /// The network of this address, host bits kept, and this prefix length; `InvalidPrefix` where that is
-    /// greater than 128. Takes no memory.
+    /// greater than 128. Does not allocate.
     pub fn new(addr: Ipv6Addr, prefix: u8) -> Result<Self, IpNetworkError>
         ensures { MatchResult result (λ n. (n ≡ record { address = addr; prefix = prefix }) × (prefix ≤ 128))
             (λ fault. (fault ≡ IpNetworkError.InvalidPrefix) × (128 < prefix)) }
@@ -70,7 +72,7 @@ impl Ipv6Network {
     }
 
     /// The network of this address, host bits kept, and the prefix length of this mask; `InvalidPrefix`
-    /// where that is none of the 129 masks. Takes no memory.
+    /// where that is none of the 129 masks. Does not allocate.
     pub fn with_netmask(netaddr: Ipv6Addr, netmask: Ipv6Addr) -> Result<Self, IpNetworkError>
         ensures { MatchResult result (λ n. (n.address ≡ netaddr) × (n.prefix ≤ 128) × (netmask ≡ mask_of 128 n.prefix))
             (λ fault. (fault ≡ IpNetworkError.InvalidPrefix) × IsNoMask 128 netmask) }
@@ -176,10 +178,11 @@ impl Ipv6Network {
 
     /// The network that a text names: an IPv6 address, host bits kept, and after a `/` its suffix, a
     /// prefix length of at most 128; without a `/` the prefix length is 128. Any other text is refused
-    /// with its cause. Takes no memory.
+    /// with its cause. Does not allocate.
     pub fn read_bytes(text: &[u8]) -> Result<Self, CidrFault>
         ensures { ReadsV6Network text.now result }
     {
+        // Does nothing. The proof needs the law: no byte of an address text is a `/`.
         laws::v6_text_bytes();
         let (address, suffix) = split(text)?;
         let Ok(address) = Ipv6Addr::read_bytes(address) else {
@@ -207,7 +210,7 @@ impl Ipv6Network {
     }
 
     /// The canonical text, at most 43 bytes: the canonical address, `/` and the shortest decimal of the
-    /// prefix length. Takes no memory.
+    /// prefix length. Does not allocate.
     pub fn canonical(&self) -> ArrayString<TEXT_CAPACITY>
         ensures bytes { result.bytes ≡ network_text canonical_v6 self.now }
         ensures short { length result.bytes ≤ 43 }
@@ -238,7 +241,7 @@ fn prefix_length(suffix: Option<&[u8]>) -> Option<u8>
     }
 }
 
-/// The prefix length of a mask, or `InvalidPrefix` where the address is none of the 129 masks. Takes no memory.
+/// The prefix length of a mask, or `InvalidPrefix` where the address is none of the 129 masks. Does not allocate.
 pub fn ipv6_mask_to_prefix(mask: Ipv6Addr) -> Result<u8, IpNetworkError>
     ensures { MatchResult result (λ p. (p ≤ 128) × (mask ≡ mask_of 128 p))
         (λ fault. (fault ≡ IpNetworkError.InvalidPrefix) × IsNoMask 128 mask) }

@@ -13,8 +13,8 @@ pub use texts::{
     canonical_v4_network_bytes, canonical_v4_network_is_one_to_one, canonical_v4_network_names_it,
     canonical_v4_network_reads_back, canonical_v6_network_bytes,
     canonical_v6_network_is_one_to_one, canonical_v6_network_names_it,
-    canonical_v6_network_reads_back, v4_network_reading_is_computed, v4_network_text_names_one,
-    v6_network_reading_is_computed, v6_network_text_names_one,
+    canonical_v6_network_reads_back, longest_network_text, v4_network_reading_is_computed,
+    v4_network_text_names_one, v6_network_reading_is_computed, v6_network_text_names_one,
 };
 pub use values::{
     cidr_fault_clone, cidr_fault_equality, ip_network_error_equality, network_size_error_clone,

@@ -6,7 +6,7 @@ ghost use Rattle.ipnetwork_family.specs.PrefixNumber.{IsPrefixNumber, IsNoPrefix
 use crate::CidrFault;
 
 /// The part before the only `/` of a text and the part after it, or the whole text and `None` where
-/// there is no `/`. Both are slices of the text. Two or more `/` are `CidrFault::Format`. Takes no memory.
+/// there is no `/`. Two or more `/` are `CidrFault::Format`. Does not allocate.
 pub fn cidr_parts(cidr: &str) -> Result<(&str, Option<&str>), CidrFault>
     ensures { MatchResult result (λ parts. IsSplit cidr.now parts.0.now (option_copied parts.1))
         (λ fault. (fault ≡ CidrFault.Format) × HasSeveralSlashes cidr.now) }
@@ -19,7 +19,7 @@ pub fn cidr_parts(cidr: &str) -> Result<(&str, Option<&str>), CidrFault>
 
 /// The number that a prefix length text names, where it is at most `max`: an optional `+` and one or
 /// more decimal digits, with any number of leading zeros. Any other text is `CidrFault::Prefix`.
-/// Takes no memory.
+/// Does not allocate.
 pub fn parse_prefix(prefix: &str, max: u8) -> Result<u8, CidrFault>
     ensures { MatchResult result (λ value. IsPrefixNumber prefix.now value × (value ≤ max))
         (λ fault. (fault ≡ CidrFault.Prefix) × IsNoPrefixNumber prefix.now max) }

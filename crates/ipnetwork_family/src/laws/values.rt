@@ -1,5 +1,6 @@
 //! Laws of the values: what `==`, the order, the hash and the copies of networks and faults say.
-ghost use Rattle.std.specs.Prelude.{◌≡◌, ◌↔◌, IsTrue, Ok};
+ghost use Rattle.std.specs.Prelude.{◌≡◌, ◌↔◌, ◌++◌, IsTrue, Ok, fold};
+ghost use Rattle.std.specs.Hash as fed;
 ghost use Rattle.ipnetwork_family.specs.Network.{IsBefore, AtMost, network_cmp};
 ghost use Rattle.ipnetwork_family.specs.Faults.{SameError};
 
@@ -61,17 +62,23 @@ pub fn v6_network_order(a: Ipv6Network, b: Ipv6Network) -> (bool, bool, Ordering
     (a < b, a <= b, a.cmp(&b))
 }
 
-/// Two hashers in one state that are fed equal IPv4 networks are in one state afterwards.
+/// An IPv4 network feeds a hasher its address and then its prefix length. So two hashers in one state that
+/// are fed equal networks are in one state afterwards.
 pub fn v4_network_hash<H: Hasher>(a: &Ipv4Network, b: &Ipv4Network, one: &mut H, other: &mut H)
-    ensures { a.now ≡ b.now → one.old ≡ other.old → one.new ≡ other.new }
+    ensures first { one.new ≡ fold H.write one.old (fed.u32 a.now.address ++ fed.u8 a.now.prefix) }
+    ensures second { other.new ≡ fold H.write other.old (fed.u32 b.now.address ++ fed.u8 b.now.prefix) }
+    ensures alike { a.now ≡ b.now → one.old ≡ other.old → one.new ≡ other.new }
 {
     a.hash(one);
     b.hash(other);
 }
 
-/// Two hashers in one state that are fed equal IPv6 networks are in one state afterwards.
+/// An IPv6 network feeds a hasher its address and then its prefix length. So two hashers in one state that
+/// are fed equal networks are in one state afterwards.
 pub fn v6_network_hash<H: Hasher>(a: &Ipv6Network, b: &Ipv6Network, one: &mut H, other: &mut H)
-    ensures { a.now ≡ b.now → one.old ≡ other.old → one.new ≡ other.new }
+    ensures first { one.new ≡ fold H.write one.old (fed.u128 a.now.address ++ fed.u8 a.now.prefix) }
+    ensures second { other.new ≡ fold H.write other.old (fed.u128 b.now.address ++ fed.u8 b.now.prefix) }
+    ensures alike { a.now ≡ b.now → one.old ≡ other.old → one.new ≡ other.new }
 {
     a.hash(one);
     b.hash(other);

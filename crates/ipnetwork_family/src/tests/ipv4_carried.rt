@@ -123,9 +123,9 @@ fn parse_netmask_broken_v4(rt: HostRuntime) {
 #[test]
 fn nth_v4(rt: HostRuntime) -> Result<(), Fail> {
     let n = network("127.0.0.0/24")?;
-    assert_eq!(rt; n.nth(0), Some(address("127.0.0.0")?));
-    assert_eq!(rt; n.nth(1), Some(address("127.0.0.1")?));
-    assert_eq!(rt; n.nth(255), Some(address("127.0.0.255")?));
+    for (number, text) in [(0, "127.0.0.0"), (1, "127.0.0.1"), (255, "127.0.0.255")] {
+        assert_eq!(rt; n.nth(number), Some(address(text)?), "{number}");
+    }
     assert_eq!(rt; n.nth(256), None);
     Ok(())
 }
@@ -242,25 +242,41 @@ fn ipv4network_from_ipv4addr(rt: HostRuntime) -> Result<(), Fail> {
 
 #[test]
 fn test_is_subnet_of(rt: HostRuntime) -> Result<(), Fail> {
-    assert!(rt; !network("10.0.0.0/30")?.is_subnet_of(network("10.0.1.0/24")?));
-    assert!(rt; network("10.0.0.0/30")?.is_subnet_of(network("10.0.0.0/24")?));
-    assert!(rt; !network("10.0.1.0/24")?.is_subnet_of(network("10.0.0.0/30")?));
+    for (a, b, inside) in [
+        ("10.0.0.0/30", "10.0.1.0/24", false),
+        ("10.0.0.0/30", "10.0.0.0/24", true),
+        ("10.0.1.0/24", "10.0.0.0/30", false),
+    ] {
+        assert_eq!(rt; network(a)?.is_subnet_of(network(b)?), inside, "{a} {b}");
+    }
     Ok(())
 }
 
 #[test]
 fn test_is_supernet_of(rt: HostRuntime) -> Result<(), Fail> {
-    assert!(rt; !network("10.0.0.0/30")?.is_supernet_of(network("10.0.1.0/24")?));
-    assert!(rt; !network("10.0.0.0/30")?.is_supernet_of(network("10.0.0.0/24")?));
-    assert!(rt; network("10.0.0.0/24")?.is_supernet_of(network("10.0.0.0/30")?));
+    for (a, b, contains) in [
+        ("10.0.0.0/30", "10.0.1.0/24", false),
+        ("10.0.0.0/30", "10.0.0.0/24", false),
+        ("10.0.0.0/24", "10.0.0.0/30", true),
+    ] {
+        assert_eq!(rt;
+            network(a)?.is_supernet_of(network(b)?),
+            contains,
+            "{a} {b}"
+        );
+    }
     Ok(())
 }
 
 #[test]
 fn test_overlaps(rt: HostRuntime) -> Result<(), Fail> {
-    assert!(rt; network("1.2.3.0/24")?.overlaps(network("1.2.3.0/30")?));
-    assert!(rt; !network("1.2.3.0/24")?.overlaps(network("1.2.2.0/24")?));
-    assert!(rt; network("1.2.2.0/24")?.overlaps(network("1.2.2.64/26")?));
+    for (a, b, shared) in [
+        ("1.2.3.0/24", "1.2.3.0/30", true),
+        ("1.2.3.0/24", "1.2.2.0/24", false),
+        ("1.2.2.0/24", "1.2.2.64/26", true),
+    ] {
+        assert_eq!(rt; network(a)?.overlaps(network(b)?), shared, "{a} {b}");
+    }
     Ok(())
 }
 

@@ -176,17 +176,29 @@ fn ipv6network_from_ipv6addr(rt: HostRuntime) -> Result<(), Fail> {
 
 #[test]
 fn test_is_subnet_of(rt: HostRuntime) -> Result<(), Fail> {
-    assert!(rt; network("2000:aaa::/56")?.is_subnet_of(network("2000:aaa::/48")?));
-    assert!(rt; !network("2000:999::/56")?.is_subnet_of(network("2000:aaa::/48")?));
-    assert!(rt; !network("2000:bbb::/56")?.is_subnet_of(network("2000:aaa::/48")?));
+    for (a, b, inside) in [
+        ("2000:aaa::/56", "2000:aaa::/48", true),
+        ("2000:999::/56", "2000:aaa::/48", false),
+        ("2000:bbb::/56", "2000:aaa::/48", false),
+    ] {
+        assert_eq!(rt; network(a)?.is_subnet_of(network(b)?), inside, "{a} {b}");
+    }
     Ok(())
 }
 
 #[test]
 fn test_is_supernet_of(rt: HostRuntime) -> Result<(), Fail> {
-    assert!(rt; network("2000:aaa::/48")?.is_supernet_of(network("2000:aaa::/56")?));
-    assert!(rt; !network("2000:aaa::/56")?.is_supernet_of(network("2000:aaa::/48")?));
-    assert!(rt; !network("2000:aaa::/48")?.is_supernet_of(network("2000:999::/56")?));
+    for (a, b, contains) in [
+        ("2000:aaa::/48", "2000:aaa::/56", true),
+        ("2000:aaa::/56", "2000:aaa::/48", false),
+        ("2000:aaa::/48", "2000:999::/56", false),
+    ] {
+        assert_eq!(rt;
+            network(a)?.is_supernet_of(network(b)?),
+            contains,
+            "{a} {b}"
+        );
+    }
     Ok(())
 }
 
@@ -214,9 +226,9 @@ fn edges(rt: HostRuntime) -> Result<(), Fail> {
 #[test]
 fn test_nth_ipv6(rt: HostRuntime) -> Result<(), Fail> {
     let n = network("ff01::/32")?;
-    assert_eq!(rt; n.nth(0), Some(address("ff01::")?));
-    assert_eq!(rt; n.nth(255), Some(address("ff01::ff")?));
-    assert_eq!(rt; n.nth(65538), Some(address("ff01::1:2")?));
+    for (number, text) in [(0, "ff01::"), (255, "ff01::ff"), (65538, "ff01::1:2")] {
+        assert_eq!(rt; n.nth(number), Some(address(text)?), "{number}");
+    }
     assert_eq!(rt; n.nth(n.size()), None);
     Ok(())
 }

@@ -90,39 +90,33 @@ const ENDS: [(&str, &str, &str, &str, u128); 12] = [
 fn mask_network_broadcast_size(rt: HostRuntime) -> Result<(), Fail> {
     for (text, low, high, mask, size) in ENDS {
         let n = network(text)?;
-        assert_eq!(rt; n.network(), address(low)?, "{text}");
-        assert_eq!(rt; n.broadcast(), address(high)?, "{text}");
-        assert_eq!(rt; n.mask(), address(mask)?, "{text}");
-        assert_eq!(rt; n.size(), size, "{text}");
-        assert_eq!(rt; n.nth(0), Some(address(low)?), "{text}");
-        assert_eq!(rt; n.nth(size), None, "{text}");
-        assert!(rt; n.contains(address(low)?), "{text}");
-        assert!(rt; n.contains(address(high)?), "{text}");
-        assert!(rt; n.overlaps(network(text)?), "{text}");
-        assert!(rt; n.is_subnet_of(network(text)?), "{text}");
-        assert!(rt; n.is_subnet_of(network("::/0")?), "{text}");
-        assert_eq!(rt; n.iter().next(), Some(address(low)?), "{text}");
+        let (low, high) = (address(low)?, address(high)?);
+        let answers = (n.network(), n.broadcast(), n.mask(), n.size());
+        assert_eq!(rt; answers, (low, high, address(mask)?, size), "{text}");
         assert_eq!(rt; ipv6_mask_to_prefix(n.mask()), Ok(n.prefix()), "{text}");
+        assert_eq!(rt; (n.nth(0), n.nth(size)), (Some(low), None), "{text}");
+        assert_eq!(rt; (n.contains(low), n.contains(high)), (true, true), "{text}");
+        assert_eq!(rt; (n.overlaps(n), n.is_subnet_of(n)), (true, true), "{text}");
+        assert_eq!(rt; n.iter().next(), Some(low), "{text}");
     }
     Ok(())
 }
 
 #[test]
 fn masks_and_prefix_lengths(rt: HostRuntime) -> Result<(), Fail> {
-    assert_eq!(rt; ipv6_mask_to_prefix(address("ffff:ffff:ffff::")?), Ok(48));
-    assert_eq!(rt; ipv6_mask_to_prefix(address(LAST)?), Ok(128));
-    assert_eq!(rt; ipv6_mask_to_prefix(address("::")?), Ok(0));
-    for text in ["0:0:ffff:ffff::", "ffff:ff00:0:1::", "::1", "7fff::"] {
-        assert_eq!(rt;
-            ipv6_mask_to_prefix(address(text)?),
-            Err(IpNetworkError::InvalidPrefix),
-            "{text}"
-        );
+    for (text, prefix) in [
+        ("ffff:ffff:ffff::", Ok(48)),
+        (LAST, Ok(128)),
+        ("::", Ok(0)),
+        ("0:0:ffff:ffff::", Err(IpNetworkError::InvalidPrefix)),
+        ("ffff:ff00:0:1::", Err(IpNetworkError::InvalidPrefix)),
+        ("::1", Err(IpNetworkError::InvalidPrefix)),
+        ("7fff::", Err(IpNetworkError::InvalidPrefix)),
+    ] {
+        assert_eq!(rt; ipv6_mask_to_prefix(address(text)?), prefix, "{text}");
     }
     for prefix in 0..=128u8 {
-        let Some(n) = Ipv6Network::new_checked(Ipv6Addr::from(0), prefix) else {
-            return Err(Fail::from("a prefix length"));
-        };
+        let n = Ipv6Network::new(Ipv6Addr::from(0), prefix)?;
         assert_eq!(rt; ipv6_mask_to_prefix(n.mask()), Ok(prefix));
     }
     Ok(())
@@ -158,13 +152,17 @@ fn subsets_and_overlap(rt: HostRuntime) -> Result<(), Fail> {
         ("2000:999::/56", "2000:aaa::/48", false, false),
         ("2000:bbb::/56", "2000:aaa::/48", false, false),
         ("ffff::/16", "::1/0", true, true),
+        ("2001:db8::/96", "::/0", true, true),
         ("2001:db8:acad::20:2/64", "2001:db8:acad::1/64", true, true),
         ("::/128", "::1/128", false, false),
     ] {
-        assert_eq!(rt; network(a)?.is_subnet_of(network(b)?), inside, "{a} {b}");
-        assert_eq!(rt; network(b)?.is_supernet_of(network(a)?), inside, "{a} {b}");
-        assert_eq!(rt; network(a)?.overlaps(network(b)?), shared, "{a} {b}");
-        assert_eq!(rt; network(b)?.overlaps(network(a)?), shared, "{b} {a}");
+        let (a, b) = (network(a)?, network(b)?);
+        assert_eq!(rt;
+            (a.is_subnet_of(b), b.is_supernet_of(a)),
+            (inside, inside),
+            "{a} {b}"
+        );
+        assert_eq!(rt; (a.overlaps(b), b.overlaps(a)), (shared, shared), "{a} {b}");
     }
     Ok(())
 }
@@ -177,32 +175,27 @@ pub(super) fn lists(
     for text in texts {
         assert_eq!(rt; left.next(), Some(address(text)?));
     }
-    assert_eq!(rt; left.next(), None);
-    assert_eq!(rt; left.next(), None);
+    for _ in 0..3 {
+        assert_eq!(rt; left.next(), None);
+    }
     Ok(())
 }
 
 #[test]
 fn members_in_order(rt: HostRuntime) -> Result<(), Fail> {
-    let mut first = network("2001:db8::/0")?.iter();
-    assert_eq!(rt; first.next(), Some(address("::")?));
-    assert_eq!(rt; first.next(), Some(address("::1")?));
-    assert_eq!(rt; first.next(), Some(address("::2")?));
-    let last = "ffff:ffff:ffff:ffff:ffff:ffff:ffff:fffe";
-    let end = Ipv6Network::new_checked(address(LAST)?, 127).ok_or("a prefix length")?;
-    lists(&rt, end.iter(), &[last, LAST])?;
-    lists(&rt, (&end).into_iter(), &[last, LAST])?;
+    let last = ["ffff:ffff:ffff:ffff:ffff:ffff:ffff:fffe", LAST];
+    let end = Ipv6Network::new(address(LAST)?, 127)?;
+    lists(&rt, end.iter(), &last)?;
+    lists(&rt, (&end).into_iter(), &last)?;
     let mut left = end.iter();
     let _ = left.next();
-    lists(&rt, left.clone()?, &[LAST])?;
-    Ok(())
+    lists(&rt, left.clone()?, &[LAST])
 }
 
 #[test]
 fn members_by_number(rt: HostRuntime) -> Result<(), Fail> {
-    let n = network("ff01::/32")?;
-    assert_eq!(rt; n.nth(65538), Some(address("ff01::1:2")?));
-    assert_eq!(rt; network("::/0")?.nth(ALL), None);
-    assert_eq!(rt; network("::/1")?.nth(HALF), None);
+    for (text, number) in [("::/0", ALL), ("::/1", HALF)] {
+        assert_eq!(rt; network(text)?.nth(number), None, "{text}");
+    }
     Ok(())
 }
