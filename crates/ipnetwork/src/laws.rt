@@ -6,7 +6,7 @@ ghost use Rattle.std.specs.Ordering.{nat_cmp};
 ghost use Rattle.std.specs.List.{AllByRecursion};
 ghost use Rattle.ipnetwork_family.specs.NetworkText.{IsNetworkByte};
 ghost use Rattle.ipnetwork_family.specs.declared.error.CidrFault.{CidrFault};
-ghost use Rattle.ipnetwork.specs.IpNetworks.{IsIpNetwork, IsAtMost, AreApart, IpMember, IpSubnet, is_ip_member, is_ip_subnet};
+ghost use Rattle.ipnetwork.specs.IpNetworks.{IsIpNetwork, IpIsBefore, IpIsAtMost, ip_network_cmp, ip_network_writes, AreApart, IpMember, IpSubnet, is_ip_member, is_ip_subnet};
 ghost use Rattle.ipnetwork.specs.IpNetworkText.{NamesIpNetwork, ReadsIpNetwork, ip_network_text, ip_network_of};
 ghost use Rattle.ipnetwork.specs.Sizes.{number_of};
 ghost use Rattle.ipnetwork_family.specs.Network.{Network, IsNetwork};
@@ -30,9 +30,9 @@ pub use ipnetwork_family::laws::{
     canonical_v4_network_names_it, canonical_v4_network_reads_back, canonical_v6_network_bytes,
     canonical_v6_network_is_one_to_one, canonical_v6_network_names_it,
     canonical_v6_network_reads_back, cidr_fault_clone, cidr_fault_equality, ends,
-    ip_network_error_equality, listing, masks, membership_is_computed, nesting,
-    network_size_error_clone, network_size_error_equality, order, subnet_is_computed, subnets,
-    v4_network_clone, v4_network_equality, v4_network_hash, v4_network_order,
+    ip_network_error_equality, listing, longest_network_text, masks, membership_is_computed,
+    nesting, network_size_error_clone, network_size_error_equality, order, subnet_is_computed,
+    subnets, v4_network_clone, v4_network_equality, v4_network_hash, v4_network_order,
     v4_network_reading_is_computed, v4_network_text_names_one, v6_network_clone,
     v6_network_equality, v6_network_hash, v6_network_order, v6_network_reading_is_computed,
     v6_network_text_names_one,
@@ -139,7 +139,8 @@ pub fn network_size_order(a: NetworkSize, b: NetworkSize) -> (bool, bool, Orderi
     (a < b, a <= b, a.cmp(&b))
 }
 
-/// A size is hashed as its number of 128 bits, so that equal sizes leave a hasher in one state.
+/// A size feeds a hasher its number as one of 128 bits, whatever its variant. So two hashers in one state
+/// that are fed equal sizes are in one state afterwards.
 pub fn network_size_hash<H: Hasher>(size: NetworkSize, state: &mut H)
     ensures { state.new ≡ fold H.write state.old (fed.u128 (number_of size)) }
 {
@@ -153,11 +154,21 @@ pub fn network_size_clone(size: NetworkSize) -> Result<NetworkSize, AllocError>
     size.clone()
 }
 
-/// Equal networks leave a hasher in one state.
+/// Each IPv4 network is before each IPv6 network, and in a family networks are ordered by address, then by
+/// prefix length: `<`, `<=` and `cmp`.
+pub fn ip_network_order(a: IpNetwork, b: IpNetwork) -> (bool, bool, Ordering)
+    ensures less { IsTrue result.0 ↔ IpIsBefore a b }
+    ensures at_most { IsTrue result.1 ↔ IpIsAtMost a b }
+    ensures compare { result.2 ≡ ip_network_cmp a b }
+{
+    (a < b, a <= b, a.cmp(&b))
+}
+
+/// A network feeds a hasher its family, its address and its prefix length. So two hashers in one state that
+/// are fed equal networks are in one state afterwards.
 pub fn ip_network_hash<H: Hasher>(a: IpNetwork, b: IpNetwork, first: &mut H, second: &mut H)
-    requires equal { a ≡ b }
-    requires same_state { first.old ≡ second.old }
-    ensures { first.new ≡ second.new }
+    ensures fed { first.new ≡ fold H.write first.old (ip_network_writes a) }
+    ensures alike { a ≡ b → first.old ≡ second.old → first.new ≡ second.new }
 {
     a.hash(first);
     b.hash(second);
