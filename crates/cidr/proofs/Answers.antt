@@ -1,7 +1,7 @@
 -- The answer to a line, by its words.
 use Rattle.std.proofs.Common.{◌≡◌, ℕ, Bool, true, false, cond, List, [], ◌∷◌, ◌++◌, Option, None, Some, refl, sym, ap, ◌∙◌}
 use Rattle.std.specs.Prelude.{bytes_eq}
-use Rattle.cidr.specs.Words.{IsLastWord, IsWordBefore}
+use Rattle.cidr.specs.Private.Words.{IsLastWord, IsWordBefore}
 use Rattle.cidr.specs.Commands.{unknown, one_word_answer, two_words_answer, answer_to, command_answer}
 use Rattle.cidr.proofs.Cuts.{words_cons}
 

@@ -1,7 +1,8 @@
 -- A line, cut at its first blank.
 use Rattle.std.proofs.Common.{◌≡◌, ℕ, ◌+◌, List, ◌∷◌, take, drop, refl, ap, ◌∙◌}
 use Rattle.cidr.specs.Private.Bytes.{HasNo, IsFirst}
-use Rattle.cidr.specs.Words.{words, IsLastWord, IsWordBefore}
+use Rattle.cidr.specs.Private.Words.{IsLastWord, IsWordBefore}
+use Rattle.cidr.specs.Words.{words}
 use Rattle.cidr.proofs.BytesLemmas.{split_at, split_none, split_cons, split_text}
 
 pub cut_here : (line : List ℕ) (at : ℕ) → IsFirst 32 line at → IsWordBefore line (take at line) (drop (at + 1) line)

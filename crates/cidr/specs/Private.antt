@@ -4,3 +4,4 @@ pub mod Device
 pub mod Line
 pub mod Progress
 pub mod Replies
+pub mod Words

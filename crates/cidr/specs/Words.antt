@@ -1,5 +1,5 @@
 -- The words of a line, cut at each blank: two blanks in a row have an empty word between them.
-use Rattle.std.specs.Prelude.{◌≡◌, ℕ, ◌==◌, List, [], ◌∷◌}
+use Rattle.std.specs.Prelude.{ℕ, ◌==◌, List}
 use Rattle.std.specs.List.{slice_split}
 
 -- `b' '`
@@ -9,11 +9,3 @@ blank = 32
 -- the words of a line
 abbrev pub words : List ℕ → List (List ℕ)
 words line = slice_split (λ byte. byte == blank) line
-
--- the line is one word
-abbrev pub IsLastWord : List ℕ → Type 0
-IsLastWord line = words line ≡ line ∷ []
-
--- the line is a word, a blank and the rest
-abbrev pub IsWordBefore : List ℕ → List ℕ → List ℕ → Type 0
-IsWordBefore line word rest = words line ≡ word ∷ words rest

@@ -1,6 +1,9 @@
 //! Answers each line of standard input on standard output.
 #![tactic(auto)]
 
+ghost use Rattle.std.specs.Prelude.{◌≡◌, is_ok, if◌then◌else◌};
+ghost use Rattle.std.specs.Process.{exit_status};
+
 mod answer;
 mod either;
 mod engine;
@@ -15,6 +18,7 @@ mod tests;
 mod watched;
 mod words;
 
+use crate::fault::RunFault;
 use crate::run::run;
 use crate::watched::Watched;
 use std::process::ExitCode;
@@ -22,11 +26,19 @@ use std::process::ExitCode;
 fn main(rt: HostRuntime) -> ExitCode {
     let mut reader = Watched::new(rt.stdin());
     let mut writer = Watched::new(rt.stdout());
-    match run(rt.alloc(), &mut reader, &mut writer) {
+    let end = run(rt.alloc(), &mut reader, &mut writer);
+    if let Err(fault) = end {
+        let _ = rt.eprintln(fault.text());
+    }
+    status(end)
+}
+
+/// The exit status of the program: 0 after a run that answered its whole input, and else 1.
+fn status(end: Result<(), RunFault>) -> ExitCode
+    ensures { exit_status result ≡ if is_ok end then 0 else 1 }
+{
+    match end {
         Ok(()) => ExitCode::SUCCESS,
-        Err(fault) => {
-            let _ = rt.eprintln(fault.text());
-            ExitCode::FAILURE
-        }
+        Err(_) => ExitCode::FAILURE,
     }
 }

@@ -13,7 +13,8 @@ use std::io::{Read, Write};
 
 /// Answers each line that `reader` gives, up to 4,294,967,295 bytes, and then flushes.
 ///
-/// It is `run_limited` at that limit. Does not allocate: `alloc` is not used.
+/// It is `run_limited` at that limit: the same errors, and the same premise for what is promised of bytes. Does not
+/// allocate: `alloc` is not used.
 pub fn run<R: Read, W: Write>(
     alloc: Global,
     reader: &mut Watched<R>,

@@ -1,6 +1,6 @@
 //! The words of a line.
 ghost use Rattle.std.specs.Prelude.{MatchOption};
-ghost use Rattle.cidr.specs.Words.{IsLastWord, IsWordBefore};
+ghost use Rattle.cidr.specs.Private.Words.{IsLastWord, IsWordBefore};
 
 use crate::find::find;
 

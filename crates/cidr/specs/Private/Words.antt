@@ -1,0 +1,11 @@
+-- A line, cut at its first blank.
+use Rattle.std.specs.Prelude.{◌≡◌, ℕ, List, [], ◌∷◌}
+use Rattle.cidr.specs.Words.{words}
+
+-- the line is one word
+abbrev pub IsLastWord : List ℕ → Type 0
+IsLastWord line = words line ≡ line ∷ []
+
+-- the line is a word, a blank and the rest
+abbrev pub IsWordBefore : List ℕ → List ℕ → List ℕ → Type 0
+IsWordBefore line word rest = words line ≡ word ∷ words rest
