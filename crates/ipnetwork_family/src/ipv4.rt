@@ -1,8 +1,8 @@
 //! IPv4 networks.
-ghost use Rattle.std.specs.Prelude.{◌≡◌, ℕ, ◌+◌, ◌<◌, ◌≤◌, ◌↔◌, IsTrue, Some, MatchOption, MatchResult, IfOk, string_bytes, length, option_copied};
+ghost use Rattle.std.specs.Prelude.{◌≡◌, ℕ, ◌+◌, ◌^◌, ◌<◌, ◌≤◌, ◌↔◌, IsTrue, Some, MatchOption, MatchResult, IfOk, string_bytes, length, option_copied};
 ghost use Rattle.std.specs.Option.{SomeIff};
 ghost use Rattle.ipnetwork_addr.specs.Ipv4Text.{NamesV4, canonical_v4};
-ghost use Rattle.ipnetwork_family.specs.Network.{Network, IsNetwork, Member, IsNoMask, mask_of, low, high, size_of, members, Subnet, Overlap};
+ghost use Rattle.ipnetwork_family.specs.Network.{Network, IsNetwork, Member, IsNoMask, mask_of, low, high, size_of, members, Subnet, Overlap, block_of};
 ghost use Rattle.ipnetwork_family.specs.NetworkText.{GivesPrefix, GivesNoPrefix, network_text};
 ghost use Rattle.ipnetwork_family.specs.Ipv4NetworkText.{IsV4Suffix, IsNoV4Suffix, ReadsV4Network};
 ghost use Rattle.ipnetwork_family.specs.Parsing.{ParsesV4Network};
@@ -55,6 +55,20 @@ impl Ipv4Network {
         Some(Ipv4Network {
             address: u32::from(addr),
             prefix,
+        })
+    }
+
+    /// The network without host bits of this prefix length that holds the address; `None` where the
+    /// prefix length is greater than 32. Does not allocate.
+    pub fn block(addr: Ipv4Addr, prefix: u8) -> Option<Self>
+        ensures address { addr < 2 ^ 32 }
+        ensures cases { MatchOption result (32 < prefix)
+            (λ n. (prefix ≤ 32) × (n ≡ block_of 32 (record { address = addr; prefix = prefix }))) }
+    {
+        let network = Ipv4Network::new_checked(addr, prefix)?;
+        Some(Ipv4Network {
+            address: u32::from(network.network()),
+            prefix: network.prefix(),
         })
     }
 

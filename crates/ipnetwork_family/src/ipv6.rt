@@ -1,9 +1,9 @@
 //! IPv6 networks.
-ghost use Rattle.std.specs.Prelude.{◌≡◌, ℕ, ◌+◌, ◌<◌, ◌≤◌, ◌↔◌, IsTrue, Some, MatchOption, MatchResult, IfOk, string_bytes, length, option_copied};
+ghost use Rattle.std.specs.Prelude.{◌≡◌, ℕ, ◌+◌, ◌^◌, ◌<◌, ◌≤◌, ◌↔◌, IsTrue, Some, MatchOption, MatchResult, IfOk, string_bytes, length, option_copied};
 ghost use Rattle.std.specs.Option.{SomeIff};
 ghost use Rattle.ipnetwork_addr.specs.Ipv6Text.{NamesV6};
 ghost use Rattle.ipnetwork_addr.specs.Ipv6Canonical.{canonical_v6};
-ghost use Rattle.ipnetwork_family.specs.Network.{Network, IsNetwork, Member, IsNoMask, mask_of, low, high, size_of, members, Subnet, Overlap};
+ghost use Rattle.ipnetwork_family.specs.Network.{Network, IsNetwork, Member, IsNoMask, mask_of, low, high, size_of, members, Subnet, Overlap, block_of};
 ghost use Rattle.ipnetwork_family.specs.NetworkText.{GivesPrefix, GivesNoPrefix, network_text};
 ghost use Rattle.ipnetwork_family.specs.Ipv6NetworkText.{IsV6Suffix, ReadsV6Network};
 ghost use Rattle.ipnetwork_family.specs.Parsing.{ParsesV6Network};
@@ -56,6 +56,20 @@ impl Ipv6Network {
         Some(Ipv6Network {
             address: u128::from(addr),
             prefix,
+        })
+    }
+
+    /// The network without host bits of this prefix length that holds the address; `None` where the
+    /// prefix length is greater than 128. Does not allocate.
+    pub fn block(addr: Ipv6Addr, prefix: u8) -> Option<Self>
+        ensures address { addr < 2 ^ 128 }
+        ensures cases { MatchOption result (128 < prefix)
+            (λ n. (prefix ≤ 128) × (n ≡ block_of 128 (record { address = addr; prefix = prefix }))) }
+    {
+        let network = Ipv6Network::new_checked(addr, prefix)?;
+        Some(Ipv6Network {
+            address: u128::from(network.network()),
+            prefix: network.prefix(),
         })
     }
 

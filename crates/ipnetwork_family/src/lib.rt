@@ -4,6 +4,7 @@
 //! No call allocates. A text is a slice of bytes, of any length and any bytes.
 #![tactic(auto)]
 
+mod cidr_network;
 mod error;
 mod ipv4;
 mod ipv4_iter;
@@ -16,6 +17,7 @@ pub mod parse;
 #[cfg(test)]
 mod tests;
 
+pub use cidr_network::CidrNetwork;
 pub use error::{CidrFault, IpNetworkError, NetworkSizeError};
 pub use ipv4::{Ipv4Network, ipv4_mask_to_prefix};
 pub use ipv4_iter::Ipv4NetworkIterator;

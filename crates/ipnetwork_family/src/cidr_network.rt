@@ -1,0 +1,166 @@
+//! What the networks of both families have in common.
+ghost use Rattle.std.specs.Prelude.{◌≡◌, ◌↔◌, ℕ, ◌^◌, ◌<◌, ◌≤◌, IsTrue, MatchOption};
+ghost use Rattle.std.specs.Ordering.{nat_cmp};
+ghost use Rattle.ipnetwork_family.specs.Network.{Network, IsNetwork, Member, Subnet, Overlap, block_of, low, high, network_cmp};
+
+use crate::{Ipv4Network, Ipv6Network};
+use ipnetwork_addr::{Ipv4Addr, Ipv6Addr};
+
+/// A network of addresses of `WIDTH` bits, for code that is generic over both families.
+///
+/// An address means a number of `WIDTH` bits and is ordered by it. A network means its address, host bits
+/// included, and its prefix length, and is ordered by these two. No call allocates.
+pub trait CidrNetwork: Copy + Ord {
+    /// The addresses of the family.
+    type Addr: Copy + Ord;
+
+    /// The number of bits of an address, and the greatest prefix length.
+    const WIDTH: u8;
+
+    ghost WIDTH: { ℕ };
+
+    ghost number: { Self.Addr → ℕ };
+
+    ghost pair: { Self → Network };
+
+    /// The address as made, host bits included.
+    fn ip(&self) -> Self::Addr
+        ensures made { number result ≡ (pair self.now).address }
+        ensures network { IsNetwork WIDTH (pair self.now) };
+
+    /// The prefix length, in bits.
+    fn prefix(&self) -> u8
+        ensures made { result ≡ (pair self.now).prefix }
+        ensures network { IsNetwork WIDTH (pair self.now) };
+
+    /// The least member: the address with its host bits cleared.
+    fn network(&self) -> Self::Addr
+        ensures { number result ≡ low WIDTH (pair self.now) };
+
+    /// The greatest member: the address with its host bits set.
+    fn broadcast(&self) -> Self::Addr
+        ensures { number result ≡ high WIDTH (pair self.now) };
+
+    /// Whether an address lies in the network's set.
+    fn contains(&self, ip: Self::Addr) -> bool
+        ensures { IsTrue result ↔ Member WIDTH (pair self.now) (number ip) };
+
+    /// Whether each member is one of `other`, host bits or not.
+    fn is_subnet_of(self, other: Self) -> bool
+        ensures { IsTrue result ↔ Subnet WIDTH (pair self) (pair other) };
+
+    /// Whether some address is a member of both.
+    fn overlaps(self, other: Self) -> bool
+        ensures { IsTrue result ↔ Overlap WIDTH (pair self) (pair other) };
+
+    /// The network without host bits of this prefix length that holds the address; `None` where the
+    /// prefix length is greater than `WIDTH`.
+    fn block(addr: Self::Addr, prefix: u8) -> Option<Self>
+        ensures address { number addr < 2 ^ WIDTH }
+        ensures cases { MatchOption result (WIDTH < prefix)
+            (λ n. (prefix ≤ WIDTH) × (pair n ≡ block_of WIDTH (record { address = number addr; prefix = prefix }))) };
+
+    ghost address_order: { (x y : Self.Addr) → Self.Addr.cmp x y ≡ nat_cmp (number x) (number y) };
+
+    ghost network_order: { (a b : Self) → Self.cmp a b ≡ network_cmp (pair a) (pair b) };
+}
+
+impl CidrNetwork for Ipv4Network {
+    ghost use Rattle.std.specs.Prelude.{refl};
+
+    type Addr = Ipv4Addr;
+
+    const WIDTH: u8 = 32;
+
+    ghost WIDTH = { 32 };
+
+    ghost number = { λ address. address };
+
+    ghost pair = { λ network. network };
+
+    fn ip(&self) -> Ipv4Addr {
+        Ipv4Network::ip(self)
+    }
+
+    fn prefix(&self) -> u8 {
+        Ipv4Network::prefix(self)
+    }
+
+    fn network(&self) -> Ipv4Addr {
+        Ipv4Network::network(self)
+    }
+
+    fn broadcast(&self) -> Ipv4Addr {
+        Ipv4Network::broadcast(self)
+    }
+
+    fn contains(&self, ip: Ipv4Addr) -> bool {
+        Ipv4Network::contains(self, ip)
+    }
+
+    fn is_subnet_of(self, other: Ipv4Network) -> bool {
+        Ipv4Network::is_subnet_of(self, other)
+    }
+
+    fn overlaps(self, other: Ipv4Network) -> bool {
+        Ipv4Network::overlaps(self, other)
+    }
+
+    fn block(addr: Ipv4Addr, prefix: u8) -> Option<Ipv4Network> {
+        Ipv4Network::block(addr, prefix)
+    }
+
+    ghost address_order = { λ x y. refl };
+
+    ghost network_order = { λ a b. refl };
+}
+
+impl CidrNetwork for Ipv6Network {
+    ghost use Rattle.std.specs.Prelude.{refl};
+
+    type Addr = Ipv6Addr;
+
+    const WIDTH: u8 = 128;
+
+    ghost WIDTH = { 128 };
+
+    ghost number = { λ address. address };
+
+    ghost pair = { λ network. network };
+
+    fn ip(&self) -> Ipv6Addr {
+        Ipv6Network::ip(self)
+    }
+
+    fn prefix(&self) -> u8 {
+        Ipv6Network::prefix(self)
+    }
+
+    fn network(&self) -> Ipv6Addr {
+        Ipv6Network::network(self)
+    }
+
+    fn broadcast(&self) -> Ipv6Addr {
+        Ipv6Network::broadcast(self)
+    }
+
+    fn contains(&self, ip: Ipv6Addr) -> bool {
+        Ipv6Network::contains(self, ip)
+    }
+
+    fn is_subnet_of(self, other: Ipv6Network) -> bool {
+        Ipv6Network::is_subnet_of(self, other)
+    }
+
+    fn overlaps(self, other: Ipv6Network) -> bool {
+        Ipv6Network::overlaps(self, other)
+    }
+
+    fn block(addr: Ipv6Addr, prefix: u8) -> Option<Ipv6Network> {
+        Ipv6Network::block(addr, prefix)
+    }
+
+    ghost address_order = { λ x y. refl };
+
+    ghost network_order = { λ a b. refl };
+}
