@@ -5,6 +5,7 @@ pub mod ComputedNetworks
 pub mod ComputedV4
 pub mod ComputedV6
 pub mod Examples
+pub mod Generic
 pub mod Masks
 pub mod Members
 pub mod NetworkTexts

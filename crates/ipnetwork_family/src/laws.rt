@@ -1,10 +1,14 @@
 //! The laws of networks, of their texts and of their values. Each function's contract is a law. One of
 //! sets or texts takes nothing and does nothing; a proof whose function calls it may use the law.
 
+mod generic;
 mod sets;
 mod texts;
 mod values;
 
+pub use generic::{
+    blocks_that_meet, nested_networks, networks_are_pairs, ordered_blocks, overlaps_by_four_tests,
+};
 pub use sets::{
     blocks, ends, listing, masks, membership_is_computed, nesting, order, subnet_is_computed,
     subnets,
