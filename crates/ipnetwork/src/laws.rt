@@ -26,12 +26,12 @@ pub use ipnetwork_addr::laws::{
 };
 use ipnetwork_family::laws as families;
 pub use ipnetwork_family::laws::{
-    blocks, canonical_v4_network_bytes, canonical_v4_network_is_one_to_one,
+    blocks, blocks_that_meet, canonical_v4_network_bytes, canonical_v4_network_is_one_to_one,
     canonical_v4_network_names_it, canonical_v4_network_reads_back, canonical_v6_network_bytes,
     canonical_v6_network_is_one_to_one, canonical_v6_network_names_it,
     canonical_v6_network_reads_back, cidr_fault_clone, cidr_fault_equality, ends,
     ip_network_error_equality, listing, longest_network_text, masks, membership_is_computed,
-    nesting, network_size_error_clone, network_size_error_equality, order, subnet_is_computed,
+    nested_networks, nesting, networks_are_pairs, network_size_error_clone, network_size_error_equality, order, ordered_blocks, overlaps_by_four_tests, overlaps_is_four_tests, subnet_is_computed,
     subnets, v4_network_clone, v4_network_equality, v4_network_hash, v4_network_order,
     v4_network_reading_is_computed, v4_network_text_names_one, v6_network_clone,
     v6_network_equality, v6_network_hash, v6_network_order, v6_network_reading_is_computed,

@@ -20,7 +20,7 @@ pub use ipnetwork_addr::{
     AddrParseError, IpAddr, Ipv4Addr, Ipv6Addr, TEXT_CAPACITY as ADDRESS_TEXT_CAPACITY, decimal,
 };
 pub use ipnetwork_family::{
-    CidrFault, IpNetworkError, Ipv4Network, Ipv4NetworkIterator, Ipv6Network, Ipv6NetworkIterator,
+    CidrFault, CidrNetwork, IpNetworkError, Ipv4Network, Ipv4NetworkIterator, Ipv6Network, Ipv6NetworkIterator,
     NetworkSizeError, TEXT_CAPACITY as NETWORK_TEXT_CAPACITY, ipv4_mask_to_prefix,
     ipv6_mask_to_prefix, parse,
 };

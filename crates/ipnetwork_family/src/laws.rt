@@ -8,6 +8,7 @@ mod values;
 
 pub use generic::{
     blocks_that_meet, nested_networks, networks_are_pairs, ordered_blocks, overlaps_by_four_tests,
+    overlaps_is_four_tests,
 };
 pub use sets::{
     blocks, ends, listing, masks, membership_is_computed, nesting, order, subnet_is_computed,
