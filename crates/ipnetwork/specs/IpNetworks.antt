@@ -1,8 +1,11 @@
 -- Networks of either family: a network of one of the two, whose set holds addresses of that family alone.
-use Rattle.std.specs.Prelude.{⊤, Bool, false, ◌≡◌, ◌<◌, ◌≤◌, ℕ, List, map, Result, Ok, IsErr, MatchResult}
+use Rattle.std.specs.Prelude.{⊤, Bool, false, ◌≡◌, ◌<◌, ◌≤◌, ℕ, pos, List, ◌++◌, map, Result, Ok, IsErr, MatchResult}
+use Rattle.std.specs.Hash.{HashWrites, isize, u8, u32, u128}
+use Rattle.std.specs.declared.cmp.Ordering.{Ordering}
+use Rattle.std.specs.declared.cmp.Ordering.TheVariants.{Less, Greater}
 use Rattle.ipnetwork_addr.specs.declared.ip.IpAddr.{IpAddr}
 use Rattle.ipnetwork_addr.specs.declared.ip.IpAddr.TheVariants as addresses
-use Rattle.ipnetwork_family.specs.Network.{Network, IsNetwork, Member, is_member, is_subnet, low, high, mask_of, size_of, members, AtMost}
+use Rattle.ipnetwork_family.specs.Network.{Network, IsNetwork, Member, is_member, is_subnet, low, high, mask_of, size_of, members, IsBefore, AtMost, network_cmp}
 use Rattle.ipnetwork_family.specs.declared.error.IpNetworkError.{IpNetworkError}
 use Rattle.ipnetwork_family.specs.declared.error.IpNetworkError.TheVariants.{InvalidPrefix}
 use Rattle.ipnetwork.specs.declared.ip_network.IpNetwork.{IpNetwork}
@@ -129,12 +132,31 @@ abbrev pub TakesV6 : IpNetwork → Result Network WrongFamily → Type 0
 TakesV6 (V4 n) result = IsErr result
 TakesV6 (V6 n) result = result ≡ Ok n
 
--- in order, a comes before b: IPv4 before IPv6, and in a family by address, then by prefix length
-abbrev pub IsAtMost : IpNetwork → IpNetwork → Type 0
-IsAtMost (V4 a) (V4 b) = AtMost a b
-IsAtMost (V4 a) (V6 b) = ⊤
-IsAtMost (V6 a) (V4 b) = ⊥
-IsAtMost (V6 a) (V6 b) = AtMost a b
+-- a comes before b: IPv4 before IPv6, and in a family by address, then by prefix length
+abbrev pub IsIpBefore : IpNetwork → IpNetwork → Type 0
+IsIpBefore (V4 a) (V4 b) = IsBefore a b
+IsIpBefore (V4 a) (V6 b) = ⊤
+IsIpBefore (V6 a) (V4 b) = ⊥
+IsIpBefore (V6 a) (V6 b) = IsBefore a b
+
+-- a comes before b, or is b
+abbrev pub IsIpAtMost : IpNetwork → IpNetwork → Type 0
+IsIpAtMost (V4 a) (V4 b) = AtMost a b
+IsIpAtMost (V4 a) (V6 b) = ⊤
+IsIpAtMost (V6 a) (V4 b) = ⊥
+IsIpAtMost (V6 a) (V6 b) = AtMost a b
+
+-- the same order, as an answer of three
+abbrev pub ip_network_cmp : IpNetwork → IpNetwork → Ordering
+ip_network_cmp (V4 a) (V4 b) = network_cmp a b
+ip_network_cmp (V4 a) (V6 b) = Less
+ip_network_cmp (V6 a) (V4 b) = Greater
+ip_network_cmp (V6 a) (V6 b) = network_cmp a b
+
+-- what a network feeds a hasher: its family, 0 or 1, its address and its prefix length
+abbrev pub ip_network_writes : IpNetwork → HashWrites
+ip_network_writes (V4 n) = isize (pos 0) ++ u32 n.address ++ u8 n.prefix
+ip_network_writes (V6 n) = isize (pos 1) ++ u128 n.address ++ u8 n.prefix
 
 -- no set of one is part of the other's, nor do they share an address
 pub record AreApart (a b : IpNetwork) : Type 0 where
