@@ -1,5 +1,5 @@
 -- Networks of either family: a network of one of the two, whose set holds addresses of that family alone.
-use Rattle.std.specs.Prelude.{⊤, Bool, false, ◌++◌, pos, ◌≡◌, ◌<◌, ◌≤◌, ℕ, List, map, Result, Ok, IsErr, MatchResult}
+use Rattle.std.specs.Prelude.{⊤, Bool, false, ◌≡◌, ◌<◌, ◌≤◌, ℕ, pos, List, ◌++◌, map, Result, Ok, IsErr, MatchResult}
 use Rattle.std.specs.Hash.{HashWrites, isize, u8, u32, u128}
 use Rattle.std.specs.declared.cmp.Ordering.{Ordering}
 use Rattle.std.specs.declared.cmp.Ordering.TheVariants.{Less, Greater}
@@ -132,19 +132,19 @@ abbrev pub TakesV6 : IpNetwork → Result Network WrongFamily → Type 0
 TakesV6 (V4 n) result = IsErr result
 TakesV6 (V6 n) result = result ≡ Ok n
 
--- in order, a comes before b: IPv4 before IPv6, and in a family by address, then by prefix length
-abbrev pub IpIsBefore : IpNetwork → IpNetwork → Type 0
-IpIsBefore (V4 a) (V4 b) = IsBefore a b
-IpIsBefore (V4 a) (V6 b) = ⊤
-IpIsBefore (V6 a) (V4 b) = ⊥
-IpIsBefore (V6 a) (V6 b) = IsBefore a b
+-- a comes before b: IPv4 before IPv6, and in a family by address, then by prefix length
+abbrev pub IsIpBefore : IpNetwork → IpNetwork → Type 0
+IsIpBefore (V4 a) (V4 b) = IsBefore a b
+IsIpBefore (V4 a) (V6 b) = ⊤
+IsIpBefore (V6 a) (V4 b) = ⊥
+IsIpBefore (V6 a) (V6 b) = IsBefore a b
 
 -- a comes before b, or is b
-abbrev pub IpIsAtMost : IpNetwork → IpNetwork → Type 0
-IpIsAtMost (V4 a) (V4 b) = AtMost a b
-IpIsAtMost (V4 a) (V6 b) = ⊤
-IpIsAtMost (V6 a) (V4 b) = ⊥
-IpIsAtMost (V6 a) (V6 b) = AtMost a b
+abbrev pub IsIpAtMost : IpNetwork → IpNetwork → Type 0
+IsIpAtMost (V4 a) (V4 b) = AtMost a b
+IsIpAtMost (V4 a) (V6 b) = ⊤
+IsIpAtMost (V6 a) (V4 b) = ⊥
+IsIpAtMost (V6 a) (V6 b) = AtMost a b
 
 -- the same order, as an answer of three
 abbrev pub ip_network_cmp : IpNetwork → IpNetwork → Ordering

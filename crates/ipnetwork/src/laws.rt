@@ -6,7 +6,7 @@ ghost use Rattle.std.specs.Ordering.{nat_cmp};
 ghost use Rattle.std.specs.List.{AllByRecursion};
 ghost use Rattle.ipnetwork_family.specs.NetworkText.{IsNetworkByte};
 ghost use Rattle.ipnetwork_family.specs.declared.error.CidrFault.{CidrFault};
-ghost use Rattle.ipnetwork.specs.IpNetworks.{IsIpNetwork, IpIsBefore, IpIsAtMost, ip_network_cmp, ip_network_writes, AreApart, IpMember, IpSubnet, is_ip_member, is_ip_subnet};
+ghost use Rattle.ipnetwork.specs.IpNetworks.{IsIpNetwork, IsIpBefore, IsIpAtMost, ip_network_cmp, ip_network_writes, AreApart, IpMember, IpSubnet, is_ip_member, is_ip_subnet};
 ghost use Rattle.ipnetwork.specs.IpNetworkText.{NamesIpNetwork, ReadsIpNetwork, ip_network_text, ip_network_of};
 ghost use Rattle.ipnetwork.specs.Sizes.{number_of};
 ghost use Rattle.ipnetwork_family.specs.Network.{Network, IsNetwork};
@@ -123,6 +123,16 @@ pub fn ip_network_equality(a: IpNetwork, b: IpNetwork) -> bool
     a == b
 }
 
+/// `<`, `<=` and `cmp` put each IPv4 network before each IPv6 network, and compare two of one family by
+/// their addresses, then by their prefix lengths.
+pub fn ip_network_order(a: IpNetwork, b: IpNetwork) -> (bool, bool, Ordering)
+    ensures less { IsTrue result.0 ↔ IsIpBefore a b }
+    ensures at_most { IsTrue result.1 ↔ IsIpAtMost a b }
+    ensures compare { result.2 ≡ ip_network_cmp a b }
+{
+    (a < b, a <= b, a.cmp(&b))
+}
+
 /// `==` of sizes is equality of their numbers.
 pub fn network_size_equality(a: NetworkSize, b: NetworkSize) -> bool
     ensures { IsTrue result ↔ (number_of a ≡ number_of b) }
@@ -154,20 +164,11 @@ pub fn network_size_clone(size: NetworkSize) -> Result<NetworkSize, AllocError>
     size.clone()
 }
 
-/// Each IPv4 network is before each IPv6 network, and in a family networks are ordered by address, then by
-/// prefix length: `<`, `<=` and `cmp`.
-pub fn ip_network_order(a: IpNetwork, b: IpNetwork) -> (bool, bool, Ordering)
-    ensures less { IsTrue result.0 ↔ IpIsBefore a b }
-    ensures at_most { IsTrue result.1 ↔ IpIsAtMost a b }
-    ensures compare { result.2 ≡ ip_network_cmp a b }
-{
-    (a < b, a <= b, a.cmp(&b))
-}
-
-/// A network feeds a hasher its family, its address and its prefix length. So two hashers in one state that
-/// are fed equal networks are in one state afterwards.
+/// A network feeds a hasher its family, its address and its prefix length. So two hashers in one state
+/// that are fed equal networks are in one state afterwards.
 pub fn ip_network_hash<H: Hasher>(a: IpNetwork, b: IpNetwork, first: &mut H, second: &mut H)
-    ensures fed { first.new ≡ fold H.write first.old (ip_network_writes a) }
+    ensures first { first.new ≡ fold H.write first.old (ip_network_writes a) }
+    ensures second { second.new ≡ fold H.write second.old (ip_network_writes b) }
     ensures alike { a ≡ b → first.old ≡ second.old → first.new ≡ second.new }
 {
     a.hash(first);

@@ -11,6 +11,8 @@ mod ip_mask;
 mod ip_network;
 pub mod laws;
 mod size;
+#[cfg(test)]
+mod tests;
 
 pub use error::WrongFamily;
 pub use ip_iter::IpNetworkIterator;
