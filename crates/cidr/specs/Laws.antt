@@ -16,13 +16,13 @@ use Rattle.cidr.specs.Run.{Ran}
 
 -- of texts that name a network and an address, `has4` answers `yes` exactly if the address is a member of the
 -- network's set, and `no` exactly if it is none
-abbrev pub HasMembers : Type 0
-HasMembers = (text word : List ℕ) (n : Network) (a : ℕ) → NamesV4Network text n → NamesV4 word a
+abbrev pub Has4AnswersMembership : Type 0
+Has4AnswersMembership = (text word : List ℕ) (n : Network) (a : ℕ) → NamesV4Network text n → NamesV4 word a
     → ((has4_answer text word ≡ codes "yes") ↔ Member 32 n a) × ((has4_answer text word ≡ codes "no") ↔ ¬ (Member 32 n a))
 
 -- the same of `has`, over both families
-abbrev pub HasIpMembers : Type 0
-HasIpMembers = (text word : List ℕ) (n : IpNetwork) (a : IpAddr) → NamesIpNetwork text n → NamesIp word a
+abbrev pub HasAnswersMembership : Type 0
+HasAnswersMembership = (text word : List ℕ) (n : IpNetwork) (a : IpAddr) → NamesIpNetwork text n → NamesIp word a
     → ((has_answer text word ≡ codes "yes") ↔ IpMember n a) × ((has_answer text word ≡ codes "no") ↔ ¬ (IpMember n a))
 
 -- of texts that name two networks, `rel` answers by their sets: `same` exactly if each is part of the other, `inside`

@@ -1,4 +1,4 @@
--- What the private functions are proved by. No promise of a public function names these.
+-- Words of the private functions, and of how contracts look into private fields.
 pub mod Bytes
 pub mod Device
 pub mod Line

@@ -15,7 +15,7 @@ abbrev pub EndsAs : ℕ → Option (List ℕ) → Result (Unit {0}) RunFault →
 EndsAs limit rest (Ok done) read written = IsAtEnd rest × (length read ≤ limit) × (written ≡ output_of read)
 -- the replies to the lines whose line feed was read, and no others
 EndsAs limit rest (Err Read) read written = (length read ≤ limit) × (written ≡ output_of (complete_part read))
--- the same of the bytes that were read before the limit was passed
+-- the same of some first bytes, no more of them than the limit
 EndsAs limit rest (Err InputTooLong) read written = (limit < length read) × AnswersPart limit read written
 -- no more than the output of what was read
 EndsAs limit rest (Err Write) read written = (length read ≤ limit) × IsBeginning written (output_of read)

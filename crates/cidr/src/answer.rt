@@ -80,6 +80,7 @@ fn read4(word: &[u8], text: &mut Answer)
     ensures text { text.new.bytes ≡ read4_answer word.now }
     ensures short { length text.new.bytes < ANSWER_MAX }
 {
+    // Does nothing: the proof of this body needs the law.
     laws::v4_network_reading_is_computed();
     match Ipv4Network::read_bytes(word) {
         Ok(network) => text.push_str(network.canonical().as_str()),
@@ -93,6 +94,7 @@ fn read6(word: &[u8], text: &mut Answer)
     ensures text { text.new.bytes ≡ read6_answer word.now }
     ensures short { length text.new.bytes < ANSWER_MAX }
 {
+    // Does nothing: the proof of this body needs the law.
     laws::v6_network_reading_is_computed();
     match Ipv6Network::read_bytes(word) {
         Ok(network) => text.push_str(network.canonical().as_str()),
@@ -105,6 +107,7 @@ fn has4(network: &[u8], address: &[u8]) -> &'static str
     ensures text { result.now ≡ has4_answer network.now address.now }
     ensures short { length result.now ≤ 15 }
 {
+    // Does nothing: the proof of this body needs the laws.
     laws::v4_network_reading_is_computed();
     laws::v4_text_is_computed();
     let Ok(network) = Ipv4Network::read_bytes(network) else {

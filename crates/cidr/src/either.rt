@@ -16,6 +16,7 @@ pub(crate) fn read(word: &[u8], text: &mut Answer)
     ensures text { text.new.bytes ≡ read_answer word.now }
     ensures short { length text.new.bytes < ANSWER_MAX }
 {
+    // Does nothing: the proof of this body needs the law.
     laws::ip_network_reading_is_computed();
     match IpNetwork::read_bytes(word) {
         Ok(network) => text.push_str(network.canonical().as_str()),
@@ -28,6 +29,7 @@ pub(crate) fn has(network: &[u8], address: &[u8]) -> &'static str
     ensures text { result.now ≡ has_answer network.now address.now }
     ensures short { length result.now ≤ 15 }
 {
+    // Does nothing: the proof of this body needs the laws.
     laws::ip_network_reading_is_computed();
     laws::ip_reading_is_computed();
     laws::ip_membership_is_computed();
@@ -50,6 +52,7 @@ pub(crate) fn ends(word: &[u8], text: &mut Answer)
     ensures text { text.new.bytes ≡ ends_answer word.now }
     ensures short { length text.new.bytes < ANSWER_MAX }
 {
+    // Does nothing: the proof of this body needs the law.
     laws::ip_network_reading_is_computed();
     match IpNetwork::read_bytes(word) {
         Ok(network) => push_ends(network, text),
@@ -78,6 +81,7 @@ pub(crate) fn rel(first: &[u8], second: &[u8]) -> &'static str
     ensures text { result.now ≡ rel_answer first.now second.now }
     ensures short { length result.now ≤ 15 }
 {
+    // Does nothing: the proof of this body needs the law.
     laws::ip_network_reading_is_computed();
     let Ok(first) = IpNetwork::read_bytes(first) else {
         return REFUSED;
@@ -93,8 +97,8 @@ fn relation(first: IpNetwork, second: IpNetwork) -> &'static str
     ensures text { result.now ≡ relation first second }
     ensures short { length result.now ≤ 15 }
 {
+    // Does nothing: the proof of this body needs the law, and from the next two calls that these are networks.
     laws::ip_subnet_is_computed();
-    // Their clauses tell that the two are networks.
     let _ = first.prefix();
     let _ = second.prefix();
     if first.is_subnet_of(second) {

@@ -1,6 +1,6 @@
 //! What follows from the promises of a run and of the commands. Each function's contract is a law.
 ghost use Rattle.std.specs.Prelude.{◌≡◌, ◌↔◌, ◌&&◌, IsTrue, IsFalse, Ok, Result};
-ghost use Rattle.cidr.specs.Laws.{HasMembers, HasIpMembers, RelatesSets, AfterOk, AfterReadFault, AfterWriteFault, AfterTooLong};
+ghost use Rattle.cidr.specs.Laws.{Has4AnswersMembership, HasAnswersMembership, RelatesSets, AfterOk, AfterReadFault, AfterWriteFault, AfterTooLong};
 ghost use Rattle.cidr.specs.Run.{ended_by_read, ended_by_write};
 
 use crate::fault::RunFault;
@@ -9,7 +9,7 @@ use std::alloc::AllocError;
 
 /// `has4` answers `yes` exactly for the members of the network's set, and `no` exactly for the other addresses.
 pub fn has4_answers_membership()
-    ensures { HasMembers }
+    ensures { Has4AnswersMembership }
 {
     laws::v4_network_reading_is_computed();
     laws::v4_text_is_computed();
@@ -19,7 +19,7 @@ pub fn has4_answers_membership()
 /// `has` answers `yes` exactly for the members of the network's set, and `no` exactly for the other addresses, those of
 /// the other family among them.
 pub fn has_answers_membership()
-    ensures { HasIpMembers }
+    ensures { HasAnswersMembership }
 {
     laws::ip_network_reading_is_computed();
     laws::ip_reading_is_computed();

@@ -53,7 +53,7 @@ pub fn run<R: Read, W: Write>(
 ///
 /// Does not allocate: the allocator is not used.
 pub fn run_limited<R: Read, W: Write>(
-    // A run needs no memory but its own frame, and is given an allocator all the same.
+    // Not used: a run does not allocate.
     _alloc: Global,
     limit: u32,
     reader: &mut Watched<R>,

@@ -24,7 +24,7 @@ NamesIpNetwork text (V6 n) = NamesV6Network text n
 abbrev pub ReadsIpNetwork : List ℕ → Result IpNetwork CidrFault → Type 0
 ReadsIpNetwork text result = Reads NamesIpNetwork Addr text result
 
--- what parsing answers: the same, and a refusal carries the whole text
+-- what parsing answers: the same, and a refusal carries the whole text or is `OutOfMemory`
 abbrev pub ParsesIpNetwork : List ℕ → Result IpNetwork IpNetworkError → Type 0
 ParsesIpNetwork text result = Parses NamesIpNetwork (λ _ fault. fault ≡ Addr) kinds.Ip text result
 

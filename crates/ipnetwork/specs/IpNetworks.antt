@@ -158,7 +158,7 @@ abbrev pub ip_network_writes : IpNetwork → HashWrites
 ip_network_writes (V4 n) = isize (pos 0) ++ u32 n.address ++ u8 n.prefix
 ip_network_writes (V6 n) = isize (pos 1) ++ u128 n.address ++ u8 n.prefix
 
--- no set of one is part of the other's, nor do they share an address
+-- neither set is part of the other, and they share no address
 pub record AreApart (a b : IpNetwork) : Type 0 where
   pub not_inside : ¬ (IpSubnet a b)
   pub not_around : ¬ (IpSubnet b a)

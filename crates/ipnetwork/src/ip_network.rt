@@ -24,6 +24,8 @@ pub enum IpNetwork {
     V6(Ipv6Network),
 }
 
+// The clause `network` tells a proof in another crate what holds of each network: its fields are private, so
+// nothing else says it.
 impl IpNetwork {
     ghost use Rattle.std.specs.Prelude.{◌≡◌, ◌≤◌, ◌↔◌, IsTrue, IfOk, string_bytes};
     ghost use Rattle.ipnetwork.specs.IpNetworks.{IsIpNetwork, address_of, prefix_of, ip_mask_of, ip_low, ip_high, ip_size, ip_members, IpMember, IpSubnet, IpOverlap, Makes, MakesWithMask, IsV4, IsV6};
@@ -46,6 +48,7 @@ impl IpNetwork {
     pub fn with_netmask(netaddr: IpAddr, netmask: IpAddr) -> Result<Self, IpNetworkError>
         ensures { MakesWithMask netaddr netmask result }
     {
+        // Does nothing: the proof of this body needs the law.
         laws::masks();
         match ip_mask_to_prefix(netmask) {
             Ok(prefix) => IpNetwork::new(netaddr, prefix),
@@ -204,6 +207,7 @@ impl IpNetwork {
     pub fn read_bytes(text: &[u8]) -> Result<Self, CidrFault>
         ensures { ReadsIpNetwork text.now result }
     {
+        // Does nothing: the proof of this body needs the laws.
         laws::v4_text_has_a_dot_first();
         laws::v6_text_has_a_colon_first();
         if has_colon_first(text) {

@@ -12,7 +12,7 @@ ghost use Rattle.ipnetwork.specs.Sizes.{number_of};
 ghost use Rattle.ipnetwork_family.specs.Network.{Network, IsNetwork};
 ghost use Rattle.ipnetwork.specs.declared.ip_network.IpNetwork.TheVariants as networks;
 
-use crate::{IpAddr, IpNetwork, NetworkSize};
+use crate::{IpAddr, IpNetwork, NetworkSize, WrongFamily};
 use ipnetwork_addr::laws as addresses;
 pub use ipnetwork_addr::laws::{
     addr_parse_error_clone, addr_parse_error_equality, canonical_ip_is_one_to_one,
@@ -31,9 +31,10 @@ pub use ipnetwork_family::laws::{
     canonical_v6_network_is_one_to_one, canonical_v6_network_names_it,
     canonical_v6_network_reads_back, cidr_fault_clone, cidr_fault_equality, ends,
     ip_network_error_equality, listing, longest_network_text, masks, membership_is_computed,
-    nested_networks, nesting, networks_are_pairs, network_size_error_clone, network_size_error_equality, order, ordered_blocks, overlaps_by_four_tests, overlaps_is_four_tests, subnet_is_computed,
-    subnets, v4_network_clone, v4_network_equality, v4_network_hash, v4_network_order,
-    v4_network_reading_is_computed, v4_network_text_names_one, v6_network_clone,
+    nested_networks, nesting, network_size_error_clone, network_size_error_equality,
+    networks_are_pairs, order, ordered_blocks, overlaps_by_four_tests, overlaps_is_four_tests,
+    subnet_is_computed, subnets, v4_network_clone, v4_network_equality, v4_network_hash,
+    v4_network_order, v4_network_reading_is_computed, v4_network_text_names_one, v6_network_clone,
     v6_network_equality, v6_network_hash, v6_network_order, v6_network_reading_is_computed,
     v6_network_text_names_one,
 };
@@ -180,4 +181,18 @@ pub fn ip_network_clone(network: IpNetwork) -> Result<IpNetwork, AllocError>
     ensures { result ≡ Ok network }
 {
     network.clone()
+}
+
+/// `==` of `WrongFamily`, which has one value, always holds.
+pub fn wrong_family_equality(a: WrongFamily, b: WrongFamily) -> bool
+    ensures { IsTrue result ↔ (a ≡ b) }
+{
+    a == b
+}
+
+/// A clone of `WrongFamily` is that value.
+pub fn wrong_family_clone(a: WrongFamily) -> Result<WrongFamily, AllocError>
+    ensures { result ≡ Ok a }
+{
+    a.clone()
 }

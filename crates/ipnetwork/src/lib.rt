@@ -22,8 +22,8 @@ pub use ipnetwork_addr::{
     AddrParseError, IpAddr, Ipv4Addr, Ipv6Addr, TEXT_CAPACITY as ADDRESS_TEXT_CAPACITY, decimal,
 };
 pub use ipnetwork_family::{
-    CidrFault, CidrNetwork, IpNetworkError, Ipv4Network, Ipv4NetworkIterator, Ipv6Network, Ipv6NetworkIterator,
-    NetworkSizeError, TEXT_CAPACITY as NETWORK_TEXT_CAPACITY, ipv4_mask_to_prefix,
-    ipv6_mask_to_prefix, parse,
+    CidrFault, CidrNetwork, IpNetworkError, Ipv4Network, Ipv4NetworkIterator, Ipv6Network,
+    Ipv6NetworkIterator, NetworkSizeError, TEXT_CAPACITY as NETWORK_TEXT_CAPACITY,
+    ipv4_mask_to_prefix, ipv6_mask_to_prefix, parse,
 };
 pub use size::NetworkSize;

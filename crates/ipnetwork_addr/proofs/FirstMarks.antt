@@ -24,8 +24,8 @@ decimal_passed n text bound = elim (cases_lt n 10) [
   | inr ten ↦ elim (cases_lt n 100) [
     | inl two ↦ rw (decimal_two n ten two) (digit_passed (n / 10) ((48 + n % 10) ∷ text) (omega arith) ∙ digit_passed (n % 10) text (omega arith))
     | inr hundred ↦ rw (decimal_three n hundred (omega arith))
-      (digit_passed (n / 100) ((48 + n / 10 % 10) ∷ (48 + n % 10) ∷ text) (omega arith)
-      ∙ digit_passed (n / 10 % 10) ((48 + n % 10) ∷ text) (omega arith) ∙ digit_passed (n % 10) text (omega arith))
+        (digit_passed (n / 100) ((48 + n / 10 % 10) ∷ (48 + n % 10) ∷ text) (omega arith)
+        ∙ digit_passed (n / 10 % 10) ((48 + n % 10) ∷ text) (omega arith) ∙ digit_passed (n % 10) text (omega arith))
   ]
 ]
 

@@ -107,4 +107,4 @@ three_pushed text one two three n high top middle low d fits is_high is_low larg
     let digit : top < 10 = omega arith in
     let some : 0 < top = omega arith in
     two_pushed text two three n high low fits is_high is_low (omega arith)
-        (two_pushed text one two high top middle small is_top is_middle some (digit_pushed text one top d digit is_d h) k) l
+    (two_pushed text one two high top middle small is_top is_middle some (digit_pushed text one top d digit is_d h) k) l

@@ -59,7 +59,7 @@ abbrev pub IsCause : (List ℕ → ℕ → Type 0) → List ℕ → CidrFault �
 IsCause NamesAddress text Format = HasSeveralSlashes text
 -- else what stands before the `/` is no address
 IsCause NamesAddress text Addr = (slashes text ≤ 1) × ((a : ℕ) → ¬ (NamesAddress (before_slash text) a))
--- else what stands after it is no suffix
+-- else, since the text names nothing, what stands after it is no suffix
 IsCause NamesAddress text Prefix = (slashes text ≤ 1) × ((a : ℕ) × NamesAddress (before_slash text) a)
 
 -- the network that the text names, or the cause where it names none

@@ -1,7 +1,7 @@
 //! Networks of one family in CIDR notation (RFC 4632, section 3.1): read from texts, printed, and
 //! asked about the set of addresses that they stand for.
 //!
-//! No call allocates. A text is a slice of bytes, of any length and any bytes.
+//! Only calls that are given an allocator allocate. A text is a slice of bytes, of any length and any bytes.
 #![tactic(auto)]
 
 mod cidr_network;
