@@ -1,5 +1,6 @@
 //! Rows over the public calls.
 
+mod errors;
 mod ipv4_carried;
 mod ipv4_questions;
 mod ipv4_texts;
