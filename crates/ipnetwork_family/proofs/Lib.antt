@@ -4,6 +4,7 @@ pub mod CanonicalNetworks
 pub mod ComputedNetworks
 pub mod ComputedV4
 pub mod ComputedV6
+pub mod ErrorExamples
 pub mod Examples
 pub mod Generic
 pub mod Masks

@@ -1,6 +1,7 @@
 //! Rows over the public calls.
 
 mod cidr_network;
+mod errors;
 mod ipv4_carried;
 mod ipv4_questions;
 mod ipv4_texts;
