@@ -1,3 +1,4 @@
+mod Examples
 mod EitherNetworks
 mod Families
 mod FirstMarks

@@ -1,5 +1,5 @@
--- The one text that an IPv6 address is printed as: RFC 5952, sections 4.1 to 4.3, and section 5 for the addresses
--- that hold an IPv4 address.
+-- The one text that an IPv6 address is printed as: RFC 5952, sections 4.1 to 4.3, and section 5 for the IPv4-mapped
+-- addresses alone.
 use Rattle.std.specs.Prelude.{◌≡◌, false, nat_le, if◌then◌else◌, ℕ, zero, suc, ◌+◌, ◌/◌, ◌%◌, ◌^◌, ◌<◌, ◌≤◌, ◌==◌, List, [], ◌∷◌, ◌++◌, length, slice_index, take, drop, map, codes}
 use Rattle.std.specs.List.{join_with_byte}
 use Rattle.std.specs.Fmt.{digits}
