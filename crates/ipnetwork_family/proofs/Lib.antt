@@ -4,6 +4,7 @@ pub mod CanonicalNetworks
 pub mod ComputedNetworks
 pub mod ComputedV4
 pub mod ComputedV6
+pub mod EightSegments
 pub mod ErrorExamples
 pub mod Examples
 pub mod Generic
@@ -12,5 +13,6 @@ pub mod Members
 pub mod NetworkTexts
 pub mod Numerals
 mod Shown
+pub mod SegmentOrder
 pub mod Slashes
 pub mod Suffixes

@@ -9,7 +9,7 @@ use Rattle.ipnetwork_family.proofs.Bits.{size_fits}
 use Rattle.ipnetwork_family.proofs.Blocks.{size_pos}
 
 -- the zeros in front of the host ones are as many as the prefix length says
-leading_of_ones : (w p : ℕ) → p ≤ w → count_leading_zeros w (block_size w p - 1) ≡ p
+pub leading_of_ones : (w p : ℕ) → p ≤ w → count_leading_zeros w (block_size w p - 1) ≡ p
 leading_of_ones w p h = sym (leading_unique w (block_size w p - 1) p (w - p) (omega arith) (omega (arith, size_pos w p)) (omega (arith, size_pos w p)))
 
 -- what is under a mask

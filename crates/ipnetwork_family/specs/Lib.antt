@@ -7,3 +7,4 @@ pub mod Network
 pub mod NetworkText
 pub mod Parsing
 pub mod PrefixNumber
+pub mod Private

@@ -1,21 +1,23 @@
 //! IPv6 networks.
 ghost use Rattle.std.specs.Prelude.{◌≡◌, ℕ, ◌+◌, ◌^◌, ◌<◌, ◌≤◌, ◌↔◌, IsTrue, Some, MatchOption, MatchResult, IfOk, string_bytes, length, option_copied};
+ghost use Rattle.std.specs.Hash.{le_bytes};
 ghost use Rattle.std.specs.Option.{SomeIff};
 ghost use Rattle.ipnetwork_addr.specs.Ipv6Text.{NamesV6};
 ghost use Rattle.ipnetwork_addr.specs.Ipv6Canonical.{canonical_v6};
-ghost use Rattle.ipnetwork_family.specs.Network.{Network, IsNetwork, Member, IsNoMask, mask_of, low, high, size_of, members, Subnet, Overlap, block_of};
+ghost use Rattle.ipnetwork_family.specs.Network.{Network, IsNetwork, Member, IsNoMask, mask_of, low, high, size_of, members, Subnet, Overlap, block_of, network_cmp};
 ghost use Rattle.ipnetwork_family.specs.NetworkText.{GivesPrefix, GivesNoPrefix, network_text};
 ghost use Rattle.ipnetwork_family.specs.Ipv6NetworkText.{IsV6Suffix, ReadsV6Network};
 ghost use Rattle.ipnetwork_family.specs.Parsing.{ParsesV6Network};
 
 use crate::ipv6_iter::Ipv6NetworkIterator;
-use crate::ipv6_mask::{WIDTH, host_ones, prefix_of_mask};
+use crate::ipv6_mask::{WIDTH, host_ones};
 use crate::parse::{read_prefix, split};
-use crate::{CidrFault, IpNetworkError, TEXT_CAPACITY};
+use crate::{CidrFault, IpNetworkError, TEXT_CAPACITY, segments};
 use arrayvec::ArrayString;
 use ipnetwork_addr::decimal::push_decimal;
 use ipnetwork_addr::{AddrParseError, Ipv6Addr, laws};
 use std::alloc::{AllocError, Global};
+use std::cmp::Ordering;
 use std::fmt;
 use std::marker::Model;
 use std::str::FromStr;
@@ -23,23 +25,30 @@ use std::str::FromStr;
 /// An IPv6 address, host bits included, and a prefix length of 0 to 128. It stands for the set of all
 /// addresses that agree with the address in their first bits, as many as the prefix length says.
 /// Ordered by address, then by prefix length.
-#[derive(Clone, Copy, Debug, PartialEq, Eq, PartialOrd, Ord, Hash)]
+#[derive(Clone, Copy, Debug)]
 pub struct Ipv6Network {
-    address: u128,
+    segments: [u16; 8],
     prefix: u8,
 }
 
 // A contract sees a network as the pair of its address and its prefix length.
 impl Model for Ipv6Network {
-    ghost use Rattle.ipnetwork_family.specs.Network.{Network, IsNetwork};
+    ghost use Rattle.std.specs.Prelude.{◌≤◌};
+    ghost use Rattle.std.proofs.Common.{ap};
+    ghost use Rattle.ipnetwork_addr.specs.Digits.{segments_of};
+    ghost use Rattle.ipnetwork_family.specs.Network.{Network};
+    ghost use Rattle.ipnetwork_family.specs.Private.Segments.{number_of, AreSegments};
+    ghost use Rattle.ipnetwork_family.specs.Private.SegmentsBack.{segments_back};
 
     ghost Value = { Network };
 
-    ghost view = { λ n. record { address = n.address; prefix = n.prefix } };
+    ghost view = { λ n. record { address = number_of n.segments; prefix = n.prefix } };
 
-    ghost invariant = { λ n. IsNetwork 128 (record { address = n.address; prefix = n.prefix }) };
+    ghost invariant = { λ n. AreSegments n.segments × (n.prefix ≤ 128) };
 
-    ghost inverse = { λ n. record { address = n.address; prefix = n.prefix } };
+    ghost inverse = { λ n. record { segments = segments_of n.address; prefix = n.prefix } };
+
+    ghost inverse_ok = { λ n h. ap (λ s. record { segments = s; prefix = n.prefix }) (segments_back n.segments h.0) };
 }
 
 // The clause `network` tells a proof in another crate what holds of each network: both fields are private,
@@ -54,7 +63,7 @@ impl Ipv6Network {
             return None;
         }
         Some(Ipv6Network {
-            address: u128::from(addr),
+            segments: addr.segments(),
             prefix,
         })
     }
@@ -68,8 +77,8 @@ impl Ipv6Network {
     {
         let network = Ipv6Network::new_checked(addr, prefix)?;
         Some(Ipv6Network {
-            address: u128::from(network.network()),
-            prefix: network.prefix(),
+            segments: segments::least(&network.segments, network.prefix),
+            prefix: network.prefix,
         })
     }
 
@@ -91,7 +100,7 @@ impl Ipv6Network {
         ensures { MatchResult result (λ n. (n.address ≡ netaddr) × (n.prefix ≤ 128) × (netmask ≡ mask_of 128 n.prefix))
             (λ fault. (fault ≡ IpNetworkError.InvalidPrefix) × IsNoMask 128 netmask) }
     {
-        match prefix_of_mask(u128::from(netmask)) {
+        match segments::prefix_of_mask(&netmask.segments()) {
             Some(prefix) => Ipv6Network::new(netaddr, prefix),
             None => Err(IpNetworkError::InvalidPrefix),
         }
@@ -102,7 +111,7 @@ impl Ipv6Network {
         ensures made { result ≡ self.now.address }
         ensures network { IsNetwork 128 self.now }
     {
-        Ipv6Addr::from(self.address)
+        Ipv6Addr::from(self.segments)
     }
 
     /// The prefix length, in bits.
@@ -117,7 +126,7 @@ impl Ipv6Network {
     pub fn mask(&self) -> Ipv6Addr
         ensures { result ≡ mask_of 128 self.now.prefix }
     {
-        Ipv6Addr::from(!host_ones(self.prefix))
+        Ipv6Addr::from(segments::mask(self.prefix))
     }
 
     /// The least member: the address with its host bits cleared.
@@ -125,23 +134,29 @@ impl Ipv6Network {
         ensures least { result ≡ low 128 self.now }
         ensures network { IsNetwork 128 self.now }
     {
-        Ipv6Addr::from(self.address & !host_ones(self.prefix))
+        Ipv6Addr::from(segments::least(&self.segments, self.prefix))
     }
 
     /// The greatest member: the address with its host bits set.
     pub fn broadcast(&self) -> Ipv6Addr
         ensures { result ≡ high 128 self.now }
     {
-        let ones = host_ones(self.prefix);
-        Ipv6Addr::from(self.address & !ones | ones)
+        Ipv6Addr::from(segments::greatest(&self.segments, self.prefix))
     }
 
     /// Whether an address lies in the network's set.
     pub fn contains(&self, ip: Ipv6Addr) -> bool
         ensures { IsTrue result ↔ Member 128 self.now ip }
     {
-        let mask = !host_ones(self.prefix);
-        u128::from(ip) & mask == self.address & mask
+        segments::agree(&ip.segments(), &self.segments, self.prefix)
+    }
+
+    /// Whether the address of another network lies in the network's set.
+    fn holds(&self, other: &Ipv6Network) -> bool
+        ensures member { IsTrue result ↔ Member 128 self.now other.now.address }
+        ensures networks { IsNetwork 128 self.now × IsNetwork 128 other.now }
+    {
+        segments::agree(&other.segments, &self.segments, self.prefix)
     }
 
     /// The number of members, and at prefix length 0, where that needs 129 bits, one less: 2^128 - 1.
@@ -166,7 +181,7 @@ impl Ipv6Network {
     pub fn is_subnet_of(self, other: Ipv6Network) -> bool
         ensures { IsTrue result ↔ Subnet 128 self other }
     {
-        other.prefix() <= self.prefix() && other.contains(self.ip())
+        other.prefix() <= self.prefix() && other.holds(&self)
     }
 
     /// Whether each member of `other` is one, host bits or not.
@@ -180,7 +195,23 @@ impl Ipv6Network {
     pub fn overlaps(self, other: Ipv6Network) -> bool
         ensures { IsTrue result ↔ Overlap 128 self other }
     {
-        self.contains(other.ip()) || other.contains(self.ip())
+        self.holds(&other) || other.holds(&self)
+    }
+
+    /// Which of two networks comes first: by the segments, then by the prefix length.
+    pub(crate) fn order(&self, other: &Ipv6Network) -> Ordering
+        ensures { result ≡ network_cmp self.now other.now }
+    {
+        self.segments
+            .cmp(&other.segments)
+            .then(self.prefix.cmp(&other.prefix))
+    }
+
+    /// The octets of the address, the lowest first.
+    pub(crate) fn address_octets(&self) -> [u8; 16]
+        ensures { result ≡ le_bytes 16 self.now.address }
+    {
+        segments::octets_low_first(&self.segments)
     }
 
     /// The members, each once, in ascending order.
@@ -206,7 +237,7 @@ impl Ipv6Network {
             return Err(CidrFault::Prefix);
         };
         Ok(Ipv6Network {
-            address: u128::from(address),
+            segments: address.segments(),
             prefix,
         })
     }
@@ -260,7 +291,7 @@ pub fn ipv6_mask_to_prefix(mask: Ipv6Addr) -> Result<u8, IpNetworkError>
     ensures { MatchResult result (λ p. (p ≤ 128) × (mask ≡ mask_of 128 p))
         (λ fault. (fault ≡ IpNetworkError.InvalidPrefix) × IsNoMask 128 mask) }
 {
-    match prefix_of_mask(u128::from(mask)) {
+    match segments::prefix_of_mask(&mask.segments()) {
         Some(prefix) => Ok(prefix),
         None => Err(IpNetworkError::InvalidPrefix),
     }
@@ -271,7 +302,7 @@ impl From<Ipv6Addr> for Ipv6Network {
 
     fn from(addr: Ipv6Addr) -> Self {
         Ipv6Network {
-            address: u128::from(addr),
+            segments: addr.segments(),
             prefix: WIDTH,
         }
     }

@@ -12,8 +12,10 @@ mod ipv4_mask;
 mod ipv6;
 mod ipv6_iter;
 mod ipv6_mask;
+mod ipv6_order;
 pub mod laws;
 pub mod parse;
+mod segments;
 #[cfg(test)]
 mod tests;
 

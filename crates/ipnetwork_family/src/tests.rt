@@ -7,6 +7,7 @@ mod ipv4_questions;
 mod ipv4_texts;
 mod ipv6_carried;
 mod ipv6_questions;
+mod ipv6_segments;
 mod ipv6_texts;
 mod laws;
 mod parts;

@@ -1,7 +1,6 @@
-use Rattle.std.proofs.Common.{◌∙◌}
-use Rattle.ipnetwork_family.proofs.Bits.{set_hosts}
+use Rattle.ipnetwork_family.proofs.EightSegments.{high_back}
 use Rattle.ipnetwork_family.proofs.ipv6.Ipv6Network.broadcast.Goals as goal
 
 pub returns : goal.returns
 returns c = rw (← c.self.view_is)
-    (c.from.ensures ∙ rw c.host_ones-ones.ensures (set_hosts 128 c.self.inside.prefix c.self.inside.address c.self.invariant.prefix_fits c.self.invariant.address_fits))
+    (high_back c.self.inside.segments c.greatest.result c.self.inside.prefix c.from.result c.self.invariant c.greatest.ensures c.from.ensures)

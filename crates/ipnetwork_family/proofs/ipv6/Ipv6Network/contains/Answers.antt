@@ -1,7 +1,8 @@
-use Rattle.ipnetwork_family.proofs.Bits.{contains_by_mask}
+use Rattle.ipnetwork_family.proofs.EightSegments.{made_of}
 use Rattle.ipnetwork_family.proofs.ipv6.Ipv6Network.contains.Goals as goal
 
 pub returns : goal.returns
-returns c = rw (← c.self.view_is, ← c.from.ensures)
-    (contains_by_mask 128 c.self.inside.prefix c.self.inside.address c.from.result c.host_ones-mask.result
-    c.self.invariant.prefix_fits c.self.invariant.address_fits c.from.type_inv c.host_ones-mask.ensures)
+returns c = rw (← c.self.view_is)
+    (let same = made_of c.segments.result c.args.ip c.segments.ensures.bound c.segments.ensures.segments in
+    let h = rw same at c.agree.ensures in
+    ((λ t. (c.segments.ensures.bound, h.0 t)), (λ m. h.1 m.1)))

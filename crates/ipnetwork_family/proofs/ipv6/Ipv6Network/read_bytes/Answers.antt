@@ -1,6 +1,7 @@
 use Rattle.std.proofs.lemmas.Result.{err_from_is_err_and}
 use Rattle.ipnetwork_addr.specs.Ipv6Text.{NamesV6}
 use Rattle.ipnetwork_family.specs.Ipv6NetworkText.{IsV6Suffix}
+use Rattle.ipnetwork_family.proofs.EightSegments.{made_of}
 use Rattle.ipnetwork_family.proofs.NetworkTexts.{slashes_name_nothing, no_address, no_prefix, named_by_parts}
 use Rattle.ipnetwork_family.proofs.Suffixes.{address_no_slash, v6_suffix_no_slash}
 use Rattle.ipnetwork_family.proofs.ipv6.Ipv6Network.read_bytes.Goals as goal
@@ -22,4 +23,4 @@ returns-in_default-prefix_length c =
 
 pub returns : goal.returns
 returns c =
-    named_by_parts 128 NamesV6 IsV6Suffix c.args.text.now _ _ c.in_ok-address.ensures _ (rw c.from.ensures c.in-Ok.ensures) c.in-Some.ensures
+    named_by_parts 128 NamesV6 IsV6Suffix c.args.text.now _ _ c.in_ok-address.ensures _ (rw (made_of c.segments.result _ c.segments.ensures.bound c.segments.ensures.segments) c.in-Ok.ensures) c.in-Some.ensures

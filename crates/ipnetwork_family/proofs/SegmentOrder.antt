@@ -1,0 +1,111 @@
+-- Segments compared and hashed, by the address that they make up.
+use Rattle.std.proofs.Common.{◌≡◌, ℕ, zero, suc, ◌+◌, ◌*◌, ◌/◌, ◌%◌, ◌^◌, ◌<◌, List, [], ◌∷◌, length, take, get_or, refl, sym, ap, ◌∙◌, arith, lit<, Ordering}
+use Rattle.std.specs.declared.cmp.Ordering.TheVariants.{Less, Equal, Greater}
+use Rattle.std.specs.Cmp.Lexicographic.{slice_cmp}
+use Rattle.std.specs.Hash.{le_bytes}
+use Rattle.std.specs.Int.{byte_at, bytes_low_first}
+use Rattle.std.specs.Int.Digits.{number_from_digits_after}
+use Rattle.std.specs.Ordering.{nat_cmp, ordering_then}
+use Rattle.std.proofs.Math.Nat.{div-div-eq-div-mul}
+use Rattle.std.proofs.lemmas.Cmp.{ranked, by_ranked}
+use Rattle.std.proofs.lemmas.Int.Digits.{number_more}
+use Rattle.std.proofs.lemmas.List.{take_all}
+use Rattle.std.proofs.lemmas.Nat.{div-mul-add, pow-add}
+use Rattle.ipnetwork_family.specs.Private.Segments.{number_of, AreSegments}
+
+-- ---- order
+
+less : (n m : ℕ) → n < m → nat_cmp n m ≡ Less
+less n m h = by_ranked (n < m) (n ≡ m) (m < n) (nat_cmp n m) (ranked n m _ refl) (λ e _. e) (λ _ e. absurd (omega arith)) (λ _ e. absurd (omega arith))
+
+greater : (n m : ℕ) → m < n → nat_cmp n m ≡ Greater
+greater n m h = by_ranked (n < m) (n ≡ m) (m < n) (nat_cmp n m) (ranked n m _ refl) (λ _ e. absurd (omega arith)) (λ _ e. absurd (omega arith)) (λ e _. e)
+
+equal : (n m : ℕ) → n ≡ m → nat_cmp n m ≡ Equal
+equal n m h = by_ranked (n < m) (n ≡ m) (m < n) (nat_cmp n m) (ranked n m _ refl) (λ _ e. absurd (omega arith)) (λ e _. e) (λ _ e. absurd (omega arith))
+
+-- numbers with one digit more are ordered by what stands before it, then by the digit
+digit_cmp : (n m x y : ℕ) → x < 65536 → y < 65536 → nat_cmp (n * 65536 + x) (m * 65536 + y) ≡ ordering_then (nat_cmp n m) (nat_cmp x y)
+digit_cmp n m x y h k =
+    by_ranked (n < m) (n ≡ m) (m < n) (nat_cmp n m) (ranked n m _ refl)
+    (λ e first. less (n * 65536 + x) (m * 65536 + y) (omega arith) ∙ sym (ap (λ o. ordering_then o (nat_cmp x y)) e))
+    (λ e same.
+    by_ranked (x < y) (x ≡ y) (y < x) (nat_cmp x y) (ranked x y _ refl)
+    (λ f last. less (n * 65536 + x) (m * 65536 + y) (omega arith) ∙ sym (ap (λ o. ordering_then o (nat_cmp x y)) e ∙ f))
+    (λ f last. equal (n * 65536 + x) (m * 65536 + y) (omega arith) ∙ sym (ap (λ o. ordering_then o (nat_cmp x y)) e ∙ f))
+    (λ f last. greater (n * 65536 + x) (m * 65536 + y) (omega arith) ∙ sym (ap (λ o. ordering_then o (nat_cmp x y)) e ∙ f)))
+    (λ e first. greater (n * 65536 + x) (m * 65536 + y) (omega arith) ∙ sym (ap (λ o. ordering_then o (nat_cmp x y)) e))
+
+then_then : (a b c : Ordering) → ordering_then (ordering_then a b) c ≡ ordering_then a (ordering_then b c)
+then_then Less b c = refl
+then_then Equal b c = refl
+then_then Greater b c = refl
+
+then_equal : (a : Ordering) → a ≡ ordering_then a Equal
+then_equal Less = refl
+then_equal Equal = refl
+then_equal Greater = refl
+
+-- digits behind two numbers are compared where the numbers are equal
+cmp_after : (n m : ℕ) (xs ys : List ℕ) → length xs ≡ length ys → ((i : ℕ) → get_or xs i 0 < 65536) → ((i : ℕ) → get_or ys i 0 < 65536)
+    → nat_cmp (number_from_digits_after 65536 n xs) (number_from_digits_after 65536 m ys) ≡ ordering_then (nat_cmp n m) (slice_cmp nat_cmp xs ys)
+cmp_after n m [] [] l h k = then_equal (nat_cmp n m)
+cmp_after n m [] (y ∷ ys) l h k = absurd (omega arith)
+cmp_after n m (x ∷ xs) [] l h k = absurd (omega arith)
+cmp_after n m (x ∷ xs) (y ∷ ys) l h k =
+    cmp_after (n * 65536 + x) (m * 65536 + y) xs ys (omega arith) (λ i. h (suc i)) (λ i. k (suc i))
+    ∙ ap (λ o. ordering_then o (slice_cmp nat_cmp xs ys)) (digit_cmp n m x y (h zero) (k zero))
+    ∙ then_then (nat_cmp n m) (nat_cmp x y) (slice_cmp nat_cmp xs ys)
+
+-- segments are ordered as their addresses are
+pub segments_cmp : (xs ys : List ℕ) → AreSegments xs → AreSegments ys → slice_cmp nat_cmp xs ys ≡ nat_cmp (number_of xs) (number_of ys)
+segments_cmp xs ys h k = sym (cmp_after 0 0 xs ys (omega (arith, h.eight, k.eight)) h.each k.each)
+
+-- ---- octets
+
+-- the octets past a segment are those of what stands before it
+octet_before : (n d i : ℕ) → d < 65536 → byte_at (suc (suc i)) (n * 65536 + d) ≡ byte_at i n
+octet_before n d zero h = ap (λ q. q % 256) (div-mul-add n 65536 d h)
+octet_before n d (suc i) h =
+    let three : suc (suc (suc i)) ≡ 2 + suc i = omega arith in
+    let power : 256 ^ suc (suc (suc i)) ≡ 65536 * 256 ^ suc i = ap (λ k. 256 ^ k) three ∙ pow-add 256 2 (suc i) in
+    ap (λ p. (n * 65536 + d) / p % 256) power ∙ ap (λ q. q % 256) (sym (div-div-eq-div-mul (n * 65536 + d) 65536 (256 ^ suc i)) ∙ ap (λ q. q / 256 ^ suc i) (div-mul-add n 65536 d h))
+
+octets_before : (n d i count : ℕ) → d < 65536 → bytes_low_first (suc (suc i)) count (n * 65536 + d) ≡ bytes_low_first i count n
+octets_before n d i zero h = refl
+octets_before n d i (suc count) h =
+    ap (λ b. b ∷ bytes_low_first (suc (suc (suc i))) count (n * 65536 + d)) (octet_before n d i h) ∙ ap (λ bs. byte_at i n ∷ bs) (octets_before n d (suc i) count h)
+
+-- the octets of a segment, and those of what stands before it
+segment_octets : (n d count : ℕ) → d < 65536 → bytes_low_first 0 (suc (suc count)) (n * 65536 + d) ≡ d % 256 ∷ d / 256 ∷ bytes_low_first 0 count n
+segment_octets n d count h =
+    let low : (n * 65536 + d) % 256 ≡ d % 256 = omega arith in
+    let high : (n * 65536 + d) / 256 % 256 ≡ d / 256 = omega arith in
+    ap (λ b. b ∷ (n * 65536 + d) / 256 % 256 ∷ bytes_low_first 2 count (n * 65536 + d)) low
+    ∙ ap (λ b. d % 256 ∷ b ∷ bytes_low_first 2 count (n * 65536 + d)) high
+    ∙ ap (λ bs. d % 256 ∷ d / 256 ∷ bs) (octets_before n d 0 count h)
+
+-- the octets of the last of the first segments, and those of the segments before it
+last_octets : (xs : List ℕ) (count bytes : ℕ) → count < length xs → get_or xs count 0 < 65536
+    → bytes_low_first 0 (suc (suc bytes)) (number_of (take (count + 1) xs)) ≡ get_or xs count 0 % 256 ∷ get_or xs count 0 / 256 ∷ bytes_low_first 0 bytes (number_of (take count xs))
+last_octets xs count bytes within fit =
+    ap (bytes_low_first 0 (suc (suc bytes))) (number_more 65536 xs count within) ∙ segment_octets (number_of (take count xs)) (get_or xs count 0) bytes fit
+
+pub segments_octets : (xs : List ℕ) → AreSegments xs
+    → get_or xs 7 0 % 256 ∷ get_or xs 7 0 / 256 ∷ get_or xs 6 0 % 256 ∷ get_or xs 6 0 / 256 ∷ get_or xs 5 0 % 256 ∷ get_or xs 5 0 / 256 ∷ get_or xs 4 0 % 256 ∷ get_or xs 4 0 / 256
+    ∷ get_or xs 3 0 % 256 ∷ get_or xs 3 0 / 256 ∷ get_or xs 2 0 % 256 ∷ get_or xs 2 0 / 256 ∷ get_or xs 1 0 % 256 ∷ get_or xs 1 0 / 256 ∷ get_or xs 0 0 % 256 ∷ get_or xs 0 0 / 256 ∷ []
+    ≡ le_bytes 16 (number_of xs)
+unfolding le_bytes
+segments_octets xs h =
+    let last : (count bytes : ℕ) → count < 8 → bytes_low_first 0 (suc (suc bytes)) (number_of (take (count + 1) xs)) ≡ get_or xs count 0 % 256 ∷ get_or xs count 0 / 256 ∷ bytes_low_first 0 bytes (number_of (take count xs)) =
+    λ count bytes within. last_octets xs count bytes (omega (arith, h.eight)) (h.each count) in
+    let pair : ℕ → List ℕ → List ℕ = λ i bs. get_or xs i 0 % 256 ∷ get_or xs i 0 / 256 ∷ bs in
+    sym (ap (λ l. bytes_low_first 0 16 (number_of l)) (sym (take_all 8 xs (omega (arith, h.eight))))
+    ∙ last 7 14 (lit< tt)
+    ∙ ap (pair 7) (last 6 12 (lit< tt)
+    ∙ ap (pair 6) (last 5 10 (lit< tt)
+    ∙ ap (pair 5) (last 4 8 (lit< tt)
+    ∙ ap (pair 4) (last 3 6 (lit< tt)
+    ∙ ap (pair 3) (last 2 4 (lit< tt)
+    ∙ ap (pair 2) (last 1 2 (lit< tt)
+    ∙ ap (pair 1) (last 0 0 (lit< tt)))))))))

@@ -1,6 +1,0 @@
-use Rattle.std.proofs.Common.{refl}
-use Rattle.ipnetwork_family.proofs.Masks.{no_mask}
-use Rattle.ipnetwork_family.proofs.ipv6_mask.prefix_of_mask.Goals as goal
-
-pub returns-else-mask-host_ones : goal.returns-else-mask-host_ones
-returns-else-mask-host_ones c = no_mask 128 c.args.mask _ c.host_ones.result refl c.host_ones.ensures c.if-mask-host_ones.false

@@ -1,0 +1,16 @@
+-- An address of 128 bits as eight segments of 16 bits, the highest first (RFC 4291, section 2.2).
+use Rattle.std.specs.Prelude.{◌≡◌, ℕ, ◌+◌, ◌-◌, ◌*◌, ◌^◌, ◌<◌, min, List, length, slice_index}
+use Rattle.std.specs.Int.Digits.{number_from_digits}
+
+-- the address of segments
+abbrev pub number_of : List ℕ → ℕ
+number_of segments = number_from_digits (2 ^ 16) segments
+
+-- how many of the last bits of the segment i lie past the first p bits of the address
+abbrev pub host_bits : ℕ → ℕ → ℕ
+host_bits p i = min 16 (16 * (i + 1) - p)
+
+-- the list is eight segments
+pub record AreSegments (segments : List ℕ) : Type 0 where
+  pub eight : length segments ≡ 8
+  pub each : (i : ℕ) → slice_index segments i < 2 ^ 16

@@ -1,0 +1,124 @@
+//! What a prefix length makes of the eight segments of an address of 128 bits, segment by segment: whole before
+//! the segment that it cuts, by a mask of 16 bits there, and cleared or set behind it.
+ghost use Rattle.std.specs.Prelude.{◌≡◌, ◌↔◌, ℕ, ◌-◌, ◌/◌, ◌%◌, ◌^◌, ◌<◌, ◌≤◌, IsTrue, MatchOption};
+ghost use Rattle.std.specs.Hash.{le_bytes};
+ghost use Rattle.ipnetwork_addr.specs.Digits.{segments_of};
+ghost use Rattle.ipnetwork_family.specs.Network.{low, high, block_size, mask_of, IsNoMask};
+ghost use Rattle.ipnetwork_family.specs.Private.Segments.{number_of, host_bits};
+
+/// The ones at the bits of a segment that lie past the first `prefix` bits of the address: none before the
+/// segment that the prefix length cuts, and 16 behind it.
+#[tactic(auto, using(crate::proofs::EightSegments::host_ones_fit))]
+fn host_ones(prefix: u8, index: usize) -> u16
+    requires { index < 8 }
+    ensures { result ≡ 2 ^ host_bits prefix index - 1 }
+{
+    let hosts = (16 * (index as u32 + 1))
+        .saturating_sub(u32::from(prefix))
+        .min(16);
+    ((1u32 << hosts) - 1) as u16
+}
+
+/// The mask of a prefix length.
+pub(crate) fn mask(prefix: u8) -> [u16; 8]
+    requires { prefix ≤ 128 }
+    ensures { result ≡ segments_of (mask_of 128 prefix) }
+{
+    let mut mask = [0; 8];
+    for i in 0..8 {
+        mask[i] = !host_ones(prefix, i);
+    }
+    mask
+}
+
+/// The address with the bits past the prefix cleared.
+pub(crate) fn least(segments: &[u16; 8], prefix: u8) -> [u16; 8]
+    requires { prefix ≤ 128 }
+    ensures { result ≡ segments_of (low 128 (record { address = number_of segments.now; prefix = prefix })) }
+{
+    let mut least = [0; 8];
+    for i in 0..8 {
+        least[i] = segments[i] & !host_ones(prefix, i);
+    }
+    least
+}
+
+/// The address with the bits past the prefix set.
+pub(crate) fn greatest(segments: &[u16; 8], prefix: u8) -> [u16; 8]
+    requires { prefix ≤ 128 }
+    ensures { result ≡ segments_of (high 128 (record { address = number_of segments.now; prefix = prefix })) }
+{
+    let mut greatest = [0; 8];
+    for i in 0..8 {
+        let ones = host_ones(prefix, i);
+        greatest[i] = segments[i] & !ones | ones;
+    }
+    greatest
+}
+
+/// Whether two addresses agree in their first `prefix` bits.
+pub(crate) fn agree(a: &[u16; 8], b: &[u16; 8], prefix: u8) -> bool
+    requires { prefix ≤ 128 }
+    ensures { IsTrue result ↔ (number_of a.now / block_size 128 prefix ≡ number_of b.now / block_size 128 prefix) }
+{
+    let mut agree = true;
+    for i in 0..8 {
+        let mask = !host_ones(prefix, i);
+        agree = agree && a[i] & mask == b[i] & mask;
+    }
+    agree
+}
+
+/// The prefix length of a mask: as many ones in front, and zeros behind them.
+pub(crate) fn prefix_of_mask(segments: &[u16; 8]) -> Option<u8>
+    ensures { MatchOption result (IsNoMask 128 (number_of segments.now)) (λ prefix. (prefix ≤ 128) × (number_of segments.now ≡ mask_of 128 prefix)) }
+{
+    let mut prefix = 0;
+    for segment in segments {
+        prefix += (!*segment).leading_zeros() as u8;
+    }
+    if *segments == mask(prefix) {
+        Some(prefix)
+    } else {
+        None
+    }
+}
+
+/// The sixteen octets of an address, the lowest first.
+pub(crate) fn octets_low_first(segments: &[u16; 8]) -> [u8; 16]
+    ensures { result ≡ le_bytes 16 (number_of segments.now) }
+{
+    let [a, b, c, d, e, f, g, h] = *segments;
+    [
+        low_octet(h),
+        high_octet(h),
+        low_octet(g),
+        high_octet(g),
+        low_octet(f),
+        high_octet(f),
+        low_octet(e),
+        high_octet(e),
+        low_octet(d),
+        high_octet(d),
+        low_octet(c),
+        high_octet(c),
+        low_octet(b),
+        high_octet(b),
+        low_octet(a),
+        high_octet(a),
+    ]
+}
+
+/// The octet of the low bits of a segment.
+fn low_octet(segment: u16) -> u8
+    ensures { result ≡ segment % 256 }
+{
+    (segment % 256) as u8
+}
+
+/// The octet of its high bits.
+fn high_octet(segment: u16) -> u8
+    ensures { result ≡ segment / 256 }
+{
+    (segment / 256) as u8
+}
