@@ -1,6 +1,5 @@
 -- The answer to a line, by its words.
 use Rattle.std.proofs.Common.{◌≡◌, ℕ, Bool, true, false, cond, List, [], ◌∷◌, ◌++◌, Option, None, Some, refl, sym, ap, ◌∙◌}
-use Rattle.std.specs.Prelude.{bytes_eq}
 use Rattle.cidr.specs.Private.Words.{IsLastWord, IsWordBefore}
 use Rattle.cidr.specs.Commands.{unknown, one_word_answer, two_words_answer, answer_to, command_answer}
 use Rattle.cidr.proofs.Cuts.{words_cons}
@@ -27,13 +26,11 @@ longer_line line command rest first more second last e f g =
     ap answer_to (e ∙ ap (λ ws. command ∷ ws) (f ∙ ap (λ ws. first ∷ ws) (g ∙ ap (λ ws. second ∷ ws) h)))
 
 -- the command is this one, or another
-pub chosen : (name command slice text x y : List ℕ) (test : Bool) → test ≡ bytes_eq command slice → slice ≡ name → test ≡ true → text ≡ x → text ≡ cond (bytes_eq command name) x y
-chosen name command slice text x y test says is holds e =
-    e ∙ ap (λ v. cond v x y) (sym holds ∙ says ∙ ap (bytes_eq command) is)
+pub chosen : (text x y : List ℕ) (asked test : Bool) → test ≡ asked → test ≡ true → text ≡ x → text ≡ cond asked x y
+chosen text x y asked test says holds e = e ∙ ap (λ v. cond v x y) (sym holds ∙ says)
 
-pub other : (name command slice text x y : List ℕ) (test : Bool) → test ≡ bytes_eq command slice → slice ≡ name → test ≡ false → text ≡ y → text ≡ cond (bytes_eq command name) x y
-other name command slice text x y test says is fails e =
-    e ∙ ap (λ v. cond v x y) (sym fails ∙ says ∙ ap (bytes_eq command) is)
+pub other : (text x y : List ℕ) (asked test : Bool) → test ≡ asked → test ≡ false → text ≡ y → text ≡ cond asked x y
+other text x y asked test says fails e = e ∙ ap (λ v. cond v x y) (sym fails ∙ says)
 
 -- a function gives nothing where each of its values is ruled out
 pub gives_none : (o : Option ℕ) → ((x : ℕ) → ¬ (o ≡ Some x)) → o ≡ None

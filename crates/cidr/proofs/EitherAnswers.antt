@@ -1,5 +1,5 @@
 -- The answers of the commands over both families.
-use Rattle.std.proofs.Common.{◌≡◌, ◌↔◌, ℕ, Bool, true, false, cond, List, Option, None, Some, Result, Ok, Err, IsTrue, refl, sym, ap, ◌∙◌}
+use Rattle.std.proofs.Common.{◌≡◌, ◌↔◌, ℕ, Bool, true, false, cond, List, Option, None, Some, Ok, Err, IsTrue, refl, sym, ap, ◌∙◌}
 use Rattle.ipnetwork_addr.specs.Reading.{answer_from}
 
 -- the value behind an answer

@@ -1,5 +1,5 @@
 -- The answers by membership and by sets, of texts that name networks and addresses.
-use Rattle.std.proofs.Common.{◌≡◌, ◌↔◌, ℕ, List, length, Bool, true, false, cond, IsTrue, codes, get_or, refl, sym, ap, arith}
+use Rattle.std.proofs.Common.{◌≡◌, ◌↔◌, ℕ, List, length, Bool, true, false, cond, IsTrue, codes, get_or, refl, ap, arith}
 use Rattle.std.specs.Prelude.{Ok, Some}
 use Rattle.ipnetwork_addr.specs.Ipv4Text.{v4_of}
 use Rattle.ipnetwork_addr.specs.Either.{ip_of}

@@ -3,8 +3,8 @@ ghost use Rattle.std.specs.Prelude.{◌≡◌, ◌<◌, ◌≤◌, [], length};
 ghost use Rattle.cidr.specs.Commands.{command_answer, one_word_answer, two_words_answer, unknown, read4_answer, read6_answer, has4_answer, refusal};
 ghost use Rattle.cidr.specs.declared.answer.TheConstants.{ANSWER_MAX};
 
-use crate::either;
 use crate::words::cut_word;
+use crate::{either, names};
 use arrayvec::ArrayString;
 use ipnetwork::{CidrFault, Ipv4Addr, Ipv4Network, Ipv6Network, laws};
 
@@ -44,13 +44,13 @@ fn answer_one(command: &[u8], word: &[u8], text: &mut Answer)
     ensures text { text.new.bytes ≡ one_word_answer command.now word.now }
     ensures short { length text.new.bytes < ANSWER_MAX }
 {
-    if command == b"read4".as_slice() {
+    if names::is_read4(command) {
         read4(word, text);
-    } else if command == b"read6".as_slice() {
+    } else if names::is_read6(command) {
         read6(word, text);
-    } else if command == b"read".as_slice() {
+    } else if names::is_read(command) {
         either::read(word, text);
-    } else if command == b"ends".as_slice() {
+    } else if names::is_ends(command) {
         either::ends(word, text);
     } else {
         text.push_str(UNKNOWN);
@@ -63,11 +63,11 @@ fn answer_two(command: &[u8], first: &[u8], second: &[u8], text: &mut Answer)
     ensures text { text.new.bytes ≡ two_words_answer command.now first.now second.now }
     ensures short { length text.new.bytes < ANSWER_MAX }
 {
-    if command == b"has4".as_slice() {
+    if names::is_has4(command) {
         text.push_str(has4(first, second));
-    } else if command == b"has".as_slice() {
+    } else if names::is_has(command) {
         text.push_str(either::has(first, second));
-    } else if command == b"rel".as_slice() {
+    } else if names::is_rel(command) {
         text.push_str(either::rel(first, second));
     } else {
         text.push_str(UNKNOWN);

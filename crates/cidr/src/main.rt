@@ -11,6 +11,7 @@ mod fault;
 mod find;
 mod laws;
 mod line;
+mod names;
 mod replies;
 mod run;
 #[cfg(test)]

@@ -10,7 +10,7 @@ use Rattle.ipnetwork_family.specs.NetworkText.{slashes, before_slash, suffix_of,
 use Rattle.ipnetwork_family.specs.Ipv4NetworkText.{NamesV4Network, ReadsV4Network, v4_network_of, v4_length_of}
 use Rattle.ipnetwork_family.specs.Ipv6NetworkText.{NamesV6Network, ReadsV6Network, v6_network_of, v6_length_of}
 use Rattle.ipnetwork_family.specs.declared.error.CidrFault.{CidrFault}
-use Rattle.ipnetwork_family.specs.declared.error.CidrFault.TheVariants.{Format, Addr}
+use Rattle.ipnetwork_family.specs.declared.error.CidrFault.TheVariants.{Format}
 use Rattle.ipnetwork.specs.declared.ip_network.IpNetwork.{IpNetwork}
 use Rattle.ipnetwork.specs.declared.ip_network.IpNetwork.TheVariants.{V4, V6}
 use Rattle.ipnetwork.proofs.Families.{names_none}

@@ -1,18 +1,17 @@
 -- Values at which a misreading of the definitions would show. What these say is computed.
-use Rattle.std.proofs.Common.{◌≡◌, ℕ, Ok, Err, inl, refl, arith}
+use Rattle.std.proofs.Common.{◌≡◌, Ok, Err, inl, refl, arith}
 use Rattle.std.specs.Prelude.{codes}
 use Rattle.std.specs.Fmt.{digits}
-use Rattle.std.specs.declared.cmp.Ordering.TheVariants.{Less, Greater}
+use Rattle.std.specs.declared.cmp.Ordering.TheVariants.{Less}
 use Rattle.ipnetwork_addr.specs.declared.ip.IpAddr.TheVariants as addresses
 use Rattle.ipnetwork_addr.specs.Ipv6Computed.{v6_of, gap_below}
 use Rattle.ipnetwork_family.specs.declared.error.CidrFault.TheVariants.{Addr}
 use Rattle.ipnetwork_family.specs.declared.error.NetworkSizeError.TheVariants.{NetworkIsTooLarge}
-use Rattle.ipnetwork_family.specs.Network.{Network}
 use Rattle.ipnetwork.specs.declared.ip_network.IpNetwork.{IpNetwork}
 use Rattle.ipnetwork.specs.declared.ip_network.IpNetwork.TheVariants.{V4, V6}
 use Rattle.ipnetwork.specs.declared.size.NetworkSize.TheVariants as sizes
 use Rattle.ipnetwork.specs.IpNetworks.{IpMember, IpSubnet, IpOverlap, ip_size, made_of, width_of, IsIpMask, IsIpBefore, IsIpAtMost, ip_network_cmp}
-use Rattle.ipnetwork.specs.IpNetworkText.{NamesIpNetwork, ip_network_of}
+use Rattle.ipnetwork.specs.IpNetworkText.{ip_network_of}
 use Rattle.ipnetwork.specs.Sizes.{number_of, FitsV4}
 
 -- 0.0.0.0/0, ::/0, and ::ffff:0:0/96, the block of the IPv4-mapped addresses

@@ -1,5 +1,5 @@
 -- The sets of networks of either family, by the sets of the families.
-use Rattle.std.proofs.Common.{◌≡◌, ℕ, ◌<◌, ◌≤◌, Bool, false, IsTrue, List, refl}
+use Rattle.std.proofs.Common.{◌≡◌, ℕ, Bool, false, IsTrue, List, refl}
 use Rattle.std.specs.Prelude.{◌↔◌}
 use Rattle.ipnetwork_addr.specs.declared.ip.IpAddr.{IpAddr}
 use Rattle.ipnetwork_addr.specs.declared.ip.IpAddr.TheVariants as addresses

@@ -2,3 +2,4 @@ mod Examples
 mod EitherNetworks
 mod Families
 mod FirstMarks
+mod Listings

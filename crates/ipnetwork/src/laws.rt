@@ -1,12 +1,12 @@
 //! The laws of addresses, of networks and of their texts. Each function's contract is a law, and a
 //! proof that calls it may use the law.
-ghost use Rattle.std.specs.Prelude.{◌≡◌, ◌<◌, ◌≤◌, ◌↔◌, ℕ, List, fold, Result, Ok, IsTrue};
+ghost use Rattle.std.specs.Prelude.{◌≡◌, ◌<◌, ◌≤◌, ◌↔◌, ℕ, List, Contains, fold, Result, Ok, IsTrue};
 ghost use Rattle.std.specs.Hash as fed;
 ghost use Rattle.std.specs.Ordering.{nat_cmp};
 ghost use Rattle.std.specs.List.{AllByRecursion};
 ghost use Rattle.ipnetwork_family.specs.NetworkText.{IsNetworkByte};
 ghost use Rattle.ipnetwork_family.specs.declared.error.CidrFault.{CidrFault};
-ghost use Rattle.ipnetwork.specs.IpNetworks.{IsIpNetwork, IsIpBefore, IsIpAtMost, ip_network_cmp, ip_network_writes, AreApart, IpMember, IpSubnet, is_ip_member, is_ip_subnet};
+ghost use Rattle.ipnetwork.specs.IpNetworks.{IsIpNetwork, IsIpBefore, IsIpAtMost, ip_network_cmp, ip_network_writes, AreApart, IpMember, IpSubnet, is_ip_member, is_ip_subnet, ip_members};
 ghost use Rattle.ipnetwork.specs.IpNetworkText.{NamesIpNetwork, ReadsIpNetwork, ip_network_text, ip_network_of};
 ghost use Rattle.ipnetwork.specs.Sizes.{number_of};
 ghost use Rattle.ipnetwork_family.specs.Network.{Network, IsNetwork};
@@ -108,6 +108,14 @@ pub fn ip_membership_is_computed()
     ensures { (n : IpNetwork) (x : IpAddr) → IsTrue (is_ip_member n x) ↔ IpMember n x }
 {
     families::membership_is_computed();
+}
+
+/// The list of the members has each address of the set and no other. In what order, says the list of the
+/// family (`listing`).
+pub fn ip_listing()
+    ensures { (n : IpNetwork) (x : IpAddr) → IsIpNetwork n → Contains (ip_members n) x ↔ IpMember n x }
+{
+    families::listing();
 }
 
 /// A network is a subnet of another exactly if the computing test says so.

@@ -1,5 +1,5 @@
 -- The first dot or colon of an address text.
-use Rattle.std.proofs.Common.{◌≡◌, ℕ, ◌+◌, ◌/◌, ◌%◌, ◌<◌, ◌≤◌, Bool, true, false, ◌==◌, List, [], ◌∷◌, ◌++◌, length, length-append, decimal, refl, sym, ap, ◌∙◌, inl, inr, arith, append_assoc}
+use Rattle.std.proofs.Common.{◌≡◌, ℕ, ◌+◌, ◌/◌, ◌%◌, ◌<◌, ◌≤◌, true, false, ◌==◌, List, [], ◌∷◌, ◌++◌, length, length-append, decimal, refl, ap, ◌∙◌, inl, inr, arith, append_assoc}
 use Rattle.std.proofs.lemmas.Bool.{cases_lt, ne_eqb}
 use Rattle.std.proofs.lemmas.Fmt.{decimal_digit}
 use Rattle.std.specs.Char.{digit_value}
@@ -7,7 +7,7 @@ use Rattle.std.specs.List.{join_with_byte, AllZip}
 use Rattle.std.specs.Str.Parse.{AllDigits}
 use Rattle.ipnetwork_addr.specs.Texts.{colon_first}
 use Rattle.ipnetwork_addr.specs.Ipv4Text.{NamesV4}
-use Rattle.ipnetwork_addr.specs.Ipv6Text.{IsGroup, IsPlain, IsEnded, NamesV6, halves}
+use Rattle.ipnetwork_addr.specs.Ipv6Text.{IsGroup, IsEnded, NamesV6, halves}
 use Rattle.ipnetwork_addr.proofs.Decimals.{decimal_two, decimal_three}
 use Rattle.ipnetwork_addr.proofs.Ipv4Lemmas.{reading_of}
 

@@ -1,5 +1,6 @@
 //! Rows over the public calls.
 
+mod decimal;
 mod hash;
 mod ipv4;
 mod ipv6;

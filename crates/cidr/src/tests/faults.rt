@@ -122,3 +122,14 @@ fn failed_devices_stay_uncalled(rt: HostRuntime) {
         assert_eq!(rt; [end.written.len(), end.flushes], [0, 0]);
     }
 }
+
+#[test]
+fn each_fault_has_its_words(rt: HostRuntime) {
+    for (fault, words) in [
+        (RunFault::Read, "read error"),
+        (RunFault::Write, "write error"),
+        (RunFault::InputTooLong, "input too long"),
+    ] {
+        assert_eq!(rt; fault.text(), words);
+    }
+}

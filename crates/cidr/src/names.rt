@@ -1,0 +1,51 @@
+//! The names of the commands, compared in place.
+ghost use Rattle.std.specs.Prelude.{◌≡◌, bytes_eq, codes};
+
+/// Whether a word is `read4`.
+pub(crate) fn is_read4(word: &[u8]) -> bool
+    ensures { result ≡ bytes_eq word.now (codes "read4") }
+{
+    matches!(word, [b'r', b'e', b'a', b'd', b'4'])
+}
+
+/// Whether a word is `read6`.
+pub(crate) fn is_read6(word: &[u8]) -> bool
+    ensures { result ≡ bytes_eq word.now (codes "read6") }
+{
+    matches!(word, [b'r', b'e', b'a', b'd', b'6'])
+}
+
+/// Whether a word is `read`.
+pub(crate) fn is_read(word: &[u8]) -> bool
+    ensures { result ≡ bytes_eq word.now (codes "read") }
+{
+    matches!(word, [b'r', b'e', b'a', b'd'])
+}
+
+/// Whether a word is `ends`.
+pub(crate) fn is_ends(word: &[u8]) -> bool
+    ensures { result ≡ bytes_eq word.now (codes "ends") }
+{
+    matches!(word, [b'e', b'n', b'd', b's'])
+}
+
+/// Whether a word is `has4`.
+pub(crate) fn is_has4(word: &[u8]) -> bool
+    ensures { result ≡ bytes_eq word.now (codes "has4") }
+{
+    matches!(word, [b'h', b'a', b's', b'4'])
+}
+
+/// Whether a word is `has`.
+pub(crate) fn is_has(word: &[u8]) -> bool
+    ensures { result ≡ bytes_eq word.now (codes "has") }
+{
+    matches!(word, [b'h', b'a', b's'])
+}
+
+/// Whether a word is `rel`.
+pub(crate) fn is_rel(word: &[u8]) -> bool
+    ensures { result ≡ bytes_eq word.now (codes "rel") }
+{
+    matches!(word, [b'r', b'e', b'l'])
+}
