@@ -12,6 +12,7 @@ mod ipv4_mask;
 mod ipv6;
 mod ipv6_iter;
 mod ipv6_mask;
+mod json;
 pub mod laws;
 pub mod parse;
 #[cfg(test)]
@@ -23,6 +24,7 @@ pub use ipv4::{Ipv4Network, ipv4_mask_to_prefix};
 pub use ipv4_iter::Ipv4NetworkIterator;
 pub use ipv6::{Ipv6Network, ipv6_mask_to_prefix};
 pub use ipv6_iter::Ipv6NetworkIterator;
+pub use json::JsonFault;
 
 /// The length in bytes of the longest printed network, one of IPv6.
 pub const TEXT_CAPACITY: usize = 43;
