@@ -8,6 +8,7 @@ mod ipv4_texts;
 mod ipv6_carried;
 mod ipv6_questions;
 mod ipv6_texts;
+mod json_values;
 mod laws;
 mod parts;
 mod values;
