@@ -7,6 +7,7 @@ pub mod ComputedV6
 pub mod ErrorExamples
 pub mod Examples
 pub mod Generic
+pub mod JsonExamples
 pub mod JsonTexts
 pub mod Masks
 pub mod Members
