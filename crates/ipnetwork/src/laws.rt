@@ -1,18 +1,23 @@
 //! The laws of addresses, of networks and of their texts. Each function's contract is a law, and a
 //! proof that calls it may use the law.
-ghost use Rattle.std.specs.Prelude.{◌≡◌, ◌<◌, ◌≤◌, ◌↔◌, ℕ, List, Contains, fold, Result, Ok, IsTrue};
+ghost use Rattle.std.specs.Prelude.{◌≡◌, ◌<◌, ◌≤◌, ◌↔◌, ℕ, List, Contains, fold, Some, Result, Ok, IsTrue, IfOk, IfErr, string_bytes};
 ghost use Rattle.std.specs.Hash as fed;
 ghost use Rattle.std.specs.Ordering.{nat_cmp};
 ghost use Rattle.std.specs.List.{AllByRecursion};
+ghost use Rattle.serde_json.specs.Data.{string};
+ghost use Rattle.serde_json.specs.Errors.{IsMemory};
+ghost use Rattle.serde_json.specs.Written.{compact_text};
 ghost use Rattle.ipnetwork_family.specs.NetworkText.{IsNetworkByte};
+ghost use Rattle.ipnetwork_family.specs.JsonValues.{ReadsValue, in_quotes};
+ghost use Rattle.ipnetwork_family.specs.declared.json.JsonFault.{JsonFault};
 ghost use Rattle.ipnetwork_family.specs.declared.error.CidrFault.{CidrFault};
 ghost use Rattle.ipnetwork.specs.IpNetworks.{IsIpNetwork, IsIpBefore, IsIpAtMost, ip_network_cmp, ip_network_writes, AreApart, IpMember, IpSubnet, is_ip_member, is_ip_subnet, ip_members};
-ghost use Rattle.ipnetwork.specs.IpNetworkText.{NamesIpNetwork, ReadsIpNetwork, ip_network_text, ip_network_of};
+ghost use Rattle.ipnetwork.specs.IpNetworkText.{NamesIpNetwork, ReadsIpNetwork, ParsesIpNetwork, ip_network_text, ip_network_of};
 ghost use Rattle.ipnetwork.specs.Sizes.{number_of};
 ghost use Rattle.ipnetwork_family.specs.Network.{Network, IsNetwork};
 ghost use Rattle.ipnetwork.specs.declared.ip_network.IpNetwork.TheVariants as networks;
 
-use crate::{IpAddr, IpNetwork, NetworkSize, WrongFamily};
+use crate::{IpAddr, IpNetwork, JsonFault, NetworkSize, WrongFamily};
 use ipnetwork_addr::laws as addresses;
 pub use ipnetwork_addr::laws::{
     addr_parse_error_clone, addr_parse_error_equality, canonical_ip_is_one_to_one,
@@ -30,15 +35,18 @@ pub use ipnetwork_family::laws::{
     canonical_v4_network_names_it, canonical_v4_network_reads_back, canonical_v6_network_bytes,
     canonical_v6_network_is_one_to_one, canonical_v6_network_names_it,
     canonical_v6_network_reads_back, cidr_fault_clone, cidr_fault_equality, ends,
-    ip_network_error_equality, listing, longest_network_text, masks, membership_is_computed,
-    nested_networks, nesting, network_size_error_clone, network_size_error_equality,
-    networks_are_pairs, order, ordered_blocks, overlaps_by_four_tests, overlaps_is_four_tests,
-    subnet_is_computed, subnets, v4_network_clone, v4_network_equality, v4_network_hash,
-    v4_network_order, v4_network_reading_is_computed, v4_network_text_names_one, v6_network_clone,
-    v6_network_equality, v6_network_hash, v6_network_order, v6_network_reading_is_computed,
-    v6_network_text_names_one,
+    ip_network_error_equality, json_fault_equality, listing, longest_network_text, masks,
+    membership_is_computed, nested_networks, nesting, network_size_error_clone,
+    network_size_error_equality, networks_are_pairs, order, ordered_blocks, overlaps_by_four_tests,
+    overlaps_is_four_tests, subnet_is_computed, subnets, v4_network_clone, v4_network_equality,
+    v4_network_hash, v4_network_order, v4_network_reading_is_computed, v4_network_stands_in_quotes,
+    v4_network_text_names_one, v4_network_through_json, v4_network_value_reads_back,
+    v6_network_clone, v6_network_equality, v6_network_hash, v6_network_order,
+    v6_network_reading_is_computed, v6_network_stands_in_quotes, v6_network_text_names_one,
+    v6_network_through_json, v6_network_value_reads_back,
 };
-use std::alloc::AllocError;
+use serde_json::{Error, Value};
+use std::alloc::{AllocError, Global};
 use std::cmp::Ordering;
 use std::hash::{Hash, Hasher};
 
@@ -96,6 +104,43 @@ pub fn canonical_ip_network_bytes()
 {
     families::canonical_v4_network_bytes();
     families::canonical_v6_network_bytes();
+}
+
+/// The value of a network is written with no space as its canonical text in quotes: JSON escapes no byte of
+/// that text.
+pub fn ip_network_stands_in_quotes()
+    ensures { (n : IpNetwork) → IsIpNetwork n → compact_text (string (ip_network_text n)) ≡ in_quotes (ip_network_text n) }
+{
+    families::v4_network_stands_in_quotes();
+    families::v6_network_stands_in_quotes();
+}
+
+/// Reading the value of a network answers that network and nothing else.
+pub fn ip_network_value_reads_back()
+    ensures { (n : IpNetwork) (result : Result IpNetwork JsonFault) → IsIpNetwork n
+        → ReadsValue ParsesIpNetwork (Some (ip_network_text n)) result ↔ (result ≡ Ok n) }
+{
+    ip_network_text_names_one();
+    canonical_ip_network_names_it();
+}
+
+/// The compact text of a network's value is the canonical text in quotes, and reading that text and the value
+/// that it is gives the network again. Only memory can be in the way.
+pub fn ip_network_through_json(
+    alloc: Global,
+    network: &IpNetwork,
+) -> Result<(String, Result<IpNetwork, JsonFault>), Error>
+    ensures text { IfOk result (λ answer. string_bytes answer.0 ≡ in_quotes (ip_network_text network.now)) }
+    ensures back { IfOk result (λ answer. answer.1 ≡ Ok network.now) }
+    ensures err { IfErr result IsMemory }
+{
+    ip_network_stands_in_quotes();
+    ip_network_value_reads_back();
+    let _prefix = network.prefix();
+    let text = network.to_value(alloc)?.to_string(alloc)?;
+    let value = Value::from_str(alloc, text.as_str())?;
+    let answer = IpNetwork::from_value(alloc, &value);
+    Ok((text, answer))
 }
 
 /// Networks of two families have no address in common, and neither is part of the other.

@@ -9,6 +9,7 @@ mod error;
 mod ip_iter;
 mod ip_mask;
 mod ip_network;
+mod json;
 pub mod laws;
 mod size;
 #[cfg(test)]
@@ -23,7 +24,7 @@ pub use ipnetwork_addr::{
 };
 pub use ipnetwork_family::{
     CidrFault, CidrNetwork, IpNetworkError, Ipv4Network, Ipv4NetworkIterator, Ipv6Network,
-    Ipv6NetworkIterator, NetworkSizeError, TEXT_CAPACITY as NETWORK_TEXT_CAPACITY,
+    Ipv6NetworkIterator, JsonFault, NetworkSizeError, TEXT_CAPACITY as NETWORK_TEXT_CAPACITY,
     ipv4_mask_to_prefix, ipv6_mask_to_prefix, parse,
 };
 pub use size::NetworkSize;

@@ -8,6 +8,8 @@ pub mod EightSegments
 pub mod ErrorExamples
 pub mod Examples
 pub mod Generic
+pub mod JsonExamples
+pub mod JsonTexts
 pub mod Masks
 pub mod Members
 pub mod NetworkTexts

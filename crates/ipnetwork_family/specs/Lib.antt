@@ -2,6 +2,7 @@ pub mod ErrorTexts
 pub mod Faults
 pub mod Ipv4NetworkText
 pub mod Ipv6NetworkText
+pub mod JsonValues
 pub mod Laws
 pub mod Network
 pub mod NetworkText

@@ -13,6 +13,7 @@ mod ipv6;
 mod ipv6_iter;
 mod ipv6_mask;
 mod ipv6_order;
+mod json;
 pub mod laws;
 pub mod parse;
 mod segments;
@@ -25,6 +26,7 @@ pub use ipv4::{Ipv4Network, ipv4_mask_to_prefix};
 pub use ipv4_iter::Ipv4NetworkIterator;
 pub use ipv6::{Ipv6Network, ipv6_mask_to_prefix};
 pub use ipv6_iter::Ipv6NetworkIterator;
+pub use json::JsonFault;
 
 /// The length in bytes of the longest printed network, one of IPv6.
 pub const TEXT_CAPACITY: usize = 43;

@@ -9,6 +9,7 @@ mod ipv6_carried;
 mod ipv6_questions;
 mod ipv6_segments;
 mod ipv6_texts;
+mod json_values;
 mod laws;
 mod parts;
 mod values;

@@ -2,9 +2,9 @@
 ghost use Rattle.std.specs.Prelude.{◌≡◌, ◌↔◌, ◌++◌, IsTrue, Ok, fold};
 ghost use Rattle.std.specs.Hash as fed;
 ghost use Rattle.ipnetwork_family.specs.Network.{IsBefore, AtMost, network_cmp};
-ghost use Rattle.ipnetwork_family.specs.Faults.{SameError};
+ghost use Rattle.ipnetwork_family.specs.Faults.{SameError, SameJsonFault};
 
-use crate::{CidrFault, IpNetworkError, Ipv4Network, Ipv6Network, NetworkSizeError};
+use crate::{CidrFault, IpNetworkError, Ipv4Network, Ipv6Network, JsonFault, NetworkSizeError};
 use std::alloc::AllocError;
 use std::cmp::Ordering;
 use std::hash::{Hash, Hasher};
@@ -33,6 +33,13 @@ pub fn cidr_fault_equality(a: CidrFault, b: CidrFault) -> bool
 /// Two errors are `==` exactly if they are the same variant and hold the same text.
 pub fn ip_network_error_equality(a: IpNetworkError, b: IpNetworkError) -> bool
     ensures { IsTrue result ↔ SameError a b }
+{
+    a == b
+}
+
+/// Two refusals of a JSON value are `==` exactly if they are the same variant and hold the same error.
+pub fn json_fault_equality(a: JsonFault, b: JsonFault) -> bool
+    ensures { IsTrue result ↔ SameJsonFault a b }
 {
     a == b
 }

@@ -1,0 +1,37 @@
+//! Networks of either family to and from values of JSON (RFC 8259): a network is the string of its canonical
+//! text.
+ghost use Rattle.std.specs.Prelude.{IfOk};
+ghost use Rattle.serde_json.specs.Find.{as_str};
+ghost use Rattle.serde_json.specs.View.{view};
+ghost use Rattle.ipnetwork_family.specs.JsonValues.{IsStringOf, ReadsValue};
+ghost use Rattle.ipnetwork.specs.IpNetworkText.{ParsesIpNetwork, ip_network_text};
+
+use crate::IpNetwork;
+use ipnetwork_family::JsonFault;
+use serde_json::Value;
+use std::alloc::{AllocError, Global};
+
+impl IpNetwork {
+    /// The string value of the canonical text. Allocates once.
+    pub fn to_value(&self, alloc: Global) -> Result<Value, AllocError>
+        ensures { IfOk result (IsStringOf (ip_network_text self.now)) }
+    {
+        Value::try_from_str(alloc, self.canonical().as_str())
+    }
+
+    /// The network of either family that a string value names. A string is judged as `parse` judges it, and
+    /// what that refuses is `Refused` with its error; any other value is `NotAString`. The string is not
+    /// copied, save into the text of a refusal: for that alone this allocates, once, and answers
+    /// `OutOfMemory` inside `Refused` only in place of one.
+    pub fn from_value(alloc: Global, value: &Value) -> Result<Self, JsonFault>
+        ensures { ReadsValue ParsesIpNetwork (as_str (view value.now)) result }
+    {
+        match value.as_str() {
+            Some(text) => match IpNetwork::parse(alloc, text) {
+                Ok(network) => Ok(network),
+                Err(error) => Err(JsonFault::Refused(error)),
+            },
+            None => Err(JsonFault::NotAString),
+        }
+    }
+}

@@ -1,0 +1,27 @@
+-- Networks as values of JSON, of any type of networks: the string of a text, read as that type's texts are.
+use Rattle.std.specs.Prelude.{◌≡◌, ℕ, List, [], ◌∷◌, ◌++◌, Option, Some, None, Result, Ok, Err}
+use Rattle.serde_json.specs.Data.{string}
+use Rattle.serde_json.specs.View.{view}
+use Rattle.serde_json.specs.declared.value.Value.{Value}
+use Rattle.ipnetwork_family.specs.declared.error.IpNetworkError.{IpNetworkError}
+use Rattle.ipnetwork_family.specs.declared.json.JsonFault.{JsonFault}
+use Rattle.ipnetwork_family.specs.declared.json.JsonFault.TheVariants.{NotAString, Refused}
+
+-- the value is the string of this text
+abbrev pub IsStringOf : List ℕ → Value → Type 0
+IsStringOf text value = view value ≡ string text
+
+-- an answer of parsing, its error inside `Refused`
+abbrev pub refusing : {N : Type 0} → Result N IpNetworkError → Result N JsonFault
+refusing (Ok network) = Ok network
+refusing (Err error) = Err (Refused error)
+
+-- what reading a value answers, of which this is the text if it is a string: what parsing may answer to the text, and
+-- `NotAString` for a value that is no string
+abbrev pub ReadsValue : {N : Type 0} → (List ℕ → Result N IpNetworkError → Type 0) → Option (List ℕ) → Result N JsonFault → Type 0
+ReadsValue {N} Parses (Some text) result = (parsed : Result N IpNetworkError) × Parses text parsed × (result ≡ refusing parsed)
+ReadsValue Parses None result = result ≡ Err NotAString
+
+-- the text between quotes, `b'"'`
+abbrev pub in_quotes : List ℕ → List ℕ
+in_quotes text = 34 ∷ (text ++ 34 ∷ [])
