@@ -1,17 +1,36 @@
 -- A text, cut at a byte.
-use Rattle.std.proofs.Common.{◌≡◌, ◌≢◌, ℕ, ◌+◌, ◌<◌, ◌==◌, true, false, cond, List, [], ◌∷◌, ◌++◌, length, take, drop, get_or, refl, sym, ap, ◌∙◌, take-append-drop}
+use Rattle.std.proofs.Common.{◌≡◌, ◌≢◌, ℕ, suc, ◌+◌, ◌-◌, ◌<◌, ◌==◌, true, false, cond, List, [], ◌∷◌, ◌++◌, length, take, drop, get_or, refl, sym, ap, ◌∙◌, take-append-drop, length-take, length-drop, arith}
 use Rattle.std.proofs.lemmas.Bool.{ne_eqb}
-use Rattle.std.proofs.lemmas.List.{drop_more, take_more}
+use Rattle.std.proofs.lemmas.List.{drop_more, get_or-drop, get_or-take}
 use Rattle.std.specs.List.{slice_split, onto_first}
+use Rattle.byte_search.specs.Bytes.{IsAbsent, IsNext}
 use Rattle.cidr.specs.Private.Bytes.{HasNo, IsFirst}
 
 pub HasNo-push : (byte : ℕ) (a : List ℕ) (c : ℕ) → HasNo byte a → (c == byte) ≡ false → HasNo byte (a ++ c ∷ [])
 HasNo-push byte [] c h e = (e, tt)
 HasNo-push byte (x ∷ a) c h e = (h.0, HasNo-push byte a c h.1 e)
 
--- one byte more, which is another
-pub none_more : (byte : ℕ) (text : List ℕ) (at : ℕ) → at < length text → HasNo byte (take at text) → get_or text at 0 ≢ byte → HasNo byte (take (at + 1) text)
-none_more byte text at within h apart = rw (take_more text at 0 within) (HasNo-push byte (take at text) (get_or text at 0) h (ne_eqb (get_or text at 0) byte apart))
+-- a text of which no byte has the value
+has_none : (byte : ℕ) (text : List ℕ) → ((i : ℕ) → i < length text → get_or text i 0 ≢ byte) → HasNo byte text
+has_none byte [] h = tt
+has_none byte (x ∷ text) h = (ne_eqb x byte (h 0 (omega arith)), has_none byte text (λ i below. h (suc i) (omega arith)))
+
+-- what a search from a place found, seen from there
+pub none_behind : (byte : ℕ) (text : List ℕ) (from : ℕ) → IsAbsent byte text from (length text) → HasNo byte (drop from text)
+none_behind byte text from h =
+    has_none byte (drop from text) (λ i below. rw (get_or-drop from text i 0) (h (from + i) (omega arith) (omega (arith, length-drop from text))))
+
+pub first_behind : (byte : ℕ) (text : List ℕ) (from at : ℕ) → IsNext byte text from at → IsFirst byte (drop from text) (at - from)
+first_behind byte text from at h =
+    let rest = drop from text in
+    let on : from + (at - from) ≡ at = omega (arith, h.behind) in
+    record {
+      within = omega (arith, h.behind, h.within, length-drop from text);
+      before = has_none byte (take (at - from) rest) (λ i below.
+          let left : i < at - from = omega (arith, length-take (at - from) rest) in
+          rw (get_or-take (at - from) rest i 0 left, get_or-drop from text i 0) (h.between (from + i) (omega arith) (omega arith)));
+      there = rw (get_or-drop from text (at - from) 0, on) h.there;
+    }
 
 pub split_at : (byte : ℕ) (a b : List ℕ) → (byte == byte) ≡ true → HasNo byte a → slice_split (λ x. x == byte) (a ++ byte ∷ b) ≡ a ∷ slice_split (λ x. x == byte) b
 split_at byte [] b same h = rw same refl

@@ -24,16 +24,16 @@ pub(crate) fn answer(line: &[u8], text: &mut Answer)
     ensures text { text.new.bytes ≡ command_answer line.now }
     ensures short { length text.new.bytes < ANSWER_MAX }
 {
-    let Some((command, words)) = cut_word(line) else {
+    let Some((command, first_at)) = cut_word(line, 0) else {
         text.push_str(UNKNOWN);
         return;
     };
-    let Some((first, words)) = cut_word(words) else {
-        answer_one(command, words, text);
+    let Some((first, second_at)) = cut_word(line, first_at) else {
+        answer_one(command, &line[first_at..], text);
         return;
     };
-    match cut_word(words) {
-        None => answer_two(command, first, words, text),
+    match cut_word(line, second_at) {
+        None => answer_two(command, first, &line[second_at..], text),
         Some(_) => text.push_str(UNKNOWN),
     }
 }

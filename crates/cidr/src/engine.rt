@@ -9,10 +9,10 @@ ghost use Rattle.cidr.specs.Output.{reply_of};
 ghost use Rattle.cidr.specs.Run.{Ran, ended_by_read, ended_by_write};
 
 use crate::fault::RunFault;
-use crate::find::find;
 use crate::line::{Line, without_carriage_return};
 use crate::replies::Replies;
 use crate::watched::device::Device;
+use byte_search::find_from;
 use std::io::{Read, Write};
 
 /// The most bytes that are asked for at a time.
@@ -114,13 +114,12 @@ fn gather_piece<W: Write>(
 {
     let mut start = 0;
     'lines: loop {
-        let rest = &piece[start..];
-        let Some(length) = find(rest, b'\n') else {
-            line.push(rest);
+        let Some(end) = find_from(piece, start, b'\n') else {
+            line.push(&piece[start..]);
             return Ok(());
         };
-        gather_line(writer, replies, line, &rest[..length])?;
-        start += length + 1;
+        gather_line(writer, replies, line, &piece[start..end])?;
+        start = end + 1;
     }
 }
 

@@ -8,7 +8,6 @@ mod answer;
 mod either;
 mod engine;
 mod fault;
-mod find;
 mod laws;
 mod line;
 mod names;

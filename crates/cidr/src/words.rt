@@ -1,15 +1,18 @@
 //! The words of a line.
-ghost use Rattle.std.specs.Prelude.{MatchOption};
-ghost use Rattle.cidr.specs.Private.Words.{IsLastWord, IsWordBefore};
+ghost use Rattle.std.specs.Prelude.{◌≤◌, length, drop, MatchOption};
+ghost use Rattle.cidr.specs.Private.Words.{IsLastWord, IsCut};
 
-use crate::find::find;
+use byte_search::find_from;
 
-/// The first word of a line and what follows the blank after it, or `None` where the line is one word.
-pub(crate) fn cut_word(line: &[u8]) -> Option<(&[u8], &[u8])>
-    ensures { MatchOption result (IsLastWord line.now) (λ cut. IsWordBefore line.now cut.0.now cut.1.now) }
+/// The word of a line that begins at the place `from`, and the place where the next word begins, behind a blank; or
+/// `None` where the rest of the line is one word.
+#[inline(always)]
+pub(crate) fn cut_word(line: &[u8], from: usize) -> Option<(&[u8], usize)>
+    requires { from ≤ length line.now }
+    ensures { MatchOption result (IsLastWord (drop from line.now)) (λ cut. IsCut line.now from cut.0.now cut.1) }
 {
-    match find(line, b' ') {
+    match find_from(line, from, b' ') {
         None => None,
-        Some(at) => Some((&line[..at], &line[at + 1..])),
+        Some(end) => Some((&line[from..end], end + 1)),
     }
 }

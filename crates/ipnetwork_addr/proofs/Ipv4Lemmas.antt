@@ -5,8 +5,8 @@ use Rattle.std.proofs.lemmas.List.{nil_from_length}
 use Rattle.std.specs.List.{join_with_byte, AllZip}
 use Rattle.std.specs.Int.Digits.{number_from_digits}
 use Rattle.ipnetwork_addr.specs.Digits.{octets_of}
-use Rattle.ipnetwork_addr.specs.Ipv4Text.{IsOctet, NamesV4, NamesNoV4, canonical_v4}
-use Rattle.ipnetwork_addr.specs.Private.OctetFront.{NoDigit, BeginsWithOctet, NoOctet, BeginsWithDottedOctet, NoDottedOctet}
+use Rattle.ipnetwork_addr.specs.Ipv4Text.{IsOctet, NamesV4, canonical_v4}
+use Rattle.ipnetwork_addr.specs.Private.OctetFront.{NoDigit, BeginsWithOctet, BeginsWithDottedOctet}
 use Rattle.ipnetwork_addr.proofs.Octets.{octet_unique, dotted_octet_unique}
 
 -- four octets, read one after the other, and nothing after them
@@ -99,40 +99,17 @@ names_four text a b c d r s t u first second third fourth empty = record {
   value = refl;
 }
 
-pub no_first : (text : List ℕ) → NoOctet text → NamesNoV4 text
-no_first text none address h = let k = reading_of text address h in none k.a k.chain.after_a k.chain.first
-
 -- where the first octets were read, those of any name are they
-same_after_a : (text : List ℕ) (a : ℕ) (r : List ℕ) (b' c' d' a' : ℕ) → BeginsWithOctet text a r → (k : Chain text a' b' c' d') → k.after_a ≡ r
+pub same_after_a : (text : List ℕ) (a : ℕ) (r : List ℕ) (b' c' d' a' : ℕ) → BeginsWithOctet text a r → (k : Chain text a' b' c' d') → k.after_a ≡ r
 same_after_a text a r b' c' d' a' first k = (octet_unique text a' a k.after_a r k.first first).1
 
-same_after_b : (text : List ℕ) (a b : ℕ) (r s : List ℕ) (b' c' d' a' : ℕ) → BeginsWithOctet text a r → BeginsWithDottedOctet r b s → (k : Chain text a' b' c' d') → k.after_b ≡ s
+pub same_after_b : (text : List ℕ) (a b : ℕ) (r s : List ℕ) (b' c' d' a' : ℕ) → BeginsWithOctet text a r → BeginsWithDottedOctet r b s → (k : Chain text a' b' c' d') → k.after_b ≡ s
 same_after_b text a b r s b' c' d' a' first second k =
     (dotted_octet_unique r b' b k.after_b s (rw (same_after_a text a r b' c' d' a' first k) at k.second) second).1
 
-same_after_c : (text : List ℕ) (a b c : ℕ) (r s t : List ℕ) (b' c' d' a' : ℕ) → BeginsWithOctet text a r → BeginsWithDottedOctet r b s → BeginsWithDottedOctet s c t → (k : Chain text a' b' c' d') → k.after_c ≡ t
+pub same_after_c : (text : List ℕ) (a b c : ℕ) (r s t : List ℕ) (b' c' d' a' : ℕ) → BeginsWithOctet text a r → BeginsWithDottedOctet r b s → BeginsWithDottedOctet s c t → (k : Chain text a' b' c' d') → k.after_c ≡ t
 same_after_c text a b c r s t b' c' d' a' first second third k =
     (dotted_octet_unique s c' c k.after_c t (rw (same_after_b text a b r s b' c' d' a' first second k) at k.third) third).1
-
-pub no_second : (text : List ℕ) (a : ℕ) (r : List ℕ) → BeginsWithOctet text a r → NoDottedOctet r → NamesNoV4 text
-no_second text a r first none address h =
-    let k = reading_of text address h in
-    none k.b k.chain.after_b (rw (same_after_a text a r k.b k.c k.d k.a first k.chain) at k.chain.second)
-
-pub no_third : (text : List ℕ) (a b : ℕ) (r s : List ℕ) → BeginsWithOctet text a r → BeginsWithDottedOctet r b s → NoDottedOctet s → NamesNoV4 text
-no_third text a b r s first second none address h =
-    let k = reading_of text address h in
-    none k.c k.chain.after_c (rw (same_after_b text a b r s k.b k.c k.d k.a first second k.chain) at k.chain.third)
-
-pub no_fourth : (text : List ℕ) (a b c : ℕ) (r s t : List ℕ) → BeginsWithOctet text a r → BeginsWithDottedOctet r b s → BeginsWithDottedOctet s c t → NoDottedOctet t → NamesNoV4 text
-no_fourth text a b c r s t first second third none address h =
-    let k = reading_of text address h in
-    none k.d [] (rw (same_after_c text a b c r s t k.b k.c k.d k.a first second third k.chain) at k.chain.fourth)
-
-pub more_left : (text : List ℕ) (a b c d : ℕ) (r s t u : List ℕ) → BeginsWithOctet text a r → BeginsWithDottedOctet r b s → BeginsWithDottedOctet s c t → BeginsWithDottedOctet t d u → u ≢ [] → NamesNoV4 text
-more_left text a b c d r s t u first second third fourth more address h =
-    let k = reading_of text address h in
-    more (sym (dotted_octet_unique t k.d d [] u (rw (same_after_c text a b c r s t k.b k.c k.d k.a first second third k.chain) at k.chain.fourth) fourth).1)
 
 -- ---- the laws
 

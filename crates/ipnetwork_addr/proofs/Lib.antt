@@ -15,6 +15,7 @@ pub mod Ipv4Lemmas
 pub mod Ipv6Bytes
 pub mod Ipv6Names
 pub mod Ipv6Printed
+pub mod OctetFronts
 pub mod Octets
 pub mod PartSteps
 pub mod Parts

@@ -4,10 +4,12 @@ ghost use Rattle.std.specs.Option.{option_copied};
 ghost use Rattle.ipnetwork_addr.specs.Ipv4Text.{NamesV4, NamesNoV4};
 ghost use Rattle.ipnetwork_addr.specs.Private.GroupFront.{NoHex, BeginsWithHex, BeginsWithGroup, NoGroup, BeginsWithPart, NoPart};
 
+use crate::hex_value::hex_value;
 use crate::octet::read_octets;
 
 /// Groups joined by colons, up to the end of the text or to a `::`, and no more of them than there is
 /// room for: how many, the number whose digits in base 2^16 they are, and what follows the `::`.
+#[inline(always)]
 pub(crate) fn read_part(text: &[u8], room: usize) -> Option<(usize, u128, Option<&[u8]>)>
     requires { room ≤ 8 }
     ensures { MatchOption result (NoPart room text.now) (λ found. BeginsWithPart room text.now found.0 found.1 (option_copied found.2)) }
@@ -81,31 +83,32 @@ fn read_group(text: &[u8]) -> Option<(u16, &[u8])>
 {
     let (first, after_first) = read_hex(text)?;
     let Some((second, after_second)) = read_hex(after_first) else {
-        return Some((first, after_first));
+        return Some((first as u16, after_first));
     };
     let two = first * 16 + second;
     let Some((third, after_third)) = read_hex(after_second) else {
-        return Some((two, after_second));
+        return Some((two as u16, after_second));
     };
     let three = two * 16 + third;
     let Some((fourth, after_fourth)) = read_hex(after_third) else {
-        return Some((three, after_third));
+        return Some((three as u16, after_third));
     };
     match read_hex(after_fourth) {
-        None => Some((three * 16 + fourth, after_fourth)),
+        None => Some(((three * 16 + fourth) as u16, after_fourth)),
         Some(_) => None,
     }
 }
 
 /// The value of the first byte as a hex digit, and the text behind it.
-fn read_hex(text: &[u8]) -> Option<(u16, &[u8])>
+#[inline(always)]
+fn read_hex(text: &[u8]) -> Option<(u32, &[u8])>
     ensures { MatchOption result (NoHex text.now) (λ found. BeginsWithHex text.now found.0 found.1.now) }
 {
     let [byte, rest @ ..] = text else {
         return None;
     };
-    match char::from(*byte).to_digit(16) {
-        Some(digit) => Some((digit as u16, rest)),
+    match hex_value(*byte) {
+        Some(digit) => Some((digit, rest)),
         None => None,
     }
 }

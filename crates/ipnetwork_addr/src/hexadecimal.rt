@@ -23,6 +23,7 @@ pub(crate) fn push_groups(text: &mut ArrayString<TEXT_CAPACITY>, groups: &[u16])
 }
 
 /// Writes the shortest lower-case hex of a group: one to four bytes.
+#[inline(always)]
 fn push_hex(text: &mut ArrayString<TEXT_CAPACITY>, group: u16)
     requires { array_string_len text.old + 4 ≤ TEXT_CAPACITY }
     ensures bytes { text.new.bytes ≡ text.old.bytes ++ hex group }

@@ -6,8 +6,10 @@
 mod canonical;
 mod colons;
 pub mod decimal;
+mod decimal_value;
 mod error;
 mod group;
+mod hex_value;
 mod hexadecimal;
 mod ip;
 mod ipv4;

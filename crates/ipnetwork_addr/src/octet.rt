@@ -1,69 +1,117 @@
 //! Reads the octets of an IPv4 text, from left to right.
-ghost use Rattle.std.specs.Prelude.{◌≡◌, ◌+◌, ◌<◌, ◌∷◌, MatchOption};
+ghost use Rattle.std.specs.Prelude.{◌≡◌, ◌<◌, ◌↔◌, [], ◌∷◌, length, slice_index, IsTrue, MatchOption};
 ghost use Rattle.std.specs.Int.Digits.{number_from_digits};
-ghost use Rattle.ipnetwork_addr.specs.Ipv4Text.{NamesV4, NamesNoV4};
-ghost use Rattle.ipnetwork_addr.specs.Private.OctetFront.{NoDigit, BeginsWithDigit, BeginsWithOctet, NoOctet, BeginsWithDottedOctet, NoDottedOctet};
+ghost use Rattle.ipnetwork_addr.specs.Ipv4Text.{IsOctet, NamesV4, NamesNoV4};
+ghost use Rattle.ipnetwork_addr.specs.Private.OctetFront.{IsNoOctet, IsOctetEnd, HasNoOctetEnd, BeginsWithOctet, NoOctetAndDot};
+ghost use Rattle.ipnetwork_addr.specs.Texts.{dot};
+
+use crate::decimal_value::decimal_value;
 
 /// The greatest octet.
-const OCTET_MAX: u16 = 255;
+const OCTET_MAX: u32 = 255;
 
 /// The four octets of a text that is an IPv4 address.
 pub(crate) fn read_octets(text: &[u8]) -> Option<[u8; 4]>
     ensures { MatchOption result (NamesNoV4 text.now) (λ octets. NamesV4 text.now (number_from_digits 256 octets)) }
 {
-    let (first, rest) = read_octet(text)?;
-    let (second, rest) = read_dotted_octet(rest)?;
-    let (third, rest) = read_dotted_octet(rest)?;
-    let (fourth, rest) = read_dotted_octet(rest)?;
-    if rest.is_empty() {
-        Some([first, second, third, fourth])
-    } else {
-        None
-    }
+    let (first, rest) = read_octet_and_dot(text)?;
+    let (second, rest) = read_octet_and_dot(rest)?;
+    let (third, rest) = read_octet_and_dot(rest)?;
+    let fourth = read_octet(rest)?;
+    Some([first, second, third, fourth])
 }
 
-/// The octet behind a dot, and the text behind the octet.
-fn read_dotted_octet(text: &[u8]) -> Option<(u8, &[u8])>
-    ensures { MatchOption result (NoDottedOctet text.now) (λ found. BeginsWithDottedOctet text.now found.0 found.1.now) }
+/// The octet before the first dot, and the text behind that dot.
+#[inline(always)]
+fn read_octet_and_dot(text: &[u8]) -> Option<(u8, &[u8])>
+    ensures { MatchOption result (NoOctetAndDot text.now) (λ found. BeginsWithOctet text.now found.0 (dot ∷ found.1.now)) }
+{
+    let end = octet_end(text)?;
+    let octet = read_octet(&text[..end])?;
+    Some((octet, &text[end + 1..]))
+}
+
+/// The place of the first dot that stands behind one, two or three bytes.
+#[inline(always)]
+fn octet_end(text: &[u8]) -> Option<usize>
+    ensures { MatchOption result (HasNoOctetEnd text.now) (IsOctetEnd text.now) }
+{
+    if has_dot(text, 1) {
+        return Some(1);
+    }
+    if has_dot(text, 2) {
+        return Some(2);
+    }
+    if has_dot(text, 3) {
+        return Some(3);
+    }
+    None
+}
+
+/// Whether a dot stands at this place.
+#[inline(always)]
+fn has_dot(text: &[u8], at: usize) -> bool
+    ensures { IsTrue result ↔ ((at < length text.now) × (slice_index text.now at ≡ dot)) }
+{
+    at < text.len() && text[at] == b'.'
+}
+
+/// The octet that the whole text is.
+#[inline(always)]
+fn read_octet(text: &[u8]) -> Option<u8>
+    ensures { MatchOption result (IsNoOctet text.now) (IsOctet text.now) }
 {
     match text {
-        [b'.', rest @ ..] => read_octet(rest),
+        [a] => octet_of_one(*a),
+        [a, b] => octet_of_two(*a, *b),
+        [a, b, c] => octet_of_three(*a, *b, *c),
         _ => None,
     }
 }
 
-/// The octet that the text begins with, up to the first byte that is no digit, and the text from there.
-fn read_octet(text: &[u8]) -> Option<(u8, &[u8])>
-    ensures { MatchOption result (NoOctet text.now) (λ found. BeginsWithOctet text.now found.0 found.1.now) }
+/// The octet of one digit.
+#[inline(always)]
+fn octet_of_one(a: u8) -> Option<u8>
+    ensures { MatchOption result (IsNoOctet (a ∷ [])) (IsOctet (a ∷ [])) }
 {
-    let (first, after_first) = read_digit(text)?;
-    let Some((second, after_second)) = read_digit(after_first) else {
-        return Some((first, after_first));
-    };
-    let leading_zero = first == 0;
-    if leading_zero {
+    let value = decimal_value(a);
+    if value > 9 {
         return None;
     }
-    let tens = first * 10 + second;
-    let Some((third, after_third)) = read_digit(after_second) else {
-        return Some((tens, after_second));
-    };
-    let value = u16::from(tens) * 10 + u16::from(third);
+    Some(value as u8)
+}
+
+/// The octet of two digits, of which the first is no zero.
+#[inline(always)]
+fn octet_of_two(a: u8, b: u8) -> Option<u8>
+    ensures { MatchOption result (IsNoOctet (a ∷ b ∷ [])) (IsOctet (a ∷ b ∷ [])) }
+{
+    let tens = decimal_value(a);
+    let ones = decimal_value(b);
+    let value = tens * 10 + ones;
+    if value < 10 {
+        return None;
+    }
+    if value > 99 {
+        return None;
+    }
+    Some(value as u8)
+}
+
+/// The octet of three digits, of which the first is no zero.
+#[inline(always)]
+fn octet_of_three(a: u8, b: u8, c: u8) -> Option<u8>
+    ensures { MatchOption result (IsNoOctet (a ∷ b ∷ c ∷ [])) (IsOctet (a ∷ b ∷ c ∷ [])) }
+{
+    let hundreds = decimal_value(a);
+    let tens = decimal_value(b);
+    let ones = decimal_value(c);
+    let value = hundreds * 100 + tens * 10 + ones;
+    if value < 100 {
+        return None;
+    }
     if value > OCTET_MAX {
         return None;
     }
-    match read_digit(after_third) {
-        None => Some((value as u8, after_third)),
-        Some(_) => None,
-    }
-}
-
-/// The value of the first byte as a decimal digit, and the text behind it.
-fn read_digit(text: &[u8]) -> Option<(u8, &[u8])>
-    ensures { MatchOption result (NoDigit text.now) (λ found. BeginsWithDigit text.now found.0 found.1.now) }
-{
-    match text {
-        [byte, rest @ ..] if byte.is_ascii_digit() => Some((*byte - b'0', rest)),
-        _ => None,
-    }
+    Some(value as u8)
 }

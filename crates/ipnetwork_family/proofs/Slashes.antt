@@ -1,12 +1,13 @@
 -- Where a text is cut.
-use Rattle.std.proofs.Common.{◌≡◌, ℕ, ◌+◌, ◌<◌, ◌==◌, Bool, true, false, cond, not, List, [], ◌∷◌, ◌++◌, length, take, drop, get_or, refl, sym, ap, ◌∙◌, arith, take-append-drop, append-nil, ◌⊎◌, inl, inr}
-use Rattle.std.proofs.lemmas.List.{drop_more, take_at, take_all, append_cancel_left, get_or_at, length-take-le, drop_at, drop-drop}
-use Rattle.std.proofs.lemmas.Bool.{eqb-true}
+use Rattle.std.proofs.Common.{◌≡◌, ◌≢◌, ℕ, zero, suc, ◌+◌, ◌-◌, ◌<◌, ◌≤◌, ◌==◌, Bool, true, false, cond, not, List, [], ◌∷◌, ◌++◌, length, take, drop, get_or, refl, sym, ap, ◌∙◌, arith, length-take, length-drop, take-append-drop, append-nil, ◌⊎◌, inl, inr}
+use Rattle.std.proofs.lemmas.List.{drop_more, get_or-drop, get_or-take, take_at, take_all, append_cancel_left, get_or_at, length-take-le, drop_at, drop-drop}
+use Rattle.std.proofs.lemmas.Bool.{eqb-true, eq-eqb, ne_eqb}
 use Rattle.std.proofs.lemmas.Str.{IsCharBoundary-after_ascii}
 use Rattle.std.specs.Str.{IsUtf8, IsCharBoundary}
 use Rattle.std.proofs.lemmas.List.Sums.{sum_by-append}
+use Rattle.byte_search.specs.Bytes.{IsAbsent, IsNext}
 use Rattle.std.specs.List.{position_or_len, after_first}
-use Rattle.ipnetwork_family.specs.NetworkText.{slashes, before_slash, IsFirstSlash}
+use Rattle.ipnetwork_family.specs.NetworkText.{slashes, before_slash, HasSeveralSlashes, IsFirstSlash}
 
 pub slashes-append : (a b : List ℕ) → slashes (a ++ b) ≡ slashes a + slashes b
 slashes-append a b = sum_by-append (λ x. cond (x == 47) 1 0) a b
@@ -83,3 +84,36 @@ boundary_after_slash text at valid h =
     let here : get_or text at 0 ≡ 47 =
     ap (λ t. get_or t at 0) h.split ∙ get_or_at (take at text) 47 (drop (at + 1) text) 0 at (length-take-le at text (omega (arith, h.within))) in
     IsCharBoundary-after_ascii text at valid h.within (omega arith)
+
+-- a text of which no byte is a slash
+no_slash : (text : List ℕ) → ((i : ℕ) → i < length text → get_or text i 0 ≢ 47) → slashes text ≡ 0
+no_slash [] h = refl
+no_slash (x ∷ text) h =
+    slashes-cons x text ∙ ap (λ v. cond v 1 0 + slashes text) (ne_eqb x 47 (h 0 (omega arith)))
+    ∙ (omega (arith, no_slash text (λ i below. h (suc i) (omega arith))))
+
+-- and one of which some byte is
+some_slash : (text : List ℕ) (i : ℕ) → i < length text → get_or text i 0 ≡ 47 → 1 ≤ slashes text
+some_slash [] i within here = absurd (omega arith)
+some_slash (x ∷ text) zero within here =
+    let one : slashes (x ∷ text) ≡ 1 + slashes text = slashes-cons x text ∙ ap (λ v. cond v 1 0 + slashes text) (eq-eqb x 47 here) in omega arith
+some_slash (x ∷ text) (suc i) within here =
+    let later = some_slash text i (omega arith) here in omega (arith, slashes-cons x text)
+
+-- what a search for a slash tells
+pub none_found : (text : List ℕ) (from : ℕ) → IsAbsent 47 text from (length text) → slashes (drop from text) ≡ 0
+none_found text from h =
+    no_slash (drop from text) (λ i below. rw (get_or-drop from text i 0) (h (from + i) (omega arith) (omega (arith, length-drop from text))))
+
+pub first_found : (text : List ℕ) (at : ℕ) → IsNext 47 text 0 at → IsFirstSlash text at
+first_found text at h =
+    first_slash_at text at h.within h.there (no_slash (take at text) (λ i below.
+        let left : i < at = omega (arith, length-take at text) in rw (get_or-take at text i 0 left) (h.between i (omega arith) left)))
+
+pub second_found : (text : List ℕ) (at later : ℕ) → IsNext 47 text 0 at → IsNext 47 text (at + 1) later → HasSeveralSlashes text
+second_found text at later h k =
+    let rest = drop (at + 1) text in
+    let on : at + 1 + (later - (at + 1)) ≡ later = omega (arith, k.behind) in
+    let one = some_slash rest (later - (at + 1)) (omega (arith, k.behind, k.within, length-drop (at + 1) text)) (rw (get_or-drop (at + 1) text (later - (at + 1)) 0, on) k.there) in
+    let counted : slashes text ≡ slashes (take at text) + (1 + slashes rest) = ap slashes (first_found text at h).split ∙ slashes-slash (take at text) rest in
+    omega arith

@@ -1,9 +1,10 @@
 //! The parts of a network text.
 ghost use Rattle.std.specs.Prelude.{◌≡◌, ◌≤◌, MatchResult, MatchOption, option_copied};
-ghost use Rattle.ipnetwork_family.specs.NetworkText.{slashes, HasSeveralSlashes, IsFirstSlash, IsOnlySlash, IsSplit};
+ghost use Rattle.ipnetwork_family.specs.NetworkText.{slashes, HasSeveralSlashes, IsOnlySlash, IsSplit};
 ghost use Rattle.ipnetwork_family.specs.PrefixNumber.{IsPrefixNumber, IsNoPrefixNumber, IsNumeralOf, IsNoNumeral};
 
 use crate::CidrFault;
+use byte_search::find_from;
 
 /// The part before the only `/` of a text and the part after it, or the whole text and `None` where
 /// there is no `/`. Two or more `/` are `CidrFault::Format`. Does not allocate.
@@ -31,6 +32,7 @@ pub fn parse_prefix(prefix: &str, max: u8) -> Result<u8, CidrFault>
 }
 
 /// `cidr_parts`, over bytes.
+#[inline(always)]
 pub(crate) fn split(text: &[u8]) -> Result<(&[u8], Option<&[u8]>), CidrFault>
     ensures { MatchResult result (λ parts. IsSplit text.now parts.0.now (option_copied parts.1))
         (λ fault. (fault ≡ CidrFault.Format) × HasSeveralSlashes text.now) }
@@ -73,26 +75,15 @@ fn read_digits(text: &[u8], max: u8) -> Option<u8>
 }
 
 /// Where the only `/` of a text stands, if there is one.
+#[inline(always)]
 fn only_slash(text: &[u8]) -> Result<Option<usize>, CidrFault>
     ensures { MatchResult result (IsOnlySlash text.now) (λ fault. (fault ≡ CidrFault.Format) × HasSeveralSlashes text.now) }
 {
-    let Some(at) = first_slash(text) else {
+    let Some(at) = find_from(text, 0, b'/') else {
         return Ok(None);
     };
-    match first_slash(&text[at + 1..]) {
+    match find_from(text, at + 1, b'/') {
         None => Ok(Some(at)),
         Some(_) => Err(CidrFault::Format),
     }
-}
-
-/// Where the first `/` of a text stands, if there is one.
-fn first_slash(text: &[u8]) -> Option<usize>
-    ensures { MatchOption result (slashes text.now ≡ 0) (IsFirstSlash text.now) }
-{
-    for (at, byte) in text.iter().enumerate() {
-        if *byte == b'/' {
-            return Some(at);
-        }
-    }
-    None
 }

@@ -1,15 +1,27 @@
 -- The octets that a text begins with.
-use Rattle.std.specs.Prelude.{◌≡◌, ℕ, ◌+◌, ◌<◌, ◌≤◌, ◌⊎◌, List, ◌∷◌, ◌++◌, slice_index, decimal}
+use Rattle.std.specs.Prelude.{◌≡◌, ◌≢◌, ℕ, ◌<◌, ◌≤◌, ◌⊎◌, List, ◌∷◌, ◌++◌, length, slice_index, decimal}
+use Rattle.ipnetwork_addr.specs.Ipv4Text.{IsOctet}
 use Rattle.ipnetwork_addr.specs.Texts.{dot}
+
+-- the text is no octet
+abbrev pub IsNoOctet : List ℕ → Type 0
+IsNoOctet text = (octet : ℕ) → ¬ (IsOctet text octet)
+
+-- the first dot that stands behind one, two or three bytes is here
+pub record IsOctetEnd (text : List ℕ) (end : ℕ) : Type 0 where
+  pub some : 1 ≤ end
+  pub few : end ≤ 3
+  pub within : end < length text
+  pub here : slice_index text end ≡ dot
+  pub first : (i : ℕ) → 1 ≤ i → i < end → slice_index text i ≢ dot
+
+-- no dot stands behind one, two or three bytes
+abbrev pub HasNoOctetEnd : List ℕ → Type 0
+HasNoOctetEnd text = (i : ℕ) → 1 ≤ i → i ≤ 3 → slice_index text i ≢ dot
 
 -- the text does not begin with a decimal digit
 abbrev pub NoDigit : List ℕ → Type 0
 NoDigit text = (slice_index text 0 < 48) ⊎ (57 < slice_index text 0)
-
--- the text is a digit of this value, and then the rest
-pub record BeginsWithDigit (text : List ℕ) (digit : ℕ) (rest : List ℕ) : Type 0 where
-  pub below_ten : digit < 10
-  pub split : text ≡ (48 + digit) ∷ rest
 
 -- the text is an octet, and then the rest, which does not begin with a digit
 pub record BeginsWithOctet (text : List ℕ) (octet : ℕ) (rest : List ℕ) : Type 0 where
@@ -17,16 +29,12 @@ pub record BeginsWithOctet (text : List ℕ) (octet : ℕ) (rest : List ℕ) : T
   pub split : text ≡ decimal octet ++ rest
   pub stops : NoDigit rest
 
--- the text begins with no octet
-abbrev pub NoOctet : List ℕ → Type 0
-NoOctet text = (octet : ℕ) (rest : List ℕ) → ¬ (BeginsWithOctet text octet rest)
-
 -- the text is a dot, an octet, and then the rest
 pub record BeginsWithDottedOctet (text : List ℕ) (octet : ℕ) (rest : List ℕ) : Type 0 where
   pub after_dot : List ℕ
   pub dotted : text ≡ dot ∷ after_dot
   pub begins : BeginsWithOctet after_dot octet rest
 
--- the text begins with no dot and octet
-abbrev pub NoDottedOctet : List ℕ → Type 0
-NoDottedOctet text = (octet : ℕ) (rest : List ℕ) → ¬ (BeginsWithDottedOctet text octet rest)
+-- the text begins with no octet and dot
+abbrev pub NoOctetAndDot : List ℕ → Type 0
+NoOctetAndDot text = (octet : ℕ) (rest : List ℕ) → ¬ (BeginsWithOctet text octet (dot ∷ rest))

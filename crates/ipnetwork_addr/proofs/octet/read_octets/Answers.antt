@@ -1,4 +1,4 @@
-use Rattle.ipnetwork_addr.proofs.Ipv4Lemmas.{names_four, no_first, no_second, no_third, no_fourth, more_left, is_nil, not_nil}
+use Rattle.ipnetwork_addr.proofs.OctetFronts.{four_octets, no_first, no_second, no_third, no_fourth}
 use Rattle.ipnetwork_addr.proofs.octet.read_octets.Goals as goal
 
 pub returns-in_err-first : goal.returns-in_err-first
@@ -11,10 +11,8 @@ pub returns-in_err-third : goal.returns-in_err-third
 returns-in_err-third c = rw c.from_residual-in_err-third.ensures (no_third _ _ _ _ _ c.in_ok-first.ensures c.in_ok-second.ensures c.in_err-third.ensures)
 
 pub returns-in_err-fourth : goal.returns-in_err-fourth
-returns-in_err-fourth c = rw c.from_residual-in_err-fourth.ensures (no_fourth _ _ _ _ _ _ _ c.in_ok-first.ensures c.in_ok-second.ensures c.in_ok-third.ensures c.in_err-fourth.ensures)
+returns-in_err-fourth c =
+    rw c.from_residual-in_err-fourth.ensures (no_fourth _ _ _ _ _ _ _ c.in_ok-first.ensures c.in_ok-second.ensures c.in_ok-third.ensures c.in_err-fourth.ensures)
 
-pub returns-then-is_empty : goal.returns-then-is_empty
-returns-then-is_empty c = names_four _ _ _ _ _ _ _ _ _ c.in_ok-first.ensures c.in_ok-second.ensures c.in_ok-third.ensures c.in_ok-fourth.ensures (is_nil _ _ c.is_empty.ensures c.if-is_empty.true)
-
-pub returns-else-is_empty : goal.returns-else-is_empty
-returns-else-is_empty c = more_left _ _ _ _ _ _ _ _ _ c.in_ok-first.ensures c.in_ok-second.ensures c.in_ok-third.ensures c.in_ok-fourth.ensures (not_nil _ _ c.is_empty.ensures c.if-is_empty.false)
+pub returns : goal.returns
+returns c = four_octets _ _ _ _ _ _ _ _ c.in_ok-first.ensures c.in_ok-second.ensures c.in_ok-third.ensures c.in_ok-fourth.ensures

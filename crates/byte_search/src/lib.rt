@@ -1,0 +1,78 @@
+//! Searches texts for a byte, several bytes at a time.
+//!
+//! Nothing here allocates.
+#![tactic(auto)]
+
+ghost use Rattle.std.specs.Prelude.{◌≡◌, ◌+◌, ◌==◌, ◌<◌, ◌≤◌, length, map, take, drop, MatchOption};
+ghost use Rattle.std.specs.Simd.Lanes.{mask_l};
+ghost use Rattle.byte_search.specs.Bytes.{IsAbsent, IsNext};
+
+#[cfg(test)]
+mod tests;
+
+use std::simd::prelude::*;
+
+/// The place of the first byte of this value at or behind the place `from`, if there is one.
+#[inline(always)]
+pub fn find_from(text: &[u8], from: usize, byte: u8) -> Option<usize>
+    requires { from ≤ length text.now }
+    ensures { MatchOption result (IsAbsent byte text.now from (length text.now)) (IsNext byte text.now from) }
+{
+    if text.len() >= 16 {
+        find_by::<16>(text, from, byte)
+    } else if text.len() >= 8 {
+        find_by::<8>(text, from, byte)
+    } else {
+        find_one_by_one(text, from, byte)
+    }
+}
+
+/// `find_from` by vectors of `N` bytes, in a text that has at least one. The last vector ends where the text
+/// ends, and may overlap the one before.
+#[inline(always)]
+fn find_by<const N: usize>(text: &[u8], from: usize, byte: u8) -> Option<usize>
+    requires some { 0 < N }
+    requires few { N ≤ 32 }
+    requires long { N ≤ length text.now }
+    requires within { from ≤ length text.now }
+    ensures { MatchOption result (IsAbsent byte text.now from (length text.now)) (IsNext byte text.now from) }
+{
+    let mut at = from;
+    while N <= text.len() - at {
+        let marks = marks_of::<N>(text, at, byte);
+        if marks != 0 {
+            return Some(at + marks.trailing_zeros() as usize);
+        }
+        at += N;
+    }
+    let last = text.len() - N;
+    let marks = marks_of::<N>(text, last, byte) >> (at - last);
+    if marks == 0 {
+        return None;
+    }
+    Some(at + marks.trailing_zeros() as usize)
+}
+
+/// A bit for each of the `N` bytes from a place on, which is set where the byte has this value.
+#[inline(always)]
+fn marks_of<const N: usize>(text: &[u8], at: usize, byte: u8) -> u64
+    requires few { N ≤ 32 }
+    requires within { at + N ≤ length text.now }
+    ensures { result ≡ mask_l (map (λ other. other == byte) (take N (drop at text.now))) }
+{
+    let bytes = Simd::<u8, N>::from_slice(&text[at..]);
+    bytes.simd_eq(Simd::splat(byte)).to_bitmask()
+}
+
+/// `find_from`, a byte at a time.
+fn find_one_by_one(text: &[u8], from: usize, byte: u8) -> Option<usize>
+    requires { from ≤ length text.now }
+    ensures { MatchOption result (IsAbsent byte text.now from (length text.now)) (IsNext byte text.now from) }
+{
+    for at in from..text.len() {
+        if text[at] == byte {
+            return Some(at);
+        }
+    }
+    None
+}
