@@ -1,0 +1,2 @@
+mod Longest
+mod Pairs

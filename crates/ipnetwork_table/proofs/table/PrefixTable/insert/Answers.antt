@@ -1,0 +1,7 @@
+use Rattle.ipnetwork_table.proofs.Longest.{after_insert}
+use Rattle.ipnetwork_table.proofs.table.PrefixTable.insert.Goals as goal
+
+pub invariant_of-self : goal.invariant_of-self
+invariant_of-self g c =
+    after_insert g.N.CidrNetwork.WIDTH c.insert.result c.self.inside.store c.insert.new.self (g.N.CidrNetwork.pair c.args.net) c.args.value
+    (rw c.key_of.ensures.block at c.insert.ensures.set) c.insert.ensures.unchanged c.key_of.ensures.network c.self.invariant

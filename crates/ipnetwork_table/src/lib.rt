@@ -1,0 +1,10 @@
+//! Routing tables: values kept under blocks of IP addresses and found by longest prefix (RFC 4632, section
+//! 5.1), for networks of either family.
+//!
+//! Only `insert` allocates.
+#![tactic(auto)]
+
+mod store;
+mod table;
+
+pub use table::PrefixTable;
