@@ -4,7 +4,9 @@
 //! Only `insert` allocates.
 #![tactic(auto)]
 
+mod entries;
 mod store;
 mod table;
 
+pub use entries::Entries;
 pub use table::PrefixTable;

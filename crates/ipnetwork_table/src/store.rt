@@ -1,7 +1,9 @@
 //! The ordered map in which a table keeps its values.
 ghost use Rattle.std.specs.Prelude.{◌≡◌, ℕ, ◌+◌, ◌<◌, ◌^◌, OnOk, OnErr, IfOk, None};
 ghost use Rattle.std.specs.FinMap as map;
+ghost use Rattle.ipnetwork_table.specs.Table.{by_pair};
 
+use crate::entries::Entries;
 use ipnetwork_family::CidrNetwork;
 use std::alloc::{AllocError, Global};
 use std::collections::BTreeMap;
@@ -60,6 +62,20 @@ impl<N: CidrNetwork, V: Copy> Store<N, V> {
         ensures unchanged { OnErr result (self.new ≡ self.old) }
     {
         Ok(self.tree.insert(key, value)?)
+    }
+
+    /// Takes every network out and frees the memory.
+    pub(crate) fn clear(&mut self)
+        ensures { self.new ≡ map.empty }
+    {
+        self.tree.clear();
+    }
+
+    /// The networks and their values, in order.
+    pub(crate) fn entries(&self) -> Entries<'_, N, V>
+        ensures { by_pair N.pair result ≡ map.entries self.now }
+    {
+        Entries::new(self.tree.iter())
     }
 
     /// Takes a network out and answers the value that it had.

@@ -1,9 +1,10 @@
 //! A table of values by block.
-ghost use Rattle.std.specs.Prelude.{◌≡◌, ℕ, ◌+◌, OnOk, OnErr, IfOk, None, MatchOption};
+ghost use Rattle.std.specs.Prelude.{◌≡◌, ℕ, ◌+◌, OnOk, OnErr, IfOk, None, MatchOption, ◌↔◌, IsTrue, IsSome};
 ghost use Rattle.std.specs.FinMap as map;
 ghost use Rattle.ipnetwork_family.specs.Network.{IsNetwork, block_of};
-ghost use Rattle.ipnetwork_table.specs.Table.{IsLongest, NoneHolds};
+ghost use Rattle.ipnetwork_table.specs.Table.{IsLongest, NoneHolds, by_pair};
 
+use crate::entries::Entries;
 use crate::store::Store;
 use ipnetwork_family::CidrNetwork;
 use std::alloc::{AllocError, Global};
@@ -60,6 +61,43 @@ impl<N: CidrNetwork, V: Copy> PrefixTable<N, V> {
         self.store.len()
     }
 
+    /// Whether no block has a value.
+    pub fn is_empty(&self) -> bool
+        ensures { IsTrue result ↔ (map.len self.now ≡ 0) }
+    {
+        self.store.len() == 0
+    }
+
+    /// The value of the block of `net`.
+    pub fn get(&self, net: N) -> Option<V>
+        ensures { result ≡ map.get self.now (block_of N.WIDTH (N.pair net)) }
+    {
+        let mut steps = 0;
+        self.store.probe(&mut steps, key_of(net))
+    }
+
+    /// Whether the block of `net` has a value.
+    pub fn contains_key(&self, net: N) -> bool
+        ensures { IsTrue result ↔ IsSome (map.get self.now (block_of N.WIDTH (N.pair net))) }
+    {
+        self.get(net).is_some()
+    }
+
+    /// The blocks and their values, in the order of networks: a block comes before the smaller ones that lie in
+    /// it.
+    pub fn iter(&self) -> Entries<'_, N, V>
+        ensures { by_pair N.pair result ≡ map.entries self.now }
+    {
+        self.store.entries()
+    }
+
+    /// Takes every block out.
+    pub fn clear(&mut self)
+        ensures { self.new ≡ map.empty }
+    {
+        self.store.clear();
+    }
+
     /// Sets the value of the block of `net`, and answers the value that it had.
     ///
     /// A block that is there takes no memory. A new one does, and the answer is an error where there is none;
@@ -113,5 +151,17 @@ impl<N: CidrNetwork, V: Copy> PrefixTable<N, V> {
             }
             prefix -= 1;
         }
+    }
+}
+
+impl<'a, N: CidrNetwork, V: Copy> IntoIterator for &'a PrefixTable<N, V> {
+    type Item = (N, V);
+
+    type IntoIter = Entries<'a, N, V>;
+
+    ghost into_iter_gives = { λ table left. by_pair N.pair left ≡ map.entries table.now };
+
+    fn into_iter(self) -> Entries<'a, N, V> {
+        self.iter()
     }
 }
