@@ -1,2 +1,4 @@
+mod Listing
 mod Longest
+mod OneAnswer
 mod Pairs

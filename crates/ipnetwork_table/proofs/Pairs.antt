@@ -32,15 +32,15 @@ both_hold : (a b : Bool) → T a → T b → T (a && b)
 both_hold true b p q = q
 both_hold false b p q = p
 
-first_holds : (a b : Bool) → T (a && b) → T a
+pub first_holds : (a b : Bool) → T (a && b) → T a
 first_holds true b p = tt
 first_holds false b p = p
 
-second_holds : (a b : Bool) → T (a && b) → T b
+pub second_holds : (a b : Bool) → T (a && b) → T b
 second_holds true b p = p
 second_holds false b p = absurd p
 
-before : (o : Ordering) → T (is_lt o) → o ≡ Less
+pub before : (o : Ordering) → T (is_lt o) → o ≡ Less
 before Less p = refl
 before Equal p = absurd p
 before Greater p = absurd p

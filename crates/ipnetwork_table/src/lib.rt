@@ -5,6 +5,7 @@
 #![tactic(auto)]
 
 mod entries;
+pub mod laws;
 mod store;
 mod table;
 
