@@ -8,6 +8,8 @@ mod entries;
 pub mod laws;
 mod store;
 mod table;
+#[cfg(test)]
+mod tests;
 
 pub use entries::Entries;
 pub use table::PrefixTable;
