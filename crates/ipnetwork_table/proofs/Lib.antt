@@ -1,3 +1,4 @@
+mod Lengths
 mod Listing
 mod Longest
 mod OneAnswer

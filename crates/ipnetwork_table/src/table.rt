@@ -16,6 +16,8 @@ use std::marker::Model;
 #[derive(Drop)]
 pub struct PrefixTable<N: CidrNetwork, V: Copy> {
     store: Store<N, V>,
+    // Whether a prefix length is in use: true for each of a stored block.
+    used: [bool; 256],
 }
 
 // A contract sees the finite map from networks, as pairs of numbers, to values.
@@ -23,6 +25,7 @@ impl<N: CidrNetwork, V: Copy> Model for PrefixTable<N, V> {
     ghost use Rattle.std.specs.FinMap as map;
     ghost use Rattle.ipnetwork_family.specs.Network.{network_cmp};
     ghost use Rattle.ipnetwork_table.specs.Table.{network_code, HasBlocksAlone};
+    ghost use Rattle.ipnetwork_table.specs.Private.Lengths.{MarksLengths};
 
     ghost Value = { map.FinMap network_cmp V };
 
@@ -30,7 +33,7 @@ impl<N: CidrNetwork, V: Copy> Model for PrefixTable<N, V> {
 
     ghost view = { λ t. t.store };
 
-    ghost invariant = { λ t. HasBlocksAlone N.WIDTH t.store };
+    ghost invariant = { λ t. HasBlocksAlone N.WIDTH t.store × MarksLengths t.store t.used };
 }
 
 // The block of a network.
@@ -51,6 +54,7 @@ impl<N: CidrNetwork, V: Copy> PrefixTable<N, V> {
     {
         PrefixTable {
             store: Store::new(alloc),
+            used: [false; 256],
         }
     }
 
@@ -96,6 +100,7 @@ impl<N: CidrNetwork, V: Copy> PrefixTable<N, V> {
         ensures { self.new ≡ map.empty }
     {
         self.store.clear();
+        self.used = [false; 256];
     }
 
     /// Sets the value of the block of `net`, and answers the value that it had.
@@ -108,7 +113,9 @@ impl<N: CidrNetwork, V: Copy> PrefixTable<N, V> {
         ensures absent { OnErr result (map.get self.old (block_of N.WIDTH (N.pair net)) ≡ None) }
         ensures unchanged { OnErr result (self.new ≡ self.old) }
     {
-        self.store.insert(key_of(net), value)
+        let block = key_of(net);
+        self.used[block.prefix() as usize] = true;
+        self.store.insert(block, value)
     }
 
     /// Takes the block of `net` out, and answers the value that it had.
@@ -125,7 +132,22 @@ impl<N: CidrNetwork, V: Copy> PrefixTable<N, V> {
         ensures { MatchOption result (NoneHolds N.WIDTH self.now (N.number addr))
             (λ found. IsLongest N.WIDTH self.now (N.number addr) (N.pair found.0) found.1) }
     {
-        self.lookup_steps(addr).0
+        let mut steps = 0;
+        let mut prefix = N::WIDTH;
+        'shorter: loop {
+            if self.used[prefix as usize] {
+                let Some(block) = N::block(addr, prefix) else {
+                    unreachable!()
+                };
+                if let Some(value) = self.store.probe(&mut steps, block) {
+                    return Some((block, value));
+                }
+            }
+            if prefix == 0 {
+                return None;
+            }
+            prefix -= 1;
+        }
     }
 
     /// What `lookup` answers, and the number of look-ups in the map that it takes to ask for the block of
