@@ -5,7 +5,7 @@ use Rattle.std.specs.Ordering.{eq_by_cmp}
 use Rattle.std.specs.FinMap.{FinMap, get, insert, remove, empty, get-empty, get-insert, get-remove}
 use Rattle.std.proofs.lemmas.Bool.{cases_lt}
 use Rattle.ipnetwork_family.specs.Network.{Network, IsNetwork, Member, IsBlock, block_size, block_of, network_cmp}
-use Rattle.ipnetwork_family.proofs.Blocks.{block_fits_too, block_begins, block_same_set}
+use Rattle.ipnetwork_family.proofs.Blocks.{block_same_set}
 use Rattle.ipnetwork_table.specs.Table.{HasBlocksAlone, IsLongest, NoneHolds}
 use Rattle.ipnetwork_table.proofs.Pairs.{total, one_network, tie_of}
 
@@ -24,13 +24,12 @@ pub new_table : (w : ℕ) (V : Type 0) → HasBlocksAlone w (empty {X = V} {R = 
 new_table w V n stored = absurd (nothing (subst IsSome (get-empty network_cmp n) stored))
 
 module _ {V : Type 0} (w : ℕ) where
-  pub with_block : (t : Table V) (n : Network) (v : V) → IsNetwork w n → HasBlocksAlone w t → HasBlocksAlone w (insert t (block_of w n) v)
-  with_block t n v fits blocks m =
-      elim (eq_by_cmp network_cmp m (block_of w n)) as (λ b. eq_by_cmp network_cmp m (block_of w n) ≡ b
-      → get (insert t (block_of w n) v) m ≡ cond b (Some v) (get t m) → IsSome (get (insert t (block_of w n) v) m) → IsKey w m) [
-        | true ↦ λ at is stored. subst (IsKey w) (sym (one_network m (block_of w n) (tie_of _ at))) (block_fits_too w n fits, block_begins w n)
+  with_block : (t : Table V) (n : Network) (v : V) → IsKey w n → HasBlocksAlone w t → HasBlocksAlone w (insert t n v)
+  with_block t n v key blocks m =
+      elim (eq_by_cmp network_cmp m n) as (λ b. eq_by_cmp network_cmp m n ≡ b → get (insert t n v) m ≡ cond b (Some v) (get t m) → IsSome (get (insert t n v) m) → IsKey w m) [
+        | true ↦ λ at is stored. subst (IsKey w) (sym (one_network m n (tie_of _ at))) key
         | false ↦ λ apart is stored. blocks m (subst IsSome is stored)
-      ] refl (get-insert total t (block_of w n) v m)
+      ] refl (get-insert total t n v m)
 
   pub without : (t : Table V) (n : Network) → HasBlocksAlone w t → HasBlocksAlone w (remove t n)
   without t n blocks m =
@@ -40,10 +39,9 @@ module _ {V : Type 0} (w : ℕ) where
       ] (get-remove total t n m)
 
   -- an insert that succeeded or was refused
-  pub after_insert : {A E : Type 0} (result : Result A E) (t u : Table V) (n : Network) (v : V) → OnOk result (u ≡ insert t (block_of w n) v) → OnErr result (u ≡ t)
-      → IsNetwork w n → HasBlocksAlone w t → HasBlocksAlone w u
-  after_insert (Ok a) t u n v set unchanged fits blocks = subst (HasBlocksAlone w) (sym set) (with_block t n v fits blocks)
-  after_insert (Err e) t u n v set unchanged fits blocks = subst (HasBlocksAlone w) (sym unchanged) blocks
+  pub after_insert : {A E : Type 0} (result : Result A E) (t u : Table V) (n : Network) (v : V) → OnOk result (u ≡ insert t n v) → OnErr result (u ≡ t) → IsKey w n → HasBlocksAlone w t → HasBlocksAlone w u
+  after_insert (Ok a) t u n v set unchanged key blocks = subst (HasBlocksAlone w) (sym set) (with_block t n v key blocks)
+  after_insert (Err e) t u n v set unchanged key blocks = subst (HasBlocksAlone w) (sym unchanged) blocks
 
 -- ---- the search
 

@@ -1,12 +1,12 @@
 //! A table of values by block.
 ghost use Rattle.std.specs.Prelude.{◌≡◌, ℕ, ◌+◌, OnOk, OnErr, IfOk, None, MatchOption, ◌↔◌, IsTrue, IsSome};
 ghost use Rattle.std.specs.FinMap as map;
-ghost use Rattle.ipnetwork_family.specs.Network.{IsNetwork, block_of};
+ghost use Rattle.ipnetwork_family.specs.Network.{IsBlock, block_of};
 ghost use Rattle.ipnetwork_table.specs.Table.{IsLongest, NoneHolds, by_pair};
 
 use crate::entries::Entries;
 use crate::store::Store;
-use ipnetwork_family::CidrNetwork;
+use ipnetwork_family::{CidrNetwork, laws};
 use std::alloc::{AllocError, Global};
 use std::marker::Model;
 
@@ -39,8 +39,9 @@ impl<N: CidrNetwork, V: Copy> Model for PrefixTable<N, V> {
 // The block of a network.
 fn key_of<N: CidrNetwork>(net: N) -> N
     ensures block { N.pair result ≡ block_of N.WIDTH (N.pair net) }
-    ensures network { IsNetwork N.WIDTH (N.pair net) }
+    ensures no_host_bits { IsBlock N.WIDTH (N.pair result) }
 {
+    laws::blocks();
     let Some(block) = N::block(net.ip(), net.prefix()) else {
         unreachable!()
     };
@@ -69,7 +70,7 @@ impl<N: CidrNetwork, V: Copy> PrefixTable<N, V> {
     pub fn is_empty(&self) -> bool
         ensures { IsTrue result ↔ (map.len self.now ≡ 0) }
     {
-        self.store.len() == 0
+        self.len() == 0
     }
 
     /// The value of the block of `net`.
@@ -113,7 +114,17 @@ impl<N: CidrNetwork, V: Copy> PrefixTable<N, V> {
         ensures absent { OnErr result (map.get self.old (block_of N.WIDTH (N.pair net)) ≡ None) }
         ensures unchanged { OnErr result (self.new ≡ self.old) }
     {
-        let block = key_of(net);
+        self.insert_block(key_of(net), value)
+    }
+
+    // Marks the prefix length first: a mark too many costs a look-up and changes no answer.
+    fn insert_block(&mut self, block: N, value: V) -> Result<Option<V>, AllocError>
+        requires { IsBlock N.WIDTH (N.pair block) }
+        ensures old { IfOk result (λ old. old ≡ map.get self.old (N.pair block)) }
+        ensures set { OnOk result (self.new ≡ map.insert self.old (N.pair block) value) }
+        ensures absent { OnErr result (map.get self.old (N.pair block) ≡ None) }
+        ensures unchanged { OnErr result (self.new ≡ self.old) }
+    {
         self.used[block.prefix() as usize] = true;
         self.store.insert(block, value)
     }
@@ -133,20 +144,20 @@ impl<N: CidrNetwork, V: Copy> PrefixTable<N, V> {
             (λ found. IsLongest N.WIDTH self.now (N.number addr) (N.pair found.0) found.1) }
     {
         let mut steps = 0;
-        let mut prefix = N::WIDTH;
+        let mut length = N::WIDTH;
         'shorter: loop {
-            if self.used[prefix as usize] {
-                let Some(block) = N::block(addr, prefix) else {
+            if self.used[length as usize] {
+                let Some(block) = N::block(addr, length) else {
                     unreachable!()
                 };
                 if let Some(value) = self.store.probe(&mut steps, block) {
                     return Some((block, value));
                 }
             }
-            if prefix == 0 {
+            if length == 0 {
                 return None;
             }
-            prefix -= 1;
+            length -= 1;
         }
     }
 

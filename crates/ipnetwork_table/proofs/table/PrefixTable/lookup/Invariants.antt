@@ -4,10 +4,10 @@ use Rattle.ipnetwork_table.proofs.table.PrefixTable.lookup.Given as goal
 
 abbrev pub invariant-shorter : goal.invariant-shorter
 invariant-shorter g l = record {
-  within : l.prefix ≤ g.N.CidrNetwork.WIDTH;
-  few_steps : l.steps + l.prefix ≤ g.N.CidrNetwork.WIDTH;
-  none_above : NoneAbove g.N.CidrNetwork.WIDTH l.self-inside.store (g.N.CidrNetwork.number l.addr) l.prefix;
+  within : l.length ≤ g.N.CidrNetwork.WIDTH;
+  few_steps : l.steps + l.length ≤ g.N.CidrNetwork.WIDTH;
+  none_above : NoneAbove g.N.CidrNetwork.WIDTH l.self-inside.store (g.N.CidrNetwork.number l.addr) l.length;
 }
 
 abbrev pub decreases-shorter : goal.decreases-shorter
-decreases-shorter g l = l.prefix
+decreases-shorter g l = l.length
