@@ -1,0 +1,5 @@
+mod Lengths
+mod Listing
+mod Longest
+mod OneAnswer
+mod Pairs

@@ -1,0 +1,56 @@
+-- There is one answer to a look-up, and never more.
+use Rattle.std.proofs.Common.{◌≡◌, ℕ, zero, suc, ◌-◌, ◌^◌, ◌<◌, ◌≤◌, Option, Some, None, sym, refl, ap, subst, ◌∙◌, arith, ⊎_elim, is_some}
+use Rattle.std.specs.Prelude.{IsSome}
+use Rattle.std.specs.Option.{unwrap_or}
+use Rattle.std.specs.FinMap.{FinMap, get}
+use Rattle.std.proofs.lemmas.Bool.{cases_lt}
+use Rattle.ipnetwork_family.specs.Network.{Network, IsBlock, Member, network_cmp}
+use Rattle.ipnetwork_table.specs.Table.{HasBlocksAlone, IsLongest}
+use Rattle.ipnetwork_table.specs.Laws.{Answers}
+use Rattle.ipnetwork_table.proofs.Longest.{around, around_is, NoneAbove, none_above_width, none_above_next, none_at_all, longest_here}
+
+pub blocks_meet : (w : ℕ) (m n : Network) (x : ℕ) → IsBlock w m → IsBlock w n → m.prefix ≡ n.prefix → Member w m x → Member w n x → m ≡ n
+blocks_meet w m n x block_m block_n same in_m in_n = around_is w m x n.prefix block_m in_m same ∙ sym (around_is w n x n.prefix block_n in_n refl)
+
+same_value : {A : Type 0} (a b : A) → Some a ≡ Some b → a ≡ b
+same_value a b same = ap (λ o. unwrap_or o a) same
+
+module _ {V : Type 0} (w : ℕ) (t : FinMap network_cmp V) (x : ℕ) (blocks : HasBlocksAlone w t) where
+  abbrev Found : Type 0
+  Found = (answer : Option (Network × V)) × Answers w t x answer
+
+  -- from a prefix length down
+  search_from : x < 2 ^ w → (p : ℕ) → NoneAbove w t x p → Found
+  search_from fits zero above =
+      elim (get t (around w x 0)) as (λ o. get t (around w x 0) ≡ o → Found) [
+        | Some v ↦ λ found. (Some (around w x 0, v), longest_here w t x 0 _ v above fits refl found)
+        | None ↦ λ none. (None, none_at_all w t x 0 blocks above none refl)
+      ] refl
+  search_from fits (suc p) above =
+      elim (get t (around w x (suc p))) as (λ o. get t (around w x (suc p)) ≡ o → Found) [
+        | Some v ↦ λ found. (Some (around w x (suc p), v), longest_here w t x (suc p) _ v above fits refl found)
+        | None ↦ λ none.
+            let next : suc p - 1 ≡ p = omega arith in
+            search_from fits p (subst (NoneAbove w t x) next (none_above_next w t x (suc p) blocks above none (omega arith)))
+      ] refl
+
+  pub answer_exists : Found
+  answer_exists = ⊎_elim
+      (λ (fits : x < 2 ^ w). search_from fits w (none_above_width w t x blocks))
+      (λ (beyond : 2 ^ w ≤ x). (None, λ n stored holds. omega (arith, beyond, holds.0)))
+      (cases_lt x (2 ^ w))
+
+  is_stored : (n : Network) (v : V) → IsLongest w t x n v → IsSome (get t n)
+  is_stored n v longest = ap is_some longest.stored
+
+  pub answer_is_one : (a b : Option (Network × V)) → Answers w t x a → Answers w t x b → a ≡ b
+  answer_is_one None None here there = refl
+  answer_is_one None (Some e) here there = absurd (here e.0 (is_stored e.0 e.1 there) there.holds)
+  answer_is_one (Some d) None here there = absurd (there d.0 (is_stored d.0 d.1 here) here.holds)
+  answer_is_one (Some d) (Some e) here there =
+      let shorter : d.0.prefix ≤ e.0.prefix = there.longest d.0 (is_stored d.0 d.1 here) here.holds in
+      let longer : e.0.prefix ≤ d.0.prefix = here.longest e.0 (is_stored e.0 e.1 there) there.holds in
+      let same : d.0 ≡ e.0 =
+      blocks_meet w d.0 e.0 x (blocks d.0 (is_stored d.0 d.1 here)).1 (blocks e.0 (is_stored e.0 e.1 there)).1 (omega (arith, shorter, longer)) here.holds there.holds in
+      let value : d.1 ≡ e.1 = same_value d.1 e.1 (sym here.stored ∙ ap (get t) same ∙ there.stored) in
+      λ i. Some (same i, value i)

@@ -1,0 +1,13 @@
+use Rattle.std.proofs.Common.{◌≡◌, ◌+◌, ◌≤◌}
+use Rattle.ipnetwork_table.proofs.Longest.{NoneAbove}
+use Rattle.ipnetwork_table.proofs.table.PrefixTable.lookup_steps.Given as goal
+
+abbrev pub invariant-shorter : goal.invariant-shorter
+invariant-shorter g l = record {
+  within : l.prefix ≤ g.N.CidrNetwork.WIDTH;
+  counted : l.steps + l.prefix ≡ g.N.CidrNetwork.WIDTH;
+  none_above : NoneAbove g.N.CidrNetwork.WIDTH l.self-inside.store (g.N.CidrNetwork.number l.addr) l.prefix;
+}
+
+abbrev pub decreases-shorter : goal.decreases-shorter
+decreases-shorter g l = l.prefix

@@ -1,0 +1,40 @@
+-- The laws of tables, for addresses of any number of bits and values of any type.
+use Rattle.std.specs.Prelude.{◌≡◌, ℕ, ◌<◌, Option, Some, MatchOption, slice_get}
+use Rattle.std.specs.FinMap.{FinMap, get, entries}
+use Rattle.ipnetwork_family.specs.Network.{Network, IsBlock, Member, Subnet, IsBefore, network_cmp}
+use Rattle.ipnetwork_table.specs.Table.{HasBlocksAlone, IsLongest, NoneHolds}
+
+-- two blocks of one prefix length that share an address are the same
+abbrev pub BlocksThatMeet : Type 0
+BlocksThatMeet = (w : ℕ) (m n : Network) (x : ℕ) → IsBlock w m → IsBlock w n → m.prefix ≡ n.prefix → Member w m x → Member w n x → m ≡ n
+
+-- this is the longest block that holds x and its value, or it is nothing and no stored block holds x
+abbrev pub Answers : {V : Type 0} → ℕ → FinMap network_cmp V → ℕ → Option (Network × V) → Type 0
+Answers w t x answer = MatchOption answer (NoneHolds w t x) (λ found. IsLongest w t x found.0 found.1)
+
+module _ (V : Type 0) where
+  -- each content has an answer for each address,
+  abbrev pub AnswerExists : Type 0
+  AnswerExists = (w : ℕ) (t : FinMap network_cmp V) (x : ℕ) → HasBlocksAlone w t → (answer : Option (Network × V)) × Answers w t x answer
+
+  -- and one alone
+  abbrev pub AnswerIsOne : Type 0
+  AnswerIsOne = (w : ℕ) (t : FinMap network_cmp V) (x : ℕ) (a b : Option (Network × V)) → HasBlocksAlone w t → Answers w t x a → Answers w t x b → a ≡ b
+
+  -- an entry is a block that is stored with the value,
+  abbrev pub ListedIsStored : Type 0
+  ListedIsStored = (t : FinMap network_cmp V) (i : ℕ) (n : Network) (v : V) → slice_get (entries t) i ≡ Some (n, v) → get t n ≡ Some v
+
+  -- each stored block has its entry,
+  abbrev pub StoredIsListed : Type 0
+  StoredIsListed = (t : FinMap network_cmp V) (n : Network) (v : V) → get t n ≡ Some v → (i : ℕ) × (slice_get (entries t) i ≡ Some (n, v))
+
+  -- the entries stand in the order of networks,
+  abbrev pub EntriesAscend : Type 0
+  EntriesAscend = (t : FinMap network_cmp V) (i j : ℕ) (d e : Network × V) → slice_get (entries t) i ≡ Some d → slice_get (entries t) j ≡ Some e → i < j
+      → IsBefore d.0 e.0
+
+  -- and no block lies in one that stands after it
+  abbrev pub WiderBlocksFirst : Type 0
+  WiderBlocksFirst = (w : ℕ) (t : FinMap network_cmp V) (i j : ℕ) (d e : Network × V) → HasBlocksAlone w t
+      → slice_get (entries t) i ≡ Some d → slice_get (entries t) j ≡ Some e → i < j → ¬ (Subnet w d.0 e.0)

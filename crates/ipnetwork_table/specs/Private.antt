@@ -1,0 +1,2 @@
+-- How contracts look into private fields.
+pub mod Lengths

@@ -1,0 +1,28 @@
+-- Tables: finite maps from blocks of addresses of w bits to values, and the longest block that holds an address
+-- (RFC 4632, section 5.1).
+use Rattle.std.specs.Prelude.{◌≡◌, ℕ, ◌≤◌, List, map, Some, IsSome, refl}
+use Rattle.std.specs.Coded.{Coded, code_by, coded×, coded_ℕ}
+use Rattle.std.specs.FinMap.{FinMap, get}
+use Rattle.ipnetwork_family.specs.Network.{Network, IsNetwork, IsBlock, Member, network_cmp}
+
+-- a network as its two numbers, so that a finite map can have it for a key
+abbrev pub network_code : Coded Network
+network_code = code_by (ℕ × ℕ) (coded× coded_ℕ coded_ℕ) (λ n. (n.address, n.prefix)) (λ numbers. record { address = numbers.0; prefix = numbers.1 }) (λ n. refl)
+
+-- entries under networks of some type, each network as what it means
+abbrev pub by_pair : {N V : Type 0} → (N → Network) → List (N × V) → List (Network × V)
+by_pair pair entries = map (λ e. (pair e.0, e.1)) entries
+
+-- each key is a network without host bits
+abbrev pub HasBlocksAlone : {V : Type 0} → ℕ → FinMap network_cmp V → Type 0
+HasBlocksAlone w t = (n : Network) → IsSome (get t n) → IsNetwork w n × IsBlock w n
+
+-- the block n is stored with the value v and holds x, and no stored block that holds x has a greater prefix length
+pub record IsLongest {V : Type 0} (w : ℕ) (t : FinMap network_cmp V) (x : ℕ) (n : Network) (v : V) : Type 0 where
+  pub stored : get t n ≡ Some v
+  pub holds : Member w n x
+  pub longest : (m : Network) → IsSome (get t m) → Member w m x → m.prefix ≤ n.prefix
+
+-- no stored block holds x
+abbrev pub NoneHolds : {V : Type 0} → ℕ → FinMap network_cmp V → ℕ → Type 0
+NoneHolds w t x = (n : Network) → IsSome (get t n) → ¬ (Member w n x)

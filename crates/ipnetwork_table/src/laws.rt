@@ -1,0 +1,24 @@
+//! The laws of tables. Each function's contract is a law; it does nothing, and a proof whose function calls it
+//! may use the law.
+ghost use Rattle.ipnetwork_table.specs.Laws.{BlocksThatMeet, AnswerExists, AnswerIsOne, ListedIsStored, StoredIsListed, EntriesAscend, WiderBlocksFirst};
+
+/// Two blocks of one prefix length that share an address are the same.
+pub fn blocks_that_meet()
+    ensures { BlocksThatMeet }
+{}
+
+/// For each content of a table and each address there is a longest block that holds the address, or no stored
+/// block holds it; and the answer is one.
+pub fn one_answer<V: Copy>()
+    ensures exists { AnswerExists V }
+    ensures one { AnswerIsOne V }
+{}
+
+/// The entries of a table are its blocks with their values, in the order of networks, and no block lies in
+/// one that stands after it.
+pub fn listing<V: Copy>()
+    ensures stored { ListedIsStored V }
+    ensures listed { StoredIsListed V }
+    ensures ascending { EntriesAscend V }
+    ensures wider_first { WiderBlocksFirst V }
+{}

@@ -1,0 +1,200 @@
+//! A table of values by block.
+ghost use Rattle.std.specs.Prelude.{◌≡◌, ℕ, ◌+◌, OnOk, OnErr, IfOk, None, MatchOption, ◌↔◌, IsTrue, IsSome};
+ghost use Rattle.std.specs.FinMap as map;
+ghost use Rattle.ipnetwork_family.specs.Network.{IsBlock, block_of};
+ghost use Rattle.ipnetwork_table.specs.Table.{IsLongest, NoneHolds, by_pair};
+
+use crate::entries::Entries;
+use crate::store::Store;
+use ipnetwork_family::{CidrNetwork, laws};
+use std::alloc::{AllocError, Global};
+use std::marker::Model;
+
+/// Values by block, and the longest block that holds an address.
+///
+/// A network given as a key stands for its block: its host bits are cleared. Only `insert` takes memory.
+#[derive(Drop)]
+pub struct PrefixTable<N: CidrNetwork, V: Copy> {
+    store: Store<N, V>,
+    // Whether a prefix length is in use: true for each of a stored block.
+    used: [bool; 256],
+}
+
+// A contract sees the finite map from networks, as pairs of numbers, to values.
+impl<N: CidrNetwork, V: Copy> Model for PrefixTable<N, V> {
+    ghost use Rattle.std.specs.FinMap as map;
+    ghost use Rattle.ipnetwork_family.specs.Network.{network_cmp};
+    ghost use Rattle.ipnetwork_table.specs.Table.{network_code, HasBlocksAlone};
+    ghost use Rattle.ipnetwork_table.specs.Private.Lengths.{MarksLengths};
+
+    ghost Value = { map.FinMap network_cmp V };
+
+    ghost coded = { map.code network_code V.code };
+
+    ghost view = { λ t. t.store };
+
+    ghost invariant = { λ t. HasBlocksAlone N.WIDTH t.store × MarksLengths t.store t.used };
+}
+
+// The block of a network.
+fn key_of<N: CidrNetwork>(net: N) -> N
+    ensures block { N.pair result ≡ block_of N.WIDTH (N.pair net) }
+    ensures no_host_bits { IsBlock N.WIDTH (N.pair result) }
+{
+    laws::blocks();
+    let Some(block) = N::block(net.ip(), net.prefix()) else {
+        unreachable!()
+    };
+    block
+}
+
+impl<N: CidrNetwork, V: Copy> PrefixTable<N, V> {
+    /// The empty table, which takes no memory until a block is inserted.
+    pub fn new(alloc: Global) -> Self
+        ensures { result ≡ map.empty }
+    {
+        PrefixTable {
+            store: Store::new(alloc),
+            used: [false; 256],
+        }
+    }
+
+    /// The number of blocks that have a value.
+    pub fn len(&self) -> usize
+        ensures { result ≡ map.len self.now }
+    {
+        self.store.len()
+    }
+
+    /// Whether no block has a value.
+    pub fn is_empty(&self) -> bool
+        ensures { IsTrue result ↔ (map.len self.now ≡ 0) }
+    {
+        self.len() == 0
+    }
+
+    /// The value of the block of `net`.
+    pub fn get(&self, net: N) -> Option<V>
+        ensures { result ≡ map.get self.now (block_of N.WIDTH (N.pair net)) }
+    {
+        let mut steps = 0;
+        self.store.probe(&mut steps, key_of(net))
+    }
+
+    /// Whether the block of `net` has a value.
+    pub fn contains_key(&self, net: N) -> bool
+        ensures { IsTrue result ↔ IsSome (map.get self.now (block_of N.WIDTH (N.pair net))) }
+    {
+        self.get(net).is_some()
+    }
+
+    /// The blocks and their values, in the order of networks: a block comes before the smaller ones that lie in
+    /// it.
+    pub fn iter(&self) -> Entries<'_, N, V>
+        ensures { by_pair N.pair result ≡ map.entries self.now }
+    {
+        self.store.entries()
+    }
+
+    /// Takes every block out.
+    pub fn clear(&mut self)
+        ensures { self.new ≡ map.empty }
+    {
+        self.store.clear();
+        self.used = [false; 256];
+    }
+
+    /// Sets the value of the block of `net`, and answers the value that it had.
+    ///
+    /// A block that is there takes no memory. A new one does, and the answer is an error where there is none;
+    /// the table is then as before.
+    pub fn insert(&mut self, net: N, value: V) -> Result<Option<V>, AllocError>
+        ensures old { IfOk result (λ old. old ≡ map.get self.old (block_of N.WIDTH (N.pair net))) }
+        ensures set { OnOk result (self.new ≡ map.insert self.old (block_of N.WIDTH (N.pair net)) value) }
+        ensures absent { OnErr result (map.get self.old (block_of N.WIDTH (N.pair net)) ≡ None) }
+        ensures unchanged { OnErr result (self.new ≡ self.old) }
+    {
+        self.insert_block(key_of(net), value)
+    }
+
+    // Marks the prefix length first: a mark too many costs a look-up and changes no answer.
+    fn insert_block(&mut self, block: N, value: V) -> Result<Option<V>, AllocError>
+        requires { IsBlock N.WIDTH (N.pair block) }
+        ensures old { IfOk result (λ old. old ≡ map.get self.old (N.pair block)) }
+        ensures set { OnOk result (self.new ≡ map.insert self.old (N.pair block) value) }
+        ensures absent { OnErr result (map.get self.old (N.pair block) ≡ None) }
+        ensures unchanged { OnErr result (self.new ≡ self.old) }
+    {
+        self.used[block.prefix() as usize] = true;
+        self.store.insert(block, value)
+    }
+
+    /// Takes the block of `net` out, and answers the value that it had.
+    pub fn remove(&mut self, net: N) -> Option<V>
+        ensures old { result ≡ map.get self.old (block_of N.WIDTH (N.pair net)) }
+        ensures removed { self.new ≡ map.remove self.old (block_of N.WIDTH (N.pair net)) }
+    {
+        self.store.remove(key_of(net))
+    }
+
+    /// The stored block of greatest prefix length whose set holds the address, with its value; `None` where
+    /// no stored block holds it.
+    pub fn lookup(&self, addr: N::Addr) -> Option<(N, V)>
+        ensures { MatchOption result (NoneHolds N.WIDTH self.now (N.number addr))
+            (λ found. IsLongest N.WIDTH self.now (N.number addr) (N.pair found.0) found.1) }
+    {
+        let mut steps = 0;
+        let mut length = N::WIDTH;
+        'shorter: loop {
+            if self.used[length as usize] {
+                let Some(block) = N::block(addr, length) else {
+                    unreachable!()
+                };
+                if let Some(value) = self.store.probe(&mut steps, block) {
+                    return Some((block, value));
+                }
+            }
+            if length == 0 {
+                return None;
+            }
+            length -= 1;
+        }
+    }
+
+    /// What `lookup` answers, and the number of look-ups in the map that it takes to ask for the block of
+    /// each prefix length in turn, from `WIDTH` down: `WIDTH + 1` less the prefix length of the block
+    /// that is found, `WIDTH + 1` where none is.
+    pub fn lookup_steps(&self, addr: N::Addr) -> (Option<(N, V)>, u32)
+        ensures answer { MatchOption result.0 (NoneHolds N.WIDTH self.now (N.number addr))
+            (λ found. IsLongest N.WIDTH self.now (N.number addr) (N.pair found.0) found.1) }
+        ensures steps { MatchOption result.0 (result.1 ≡ N.WIDTH + 1)
+            (λ found. result.1 + (N.pair found.0).prefix ≡ N.WIDTH + 1) }
+    {
+        let mut steps = 0;
+        let mut prefix = N::WIDTH;
+        'shorter: loop {
+            let Some(block) = N::block(addr, prefix) else {
+                unreachable!()
+            };
+            if let Some(value) = self.store.probe(&mut steps, block) {
+                return (Some((block, value)), steps);
+            }
+            if prefix == 0 {
+                return (None, steps);
+            }
+            prefix -= 1;
+        }
+    }
+}
+
+impl<'a, N: CidrNetwork, V: Copy> IntoIterator for &'a PrefixTable<N, V> {
+    type Item = (N, V);
+
+    type IntoIter = Entries<'a, N, V>;
+
+    ghost into_iter_gives = { λ table left. by_pair N.pair left ≡ map.entries table.now };
+
+    fn into_iter(self) -> Entries<'a, N, V> {
+        self.iter()
+    }
+}

@@ -1,0 +1,5 @@
+//! Rows over the public calls.
+
+mod against_a_list;
+mod refused;
+mod rows;
