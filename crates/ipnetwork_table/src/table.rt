@@ -8,6 +8,8 @@ use crate::entries::Entries;
 use crate::store::Store;
 use ipnetwork_family::{CidrNetwork, laws};
 use std::alloc::{AllocError, Global};
+use std::fmt;
+use std::fmt::{Debug, Formatter, Write};
 use std::marker::Model;
 
 /// Values by block, and the longest block that holds an address.
@@ -134,7 +136,14 @@ impl<N: CidrNetwork, V: Copy> PrefixTable<N, V> {
         ensures old { result ≡ map.get self.old (block_of N.WIDTH (N.pair net)) }
         ensures removed { self.new ≡ map.remove self.old (block_of N.WIDTH (N.pair net)) }
     {
-        self.store.remove(key_of(net))
+        self.remove_block(key_of(net))
+    }
+
+    fn remove_block(&mut self, block: N) -> Option<V>
+        ensures old { result ≡ map.get self.old (N.pair block) }
+        ensures removed { self.new ≡ map.remove self.old (N.pair block) }
+    {
+        self.store.remove(block)
     }
 
     /// The stored block of greatest prefix length whose set holds the address, with its value; `None` where
@@ -196,5 +205,15 @@ impl<'a, N: CidrNetwork, V: Copy> IntoIterator for &'a PrefixTable<N, V> {
 
     fn into_iter(self) -> Entries<'a, N, V> {
         self.iter()
+    }
+}
+
+impl<N: CidrNetwork + Debug, V: Copy + Debug> Debug for PrefixTable<N, V> {
+    fn fmt<W: Write>(&self, f: &mut Formatter<W>) -> fmt::Result {
+        let mut out = f.debug_map();
+        for (network, value) in self {
+            out.entry(&network, &value);
+        }
+        out.finish()
     }
 }

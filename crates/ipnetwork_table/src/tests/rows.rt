@@ -65,6 +65,7 @@ fn one_table_as_it_grows(rt: HostRuntime) -> Result<(), Fail> {
     }
     table.clear();
     assert!(rt; finds_nothing(&table, Ipv4Addr::new(10, 9, 9, 9), 33) && table.is_empty());
+    assert_eq!(rt; format!(in rt.alloc(); "{:?}", table)?.as_str(), "{}");
     assert_eq!(rt; table.insert(v4("10.9.9.9/32")?, 8)?, None);
     Ok(())
 }

@@ -1,9 +1,0 @@
-use Rattle.ipnetwork_table.proofs.Lengths.{marked_without}
-use Rattle.ipnetwork_table.proofs.Longest.{without}
-use Rattle.ipnetwork_table.proofs.table.PrefixTable.remove.Goals as goal
-
-pub invariant_of-self : goal.invariant_of-self
-invariant_of-self g c = rw c.remove.ensures.removed (
-  without g.N.CidrNetwork.WIDTH c.self.inside.store (g.N.CidrNetwork.pair c.key_of.result) c.self.invariant.0,
-  marked_without c.self.inside.store c.self.inside.used (g.N.CidrNetwork.pair c.key_of.result) c.self.invariant.1,
-)
