@@ -37,6 +37,6 @@ pub gives_none : (o : Option ℕ) → ((x : ℕ) → ¬ (o ≡ Some x)) → o �
 gives_none None h = refl
 gives_none (Some x) h = absurd (h x refl)
 
--- an answer that began empty, after it was written
-pub said : (old new text : List ℕ) → old ≡ [] → new ≡ old ++ text → new ≡ text
-said old new text empty pushed = pushed ∙ ap (λ t. t ++ text) empty
+-- an answer that was added, by another name
+pub adds : (old new x y : List ℕ) → new ≡ old ++ (x ++ 10 ∷ []) → x ≡ y → new ≡ old ++ (y ++ 10 ∷ [])
+adds old new x y added same = added ∙ ap (λ answer. old ++ (answer ++ 10 ∷ [])) same

@@ -1,26 +1,30 @@
 //! The answers of the commands that are asked of networks of either family.
 ghost use Rattle.std.specs.Prelude.{◌≡◌, ◌<◌, ◌≤◌, [], length};
-ghost use Rattle.cidr.specs.declared.answer.TheConstants.{ANSWER_MAX};
+ghost use Rattle.cidr.specs.declared.replies.TheConstants.{ANSWER_MAX};
+ghost use Rattle.cidr.specs.Private.Replies.{HasRoom, Adds};
 ghost use Rattle.cidr.specs.EitherCommands.{read_answer, has_answer, ends_answer, ends_text, rel_answer, relation};
 
-use crate::answer::Answer;
+use crate::replies::{ANSWER_MAX, Replies};
+use arrayvec::ArrayString;
 use ipnetwork::decimal::push_number;
 use ipnetwork::{IpAddr, IpNetwork, laws};
 
 /// The answer to a text that names no network.
 const REFUSED: &str = "refused";
 
+/// An answer of several parts, before it is added.
+type Answer = ArrayString<ANSWER_MAX>;
+
 /// `read`: the canonical text of a network.
-pub(crate) fn read(word: &[u8], text: &mut Answer)
-    requires { text.old.bytes ≡ [] }
-    ensures text { text.new.bytes ≡ read_answer word.now }
-    ensures short { length text.new.bytes < ANSWER_MAX }
+pub(crate) fn read(word: &[u8], replies: &mut Replies)
+    requires { HasRoom replies.old }
+    ensures { Adds replies.old replies.new (read_answer word.now) }
 {
     // Does nothing: the proof of this body needs the law.
     laws::ip_network_reading_is_computed();
     match IpNetwork::read_bytes(word) {
-        Ok(network) => text.push_str(network.canonical().as_str()),
-        Err(_) => text.push_str(REFUSED),
+        Ok(network) => replies.push(network.canonical().as_str()),
+        Err(_) => replies.push(REFUSED),
     }
 }
 
@@ -47,16 +51,19 @@ pub(crate) fn has(network: &[u8], address: &[u8]) -> &'static str
 }
 
 /// `ends`: the ends of a network, its mask and its size.
-pub(crate) fn ends(word: &[u8], text: &mut Answer)
-    requires { text.old.bytes ≡ [] }
-    ensures text { text.new.bytes ≡ ends_answer word.now }
-    ensures short { length text.new.bytes < ANSWER_MAX }
+pub(crate) fn ends(word: &[u8], replies: &mut Replies)
+    requires { HasRoom replies.old }
+    ensures { Adds replies.old replies.new (ends_answer word.now) }
 {
     // Does nothing: the proof of this body needs the law.
     laws::ip_network_reading_is_computed();
     match IpNetwork::read_bytes(word) {
-        Ok(network) => push_ends(network, text),
-        Err(_) => text.push_str(REFUSED),
+        Ok(network) => {
+            let mut text = Answer::new();
+            push_ends(network, &mut text);
+            replies.push(text.as_str());
+        }
+        Err(_) => replies.push(REFUSED),
     }
 }
 

@@ -1,14 +1,17 @@
 //! Replies that are gathered before they are written.
-ghost use Rattle.std.specs.Prelude.{◌≡◌, ◌+◌, ◌≤◌, ◌↔◌, [], ◌∷◌, ◌++◌, length, IsTrue};
+ghost use Rattle.std.specs.Prelude.{◌≡◌, ◌<◌, ◌↔◌, [], ◌++◌, length, IsTrue};
 ghost use Rattle.cidr.specs.Output.{reply_of};
-ghost use Rattle.cidr.specs.declared.replies.TheConstants.{GATHERED_MAX};
+ghost use Rattle.cidr.specs.declared.replies.TheConstants.{ANSWER_MAX};
 
-use crate::answer::{ANSWER_MAX, Answer, answer};
+use crate::answer::answer;
 use crate::line::LINE_MAX;
 use arrayvec::ArrayVec;
 
 /// The most bytes that are gathered.
 const GATHERED_MAX: usize = 65536;
+
+/// The most bytes of an answer and its line feed.
+pub(crate) const ANSWER_MAX: usize = 160;
 
 /// Replies in their order, which were not written yet.
 #[derive(Drop)]
@@ -17,7 +20,7 @@ pub(crate) struct Replies {
 }
 
 impl Replies {
-    ghost use Rattle.cidr.specs.Private.Replies.{gathered, HasRoom};
+    ghost use Rattle.cidr.specs.Private.Replies.{gathered, HasRoom, Adds};
 
     /// No reply.
     pub(crate) fn new() -> Replies
@@ -59,14 +62,15 @@ impl Replies {
             self.push("line too long");
             return;
         }
-        let mut text = Answer::new();
-        answer(line, &mut text);
-        self.push(text.as_str());
+        answer(line, self);
     }
 
-    fn push(&mut self, text: &str)
-        requires { length (gathered self.old) + (length text.now + 1) ≤ GATHERED_MAX }
-        ensures { gathered self.new ≡ gathered self.old ++ (text.now ++ 10 ∷ []) }
+    /// Adds an answer, and a line feed.
+    #[inline(always)]
+    pub(crate) fn push(&mut self, text: &str)
+        requires room { HasRoom self.old }
+        requires short { length text.now < ANSWER_MAX }
+        ensures { Adds self.old self.new text.now }
     {
         let _ = self.bytes.try_extend_from_slice(text.as_bytes());
         self.bytes.push(b'\n');

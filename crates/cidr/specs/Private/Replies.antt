@@ -1,8 +1,7 @@
 -- What a clause reads of gathered replies.
-use Rattle.std.specs.Prelude.{ℕ, ◌+◌, ◌≤◌, List, length}
-use Rattle.cidr.specs.declared.answer.TheConstants.{ANSWER_MAX}
+use Rattle.std.specs.Prelude.{◌≡◌, ℕ, ◌+◌, ◌≤◌, List, [], ◌∷◌, ◌++◌, length}
 use Rattle.cidr.specs.declared.replies.Replies.{Replies}
-use Rattle.cidr.specs.declared.replies.TheConstants.{GATHERED_MAX}
+use Rattle.cidr.specs.declared.replies.TheConstants.{ANSWER_MAX, GATHERED_MAX}
 
 -- the bytes that were gathered and not written yet
 abbrev pub gathered : Replies → List ℕ
@@ -11,3 +10,7 @@ gathered replies = replies.bytes.items
 -- one more reply fits
 abbrev pub HasRoom : Replies → Type 0
 HasRoom replies = length (gathered replies) + ANSWER_MAX ≤ GATHERED_MAX
+
+-- an answer was added, and a line feed
+abbrev pub Adds : Replies → Replies → List ℕ → Type 0
+Adds old new answer = gathered new ≡ gathered old ++ (answer ++ 10 ∷ [])

@@ -1,9 +1,14 @@
-use crate::answer::{Answer, answer};
+use crate::answer::answer;
+use crate::replies::Replies;
 
-fn answered(line: &[u8]) -> Answer {
-    let mut text = Answer::new();
-    answer(line, &mut text);
-    text
+/// Whether a line is answered by this text and a line feed.
+fn is_answered(line: &[u8], text: &str) -> bool {
+    let mut replies = Replies::new();
+    answer(line, &mut replies);
+    match replies.as_slice().split_last() {
+        Some((last, front)) => *last == b'\n' && front == text.as_bytes(),
+        None => false,
+    }
 }
 
 #[test]
@@ -48,7 +53,7 @@ fn commands_are_answered(rt: HostRuntime) {
         ("has4 10.0.0.0/8 10.0.0.1/32", "refused address"),
         ("has4 10.0.0.0/8 ", "refused address"),
     ] {
-        assert_eq!(rt; answered(line.as_bytes()).as_str(), text, "{line}");
+        assert!(rt; is_answered(line.as_bytes(), text), "{line}");
     }
 }
 
@@ -103,7 +108,7 @@ fn commands_over_both_families_are_answered(rt: HostRuntime) {
         ("rel x 10.0.0.0/8", "refused"),
         ("rel 10.0.0.0/8 x", "refused"),
     ] {
-        assert_eq!(rt; answered(line.as_bytes()).as_str(), text, "{line}");
+        assert!(rt; is_answered(line.as_bytes(), text), "{line}");
     }
 }
 
@@ -132,12 +137,8 @@ fn other_lines_are_unknown(rt: HostRuntime) {
         "read4 1.2.3.4\t1 ",
         "\u{e9} 1.2.3.4",
     ] {
-        assert_eq!(rt;
-            answered(line.as_bytes()).as_str(),
-            "unknown command",
-            "{line}"
-        );
+        assert!(rt; is_answered(line.as_bytes(), "unknown command"), "{line}");
     }
-    assert_eq!(rt; answered(b"\xff \xff").as_str(), "unknown command");
-    assert_eq!(rt; answered(b"read4 \xff").as_str(), "refused address");
+    assert!(rt; is_answered(b"\xff \xff", "unknown command"));
+    assert!(rt; is_answered(b"read4 \xff", "refused address"));
 }

@@ -1,16 +1,16 @@
 use Rattle.std.proofs.Common.{Ok, Err, ap, ◌∙◌}
 use Rattle.cidr.specs.EitherCommands.{ends_answer, told}
-use Rattle.cidr.proofs.Answers.{said}
+use Rattle.cidr.proofs.Answers.{adds}
 use Rattle.cidr.proofs.either.ends.Goals as goal
 
-pub returns-in-Ok-clause-text : goal.returns-in-Ok-clause-text
+pub returns-in-Ok : goal.returns-in-Ok
 unfolding ends_answer
-returns-in-Ok-clause-text c =
+returns-in-Ok c =
     let reading = (c.ip_network_reading_is_computed.ensures c.args.word.now (Ok c.in-Ok.network)).0 c.in-Ok.ensures in
-    c.push_ends.ensures.text ∙ ap told reading
+    adds _ _ _ _ c.push.ensures (c.as_str.ensures.value ∙ c.push_ends.ensures.text ∙ ap told reading)
 
-pub returns-in-Err-clause-text : goal.returns-in-Err-clause-text
+pub returns-in-Err : goal.returns-in-Err
 unfolding ends_answer
-returns-in-Err-clause-text c =
+returns-in-Err c =
     let reading = (c.ip_network_reading_is_computed.ensures c.args.word.now (Err c.in-Err.field-0)).0 c.in-Err.ensures in
-    said _ _ _ c.requires c.push_str.ensures.bytes ∙ ap told reading
+    adds _ _ _ _ c.push-in-Err.ensures (ap told reading)

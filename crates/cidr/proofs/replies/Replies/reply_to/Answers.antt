@@ -1,4 +1,4 @@
-use Rattle.std.proofs.Common.{◌∙◌, ◌∷◌, ◌++◌, [], ap, sym}
+use Rattle.std.proofs.Common.{◌∙◌, ◌++◌, ap, sym}
 use Rattle.cidr.specs.Private.Replies.{gathered}
 use Rattle.cidr.proofs.Kept.{reply_long, reply_short}
 use Rattle.cidr.proofs.replies.Replies.reply_to.Goals as goal
@@ -8,6 +8,4 @@ returns-then-line-gt-LINE_MAX c =
     c.push.ensures ∙ ap (λ l. gathered c.args.self.now ++ l) (sym (reply_long c.args.line.now c.if-line-gt-LINE_MAX.true))
 
 pub returns : goal.returns
-returns c =
-    c.push-2.ensures ∙ ap (λ l. gathered c.args.self.now ++ (l ++ 10 ∷ [])) (c.as_str.ensures.value ∙ c.answer.ensures.text)
-    ∙ ap (λ l. gathered c.args.self.now ++ l) (sym (reply_short c.args.line.now c.if-line-gt-LINE_MAX.false))
+returns c = c.answer.ensures ∙ ap (λ l. gathered c.args.self.now ++ l) (sym (reply_short c.args.line.now c.if-line-gt-LINE_MAX.false))
