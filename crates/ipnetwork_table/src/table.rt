@@ -14,7 +14,7 @@ use std::marker::Model;
 
 /// Values by block, and the longest block that holds an address.
 ///
-/// A network given as a key stands for its block: its host bits are cleared. Only `insert` takes memory.
+/// A network given as a key stands for its block: its host bits are cleared. Only `insert` allocates.
 #[derive(Drop)]
 pub struct PrefixTable<N: CidrNetwork, V: Copy> {
     store: Store<N, V>,
@@ -51,7 +51,7 @@ fn key_of<N: CidrNetwork>(net: N) -> N
 }
 
 impl<N: CidrNetwork, V: Copy> PrefixTable<N, V> {
-    /// The empty table, which takes no memory until a block is inserted.
+    /// The empty table. Does not allocate.
     pub fn new(alloc: Global) -> Self
         ensures { result ≡ map.empty }
     {
@@ -108,8 +108,8 @@ impl<N: CidrNetwork, V: Copy> PrefixTable<N, V> {
 
     /// Sets the value of the block of `net`, and answers the value that it had.
     ///
-    /// A block that is there takes no memory. A new one does, and the answer is an error where there is none;
-    /// the table is then as before.
+    /// Allocates for a new block alone. Where that is out of memory the answer is an error, and the table is as
+    /// before.
     pub fn insert(&mut self, net: N, value: V) -> Result<Option<V>, AllocError>
         ensures old { IfOk result (λ old. old ≡ map.get self.old (block_of N.WIDTH (N.pair net))) }
         ensures set { OnOk result (self.new ≡ map.insert self.old (block_of N.WIDTH (N.pair net)) value) }
