@@ -49,9 +49,20 @@ pub padded_none : (text : List ℕ) (count n : ℕ) → count ≡ 0 → text ≡
 unfolding padded_decimal
 padded_none text count n none = rw none (sym (append-nil text))
 
-pub padded_pushed : (text one two : List ℕ) (count n d : ℕ) → 0 < count → one ≡ text ++ padded_decimal (count - 1) (n / 10)
-    → d ≡ 48 + n % 10 → two ≡ one ++ d ∷ [] → two ≡ text ++ padded_decimal count n
-padded_pushed text one two count n d some h is_d k = k ∙ rw (h, is_d, padded_step count n some, append_assoc)
+pub padded_one : (text one : List ℕ) (count n d : ℕ) → count ≡ 1 → d ≡ 48 + n % 10 → one ≡ text ++ d ∷ [] → one ≡ text ++ padded_decimal count n
+unfolding padded_decimal
+padded_one text one count n d single is_d h = h ∙ rw (single, is_d) refl
+
+pub padded_pushed : (text most one two : List ℕ) (count n d e : ℕ) → 2 ≤ count → most ≡ text ++ padded_decimal (count - 2) (n / 100)
+    → d ≡ 48 + n % 100 / 10 → e ≡ 48 + n % 100 % 10 → one ≡ most ++ d ∷ [] → two ≡ one ++ e ∷ [] → two ≡ text ++ padded_decimal count n
+padded_pushed text most one two count n d e some h is_d is_e k l =
+    let tens : d ≡ 48 + n / 10 % 10 = is_d ∙ (omega arith) in
+    let ones : e ≡ 48 + n % 10 = is_e ∙ (omega arith) in
+    let rest : n / 10 / 10 ≡ n / 100 = omega arith in
+    let less : count - 1 - 1 ≡ count - 2 = omega arith in
+    let step : padded_decimal (count - 1) (n / 10) ≡ padded_decimal (count - 2) (n / 100) ++ (48 + n / 10 % 10) ∷ []
+    = padded_step (count - 1) (n / 10) (omega arith) ∙ rw (less, rest) refl in
+    l ∙ rw (k, h, tens, ones, padded_step count n (omega arith), step, append_assoc, append_assoc, append_assoc) refl
 
 -- a text, after as many digits were pushed as the shortest decimal has
 pub padded-shortest : (n : ℕ) → n < 2 ^ 64 → padded_decimal (length (decimal n)) n ≡ decimal n

@@ -91,6 +91,12 @@ fn push_padded<const N: usize>(text: &mut ArrayString<N>, number: u64, count: u8
     if count == 0 {
         return;
     }
-    push_padded(text, number / 10, count - 1);
-    text.push(digit((number % 10) as u8));
+    if count == 1 {
+        text.push(digit((number % 10) as u8));
+        return;
+    }
+    push_padded(text, number / 100, count - 2);
+    let two = (number % 100) as u8;
+    text.push(digit(two / 10));
+    text.push(digit(two % 10));
 }
