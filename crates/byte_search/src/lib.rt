@@ -12,7 +12,8 @@ mod tests;
 
 use std::simd::prelude::*;
 
-/// The place of the first byte of this value at or behind the place `from`, if there is one.
+/// The index of the first byte equal to `byte` at or after the index `from`, or `None`. `from` must be at
+/// most the length of the text. Does not allocate.
 #[inline(always)]
 pub fn find_from(text: &[u8], from: usize, byte: u8) -> Option<usize>
     requires { from ≤ length text.now }

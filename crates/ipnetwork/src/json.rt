@@ -12,7 +12,7 @@ use serde_json::Value;
 use std::alloc::{AllocError, Global};
 
 impl IpNetwork {
-    /// The string value of the canonical text. Allocates once.
+    /// The string value of the canonical text. Allocates once; `AllocError` when out of memory.
     pub fn to_value(&self, alloc: Global) -> Result<Value, AllocError>
         ensures { IfOk result (IsStringOf (ip_network_text self.now)) }
     {
@@ -20,9 +20,9 @@ impl IpNetwork {
     }
 
     /// The network of either family that a string value names. A string is judged as `parse` judges it, and
-    /// what that refuses is `Refused` with its error; any other value is `NotAString`. The string is not
-    /// copied, save into the text of a refusal: for that alone this allocates, once, and answers
-    /// `OutOfMemory` inside `Refused` only in place of one.
+    /// what that refuses is `Refused` with its error; any other value is `NotAString`. Allocates once, and only
+    /// for a refusal whose error carries a text: out of memory, the answer is then
+    /// `Refused(IpNetworkError::OutOfMemory)`.
     pub fn from_value(alloc: Global, value: &Value) -> Result<Self, JsonFault>
         ensures { ReadsValue ParsesIpNetwork (as_str (view value.now)) result }
     {

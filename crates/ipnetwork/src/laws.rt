@@ -125,7 +125,7 @@ pub fn ip_network_value_reads_back()
 }
 
 /// The compact text of a network's value is the canonical text in quotes, and reading that text and the value
-/// that it is gives the network again. Only memory can be in the way.
+/// that it is gives the network again. It fails only when out of memory.
 pub fn ip_network_through_json(
     alloc: Global,
     network: &IpNetwork,

@@ -2,7 +2,8 @@
 ghost use Rattle.std.specs.Prelude.{◌≡◌, ◌≤◌, nat_lt, if◌then◌else◌};
 ghost use Rattle.std.specs.Char.{digit_value};
 
-/// The value of a byte as a decimal digit, or 256 of one that is none: a number with such a digit is past 255.
+/// The value of a byte as a decimal digit, or 256 where it is none, so that an octet with such a byte is
+/// greater than 255.
 #[inline(always)]
 pub(crate) fn decimal_value(byte: u8) -> u32
     ensures value { result ≡ if nat_lt (digit_value byte) 10 then digit_value byte else 256 }
@@ -11,7 +12,7 @@ pub(crate) fn decimal_value(byte: u8) -> u32
     u32::from(VALUES[usize::from(byte)])
 }
 
-/// Those of all bytes.
+/// The value of each byte.
 const VALUES: [u16; 256] = [
     256, 256, 256, 256, 256, 256, 256, 256, 256, 256, 256, 256, 256, 256, 256, 256, 256, 256, 256,
     256, 256, 256, 256, 256, 256, 256, 256, 256, 256, 256, 256, 256, 256, 256, 256, 256, 256, 256,

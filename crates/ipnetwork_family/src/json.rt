@@ -22,7 +22,7 @@ pub enum JsonFault {
 }
 
 impl Ipv4Network {
-    /// The string value of the canonical text. Allocates once.
+    /// The string value of the canonical text. Allocates once; `AllocError` when out of memory.
     pub fn to_value(&self, alloc: Global) -> Result<Value, AllocError>
         ensures { IfOk result (IsStringOf (network_text canonical_v4 self.now)) }
     {
@@ -30,9 +30,9 @@ impl Ipv4Network {
     }
 
     /// The network that a string value names. A string is judged as `parse` judges it, and what that
-    /// refuses is `Refused` with its error; any other value is `NotAString`. The string is not copied,
-    /// save into the text of a refusal: for that alone this allocates, once, and answers `OutOfMemory`
-    /// inside `Refused` only in place of one.
+    /// refuses is `Refused` with its error; any other value is `NotAString`. Allocates once, and only
+    /// for a refusal whose error carries a text: out of memory, the answer is then
+    /// `Refused(IpNetworkError::OutOfMemory)`.
     pub fn from_value(alloc: Global, value: &Value) -> Result<Self, JsonFault>
         ensures { ReadsValue ParsesV4Network (as_str (view value.now)) result }
     {
@@ -47,7 +47,7 @@ impl Ipv4Network {
 }
 
 impl Ipv6Network {
-    /// The string value of the canonical text. Allocates once.
+    /// The string value of the canonical text. Allocates once; `AllocError` when out of memory.
     pub fn to_value(&self, alloc: Global) -> Result<Value, AllocError>
         ensures { IfOk result (IsStringOf (network_text canonical_v6 self.now)) }
     {
@@ -55,9 +55,9 @@ impl Ipv6Network {
     }
 
     /// The network that a string value names. A string is judged as `parse` judges it, and what that
-    /// refuses is `Refused` with its error; any other value is `NotAString`. The string is not copied,
-    /// save into the text of a refusal: for that alone this allocates, once, and answers `OutOfMemory`
-    /// inside `Refused` only in place of one.
+    /// refuses is `Refused` with its error; any other value is `NotAString`. Allocates once, and only
+    /// for a refusal whose error carries a text: out of memory, the answer is then
+    /// `Refused(IpNetworkError::OutOfMemory)`.
     pub fn from_value(alloc: Global, value: &Value) -> Result<Self, JsonFault>
         ensures { ReadsValue ParsesV6Network (as_str (view value.now)) result }
     {

@@ -53,7 +53,7 @@ impl<N: CidrNetwork, V: Copy> Store<N, V> {
         self.tree.get(&key).copied()
     }
 
-    /// Sets the value of a network and answers the one that it had. An error says that memory ran out, which
+    /// Sets the value of a network and answers the one that it had. An error means out of memory, which
     /// can happen to a new network alone.
     pub(crate) fn insert(&mut self, key: N, value: V) -> Result<Option<V>, AllocError>
         ensures old { IfOk result (λ old. old ≡ map.get self.old (N.pair key)) }

@@ -2,7 +2,7 @@
 ghost use Rattle.std.specs.Prelude.{◌≡◌, ℕ, ◌+◌, OnOk, OnErr, IfOk, None, MatchOption, ◌↔◌, IsTrue, IsSome};
 ghost use Rattle.std.specs.FinMap as map;
 ghost use Rattle.ipnetwork_family.specs.Network.{IsBlock, block_of};
-ghost use Rattle.ipnetwork_table.specs.Table.{IsLongest, NoneHolds, by_pair};
+ghost use Rattle.ipnetwork_table.specs.Table.{HasBlocksAlone, IsLongest, NoneHolds, by_pair};
 
 use crate::entries::Entries;
 use crate::store::Store;
@@ -12,13 +12,14 @@ use std::fmt;
 use std::fmt::{Debug, Formatter, Write};
 use std::marker::Model;
 
-/// Values by block, and the longest block that holds an address.
+/// Values by block, and the longest block that holds an address (RFC 4632, section 5.1). A table has
+/// networks of one family.
 ///
 /// A network given as a key stands for its block: its host bits are cleared. Only `insert` allocates.
 #[derive(Drop)]
 pub struct PrefixTable<N: CidrNetwork, V: Copy> {
     store: Store<N, V>,
-    // Whether a prefix length is in use: true for each of a stored block.
+    // `used[p]` is true where some stored block has the prefix length p, and may be true of others.
     used: [bool; 256],
 }
 
@@ -50,6 +51,8 @@ fn key_of<N: CidrNetwork>(net: N) -> N
     block
 }
 
+// The clause `blocks` tells a proof in another crate that each key is a network without host bits: the fields are
+// private, so what holds of them is seen by no clause that does not say it.
 impl<N: CidrNetwork, V: Copy> PrefixTable<N, V> {
     /// The empty table. Does not allocate.
     pub fn new(alloc: Global) -> Self
@@ -63,7 +66,8 @@ impl<N: CidrNetwork, V: Copy> PrefixTable<N, V> {
 
     /// The number of blocks that have a value.
     pub fn len(&self) -> usize
-        ensures { result ≡ map.len self.now }
+        ensures count { result ≡ map.len self.now }
+        ensures blocks { HasBlocksAlone N.WIDTH self.now }
     {
         self.store.len()
     }
@@ -75,9 +79,10 @@ impl<N: CidrNetwork, V: Copy> PrefixTable<N, V> {
         self.len() == 0
     }
 
-    /// The value of the block of `net`.
+    /// The value of the block of `net`; `None` where it has none.
     pub fn get(&self, net: N) -> Option<V>
-        ensures { result ≡ map.get self.now (block_of N.WIDTH (N.pair net)) }
+        ensures value { result ≡ map.get self.now (block_of N.WIDTH (N.pair net)) }
+        ensures blocks { HasBlocksAlone N.WIDTH self.now }
     {
         let mut steps = 0;
         self.store.probe(&mut steps, key_of(net))
@@ -93,12 +98,13 @@ impl<N: CidrNetwork, V: Copy> PrefixTable<N, V> {
     /// The blocks and their values, in the order of networks: a block comes before the smaller ones that lie in
     /// it.
     pub fn iter(&self) -> Entries<'_, N, V>
-        ensures { by_pair N.pair result ≡ map.entries self.now }
+        ensures entries { by_pair N.pair result ≡ map.entries self.now }
+        ensures blocks { HasBlocksAlone N.WIDTH self.now }
     {
         self.store.entries()
     }
 
-    /// Takes every block out.
+    /// Takes every block out, and frees the memory.
     pub fn clear(&mut self)
         ensures { self.new ≡ map.empty }
     {
@@ -131,7 +137,7 @@ impl<N: CidrNetwork, V: Copy> PrefixTable<N, V> {
         self.store.insert(block, value)
     }
 
-    /// Takes the block of `net` out, and answers the value that it had.
+    /// Takes the block of `net` out, and answers the value that it had, or `None`.
     pub fn remove(&mut self, net: N) -> Option<V>
         ensures old { result ≡ map.get self.old (block_of N.WIDTH (N.pair net)) }
         ensures removed { self.new ≡ map.remove self.old (block_of N.WIDTH (N.pair net)) }
@@ -149,8 +155,9 @@ impl<N: CidrNetwork, V: Copy> PrefixTable<N, V> {
     /// The stored block of greatest prefix length whose set holds the address, with its value; `None` where
     /// no stored block holds it.
     pub fn lookup(&self, addr: N::Addr) -> Option<(N, V)>
-        ensures { MatchOption result (NoneHolds N.WIDTH self.now (N.number addr))
+        ensures answer { MatchOption result (NoneHolds N.WIDTH self.now (N.number addr))
             (λ found. IsLongest N.WIDTH self.now (N.number addr) (N.pair found.0) found.1) }
+        ensures blocks { HasBlocksAlone N.WIDTH self.now }
     {
         let mut steps = 0;
         let mut length = N::WIDTH;

@@ -1,6 +1,6 @@
-//! A new block for which there is no memory: the table is as before, and the insert repeated succeeds.
+//! An insert that is out of memory: the table is as before, and the insert repeated succeeds.
 //!
-//! With ample memory nothing is refused here; by hand each allocation is made to fail in turn.
+//! With memory to spare nothing is refused here; by hand some allocations were made to fail (README).
 
 use crate::PrefixTable;
 use ipnetwork_addr::{Ipv4Addr, Ipv6Addr};
