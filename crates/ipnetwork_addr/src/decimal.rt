@@ -40,6 +40,7 @@ const CHUNK_DIGITS: u8 = 19;
 
 /// Writes the shortest decimal of a number at the end of a text: one to 39 bytes, for which there must
 /// be room. Does not allocate.
+#[inline(always)]
 pub fn push_number<const N: usize>(text: &mut ArrayString<N>, number: u128)
     requires { array_string_len text.old + 39 ≤ N }
     ensures bytes { text.new.bytes ≡ text.old.bytes ++ decimal number }

@@ -1,5 +1,5 @@
 use crate::CidrFault;
-use crate::parse::{cidr_parts, parse_prefix};
+use crate::parse::{cidr_parts, parse_prefix, read_number};
 use std::test::Fail;
 
 #[test]
@@ -21,6 +21,23 @@ fn prefix_numbers(rt: HostRuntime) {
     }
     for (text, max) in [("256", 255), ("257", 255), ("1", 0)] {
         assert_eq!(rt; parse_prefix(text, max), Err(CidrFault::Prefix), "{text}");
+    }
+}
+
+#[test]
+fn numbers_of_32_bits(rt: HostRuntime) {
+    for (text, max, value) in [
+        ("4294967295", u32::MAX, Some(4_294_967_295)),
+        ("+0004294967295", u32::MAX, Some(4_294_967_295)),
+        ("4294967296", u32::MAX, None),
+        ("4294967297", u32::MAX, None),
+        ("99999999999999999999", u32::MAX, None),
+        ("1000", 999, None),
+        ("999", 999, Some(999)),
+        ("+", u32::MAX, None),
+        ("-1", u32::MAX, None),
+    ] {
+        assert_eq!(rt; read_number(text.as_bytes(), max), value, "{text}");
     }
 }
 
