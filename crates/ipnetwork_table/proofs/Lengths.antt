@@ -26,7 +26,7 @@ stays marks p q within marked = ⊎_elim
     (cases_lt p q)
 
 module _ {V : Type 0} where
-  more_marks : (t : FinMap network_cmp V) (marks : List Bool) (p : ℕ) → p < length marks → MarksLengths t marks → MarksLengths t (set marks p true)
+  pub more_marks : (t : FinMap network_cmp V) (marks : List Bool) (p : ℕ) → p < length marks → MarksLengths t marks → MarksLengths t (set marks p true)
   more_marks t marks p within marked n stored = stays marks p n.prefix within (marked n stored)
 
   marked_with : (t : FinMap network_cmp V) (marks : List Bool) (m : Network) (v : V) → m.prefix < length marks → MarksLengths t marks → MarksLengths (insert t m v) (set marks m.prefix true)

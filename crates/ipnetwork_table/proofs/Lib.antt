@@ -1,5 +1,7 @@
 mod Lengths
-mod Listing
+pub mod Listing
 mod Longest
-mod OneAnswer
-mod Pairs
+mod Nearest
+mod Neighbours
+pub mod OneAnswer
+pub mod Pairs

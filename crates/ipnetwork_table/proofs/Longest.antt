@@ -7,6 +7,7 @@ use Rattle.std.proofs.lemmas.Bool.{cases_lt}
 use Rattle.ipnetwork_family.specs.Network.{Network, IsNetwork, Member, IsBlock, block_size, block_of, network_cmp}
 use Rattle.ipnetwork_family.proofs.Blocks.{block_same_set}
 use Rattle.ipnetwork_table.specs.Table.{HasBlocksAlone, IsLongest, NoneHolds}
+use Rattle.ipnetwork_table.specs.Private.Nearest.{NoneAbove}
 use Rattle.ipnetwork_table.proofs.Pairs.{total, one_network, tie_of}
 
 abbrev Table : Type 0 → Type 0
@@ -24,7 +25,7 @@ pub new_table : (w : ℕ) (V : Type 0) → HasBlocksAlone w (empty {X = V} {R = 
 new_table w V n stored = absurd (nothing (subst IsSome (get-empty network_cmp n) stored))
 
 module _ {V : Type 0} (w : ℕ) where
-  with_block : (t : Table V) (n : Network) (v : V) → IsKey w n → HasBlocksAlone w t → HasBlocksAlone w (insert t n v)
+  pub with_block : (t : Table V) (n : Network) (v : V) → IsKey w n → HasBlocksAlone w t → HasBlocksAlone w (insert t n v)
   with_block t n v key blocks m =
       elim (eq_by_cmp network_cmp m n) as (λ b. eq_by_cmp network_cmp m n ≡ b → get (insert t n v) m ≡ cond b (Some v) (get t m) → IsSome (get (insert t n v) m) → IsKey w m) [
         | true ↦ λ at is stored. subst (IsKey w) (sym (one_network m n (tie_of _ at))) key
@@ -59,28 +60,24 @@ around_is w n x p block holds is =
     ∙ ap (λ q. around w x q) is
 
 module _ {V : Type 0} (w : ℕ) where
-  -- no stored block of a prefix length above p holds x
-  abbrev pub NoneAbove : Table V → ℕ → ℕ → Type 0
-  NoneAbove t x p = (n : Network) → IsSome (get t n) → p < n.prefix → ¬ (Member w n x)
-
-  pub none_above_width : (t : Table V) (x : ℕ) → HasBlocksAlone w t → NoneAbove t x w
+  pub none_above_width : (t : Table V) (x : ℕ) → HasBlocksAlone w t → NoneAbove w t x w
   none_above_width t x blocks n stored above holds = let fits = (blocks n stored).0 in omega (arith, fits.prefix_fits, above)
 
   -- after a look-up at p that found nothing
-  none_from : (t : Table V) (x p : ℕ) → HasBlocksAlone w t → NoneAbove t x p → get t (around w x p) ≡ None
+  none_from : (t : Table V) (x p : ℕ) → HasBlocksAlone w t → NoneAbove w t x p → get t (around w x p) ≡ None
       → (n : Network) → IsSome (get t n) → p ≤ n.prefix → ¬ (Member w n x)
   none_from t x p blocks above none n stored from holds = ⊎_elim
       (λ (more : p < n.prefix). above n stored more holds)
       (λ (same : n.prefix ≤ p). nothing (subst IsSome (ap (get t) (around_is w n x p (blocks n stored).1 holds (omega arith)) ∙ none) stored))
       (cases_lt p n.prefix)
 
-  pub none_above_next : (t : Table V) (x p : ℕ) → HasBlocksAlone w t → NoneAbove t x p → get t (around w x p) ≡ None → 0 < p → NoneAbove t x (p - 1)
+  pub none_above_next : (t : Table V) (x p : ℕ) → HasBlocksAlone w t → NoneAbove w t x p → get t (around w x p) ≡ None → 0 < p → NoneAbove w t x (p - 1)
   none_above_next t x p blocks above none more n stored beyond = none_from t x p blocks above none n stored (omega arith)
 
-  pub none_at_all : (t : Table V) (x p : ℕ) → HasBlocksAlone w t → NoneAbove t x p → get t (around w x p) ≡ None → p ≡ 0 → NoneHolds w t x
+  pub none_at_all : (t : Table V) (x p : ℕ) → HasBlocksAlone w t → NoneAbove w t x p → get t (around w x p) ≡ None → p ≡ 0 → NoneHolds w t x
   none_at_all t x p blocks above none last n stored = none_from t x p blocks above none n stored (omega arith)
 
-  pub longest_here : (t : Table V) (x p : ℕ) (n : Network) (v : V) → NoneAbove t x p → x < 2 ^ w → n ≡ around w x p → get t n ≡ Some v → IsLongest w t x n v
+  pub longest_here : (t : Table V) (x p : ℕ) (n : Network) (v : V) → NoneAbove w t x p → x < 2 ^ w → n ≡ around w x p → get t n ≡ Some v → IsLongest w t x n v
   longest_here t x p n v above fits is found = record {
     stored = found;
     holds = subst (λ (m : Network). Member w m x) (sym is) (around_holds w x p fits);

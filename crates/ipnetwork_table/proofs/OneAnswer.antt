@@ -7,7 +7,8 @@ use Rattle.std.proofs.lemmas.Bool.{cases_lt}
 use Rattle.ipnetwork_family.specs.Network.{Network, IsBlock, Member, network_cmp}
 use Rattle.ipnetwork_table.specs.Table.{HasBlocksAlone, IsLongest}
 use Rattle.ipnetwork_table.specs.Laws.{Answers}
-use Rattle.ipnetwork_table.proofs.Longest.{around, around_is, NoneAbove, none_above_width, none_above_next, none_at_all, longest_here}
+use Rattle.ipnetwork_table.specs.Private.Nearest.{NoneAbove}
+use Rattle.ipnetwork_table.proofs.Longest.{around, around_is, none_above_width, none_above_next, none_at_all, longest_here}
 
 pub blocks_meet : (w : ℕ) (m n : Network) (x : ℕ) → IsBlock w m → IsBlock w n → m.prefix ≡ n.prefix → Member w m x → Member w n x → m ≡ n
 blocks_meet w m n x block_m block_n same in_m in_n = around_is w m x n.prefix block_m in_m same ∙ sym (around_is w n x n.prefix block_n in_n refl)

@@ -1,2 +1,3 @@
 -- How contracts look into private fields.
 pub mod Lengths
+pub mod Nearest

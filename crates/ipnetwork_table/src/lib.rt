@@ -4,8 +4,10 @@
 //! Only `insert` allocates.
 #![tactic(auto)]
 
+mod blocks;
 mod entries;
 pub mod laws;
+mod shared;
 mod store;
 mod table;
 #[cfg(test)]

@@ -1,10 +1,13 @@
 //! A table of values by block.
-ghost use Rattle.std.specs.Prelude.{◌≡◌, ℕ, ◌+◌, OnOk, OnErr, IfOk, None, MatchOption, ◌↔◌, IsTrue, IsSome};
+ghost use Rattle.std.specs.Prelude.{◌≡◌, ℕ, ◌+◌, ◌≤◌, OnOk, OnErr, IfOk, None, MatchOption, ◌↔◌, IsTrue, IsSome};
 ghost use Rattle.std.specs.FinMap as map;
 ghost use Rattle.ipnetwork_family.specs.Network.{IsBlock, block_of};
 ghost use Rattle.ipnetwork_table.specs.Table.{HasBlocksAlone, IsLongest, NoneHolds, by_pair};
+ghost use Rattle.ipnetwork_table.specs.Private.Nearest.{NoneAbove};
 
+use crate::blocks::Blocks;
 use crate::entries::Entries;
+use crate::shared::shared_length;
 use crate::store::Store;
 use ipnetwork_family::{CidrNetwork, laws};
 use std::alloc::{AllocError, Global};
@@ -21,6 +24,8 @@ pub struct PrefixTable<N: CidrNetwork, V: Copy> {
     store: Store<N, V>,
     // `used[p]` is true where some stored block has the prefix length p, and may be true of others.
     used: [bool; 256],
+    // Has each stored block, and may have others.
+    blocks: Blocks<N>,
 }
 
 // A contract sees the finite map from networks, as pairs of numbers, to values.
@@ -29,6 +34,7 @@ impl<N: CidrNetwork, V: Copy> Model for PrefixTable<N, V> {
     ghost use Rattle.ipnetwork_family.specs.Network.{network_cmp};
     ghost use Rattle.ipnetwork_table.specs.Table.{network_code, HasBlocksAlone};
     ghost use Rattle.ipnetwork_table.specs.Private.Lengths.{MarksLengths};
+    ghost use Rattle.ipnetwork_table.specs.Private.Nearest.{HasEach};
 
     ghost Value = { map.FinMap network_cmp V };
 
@@ -36,7 +42,7 @@ impl<N: CidrNetwork, V: Copy> Model for PrefixTable<N, V> {
 
     ghost view = { λ t. t.store };
 
-    ghost invariant = { λ t. HasBlocksAlone N.WIDTH t.store × MarksLengths t.store t.used };
+    ghost invariant = { λ t. HasBlocksAlone N.WIDTH t.store × MarksLengths t.store t.used × HasEach t.store t.blocks × HasBlocksAlone N.WIDTH t.blocks };
 }
 
 // The block of a network.
@@ -61,6 +67,7 @@ impl<N: CidrNetwork, V: Copy> PrefixTable<N, V> {
         PrefixTable {
             store: Store::new(alloc),
             used: [false; 256],
+            blocks: Blocks::new(alloc),
         }
     }
 
@@ -110,6 +117,7 @@ impl<N: CidrNetwork, V: Copy> PrefixTable<N, V> {
     {
         self.store.clear();
         self.used = [false; 256];
+        self.blocks.clear();
     }
 
     /// Sets the value of the block of `net`, and answers the value that it had.
@@ -125,7 +133,7 @@ impl<N: CidrNetwork, V: Copy> PrefixTable<N, V> {
         self.insert_block(key_of(net), value)
     }
 
-    // Marks the prefix length first: a mark too many costs a look-up and changes no answer.
+    // Marks the prefix length and keeps the block in order first: one too many of either changes no answer.
     fn insert_block(&mut self, block: N, value: V) -> Result<Option<V>, AllocError>
         requires { IsBlock N.WIDTH (N.pair block) }
         ensures old { IfOk result (λ old. old ≡ map.get self.old (N.pair block)) }
@@ -134,6 +142,7 @@ impl<N: CidrNetwork, V: Copy> PrefixTable<N, V> {
         ensures unchanged { OnErr result (self.new ≡ self.old) }
     {
         self.used[block.prefix() as usize] = true;
+        self.blocks.insert(block)?;
         self.store.insert(block, value)
     }
 
@@ -149,7 +158,26 @@ impl<N: CidrNetwork, V: Copy> PrefixTable<N, V> {
         ensures old { result ≡ map.get self.old (N.pair block) }
         ensures removed { self.new ≡ map.remove self.old (N.pair block) }
     {
+        self.blocks.remove(block);
         self.store.remove(block)
+    }
+
+    // A prefix length that no stored block that holds the address is longer than; `None` where no stored block
+    // holds it. A block that does holds the stored block nearest below the address too, so it is no longer than
+    // what the two share.
+    fn greatest_length(&self, addr: N::Addr) -> Option<u8>
+        ensures bound { MatchOption result (NoneHolds N.WIDTH self.now (N.number addr))
+            (λ length. (length ≤ N.WIDTH) × NoneAbove N.WIDTH self.now (N.number addr) length) }
+        ensures blocks { HasBlocksAlone N.WIDTH self.now }
+    {
+        let Some(end) = N::block(addr, N::WIDTH) else {
+            unreachable!()
+        };
+        let near = self.blocks.last_up_to(end)?;
+        if near.contains(addr) {
+            return Some(near.prefix());
+        }
+        Some(shared_length::<N>(addr, near.ip()))
     }
 
     /// The stored block of greatest prefix length whose set holds the address, with its value; `None` where
@@ -160,7 +188,7 @@ impl<N: CidrNetwork, V: Copy> PrefixTable<N, V> {
         ensures blocks { HasBlocksAlone N.WIDTH self.now }
     {
         let mut steps = 0;
-        let mut length = N::WIDTH;
+        let mut length = self.greatest_length(addr)?;
         'shorter: loop {
             if self.used[length as usize] {
                 let Some(block) = N::block(addr, length) else {

@@ -1,11 +1,11 @@
 use Rattle.std.proofs.Common.{◌+◌, ◌≤◌}
-use Rattle.ipnetwork_table.proofs.Longest.{NoneAbove}
+use Rattle.ipnetwork_table.specs.Private.Nearest.{NoneAbove}
 use Rattle.ipnetwork_table.proofs.table.PrefixTable.lookup.Given as goal
 
 abbrev pub invariant-shorter : goal.invariant-shorter
 invariant-shorter g l = record {
   within : l.length ≤ g.N.CidrNetwork.WIDTH;
-  few_steps : l.steps + l.length ≤ g.N.CidrNetwork.WIDTH;
+  few_steps : l.steps + l.length ≤ 255;
   none_above : NoneAbove g.N.CidrNetwork.WIDTH l.self-inside.store (g.N.CidrNetwork.number l.addr) l.length;
 }
 

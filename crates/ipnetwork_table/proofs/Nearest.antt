@@ -1,0 +1,106 @@
+-- The stored block that is nearest to an address from below, and how many bits the two share.
+use Rattle.std.proofs.Common.{◌≡◌, ℕ, ◌-◌, ◌*◌, ◌/◌, ◌^◌, ◌<◌, ◌≤◌, true, false, cond, inl, inr, Some, None, Result, Ok, Err, sym, ap, subst, ◌∙◌, arith, ⊎_elim}
+use Rattle.std.specs.Prelude.{IsSome, OnOk, OnErr}
+use Rattle.std.specs.Ordering.{eq_by_cmp}
+use Rattle.std.specs.FinMap.{FinMap, get, insert, remove, get-insert, get-remove}
+use Rattle.std.proofs.lemmas.Bool.{cases_lt}
+use Rattle.ipnetwork_family.specs.Network.{Network, IsNetwork, Member, Subnet, AtMost, IsBlock, network_cmp}
+use Rattle.ipnetwork_family.proofs.Blocks.{block_same_set, coarser_size, member_within, within_member, subnet_from, shares_address, subnet_after}
+use Rattle.ipnetwork_table.specs.Table.{HasBlocksAlone, NoneHolds}
+use Rattle.ipnetwork_table.specs.Private.Nearest.{HasEach, NoneUpTo, IsLastUpTo, NoneAbove, ShareAtMost}
+use Rattle.ipnetwork_table.proofs.Pairs.{total}
+use Rattle.ipnetwork_table.proofs.Longest.{around}
+
+nothing : false ≡ true → ⊥
+nothing e = cc
+
+-- ---- how many bits are shared
+
+-- a block of prefix length p around x that does not hold y
+pub share_less : (w x y p : ℕ) → 0 < p → ¬ (Member w (around w x p) y) → ShareAtMost w x y (p - 1)
+share_less w x y p more apart q beyond within holds = apart ((block_same_set w (record { address = x; prefix = p }) y).1
+    (holds.0, coarser_size w p q y x (omega (arith, more, beyond)) within holds.1))
+
+-- ---- in order
+
+whole : (w x : ℕ) → (around w x w).address ≡ x
+whole w x = let none : w - w ≡ 0 = omega arith in ap (λ k. x / 2 ^ k * 2 ^ k) none ∙ omega arith
+
+up_to_address : (w x : ℕ) (n : Network) → IsNetwork w n → IsBlock w n → Member w n x → AtMost n (around w x w)
+up_to_address w x n fits block holds =
+    let from = within_member w n x holds in
+    let at = whole w x in
+    ⊎_elim
+    (λ (less : n.address < x). inl (omega (arith, less, at)))
+    (λ (le : x ≤ n.address). inr (omega (arith, le, at, from.0, block), fits.prefix_fits))
+    (cases_lt n.address x)
+
+address_up_to : (m n : Network) → AtMost m n → m.address ≤ n.address
+address_up_to m n most = ⊎_elim (λ (less : m.address < n.address). omega (arith, less)) (λ (same : (m.address ≡ n.address) × (m.prefix ≤ n.prefix)). omega (arith, same.0)) most
+
+-- ---- the blocks that are kept beside the values
+
+module _ {V W : Type 0} where
+  has_more : (t : FinMap network_cmp V) (s : FinMap network_cmp W) (m : Network) (v : W) → HasEach t s → HasEach t (insert s m v)
+  has_more t s m v each n stored =
+      elim (eq_by_cmp network_cmp n m) as (λ b. get (insert s m v) n ≡ cond b (Some v) (get s n) → IsSome (get (insert s m v) n)) [
+        | true ↦ λ is. subst IsSome (sym is) cc
+        | false ↦ λ is. subst IsSome (sym is) (each n stored)
+      ] (get-insert total s m v n)
+
+  has_new : (t : FinMap network_cmp V) (s : FinMap network_cmp W) (m : Network) (u : V) (v : W) → HasEach t s → HasEach (insert t m u) (insert s m v)
+  has_new t s m u v each n =
+      elim (eq_by_cmp network_cmp n m) as (λ b. get (insert t m u) n ≡ cond b (Some u) (get t n) → get (insert s m v) n ≡ cond b (Some v) (get s n)
+      → IsSome (get (insert t m u) n) → IsSome (get (insert s m v) n)) [
+        | true ↦ λ in_t in_s stored. subst IsSome (sym in_s) cc
+        | false ↦ λ in_t in_s stored. subst IsSome (sym in_s) (each n (subst IsSome in_t stored))
+      ] (get-insert total t m u n) (get-insert total s m v n)
+
+  pub has_less : (t : FinMap network_cmp V) (s : FinMap network_cmp W) (m : Network) → HasEach t s → HasEach (remove t m) (remove s m)
+  has_less t s m each n =
+      elim (eq_by_cmp network_cmp n m) as (λ b. get (remove t m) n ≡ cond b None (get t n) → get (remove s m) n ≡ cond b None (get s n)
+      → IsSome (get (remove t m) n) → IsSome (get (remove s m) n)) [
+        | true ↦ λ in_t in_s stored. absurd (nothing (subst IsSome in_t stored))
+        | false ↦ λ in_t in_s stored. subst IsSome (sym in_s) (each n (subst IsSome in_t stored))
+      ] (get-remove total t m n) (get-remove total s m n)
+
+  -- an insert that succeeded or was refused, after the block was put in
+  pub has_each_after : {A E : Type 0} (result : Result A E) (t u : FinMap network_cmp V) (s r : FinMap network_cmp W) (m : Network) (v : V) (b : W)
+      → OnOk result (u ≡ insert t m v) → OnErr result (u ≡ t) → r ≡ insert s m b → HasEach t s → HasEach u r
+  has_each_after (Ok a) t u s r m v b set unchanged put each =
+      subst (λ k. HasEach k r) (sym set) (subst (λ k. HasEach (insert t m v) k) (sym put) (has_new t s m v b each))
+  has_each_after (Err e) t u s r m v b set unchanged put each =
+      subst (λ k. HasEach k r) (sym unchanged) (subst (λ k. HasEach t k) (sym put) (has_more t s m b each))
+
+  -- ---- the last block up to an address
+
+  pub none_near : (w x : ℕ) (t : FinMap network_cmp V) (s : FinMap network_cmp W) → HasBlocksAlone w t → HasEach t s → NoneUpTo s (around w x w) → NoneHolds w t x
+  none_near w x t s blocks each none n stored holds =
+      let key = blocks n stored in
+      none n (each n stored) (up_to_address w x n key.0 key.1 holds)
+
+  -- no stored block that holds x has a longer prefix than x shares with the last one
+  pub none_above_shared : (w x c : ℕ) (k : Network) (t : FinMap network_cmp V) (s : FinMap network_cmp W) → HasBlocksAlone w t → HasEach t s
+      → IsLastUpTo s (around w x w) k → ShareAtMost w x k.address c → NoneAbove w t x c
+  none_above_shared w x c k t s blocks each last shared n stored beyond holds =
+      let key = blocks n stored in
+      let upper : AtMost n (around w x w) = up_to_address w x n key.0 key.1 holds in
+      let lower : n.address ≤ k.address = address_up_to n k (last.2 n (each n stored) upper) in
+      let most : k.address ≤ x = omega (arith, address_up_to k (around w x w) last.1, whole w x) in
+      let ends = within_member w n x holds in
+      let inside : Member w n k.address = member_within w n key.0 k.address (omega (arith, lower, key.1)) (omega (arith, most, ends.1)) in
+      shared n.prefix beyond key.0.prefix_fits (inside.0, inside.1 ∙ sym holds.1)
+
+  -- nor than that of the last one, where that holds x too
+  pub none_above_near : (w x : ℕ) (k : Network) (t : FinMap network_cmp V) (s : FinMap network_cmp W) → HasBlocksAlone w t → HasEach t s → HasBlocksAlone w s
+      → IsLastUpTo s (around w x w) k → Member w k x → NoneAbove w t x k.prefix
+  none_above_near w x k t s blocks each keys last here n stored beyond holds =
+      let key = blocks n stored in
+      let near = keys k last.0 in
+      let inside : Subnet w n k = subnet_from w n k key.0 (omega (arith, beyond)) (shares_address w n k x (omega (arith, beyond)) key.0 near.0 holds here) in
+      let after : AtMost k n = subnet_after w k n near.0 key.0 near.1 key.1 inside in
+      let upper : AtMost n k = last.2 n (each n stored) (up_to_address w x n key.0 key.1 holds) in
+      let from : k.address ≤ n.address = address_up_to k n after in
+      ⊎_elim
+      (λ (less : n.address < k.address). omega (arith, less, from))
+      (λ (same : (n.address ≡ k.address) × (n.prefix ≤ k.prefix)). omega (arith, same.1, beyond)) upper

@@ -1,0 +1,24 @@
+-- The stored block that is nearest to an address from below.
+use Rattle.std.specs.Prelude.{ℕ, ◌<◌, ◌≤◌, IsSome}
+use Rattle.std.specs.FinMap.{FinMap, get}
+use Rattle.ipnetwork_family.specs.Network.{Network, Member, AtMost, network_cmp}
+
+-- each stored block is among the others
+abbrev pub HasEach : {V W : Type 0} → FinMap network_cmp V → FinMap network_cmp W → Type 0
+HasEach t others = (n : Network) → IsSome (get t n) → IsSome (get others n)
+
+-- each network that is there comes after n
+abbrev pub NoneUpTo : {V : Type 0} → FinMap network_cmp V → Network → Type 0
+NoneUpTo t n = (m : Network) → IsSome (get t m) → ¬ (AtMost m n)
+
+-- of the networks up to n, the last is k
+abbrev pub IsLastUpTo : {V : Type 0} → FinMap network_cmp V → Network → Network → Type 0
+IsLastUpTo t n k = IsSome (get t k) × AtMost k n × ((m : Network) → IsSome (get t m) → AtMost m n → AtMost m k)
+
+-- no stored block of a prefix length above p holds x
+abbrev pub NoneAbove : {V : Type 0} → ℕ → FinMap network_cmp V → ℕ → ℕ → Type 0
+NoneAbove w t x p = (n : Network) → IsSome (get t n) → p < n.prefix → ¬ (Member w n x)
+
+-- the addresses x and y of w bits share at most c bits in front: no longer prefix of x is one of y
+abbrev pub ShareAtMost : ℕ → ℕ → ℕ → ℕ → Type 0
+ShareAtMost w x y c = (p : ℕ) → c < p → p ≤ w → ¬ (Member w (record { address = x; prefix = p }) y)
