@@ -1,29 +1,31 @@
 -- The answer to a line, by its words.
 use Rattle.std.proofs.Common.{◌≡◌, ℕ, Bool, true, false, cond, List, [], ◌∷◌, ◌++◌, Option, None, Some, refl, sym, ap, ◌∙◌}
 use Rattle.cidr.specs.Private.Words.{IsLastWord, IsWordBefore}
-use Rattle.cidr.specs.Commands.{unknown, one_word_answer, two_words_answer, answer_to, command_answer}
+use Rattle.cidr.specs.Commands.{unknown}
+use Rattle.cidr.specs.Requests.{Plain, request_in, one_word_request, two_words_request}
+use Rattle.cidr.specs.Words.{words}
 use Rattle.cidr.proofs.Cuts.{words_cons}
 
-pub one_word_line : (line : List ℕ) → IsLastWord line → command_answer line ≡ unknown
-unfolding command_answer answer_to
-one_word_line line e = ap answer_to e
+pub one_word_line : (line : List ℕ) → IsLastWord line → request_in (words line) ≡ Plain unknown
+unfolding request_in
+one_word_line line e = ap request_in e
 
-pub two_word_line : (line command word : List ℕ) → IsWordBefore line command word → IsLastWord word → command_answer line ≡ one_word_answer command word
-unfolding command_answer answer_to
-two_word_line line command word e f = ap answer_to (e ∙ ap (λ ws. command ∷ ws) f)
+pub two_word_line : (line command word : List ℕ) → IsWordBefore line command word → IsLastWord word → request_in (words line) ≡ one_word_request command word
+unfolding request_in
+two_word_line line command word e f = ap request_in (e ∙ ap (λ ws. command ∷ ws) f)
 
 pub three_word_line : (line command rest first second : List ℕ) → IsWordBefore line command rest → IsWordBefore rest first second → IsLastWord second
-    → command_answer line ≡ two_words_answer command first second
-unfolding command_answer answer_to
-three_word_line line command rest first second e f g = ap answer_to (e ∙ ap (λ ws. command ∷ ws) (f ∙ ap (λ ws. first ∷ ws) g))
+    → request_in (words line) ≡ two_words_request command first second
+unfolding request_in
+three_word_line line command rest first second e f g = ap request_in (e ∙ ap (λ ws. command ∷ ws) (f ∙ ap (λ ws. first ∷ ws) g))
 
 -- a line of more words
 pub longer_line : (line command rest first more second last : List ℕ) → IsWordBefore line command rest → IsWordBefore rest first more → IsWordBefore more second last
-    → command_answer line ≡ unknown
-unfolding command_answer answer_to
+    → request_in (words line) ≡ Plain unknown
+unfolding request_in
 longer_line line command rest first more second last e f g =
     let (word, later, h) = words_cons last in
-    ap answer_to (e ∙ ap (λ ws. command ∷ ws) (f ∙ ap (λ ws. first ∷ ws) (g ∙ ap (λ ws. second ∷ ws) h)))
+    ap request_in (e ∙ ap (λ ws. command ∷ ws) (f ∙ ap (λ ws. first ∷ ws) (g ∙ ap (λ ws. second ∷ ws) h)))
 
 -- the command is this one, or another
 pub chosen : (text x y : List ℕ) (asked test : Bool) → test ≡ asked → test ≡ true → text ≡ x → text ≡ cond asked x y

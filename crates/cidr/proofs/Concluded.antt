@@ -5,8 +5,8 @@ use Rattle.std.proofs.Math.Seq.{take-append_seam}
 use Rattle.std.specs.Prelude.{Option, None, Some, Result, Err}
 use Rattle.cidr.specs.declared.fault.RunFault.{RunFault}
 use Rattle.cidr.specs.declared.fault.RunFault.TheVariants.{Read, Write, InputTooLong}
-use Rattle.cidr.specs.Output.{output_of, complete_part, IsBeginning}
-use Rattle.cidr.specs.Run.{Ran}
+use Rattle.cidr.specs.Output.{IsOutput, complete_part, IsBeginning}
+use Rattle.cidr.specs.Run.{Ran, BeginsOutput}
 use Rattle.cidr.specs.Laws.{AfterOk, AfterReadFault, AfterWriteFault, AfterTooLong}
 
 -- the run read what the reader lost
@@ -18,20 +18,24 @@ pub after_ok : AfterOk
 after_ok limit input held holds None done ran = absurd ran.reads
 after_ok limit input held holds (Some rest) done ran =
     let all : ran.read ≡ input = sym (ran.reads ∙ ap (λ l. ran.read ++ l) ran.ends.0 ∙ append-nil ran.read) in
-    (subst (λ (l : List ℕ). length l ≤ limit) all ran.ends.1, ran.writes ∙ ap (λ l. held ++ l) (ran.ends.2 ∙ ap output_of all))
+    (subst (λ (l : List ℕ). length l ≤ limit) all ran.ends.1, ran.written, subst (λ (l : List ℕ). IsOutput l ran.written) all ran.ends.2, ran.writes)
 
 pub after_read_fault : AfterReadFault
 after_read_fault limit read rest held holds ran =
-    let same = was_read limit read rest (Some held) (Some holds) (Err Read) ran in
-    (subst (λ (l : List ℕ). length l ≤ limit) same ran.ends.0, ran.writes ∙ ap (λ l. held ++ l) (ran.ends.1 ∙ ap (λ l. output_of (complete_part l)) same))
+    let same = was_read limit read rest (Some held) (Some holds) (Err Read) ran in (
+      subst (λ (l : List ℕ). length l ≤ limit) same ran.ends.0,
+      ran.written,
+      subst (λ (l : List ℕ). IsOutput (complete_part l) ran.written) same ran.ends.1,
+      ran.writes,
+    )
 
 pub after_write_fault : AfterWriteFault
 after_write_fault limit read rest held holds ran =
     let same = was_read limit read rest (Some held) (Some holds) (Err Write) ran in (
       subst (λ (l : List ℕ). length l ≤ limit) same ran.ends.0,
       ran.written,
+      subst (λ (l : List ℕ). BeginsOutput l ran.written) same ran.ends.1,
       ran.writes,
-      subst (λ (l : List ℕ). IsBeginning ran.written (output_of l)) same ran.ends.1,
     )
 
 -- a beginning is so many of the first bytes
@@ -45,5 +49,7 @@ after_too_long limit read rest held holds ran =
       subst (λ (l : List ℕ). limit < length l) same ran.ends.0,
       length part.0,
       part.2,
-      ran.writes ∙ ap (λ l. held ++ l) (part.3 ∙ ap (λ l. output_of (complete_part l)) (first_bytes part.0 ran.read part.1 ∙ ap (take (length part.0)) same)),
+      ran.written,
+      subst (λ (l : List ℕ). IsOutput (complete_part l) ran.written) (first_bytes part.0 ran.read part.1 ∙ ap (take (length part.0)) same) part.3,
+      ran.writes,
     )

@@ -1,13 +1,20 @@
 pub mod Answers
 pub mod BytesLemmas
+pub mod Computed
 pub mod Concluded
 pub mod Cuts
 pub mod EitherAnswers
 mod EitherExamples
 mod Examples
+pub mod Found
 pub mod Gathering
 pub mod Kept
+pub mod Keys
 pub mod Lines
 pub mod Membership
+pub mod PlainLines
+pub mod Requests
 pub mod Runs
+pub mod Splits
+pub mod Turns
 pub mod Writes

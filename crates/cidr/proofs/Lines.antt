@@ -1,39 +1,36 @@
--- The output, line by line and piece by piece.
+-- The lines of an input, piece by piece.
 use Rattle.std.proofs.Common.{◌≡◌, ℕ, ◌⊎◌, inl, inr, true, false, List, [], ◌∷◌, ◌++◌, length, ◌==◌, cond, refl, sym, ap, ap₂, ◌∙◌, append_assoc, append-nil}
 use Rattle.std.proofs.lemmas.Bool.Decides.{eqb_tells}
 use Rattle.std.proofs.Math.Bool.{or-true}
 use Rattle.std.proofs.Math.Dec.{eqb-suc-zero}
-use Rattle.std.specs.List.{flat_map, list_any, slice_split}
-use Rattle.std.specs.Str.Lines.{lines_of_parts, strip_carriage_return}
+use Rattle.std.specs.List.{list_any, slice_split}
+use Rattle.std.specs.Str.Lines.{lines, lines_of_parts, strip_carriage_return}
 use Rattle.cidr.specs.Private.Bytes.{HasNo}
 use Rattle.cidr.proofs.BytesLemmas.{HasNo-push, split_at, split_none, split_cons}
-use Rattle.cidr.specs.Output.{reply_of, output_of, complete_part, IsBeginning}
-use Rattle.cidr.specs.Private.Progress.{replies_from, pending_from, last_reply}
+use Rattle.cidr.specs.Output.{complete_part, IsBeginning}
+use Rattle.cidr.specs.Private.Progress.{lines_from, pending_from, last_line}
 
 parts_cons : (a b : List ℕ) → lines_of_parts (a ∷ slice_split (λ x. x == 10) b) ≡ strip_carriage_return a ∷ lines_of_parts (slice_split (λ x. x == 10) b)
 parts_cons a b = let e = (split_cons 10 b).2 in rw e refl
 
 -- a line, and the lines after it
-pub output_line : (a b : List ℕ) → HasNo 10 a → output_of (a ++ 10 ∷ b) ≡ reply_of (strip_carriage_return a) ++ output_of b
-unfolding output_of
-output_line a b h = rw (split_at 10 a b refl h, parts_cons a b) refl
+pub lines_line : (a b : List ℕ) → HasNo 10 a → lines (a ++ 10 ∷ b) ≡ strip_carriage_return a ∷ lines b
+lines_line a b h = ap lines_of_parts (split_at 10 a b refl h) ∙ parts_cons a b
 
-pub output_last : (a : List ℕ) → HasNo 10 a → output_of a ≡ last_reply a
-unfolding output_of last_reply
-output_last [] h = refl
-output_last (x ∷ a) h =
-    ap (λ parts. flat_map reply_of (lines_of_parts parts)) (split_none 10 (x ∷ a) h)
-    ∙ ap (λ v. flat_map reply_of (cond v [] ((x ∷ a) ∷ []))) (eqb-suc-zero (length a))
-    ∙ append-nil (reply_of (x ∷ a))
+pub lines_last : (a : List ℕ) → HasNo 10 a → lines a ≡ last_line a
+unfolding last_line
+lines_last [] h = refl
+lines_last (x ∷ a) h =
+    ap lines_of_parts (split_none 10 (x ∷ a) h) ∙ ap (λ v. cond v [] ((x ∷ a) ∷ [])) (eqb-suc-zero (length a))
 
 newline_cases : (c : ℕ) → (c ≡ 10) ⊎ ((c == 10) ≡ false)
 newline_cases c = elim (eqb_tells c 10) [ inl same ↦ inl same.1 | inr apart ↦ inr apart.0 ]
 
 -- ---- one byte more
 
-pub replies_other : (p xs : List ℕ) (c : ℕ) → (c == 10) ≡ false → replies_from p (c ∷ xs) ≡ replies_from (p ++ c ∷ []) xs
-unfolding replies_from
-replies_other p xs c e = rw e refl
+pub lines_other : (p xs : List ℕ) (c : ℕ) → (c == 10) ≡ false → lines_from p (c ∷ xs) ≡ lines_from (p ++ c ∷ []) xs
+unfolding lines_from
+lines_other p xs c e = rw e refl
 
 pub pending_other : (p xs : List ℕ) (c : ℕ) → (c == 10) ≡ false → pending_from p (c ∷ xs) ≡ pending_from (p ++ c ∷ []) xs
 unfolding pending_from
@@ -50,34 +47,33 @@ pending-append p (c ∷ a) b =
       | false ↦ pending-append (p ++ c ∷ []) a b
     ]
 
-pub replies-append : (p a b : List ℕ) → replies_from p (a ++ b) ≡ replies_from p a ++ replies_from (pending_from p a) b
-unfolding replies_from pending_from
-replies-append p [] b = refl
-replies-append p (c ∷ a) b =
-    let reply = reply_of (strip_carriage_return p) in
-    elim (c == 10) as (λ v. cond v (reply ++ replies_from [] (a ++ b)) (replies_from (p ++ c ∷ []) (a ++ b))
-    ≡ cond v (reply ++ replies_from [] a) (replies_from (p ++ c ∷ []) a) ++ replies_from (cond v (pending_from [] a) (pending_from (p ++ c ∷ []) a)) b) [
-      | true ↦ ap (λ l. reply ++ l) (replies-append [] a b) ∙ sym (append_assoc reply _ _)
-      | false ↦ replies-append (p ++ c ∷ []) a b
+pub lines-append : (p a b : List ℕ) → lines_from p (a ++ b) ≡ lines_from p a ++ lines_from (pending_from p a) b
+unfolding lines_from pending_from
+lines-append p [] b = refl
+lines-append p (c ∷ a) b =
+    let line = strip_carriage_return p in
+    elim (c == 10) as (λ v. cond v (line ∷ lines_from [] (a ++ b)) (lines_from (p ++ c ∷ []) (a ++ b))
+    ≡ cond v (line ∷ lines_from [] a) (lines_from (p ++ c ∷ []) a) ++ lines_from (cond v (pending_from [] a) (pending_from (p ++ c ∷ []) a)) b) [
+      | true ↦ ap (λ ls. line ∷ ls) (lines-append [] a b)
+      | false ↦ lines-append (p ++ c ∷ []) a b
     ]
 
 -- ---- no line feed, or one at the end
 
-pub replies_none : (p xs : List ℕ) → HasNo 10 xs → replies_from p xs ≡ []
-unfolding replies_from
-replies_none p [] h = refl
-replies_none p (c ∷ xs) h = replies_other p xs c h.0 ∙ replies_none (p ++ c ∷ []) xs h.1
+pub lines_none : (p xs : List ℕ) → HasNo 10 xs → lines_from p xs ≡ []
+unfolding lines_from
+lines_none p [] h = refl
+lines_none p (c ∷ xs) h = lines_other p xs c h.0 ∙ lines_none (p ++ c ∷ []) xs h.1
 
 pub pending_none : (p xs : List ℕ) → HasNo 10 xs → pending_from p xs ≡ p ++ xs
 unfolding pending_from
 pending_none p [] h = sym (append-nil p)
 pending_none p (c ∷ xs) h = pending_other p xs c h.0 ∙ pending_none (p ++ c ∷ []) xs h.1 ∙ append_assoc p (c ∷ []) xs
 
-pub replies_line : (p xs : List ℕ) → HasNo 10 xs → replies_from p (xs ++ 10 ∷ []) ≡ reply_of (strip_carriage_return (p ++ xs))
-unfolding replies_from
-replies_line p xs h =
-    replies-append p xs (10 ∷ []) ∙ ap₂ (λ l m. l ++ replies_from m (10 ∷ [])) (replies_none p xs h) (pending_none p xs h)
-    ∙ append-nil (reply_of (strip_carriage_return (p ++ xs)))
+pub lines_feed : (p xs : List ℕ) → HasNo 10 xs → lines_from p (xs ++ 10 ∷ []) ≡ strip_carriage_return (p ++ xs) ∷ []
+unfolding lines_from
+lines_feed p xs h =
+    lines-append p xs (10 ∷ []) ∙ ap₂ (λ ls m. ls ++ lines_from m (10 ∷ [])) (lines_none p xs h) (pending_none p xs h)
 
 pub pending_line : (p xs : List ℕ) → HasNo 10 xs → pending_from p (xs ++ 10 ∷ []) ≡ []
 unfolding pending_from
@@ -88,15 +84,14 @@ pending_line p xs h = pending-append p xs (10 ∷ []) ∙ ap (λ m. pending_from
 push_assoc : (p xs : List ℕ) (c : ℕ) → p ++ c ∷ xs ≡ (p ++ c ∷ []) ++ xs
 push_assoc p xs c = sym (append_assoc p (c ∷ []) xs)
 
--- the output is the replies to the complete lines, and then the reply to what is pending
-pub output_split : (p xs : List ℕ) → HasNo 10 p → output_of (p ++ xs) ≡ replies_from p xs ++ last_reply (pending_from p xs)
-unfolding replies_from pending_from last_reply
-output_split p [] h = ap output_of (append-nil p) ∙ output_last p h
-output_split p (c ∷ xs) h = elim (newline_cases c) [
-  | inl e ↦ rw e (output_line p xs h ∙ ap (λ l. reply_of (strip_carriage_return p) ++ l) (output_split [] xs tt)
-      ∙ sym (append_assoc (reply_of (strip_carriage_return p)) (replies_from [] xs) (last_reply (pending_from [] xs))))
-  | inr e ↦ ap output_of (push_assoc p xs c) ∙ output_split (p ++ c ∷ []) xs (HasNo-push 10 p c h e)
-      ∙ ap₂ (λ l m. l ++ last_reply m) (sym (replies_other p xs c e)) (sym (pending_other p xs c e))
+-- the lines are the complete ones, and then what is pending
+pub lines_split : (p xs : List ℕ) → HasNo 10 p → lines (p ++ xs) ≡ lines_from p xs ++ last_line (pending_from p xs)
+unfolding lines_from pending_from last_line
+lines_split p [] h = ap lines (append-nil p) ∙ lines_last p h
+lines_split p (c ∷ xs) h = elim (newline_cases c) [
+  | inl e ↦ rw e (lines_line p xs h ∙ ap (λ ls. strip_carriage_return p ∷ ls) (lines_split [] xs tt))
+  | inr e ↦ ap lines (push_assoc p xs c) ∙ lines_split (p ++ c ∷ []) xs (HasNo-push 10 p c h e)
+      ∙ ap₂ (λ ls m. ls ++ last_line m) (sym (lines_other p xs c e)) (sym (pending_other p xs c e))
 ]
 
 any_none : (p : List ℕ) → HasNo 10 p → list_any (λ b. b == 10) p ≡ false
@@ -117,17 +112,13 @@ unfolding complete_part
 complete_line [] xs = refl
 complete_line (x ∷ p) xs = ap (λ v. cond v (x ∷ complete_part (p ++ 10 ∷ xs)) []) (any_line (x ∷ p) xs) ∙ ap (λ l. x ∷ l) (complete_line p xs)
 
-output_nil : (p : List ℕ) → output_of [] ≡ replies_from p []
-unfolding output_of replies_from
-output_nil p = refl
-
--- the output of the bytes up to the last line feed is the replies to the complete lines
-pub output_complete : (p xs : List ℕ) → HasNo 10 p → output_of (complete_part (p ++ xs)) ≡ replies_from p xs
-unfolding replies_from
-output_complete p [] h = ap (λ l. output_of (complete_part l)) (append-nil p) ∙ ap output_of (complete_none p h) ∙ output_nil p
-output_complete p (c ∷ xs) h = elim (newline_cases c) [
-  | inl e ↦ rw e (ap output_of (complete_line p xs) ∙ output_line p (complete_part xs) h ∙ ap (λ l. reply_of (strip_carriage_return p) ++ l) (output_complete [] xs tt))
-  | inr e ↦ ap (λ l. output_of (complete_part l)) (push_assoc p xs c) ∙ output_complete (p ++ c ∷ []) xs (HasNo-push 10 p c h e) ∙ sym (replies_other p xs c e)
+-- the lines of the bytes up to the last line feed are the complete ones
+pub lines_complete : (p xs : List ℕ) → HasNo 10 p → lines (complete_part (p ++ xs)) ≡ lines_from p xs
+unfolding lines_from
+lines_complete p [] h = ap (λ l. lines (complete_part l)) (append-nil p) ∙ ap lines (complete_none p h)
+lines_complete p (c ∷ xs) h = elim (newline_cases c) [
+  | inl e ↦ rw e (ap lines (complete_line p xs) ∙ lines_line p (complete_part xs) h ∙ ap (λ ls. strip_carriage_return p ∷ ls) (lines_complete [] xs tt))
+  | inr e ↦ ap (λ l. lines (complete_part l)) (push_assoc p xs c) ∙ lines_complete (p ++ c ∷ []) xs (HasNo-push 10 p c h e) ∙ sym (lines_other p xs c e)
 ]
 
 -- ---- beginnings

@@ -11,8 +11,8 @@ use Rattle.ipnetwork.specs.IpNetworkText.{NamesIpNetwork}
 use Rattle.ipnetwork.specs.declared.ip_network.IpNetwork.{IpNetwork}
 use Rattle.cidr.specs.Commands.{has4_answer}
 use Rattle.cidr.specs.EitherCommands.{has_answer, rel_answer}
-use Rattle.cidr.specs.Output.{output_of, complete_part, IsBeginning}
-use Rattle.cidr.specs.Run.{Ran}
+use Rattle.cidr.specs.Output.{IsOutput, complete_part}
+use Rattle.cidr.specs.Run.{Ran, BeginsOutput}
 
 -- of texts that name a network and an address, `has4` answers `yes` exactly if the address is a member of the
 -- network's set, and `no` exactly if it is none
@@ -40,27 +40,28 @@ RelatesSets = (text other : List ℕ) (a b : IpNetwork) → IsIpNetwork a → Is
 
 -- The reader had `read` and then `rest`, and the writer held `held` and holds `holds`.
 
--- after Ok the input was within the limit, and its output was written
+-- after Ok the input was within the limit, and an output of it was written
 abbrev pub AfterOk : Type 0
 AfterOk = (limit : ℕ) (input held holds : List ℕ) (left : Option (List ℕ)) (done : Unit {0})
     → Ran limit (Some input) left (Some held) (Some holds) (Ok done)
-    → (length input ≤ limit) × (holds ≡ held ++ output_of input)
+    → (length input ≤ limit) × (output : List ℕ) × IsOutput input output × (holds ≡ held ++ output)
 
 -- after a read fault what was read is within the limit, and exactly the lines that it completes were answered
 abbrev pub AfterReadFault : Type 0
 AfterReadFault = (limit : ℕ) (read rest held holds : List ℕ)
     → Ran limit (Some (read ++ rest)) (Some rest) (Some held) (Some holds) (Err Read)
-    → (length read ≤ limit) × (holds ≡ held ++ output_of (complete_part read))
+    → (length read ≤ limit) × (output : List ℕ) × IsOutput (complete_part read) output × (holds ≡ held ++ output)
 
--- after a write fault what was read is within the limit, and what was written is a beginning of its output
+-- after a write fault what was read is within the limit, and what was written is a beginning of an output of it
 abbrev pub AfterWriteFault : Type 0
 AfterWriteFault = (limit : ℕ) (read rest held holds : List ℕ)
     → Ran limit (Some (read ++ rest)) (Some rest) (Some held) (Some holds) (Err Write)
-    → (length read ≤ limit) × (written : List ℕ) × (holds ≡ held ++ written) × IsBeginning written (output_of read)
+    → (length read ≤ limit) × (written : List ℕ) × BeginsOutput read written × (holds ≡ held ++ written)
 
 -- where the input is too long, more than the limit was read, and exactly the lines were answered that its first
 -- bytes complete, so many of them, and no more than the limit
 abbrev pub AfterTooLong : Type 0
 AfterTooLong = (limit : ℕ) (read rest held holds : List ℕ)
     → Ran limit (Some (read ++ rest)) (Some rest) (Some held) (Some holds) (Err InputTooLong)
-    → (limit < length read) × (count : ℕ) × (count ≤ limit) × (holds ≡ held ++ output_of (complete_part (take count read)))
+    → (limit < length read) × (count : ℕ) × (count ≤ limit) × (output : List ℕ) × IsOutput (complete_part (take count read)) output
+    × (holds ≡ held ++ output)

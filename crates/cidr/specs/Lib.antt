@@ -1,9 +1,13 @@
 pub mod Commands
 pub mod EitherCommands
 pub mod Faults
+pub mod Finding
 pub mod Laws
 pub mod Output
+pub mod OutputLaws
 pub mod Private
+pub mod Requests
+pub mod Routes
 pub mod Run
 pub mod Watched
 pub mod Words

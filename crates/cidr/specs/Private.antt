@@ -4,4 +4,5 @@ pub mod Device
 pub mod Line
 pub mod Progress
 pub mod Replies
+pub mod Routes
 pub mod Words

@@ -1,24 +1,28 @@
 -- How a run ends.
-use Rattle.std.specs.Prelude.{◌≡◌, ℕ, ◌<◌, ◌≤◌, Bool, true, false, List, length, Option, Result, Ok, Err}
+use Rattle.std.specs.Prelude.{ℕ, ◌<◌, ◌≤◌, Bool, true, false, List, length, Option, Result, Ok, Err}
 use Rattle.std.specs.Io.KnownBytes.{Appends, Consumes, IsAtEnd}
 use Rattle.cidr.specs.declared.fault.RunFault.{RunFault}
 use Rattle.cidr.specs.declared.fault.RunFault.TheVariants.{Read, Write, InputTooLong}
-use Rattle.cidr.specs.Output.{output_of, complete_part, IsBeginning}
+use Rattle.cidr.specs.Output.{IsOutput, complete_part, IsBeginning}
 
--- the replies to the lines that some first bytes complete, within the limit, and no others
+-- an output of the lines that some first bytes complete, within the limit, and of no others
 abbrev pub AnswersPart : ℕ → List ℕ → List ℕ → Type 0
-AnswersPart limit read written = (front : List ℕ) × IsBeginning front read × (length front ≤ limit) × (written ≡ output_of (complete_part front))
+AnswersPart limit read written = (front : List ℕ) × IsBeginning front read × (length front ≤ limit) × IsOutput (complete_part front) written
+
+-- a beginning of an output of what was read
+abbrev pub BeginsOutput : List ℕ → List ℕ → Type 0
+BeginsOutput read written = (output : List ℕ) × IsOutput read output × IsBeginning written output
 
 -- what a run may have read and written, by how it ended. `rest` is what the reader has left
 abbrev pub EndsAs : ℕ → Option (List ℕ) → Result (Unit {0}) RunFault → List ℕ → List ℕ → Type 0
--- the whole input, and its output
-EndsAs limit rest (Ok done) read written = IsAtEnd rest × (length read ≤ limit) × (written ≡ output_of read)
--- the replies to the lines whose line feed was read, and no others
-EndsAs limit rest (Err Read) read written = (length read ≤ limit) × (written ≡ output_of (complete_part read))
+-- the whole input, and an output of it
+EndsAs limit rest (Ok done) read written = IsAtEnd rest × (length read ≤ limit) × IsOutput read written
+-- an output of the lines whose line feed was read, and of no others
+EndsAs limit rest (Err Read) read written = (length read ≤ limit) × IsOutput (complete_part read) written
 -- the same of some first bytes, no more of them than the limit
 EndsAs limit rest (Err InputTooLong) read written = (limit < length read) × AnswersPart limit read written
--- no more than the output of what was read
-EndsAs limit rest (Err Write) read written = (length read ≤ limit) × IsBeginning written (output_of read)
+-- no more than an output of what was read
+EndsAs limit rest (Err Write) read written = (length read ≤ limit) × BeginsOutput read written
 
 -- how a run went, where the reader and the writer tell their bytes
 pub record Ran (limit : ℕ) (left rest held holds : Option (List ℕ)) (result : Result (Unit {0}) RunFault) : Type 0 where
@@ -30,7 +34,7 @@ pub record Ran (limit : ℕ) (left rest held holds : Option (List ℕ)) (result 
   pub reads : Consumes left rest read
   -- the writer took the second
   pub writes : Appends held holds written
-  -- how much of the input they are, and of its output
+  -- how much of the input they are, and of an output of it
   pub ends : EndsAs limit rest result read written
 
 -- whether a read ended the run

@@ -10,10 +10,10 @@ use ipnetwork::decimal::push_number;
 use ipnetwork::{IpAddr, IpNetwork, laws};
 
 /// The answer to a text that names no network.
-const REFUSED: &str = "refused";
+pub(crate) const REFUSED: &str = "refused";
 
 /// An answer of several parts, before it is added.
-type Answer = ArrayString<ANSWER_MAX>;
+pub(crate) type Answer = ArrayString<ANSWER_MAX>;
 
 /// `read`: the canonical text of a network.
 pub(crate) fn read(word: &[u8], replies: &mut Replies)
@@ -29,24 +29,26 @@ pub(crate) fn read(word: &[u8], replies: &mut Replies)
 }
 
 /// `has`: whether a network holds an address.
-pub(crate) fn has(network: &[u8], address: &[u8]) -> &'static str
-    ensures text { result.now ≡ has_answer network.now address.now }
-    ensures short { length result.now ≤ 15 }
+pub(crate) fn has(network: &[u8], address: &[u8], replies: &mut Replies)
+    requires { HasRoom replies.old }
+    ensures { Adds replies.old replies.new (has_answer network.now address.now) }
 {
     // Does nothing: the proof of this body needs the laws.
     laws::ip_network_reading_is_computed();
     laws::ip_reading_is_computed();
     laws::ip_membership_is_computed();
     let Ok(network) = IpNetwork::read_bytes(network) else {
-        return "refused network";
+        replies.push("refused network");
+        return;
     };
     let Ok(address) = IpAddr::read_bytes(address) else {
-        return "refused address";
+        replies.push("refused address");
+        return;
     };
     if network.contains(address) {
-        "yes"
+        replies.push("yes");
     } else {
-        "no"
+        replies.push("no");
     }
 }
 

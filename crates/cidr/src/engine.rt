@@ -1,18 +1,21 @@
 //! Lines in, replies out: `gather_..` adds replies to those that wait, and `answer_..` leaves none waiting.
-ghost use Rattle.std.specs.Prelude.{◌≡◌, ◌||◌, is_err, List, ℕ, ◌++◌, [], Err, OnOk, OnErr, IsOkUnless, IsFalse, IsTrue};
+ghost use Rattle.std.specs.Prelude.{◌≡◌, ◌||◌, is_err, List, ℕ, [], ◌∷◌, Err, OnOk, OnErr, IsOkUnless, IsFalse, IsTrue};
 ghost use Rattle.std.specs.Io.KnownBytes.{Appends};
 ghost use Rattle.cidr.specs.Private.Device.{inner_of, failed_of};
 ghost use Rattle.cidr.specs.Private.Line.{Holds};
 ghost use Rattle.cidr.specs.Private.Replies.{gathered, HasRoom};
-ghost use Rattle.cidr.specs.Private.Progress.{AppendsBeginning, Gathers, GathersLine, StopsAtLine, GathersPiece, AnswersPiece, StopsInPiece, last_reply};
-ghost use Rattle.cidr.specs.Output.{reply_of};
+ghost use Rattle.cidr.specs.Private.Progress.{AppendsBeginning, Gathers, GathersReplies, WritesReplies, StopsReplying, GathersLine, StopsAtLine, GathersPiece, AnswersPiece, StopsInPiece, last_line};
+ghost use Rattle.cidr.specs.Private.Routes.{routes_of};
+ghost use Rattle.cidr.specs.Routes.{no_routes};
 ghost use Rattle.cidr.specs.Run.{Ran, ended_by_read, ended_by_write};
 
 use crate::fault::RunFault;
 use crate::line::{Line, without_carriage_return};
 use crate::replies::Replies;
+use crate::route_tables::RouteTables;
 use crate::watched::device::Device;
 use byte_search::find_from;
+use std::alloc::Global;
 use std::io::{Read, Write};
 
 /// The most bytes that are asked for at a time.
@@ -22,6 +25,7 @@ const PIECE_MAX: usize = 65536;
 ///
 /// Where a device has failed before, no call of either is made.
 pub(crate) fn answer_input<R: Read, W: Write>(
+    alloc: Global,
     limit: u32,
     reader: &mut Device<R>,
     writer: &mut Device<W>,
@@ -41,15 +45,18 @@ pub(crate) fn answer_input<R: Read, W: Write>(
     if writer.failed() {
         return Err(RunFault::Write);
     }
-    answer_all(limit, reader, writer)
+    let mut routes = RouteTables::new(alloc);
+    answer_all(&mut routes, limit, reader, writer)
 }
 
-/// Answers each line, on devices that have not failed.
+/// Answers each line, on devices that have not failed, from no routes on.
 fn answer_all<R: Read, W: Write>(
+    routes: &mut RouteTables,
     limit: u32,
     reader: &mut Device<R>,
     writer: &mut Device<W>,
 ) -> Result<(), RunFault>
+    requires none { routes_of routes.old ≡ no_routes }
     requires reader_works { IsFalse (failed_of reader.old) }
     requires writer_works { IsFalse (failed_of writer.old) }
     ensures ran { Ran limit
@@ -68,13 +75,13 @@ fn answer_all<R: Read, W: Write>(
             Err(_) => return Err(RunFault::Read),
         };
         if count == 0 {
-            return finish(writer, &mut replies, &line);
+            return finish(writer, &mut replies, routes, &line);
         }
         if count > room {
             return Err(RunFault::InputTooLong);
         }
         room -= count;
-        answer_piece(writer, &mut replies, &mut line, &piece[..count])?;
+        answer_piece(writer, &mut replies, routes, &mut line, &piece[..count])?;
     }
 }
 
@@ -82,18 +89,19 @@ fn answer_all<R: Read, W: Write>(
 fn answer_piece<W: Write>(
     writer: &mut Device<W>,
     replies: &mut Replies,
+    routes: &mut RouteTables,
     line: &mut Line,
     piece: &[u8],
 ) -> Result<(), RunFault>
     requires works { IsFalse (failed_of writer.old) }
     requires empty { gathered replies.old ≡ [] }
-    ensures ok { OnOk result (AnswersPiece line.old line.new (W.contents (inner_of writer.old)) (W.contents (inner_of writer.new)) piece.now) }
-    ensures err { OnErr result (StopsInPiece line.old (W.contents (inner_of writer.old)) [] (W.contents (inner_of writer.new)) piece.now) }
+    ensures ok { OnOk result (AnswersPiece line.old line.new (routes_of routes.old) (routes_of routes.new) (W.contents (inner_of writer.old)) (W.contents (inner_of writer.new)) piece.now) }
+    ensures err { OnErr result (StopsInPiece line.old (routes_of routes.old) (W.contents (inner_of writer.old)) [] (W.contents (inner_of writer.new)) piece.now) }
     ensures emptied { OnOk result (gathered replies.new ≡ []) }
     ensures watched { failed_of writer.new ≡ (failed_of writer.old || is_err result) }
     ensures fault { IsOkUnless result RunFault.Write }
 {
-    gather_piece(writer, replies, line, piece)?;
+    gather_piece(writer, replies, routes, line, piece)?;
     hand_on(writer, replies)
 }
 
@@ -101,13 +109,14 @@ fn answer_piece<W: Write>(
 fn gather_piece<W: Write>(
     writer: &mut Device<W>,
     replies: &mut Replies,
+    routes: &mut RouteTables,
     line: &mut Line,
     piece: &[u8],
 ) -> Result<(), RunFault>
     requires { IsFalse (failed_of writer.old) }
-    ensures ok { OnOk result (GathersPiece line.old line.new
+    ensures ok { OnOk result (GathersPiece line.old line.new (routes_of routes.old) (routes_of routes.new)
         (W.contents (inner_of writer.old)) (gathered replies.old) (W.contents (inner_of writer.new)) (gathered replies.new) piece.now) }
-    ensures err { OnErr result (StopsInPiece line.old
+    ensures err { OnErr result (StopsInPiece line.old (routes_of routes.old)
         (W.contents (inner_of writer.old)) (gathered replies.old) (W.contents (inner_of writer.new)) piece.now) }
     ensures watched { failed_of writer.new ≡ (failed_of writer.old || is_err result) }
     ensures fault { IsOkUnless result RunFault.Write }
@@ -118,7 +127,7 @@ fn gather_piece<W: Write>(
             line.push(&piece[start..]);
             return Ok(());
         };
-        gather_line(writer, replies, line, &piece[start..end])?;
+        gather_line(writer, replies, routes, line, &piece[start..end])?;
         start = end + 1;
     }
 }
@@ -127,22 +136,23 @@ fn gather_piece<W: Write>(
 fn gather_line<W: Write>(
     writer: &mut Device<W>,
     replies: &mut Replies,
+    routes: &mut RouteTables,
     line: &mut Line,
     bytes: &[u8],
 ) -> Result<(), RunFault>
     requires { IsFalse (failed_of writer.old) }
-    ensures ok { OnOk result (GathersLine line.old line.new
+    ensures ok { OnOk result (GathersLine line.old line.new (routes_of routes.old) (routes_of routes.new)
         (W.contents (inner_of writer.old)) (gathered replies.old) (W.contents (inner_of writer.new)) (gathered replies.new) bytes.now) }
-    ensures err { OnErr result (StopsAtLine line.old
+    ensures err { OnErr result (StopsAtLine line.old (routes_of routes.old)
         (W.contents (inner_of writer.old)) (gathered replies.old) (W.contents (inner_of writer.new)) bytes.now) }
     ensures watched { failed_of writer.new ≡ (failed_of writer.old || is_err result) }
     ensures fault { IsOkUnless result RunFault.Write }
 {
     if line.is_empty() {
-        return gather_reply(writer, replies, without_carriage_return(bytes));
+        return gather_reply(writer, replies, routes, without_carriage_return(bytes));
     }
     line.push(bytes);
-    gather_reply(writer, replies, line.at_line_feed())?;
+    gather_reply(writer, replies, routes, line.at_line_feed())?;
     line.clear();
     Ok(())
 }
@@ -151,18 +161,21 @@ fn gather_line<W: Write>(
 fn finish<W: Write>(
     writer: &mut Device<W>,
     replies: &mut Replies,
+    routes: &mut RouteTables,
     line: &Line,
 ) -> Result<(), RunFault>
     requires works { IsFalse (failed_of writer.old) }
     requires empty { gathered replies.old ≡ [] }
     ensures ok { (pending : List ℕ) → Holds line.now pending
-        → OnOk result (Appends (W.contents (inner_of writer.old)) (W.contents (inner_of writer.new)) (last_reply pending)) }
+        → OnOk result (WritesReplies (routes_of routes.old) (routes_of routes.new)
+        (W.contents (inner_of writer.old)) (W.contents (inner_of writer.new)) (last_line pending)) }
     ensures err { (pending : List ℕ) → Holds line.now pending
-        → OnErr result (AppendsBeginning (W.contents (inner_of writer.old)) (W.contents (inner_of writer.new)) (last_reply pending)) }
+        → OnErr result (StopsReplying (routes_of routes.old)
+        (W.contents (inner_of writer.old)) [] (W.contents (inner_of writer.new)) (last_line pending)) }
     ensures watched { failed_of writer.new ≡ (failed_of writer.old || is_err result) }
     ensures fault { IsOkUnless result RunFault.Write }
 {
-    answer_rest(writer, replies, line)?;
+    answer_rest(writer, replies, routes, line)?;
     if writer.flush().is_err() {
         return Err(RunFault::Write);
     }
@@ -173,21 +186,24 @@ fn finish<W: Write>(
 fn answer_rest<W: Write>(
     writer: &mut Device<W>,
     replies: &mut Replies,
+    routes: &mut RouteTables,
     line: &Line,
 ) -> Result<(), RunFault>
     requires works { IsFalse (failed_of writer.old) }
     requires empty { gathered replies.old ≡ [] }
     ensures ok { (pending : List ℕ) → Holds line.now pending
-        → OnOk result (Appends (W.contents (inner_of writer.old)) (W.contents (inner_of writer.new)) (last_reply pending)) }
+        → OnOk result (WritesReplies (routes_of routes.old) (routes_of routes.new)
+        (W.contents (inner_of writer.old)) (W.contents (inner_of writer.new)) (last_line pending)) }
     ensures err { (pending : List ℕ) → Holds line.now pending
-        → OnErr result (AppendsBeginning (W.contents (inner_of writer.old)) (W.contents (inner_of writer.new)) (last_reply pending)) }
+        → OnErr result (StopsReplying (routes_of routes.old)
+        (W.contents (inner_of writer.old)) [] (W.contents (inner_of writer.new)) (last_line pending)) }
     ensures watched { failed_of writer.new ≡ (failed_of writer.old || is_err result) }
     ensures fault { IsOkUnless result RunFault.Write }
 {
     if line.is_empty() {
         return Ok(());
     }
-    gather_reply(writer, replies, line.at_end())?;
+    gather_reply(writer, replies, routes, line.at_end())?;
     hand_on(writer, replies)
 }
 
@@ -195,18 +211,19 @@ fn answer_rest<W: Write>(
 fn gather_reply<W: Write>(
     writer: &mut Device<W>,
     replies: &mut Replies,
+    routes: &mut RouteTables,
     line: &[u8],
 ) -> Result<(), RunFault>
     requires { IsFalse (failed_of writer.old) }
-    ensures ok { OnOk result (Gathers (W.contents (inner_of writer.old)) (gathered replies.old)
-        (W.contents (inner_of writer.new)) (gathered replies.new) (reply_of line.now)) }
-    ensures err { OnErr result (AppendsBeginning (W.contents (inner_of writer.old)) (W.contents (inner_of writer.new))
-        (gathered replies.old ++ reply_of line.now)) }
+    ensures ok { OnOk result (GathersReplies (routes_of routes.old) (routes_of routes.new)
+        (W.contents (inner_of writer.old)) (gathered replies.old) (W.contents (inner_of writer.new)) (gathered replies.new) (line.now ∷ [])) }
+    ensures err { OnErr result (StopsReplying (routes_of routes.old)
+        (W.contents (inner_of writer.old)) (gathered replies.old) (W.contents (inner_of writer.new)) (line.now ∷ [])) }
     ensures watched { failed_of writer.new ≡ (failed_of writer.old || is_err result) }
     ensures fault { IsOkUnless result RunFault.Write }
 {
     make_room(writer, replies)?;
-    replies.reply_to(line);
+    replies.reply_to(line, routes);
     Ok(())
 }
 

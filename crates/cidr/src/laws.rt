@@ -1,6 +1,7 @@
 //! What follows from the promises of a run and of the commands. Each function's contract is a law.
 ghost use Rattle.std.specs.Prelude.{◌≡◌, ◌↔◌, ◌&&◌, IsTrue, IsFalse, Ok, Result};
 ghost use Rattle.cidr.specs.Laws.{Has4AnswersMembership, HasAnswersMembership, RelatesSets, AfterOk, AfterReadFault, AfterWriteFault, AfterTooLong};
+ghost use Rattle.cidr.specs.OutputLaws.{FullIsComputed, ComputedIsAllowed, UnrefusedIsComputed, PlainLinesAskNothing, PlainInputsHaveOneOutput, SplitsAtLineEnds, PlainPartsRunAlone};
 ghost use Rattle.cidr.specs.Run.{ended_by_read, ended_by_write};
 
 use crate::fault::RunFault;
@@ -34,7 +35,30 @@ pub fn rel_answers_sets()
     laws::ip_subnet_is_computed();
 }
 
-/// After Ok the input was within the limit, and its output was written.
+/// Where no `add` is out of memory, an input has one output, `output_of` of it; and each output that may be written is
+/// that one, unless one of its answers is `out of memory`.
+pub fn output_without_refusals()
+    ensures full { FullIsComputed }
+    ensures computed { ComputedIsAllowed }
+    ensures only { UnrefusedIsComputed }
+{}
+
+/// A line of any command but `add`, `drop` and `find` has one answer, whatever the routes are, and leaves them. So an
+/// input of such lines alone has one output: for each line its answer and a line feed.
+pub fn plain_lines_ask_nothing()
+    ensures line { PlainLinesAskNothing }
+    ensures output { PlainInputsHaveOneOutput }
+{}
+
+/// Where an input is cut directly behind a line feed, its outputs are those of the first part, and then those of the
+/// second part from the routes on that the first leaves. Where no line of the first part is `add`, `drop` or `find`,
+/// each part may be run by itself, and the outputs put together.
+pub fn split_at_line_ends()
+    ensures parts { SplitsAtLineEnds }
+    ensures alone { PlainPartsRunAlone }
+{}
+
+/// After Ok the input was within the limit, and an output of it was written.
 pub fn after_ok()
     ensures { AfterOk }
 {}
@@ -44,7 +68,7 @@ pub fn after_a_read_fault()
     ensures { AfterReadFault }
 {}
 
-/// After a write fault a beginning of the output of what was read was written.
+/// After a write fault a beginning of an output of what was read was written.
 pub fn after_a_write_fault()
     ensures { AfterWriteFault }
 {}

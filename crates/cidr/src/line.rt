@@ -1,7 +1,7 @@
 //! The line that goes on past a piece of the input.
 ghost use Rattle.std.specs.Prelude.{◌≡◌, ◌==◌, List, ℕ, [], ◌++◌, length};
 ghost use Rattle.std.specs.Str.Lines.{strip_carriage_return};
-ghost use Rattle.cidr.specs.Output.{reply_of};
+ghost use Rattle.cidr.specs.Requests.{request_of};
 
 use arrayvec::ArrayVec;
 
@@ -52,17 +52,17 @@ impl Line {
         let _ = self.kept.try_extend_from_slice(&bytes[..count]);
     }
 
-    /// What is answered where a line feed ends the line.
+    /// What is asked where a line feed ends the line.
     pub(crate) fn at_line_feed(&self) -> &[u8]
         ensures { (pending : List ℕ) → Holds self.now pending
-            → reply_of result.now ≡ reply_of (strip_carriage_return pending) }
+            → request_of result.now ≡ request_of (strip_carriage_return pending) }
     {
         without_carriage_return(self.kept.as_slice())
     }
 
-    /// What is answered where the input ends.
+    /// What is asked where the input ends.
     pub(crate) fn at_end(&self) -> &[u8]
-        ensures { (pending : List ℕ) → Holds self.now pending → reply_of result.now ≡ reply_of pending }
+        ensures { (pending : List ℕ) → Holds self.now pending → request_of result.now ≡ request_of pending }
     {
         self.kept.as_slice()
     }

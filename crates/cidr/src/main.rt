@@ -12,6 +12,8 @@ mod laws;
 mod line;
 mod names;
 mod replies;
+mod route_tables;
+mod routing;
 mod run;
 #[cfg(test)]
 mod tests;

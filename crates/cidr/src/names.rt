@@ -49,3 +49,24 @@ pub(crate) fn is_rel(word: &[u8]) -> bool
 {
     matches!(word, [b'r', b'e', b'l'])
 }
+
+/// Whether a word is `add`.
+pub(crate) fn is_add(word: &[u8]) -> bool
+    ensures { result ≡ bytes_eq word.now (codes "add") }
+{
+    matches!(word, [b'a', b'd', b'd'])
+}
+
+/// Whether a word is `drop`.
+pub(crate) fn is_drop(word: &[u8]) -> bool
+    ensures { result ≡ bytes_eq word.now (codes "drop") }
+{
+    matches!(word, [b'd', b'r', b'o', b'p'])
+}
+
+/// Whether a word is `find`.
+pub(crate) fn is_find(word: &[u8]) -> bool
+    ensures { result ≡ bytes_eq word.now (codes "find") }
+{
+    matches!(word, [b'f', b'i', b'n', b'd'])
+}

@@ -1,10 +1,12 @@
 //! Replies that are gathered before they are written.
 ghost use Rattle.std.specs.Prelude.{◌≡◌, ◌<◌, ◌↔◌, [], ◌++◌, length, IsTrue};
-ghost use Rattle.cidr.specs.Output.{reply_of};
+ghost use Rattle.cidr.specs.Private.Routes.{routes_of};
+ghost use Rattle.cidr.specs.Requests.{request_of};
 ghost use Rattle.cidr.specs.declared.replies.TheConstants.{ANSWER_MAX};
 
 use crate::answer::answer;
 use crate::line::LINE_MAX;
+use crate::route_tables::RouteTables;
 use arrayvec::ArrayVec;
 
 /// The most bytes that are gathered.
@@ -20,7 +22,7 @@ pub(crate) struct Replies {
 }
 
 impl Replies {
-    ghost use Rattle.cidr.specs.Private.Replies.{gathered, HasRoom, Adds};
+    ghost use Rattle.cidr.specs.Private.Replies.{gathered, HasRoom, Adds, RepliesTo};
 
     /// No reply.
     pub(crate) fn new() -> Replies
@@ -54,15 +56,15 @@ impl Replies {
     }
 
     /// Adds the reply to a line: its answer, and a line feed.
-    pub(crate) fn reply_to(&mut self, line: &[u8])
+    pub(crate) fn reply_to(&mut self, line: &[u8], routes: &mut RouteTables)
         requires { HasRoom self.old }
-        ensures { gathered self.new ≡ gathered self.old ++ reply_of line.now }
+        ensures { RepliesTo (routes_of routes.old) (request_of line.now) self.old self.new (routes_of routes.new) }
     {
         if line.len() > LINE_MAX {
             self.push("line too long");
             return;
         }
-        answer(line, self);
+        answer(line, routes, self);
     }
 
     /// Adds an answer, and a line feed.

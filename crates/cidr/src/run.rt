@@ -2,7 +2,7 @@
 ghost use Rattle.std.specs.Prelude.{◌≡◌, ◌||◌, List, ℕ, Err, OnOk, IsOk, IsFalse, IsTrue, IfSome, Some, ◌≤◌, length};
 ghost use Rattle.std.specs.Io.KnownBytes.{Appends};
 ghost use Rattle.cidr.specs.Watched.{device_of, has_failed};
-ghost use Rattle.cidr.specs.Output.{output_of};
+ghost use Rattle.cidr.specs.Output.{IsOutput};
 ghost use Rattle.cidr.specs.Run.{Ran, ended_by_read, ended_by_write};
 
 use crate::engine::answer_input;
@@ -13,8 +13,8 @@ use std::io::{Read, Write};
 
 /// Answers each line that `reader` gives, up to 4,294,967,295 bytes, and then flushes.
 ///
-/// It is `run_limited` at that limit: the same errors, and the same premise for what is promised of bytes. Does not
-/// allocate: `alloc` is not used.
+/// It is `run_limited` at that limit: the same errors, and the same premise for what is promised of bytes. Only the
+/// routes allocate, from `alloc`.
 pub fn run<R: Read, W: Write>(
     alloc: Global,
     reader: &mut Watched<R>,
@@ -28,8 +28,8 @@ pub fn run<R: Read, W: Write>(
     ensures reader_first { IsTrue (has_failed reader.old) → result ≡ Err RunFault.Read }
     ensures uncalled { IsTrue (has_failed reader.old || has_failed writer.old)
         → (device_of reader.new ≡ device_of reader.old) × (device_of writer.new ≡ device_of writer.old) }
-    ensures output { OnOk result (IfSome (R.remaining (device_of reader.old)) (λ input.
-        Appends (W.contents (device_of writer.old)) (W.contents (device_of writer.new)) (output_of input))) }
+    ensures output { OnOk result (IfSome (R.remaining (device_of reader.old)) (λ input. (output : List ℕ) × IsOutput input output
+        × Appends (W.contents (device_of writer.old)) (W.contents (device_of writer.new)) output)) }
     ensures succeeds { (input : List ℕ) → R.remaining (device_of reader.old) ≡ Some input → length input ≤ u32.MAX
         → IsFalse (has_failed reader.new) → IsFalse (has_failed writer.new) → IsOk result }
 {
@@ -51,10 +51,10 @@ pub fn run<R: Read, W: Write>(
 /// What is promised of bytes holds of a reader and a writer whose contracts tell their bytes, as those over memory
 /// do. Standard input and output do not tell theirs.
 ///
-/// Does not allocate: the allocator is not used.
+/// A run begins with no routes and frees them as it ends. Only an `add` of a new block allocates, from `alloc`; where
+/// that is out of memory, its answer says so, the routes stay as they were, and the run goes on.
 pub fn run_limited<R: Read, W: Write>(
-    // Not used: a run does not allocate.
-    _alloc: Global,
+    alloc: Global,
     limit: u32,
     reader: &mut Watched<R>,
     writer: &mut Watched<W>,
@@ -73,11 +73,11 @@ pub fn run_limited<R: Read, W: Write>(
     ensures uncalled { IsTrue (has_failed reader.old || has_failed writer.old)
         → (device_of reader.new ≡ device_of reader.old) × (device_of writer.new ≡ device_of writer.old) }
 
-    // So the output is that of the whole input, and comes where the input fits and no device fails.
-    ensures output { OnOk result (IfSome (R.remaining (device_of reader.old)) (λ input.
-        Appends (W.contents (device_of writer.old)) (W.contents (device_of writer.new)) (output_of input))) }
+    // So an output of the whole input is written, and comes where the input fits and no device fails.
+    ensures output { OnOk result (IfSome (R.remaining (device_of reader.old)) (λ input. (output : List ℕ) × IsOutput input output
+        × Appends (W.contents (device_of writer.old)) (W.contents (device_of writer.new)) output)) }
     ensures succeeds { (input : List ℕ) → R.remaining (device_of reader.old) ≡ Some input → length input ≤ limit
         → IsFalse (has_failed reader.new) → IsFalse (has_failed writer.new) → IsOk result }
 {
-    answer_input(limit, &mut reader.device, &mut writer.device)
+    answer_input(alloc, limit, &mut reader.device, &mut writer.device)
 }

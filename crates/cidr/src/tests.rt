@@ -1,9 +1,11 @@
 //! Runs over devices that cut what passes through them, count their calls and fail.
 
+mod against_a_list;
 mod answers;
 mod devices;
 mod faults;
 mod lines;
+mod routes;
 mod watched;
 
 use crate::fault::RunFault;

@@ -1,10 +1,13 @@
 use crate::answer::answer;
 use crate::replies::Replies;
+use crate::route_tables::RouteTables;
+use std::alloc::Global;
 
 /// Whether a line is answered by this text and a line feed.
-fn is_answered(line: &[u8], text: &str) -> bool {
+fn is_answered(alloc: Global, line: &[u8], text: &str) -> bool {
     let mut replies = Replies::new();
-    answer(line, &mut replies);
+    let mut routes = RouteTables::new(alloc);
+    answer(line, &mut routes, &mut replies);
     match replies.as_slice().split_last() {
         Some((last, front)) => *last == b'\n' && front == text.as_bytes(),
         None => false,
@@ -53,7 +56,7 @@ fn commands_are_answered(rt: HostRuntime) {
         ("has4 10.0.0.0/8 10.0.0.1/32", "refused address"),
         ("has4 10.0.0.0/8 ", "refused address"),
     ] {
-        assert!(rt; is_answered(line.as_bytes(), text), "{line}");
+        assert!(rt; is_answered(rt.alloc(), line.as_bytes(), text), "{line}");
     }
 }
 
@@ -108,7 +111,7 @@ fn commands_over_both_families_are_answered(rt: HostRuntime) {
         ("rel x 10.0.0.0/8", "refused"),
         ("rel 10.0.0.0/8 x", "refused"),
     ] {
-        assert!(rt; is_answered(line.as_bytes(), text), "{line}");
+        assert!(rt; is_answered(rt.alloc(), line.as_bytes(), text), "{line}");
     }
 }
 
@@ -137,8 +140,11 @@ fn other_lines_are_unknown(rt: HostRuntime) {
         "read4 1.2.3.4\t1 ",
         "\u{e9} 1.2.3.4",
     ] {
-        assert!(rt; is_answered(line.as_bytes(), "unknown command"), "{line}");
+        assert!(rt;
+            is_answered(rt.alloc(), line.as_bytes(), "unknown command"),
+            "{line}"
+        );
     }
-    assert!(rt; is_answered(b"\xff \xff", "unknown command"));
-    assert!(rt; is_answered(b"read4 \xff", "refused address"));
+    assert!(rt; is_answered(rt.alloc(), b"\xff \xff", "unknown command"));
+    assert!(rt; is_answered(rt.alloc(), b"read4 \xff", "refused address"));
 }

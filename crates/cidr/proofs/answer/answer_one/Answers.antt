@@ -1,44 +1,22 @@
-use Rattle.std.proofs.Common.{refl}
-use Rattle.cidr.specs.Commands.{one_word_answer}
-use Rattle.cidr.proofs.Answers.{adds, chosen, other}
+use Rattle.cidr.specs.Private.Routes.{routes_of}
+use Rattle.cidr.specs.Requests.{one_word_request}
+use Rattle.cidr.proofs.Requests.{plain_reply, chosen_reply, other_reply}
 use Rattle.cidr.proofs.answer.answer_one.Goals as goal
 
-pub returns-then-is_read4 : goal.returns-then-is_read4
-unfolding one_word_answer
-returns-then-is_read4 c =
-    adds _ _ _ _ c.read4.ensures
-    (chosen _ _ _ _ _ c.is_read4.ensures c.if-is_read4.true refl)
+pub returns-then-is_drop : goal.returns-then-is_drop
+unfolding one_word_request
+returns-then-is_drop c = chosen_reply (routes_of c.args.routes.now) (routes_of c.drop.new.routes) _ _ _ _ _ _ c.is_drop.ensures c.if-is_drop.true c.drop.ensures
 
-pub returns-then-is_read6 : goal.returns-then-is_read6
-unfolding one_word_answer
-returns-then-is_read6 c =
-    adds _ _ _ _ c.read6.ensures
-    (other _ _ _ _ _ c.is_read4.ensures c.if-is_read4.false
-    (chosen _ _ _ _ _ c.is_read6.ensures c.if-is_read6.true refl))
+pub returns-then-is_find : goal.returns-then-is_find
+unfolding one_word_request
+returns-then-is_find c =
+    let routes = routes_of c.args.routes.now in
+    other_reply routes routes _ _ _ _ _ _ c.is_drop.ensures c.if-is_drop.false
+    (chosen_reply routes routes _ _ _ _ _ _ c.is_find.ensures c.if-is_find.true c.find.ensures)
 
-pub returns-then-is_read : goal.returns-then-is_read
-unfolding one_word_answer
-returns-then-is_read c =
-    adds _ _ _ _ c.read.ensures
-    (other _ _ _ _ _ c.is_read4.ensures c.if-is_read4.false
-    (other _ _ _ _ _ c.is_read6.ensures c.if-is_read6.false
-    (chosen _ _ _ _ _ c.is_read.ensures c.if-is_read.true refl)))
-
-pub returns-then-is_ends : goal.returns-then-is_ends
-unfolding one_word_answer
-returns-then-is_ends c =
-    adds _ _ _ _ c.ends.ensures
-    (other _ _ _ _ _ c.is_read4.ensures c.if-is_read4.false
-    (other _ _ _ _ _ c.is_read6.ensures c.if-is_read6.false
-    (other _ _ _ _ _ c.is_read.ensures c.if-is_read.false
-    (chosen _ _ _ _ _ c.is_ends.ensures c.if-is_ends.true refl))))
-
-pub returns-else-is_ends : goal.returns-else-is_ends
-unfolding one_word_answer
-returns-else-is_ends c =
-    adds _ _ _ _ c.push.ensures
-    (other _ _ _ _ _ c.is_read4.ensures c.if-is_read4.false
-    (other _ _ _ _ _ c.is_read6.ensures c.if-is_read6.false
-    (other _ _ _ _ _ c.is_read.ensures c.if-is_read.false
-    (other _ _ _ _ _ c.is_ends.ensures c.if-is_ends.false
-    refl))))
+pub returns-else-is_find : goal.returns-else-is_find
+unfolding one_word_request
+returns-else-is_find c =
+    let routes = routes_of c.args.routes.now in
+    other_reply routes routes _ _ _ _ _ _ c.is_drop.ensures c.if-is_drop.false
+    (other_reply routes routes _ _ _ _ _ _ c.is_find.ensures c.if-is_find.false (plain_reply routes _ _ _ c.plain_one.ensures))

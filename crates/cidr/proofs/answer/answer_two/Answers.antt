@@ -1,34 +1,14 @@
-use Rattle.std.proofs.Common.{refl}
-use Rattle.cidr.specs.Commands.{two_words_answer}
-use Rattle.cidr.proofs.Answers.{adds, chosen, other}
+use Rattle.cidr.specs.Private.Routes.{routes_of}
+use Rattle.cidr.specs.Requests.{two_words_request}
+use Rattle.cidr.proofs.Requests.{plain_reply, chosen_reply, other_reply}
 use Rattle.cidr.proofs.answer.answer_two.Goals as goal
 
-pub returns-then-is_has4 : goal.returns-then-is_has4
-unfolding two_words_answer
-returns-then-is_has4 c =
-    adds _ _ _ _ c.push.ensures
-    (chosen _ _ _ _ _ c.is_has4.ensures c.if-is_has4.true c.has4.ensures.text)
+pub returns-then-is_add : goal.returns-then-is_add
+unfolding two_words_request
+returns-then-is_add c = chosen_reply (routes_of c.args.routes.now) (routes_of c.add.new.routes) _ _ _ _ _ _ c.is_add.ensures c.if-is_add.true c.add.ensures
 
-pub returns-then-is_has : goal.returns-then-is_has
-unfolding two_words_answer
-returns-then-is_has c =
-    adds _ _ _ _ c.push-then-is_has.ensures
-    (other _ _ _ _ _ c.is_has4.ensures c.if-is_has4.false
-    (chosen _ _ _ _ _ c.is_has.ensures c.if-is_has.true c.has.ensures.text))
-
-pub returns-then-is_rel : goal.returns-then-is_rel
-unfolding two_words_answer
-returns-then-is_rel c =
-    adds _ _ _ _ c.push-then-is_rel.ensures
-    (other _ _ _ _ _ c.is_has4.ensures c.if-is_has4.false
-    (other _ _ _ _ _ c.is_has.ensures c.if-is_has.false
-    (chosen _ _ _ _ _ c.is_rel.ensures c.if-is_rel.true c.rel.ensures.text)))
-
-pub returns-else-is_rel : goal.returns-else-is_rel
-unfolding two_words_answer
-returns-else-is_rel c =
-    adds _ _ _ _ c.push-else-is_rel.ensures
-    (other _ _ _ _ _ c.is_has4.ensures c.if-is_has4.false
-    (other _ _ _ _ _ c.is_has.ensures c.if-is_has.false
-    (other _ _ _ _ _ c.is_rel.ensures c.if-is_rel.false
-    refl)))
+pub returns-else-is_add : goal.returns-else-is_add
+unfolding two_words_request
+returns-else-is_add c =
+    let routes = routes_of c.args.routes.now in
+    other_reply routes routes _ _ _ _ _ _ c.is_add.ensures c.if-is_add.false (plain_reply routes _ _ _ c.plain_two.ensures)

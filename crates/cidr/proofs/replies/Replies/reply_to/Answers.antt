@@ -1,11 +1,9 @@
-use Rattle.std.proofs.Common.{◌∙◌, ◌++◌, ap, sym}
-use Rattle.cidr.specs.Private.Replies.{gathered}
-use Rattle.cidr.proofs.Kept.{reply_long, reply_short}
+use Rattle.cidr.specs.Private.Routes.{routes_of}
+use Rattle.cidr.proofs.Kept.{long_reply, short_reply}
 use Rattle.cidr.proofs.replies.Replies.reply_to.Goals as goal
 
 pub returns-then-line-gt-LINE_MAX : goal.returns-then-line-gt-LINE_MAX
-returns-then-line-gt-LINE_MAX c =
-    c.push.ensures ∙ ap (λ l. gathered c.args.self.now ++ l) (sym (reply_long c.args.line.now c.if-line-gt-LINE_MAX.true))
+returns-then-line-gt-LINE_MAX c = long_reply (routes_of c.args.routes.now) c.args.line.now _ _ c.if-line-gt-LINE_MAX.true c.push.ensures
 
 pub returns : goal.returns
-returns c = c.answer.ensures ∙ ap (λ l. gathered c.args.self.now ++ l) (sym (reply_short c.args.line.now c.if-line-gt-LINE_MAX.false))
+returns c = short_reply (routes_of c.args.routes.now) (routes_of c.answer.new.routes) c.args.line.now _ _ c.if-line-gt-LINE_MAX.false c.answer.ensures

@@ -1,0 +1,84 @@
+-- A line that asks nothing of the routes.
+use Rattle.std.proofs.Common.{◌≡◌, ◌≢◌, ℕ, inl, inr, true, false, cond, List, [], ◌∷◌, ◌++◌, length, codes, refl, sym, ap, ap₂, ◌∙◌, subst}
+use Rattle.std.specs.List.{flat_map, AllByRecursion}
+use Rattle.std.specs.Prelude.{bytes_eq, nat_lt}
+use Rattle.std.specs.Str.Lines.{lines}
+use Rattle.std.proofs.lemmas.Bool.{false_from_ne_true}
+use Rattle.std.proofs.lemmas.Slice.Eq.{bytes_eq-Decides}
+use Rattle.ipnetwork_addr.specs.Either.{ip_of}
+use Rattle.ipnetwork.specs.IpNetworkText.{ip_network_of}
+use Rattle.cidr.specs.Commands.{one_word_answer, two_words_answer, answer_to, command_answer}
+use Rattle.cidr.specs.Output.{MayGet, MayAnswer, reply, replies, answer_of}
+use Rattle.cidr.specs.OutputLaws.{IsPlainLine, PlainLinesAskNothing, PlainInputsHaveOneOutput}
+use Rattle.cidr.specs.Requests.{Request, Plain, adding, dropping, finding, number_of, one_word_request, two_words_request, request_in, request_of}
+use Rattle.cidr.specs.Routes.{Routes, no_routes}
+use Rattle.cidr.specs.Words.{words}
+
+differs : (xs ys : List ℕ) → xs ≢ ys → bytes_eq xs ys ≡ false
+differs xs ys apart = false_from_ne_true (bytes_eq xs ys) (λ e. apart ((bytes_eq-Decides xs ys).0 e))
+
+one_word : (command word : List ℕ) → command ≢ codes "drop" → command ≢ codes "find" → one_word_request command word ≡ Plain (one_word_answer command word)
+unfolding one_word_request
+one_word command word no_drop no_find =
+    let plain = Plain (one_word_answer command word) in
+    ap (λ b. cond b (dropping (ip_network_of word)) (cond (bytes_eq command (codes "find")) (finding (ip_of word)) plain)) (differs command (codes "drop") no_drop)
+    ∙ ap (λ b. cond b (finding (ip_of word)) plain) (differs command (codes "find") no_find)
+
+two_words : (command first second : List ℕ) → command ≢ codes "add" → two_words_request command first second ≡ Plain (two_words_answer command first second)
+unfolding two_words_request
+two_words command first second no_add =
+    ap (λ b. cond b (adding (ip_network_of first) (number_of second)) (Plain (two_words_answer command first second))) (differs command (codes "add") no_add)
+
+plain_words : (command : List ℕ) (others : List (List ℕ)) → command ≢ codes "add" → command ≢ codes "drop" → command ≢ codes "find"
+    → request_in (command ∷ others) ≡ Plain (answer_to (command ∷ others))
+unfolding request_in answer_to
+plain_words command [] no_add no_drop no_find = refl
+plain_words command (word ∷ []) no_add no_drop no_find = one_word command word no_drop no_find
+plain_words command (first ∷ second ∷ []) no_add no_drop no_find = two_words command first second no_add
+plain_words command (first ∷ second ∷ third ∷ others) no_add no_drop no_find = refl
+
+plain_request : (line : List ℕ) → IsPlainLine line → request_of line ≡ Plain (answer_of line)
+unfolding request_of answer_of command_answer
+plain_request line h =
+    let here : request_in (words line) ≡ Plain (answer_to (words line)) =
+    ap request_in h.cut ∙ plain_words h.command h.others h.no_add h.no_drop h.no_find ∙ ap (λ ws. Plain (answer_to ws)) (sym h.cut) in
+    elim (nat_lt 1024 (length line)) as (λ b. cond b (Plain (codes "line too long")) (request_in (words line)) ≡ Plain (cond b (codes "line too long") (answer_to (words line)))) [
+      | true ↦ refl
+      | false ↦ here
+    ]
+
+plain_gets : (text answer : List ℕ) (before after : Routes) → MayGet before (Plain text) answer after → (answer ≡ text) × (after ≡ before)
+plain_gets text answer before after (inl gets) = gets
+plain_gets text answer before after (inr out) = absurd out
+
+pub asks_nothing : PlainLinesAskNothing
+asks_nothing line answer before after plain = (
+  λ gets. plain_gets (answer_of line) answer before after (subst (λ (q : Request). MayGet before q answer after) (plain_request line plain) gets),
+  λ is. subst (λ (q : Request). MayGet before q answer after) (sym (plain_request line plain)) (inl is),
+)
+
+-- ---- such lines alone
+
+abbrev answers_of : List (List ℕ) → List ℕ
+answers_of ls = flat_map (λ line. reply (answer_of line)) ls
+
+pub plain_turns : (r s : Routes) (ls xs : List (List ℕ)) → AllByRecursion IsPlainLine ls → MayAnswer r ls xs s → (replies xs ≡ answers_of ls) × (s ≡ r)
+plain_turns r s [] [] plain turns = (refl, turns)
+plain_turns r s [] (x ∷ xs) plain turns = absurd turns
+plain_turns r s (l ∷ ls) [] plain turns = absurd turns
+plain_turns r s (l ∷ ls) (x ∷ xs) plain turns =
+    let first = (asks_nothing l x r turns.0 plain.0).0 turns.1 in
+    let rest = plain_turns turns.0 s ls xs plain.1 turns.2 in
+    (ap₂ (λ a b. reply a ++ b) first.0 rest.0, rest.1 ∙ first.1)
+
+plain_answered : (r : Routes) (ls : List (List ℕ)) → AllByRecursion IsPlainLine ls → (xs : List (List ℕ)) × MayAnswer r ls xs r × (replies xs ≡ answers_of ls)
+plain_answered r [] plain = ([], refl, refl)
+plain_answered r (l ∷ ls) plain =
+    let rest = plain_answered r ls plain.1 in
+    (answer_of l ∷ rest.0, (r, (asks_nothing l (answer_of l) r r plain.0).1 (refl, refl), rest.1), ap (λ b. reply (answer_of l) ++ b) rest.2)
+
+pub one_output : PlainInputsHaveOneOutput
+one_output input output plain = (
+  λ h. h.1.2 ∙ (plain_turns no_routes h.0 (lines input) h.1.0 plain h.1.1).0,
+  λ is. let some = plain_answered no_routes (lines input) plain in (no_routes, (some.0, some.1, is ∙ sym some.2)),
+)

@@ -1,0 +1,119 @@
+-- The laws of outputs.
+use Rattle.std.specs.Prelude.{◌≡◌, ◌≢◌, ◌↔◌, ℕ, nat_le, if◌then◌else◌, List, [], ◌∷◌, ◌++◌, Option, None, Some, codes}
+use Rattle.std.specs.FinMap.{entries}
+use Rattle.std.specs.List.{flat_map, AllByRecursion}
+use Rattle.std.specs.Str.Lines.{lines}
+use Rattle.ipnetwork_addr.specs.Ipv4Text.{canonical_v4}
+use Rattle.ipnetwork_addr.specs.Ipv6Canonical.{canonical_v6}
+use Rattle.ipnetwork_addr.specs.declared.ip.IpAddr.{IpAddr}
+use Rattle.ipnetwork_addr.specs.declared.ip.IpAddr.TheVariants.{V4, V6}
+use Rattle.ipnetwork_family.specs.Network.{Network, is_member}
+use Rattle.cidr.specs.Finding.{found_text}
+use Rattle.cidr.specs.Output.{added, dropped, out_of_memory, Gets, MayGet, InTurn, MayAnswer, reply, replies, IsOutputFrom, IsOutput, answer_of}
+use Rattle.cidr.specs.Requests.{Request, Add, Drop, Find, Plain, request_of}
+use Rattle.cidr.specs.Routes.{Routes, no_routes, number_at, with_number, without}
+use Rattle.cidr.specs.Words.{words}
+
+-- ---- the output where no `add` is out of memory, computed
+
+-- of an entry and another, if there is one, the one of the longer prefix
+abbrev pub longer : Network × ℕ → Option (Network × ℕ) → Option (Network × ℕ)
+longer entry None = Some entry
+longer entry (Some other) = if nat_le other.0.prefix entry.0.prefix then Some entry else Some other
+
+-- of the entries whose block holds the address, the one of the longest prefix
+abbrev pub longest_of : ℕ → ℕ → List (Network × ℕ) → Option (Network × ℕ)
+longest_of w address [] = None
+longest_of w address (entry ∷ others) =
+    if is_member w entry.0 address then longer entry (longest_of w address others) else longest_of w address others
+
+abbrev pub find_answer : Routes → IpAddr → List ℕ
+find_answer routes (V4 address) = found_text canonical_v4 (longest_of 32 address (entries routes.v4))
+find_answer routes (V6 address) = found_text canonical_v6 (longest_of 128 address (entries routes.v6))
+
+-- what a request gets, and the routes that it leaves
+abbrev pub request_answer : Routes → Request → List ℕ
+request_answer routes (Add network number) = added (number_at routes network)
+request_answer routes (Drop network) = dropped (number_at routes network)
+request_answer routes (Find address) = find_answer routes address
+request_answer routes (Plain text) = text
+
+abbrev pub next_routes : Routes → Request → Routes
+next_routes routes (Add network number) = with_number routes network number
+next_routes routes (Drop network) = without routes network
+next_routes routes (Find address) = routes
+next_routes routes (Plain text) = routes
+
+-- what these lines get, one after the other
+abbrev pub answers_from : Routes → List (List ℕ) → List (List ℕ)
+answers_from routes [] = []
+answers_from routes (line ∷ lines) =
+    request_answer routes (request_of line) ∷ answers_from (next_routes routes (request_of line)) lines
+
+abbrev pub output_of : List ℕ → List ℕ
+output_of input = replies (answers_from no_routes (lines input))
+
+-- what is written for an input where no `add` is out of memory
+abbrev pub IsFullOutput : List ℕ → List ℕ → Type 0
+IsFullOutput input output = (answers : List (List ℕ)) × (after : Routes) × InTurn Gets no_routes (lines input) answers after × (output ≡ replies answers)
+
+-- is the computed output, and no other;
+abbrev pub FullIsComputed : Type 0
+FullIsComputed = (input output : List ℕ) → IsFullOutput input output ↔ (output ≡ output_of input)
+
+-- it may be written;
+abbrev pub ComputedIsAllowed : Type 0
+ComputedIsAllowed = (input : List ℕ) → IsOutput input (output_of input)
+
+-- and an output that may be written, of which no answer is `out of memory`,
+abbrev pub IsUnrefusedOutput : List ℕ → List ℕ → Type 0
+IsUnrefusedOutput input output = (answers : List (List ℕ)) × (after : Routes) × MayAnswer no_routes (lines input) answers after
+    × (output ≡ replies answers) × AllByRecursion (λ answer. answer ≢ out_of_memory) answers
+
+-- is no other
+abbrev pub UnrefusedIsComputed : Type 0
+UnrefusedIsComputed = (input output : List ℕ) → IsUnrefusedOutput input output → output ≡ output_of input
+
+-- ---- the commands that ask nothing of the routes
+
+-- the line's first word is none of `add`, `drop` and `find`
+pub record IsPlainLine (line : List ℕ) : Type 0 where
+  pub command : List ℕ
+  pub others : List (List ℕ)
+  pub cut : words line ≡ command ∷ others
+  pub no_add : command ≢ codes "add"
+  pub no_drop : command ≢ codes "drop"
+  pub no_find : command ≢ codes "find"
+
+-- such a line has one answer, whatever the routes are, and leaves them
+abbrev pub PlainLinesAskNothing : Type 0
+PlainLinesAskNothing = (line answer : List ℕ) (before after : Routes) → IsPlainLine line
+    → MayGet before (request_of line) answer after ↔ ((answer ≡ answer_of line) × (after ≡ before))
+
+-- so an input of such lines alone has one output: for each line its answer and a line feed
+abbrev pub plain_output : List ℕ → List ℕ
+plain_output input = flat_map (λ line. reply (answer_of line)) (lines input)
+
+abbrev pub PlainInputsHaveOneOutput : Type 0
+PlainInputsHaveOneOutput = (input output : List ℕ) → AllByRecursion IsPlainLine (lines input) → IsOutput input output ↔ (output ≡ plain_output input)
+
+-- ---- an input in two parts
+
+-- the input is cut directly behind a line feed
+abbrev pub EndsALine : List ℕ → Type 0
+EndsALine front = (text : List ℕ) × (front ≡ text ++ 10 ∷ [])
+
+-- what may be written for both parts is what may be written for the first, and then what may be written for the second
+-- from the routes on that the first leaves
+abbrev pub IsOutputInParts : Routes → List ℕ → List ℕ → List ℕ → Routes → Type 0
+IsOutputInParts before front back output after = (between : Routes) × (one : List ℕ) × (two : List ℕ)
+    × IsOutputFrom before front one between × IsOutputFrom between back two after × (output ≡ one ++ two)
+
+abbrev pub SplitsAtLineEnds : Type 0
+SplitsAtLineEnds = (front back output : List ℕ) (before after : Routes) → EndsALine front
+    → IsOutputFrom before (front ++ back) output after ↔ IsOutputInParts before front back output after
+
+-- where the first part has none of the three commands, each part may be run by itself
+abbrev pub PlainPartsRunAlone : Type 0
+PlainPartsRunAlone = (front back output : List ℕ) → EndsALine front → AllByRecursion IsPlainLine (lines front)
+    → IsOutput (front ++ back) output ↔ ((one : List ℕ) × (two : List ℕ) × IsOutput front one × IsOutput back two × (output ≡ one ++ two))

@@ -1,0 +1,66 @@
+-- What a line asks of the routes.
+use Rattle.std.specs.Prelude.{ℕ, nat_le, nat_lt, if◌then◌else◌, List, [], ◌∷◌, Option, None, Some, Result, Ok, Err, length, codes, bytes_eq}
+use Rattle.ipnetwork_addr.specs.Either.{ip_of}
+use Rattle.ipnetwork_addr.specs.declared.ip.IpAddr.{IpAddr}
+use Rattle.ipnetwork_family.specs.PrefixNumber.{prefix_number_of}
+use Rattle.ipnetwork_family.specs.declared.error.CidrFault.{CidrFault}
+use Rattle.ipnetwork.specs.IpNetworkText.{ip_network_of}
+use Rattle.ipnetwork.specs.declared.ip_network.IpNetwork.{IpNetwork}
+use Rattle.cidr.specs.Commands.{one_word_answer, two_words_answer, unknown}
+use Rattle.cidr.specs.EitherCommands.{refused}
+use Rattle.cidr.specs.Words.{words}
+
+-- what a line asks
+pub data Request : Type 0 where
+  -- that the network's block have the number
+  Add : (network : IpNetwork) (number : ℕ) → Request
+  -- that the network's block have none
+  Drop : (network : IpNetwork) → Request
+  -- for the longest block that holds the address
+  Find : (address : IpAddr) → Request
+  -- nothing of the routes: this is its answer, whatever they are
+  Plain : (answer : List ℕ) → Request
+
+-- the number that a text names, if it has at most 32 bits: an optional `+` and decimal digits
+abbrev pub within_32_bits : Option ℕ → Option ℕ
+within_32_bits None = None
+within_32_bits (Some number) = if nat_le number 4294967295 then Some number else None
+
+unfoldable pub number_of : List ℕ → Option ℕ
+number_of text = within_32_bits (prefix_number_of text)
+
+-- `add T N`: the block of the network that T names gets the number that N names; T is judged first
+abbrev pub adding : Result IpNetwork CidrFault → Option ℕ → Request
+adding (Err fault) number = Plain refused
+adding (Ok network) None = Plain refused
+adding (Ok network) (Some number) = Add network number
+
+-- `drop T`: the block of the network that T names is taken out
+abbrev pub dropping : Result IpNetwork CidrFault → Request
+dropping (Err fault) = Plain refused
+dropping (Ok network) = Drop network
+
+-- `find A`: the longest block that holds the address that A names is told
+abbrev pub finding : Option IpAddr → Request
+finding None = Plain refused
+finding (Some address) = Find address
+
+-- the commands that are asked of one word, and of two
+unfoldable pub one_word_request : List ℕ → List ℕ → Request
+one_word_request command word =
+    if bytes_eq command (codes "drop") then dropping (ip_network_of word)
+    else (if bytes_eq command (codes "find") then finding (ip_of word) else Plain (one_word_answer command word))
+
+unfoldable pub two_words_request : List ℕ → List ℕ → List ℕ → Request
+two_words_request command first second =
+    if bytes_eq command (codes "add") then adding (ip_network_of first) (number_of second) else Plain (two_words_answer command first second)
+
+-- what the words of a line ask, by their number
+unfoldable pub request_in : List (List ℕ) → Request
+request_in (command ∷ word ∷ []) = one_word_request command word
+request_in (command ∷ first ∷ second ∷ []) = two_words_request command first second
+request_in _ = Plain unknown
+
+-- what a line asks. One of more than 1,024 bytes is too long, whatever its words are
+unfoldable pub request_of : List ℕ → Request
+request_of line = if nat_lt 1024 (length line) then Plain (codes "line too long") else request_in (words line)

@@ -1,0 +1,71 @@
+//! The routes that a run keeps.
+ghost use Rattle.std.specs.Prelude.{◌≡◌, None, OnErr, IfOk};
+ghost use Rattle.ipnetwork_table.specs.Laws.{Answers};
+ghost use Rattle.cidr.specs.Private.Routes.{routes_of};
+ghost use Rattle.cidr.specs.Routes.{no_routes, number_at, with_number, without};
+
+use ipnetwork::{IpNetwork, Ipv4Addr, Ipv4Network, Ipv6Addr, Ipv6Network};
+use ipnetwork_table::PrefixTable;
+use std::alloc::{AllocError, Global};
+
+/// Numbers under blocks, in a table for each family.
+#[derive(Drop)]
+pub(crate) struct RouteTables {
+    v4: PrefixTable<Ipv4Network, u32>,
+    v6: PrefixTable<Ipv6Network, u32>,
+}
+
+impl RouteTables {
+    /// No routes. Does not allocate.
+    pub(crate) fn new(alloc: Global) -> RouteTables
+        ensures { routes_of result ≡ no_routes }
+    {
+        RouteTables {
+            v4: PrefixTable::new(alloc),
+            v6: PrefixTable::new(alloc),
+        }
+    }
+
+    /// Gives the block of a network a number, and answers the one that it had.
+    ///
+    /// Allocates for a new block alone. Where that is out of memory the routes are as before.
+    pub(crate) fn insert(
+        &mut self,
+        network: IpNetwork,
+        number: u32,
+    ) -> Result<Option<u32>, AllocError>
+        ensures ok { IfOk result (λ old. (old ≡ number_at (routes_of self.old) network)
+            × (routes_of self.new ≡ with_number (routes_of self.old) network number)) }
+        ensures err { OnErr result ((number_at (routes_of self.old) network ≡ None) × (routes_of self.new ≡ routes_of self.old)) }
+    {
+        match network {
+            IpNetwork::V4(network) => Ok(self.v4.insert(network, number)?),
+            IpNetwork::V6(network) => Ok(self.v6.insert(network, number)?),
+        }
+    }
+
+    /// Takes the block of a network out, and answers the number that it had.
+    pub(crate) fn remove(&mut self, network: IpNetwork) -> Option<u32>
+        ensures old { result ≡ number_at (routes_of self.old) network }
+        ensures removed { routes_of self.new ≡ without (routes_of self.old) network }
+    {
+        match network {
+            IpNetwork::V4(network) => self.v4.remove(network),
+            IpNetwork::V6(network) => self.v6.remove(network),
+        }
+    }
+
+    /// The longest block that holds an IPv4 address, and its number.
+    pub(crate) fn find_v4(&self, address: Ipv4Addr) -> Option<(Ipv4Network, u32)>
+        ensures { Answers 32 (routes_of self.now).v4 address result }
+    {
+        self.v4.lookup(address)
+    }
+
+    /// The longest block that holds an IPv6 address, and its number.
+    pub(crate) fn find_v6(&self, address: Ipv6Addr) -> Option<(Ipv6Network, u32)>
+        ensures { Answers 128 (routes_of self.now).v6 address result }
+    {
+        self.v6.lookup(address)
+    }
+}
