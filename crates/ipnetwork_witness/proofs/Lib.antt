@@ -1,0 +1,9 @@
+pub mod Agreements
+pub mod Bridge
+pub mod ColonHex
+pub mod Colons
+pub mod Digits
+pub mod Dotted
+pub mod HexText
+pub mod PrintedV6
+pub mod SameAddresses

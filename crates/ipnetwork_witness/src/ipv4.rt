@@ -1,0 +1,52 @@
+//! Both readers of IPv4 addresses on one text, and whether they agree.
+ghost use Rattle.std.specs.Prelude.{◌↔◌, IsTrue};
+ghost use Rattle.std.specs.Net.Grammar.{Parses, IsIpv4Text};
+ghost use Rattle.ipnetwork_addr.specs.Ipv4Text.{NamesV4};
+ghost use Rattle.ipnetwork_addr.specs.Reading.{Reads};
+ghost use Rattle.ipnetwork_witness.specs.Agreement.{Agree, SameV4};
+
+use crate::laws;
+use ipnetwork_addr::{AddrParseError, Ipv4Addr, laws as addresses};
+use std::net;
+
+/// What the two readers of IPv4 addresses answer to a text, this library's and std's, which agree. Does
+/// not allocate.
+pub fn read_v4(
+    text: &[u8],
+) -> (
+    Result<Ipv4Addr, AddrParseError>,
+    Result<net::Ipv4Addr, net::AddrParseError>,
+)
+    ensures ours { Reads NamesV4 AddrParseError.Ipv4 text.now result.0 }
+    ensures theirs { Parses IsIpv4Text text.now result.1 }
+    ensures agree { Agree SameV4 result.0 result.1 }
+{
+    laws::v4_texts_are_shared();
+    addresses::v4_text_names_one();
+    (Ipv4Addr::read_bytes(text), net::Ipv4Addr::parse_ascii(text))
+}
+
+/// Whether two answers agree: addresses of the same four octets, or two errors. Does not allocate.
+pub fn agree_v4(
+    ours: &Result<Ipv4Addr, AddrParseError>,
+    theirs: &Result<net::Ipv4Addr, net::AddrParseError>,
+) -> bool
+    ensures { IsTrue result ↔ Agree SameV4 ours.now theirs.now }
+{
+    match ours {
+        Ok(address) => match theirs {
+            Ok(other) => address.octets() == other.octets(),
+            Err(_) => false,
+        },
+        Err(_) => theirs.is_err(),
+    }
+}
+
+/// Whether the two readers agree on a text as an IPv4 address: both answer the same octets, or both
+/// refuse it. They do, on every text. Does not allocate.
+pub fn same_v4(text: &[u8]) -> bool
+    ensures { IsTrue result }
+{
+    let (ours, theirs) = read_v4(text);
+    agree_v4(&ours, &theirs)
+}

@@ -1,0 +1,52 @@
+//! Both readers of IPv6 addresses on one text, and whether they agree.
+ghost use Rattle.std.specs.Prelude.{◌↔◌, IsTrue};
+ghost use Rattle.std.specs.Net.Grammar.{Parses, IsIpv6Text};
+ghost use Rattle.ipnetwork_addr.specs.Ipv6Text.{NamesV6};
+ghost use Rattle.ipnetwork_addr.specs.Reading.{Reads};
+ghost use Rattle.ipnetwork_witness.specs.Agreement.{Agree, SameV6};
+
+use crate::laws;
+use ipnetwork_addr::{AddrParseError, Ipv6Addr, laws as addresses};
+use std::net;
+
+/// What the two readers of IPv6 addresses answer to a text, this library's and std's, which agree. Does
+/// not allocate.
+pub fn read_v6(
+    text: &[u8],
+) -> (
+    Result<Ipv6Addr, AddrParseError>,
+    Result<net::Ipv6Addr, net::AddrParseError>,
+)
+    ensures ours { Reads NamesV6 AddrParseError.Ipv6 text.now result.0 }
+    ensures theirs { Parses IsIpv6Text text.now result.1 }
+    ensures agree { Agree SameV6 result.0 result.1 }
+{
+    laws::v6_texts_are_shared();
+    addresses::v6_text_names_one();
+    (Ipv6Addr::read_bytes(text), net::Ipv6Addr::parse_ascii(text))
+}
+
+/// Whether two answers agree: addresses of the same eight groups, or two errors. Does not allocate.
+pub fn agree_v6(
+    ours: &Result<Ipv6Addr, AddrParseError>,
+    theirs: &Result<net::Ipv6Addr, net::AddrParseError>,
+) -> bool
+    ensures { IsTrue result ↔ Agree SameV6 ours.now theirs.now }
+{
+    match ours {
+        Ok(address) => match theirs {
+            Ok(other) => address.segments() == other.segments(),
+            Err(_) => false,
+        },
+        Err(_) => theirs.is_err(),
+    }
+}
+
+/// Whether the two readers agree on a text as an IPv6 address: both answer the same groups, or both
+/// refuse it. They do, on every text. Does not allocate.
+pub fn same_v6(text: &[u8]) -> bool
+    ensures { IsTrue result }
+{
+    let (ours, theirs) = read_v6(text);
+    agree_v6(&ours, &theirs)
+}

@@ -1,0 +1,20 @@
+//! A second witness of the definitions of IP addresses.
+//!
+//! std's addresses are proved against a grammar that other hands wrote. Here the definitions of
+//! `ipnetwork_addr` are held against it: the laws say that both name the same addresses and print the
+//! same texts, and `same_v4` and `same_v6` read a text with both readers. No other crate uses this one.
+//!
+//! Both sides take the text of a decimal number, and what a numeral is and its value, from the same
+//! definitions of std. An error in those would pass here.
+//!
+//! Nothing here allocates.
+#![tactic(auto)]
+
+mod ipv4;
+mod ipv6;
+pub mod laws;
+#[cfg(test)]
+mod tests;
+
+pub use ipv4::{agree_v4, read_v4, same_v4};
+pub use ipv6::{agree_v6, read_v6, same_v6};
