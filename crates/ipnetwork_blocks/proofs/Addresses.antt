@@ -1,0 +1,61 @@
+-- Addresses of a family are compared as their numbers.
+use Rattle.std.proofs.Common.{◌≡◌, ◌≢◌, ℕ, Bool, true, false, not, ◌==◌, ◌&&◌, ap, sym, refl, ◌∙◌, arith}
+use Rattle.std.proofs.lemmas.Bool.{eqb-true, eq-eqb, and_parts, true≢false}
+use Rattle.std.specs.Cmp.{unsigned_tied}
+use Rattle.std.specs.Ordering.{nat_cmp, is_eq, eq_by_cmp, ordering_then}
+use Rattle.std.specs.declared.cmp.Ordering.{Ordering}
+use Rattle.std.specs.declared.cmp.Ordering.TheVariants.{Less, Equal, Greater}
+use Rattle.ipnetwork_family.specs.Network.{Network, network_cmp}
+
+module _ {A : Type 0} (eq : A → A → Bool) (cmp : A → A → Ordering) (number : A → ℕ) where
+  same_test : ((x y : A) → eq x y ≡ eq_by_cmp cmp x y) → ((x y : A) → cmp x y ≡ nat_cmp (number x) (number y)) → (x y : A)
+      → eq x y ≡ (number x == number y)
+  same_test matches order x y = matches x y ∙ ap is_eq (order x y) ∙ unsigned_tied (number x) (number y)
+
+  -- what `!=` answers
+  pub differ_not : ((x y : A) → eq x y ≡ eq_by_cmp cmp x y) → ((x y : A) → cmp x y ≡ nat_cmp (number x) (number y)) → (x y : A) (answer : Bool)
+      → answer ≡ not (eq x y) → answer ≡ false → number x ≡ number y
+  differ_not matches order x y answer is told =
+      let same = same_test matches order x y in
+      eqb-true (number x) (number y) (grind (arith, same, is, told))
+
+  pub differ : ((x y : A) → eq x y ≡ eq_by_cmp cmp x y) → ((x y : A) → cmp x y ≡ nat_cmp (number x) (number y)) → (x y : A) (answer : Bool)
+      → answer ≡ not (eq x y) → answer ≡ true → number x ≢ number y
+  differ matches order x y answer is told e =
+      let same = same_test matches order x y in
+      let t = eq-eqb (number x) (number y) e in
+      grind (arith, same, is, told, t)
+
+-- networks of a family are compared by address and prefix length
+both_equal : (o p : Ordering) → is_eq (ordering_then o p) ≡ (is_eq o && is_eq p)
+both_equal Less p = refl
+both_equal Equal p = refl
+both_equal Greater p = refl
+
+module _ {A : Type 0} (eq : A → A → Bool) (cmp : A → A → Ordering) (pair : A → Network) where
+  same_network_test : ((x y : A) → eq x y ≡ eq_by_cmp cmp x y) → ((x y : A) → cmp x y ≡ network_cmp (pair x) (pair y)) → (x y : A)
+      → eq x y ≡ (((pair x).address == (pair y).address) && ((pair x).prefix == (pair y).prefix))
+  same_network_test matches order x y =
+      let a : Ordering = nat_cmp (pair x).address (pair y).address in
+      let b : Ordering = nat_cmp (pair x).prefix (pair y).prefix in
+      matches x y ∙ ap is_eq (order x y) ∙ both_equal a b
+      ∙ ap (λ k. k && is_eq b) (unsigned_tied (pair x).address (pair y).address) ∙ ap (λ k. ((pair x).address == (pair y).address) && k) (unsigned_tied (pair x).prefix (pair y).prefix)
+
+  -- what `==` answers
+  pub same_network : ((x y : A) → eq x y ≡ eq_by_cmp cmp x y) → ((x y : A) → cmp x y ≡ network_cmp (pair x) (pair y)) → (x y : A) (answer : Bool)
+      → answer ≡ eq x y → answer ≡ true → pair x ≡ pair y
+  same_network matches order x y answer is told =
+      let a : Bool = (pair x).address == (pair y).address in
+      let b : Bool = (pair x).prefix == (pair y).prefix in
+      let both = and_parts a b (sym (same_network_test matches order x y) ∙ sym is ∙ told) in
+      let of : ℕ → ℕ → Network = λ address prefix. record { address = address; prefix = prefix } in
+      ap (λ k. of k (pair x).prefix) (eqb-true (pair x).address (pair y).address both.0) ∙ ap (of (pair y).address) (eqb-true (pair x).prefix (pair y).prefix both.1)
+
+  -- and of networks of one prefix length
+  pub other_network : ((x y : A) → eq x y ≡ eq_by_cmp cmp x y) → ((x y : A) → cmp x y ≡ network_cmp (pair x) (pair y)) → (x y : A) (answer : Bool)
+      → answer ≡ eq x y → answer ≡ false → (pair x).prefix ≡ (pair y).prefix → (pair x).address ≢ (pair y).address
+  other_network matches order x y answer is told length at =
+      let same = same_network_test matches order x y in
+      let t = eq-eqb (pair x).address (pair y).address at in
+      let u = eq-eqb (pair x).prefix (pair y).prefix length in
+      true≢false (sym (ap (λ k. k && ((pair x).prefix == (pair y).prefix)) t ∙ u) ∙ sym same ∙ sym is ∙ told)

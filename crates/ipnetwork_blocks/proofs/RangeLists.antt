@@ -1,0 +1,245 @@
+-- The blocks of a range are its least list.
+use Rattle.std.proofs.Common.{◌≡◌, ◌↔◌, ℕ, zero, suc, ◌+◌, ◌-◌, ◌^◌, ◌<◌, ◌≤◌, ◌⊎◌, inl, inr, sym, refl, ap, subst, ◌∙◌, arith, ⊎_elim, List, [], ◌∷◌, ◌++◌, length, Some, Bool, true, false, leb, ◌&&◌, cond}
+use Rattle.std.proofs.lemmas.Bool.{cases_lt, leb-true, le-leb, and_parts}
+use Rattle.std.proofs.lemmas.Nat.{pow_pos}
+use Rattle.std.specs.Iterator.{MakesProgress, item_count}
+use Rattle.ipnetwork_family.specs.Network.{Network, IsNetwork, Member, low, high, Subnet}
+use Rattle.ipnetwork_family.proofs.Blocks.{size_pos, has_ends, within_member, member_within, subnet_from, shares_address, nested}
+use Rattle.ipnetwork_blocks.specs.LeastList.{LiesIn, IsMaximalIn, IsLeastList}
+use Rattle.ipnetwork_blocks.specs.Ranges.{FromTo}
+use Rattle.ipnetwork_blocks.specs.Private.RangeList.{blocks_within, blocks_from_to}
+use Rattle.ipnetwork_blocks.proofs.BlocksAt.{block_at, block_at_network, block_at_block, block_at_holds, block_at_subnet, block_from, Begins, from_network, from_block, in_from, from_in, twice, lower_begins, upper_begins}
+use Rattle.ipnetwork_blocks.proofs.LeastLists.{own_address, least_of_same, least_unique, least_of_none, least_of_one, least_of_two}
+
+-- ---- the list by halves
+
+-- the addresses from first to last that lie in a block with k host bits
+abbrev pub Part : ℕ → ℕ → ℕ → ℕ → ℕ → Type 0
+Part k base first last x = ((first ≤ x) × (x ≤ last)) × ((base ≤ x) × (x < base + 2 ^ k))
+
+cond_by : {X : Type 0} (P : X → Type 0) (t : Bool) (x y : X) → (t ≡ true → P x) → (t ≡ false → P y) → P (cond t x y)
+cond_by P true x y f g = f refl
+cond_by P false x y f g = g refl
+
+not_both : (a b c d : ℕ) → leb a b && leb c d ≡ false → a ≤ b → c ≤ d → ⊥
+not_both a b c d e h k = let t : leb a b && leb c d ≡ true = ap (λ x. x && leb c d) (le-leb a b h) ∙ le-leb c d k in cc
+
+-- the whole block lies in the range
+pub whole_part : (w k base first last : ℕ) → Begins w k base → leb first base && leb (base + 2 ^ k) (last + 1) ≡ true
+    → IsLeastList w (Part k base first last) (block_from w k base ∷ [])
+whole_part w k base first last h t =
+    let both = and_parts (leb first base) (leb (base + 2 ^ k) (last + 1)) t in
+    let from : first ≤ base = leb-true first base both.0 in
+    let to : base + 2 ^ k ≤ last + 1 = leb-true (base + 2 ^ k) (last + 1) both.1 in
+    least_of_same w (Member w (block_from w k base)) (Part k base first last) (block_from w k base ∷ [])
+    (λ x. (
+      (λ m. let i = in_from w k base x h m in ((omega arith, omega arith), (i.0, i.1))),
+      (λ p. from_in w k base x h p.1.0 p.1.1),
+    ))
+    (least_of_one w (block_from w k base) (from_network w k base h) (from_block w k base h))
+
+-- one address that does not
+no_part : (w base first last : ℕ) → leb first base && leb (base + 2 ^ 0) (last + 1) ≡ false → IsLeastList w (Part 0 base first last) []
+no_part w base first last t =
+    least_of_none w (Part 0 base first last)
+    (λ x p. let a = p.0.0 in let b = p.0.1 in let c = p.1.0 in let d = p.1.1 in not_both first base (base + 2 ^ 0) (last + 1) t (omega arith) (omega arith))
+
+-- a network of the range within a block that does not lie in the range: it lies in one of the halves
+in_a_half : (w k base first last : ℕ) → Begins w (suc k) base → leb first base && leb (base + 2 ^ suc k) (last + 1) ≡ false
+    → (n : Network) → IsNetwork w n → LiesIn w (Part (suc k) base first last) n
+    → LiesIn w (Part k base first last) n ⊎ LiesIn w (Part k (base + 2 ^ k) first last) n
+in_a_half w k base first last h t n nn lies =
+    let own : Member w n n.address = own_address w n nn in
+    let at : Part (suc k) base first last n.address = lies n.address own in
+    let wide : Network = block_from w (suc k) base in
+    let wn : IsNetwork w wide = from_network w (suc k) base h in
+    let bits = h.bits in
+    let two = twice k in
+    let pos = pow_pos k in
+    let from = at.1.0 in
+    let to = at.1.1 in
+    let lower = lower_begins w k base h in
+    let upper = upper_begins w k base h in
+    let Goal : Type 0 = LiesIn w (Part k base first last) n ⊎ LiesIn w (Part k (base + 2 ^ k) first last) n in
+    ⊎_elim
+    (λ (short : n.prefix < w - k).
+    let inside : Member w wide n.address = from_in w (suc k) base n.address h from to in
+    let sub : Subnet w wide n = subnet_from w wide n wn (omega arith) (shares_address w wide n n.address (omega arith) wn nn inside own) in
+    let first_in = lies base (sub base (from_in w (suc k) base base h (omega arith) (omega arith))) in
+    let end : ℕ = base + 2 ^ suc k - 1 in
+    let last_in = lies end (sub end (from_in w (suc k) base end h (omega arith) (omega arith))) in
+    let a = first_in.0.0 in
+    let b = last_in.0.1 in
+    let r : Goal = absurd (not_both first base (base + 2 ^ suc k) (last + 1) t a (omega arith)) in r)
+    (λ (long : w - k ≤ n.prefix). ⊎_elim
+    (λ (l : n.address < base + 2 ^ k).
+    let sub : Subnet w n (block_from w k base) = subnet_from w n (block_from w k base) nn long (from_in w k base n.address lower from l) in
+    inl (λ x m. let p = lies x m in (p.0, in_from w k base x lower (sub x m))))
+    (λ (l : base + 2 ^ k ≤ n.address).
+    let sub : Subnet w n (block_from w k (base + 2 ^ k)) = subnet_from w n (block_from w k (base + 2 ^ k)) nn long (from_in w k (base + 2 ^ k) n.address upper l (omega arith)) in
+    inr (λ x m. let p = lies x m in (p.0, in_from w k (base + 2 ^ k) x upper (sub x m))))
+    (cases_lt n.address (base + 2 ^ k)))
+    (cases_lt n.prefix (w - k))
+
+halves : (k base first last x : ℕ) → Part (suc k) base first last x ↔ (Part k base first last x ⊎ Part k (base + 2 ^ k) first last x)
+halves k base first last x =
+    let two = twice k in (
+      (λ p.
+          let from = p.1.0 in
+          let to = p.1.1 in
+          ⊎_elim
+          (λ (l : x < base + 2 ^ k). inl (p.0, (from, l)))
+          (λ (l : base + 2 ^ k ≤ x). inr (p.0, (l, omega arith)))
+          (cases_lt x (base + 2 ^ k))),
+      (λ o. ⊎_elim
+          (λ (p : Part k base first last x). let a = p.1.0 in let b = p.1.1 in (p.0, (a, omega arith)))
+          (λ (p : Part k (base + 2 ^ k) first last x). let a = p.1.0 in let b = p.1.1 in (p.0, (omega arith, omega arith)))
+          o),
+    )
+
+pub least_within : (w k base first last : ℕ) → Begins w k base → IsLeastList w (Part k base first last) (blocks_within w k base first last)
+unfolding blocks_within
+least_within w zero base first last h =
+    let none : w - 0 ≡ w = omega arith in
+    cond_by (IsLeastList w (Part 0 base first last)) (leb first base && leb (base + 1) (last + 1)) (record { address = base; prefix = w } ∷ []) []
+    (λ t. subst (λ (p : ℕ). IsLeastList w (Part 0 base first last) (record { address = base; prefix = p } ∷ [])) none (whole_part w 0 base first last h t))
+    (λ t. no_part w base first last t)
+least_within w (suc k) base first last h =
+    cond_by (IsLeastList w (Part (suc k) base first last)) (leb first base && leb (base + 2 ^ suc k) (last + 1)) (block_from w (suc k) base ∷ [])
+    (blocks_within w k base first last ++ blocks_within w k (base + 2 ^ k) first last)
+    (λ t. whole_part w (suc k) base first last h t)
+    (λ t. least_of_two w (Part (suc k) base first last) (Part k base first last) (Part k (base + 2 ^ k) first last)
+    (blocks_within w k base first last) (blocks_within w k (base + 2 ^ k) first last)
+    (halves k base first last)
+    (λ x y p q. let a = p.1.1 in let b = q.1.0 in omega arith)
+    (in_a_half w k base first last h t)
+    (least_within w k base first last (lower_begins w k base h))
+    (least_within w k (base + 2 ^ k) first last (upper_begins w k base h)))
+
+pub least_from_to : (w first last : ℕ) → last < 2 ^ w → IsLeastList w (FromTo first last) (blocks_from_to w first last)
+least_from_to w first last fits =
+    least_of_same w (Part w 0 first last) (FromTo first last) (blocks_from_to w first last)
+    (λ x. ((λ p. p.0), (λ p. let l = p.1 in (p, (omega arith, omega arith)))))
+    (least_within w w 0 first last (record { times = 0; multiple = omega arith; bits = omega arith; fits = omega arith }))
+
+-- a range whose first address comes after its last has none
+pub least_from_after : (w first last : ℕ) → last < first → IsLeastList w (FromTo first last) []
+least_from_after w first last after = least_of_none w (FromTo first last) (λ x p. let l = p.0 in let k = p.1 in omega arith)
+
+-- ---- the first block, and the others
+
+-- a network of the range lies in its first maximal block, or behind it
+in_first_or_behind : (w first last : ℕ) (b : Network) → IsMaximalIn w (FromTo first last) b → b.address ≡ first
+    → (n : Network) → IsNetwork w n → LiesIn w (FromTo first last) n → LiesIn w (Member w b) n ⊎ LiesIn w (FromTo (high w b + 1) last) n
+in_first_or_behind w first last b m e n nn lies =
+    let ends = has_ends w n nn in
+    let begin = lies (low w n) ends.low_is_member in
+    let from = begin.0 in
+    let block = m.block in
+    let pos = size_pos w b.prefix in
+    ⊎_elim
+    (λ (l : low w n < high w b + 1).
+    let shared : Member w b (low w n) = member_within w b m.network (low w n) (omega arith) (omega arith) in
+    inl (⊎_elim
+    (λ (s : Subnet w n b). s)
+    (λ (s : Subnet w b n). ⊎_elim
+    (λ (wide : n.prefix < b.prefix). let r : Subnet w n b = absurd (m.maximal n nn wide s lies) in r)
+    (λ (le : b.prefix ≤ n.prefix). subnet_from w n b nn le (shares_address w n b (low w n) le nn m.network ends.low_is_member shared))
+    (cases_lt n.prefix b.prefix))
+    (nested w n b nn m.network (low w n, ends.low_is_member, shared))))
+    (λ (le : high w b + 1 ≤ low w n). inr (λ x k. let i = within_member w n x k in let f = lies x k in let c = i.0 in (omega arith, f.1)))
+    (cases_lt (low w n) (high w b + 1))
+
+pub least_after_first : (w first last : ℕ) (b : Network) (rest : List Network) → IsMaximalIn w (FromTo first last) b → b.address ≡ first
+    → IsLeastList w (FromTo (high w b + 1) last) rest → IsLeastList w (FromTo first last) (b ∷ rest)
+least_after_first w first last b rest m e h =
+    let block = m.block in
+    let pos = size_pos w b.prefix in
+    least_of_two w (FromTo first last) (Member w b) (FromTo (high w b + 1) last) (b ∷ []) rest
+    (λ x. (
+      (λ p.
+          let from = p.0 in
+          let to = p.1 in
+          ⊎_elim
+          (λ (l : x < high w b + 1). inl (member_within w b m.network x (omega arith) (omega arith)))
+          (λ (l : high w b + 1 ≤ x). inr (l, to))
+          (cases_lt x (high w b + 1))),
+      (λ o. ⊎_elim
+          (λ (k : Member w b x). m.lies x k)
+          (λ (p : FromTo (high w b + 1) last x). let from = p.0 in (omega arith, p.1))
+          o),
+    ))
+    (λ x y k p. let i = within_member w b x k in let to = i.1 in let from = p.0 in omega arith)
+    (in_first_or_behind w first last b m e)
+    (least_of_one w b m.network m.block)
+    h
+
+-- ---- a step of the iterator
+
+pub not_before : (a b : ℕ) → (a < b → ⊥) → b ≤ a
+not_before a b fails = ⊎_elim (λ (l : a < b). let r : b ≤ a = absurd (fails l) in r) (λ (le : b ≤ a). le) (cases_lt a b)
+
+-- where the first block ends with the range,
+pub ends_at_last : (w first last : ℕ) (done : Bool) (b : Network) (left : List Network) → done ≡ false → last < 2 ^ w → IsMaximalIn w (FromTo first last) b
+    → b.address ≡ first → last ≤ high w b → left ≡ [] → cond done [] (blocks_from_to w first last) ≡ b ∷ left
+ends_at_last w first last done b left more fits m e ends none =
+    let one : blocks_from_to w first last ≡ b ∷ [] =
+    least_unique w (FromTo first last) (blocks_from_to w first last) (b ∷ []) (least_from_to w first last fits)
+    (least_after_first w first last b [] m e (least_of_none w (FromTo (high w b + 1) last) (λ x p. let l = p.0 in let k = p.1 in omega arith))) in
+    ap (λ t. cond t [] (blocks_from_to w first last)) more ∙ one ∙ ap (λ r. b ∷ r) (sym none)
+
+-- and where it ends before
+pub goes_on : (w first last next : ℕ) (done : Bool) (b : Network) (left : List Network) → done ≡ false → last < 2 ^ w → IsMaximalIn w (FromTo first last) b
+    → b.address ≡ first → next ≡ high w b + 1 → left ≡ cond done [] (blocks_from_to w next last) → cond done [] (blocks_from_to w first last) ≡ b ∷ left
+goes_on w first last next done b left more fits m e at rest =
+    let behind : IsLeastList w (FromTo (high w b + 1) last) (blocks_from_to w next last) =
+    subst (λ (k : ℕ). IsLeastList w (FromTo k last) (blocks_from_to w next last)) at (least_from_to w next last fits) in
+    let both : blocks_from_to w first last ≡ b ∷ blocks_from_to w next last =
+    least_unique w (FromTo first last) (blocks_from_to w first last) (b ∷ blocks_from_to w next last) (least_from_to w first last fits)
+    (least_after_first w first last b (blocks_from_to w next last) m e behind) in
+    ap (λ t. cond t [] (blocks_from_to w first last)) more ∙ both
+    ∙ ap (λ r. b ∷ r) (sym (rest ∙ ap (λ t. cond t [] (blocks_from_to w next last)) more))
+
+-- the list falls by one
+pub list_falls : {X : Type 0} (s t : List Network) (b : Network) (x : X) → s ≡ b ∷ t → MakesProgress (λ _. Unit {0}) (item_count (λ left. left)) s (Some x) t
+list_falls s t b x e =
+    let l : length s ≡ suc (length t) = ap length e in
+    record { on = λ _. (tt, tt, omega (arith, l)); keeps = tt; rests = λ _. tt }
+
+-- ---- the widest block
+
+widest_is_maximal : (w first last p : ℕ) → first < 2 ^ w → p ≤ w → first ≤ low w (block_at w first p) → high w (block_at w first p) ≤ last
+    → ((0 < p) → (first ≤ low w (block_at w first (p - 1))) × (high w (block_at w first (p - 1)) ≤ last) → ⊥)
+    → IsMaximalIn w (FromTo first last) (block_at w first p)
+widest_is_maximal w first last p fits h from to wider =
+    let n : Network = block_at w first p in
+    let nn : IsNetwork w n = block_at_network w first p fits h in
+    record {
+      network = nn;
+      block = block_at_block w first p;
+      lies = λ x m. let i = (has_ends w n nn).within x m in let a = i.0 in let b = i.1 in (omega arith, omega arith);
+      maximal = λ c cn lt sub lies.
+          let d : Network = block_at w first (p - 1) in
+          let dn : IsNetwork w d = block_at_network w first (p - 1) fits (omega arith) in
+          let inside : Subnet w d c = block_at_subnet w first (p - 1) c (omega arith) (omega arith) (sub first (block_at_holds w first p fits)) in
+          let ends = has_ends w d dn in
+          let a = lies (low w d) (inside (low w d) ends.low_is_member) in
+          let b = lies (high w d) (inside (high w d) ends.high_is_member) in
+          wider (omega arith) (a.0, b.1);
+    }
+
+-- a block that begins at first is maximal, if it has prefix length 0
+pub maximal_of_all : (w first last p : ℕ) (b : Network) → b ≡ block_at w first p → p ≡ 0 → first < 2 ^ w → first ≤ low w b → high w b ≤ last
+    → IsMaximalIn w (FromTo first last) b
+maximal_of_all w first last p b is none fits from to =
+    let P : Network → Type 0 = λ n. first ≤ low w n → high w n ≤ last → IsMaximalIn w (FromTo first last) n in
+    subst P (sym is) (λ l m. widest_is_maximal w first last p fits (omega arith) l m (λ more lies. let r : ⊥ = omega arith in r)) from to
+
+-- or if d, the block of one bit less, has an address outside the range
+pub maximal_below : (w first last p : ℕ) (b d : Network) → b ≡ block_at w first p → d ≡ block_at w first (p - 1) → first < 2 ^ w → p ≤ w
+    → first ≤ low w b → high w b ≤ last → ((first ≤ low w d) × (high w d ≤ last) → ⊥)
+    → IsMaximalIn w (FromTo first last) b
+maximal_below w first last p b d is wider fits h from to outside =
+    let P : Network → Type 0 = λ n. first ≤ low w n → high w n ≤ last → IsMaximalIn w (FromTo first last) n in
+    let Lies : Network → Type 0 = λ n. (first ≤ low w n) × (high w n ≤ last) in
+    subst P (sym is) (λ l m. widest_is_maximal w first last p fits h l m (λ more lies. outside (subst Lies (sym wider) lies))) from to

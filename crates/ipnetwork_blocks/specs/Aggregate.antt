@@ -1,0 +1,25 @@
+-- Aggregation: of a list of networks of w bits, host bits or not, the least list of blocks with the same union.
+use Rattle.std.specs.Prelude.{ℕ, ◌↔◌, List}
+use Rattle.std.specs.List.{Contains}
+use Rattle.ipnetwork_family.specs.Network.{Network, Member}
+use Rattle.ipnetwork_blocks.specs.LeastList.{LiesIn, IsMaximalIn, IsLeastList}
+
+-- the address lies in the union of the networks: one of them has it as a member
+abbrev pub InUnion : ℕ → List Network → ℕ → Type 0
+InUnion w networks x = (n : Network) × Contains networks n × Member w n x
+
+-- each address of the network lies in the union of the others
+abbrev pub LiesInUnion : ℕ → Network → List Network → Type 0
+LiesInUnion w b networks = LiesIn w (InUnion w networks) b
+
+-- the unions of two lists have the same addresses
+abbrev pub SameUnion : ℕ → List Network → List Network → Type 0
+SameUnion w networks others = (x : ℕ) → InUnion w networks x ↔ InUnion w others x
+
+-- the block is maximal within the union: it lies in it, and no network of a shorter prefix length around it does
+abbrev pub IsMaximal : ℕ → List Network → Network → Type 0
+IsMaximal w networks b = IsMaximalIn w (InUnion w networks) b
+
+-- the result has the maximal blocks of the union of the networks and no others, in ascending order
+abbrev pub IsAggregate : ℕ → List Network → List Network → Type 0
+IsAggregate w networks result = IsLeastList w (InUnion w networks) result

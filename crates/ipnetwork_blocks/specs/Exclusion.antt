@@ -1,0 +1,7 @@
+-- What one network has and another has not.
+use Rattle.std.specs.Prelude.{ℕ}
+use Rattle.ipnetwork_family.specs.Network.{Network, Member}
+
+-- x is an address of the network, and none of inner
+abbrev pub MemberOfFirstAlone : ℕ → Network → Network → ℕ → Type 0
+MemberOfFirstAlone w network inner x = Member w network x × ¬ (Member w inner x)

@@ -1,0 +1,30 @@
+-- The addresses that hosts of a network may have.
+use Rattle.std.specs.Prelude.{◌≡◌, ◌≢◌, ℕ, ◌≤◌, ◌↔◌, List, [], ◌∷◌, ◌++◌, Contains}
+use Rattle.std.specs.List.Sorted.{IsStrictlyIncreasing}
+use Rattle.ipnetwork_family.specs.Network.{Network, IsNetwork, Member, members, low, high}
+
+-- up to prefix length 30 the members of an IPv4 network less the first and the last; at 31 and 32 all members (RFC 3021)
+pub record AreIpv4Hosts (n : Network) (hosts : List ℕ) : Type 0 where
+  pub inner : n.prefix ≤ 30 → members 32 n ≡ low 32 n ∷ hosts ++ high 32 n ∷ []
+  pub whole : 31 ≤ n.prefix → members 32 n ≡ hosts
+
+-- up to prefix length 126 the members of an IPv6 network less the first (RFC 4291, section 2.6.1); at 127 and 128 all
+-- members (RFC 6164)
+pub record AreIpv6Hosts (n : Network) (hosts : List ℕ) : Type 0 where
+  pub inner : n.prefix ≤ 126 → members 128 n ≡ low 128 n ∷ hosts
+  pub whole : 127 ≤ n.prefix → members 128 n ≡ hosts
+
+-- the list is ascending and has the numbers with the property alone
+pub record ListsThose (Is : ℕ → Type 0) (hosts : List ℕ) : Type 0 where
+  pub ascending : IsStrictlyIncreasing hosts
+  pub exactly : (x : ℕ) → Contains hosts x ↔ Is x
+
+-- a host of an IPv4 network is a member, and up to prefix length 30 neither the least nor the greatest
+abbrev pub Ipv4HostsLaw : Type 0
+Ipv4HostsLaw = (n : Network) (hosts : List ℕ) → IsNetwork 32 n → AreIpv4Hosts n hosts
+    → ListsThose (λ x. Member 32 n x × (n.prefix ≤ 30 → (x ≢ low 32 n) × (x ≢ high 32 n))) hosts
+
+-- a host of an IPv6 network is a member, and up to prefix length 126 not the least
+abbrev pub Ipv6HostsLaw : Type 0
+Ipv6HostsLaw = (n : Network) (hosts : List ℕ) → IsNetwork 128 n → AreIpv6Hosts n hosts
+    → ListsThose (λ x. Member 128 n x × (n.prefix ≤ 126 → x ≢ low 128 n)) hosts

@@ -1,0 +1,13 @@
+pub mod Aggregate
+pub mod AggregateEither
+pub mod AggregateLaws
+pub mod Around
+pub mod Exclusion
+pub mod Following
+pub mod Hosts
+pub mod LeastList
+pub mod LeastListLaws
+pub mod Private
+pub mod Ranges
+pub mod SubnetLaws
+pub mod Subnets

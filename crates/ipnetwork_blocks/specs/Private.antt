@@ -1,0 +1,5 @@
+-- What the private functions promise each other, and how contracts see private fields.
+pub mod Joining
+pub mod Parts
+pub mod RangeList
+pub mod Runs

@@ -1,0 +1,38 @@
+-- Blocks that are joined as far as they go: what stands in front while a list is aggregated.
+use Rattle.std.specs.Prelude.{◌≡◌, ℕ, ◌+◌, ◌-◌, ◌<◌, List, length, slice_index_or}
+use Rattle.std.specs.List.{All, AllPairs}
+use Rattle.ipnetwork_family.specs.Network.{Network, IsNetwork, IsBlock, Member, high, block_of, AtMost, Subnet}
+
+-- the block of prefix length p that holds x
+abbrev pub around : ℕ → ℕ → ℕ → Network
+around w x p = block_of w (record { address = x; prefix = p })
+
+-- the block of one bit less that holds the network
+abbrev pub parent : ℕ → Network → Network
+parent w n = around w n.address (n.prefix - 1)
+
+-- of two blocks that differ: they are the halves of one block
+abbrev pub AreHalves : ℕ → Network → Network → Type 0
+AreHalves w a b = (a.prefix ≡ b.prefix) × (0 < a.prefix) × Member w (parent w a) b.address
+
+-- a network without host bits
+pub record IsBlockNetwork (w : ℕ) (b : Network) : Type 0 where
+  pub network : IsNetwork w b
+  pub block : IsBlock w b
+
+-- b begins after a has ended, and they are no halves of one block
+abbrev pub Follows : ℕ → Network → Network → Type 0
+Follows w a b = (high w a < b.address) × ¬ (AreHalves w a b)
+
+-- blocks in ascending order and apart, no two of them the halves of one block
+pub record IsJoined (w : ℕ) (list : List Network) : Type 0 where
+  pub blocks : All (IsBlockNetwork w) list
+  pub pairs : AllPairs (Follows w) list
+
+-- each network is at most the next one in order
+abbrev pub AreInOrder : List Network → Type 0
+AreInOrder networks = (k : ℕ) (d : Network) → k + 1 < length networks → AtMost (slice_index_or networks k d) (slice_index_or networks (k + 1) d)
+
+-- the network lies in the last of the blocks
+abbrev pub LiesInLast : ℕ → List Network → Network → Type 0
+LiesInLast w blocks n = (0 < length blocks) × Subnet w n (slice_index_or blocks (length blocks - 1) n)

@@ -1,0 +1,20 @@
+-- The blocks of a range, listed by halves: how contracts see an iterator over them. That this is the least list
+-- is a clause of the call that makes the iterator.
+use Rattle.std.specs.Prelude.{ℕ, zero, suc, ◌+◌, ◌-◌, ◌^◌, nat_le, ◌&&◌, cond, Bool, List, [], ◌∷◌, ◌++◌}
+use Rattle.ipnetwork_family.specs.Network.{Network}
+
+-- the range from first to last has all of size addresses that begin at base
+abbrev pub has_all : ℕ → ℕ → ℕ → ℕ → Bool
+has_all base size first last = nat_le first base && nat_le (base + size) (last + 1)
+
+-- those in the block of k host bits that begins at base: the block where it lies in the range, else those in its
+-- two halves
+unfoldable pub blocks_within : ℕ → ℕ → ℕ → ℕ → ℕ → List Network
+blocks_within w zero base first last = cond (has_all base 1 first last) (record { address = base; prefix = w } ∷ []) []
+blocks_within w (suc k) base first last =
+    cond (has_all base (2 ^ suc k) first last) (record { address = base; prefix = w - suc k } ∷ [])
+    (blocks_within w k base first last ++ blocks_within w k (base + 2 ^ k) first last)
+
+-- the blocks of the addresses from first to last
+abbrev pub blocks_from_to : ℕ → ℕ → ℕ → List Network
+blocks_from_to w first last = blocks_within w w 0 first last

@@ -1,0 +1,12 @@
+-- The blocks of one prefix length within a network.
+use Rattle.std.specs.Prelude.{ℕ, ◌-◌, ◌*◌, ◌/◌, ◌^◌, List, map}
+use Rattle.ipnetwork_family.specs.Network.{Network, block_size, low, count_up}
+
+-- the blocks of prefix length p are numbered by their first p bits: number i begins at i times their size
+abbrev pub block_number : ℕ → ℕ → ℕ → Network
+block_number w p i = record { address = i * block_size w p; prefix = p }
+
+-- the blocks of prefix length p within the network: 2 ^ (p - n.prefix) of them, from the one on that begins where the
+-- network does
+abbrev pub subnets_of : ℕ → Network → ℕ → List Network
+subnets_of w n p = map (block_number w p) (count_up (low w n / block_size w p) (2 ^ (p - n.prefix)))

@@ -1,0 +1,125 @@
+//! The least list of blocks with the union of given networks.
+ghost use Rattle.std.specs.Prelude.{◌≡◌, ◌<◌, ◌≤◌, ◌↔◌, IsTrue, MatchOption, length, take, ◌++◌, ◌∷◌, [], map};
+ghost use Rattle.std.specs.List.{All};
+ghost use Rattle.ipnetwork_family.specs.Network.{AtMost, block_of, high};
+ghost use Rattle.ipnetwork_blocks.specs.Aggregate.{SameUnion, IsAggregate};
+ghost use Rattle.ipnetwork_blocks.specs.Private.Joining.{IsBlockNetwork, IsJoined, AreHalves, parent, AreInOrder, LiesInLast};
+
+use ipnetwork_family::CidrNetwork;
+
+/// Puts the aggregate of the networks, host bits or not, in front, and answers how many blocks it has: the
+/// blocks of the networks' union that lie in no greater block of it, in ascending order. No list of networks with the
+/// same union is shorter (`aggregate_laws`). What stands behind them is of no use.
+///
+/// Sorts the slice and goes over it once. Does not allocate.
+pub fn aggregate_in_place<N: CidrNetwork>(networks: &mut [N]) -> usize
+    ensures within { result ≤ length networks.old }
+    ensures aggregate { IsAggregate N.WIDTH (map N.pair networks.old) (map N.pair (take result networks.new)) }
+{
+    clear_host_bits(networks);
+    networks.sort_unstable();
+    join_sorted(networks)
+}
+
+/// Puts the aggregate of the networks in their place: what `aggregate_in_place` puts in front, and nothing
+/// behind it. Does not allocate, and frees no memory.
+pub fn aggregate_vec<N: CidrNetwork>(networks: &mut Vec<N>)
+    ensures { IsAggregate N.WIDTH (map N.pair networks.old.items) (map N.pair networks.new.items) }
+{
+    let count = aggregate_in_place(networks.as_mut_slice());
+    networks.truncate(count);
+}
+
+// Each network becomes its block.
+fn clear_host_bits<N: CidrNetwork>(networks: &mut [N])
+    ensures cleared { map N.pair networks.new ≡ map (block_of N.WIDTH) (map N.pair networks.old) }
+    ensures blocks { All (IsBlockNetwork N.WIDTH) (map N.pair networks.new) }
+{
+    for network in networks.iter_mut() {
+        *network = block_around(*network);
+    }
+}
+
+// The block of a network.
+fn block_around<N: CidrNetwork>(network: N) -> N
+    ensures same { N.pair result ≡ block_of N.WIDTH (N.pair network) }
+    ensures block { IsBlockNetwork N.WIDTH (N.pair result) }
+{
+    let Some(block) = N::block(network.ip(), network.prefix()) else {
+        unreachable!()
+    };
+    block
+}
+
+// Aggregates blocks in order. Those that were read and not dropped stand in front, joined as far as they go, and
+// the next one lies in the last of them, or is joined with those at their end.
+fn join_sorted<N: CidrNetwork>(blocks: &mut [N]) -> usize
+    requires blocks { All (IsBlockNetwork N.WIDTH) (map N.pair blocks.old) }
+    requires order { AreInOrder (map N.pair blocks.old) }
+    ensures within { result ≤ length blocks.old }
+    ensures joined { IsJoined N.WIDTH (take result (map N.pair blocks.new)) }
+    ensures union { SameUnion N.WIDTH (take result (map N.pair blocks.new)) (map N.pair blocks.old) }
+{
+    let mut kept = 0;
+    for next in 0..blocks.len() {
+        let block = blocks[next];
+        if !lies_in_last(&blocks[..kept], block) {
+            let (left, joined) = join_back(&blocks[..kept], block);
+            blocks[left] = joined;
+            kept = left + 1;
+        }
+    }
+    kept
+}
+
+// Whether the block lies in the last of the others.
+fn lies_in_last<N: CidrNetwork>(front: &[N], block: N) -> bool
+    ensures { IsTrue result ↔ LiesInLast N.WIDTH (map N.pair front.now) (N.pair block) }
+{
+    match front.last() {
+        Some(last) => block.is_subnet_of(*last),
+        None => false,
+    }
+}
+
+// Joins the block with the last of those in front, and what comes of it with the one before, for as long as the two
+// are the halves of one block: how many in front are left, and what to put behind them.
+fn join_back<N: CidrNetwork>(front: &[N], block: N) -> (usize, N)
+    requires joined { IsJoined N.WIDTH (map N.pair front.now) }
+    requires block { IsBlockNetwork N.WIDTH (N.pair block) }
+    requires behind { All (λ a. high N.WIDTH a < (N.pair block).address) (map N.pair front.now) }
+    ensures left { result.0 ≤ length front.now }
+    ensures joined { IsJoined N.WIDTH (take result.0 (map N.pair front.now) ++ N.pair result.1 ∷ []) }
+    ensures union { SameUnion N.WIDTH (take result.0 (map N.pair front.now) ++ N.pair result.1 ∷ []) (map N.pair front.now ++ N.pair block ∷ []) }
+    ensures order { AtMost (N.pair result.1) (N.pair block) }
+{
+    let mut left = front.len();
+    let mut joined = block;
+    while left > 0 {
+        match join(front[left - 1], joined) {
+            Some(whole) => {
+                joined = whole;
+                left -= 1;
+            }
+            None => return (left, joined),
+        }
+    }
+    (left, joined)
+}
+
+// The block of which the two are the halves, if there is one.
+fn join<N: CidrNetwork>(first: N, second: N) -> Option<N>
+    ensures { MatchOption result (¬ (AreHalves N.WIDTH (N.pair first) (N.pair second)))
+        (λ whole. AreHalves N.WIDTH (N.pair first) (N.pair second) × (N.pair whole ≡ parent N.WIDTH (N.pair first))) }
+{
+    let prefix = first.prefix();
+    if prefix == 0 || second.prefix() != prefix {
+        return None;
+    }
+    let whole = N::block(first.ip(), prefix - 1)?;
+    if whole.contains(second.ip()) {
+        Some(whole)
+    } else {
+        None
+    }
+}

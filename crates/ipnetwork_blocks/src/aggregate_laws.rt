@@ -1,0 +1,29 @@
+//! The laws of aggregation, for addresses of any number of bits. Each function's contract is a law; it does
+//! nothing, and a proof whose function calls it may use the law.
+ghost use Rattle.ipnetwork_blocks.specs.AggregateLaws.{AggregateHasUnion, AggregateIsApart, AggregateHasOneBlock, AggregateHasNetworks, AggregateBlocksAreNeeded, AggregateIsLeast, AggregateIsOfUnion, AggregateIsItsOwn};
+
+/// The aggregate has the union of the networks.
+pub fn same_union()
+    ensures { AggregateHasUnion }
+{}
+
+/// Each block of the aggregate ends before the next begins; so an address of the union lies in one of them, and a
+/// network lies in the union exactly if it lies in one of them.
+pub fn one_block()
+    ensures apart { AggregateIsApart }
+    ensures one { AggregateHasOneBlock }
+    ensures networks { AggregateHasNetworks }
+{}
+
+/// No list of networks with the same union is shorter than the aggregate: each block of the aggregate has a
+/// network of the list in it.
+pub fn least()
+    ensures needed { AggregateBlocksAreNeeded }
+    ensures least { AggregateIsLeast }
+{}
+
+/// Two lists have one aggregate exactly if they have the same union; so to aggregate again changes nothing.
+pub fn of_the_union()
+    ensures exactly { AggregateIsOfUnion }
+    ensures again { AggregateIsItsOwn }
+{}

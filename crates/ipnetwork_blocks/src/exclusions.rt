@@ -1,0 +1,110 @@
+//! The addresses of a network that are not in another.
+ghost use Rattle.std.specs.Prelude.{◌≡◌, ◌-◌, [], ◌∷◌, length};
+ghost use Rattle.std.specs.Iterator.{YieldsFirstBy, item_count};
+ghost use Rattle.ipnetwork_family.specs.Network.{Subnet, Overlap, block_of};
+ghost use Rattle.ipnetwork_blocks.specs.LeastList.{IsLeastList};
+ghost use Rattle.ipnetwork_blocks.specs.Exclusion.{MemberOfFirstAlone};
+ghost use Rattle.ipnetwork_blocks.specs.Private.Parts.{Before, Behind};
+
+use crate::before::address_before;
+use crate::climb::following;
+use crate::range::RangeBlocks;
+use ipnetwork_family::CidrNetwork;
+use std::alloc::AllocError;
+use std::marker::Model;
+
+/// The blocks of what one network has and another has not that are still to come, in ascending order.
+#[derive(Drop)]
+pub struct Exclusion<N: CidrNetwork> {
+    below: RangeBlocks<N>,
+    above: RangeBlocks<N>,
+}
+
+// A contract sees an iterator as the list of the blocks still to come.
+impl<N: CidrNetwork> Model for Exclusion<N> {
+    ghost use Rattle.std.specs.Prelude.{List, ◌++◌};
+    ghost use Rattle.ipnetwork_family.specs.Network.{Network};
+
+    ghost Value = { List Network };
+
+    ghost view = { λ e. e.below ++ e.above };
+}
+
+/// The blocks of the addresses of `network` that are not in `inner`: the fewest that there are, in ascending
+/// order. Host bits of either change nothing.
+///
+/// Where `inner` has all addresses of `network` there is no block, and where it has none of them the only one is
+/// the block of `network`. Else `inner` lies within the network, and there is one block for each bit by which its
+/// prefix length is greater. Does not allocate, nor does the iterator.
+pub fn exclude<N: CidrNetwork>(network: N, inner: N) -> Exclusion<N>
+    ensures blocks { IsLeastList N.WIDTH (MemberOfFirstAlone N.WIDTH (N.pair network) (N.pair inner)) result }
+    ensures none { Subnet N.WIDTH (N.pair network) (N.pair inner) → result ≡ [] }
+    ensures all { ¬ (Overlap N.WIDTH (N.pair network) (N.pair inner))
+        → result ≡ block_of N.WIDTH (N.pair network) ∷ [] }
+    ensures some { Subnet N.WIDTH (N.pair inner) (N.pair network)
+        → length result ≡ (N.pair inner).prefix - (N.pair network).prefix }
+{
+    // The clauses of these calls tell that both are networks of addresses of WIDTH bits.
+    let _ = network.ip();
+    let _ = inner.ip();
+    let first = network.network();
+    let last = network.broadcast();
+    if !network.overlaps(inner) {
+        return Exclusion {
+            below: RangeBlocks::none(first),
+            above: RangeBlocks::between_or_none(first, last),
+        };
+    }
+    Exclusion {
+        below: blocks_before(first, inner),
+        above: blocks_behind(inner, last),
+    }
+}
+
+// The blocks of the addresses from `first` to the last one before the network.
+fn blocks_before<N: CidrNetwork>(first: N::Addr, network: N) -> RangeBlocks<N>
+    ensures { IsLeastList N.WIDTH (Before N.WIDTH (N.number first) (N.pair network)) result }
+{
+    match address_before(network) {
+        Some(last) => RangeBlocks::between_or_none(first, last),
+        None => RangeBlocks::none(first),
+    }
+}
+
+// The blocks of the addresses from the first one behind the network to `last`.
+fn blocks_behind<N: CidrNetwork>(network: N, last: N::Addr) -> RangeBlocks<N>
+    ensures { IsLeastList N.WIDTH (Behind N.WIDTH (N.pair network) (N.number last)) result }
+{
+    match following(network) {
+        Some(next) => RangeBlocks::between_or_none(next.network(), last),
+        None => RangeBlocks::none(last),
+    }
+}
+
+impl<N: CidrNetwork> Iterator for Exclusion<N> {
+    type Item = N;
+
+    ghost next_gives = { YieldsFirstBy N.pair (λ left. left) };
+
+    ghost remaining = { item_count (λ left. left) };
+
+    fn next(&mut self) -> Option<N> {
+        if let Some(block) = self.below.next() {
+            return Some(block);
+        }
+        self.above.next()
+    }
+}
+
+impl<N: CidrNetwork> Clone for Exclusion<N> {
+    ghost is_clone = { λ left copy. copy ≡ left };
+
+    ghost is_infallible = { λ _. Unit {0} };
+
+    fn clone(&self) -> Result<Self, AllocError> {
+        Ok(Exclusion {
+            below: self.below.clone()?,
+            above: self.above.clone()?,
+        })
+    }
+}

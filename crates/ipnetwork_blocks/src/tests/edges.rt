@@ -1,0 +1,69 @@
+//! Prefix lengths that are refused, long lists, and copies of iterators.
+
+use crate::{ipv4_hosts, ipv6_hosts, subnets, supernet};
+use ipnetwork_addr::{Ipv4Addr, Ipv6Addr};
+use ipnetwork_family::{CidrNetwork, Ipv4Network, Ipv6Network};
+use std::test::Fail;
+
+/// How many blocks there are, and the last one.
+fn counted<N: CidrNetwork>(network: N, prefix: u8) -> Option<(u32, N)> {
+    let mut count = 0u32;
+    let mut last = network;
+    for block in subnets(network, prefix)? {
+        count = count.wrapping_add(1);
+        last = block;
+    }
+    Some((count, last))
+}
+
+#[test]
+fn refused_prefix_lengths(rt: HostRuntime) -> Result<(), Fail> {
+    let four = "192.0.2.1/24".parse::<Ipv4Network>()?;
+    let six = "2001:db8::1/64".parse::<Ipv6Network>()?;
+    for prefix in [0, 23, 33, 255] {
+        assert!(rt; subnets(four, prefix).is_none(), "{prefix}");
+    }
+    for prefix in [0, 63, 129, 255] {
+        assert!(rt; subnets(six, prefix).is_none(), "{prefix}");
+    }
+    assert_eq!(rt; (supernet(four, 25), supernet(four, 33)), (None, None));
+    assert_eq!(rt; (supernet(six, 65), supernet(six, 129)), (None, None));
+    Ok(())
+}
+
+// Counts and ends by Python's `ipaddress`.
+#[test]
+fn long_lists(rt: HostRuntime) -> Result<(), Fail> {
+    assert_eq!(rt;
+        counted("10.0.0.0/8".parse::<Ipv4Network>()?, 22),
+        Some((16384, "10.255.252.0/22".parse::<Ipv4Network>()?))
+    );
+    let mut count = 0u32;
+    let mut last = None;
+    for host in ipv4_hosts("10.0.0.0/16".parse::<Ipv4Network>()?) {
+        count = count.wrapping_add(1);
+        last = Some(host);
+    }
+    assert_eq!(rt;
+        (count, last),
+        (65534, Some("10.0.255.254".parse::<Ipv4Addr>()?))
+    );
+    let mut hosts = ipv4_hosts("0.0.0.0/0".parse::<Ipv4Network>()?);
+    let mut copy = hosts.clone()?;
+    assert_eq!(rt;
+        (hosts.next(), copy.next()),
+        (
+            Some(Ipv4Addr::new(0, 0, 0, 1)),
+            Some(Ipv4Addr::new(0, 0, 0, 1))
+        )
+    );
+    let mut blocks = subnets("::/0".parse::<Ipv6Network>()?, 128).expect(&rt, "every address");
+    let _ = blocks.next();
+    let second = Some("::1/128".parse::<Ipv6Network>()?);
+    assert_eq!(rt; (blocks.clone()?.next(), blocks.next()), (second, second));
+    assert_eq!(rt;
+        ipv6_hosts("::/0".parse::<Ipv6Network>()?).next(),
+        Some(Ipv6Addr::new(0, 0, 0, 0, 0, 0, 0, 1))
+    );
+    Ok(())
+}
