@@ -1,0 +1,157 @@
+/* IP networks in CIDR notation, IPv4 and IPv6: read from texts, printed, and asked about their sets of addresses.
+ *
+ * Every call answers an ipnetwork_fault: IPNETWORK_OK, which is 0, or why there is no answer. Answers go where the last
+ * pointers say. After a fault nothing has been written, but for the length that a canonical call tells with
+ * IPNETWORK_SHORT_BUFFER. A struct that the caller has filled is checked: a prefix length past the width is
+ * IPNETWORK_PREFIX, and never trusted.
+ *
+ * No call allocates or keeps anything. Each may be made from any thread, and from several at once, as long as no other
+ * thread writes what it reads or touches what it writes.
+ *
+ * What the caller has to see to, since no call can check it:
+ *   - no pointer is NULL, not even with a length of 0;
+ *   - behind a pointer lies what its type says, or as many bytes as the length beside it says, at most PTRDIFF_MAX;
+ *   - what a call writes does not overlap anything else that the same call is given.
+ *
+ * A text is bytes with a length. It need not end with a zero byte, and a zero byte in it is a byte like any other.
+ * An address is its octets in network order, as struct in_addr and struct in6_addr hold them: pass
+ * (const uint8_t *)&in_addr, or in6_addr.s6_addr. No struct here has padding, so they may be copied and hashed as bytes.
+ */
+#ifndef IPNETWORK_H
+#define IPNETWORK_H
+
+#include <stddef.h>
+#include <stdint.h>
+
+#ifdef __cplusplus
+extern "C" {
+#endif
+
+/* A change of a name, a struct or a number below changes it. ipnetwork_abi_version() is that of the library. */
+#define IPNETWORK_ABI_VERSION 1
+
+/* Enough for every text of the family and the zero byte behind it. */
+#define IPNETWORK_V4_TEXT 19
+#define IPNETWORK_V6_TEXT 44
+
+typedef uint32_t ipnetwork_fault;
+
+enum {
+    IPNETWORK_OK = 0,
+    IPNETWORK_FORMAT = 1,       /* the text holds two or more '/' */
+    IPNETWORK_ADDRESS = 2,      /* what stands before the '/', or the whole text where there is none, is no address */
+    IPNETWORK_PREFIX = 3,       /* no prefix length of the family, whether a text, an argument or a struct has it */
+    IPNETWORK_SHORT_BUFFER = 4, /* no room for the text and a zero byte */
+    IPNETWORK_NO_MASK = 5,      /* the address is no mask */
+    IPNETWORK_NO_MEMBER = 6,    /* the network has no member of that number */
+    IPNETWORK_NO_FAMILY = 7     /* a family that is neither 4 nor 6, or an address of neither 4 nor 16 octets */
+};
+
+#if defined(__GNUC__)
+#define IPNETWORK_CHECKED __attribute__((warn_unused_result))
+#else
+#define IPNETWORK_CHECKED
+#endif
+
+/* An IPv4 network: an address, host bits included, and a prefix length of 0 to 32. */
+typedef struct ipnetwork_v4 {
+    uint8_t address[4];
+    uint8_t prefix;
+} ipnetwork_v4;
+
+/* An IPv6 network: an address, host bits included, and a prefix length of 0 to 128. */
+typedef struct ipnetwork_v6 {
+    uint8_t address[16];
+    uint8_t prefix;
+} ipnetwork_v6;
+
+/* A network of either family: the family, 4 or 6, and the struct of that family. The other is not looked at. */
+typedef struct ipnetwork_ip {
+    uint8_t family;
+    ipnetwork_v4 v4;
+    ipnetwork_v6 v6;
+} ipnetwork_ip;
+
+uint32_t ipnetwork_abi_version(void);
+
+/* The network that a text names. IPv4: an address of four decimals (RFC 3986, section 3.2.2), and after a '/' an
+ * optional '+' and a prefix length in decimal, or one of the 33 masks. IPv6: an address as RFC 4291, section 2.2, has
+ * it, and after a '/' a prefix length. Without a '/' the prefix length is the full width. Host bits are kept. Else
+ * IPNETWORK_FORMAT, IPNETWORK_ADDRESS or IPNETWORK_PREFIX, the first that holds. */
+IPNETWORK_CHECKED ipnetwork_fault ipnetwork_v4_read(const char *text, size_t text_length, ipnetwork_v4 *network);
+IPNETWORK_CHECKED ipnetwork_fault ipnetwork_v6_read(const char *text, size_t text_length, ipnetwork_v6 *network);
+
+/* The network of either family that a text names; the struct of the other family is all zeros. Else
+ * IPNETWORK_ADDRESS, whatever is wrong with the text. */
+IPNETWORK_CHECKED ipnetwork_fault ipnetwork_read(const char *text, size_t text_length, ipnetwork_ip *network);
+
+/* The network of this address, host bits kept, and this prefix length. IPNETWORK_PREFIX past the width. */
+IPNETWORK_CHECKED ipnetwork_fault ipnetwork_v4_new(const uint8_t address[4], uint8_t prefix, ipnetwork_v4 *network);
+IPNETWORK_CHECKED ipnetwork_fault ipnetwork_v6_new(const uint8_t address[16], uint8_t prefix, ipnetwork_v6 *network);
+
+/* The canonical text (an IPv6 address as RFC 5952, section 4, says, and of the addresses of section 5 the IPv4-mapped
+ * ones dotted) and a zero byte behind it, in the front of a buffer of buffer_length bytes. text_length is that of the
+ * text, without the zero byte. IPNETWORK_SHORT_BUFFER where buffer_length is not greater: then text_length is told all
+ * the same, and the buffer is not written. A buffer of no bytes, at any pointer but NULL, asks for the length alone. */
+IPNETWORK_CHECKED ipnetwork_fault ipnetwork_v4_canonical(const ipnetwork_v4 *network, char *buffer,
+                                                         size_t buffer_length, size_t *text_length);
+IPNETWORK_CHECKED ipnetwork_fault ipnetwork_v6_canonical(const ipnetwork_v6 *network, char *buffer,
+                                                         size_t buffer_length, size_t *text_length);
+
+/* Whether an address lies in the network's set: *answer is 1 or 0. */
+IPNETWORK_CHECKED ipnetwork_fault ipnetwork_v4_contains(const ipnetwork_v4 *network, const uint8_t address[4],
+                                                        uint8_t *answer);
+IPNETWORK_CHECKED ipnetwork_fault ipnetwork_v6_contains(const ipnetwork_v6 *network, const uint8_t address[16],
+                                                        uint8_t *answer);
+
+/* The same of either family, for an address of 4 or 16 octets. No address of the other family lies in the set, an
+ * IPv4-mapped IPv6 address in an IPv4 network neither. IPNETWORK_NO_FAMILY comes before IPNETWORK_PREFIX. */
+IPNETWORK_CHECKED ipnetwork_fault ipnetwork_contains(const ipnetwork_ip *network, const uint8_t *address,
+                                                     size_t address_length, uint8_t *answer);
+
+/* The least member (the address with its host bits cleared), the greatest (with them set), and the mask. */
+IPNETWORK_CHECKED ipnetwork_fault ipnetwork_v4_network(const ipnetwork_v4 *network, uint8_t address[4]);
+IPNETWORK_CHECKED ipnetwork_fault ipnetwork_v6_network(const ipnetwork_v6 *network, uint8_t address[16]);
+IPNETWORK_CHECKED ipnetwork_fault ipnetwork_v4_broadcast(const ipnetwork_v4 *network, uint8_t address[4]);
+IPNETWORK_CHECKED ipnetwork_fault ipnetwork_v6_broadcast(const ipnetwork_v6 *network, uint8_t address[16]);
+IPNETWORK_CHECKED ipnetwork_fault ipnetwork_v4_mask(const ipnetwork_v4 *network, uint8_t mask[4]);
+IPNETWORK_CHECKED ipnetwork_fault ipnetwork_v6_mask(const ipnetwork_v6 *network, uint8_t mask[16]);
+
+/* The prefix length of a mask. IPNETWORK_NO_MASK where the address is none of the 33, or 129, masks. */
+IPNETWORK_CHECKED ipnetwork_fault ipnetwork_v4_prefix_of_mask(const uint8_t mask[4], uint8_t *prefix);
+IPNETWORK_CHECKED ipnetwork_fault ipnetwork_v6_prefix_of_mask(const uint8_t mask[16], uint8_t *prefix);
+
+/* The number of members. At prefix length 0, where that does not fit, it is one less: 2^32 - 1 or 2^128 - 1. That of
+ * IPv6 is 16 octets, the highest first. */
+IPNETWORK_CHECKED ipnetwork_fault ipnetwork_v4_size(const ipnetwork_v4 *network, uint32_t *size);
+IPNETWORK_CHECKED ipnetwork_fault ipnetwork_v6_size(const ipnetwork_v6 *network, uint8_t size[16]);
+
+/* The member number n in order, counted from 0; for IPv6 n is 16 octets, the highest first. IPNETWORK_NO_MEMBER where n
+ * is not below the size. */
+IPNETWORK_CHECKED ipnetwork_fault ipnetwork_v4_nth(const ipnetwork_v4 *network, uint32_t n, uint8_t address[4]);
+IPNETWORK_CHECKED ipnetwork_fault ipnetwork_v6_nth(const ipnetwork_v6 *network, const uint8_t n[16],
+                                                   uint8_t address[16]);
+
+/* Whether each member of inner is one of outer, host bits or not: *answer is 1 or 0. */
+IPNETWORK_CHECKED ipnetwork_fault ipnetwork_v4_is_subnet_of(const ipnetwork_v4 *inner, const ipnetwork_v4 *outer,
+                                                            uint8_t *answer);
+IPNETWORK_CHECKED ipnetwork_fault ipnetwork_v6_is_subnet_of(const ipnetwork_v6 *inner, const ipnetwork_v6 *outer,
+                                                            uint8_t *answer);
+
+/* Whether some address is a member of both: *answer is 1 or 0. */
+IPNETWORK_CHECKED ipnetwork_fault ipnetwork_v4_overlaps(const ipnetwork_v4 *one, const ipnetwork_v4 *other,
+                                                        uint8_t *answer);
+IPNETWORK_CHECKED ipnetwork_fault ipnetwork_v6_overlaps(const ipnetwork_v6 *one, const ipnetwork_v6 *other,
+                                                        uint8_t *answer);
+
+/* Which comes first, by address and then by prefix length: *order is -1 for one, 1 for other, 0 where they are equal. */
+IPNETWORK_CHECKED ipnetwork_fault ipnetwork_v4_compare(const ipnetwork_v4 *one, const ipnetwork_v4 *other,
+                                                       int32_t *order);
+IPNETWORK_CHECKED ipnetwork_fault ipnetwork_v6_compare(const ipnetwork_v6 *one, const ipnetwork_v6 *other,
+                                                       int32_t *order);
+
+#ifdef __cplusplus
+}
+#endif
+
+#endif

@@ -1,0 +1,358 @@
+/* Each call of the header: rows with known answers, buffers of every length, prefix lengths past the width. Every text
+ * and buffer stands in a block of exactly its size, so that valgrind or a sanitizer sees a byte too many. */
+#include "ipnetwork.h"
+#include "rows.h"
+
+#include <stdio.h>
+#include <stdlib.h>
+#include <string.h>
+
+static int failures;
+
+#define CHECK(row, holds)                                                                                             \
+    do {                                                                                                              \
+        if (!(holds)) {                                                                                               \
+            fprintf(stderr, "test.c:%d: %s: %s\n", __LINE__, row, #holds);                                            \
+            failures++;                                                                                               \
+        }                                                                                                             \
+    } while (0)
+
+/* A copy in a block of exactly this many bytes. */
+static void *block(const void *bytes, size_t length) {
+    void *copy = malloc(length);
+    if (copy == NULL && length != 0)
+        abort();
+    if (length != 0)
+        memcpy(copy, bytes, length);
+    return copy;
+}
+
+/* A block of no bytes may be NULL, which no call takes. */
+static char *somewhere(char *bytes, size_t length) {
+    static char nothing;
+    return length == 0 ? &nothing : bytes;
+}
+
+static ipnetwork_fault read_v4(const char *text, ipnetwork_v4 *network) {
+    size_t length = strlen(text);
+    char *copy = block(text, length);
+    ipnetwork_fault fault = ipnetwork_v4_read(somewhere(copy, length), length, network);
+    free(copy);
+    return fault;
+}
+
+static ipnetwork_fault read_v6(const char *text, ipnetwork_v6 *network) {
+    size_t length = strlen(text);
+    char *copy = block(text, length);
+    ipnetwork_fault fault = ipnetwork_v6_read(somewhere(copy, length), length, network);
+    free(copy);
+    return fault;
+}
+
+static ipnetwork_fault read_ip(const char *text, ipnetwork_ip *network) {
+    size_t length = strlen(text);
+    char *copy = block(text, length);
+    ipnetwork_fault fault = ipnetwork_read(somewhere(copy, length), length, network);
+    free(copy);
+    return fault;
+}
+
+static ipnetwork_v4 v4(const char *text) {
+    ipnetwork_v4 network = {{0}, 0};
+    CHECK(text, read_v4(text, &network) == IPNETWORK_OK);
+    return network;
+}
+
+static ipnetwork_v6 v6(const char *text) {
+    ipnetwork_v6 network = {{0}, 0};
+    CHECK(text, read_v6(text, &network) == IPNETWORK_OK);
+    return network;
+}
+
+static int is_blank(const void *bytes, size_t length) {
+    for (size_t i = 0; i < length; i++)
+        if (((const uint8_t *)bytes)[i] != 0)
+            return 0;
+    return 1;
+}
+
+static void texts(void) {
+    for (size_t i = 0; i < sizeof rows / sizeof *rows; i++) {
+        struct row row = rows[i];
+        ipnetwork_v4 four, four_before;
+        ipnetwork_v6 six, six_before;
+        ipnetwork_ip ip, ip_before;
+        memset(&four_before, 0xa5, sizeof four);
+        memset(&six_before, 0xa5, sizeof six);
+        memset(&ip_before, 0xa5, sizeof ip);
+        four = four_before;
+        six = six_before;
+        ip = ip_before;
+        CHECK(row.text, read_v4(row.text, &four) == row.v4);
+        CHECK(row.text, read_v6(row.text, &six) == row.v6);
+        CHECK(row.text, read_ip(row.text, &ip) == (row.canonical != NULL ? YES : ADDR));
+        char buffer[IPNETWORK_V6_TEXT];
+        size_t length = 0;
+        if (row.v4 == YES) {
+            CHECK(row.text, ipnetwork_v4_canonical(&four, buffer, sizeof buffer, &length) == YES);
+            CHECK(row.text, ip.family == 4 && memcmp(&ip.v4, &four, sizeof four) == 0);
+            CHECK(row.text, is_blank(&ip.v6, sizeof ip.v6));
+        } else {
+            CHECK(row.text, memcmp(&four, &four_before, sizeof four) == 0);
+        }
+        if (row.v6 == YES) {
+            CHECK(row.text, ipnetwork_v6_canonical(&six, buffer, sizeof buffer, &length) == YES);
+            CHECK(row.text, ip.family == 6 && memcmp(&ip.v6, &six, sizeof six) == 0);
+            CHECK(row.text, is_blank(&ip.v4, sizeof ip.v4));
+        } else {
+            CHECK(row.text, memcmp(&six, &six_before, sizeof six) == 0);
+        }
+        if (row.canonical != NULL)
+            CHECK(row.text, strcmp(buffer, row.canonical) == 0 && length == strlen(row.canonical));
+        else
+            CHECK(row.text, memcmp(&ip, &ip_before, sizeof ip) == 0);
+    }
+    ipnetwork_v4 network;
+    CHECK("a zero byte inside", ipnetwork_v4_read("1.2.3.4\0", 8, &network) == ADDR);
+    CHECK("a byte past ASCII", ipnetwork_v4_read("1.2.3.\xe9", 7, &network) == ADDR);
+    char zeros[310];
+    memset(zeros, '0', sizeof zeros);
+    memcpy(zeros, "10.0.0.0/", 9);
+    zeros[309] = '8';
+    CHECK("300 zeros", ipnetwork_v4_read(zeros, sizeof zeros, &network) == YES && network.prefix == 8);
+}
+
+/* Buffers of each length from none to one more than the longest text needs. */
+static void buffers(void) {
+    static const char *const fours[] = {"0.0.0.0/0", "10.1.9.32/16", "255.255.255.255/32"};
+    static const char *const sixes[] = {"::/0", "2001:db8::1/64", "::ffff:255.255.255.255/128",
+                                        "ffff:ffff:ffff:ffff:ffff:ffff:ffff:ffff/128"};
+    for (size_t i = 0; i < 7; i++) {
+        const char *text = i < 3 ? fours[i] : sixes[i - 3];
+        size_t wanted = strlen(text);
+        for (size_t room = 0; room <= IPNETWORK_V6_TEXT + 1; room++) {
+            char *buffer = malloc(room);
+            if (room != 0)
+                memset(buffer, 0xa5, room);
+            size_t told = 1000;
+            ipnetwork_fault fault;
+            if (i < 3) {
+                ipnetwork_v4 network = v4(text);
+                fault = ipnetwork_v4_canonical(&network, somewhere(buffer, room), room, &told);
+            } else {
+                ipnetwork_v6 network = v6(text);
+                fault = ipnetwork_v6_canonical(&network, somewhere(buffer, room), room, &told);
+            }
+            CHECK(text, told == wanted);
+            CHECK(text, fault == (room > wanted ? YES : IPNETWORK_SHORT_BUFFER));
+            size_t written = room > wanted ? wanted + 1 : 0;
+            CHECK(text, written == 0 || memcmp(buffer, text, written) == 0);
+            for (size_t at = written; at < room; at++)
+                CHECK(text, (uint8_t)buffer[at] == 0xa5);
+            free(buffer);
+        }
+    }
+    CHECK("IPNETWORK_V4_TEXT", strlen(fours[2]) + 1 == IPNETWORK_V4_TEXT);
+    CHECK("IPNETWORK_V6_TEXT", strlen(sixes[3]) + 1 == IPNETWORK_V6_TEXT);
+}
+
+static void questions_v4(void) {
+    ipnetwork_v4 net = v4("10.10.1.97/23"), made;
+    uint8_t low[4], high[4], mask[4], prefix = 77, answer = 77;
+    uint32_t size = 77;
+    CHECK("low", ipnetwork_v4_network(&net, low) == YES && memcmp(low, "\x0a\x0a\0\0", 4) == 0);
+    CHECK("high", ipnetwork_v4_broadcast(&net, high) == YES && memcmp(high, "\x0a\x0a\x01\xff", 4) == 0);
+    CHECK("mask", ipnetwork_v4_mask(&net, mask) == YES && memcmp(mask, "\xff\xff\xfe\0", 4) == 0);
+    CHECK("prefix", ipnetwork_v4_prefix_of_mask(mask, &prefix) == YES && prefix == 23);
+    prefix = 77;
+    CHECK("no mask", ipnetwork_v4_prefix_of_mask(low, &prefix) == IPNETWORK_NO_MASK && prefix == 77);
+    CHECK("size", ipnetwork_v4_size(&net, &size) == YES && size == 512);
+    net.prefix = 0;
+    CHECK("size of all", ipnetwork_v4_size(&net, &size) == YES && size == 4294967295u);
+    net = v4("127.0.0.0/24");
+    CHECK("nth 255", ipnetwork_v4_nth(&net, 255, low) == YES && memcmp(low, "\x7f\0\0\xff", 4) == 0);
+    CHECK("nth 256", ipnetwork_v4_nth(&net, 256, high) == IPNETWORK_NO_MEMBER && memcmp(high, "\x0a\x0a\x01\xff", 4) == 0);
+    CHECK("new", ipnetwork_v4_new(low, 24, &made) == YES && memcmp(made.address, low, 4) == 0 && made.prefix == 24);
+    CHECK("new 33", ipnetwork_v4_new(low, 33, &made) == PREF && made.prefix == 24);
+    net = v4("74.125.227.0/25");
+    CHECK("holds", ipnetwork_v4_contains(&net, (const uint8_t *)"\x4a\x7d\xe3\x04", &answer) == YES && answer == 1);
+    CHECK("holds not", ipnetwork_v4_contains(&net, (const uint8_t *)"\x4a\x7d\xe4\x04", &answer) == YES && answer == 0);
+    static const struct {
+        const char *one, *other;
+        uint8_t inside, overlap;
+        int32_t order;
+    } pairs[] = {
+        {"10.0.0.0/30", "10.0.1.0/24", 0, 0, -1}, {"10.0.0.0/30", "10.0.0.0/24", 1, 1, 1},
+        {"10.0.1.0/24", "10.0.0.0/30", 0, 0, 1},  {"10.0.0.0/24", "10.0.0.0/30", 0, 1, -1},
+        {"1.2.2.0/24", "1.2.2.64/26", 0, 1, -1},  {"1.2.2.7/24", "1.2.2.7/24", 1, 1, 0},
+        {"1.2.2.9/24", "1.2.2.7/24", 1, 1, 1},    {"128.0.0.0/1", "127.0.0.0/8", 0, 0, 1},
+    };
+    for (size_t i = 0; i < sizeof pairs / sizeof *pairs; i++) {
+        ipnetwork_v4 one = v4(pairs[i].one), other = v4(pairs[i].other);
+        uint8_t inside = 77, overlap = 77;
+        int32_t order = 77;
+        CHECK(pairs[i].one, ipnetwork_v4_is_subnet_of(&one, &other, &inside) == YES && inside == pairs[i].inside);
+        CHECK(pairs[i].one, ipnetwork_v4_overlaps(&one, &other, &overlap) == YES && overlap == pairs[i].overlap);
+        CHECK(pairs[i].one, ipnetwork_v4_compare(&one, &other, &order) == YES && order == pairs[i].order);
+    }
+}
+
+static void questions_v6(void) {
+    ipnetwork_v6 net = v6("2001:db8::/96"), made, wanted;
+    uint8_t low[16], high[16], mask[16], size[16], n[16] = {0}, prefix = 77, answer = 77;
+    wanted = v6("2001:db8::");
+    CHECK("low", ipnetwork_v6_network(&net, low) == YES && memcmp(low, wanted.address, 16) == 0);
+    wanted = v6("2001:db8::ffff:ffff");
+    CHECK("high", ipnetwork_v6_broadcast(&net, high) == YES && memcmp(high, wanted.address, 16) == 0);
+    CHECK("size", ipnetwork_v6_size(&net, size) == YES && memcmp(size, "\0\0\0\0\0\0\0\0\0\0\0\x01\0\0\0\0", 16) == 0);
+    net = v6("::/40");
+    wanted = v6("ffff:ffff:ff00::");
+    CHECK("mask", ipnetwork_v6_mask(&net, mask) == YES && memcmp(mask, wanted.address, 16) == 0);
+    CHECK("prefix", ipnetwork_v6_prefix_of_mask(mask, &prefix) == YES && prefix == 40);
+    prefix = 77;
+    CHECK("no mask", ipnetwork_v6_prefix_of_mask(low, &prefix) == IPNETWORK_NO_MASK && prefix == 77);
+    net = v6("::/0");
+    wanted = v6("ffff:ffff:ffff:ffff:ffff:ffff:ffff:ffff");
+    CHECK("size of all", ipnetwork_v6_size(&net, size) == YES && memcmp(size, wanted.address, 16) == 0);
+    net = v6("ff01::/32");
+    n[15] = 255;
+    wanted = v6("ff01::ff");
+    CHECK("nth 255", ipnetwork_v6_nth(&net, n, low) == YES && memcmp(low, wanted.address, 16) == 0);
+    CHECK("its size", ipnetwork_v6_size(&net, size) == YES);
+    CHECK("nth past", ipnetwork_v6_nth(&net, size, low) == IPNETWORK_NO_MEMBER && memcmp(low, wanted.address, 16) == 0);
+    CHECK("new", ipnetwork_v6_new(low, 24, &made) == YES && memcmp(made.address, low, 16) == 0 && made.prefix == 24);
+    CHECK("new 129", ipnetwork_v6_new(low, 129, &made) == PREF && made.prefix == 24);
+    net = v6("2001:db8::/32");
+    CHECK("holds", ipnetwork_v6_contains(&net, high, &answer) == YES && answer == 1);
+    CHECK("holds not", ipnetwork_v6_contains(&net, low, &answer) == YES && answer == 0);
+    static const struct {
+        const char *one, *other;
+        uint8_t inside, overlap;
+        int32_t order;
+    } pairs[] = {
+        {"2000:aaa::/56", "2000:aaa::/48", 1, 1, 1},  {"2000:aaa::/48", "2000:aaa::/56", 0, 1, -1},
+        {"2000:999::/56", "2000:aaa::/48", 0, 0, -1}, {"2000:bbb::/56", "2000:aaa::/48", 0, 0, 1},
+        {"2001:db8:acad::20:2/64", "2001:db8:acad::1/64", 1, 1, 1}, {"::/0", "::/0", 1, 1, 0},
+    };
+    for (size_t i = 0; i < sizeof pairs / sizeof *pairs; i++) {
+        ipnetwork_v6 one = v6(pairs[i].one), other = v6(pairs[i].other);
+        uint8_t inside = 77, overlap = 77;
+        int32_t order = 77;
+        CHECK(pairs[i].one, ipnetwork_v6_is_subnet_of(&one, &other, &inside) == YES && inside == pairs[i].inside);
+        CHECK(pairs[i].one, ipnetwork_v6_overlaps(&one, &other, &overlap) == YES && overlap == pairs[i].overlap);
+        CHECK(pairs[i].one, ipnetwork_v6_compare(&one, &other, &order) == YES && order == pairs[i].order);
+    }
+}
+
+/* Structs with a prefix length past the width, in every call that takes one, and in either place of two. */
+static void past_the_width(void) {
+    const char *row = "past the width";
+    ipnetwork_v4 four = v4("10.1.9.32/16"), good_four = four;
+    ipnetwork_v6 six = v6("2001:db8::1/64"), good_six = six;
+    uint8_t octets[16] = {0}, answer = 77;
+    char buffer[IPNETWORK_V6_TEXT];
+    size_t told = 77;
+    uint32_t size = 77;
+    int32_t order = 77;
+    memset(buffer, 0xa5, sizeof buffer);
+    for (unsigned prefix = 33; prefix <= 255; prefix++) {
+        four.prefix = (uint8_t)prefix;
+        ipnetwork_ip ip = {4, four, good_six};
+        CHECK(row, ipnetwork_v4_canonical(&four, buffer, sizeof buffer, &told) == PREF);
+        CHECK(row, ipnetwork_v4_contains(&four, good_four.address, &answer) == PREF);
+        CHECK(row, ipnetwork_v4_network(&four, octets) == PREF);
+        CHECK(row, ipnetwork_v4_broadcast(&four, octets) == PREF);
+        CHECK(row, ipnetwork_v4_mask(&four, octets) == PREF);
+        CHECK(row, ipnetwork_v4_size(&four, &size) == PREF);
+        CHECK(row, ipnetwork_v4_nth(&four, 0, octets) == PREF);
+        CHECK(row, ipnetwork_v4_is_subnet_of(&four, &good_four, &answer) == PREF);
+        CHECK(row, ipnetwork_v4_is_subnet_of(&good_four, &four, &answer) == PREF);
+        CHECK(row, ipnetwork_v4_overlaps(&four, &good_four, &answer) == PREF);
+        CHECK(row, ipnetwork_v4_overlaps(&good_four, &four, &answer) == PREF);
+        CHECK(row, ipnetwork_v4_compare(&four, &good_four, &order) == PREF);
+        CHECK(row, ipnetwork_v4_compare(&good_four, &four, &order) == PREF);
+        CHECK(row, ipnetwork_contains(&ip, good_four.address, 4, &answer) == PREF);
+        ip.family = 6;
+        uint8_t unused = 0;
+        CHECK(row, ipnetwork_contains(&ip, good_six.address, 16, &unused) == YES && unused == 1);
+    }
+    for (unsigned prefix = 129; prefix <= 255; prefix++) {
+        six.prefix = (uint8_t)prefix;
+        ipnetwork_ip ip = {6, good_four, six};
+        CHECK(row, ipnetwork_v6_canonical(&six, buffer, sizeof buffer, &told) == PREF);
+        CHECK(row, ipnetwork_v6_contains(&six, good_six.address, &answer) == PREF);
+        CHECK(row, ipnetwork_v6_network(&six, octets) == PREF);
+        CHECK(row, ipnetwork_v6_broadcast(&six, octets) == PREF);
+        CHECK(row, ipnetwork_v6_mask(&six, octets) == PREF);
+        CHECK(row, ipnetwork_v6_size(&six, octets) == PREF);
+        CHECK(row, ipnetwork_v6_nth(&six, good_six.address, octets) == PREF);
+        CHECK(row, ipnetwork_v6_is_subnet_of(&six, &good_six, &answer) == PREF);
+        CHECK(row, ipnetwork_v6_is_subnet_of(&good_six, &six, &answer) == PREF);
+        CHECK(row, ipnetwork_v6_overlaps(&six, &good_six, &answer) == PREF);
+        CHECK(row, ipnetwork_v6_overlaps(&good_six, &six, &answer) == PREF);
+        CHECK(row, ipnetwork_v6_compare(&six, &good_six, &order) == PREF);
+        CHECK(row, ipnetwork_v6_compare(&good_six, &six, &order) == PREF);
+        CHECK(row, ipnetwork_contains(&ip, good_six.address, 16, &answer) == PREF);
+    }
+    CHECK(row, answer == 77 && told == 77 && size == 77 && order == 77 && is_blank(octets, sizeof octets));
+    for (size_t at = 0; at < sizeof buffer; at++)
+        CHECK(row, (uint8_t)buffer[at] == 0xa5);
+}
+
+/* Families and addresses of either length. */
+static void either(void) {
+    ipnetwork_ip four, six;
+    CHECK("read", read_ip("0.0.0.0/0", &four) == YES && read_ip("::/0", &six) == YES);
+    for (size_t length = 0; length <= 20; length++) {
+        char *octets = calloc(length, 1);
+        const uint8_t *address = (const uint8_t *)somewhere(octets, length);
+        uint8_t in_four = 77, in_six = 77;
+        ipnetwork_fault wanted = length == 4 || length == 16 ? YES : IPNETWORK_NO_FAMILY;
+        CHECK("length", ipnetwork_contains(&four, address, length, &in_four) == wanted);
+        CHECK("length", ipnetwork_contains(&six, address, length, &in_six) == wanted);
+        CHECK("length", in_four == (wanted == YES ? length == 4 : 77));
+        CHECK("length", in_six == (wanted == YES ? length == 16 : 77));
+        free(octets);
+    }
+    for (unsigned family = 0; family <= 255; family++) {
+        if (family == 4 || family == 6)
+            continue;
+        uint8_t answer = 77;
+        four.family = (uint8_t)family;
+        four.v4.prefix = 200;
+        CHECK("family", ipnetwork_contains(&four, four.v4.address, 4, &answer) == IPNETWORK_NO_FAMILY && answer == 77);
+    }
+}
+
+/* Structs, addresses and texts at odd places, since none of them is aligned to more than a byte. */
+static void odd_places(void) {
+    for (size_t offset = 0; offset < 8; offset++) {
+        uint8_t *bytes = malloc(offset + sizeof(ipnetwork_ip) + 16 + 1);
+        ipnetwork_ip *network = (ipnetwork_ip *)(bytes + offset);
+        uint8_t *octets = bytes + offset + sizeof *network, *answer = octets + 16;
+        size_t length;
+        char buffer[IPNETWORK_V6_TEXT + 8];
+        CHECK("odd place", read_ip("2001:db8::1/32", network) == YES);
+        CHECK("odd place", ipnetwork_v6_broadcast(&network->v6, octets) == YES);
+        CHECK("odd place", ipnetwork_contains(network, octets, 16, answer) == YES && *answer == 1);
+        CHECK("odd place", ipnetwork_v6_contains(&network->v6, network->v6.address, answer) == YES && *answer == 1);
+        CHECK("odd place", ipnetwork_v6_canonical(&network->v6, buffer + offset, 15, &length) == YES);
+        CHECK("odd place", memcmp(buffer + offset, "2001:db8::1/32", 15) == 0);
+        free(bytes);
+    }
+}
+
+int main(void) {
+    CHECK("layout", sizeof(ipnetwork_v4) == 5 && sizeof(ipnetwork_v6) == 17 && sizeof(ipnetwork_ip) == 23);
+    CHECK("version", ipnetwork_abi_version() == IPNETWORK_ABI_VERSION);
+    texts();
+    buffers();
+    questions_v4();
+    questions_v6();
+    past_the_width();
+    either();
+    odd_places();
+    if (failures == 0)
+        printf("C: all rows as expected\n");
+    return failures != 0;
+}

@@ -1,0 +1,172 @@
+"""Rows with known answers, and the differences between this module's grammar and that of ``ipaddress``."""
+
+import copy
+import ipaddress
+import pickle
+import unittest
+from ipaddress import IPv4Address, IPv6Address
+
+import ipnetwork
+from ipnetwork import (
+    AddressError,
+    FormatError,
+    IPv4Network,
+    IPv6Network,
+    MaskError,
+    PrefixError,
+    ip_network,
+)
+
+# Text, and what IPv4Network and IPv6Network answer: a canonical text or an error.
+TEXTS = [
+    ("10.1.9.32/16", "10.1.9.32/16", AddressError),
+    ("192.0.2.0/255.255.255.0", "192.0.2.0/24", AddressError),
+    ("198.51.100.7", "198.51.100.7/32", AddressError),
+    ("10.0.0.0/+8", "10.0.0.0/8", AddressError),
+    ("10.0.0.0/008", "10.0.0.0/8", AddressError),
+    ("2001:DB8::1/064", AddressError, "2001:db8::1/64"),
+    ("::ffff:0:0", AddressError, "::ffff:0.0.0.0/128"),
+    ("1:2:3:4:5:6:7::", AddressError, "1:2:3:4:5:6:7:0/128"),
+    ("x/y/z", FormatError, FormatError),
+    ("x/99", AddressError, AddressError),
+    ("10.0.0.0/99", PrefixError, AddressError),
+    ("::1/129", AddressError, PrefixError),
+    ("::1/24/", FormatError, FormatError),
+    ("", AddressError, AddressError),
+    ("10/8", AddressError, AddressError),
+    ("10.1.9.32/33", PrefixError, AddressError),
+    ("01.2.3.4", AddressError, AddressError),
+    ("1.2.3.4\0", AddressError, AddressError),
+    ("\u0661.2.3.4", AddressError, AddressError),
+    ("1.2.3.4/\udcff", PrefixError, AddressError),
+]
+
+# Where ipaddress reads or prints otherwise: the text, what ipaddress answers, what this module answers.
+DIFFERENCES = [
+    ("a plus before the prefix length", "10.0.0.0/+8", None, "10.0.0.0/8"),
+    ("a mask of host bits", "10.0.0.0/0.0.0.255", "10.0.0.0/24", None),
+    ("a zone", "fe80::1%eth0/64", "fe80::1%eth0/64", None),
+]
+
+
+def ours(text):
+    try:
+        return str(ip_network(text))
+    except AddressError:
+        return None
+
+
+def theirs(text):
+    try:
+        return str(ipaddress.ip_interface(text))
+    except ValueError:
+        return None
+
+
+class Texts(unittest.TestCase):
+    def answer(self, kind, text):
+        try:
+            return str(kind(text))
+        except ipnetwork.NetworkError as error:
+            self.assertIn(repr(text), str(error))
+            return type(error)
+
+    def test_rows(self):
+        for text, four, six in TEXTS:
+            with self.subTest(text=text):
+                self.assertEqual(self.answer(IPv4Network, text), four)
+                self.assertEqual(self.answer(IPv6Network, text), six)
+                wanted = next((it for it in (four, six) if isinstance(it, str)), None)
+                self.assertEqual(ours(text), wanted)
+
+    def test_bytes(self):
+        self.assertEqual(ip_network(b"::1/64"), IPv6Network("::1/64"))
+        with self.assertRaises(AddressError):
+            ip_network(b"\xff::")
+        with self.assertRaises(TypeError):
+            ip_network(1)
+
+    def test_differences_of_grammar(self):
+        for what, text, other, own in DIFFERENCES:
+            with self.subTest(what):
+                self.assertEqual(theirs(text), other)
+                self.assertEqual(ours(text), own)
+
+    def test_differences_of_printing(self):
+        mapped = "::ffff:1.2.3.4"
+        self.assertEqual(str(IPv6Network(mapped)), "::ffff:1.2.3.4/128")
+        # Dotted from Python 3.13 on.
+        self.assertIn(str(IPv6Address(mapped)), ("::ffff:102:304", mapped))
+
+    def test_host_bits_are_kept(self):
+        self.assertEqual(str(ip_network("10.1.9.32/16")), "10.1.9.32/16")
+        with self.assertRaises(ValueError):
+            ipaddress.ip_network("10.1.9.32/16")
+
+
+class Questions(unittest.TestCase):
+    def test_parts(self):
+        net = IPv4Network("10.10.1.97/23")
+        self.assertEqual(net.ip, IPv4Address("10.10.1.97"))
+        self.assertEqual(net.prefixlen, 23)
+        self.assertEqual(net.network_address, IPv4Address("10.10.0.0"))
+        self.assertEqual(net.broadcast_address, IPv4Address("10.10.1.255"))
+        self.assertEqual(net.netmask, IPv4Address("255.255.254.0"))
+        self.assertEqual(net.num_addresses, 512)
+        net = IPv6Network("2001:db8::/96")
+        self.assertEqual(net.broadcast_address, IPv6Address("2001:db8::ffff:ffff"))
+        self.assertEqual(net.num_addresses, 4294967296)
+        self.assertEqual(IPv6Network("::/40").netmask, IPv6Address("ffff:ffff:ff00::"))
+
+    def test_made(self):
+        self.assertEqual(IPv4Network.of(IPv4Address("10.0.0.1"), 8), IPv4Network("10.0.0.1/8"))
+        for prefixlen in (-1, 33, 255, 256):
+            with self.assertRaises(PrefixError):
+                IPv4Network.of(IPv4Address("10.0.0.1"), prefixlen)
+        with self.assertRaises(TypeError):
+            IPv4Network.of(IPv6Address("::"), 8)
+        self.assertEqual(IPv4Network.prefix_of_mask(IPv4Address("255.192.0.0")), 10)
+        with self.assertRaises(MaskError):
+            IPv6Network.prefix_of_mask(IPv6Address("0:0:ffff:ffff::"))
+
+    def test_membership(self):
+        net = IPv4Network("74.125.227.0/25")
+        self.assertIn(IPv4Address("74.125.227.4"), net)
+        self.assertNotIn(IPv4Address("74.125.228.4"), net)
+        self.assertNotIn(IPv6Address("::ffff:74.125.227.4"), net)
+        with self.assertRaises(TypeError):
+            "74.125.227.4" in net
+
+    def test_sets(self):
+        inner, outer = IPv6Network("2000:aaa::/56"), IPv6Network("2000:aaa::/48")
+        self.assertTrue(inner.subnet_of(outer) and outer.supernet_of(inner) and inner.overlaps(outer))
+        self.assertFalse(outer.subnet_of(inner) or inner.supernet_of(outer))
+        with self.assertRaises(TypeError):
+            inner.subnet_of(IPv4Network("0.0.0.0/0"))
+
+    def test_members(self):
+        members = [str(address) for address in IPv4Network("192.168.122.1/30")]
+        self.assertEqual(members, ["192.168.122.0", "192.168.122.1", "192.168.122.2", "192.168.122.3"])
+        self.assertEqual(IPv4Network("127.0.0.0/24")[255], IPv4Address("127.0.0.255"))
+        self.assertEqual(IPv4Network("0.0.0.0/0")[-1], IPv4Address("255.255.255.255"))
+        self.assertEqual(IPv6Network("::/0")[2**128 - 1], IPv6Address(2**128 - 1))
+        for index in (256, -257):
+            with self.assertRaises(IndexError):
+                IPv4Network("127.0.0.0/24")[index]
+
+    def test_values(self):
+        texts = ["10.0.0.1/8", "10.0.0.0/30", "10.0.0.0/8", "9.0.0.0/32"]
+        nets = sorted(map(IPv4Network, texts))
+        self.assertEqual(list(map(str, nets)), ["9.0.0.0/32", "10.0.0.0/8", "10.0.0.0/30", "10.0.0.1/8"])
+        self.assertEqual(len(set(nets + nets)), 4)
+        self.assertLessEqual(nets[0], nets[0])
+        self.assertNotEqual(IPv4Network("0.0.0.0/0"), IPv6Network("::/0"))
+        self.assertEqual(pickle.loads(pickle.dumps(nets[1])), nets[1])
+        self.assertEqual(copy.copy(nets[1]), nets[1])
+        self.assertEqual(eval(repr(nets[1])), nets[1])
+        with self.assertRaises(TypeError):
+            IPv4Network("0.0.0.0/0") < IPv6Network("::/0")
+
+
+if __name__ == "__main__":
+    unittest.main()

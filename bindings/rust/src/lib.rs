@@ -1,0 +1,392 @@
+//! IP networks in CIDR notation, read, printed and asked by a library whose functions are proved. This crate is the
+//! thin layer between its C functions and Rust: the addresses are those of `std::net`, texts are read by `FromStr` and
+//! printed by `Display`, and no call here allocates but those of the caller's formatter.
+//!
+//! ```
+//! use ipnetwork_c::Ipv4Network;
+//! use std::net::Ipv4Addr;
+//!
+//! let network: Ipv4Network = "10.1.9.32/16".parse()?;
+//! assert!(network.contains(Ipv4Addr::new(10, 1, 255, 255)));
+//! assert_eq!(network.network(), Ipv4Addr::new(10, 1, 0, 0));
+//! assert_eq!(network.to_string(), "10.1.9.32/16");
+//! # Ok::<(), ipnetwork_c::Fault>(())
+//! ```
+
+use std::cmp::Ordering;
+use std::error::Error;
+use std::fmt;
+use std::net::{IpAddr, Ipv4Addr, Ipv6Addr};
+use std::str::FromStr;
+
+/// Why there is no network, or no answer.
+#[derive(Clone, Copy, Debug, PartialEq, Eq, Hash)]
+pub enum Fault {
+    /// The text holds two or more `/`.
+    Format,
+    /// What stands before the `/`, or the whole text where there is none, is no address. Of `IpNetwork`: the text
+    /// names no network, whatever is wrong with it.
+    Address,
+    /// The prefix length is none of the family.
+    Prefix,
+    /// The address is no mask.
+    NoMask,
+}
+
+impl fmt::Display for Fault {
+    fn fmt(&self, f: &mut fmt::Formatter<'_>) -> fmt::Result {
+        f.write_str(match self {
+            Fault::Format => "more than one slash",
+            Fault::Address => "no address before the slash",
+            Fault::Prefix => "no prefix length of the family",
+            Fault::NoMask => "no mask",
+        })
+    }
+}
+
+impl Error for Fault {}
+
+/// The C side, as `bindings/c/ipnetwork.h` declares it. Each function reads and writes what its arguments name and
+/// nothing else, and keeps none of them.
+mod c {
+    #[repr(C)]
+    #[derive(Clone, Copy, PartialEq, Eq, Hash, Debug)]
+    pub struct Network<const N: usize> {
+        pub address: [u8; N],
+        pub prefix: u8,
+    }
+
+    #[repr(C)]
+    pub struct Either {
+        pub family: u8,
+        pub v4: Network<4>,
+        pub v6: Network<16>,
+    }
+
+    pub type V4 = Network<4>;
+    pub type V6 = Network<16>;
+
+    unsafe extern "C" {
+        pub safe fn ipnetwork_abi_version() -> u32;
+        pub unsafe fn ipnetwork_read(text: *const u8, length: usize, network: &mut Either) -> u32;
+        pub unsafe fn ipnetwork_contains(
+            n: &Either,
+            address: *const u8,
+            length: usize,
+            answer: &mut u8,
+        ) -> u32;
+        pub unsafe fn ipnetwork_v4_read(text: *const u8, length: usize, network: &mut V4) -> u32;
+        pub unsafe fn ipnetwork_v6_read(text: *const u8, length: usize, network: &mut V6) -> u32;
+        pub safe fn ipnetwork_v4_new(address: &[u8; 4], prefix: u8, network: &mut V4) -> u32;
+        pub safe fn ipnetwork_v6_new(address: &[u8; 16], prefix: u8, network: &mut V6) -> u32;
+        pub unsafe fn ipnetwork_v4_canonical(
+            n: &V4,
+            buffer: *mut u8,
+            room: usize,
+            length: &mut usize,
+        ) -> u32;
+        pub unsafe fn ipnetwork_v6_canonical(
+            n: &V6,
+            buffer: *mut u8,
+            room: usize,
+            length: &mut usize,
+        ) -> u32;
+        pub safe fn ipnetwork_v4_contains(n: &V4, address: &[u8; 4], answer: &mut u8) -> u32;
+        pub safe fn ipnetwork_v6_contains(n: &V6, address: &[u8; 16], answer: &mut u8) -> u32;
+        pub safe fn ipnetwork_v4_network(n: &V4, address: &mut [u8; 4]) -> u32;
+        pub safe fn ipnetwork_v6_network(n: &V6, address: &mut [u8; 16]) -> u32;
+        pub safe fn ipnetwork_v4_broadcast(n: &V4, address: &mut [u8; 4]) -> u32;
+        pub safe fn ipnetwork_v6_broadcast(n: &V6, address: &mut [u8; 16]) -> u32;
+        pub safe fn ipnetwork_v4_mask(n: &V4, mask: &mut [u8; 4]) -> u32;
+        pub safe fn ipnetwork_v6_mask(n: &V6, mask: &mut [u8; 16]) -> u32;
+        pub safe fn ipnetwork_v4_prefix_of_mask(mask: &[u8; 4], prefix: &mut u8) -> u32;
+        pub safe fn ipnetwork_v6_prefix_of_mask(mask: &[u8; 16], prefix: &mut u8) -> u32;
+        pub safe fn ipnetwork_v4_size(n: &V4, size: &mut u32) -> u32;
+        pub safe fn ipnetwork_v6_size(n: &V6, size: &mut [u8; 16]) -> u32;
+        pub safe fn ipnetwork_v4_nth(n: &V4, index: u32, address: &mut [u8; 4]) -> u32;
+        pub safe fn ipnetwork_v6_nth(n: &V6, index: &[u8; 16], address: &mut [u8; 16]) -> u32;
+        pub safe fn ipnetwork_v4_is_subnet_of(inner: &V4, outer: &V4, answer: &mut u8) -> u32;
+        pub safe fn ipnetwork_v6_is_subnet_of(inner: &V6, outer: &V6, answer: &mut u8) -> u32;
+        pub safe fn ipnetwork_v4_overlaps(one: &V4, other: &V4, answer: &mut u8) -> u32;
+        pub safe fn ipnetwork_v6_overlaps(one: &V6, other: &V6, answer: &mut u8) -> u32;
+        pub safe fn ipnetwork_v4_compare(one: &V4, other: &V4, order: &mut i32) -> u32;
+        pub safe fn ipnetwork_v6_compare(one: &V6, other: &V6, order: &mut i32) -> u32;
+    }
+}
+
+/// The version of the C side that this crate was written for.
+pub const ABI_VERSION: u32 = 1;
+
+/// The version of the library that is linked.
+pub fn abi_version() -> u32 {
+    c::ipnetwork_abi_version()
+}
+
+const OK: u32 = 0;
+const NO_MEMBER: u32 = 6;
+
+fn result(number: u32) -> Result<(), Fault> {
+    match number {
+        OK => Ok(()),
+        1 => Err(Fault::Format),
+        2 => Err(Fault::Address),
+        3 => Err(Fault::Prefix),
+        5 => Err(Fault::NoMask),
+        other => unreachable!("fault {other} of a call that does not answer it"),
+    }
+}
+
+/// A network of this crate has a prefix length of its family, so that a question about it has no fault.
+fn answered(number: u32) {
+    debug_assert_eq!(number, OK);
+}
+
+macro_rules! family {
+    (
+        $(#[$doc:meta])* $name:ident, $octets:literal, $address:ident, $text:literal,
+        $read:ident, $new:ident, $canonical:ident, $contains:ident, $network:ident, $broadcast:ident, $mask:ident,
+        $prefix_of_mask:ident, $is_subnet_of:ident, $overlaps:ident, $compare:ident
+    ) => {
+        $(#[$doc])*
+        #[derive(Clone, Copy, PartialEq, Eq, Hash, Debug)]
+        pub struct $name(c::Network<$octets>);
+
+        impl $name {
+            const BLANK: c::Network<$octets> = c::Network { address: [0; $octets], prefix: 0 };
+
+            /// The network of this address, host bits kept, and this prefix length; `Fault::Prefix` past the width.
+            pub fn new(address: $address, prefix: u8) -> Result<Self, Fault> {
+                let mut network = Self::BLANK;
+                result(c::$new(&address.octets(), prefix, &mut network))?;
+                Ok($name(network))
+            }
+
+            /// The network that a text names, whatever its bytes.
+            pub fn read_bytes(text: &[u8]) -> Result<Self, Fault> {
+                let mut network = Self::BLANK;
+                // A slice is never null, and has this many bytes.
+                result(unsafe { c::$read(text.as_ptr(), text.len(), &mut network) })?;
+                Ok($name(network))
+            }
+
+            /// The address, host bits included.
+            pub fn ip(&self) -> $address {
+                $address::from(self.0.address)
+            }
+
+            /// The prefix length.
+            pub fn prefix(&self) -> u8 {
+                self.0.prefix
+            }
+
+            /// Whether an address lies in the network's set.
+            pub fn contains(&self, address: $address) -> bool {
+                let mut answer = 0;
+                answered(c::$contains(&self.0, &address.octets(), &mut answer));
+                answer == 1
+            }
+
+            /// The least member: the address with its host bits cleared.
+            pub fn network(&self) -> $address {
+                let mut octets = [0; $octets];
+                answered(c::$network(&self.0, &mut octets));
+                $address::from(octets)
+            }
+
+            /// The greatest member: the address with its host bits set.
+            pub fn broadcast(&self) -> $address {
+                let mut octets = [0; $octets];
+                answered(c::$broadcast(&self.0, &mut octets));
+                $address::from(octets)
+            }
+
+            /// The mask of the prefix length.
+            pub fn mask(&self) -> $address {
+                let mut octets = [0; $octets];
+                answered(c::$mask(&self.0, &mut octets));
+                $address::from(octets)
+            }
+
+            /// The prefix length of a mask; `Fault::NoMask` where the address is none.
+            pub fn prefix_of_mask(mask: $address) -> Result<u8, Fault> {
+                let mut prefix = 0;
+                result(c::$prefix_of_mask(&mask.octets(), &mut prefix))?;
+                Ok(prefix)
+            }
+
+            /// Whether each member is one of `other`, host bits or not.
+            pub fn is_subnet_of(&self, other: &Self) -> bool {
+                let mut answer = 0;
+                answered(c::$is_subnet_of(&self.0, &other.0, &mut answer));
+                answer == 1
+            }
+
+            /// Whether some address is a member of both.
+            pub fn overlaps(&self, other: &Self) -> bool {
+                let mut answer = 0;
+                answered(c::$overlaps(&self.0, &other.0, &mut answer));
+                answer == 1
+            }
+        }
+
+        impl FromStr for $name {
+            type Err = Fault;
+
+            fn from_str(text: &str) -> Result<Self, Fault> {
+                Self::read_bytes(text.as_bytes())
+            }
+        }
+
+        impl fmt::Display for $name {
+            fn fmt(&self, f: &mut fmt::Formatter<'_>) -> fmt::Result {
+                let mut buffer = [0; $text];
+                let mut length = 0;
+                // The buffer has this many bytes.
+                answered(unsafe { c::$canonical(&self.0, buffer.as_mut_ptr(), buffer.len(), &mut length) });
+                f.pad(std::str::from_utf8(&buffer[..length]).map_err(|_| fmt::Error)?)
+            }
+        }
+
+        impl Ord for $name {
+            fn cmp(&self, other: &Self) -> Ordering {
+                let mut order = 0;
+                answered(c::$compare(&self.0, &other.0, &mut order));
+                order.cmp(&0)
+            }
+        }
+
+        impl PartialOrd for $name {
+            fn partial_cmp(&self, other: &Self) -> Option<Ordering> {
+                Some(self.cmp(other))
+            }
+        }
+    };
+}
+
+family!(
+    /// An IPv4 network: an address, host bits included, and a prefix length of 0 to 32. Ordered by address, then by
+    /// prefix length.
+    Ipv4Network, 4, Ipv4Addr, 19,
+    ipnetwork_v4_read, ipnetwork_v4_new, ipnetwork_v4_canonical, ipnetwork_v4_contains, ipnetwork_v4_network,
+    ipnetwork_v4_broadcast, ipnetwork_v4_mask, ipnetwork_v4_prefix_of_mask, ipnetwork_v4_is_subnet_of,
+    ipnetwork_v4_overlaps, ipnetwork_v4_compare
+);
+
+family!(
+    /// An IPv6 network: an address, host bits included, and a prefix length of 0 to 128. Ordered by address, then by
+    /// prefix length.
+    Ipv6Network, 16, Ipv6Addr, 44,
+    ipnetwork_v6_read, ipnetwork_v6_new, ipnetwork_v6_canonical, ipnetwork_v6_contains, ipnetwork_v6_network,
+    ipnetwork_v6_broadcast, ipnetwork_v6_mask, ipnetwork_v6_prefix_of_mask, ipnetwork_v6_is_subnet_of,
+    ipnetwork_v6_overlaps, ipnetwork_v6_compare
+);
+
+impl Ipv4Network {
+    /// The number of members; at prefix length 0 one less, 2^32 - 1.
+    pub fn size(&self) -> u32 {
+        let mut size = 0;
+        answered(c::ipnetwork_v4_size(&self.0, &mut size));
+        size
+    }
+
+    /// The member number `index` in order, counted from 0; `None` where that is not below the size.
+    pub fn nth(&self, index: u32) -> Option<Ipv4Addr> {
+        let mut octets = [0; 4];
+        match c::ipnetwork_v4_nth(&self.0, index, &mut octets) {
+            NO_MEMBER => None,
+            _ => Some(Ipv4Addr::from(octets)),
+        }
+    }
+}
+
+impl Ipv6Network {
+    /// The number of members; at prefix length 0 one less, 2^128 - 1.
+    pub fn size(&self) -> u128 {
+        let mut octets = [0; 16];
+        answered(c::ipnetwork_v6_size(&self.0, &mut octets));
+        u128::from_be_bytes(octets)
+    }
+
+    /// The member number `index` in order, counted from 0; `None` where that is not below the size.
+    pub fn nth(&self, index: u128) -> Option<Ipv6Addr> {
+        let mut octets = [0; 16];
+        match c::ipnetwork_v6_nth(&self.0, &index.to_be_bytes(), &mut octets) {
+            NO_MEMBER => None,
+            _ => Some(Ipv6Addr::from(octets)),
+        }
+    }
+}
+
+/// A network of either family. Each IPv4 network is before each IPv6 network.
+#[derive(Clone, Copy, PartialEq, Eq, PartialOrd, Ord, Hash, Debug)]
+pub enum IpNetwork {
+    V4(Ipv4Network),
+    V6(Ipv6Network),
+}
+
+impl IpNetwork {
+    /// The network that a text names, of the family that the text has; any other text is `Fault::Address`.
+    pub fn read_bytes(text: &[u8]) -> Result<Self, Fault> {
+        let mut either = c::Either {
+            family: 0,
+            v4: Ipv4Network::BLANK,
+            v6: Ipv6Network::BLANK,
+        };
+        // A slice is never null, and has this many bytes.
+        result(unsafe { c::ipnetwork_read(text.as_ptr(), text.len(), &mut either) })?;
+        Ok(match either.family {
+            4 => IpNetwork::V4(Ipv4Network(either.v4)),
+            _ => IpNetwork::V6(Ipv6Network(either.v6)),
+        })
+    }
+
+    /// Whether an address lies in the network's set. No address of the other family does.
+    pub fn contains(&self, address: IpAddr) -> bool {
+        let either = match self {
+            IpNetwork::V4(network) => c::Either {
+                family: 4,
+                v4: network.0,
+                v6: Ipv6Network::BLANK,
+            },
+            IpNetwork::V6(network) => c::Either {
+                family: 6,
+                v4: Ipv4Network::BLANK,
+                v6: network.0,
+            },
+        };
+        let mut answer = 0;
+        // The octets are as many as the length says.
+        answered(match address {
+            IpAddr::V4(address) => {
+                let octets = address.octets();
+                unsafe {
+                    c::ipnetwork_contains(&either, octets.as_ptr(), octets.len(), &mut answer)
+                }
+            }
+            IpAddr::V6(address) => {
+                let octets = address.octets();
+                unsafe {
+                    c::ipnetwork_contains(&either, octets.as_ptr(), octets.len(), &mut answer)
+                }
+            }
+        });
+        answer == 1
+    }
+}
+
+impl FromStr for IpNetwork {
+    type Err = Fault;
+
+    fn from_str(text: &str) -> Result<Self, Fault> {
+        Self::read_bytes(text.as_bytes())
+    }
+}
+
+impl fmt::Display for IpNetwork {
+    fn fmt(&self, f: &mut fmt::Formatter<'_>) -> fmt::Result {
+        match self {
+            IpNetwork::V4(network) => network.fmt(f),
+            IpNetwork::V6(network) => network.fmt(f),
+        }
+    }
+}

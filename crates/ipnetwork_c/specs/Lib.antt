@@ -1,0 +1,4 @@
+pub mod Numbers
+pub mod Held
+pub mod Answers
+pub mod Either

@@ -1,0 +1,50 @@
+-- The numbers by which C is told of faults and orders. The header has a name for each.
+use Rattle.std.specs.Prelude.{ℕ, ℤ, pos, negsuc}
+use Rattle.std.specs.declared.cmp.Ordering.{Ordering}
+use Rattle.std.specs.declared.cmp.Ordering.TheVariants.{Less, Equal, Greater}
+use Rattle.ipnetwork_family.specs.declared.error.CidrFault.{CidrFault}
+use Rattle.ipnetwork_family.specs.declared.error.CidrFault.TheVariants.{Format, Addr, Prefix}
+
+-- no fault
+abbrev pub ok : ℕ
+ok = 0
+
+-- a text with two or more `/`
+abbrev pub format : ℕ
+format = 1
+
+-- what stands before the `/` is no address
+abbrev pub address : ℕ
+address = 2
+
+-- no prefix length of the family
+abbrev pub prefix : ℕ
+prefix = 3
+
+-- a buffer without room for the text and a zero byte behind it
+abbrev pub short_buffer : ℕ
+short_buffer = 4
+
+-- an address that is no mask
+abbrev pub no_mask : ℕ
+no_mask = 5
+
+-- a member that is not there
+abbrev pub no_member : ℕ
+no_member = 6
+
+-- neither of the two families
+abbrev pub no_family : ℕ
+no_family = 7
+
+-- the cause for which a text is refused
+abbrev pub fault_number : CidrFault → ℕ
+fault_number Format = format
+fault_number Addr = address
+fault_number Prefix = prefix
+
+-- which of two comes first: less than 0 for the first, 0 where they are equal
+abbrev pub order_number : Ordering → ℤ
+order_number Less = negsuc 0
+order_number Equal = pos 0
+order_number Greater = pos 1

@@ -1,0 +1,64 @@
+//! The calls of networks of either family.
+ghost use Rattle.std.specs.Prelude.{◌≡◌};
+ghost use Rattle.ipnetwork.specs.IpNetworkText.{ReadsIpNetwork};
+ghost use Rattle.ipnetwork_c.specs.Either.{HoldsIp, AsksMember, address_in as address_in_c};
+ghost use Rattle.ipnetwork_c.specs.Answers.{ReadsInto};
+
+use crate::fault::{self, NO_FAMILY, OK, PREFIX};
+use crate::structs::{IpInC, V4, V6, address_of};
+use ipnetwork::{IpAddr, IpNetwork, Ipv4Addr};
+
+/// The network that a text of this many bytes names, of the family that the text has, as `IpNetwork::read_bytes`
+/// reads it: `OK`, and the network is written, the struct of the other family all zeros. Any other text is `ADDRESS`.
+#[unsafe(no_mangle)]
+pub extern "C" fn ipnetwork_read(text: &[u8], network: &mut IpInC) -> u32
+    ensures { ReadsInto ReadsIpNetwork HoldsIp text.now network.old network.new result }
+{
+    match IpNetwork::read_bytes(text) {
+        Ok(read) => {
+            *network = IpInC::of(&read);
+            OK
+        }
+        Err(cause) => fault::number_of(cause),
+    }
+}
+
+/// Whether an address of 4 or 16 octets lies in the network's set, as 1 or 0. No address of the other family does.
+/// `NO_FAMILY` where the family of the struct is neither 4 nor 6, or the address has neither 4 nor 16 octets; else
+/// `PREFIX` where the prefix length is greater than the family's width.
+#[unsafe(no_mangle)]
+pub extern "C" fn ipnetwork_contains(network: &IpInC, address: &[u8], answer: &mut u8) -> u32
+    ensures { AsksMember network.now address.now answer.old answer.new result }
+{
+    let Some(address) = address_in(address) else {
+        return NO_FAMILY;
+    };
+    let held = if network.family == V4 {
+        match network.v4.network() {
+            Some(network) => IpNetwork::V4(network),
+            None => return PREFIX,
+        }
+    } else if network.family == V6 {
+        match network.v6.network() {
+            Some(network) => IpNetwork::V6(network),
+            None => return PREFIX,
+        }
+    } else {
+        return NO_FAMILY;
+    };
+    *answer = u8::from(held.contains(address));
+    OK
+}
+
+/// The address of 4 or 16 octets.
+fn address_in(octets: &[u8]) -> Option<IpAddr>
+    ensures { result ≡ address_in_c octets.now }
+{
+    if let Ok(octets) = <[u8; 4]>::try_from(octets) {
+        return Some(IpAddr::V4(Ipv4Addr::from(octets)));
+    }
+    match <[u8; 16]>::try_from(octets) {
+        Ok(octets) => Some(IpAddr::V6(address_of(&octets))),
+        Err(_) => None,
+    }
+}

@@ -1,0 +1,215 @@
+//! The calls of IPv4 networks.
+ghost use Rattle.std.specs.Prelude.{◌≡◌, ◌≤◌, ℕ};
+ghost use Rattle.ipnetwork_addr.specs.Digits.{octets_of};
+ghost use Rattle.ipnetwork_addr.specs.Ipv4Text.{canonical_v4};
+ghost use Rattle.ipnetwork_family.specs.Network.{Network, Member, low, high, mask_of, size_of, Subnet, Overlap, network_cmp};
+ghost use Rattle.ipnetwork_family.specs.NetworkText.{network_text};
+ghost use Rattle.ipnetwork_family.specs.Ipv4NetworkText.{ReadsV4Network};
+ghost use Rattle.ipnetwork_c.specs.Numbers.{order_number};
+ghost use Rattle.ipnetwork_c.specs.Held.{v4_in, HoldsV4, Fits, number_of};
+ghost use Rattle.ipnetwork_c.specs.Answers.{ReadsInto, Asked, Says, Puts, TellsPrefix, TellsMember};
+
+use crate::fault::{self, NO_MASK, NO_MEMBER, OK, PREFIX};
+use crate::order::number_of_order;
+use crate::structs::Ipv4InC;
+use crate::text;
+use ipnetwork::{Ipv4Addr, Ipv4Network, ipv4_mask_to_prefix};
+
+/// The network that a text of this many bytes names, as `Ipv4Network::read_bytes` reads it: `OK`, and the network is
+/// written. Else `FORMAT`, `ADDRESS` or `PREFIX`, the first that holds.
+#[unsafe(no_mangle)]
+pub extern "C" fn ipnetwork_v4_read(text: &[u8], network: &mut Ipv4InC) -> u32
+    ensures { ReadsInto ReadsV4Network HoldsV4 text.now network.old network.new result }
+{
+    match Ipv4Network::read_bytes(text) {
+        Ok(read) => {
+            *network = Ipv4InC::of(&read);
+            OK
+        }
+        Err(cause) => fault::number_of(cause),
+    }
+}
+
+/// The network of this address, host bits kept, and this prefix length; `PREFIX` where that is greater than 32.
+#[unsafe(no_mangle)]
+pub extern "C" fn ipnetwork_v4_new(address: &[u8; 4], prefix: u8, network: &mut Ipv4InC) -> u32
+    ensures { Asked (prefix ≤ 32) (λ held. (held.address ≡ address.now) × (held.prefix ≡ prefix)) network.old network.new result }
+{
+    if prefix > 32 {
+        return PREFIX;
+    }
+    *network = Ipv4InC {
+        address: *address,
+        prefix,
+    };
+    OK
+}
+
+/// The canonical text and a zero byte behind it, in a buffer of this many bytes, of which 19 are enough. The length of
+/// the text, without the zero byte, is told too. Where the buffer has no room for both it is `SHORT_BUFFER`, the length is told
+/// and nothing else is written. `PREFIX` where the prefix length is greater than 32.
+#[unsafe(no_mangle)]
+pub extern "C" fn ipnetwork_v4_canonical(
+    network: &Ipv4InC,
+    buffer: &mut [u8],
+    length: &mut usize,
+) -> u32
+    ensures { Puts 32 (v4_in network.now) (network_text canonical_v4 (v4_in network.now)) buffer.old buffer.new length.old length.new result }
+{
+    match network.network() {
+        Some(network) => text::tell(network.canonical().as_str().as_bytes(), buffer, length),
+        None => PREFIX,
+    }
+}
+
+/// Whether an address lies in the network's set, as 1 or 0.
+#[unsafe(no_mangle)]
+pub extern "C" fn ipnetwork_v4_contains(
+    network: &Ipv4InC,
+    address: &[u8; 4],
+    answer: &mut u8,
+) -> u32
+    ensures { Asked (Fits 32 (v4_in network.now)) (Says (Member 32 (v4_in network.now) (number_of address.now))) answer.old answer.new result }
+{
+    match network.network() {
+        Some(network) => {
+            *answer = u8::from(network.contains(Ipv4Addr::from(*address)));
+            OK
+        }
+        None => PREFIX,
+    }
+}
+
+/// The least member: the address with its host bits cleared.
+#[unsafe(no_mangle)]
+pub extern "C" fn ipnetwork_v4_network(network: &Ipv4InC, address: &mut [u8; 4]) -> u32
+    ensures { Asked (Fits 32 (v4_in network.now)) (λ octets. octets ≡ octets_of (low 32 (v4_in network.now))) address.old address.new result }
+{
+    match network.network() {
+        Some(network) => {
+            *address = network.network().octets();
+            OK
+        }
+        None => PREFIX,
+    }
+}
+
+/// The greatest member: the address with its host bits set.
+#[unsafe(no_mangle)]
+pub extern "C" fn ipnetwork_v4_broadcast(network: &Ipv4InC, address: &mut [u8; 4]) -> u32
+    ensures { Asked (Fits 32 (v4_in network.now)) (λ octets. octets ≡ octets_of (high 32 (v4_in network.now))) address.old address.new result }
+{
+    match network.network() {
+        Some(network) => {
+            *address = network.broadcast().octets();
+            OK
+        }
+        None => PREFIX,
+    }
+}
+
+/// The mask: as many ones in front as the prefix length says, and zeros behind them.
+#[unsafe(no_mangle)]
+pub extern "C" fn ipnetwork_v4_mask(network: &Ipv4InC, mask: &mut [u8; 4]) -> u32
+    ensures { Asked (Fits 32 (v4_in network.now)) (λ octets. octets ≡ octets_of (mask_of 32 network.now.prefix)) mask.old mask.new result }
+{
+    match network.network() {
+        Some(network) => {
+            *mask = network.mask().octets();
+            OK
+        }
+        None => PREFIX,
+    }
+}
+
+/// The prefix length of a mask; `NO_MASK` where the address is none of the 33 masks.
+#[unsafe(no_mangle)]
+pub extern "C" fn ipnetwork_v4_prefix_of_mask(mask: &[u8; 4], prefix: &mut u8) -> u32
+    ensures { TellsPrefix 32 (number_of mask.now) prefix.old prefix.new result }
+{
+    match ipv4_mask_to_prefix(Ipv4Addr::from(*mask)) {
+        Ok(found) => {
+            *prefix = found;
+            OK
+        }
+        Err(_) => NO_MASK,
+    }
+}
+
+/// The number of members, and at prefix length 0, where that needs 33 bits, one less: 4,294,967,295.
+#[unsafe(no_mangle)]
+pub extern "C" fn ipnetwork_v4_size(network: &Ipv4InC, size: &mut u32) -> u32
+    ensures { Asked (Fits 32 (v4_in network.now)) (λ told. told ≡ size_of 32 (v4_in network.now)) size.old size.new result }
+{
+    match network.network() {
+        Some(network) => {
+            *size = network.size();
+            OK
+        }
+        None => PREFIX,
+    }
+}
+
+/// The member number `n` in order, counted from 0; `NO_MEMBER` where `n` is not below the size.
+#[unsafe(no_mangle)]
+pub extern "C" fn ipnetwork_v4_nth(network: &Ipv4InC, n: u32, address: &mut [u8; 4]) -> u32
+    ensures { TellsMember 32 octets_of (v4_in network.now) n address.old address.new result }
+{
+    match network.network() {
+        Some(network) => match network.nth(n) {
+            Some(member) => {
+                *address = member.octets();
+                OK
+            }
+            None => NO_MEMBER,
+        },
+        None => PREFIX,
+    }
+}
+
+/// Whether each member of the first is one of the second, host bits or not, as 1 or 0.
+#[unsafe(no_mangle)]
+pub extern "C" fn ipnetwork_v4_is_subnet_of(
+    inner: &Ipv4InC,
+    outer: &Ipv4InC,
+    answer: &mut u8,
+) -> u32
+    ensures { Asked (Fits 32 (v4_in inner.now) × Fits 32 (v4_in outer.now)) (Says (Subnet 32 (v4_in inner.now) (v4_in outer.now))) answer.old answer.new result }
+{
+    match (inner.network(), outer.network()) {
+        (Some(inner), Some(outer)) => {
+            *answer = u8::from(inner.is_subnet_of(outer));
+            OK
+        }
+        _ => PREFIX,
+    }
+}
+
+/// Whether some address is a member of both, as 1 or 0.
+#[unsafe(no_mangle)]
+pub extern "C" fn ipnetwork_v4_overlaps(one: &Ipv4InC, other: &Ipv4InC, answer: &mut u8) -> u32
+    ensures { Asked (Fits 32 (v4_in one.now) × Fits 32 (v4_in other.now)) (Says (Overlap 32 (v4_in one.now) (v4_in other.now))) answer.old answer.new result }
+{
+    match (one.network(), other.network()) {
+        (Some(one), Some(other)) => {
+            *answer = u8::from(one.overlaps(other));
+            OK
+        }
+        _ => PREFIX,
+    }
+}
+
+/// Which of two networks comes first, by address and then by prefix length: -1 the first, 1 the second, 0 where they
+/// are equal.
+#[unsafe(no_mangle)]
+pub extern "C" fn ipnetwork_v4_compare(one: &Ipv4InC, other: &Ipv4InC, order: &mut i32) -> u32
+    ensures { Asked (Fits 32 (v4_in one.now) × Fits 32 (v4_in other.now)) (λ told. told ≡ order_number (network_cmp (v4_in one.now) (v4_in other.now))) order.old order.new result }
+{
+    match (one.network(), other.network()) {
+        (Some(one), Some(other)) => {
+            *order = number_of_order(one.cmp(&other));
+            OK
+        }
+        _ => PREFIX,
+    }
+}

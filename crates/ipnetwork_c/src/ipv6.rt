@@ -1,0 +1,217 @@
+//! The calls of IPv6 networks.
+ghost use Rattle.std.specs.Prelude.{◌≡◌, ◌≤◌, ℕ};
+ghost use Rattle.ipnetwork_addr.specs.Digits.{octets_of_v6};
+ghost use Rattle.ipnetwork_addr.specs.Ipv6Canonical.{canonical_v6};
+ghost use Rattle.ipnetwork_family.specs.Network.{Network, Member, low, high, mask_of, size_of, Subnet, Overlap, network_cmp};
+ghost use Rattle.ipnetwork_family.specs.NetworkText.{network_text};
+ghost use Rattle.ipnetwork_family.specs.Ipv6NetworkText.{ReadsV6Network};
+ghost use Rattle.ipnetwork_c.specs.Numbers.{order_number};
+ghost use Rattle.ipnetwork_c.specs.Held.{v6_in, HoldsV6, Fits, number_of};
+ghost use Rattle.ipnetwork_c.specs.Answers.{ReadsInto, Asked, Says, Puts, TellsPrefix, TellsMember};
+
+use crate::fault::{self, NO_MASK, NO_MEMBER, OK, PREFIX};
+use crate::order::number_of_order;
+use crate::structs::{Ipv6InC, address_of};
+use crate::text;
+use ipnetwork::{Ipv6Addr, Ipv6Network, ipv6_mask_to_prefix};
+
+/// The network that a text of this many bytes names, as `Ipv6Network::read_bytes` reads it: `OK`, and the network is
+/// written. Else `FORMAT`, `ADDRESS` or `PREFIX`, the first that holds.
+#[unsafe(no_mangle)]
+pub extern "C" fn ipnetwork_v6_read(text: &[u8], network: &mut Ipv6InC) -> u32
+    ensures { ReadsInto ReadsV6Network HoldsV6 text.now network.old network.new result }
+{
+    match Ipv6Network::read_bytes(text) {
+        Ok(read) => {
+            *network = Ipv6InC::of(&read);
+            OK
+        }
+        Err(cause) => fault::number_of(cause),
+    }
+}
+
+/// The network of this address, host bits kept, and this prefix length; `PREFIX` where that is greater than 128.
+#[unsafe(no_mangle)]
+pub extern "C" fn ipnetwork_v6_new(address: &[u8; 16], prefix: u8, network: &mut Ipv6InC) -> u32
+    ensures { Asked (prefix ≤ 128) (λ held. (held.address ≡ address.now) × (held.prefix ≡ prefix)) network.old network.new result }
+{
+    if prefix > 128 {
+        return PREFIX;
+    }
+    *network = Ipv6InC {
+        address: *address,
+        prefix,
+    };
+    OK
+}
+
+/// The canonical text and a zero byte behind it, in a buffer of this many bytes, of which 44 are enough. The length of
+/// the text, without the zero byte, is told too. Where the buffer has no room for both it is `SHORT_BUFFER`, the length is told
+/// and nothing else is written. `PREFIX` where the prefix length is greater than 128.
+#[unsafe(no_mangle)]
+pub extern "C" fn ipnetwork_v6_canonical(
+    network: &Ipv6InC,
+    buffer: &mut [u8],
+    length: &mut usize,
+) -> u32
+    ensures { Puts 128 (v6_in network.now) (network_text canonical_v6 (v6_in network.now)) buffer.old buffer.new length.old length.new result }
+{
+    match network.network() {
+        Some(network) => text::tell(network.canonical().as_str().as_bytes(), buffer, length),
+        None => PREFIX,
+    }
+}
+
+/// Whether an address lies in the network's set, as 1 or 0.
+#[unsafe(no_mangle)]
+pub extern "C" fn ipnetwork_v6_contains(
+    network: &Ipv6InC,
+    address: &[u8; 16],
+    answer: &mut u8,
+) -> u32
+    ensures { Asked (Fits 128 (v6_in network.now)) (Says (Member 128 (v6_in network.now) (number_of address.now))) answer.old answer.new result }
+{
+    match network.network() {
+        Some(network) => {
+            *answer = u8::from(network.contains(address_of(address)));
+            OK
+        }
+        None => PREFIX,
+    }
+}
+
+/// The least member: the address with its host bits cleared.
+#[unsafe(no_mangle)]
+pub extern "C" fn ipnetwork_v6_network(network: &Ipv6InC, address: &mut [u8; 16]) -> u32
+    ensures { Asked (Fits 128 (v6_in network.now)) (λ octets. octets ≡ octets_of_v6 (low 128 (v6_in network.now))) address.old address.new result }
+{
+    match network.network() {
+        Some(network) => {
+            *address = network.network().octets();
+            OK
+        }
+        None => PREFIX,
+    }
+}
+
+/// The greatest member: the address with its host bits set.
+#[unsafe(no_mangle)]
+pub extern "C" fn ipnetwork_v6_broadcast(network: &Ipv6InC, address: &mut [u8; 16]) -> u32
+    ensures { Asked (Fits 128 (v6_in network.now)) (λ octets. octets ≡ octets_of_v6 (high 128 (v6_in network.now))) address.old address.new result }
+{
+    match network.network() {
+        Some(network) => {
+            *address = network.broadcast().octets();
+            OK
+        }
+        None => PREFIX,
+    }
+}
+
+/// The mask: as many ones in front as the prefix length says, and zeros behind them.
+#[unsafe(no_mangle)]
+pub extern "C" fn ipnetwork_v6_mask(network: &Ipv6InC, mask: &mut [u8; 16]) -> u32
+    ensures { Asked (Fits 128 (v6_in network.now)) (λ octets. octets ≡ octets_of_v6 (mask_of 128 network.now.prefix)) mask.old mask.new result }
+{
+    match network.network() {
+        Some(network) => {
+            *mask = network.mask().octets();
+            OK
+        }
+        None => PREFIX,
+    }
+}
+
+/// The prefix length of a mask; `NO_MASK` where the address is none of the 129 masks.
+#[unsafe(no_mangle)]
+pub extern "C" fn ipnetwork_v6_prefix_of_mask(mask: &[u8; 16], prefix: &mut u8) -> u32
+    ensures { TellsPrefix 128 (number_of mask.now) prefix.old prefix.new result }
+{
+    match ipv6_mask_to_prefix(address_of(mask)) {
+        Ok(found) => {
+            *prefix = found;
+            OK
+        }
+        Err(_) => NO_MASK,
+    }
+}
+
+/// The number of members, and at prefix length 0, where that needs 129 bits, one less: 2^128 - 1; as 16
+/// octets, the highest first.
+#[unsafe(no_mangle)]
+pub extern "C" fn ipnetwork_v6_size(network: &Ipv6InC, size: &mut [u8; 16]) -> u32
+    ensures { Asked (Fits 128 (v6_in network.now)) (λ octets. octets ≡ octets_of_v6 (size_of 128 (v6_in network.now))) size.old size.new result }
+{
+    match network.network() {
+        Some(network) => {
+            *size = Ipv6Addr::from(network.size()).octets();
+            OK
+        }
+        None => PREFIX,
+    }
+}
+
+/// The member number `n`, 16 octets, the highest first, in order, counted from 0; `NO_MEMBER` where `n` is not below
+/// the size.
+#[unsafe(no_mangle)]
+pub extern "C" fn ipnetwork_v6_nth(network: &Ipv6InC, n: &[u8; 16], address: &mut [u8; 16]) -> u32
+    ensures { TellsMember 128 octets_of_v6 (v6_in network.now) (number_of n.now) address.old address.new result }
+{
+    match network.network() {
+        Some(network) => match network.nth(u128::from(address_of(n))) {
+            Some(member) => {
+                *address = member.octets();
+                OK
+            }
+            None => NO_MEMBER,
+        },
+        None => PREFIX,
+    }
+}
+
+/// Whether each member of the first is one of the second, host bits or not, as 1 or 0.
+#[unsafe(no_mangle)]
+pub extern "C" fn ipnetwork_v6_is_subnet_of(
+    inner: &Ipv6InC,
+    outer: &Ipv6InC,
+    answer: &mut u8,
+) -> u32
+    ensures { Asked (Fits 128 (v6_in inner.now) × Fits 128 (v6_in outer.now)) (Says (Subnet 128 (v6_in inner.now) (v6_in outer.now))) answer.old answer.new result }
+{
+    match (inner.network(), outer.network()) {
+        (Some(inner), Some(outer)) => {
+            *answer = u8::from(inner.is_subnet_of(outer));
+            OK
+        }
+        _ => PREFIX,
+    }
+}
+
+/// Whether some address is a member of both, as 1 or 0.
+#[unsafe(no_mangle)]
+pub extern "C" fn ipnetwork_v6_overlaps(one: &Ipv6InC, other: &Ipv6InC, answer: &mut u8) -> u32
+    ensures { Asked (Fits 128 (v6_in one.now) × Fits 128 (v6_in other.now)) (Says (Overlap 128 (v6_in one.now) (v6_in other.now))) answer.old answer.new result }
+{
+    match (one.network(), other.network()) {
+        (Some(one), Some(other)) => {
+            *answer = u8::from(one.overlaps(other));
+            OK
+        }
+        _ => PREFIX,
+    }
+}
+
+/// Which of two networks comes first, by address and then by prefix length: -1 the first, 1 the second, 0 where they
+/// are equal.
+#[unsafe(no_mangle)]
+pub extern "C" fn ipnetwork_v6_compare(one: &Ipv6InC, other: &Ipv6InC, order: &mut i32) -> u32
+    ensures { Asked (Fits 128 (v6_in one.now) × Fits 128 (v6_in other.now)) (λ told. told ≡ order_number (network_cmp (v6_in one.now) (v6_in other.now))) order.old order.new result }
+{
+    match (one.network(), other.network()) {
+        (Some(one), Some(other)) => {
+            *order = number_of_order(one.cmp(&other));
+            OK
+        }
+        _ => PREFIX,
+    }
+}

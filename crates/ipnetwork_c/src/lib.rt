@@ -1,0 +1,25 @@
+//! The library for C: each call of networks of either family as a function that C can call.
+#![tactic(auto)]
+
+ghost use Rattle.std.specs.Prelude.{◌≡◌};
+
+mod either;
+mod fault;
+mod ipv4;
+mod ipv6;
+pub mod laws;
+mod order;
+mod structs;
+#[cfg(test)]
+mod tests;
+mod text;
+
+pub use structs::{IpInC, Ipv4InC, Ipv6InC};
+
+/// The version of what C relies on: the names, the structs and the numbers. A change of any of them changes it.
+#[unsafe(no_mangle)]
+pub extern "C" fn ipnetwork_abi_version() -> u32
+    ensures { result ≡ 1 }
+{
+    1
+}

@@ -1,0 +1,117 @@
+//! The structs of the header, and the networks that they stand for.
+ghost use Rattle.std.specs.Prelude.{◌≡◌, ◌≤◌};
+ghost use Rattle.std.specs.Option.{SomeIff};
+ghost use Rattle.ipnetwork_c.specs.Held.{v4_in, v6_in, Fits, HoldsV4, HoldsV6, number_of};
+ghost use Rattle.ipnetwork_c.specs.Either.{HoldsIp};
+
+use ipnetwork::{IpNetwork, Ipv4Addr, Ipv4Network, Ipv6Addr, Ipv6Network};
+
+/// An IPv4 network as C holds it. Nothing is known of its prefix length.
+#[repr(C)]
+#[derive(Clone, Copy)]
+pub struct Ipv4InC {
+    /// The octets of the address in network order.
+    pub address: [u8; 4],
+    /// The prefix length.
+    pub prefix: u8,
+}
+
+impl Ipv4InC {
+    /// The struct that holds a network.
+    pub(crate) fn of(network: &Ipv4Network) -> Self
+        ensures { HoldsV4 result network.now }
+    {
+        Ipv4InC {
+            address: network.ip().octets(),
+            prefix: network.prefix(),
+        }
+    }
+
+    /// The network, if the prefix length is at most 32.
+    pub(crate) fn network(&self) -> Option<Ipv4Network>
+        ensures { SomeIff result (Fits 32 (v4_in self.now)) (v4_in self.now) }
+    {
+        Ipv4Network::new_checked(Ipv4Addr::from(self.address), self.prefix)
+    }
+}
+
+/// An IPv6 network as C holds it. Nothing is known of its prefix length.
+#[repr(C)]
+#[derive(Clone, Copy)]
+pub struct Ipv6InC {
+    /// The octets of the address in network order.
+    pub address: [u8; 16],
+    /// The prefix length.
+    pub prefix: u8,
+}
+
+impl Ipv6InC {
+    /// The struct that holds a network.
+    pub(crate) fn of(network: &Ipv6Network) -> Self
+        ensures { HoldsV6 result network.now }
+    {
+        Ipv6InC {
+            address: network.ip().octets(),
+            prefix: network.prefix(),
+        }
+    }
+
+    /// The network, if the prefix length is at most 128.
+    pub(crate) fn network(&self) -> Option<Ipv6Network>
+        ensures { SomeIff result (Fits 128 (v6_in self.now)) (v6_in self.now) }
+    {
+        Ipv6Network::new_checked(address_of(&self.address), self.prefix)
+    }
+}
+
+/// The number by which `IpInC` tells that its network is an IPv4 network.
+pub(crate) const V4: u8 = 4;
+
+/// The number by which it tells that its network is an IPv6 network.
+pub(crate) const V6: u8 = 6;
+
+/// A network of either family as C holds it: the struct of its family. Nothing is known of the family.
+#[repr(C)]
+#[derive(Clone, Copy)]
+pub struct IpInC {
+    /// 4 or 6.
+    pub family: u8,
+    /// The network, where the family is 4.
+    pub v4: Ipv4InC,
+    /// The network, where the family is 6.
+    pub v6: Ipv6InC,
+}
+
+impl IpInC {
+    /// The struct that holds a network.
+    pub(crate) fn of(network: &IpNetwork) -> Self
+        ensures { HoldsIp result network.now }
+    {
+        match network {
+            IpNetwork::V4(network) => IpInC {
+                family: V4,
+                v4: Ipv4InC::of(network),
+                v6: Ipv6InC {
+                    address: [0; 16],
+                    prefix: 0,
+                },
+            },
+            IpNetwork::V6(network) => IpInC {
+                family: V6,
+                v4: Ipv4InC {
+                    address: [0; 4],
+                    prefix: 0,
+                },
+                v6: Ipv6InC::of(network),
+            },
+        }
+    }
+}
+
+/// The IPv6 address of 16 octets.
+pub(crate) fn address_of(octets: &[u8; 16]) -> Ipv6Addr
+    ensures { result ≡ number_of octets.now }
+{
+    let [a, b, c, d, e, f, g, h, i, j, k, l, m, n, o, p] = *octets;
+    Ipv6Addr::from(u128::from_be_bytes([a, b, c, d, e, f, g, h, i, j, k, l, m, n, o, p]))
+}

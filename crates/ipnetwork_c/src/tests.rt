@@ -1,0 +1,147 @@
+//! Each call once, with rows whose answers are those of the RFCs' examples and of arithmetic by hand. The tests in C,
+//! `bindings/c`, go further: they call what the linker sees.
+
+use crate::either::{ipnetwork_contains, ipnetwork_read};
+use crate::ipnetwork_abi_version;
+use crate::ipv4::*;
+use crate::ipv6::*;
+use crate::structs::{IpInC, Ipv4InC, Ipv6InC};
+use std::test::Fail;
+
+const NO_V4: Ipv4InC = Ipv4InC {
+    address: [0; 4],
+    prefix: 0,
+};
+
+const NO_V6: Ipv6InC = Ipv6InC {
+    address: [0; 16],
+    prefix: 0,
+};
+
+#[test]
+fn v4_calls(rt: HostRuntime) -> Result<(), Fail> {
+    let mut net = NO_V4;
+    let mut block = NO_V4;
+    let made = [
+        ipnetwork_v4_read(b"10.1.9.32/255.255.0.0", &mut net),
+        ipnetwork_v4_new(&[10, 1, 0, 0], 16, &mut block),
+        ipnetwork_v4_new(&[10, 1, 0, 0], 33, &mut block),
+    ];
+    assert_eq!(rt; made, [0, 0, 3]);
+    assert_eq!(rt; (net.address, net.prefix), ([10, 1, 9, 32], 16));
+    let (mut low, mut high, mut mask) = ([0; 4], [0; 4], [0; 4]);
+    let told = [
+        ipnetwork_v4_network(&net, &mut low),
+        ipnetwork_v4_broadcast(&net, &mut high),
+        ipnetwork_v4_mask(&net, &mut mask),
+    ];
+    let ends = [low, high, mask];
+    assert_eq!(rt; told, [0, 0, 0]);
+    assert_eq!(rt; ends, [[10, 1, 0, 0], [10, 1, 255, 255], [255, 255, 0, 0]]);
+    let (mut size, mut prefix, mut order) = (0, 0, 0);
+    let mut member = [0; 4];
+    let counted = [
+        ipnetwork_v4_size(&net, &mut size),
+        ipnetwork_v4_nth(&net, 258, &mut member),
+        ipnetwork_v4_prefix_of_mask(&mask, &mut prefix),
+        ipnetwork_v4_compare(&block, &net, &mut order),
+    ];
+    assert_eq!(rt; counted, [0, 0, 0, 0]);
+    assert_eq!(rt;
+        (size, member, prefix, order),
+        (65536, [10, 1, 1, 2], 16, -1)
+    );
+    let (mut has, mut inside, mut meet) = (0, 0, 0);
+    let asked = [
+        ipnetwork_v4_contains(&net, &[10, 2, 0, 0], &mut has),
+        ipnetwork_v4_is_subnet_of(&block, &net, &mut inside),
+        ipnetwork_v4_overlaps(&block, &net, &mut meet),
+    ];
+    assert_eq!(rt; asked, [0, 0, 0]);
+    assert_eq!(rt; (has, inside, meet), (0, 1, 1));
+    let mut text = [0xff; 14];
+    let mut length = 0;
+    assert_eq!(rt; ipnetwork_v4_canonical(&net, &mut text, &mut length), 0);
+    assert_eq!(rt; (length, text), (12, *b"10.1.9.32/16\0\xff"));
+    Ok(())
+}
+
+const FIRST: [u8; 16] = [0x20, 0x01, 0x0d, 0xb8, 0, 0, 0, 0, 0, 0, 0, 0, 0, 0, 0, 1];
+
+#[test]
+fn v6_calls(rt: HostRuntime) -> Result<(), Fail> {
+    let mut net = NO_V6;
+    let mut block = NO_V6;
+    let mut least = FIRST;
+    least[15] = 0;
+    let made = [
+        ipnetwork_v6_read(b"2001:db8::1/120", &mut net),
+        ipnetwork_v6_new(&least, 120, &mut block),
+        ipnetwork_v6_new(&least, 129, &mut block),
+    ];
+    assert_eq!(rt; made, [0, 0, 3]);
+    assert_eq!(rt; (net.address, net.prefix), (FIRST, 120));
+    let (mut low, mut high, mut mask) = ([0; 16], [0; 16], [0; 16]);
+    let told = [
+        ipnetwork_v6_network(&net, &mut low),
+        ipnetwork_v6_broadcast(&net, &mut high),
+        ipnetwork_v6_mask(&net, &mut mask),
+    ];
+    assert_eq!(rt; told, [0, 0, 0]);
+    let mut greatest = least;
+    greatest[15] = 255;
+    let mut ones = [255; 16];
+    ones[15] = 0;
+    assert_eq!(rt; [low, high, mask], [least, greatest, ones]);
+    let mut two = [0; 16];
+    two[15] = 2;
+    let (mut size, mut member) = ([0; 16], [0; 16]);
+    let (mut prefix, mut order) = (0, 0);
+    let counted = [
+        ipnetwork_v6_size(&net, &mut size),
+        ipnetwork_v6_nth(&net, &two, &mut member),
+        ipnetwork_v6_prefix_of_mask(&mask, &mut prefix),
+        ipnetwork_v6_compare(&net, &block, &mut order),
+    ];
+    assert_eq!(rt; counted, [0, 0, 0, 0]);
+    let mut number = [0; 16];
+    number[14] = 1;
+    let mut third = least;
+    third[15] = 2;
+    assert_eq!(rt; (size, member, prefix, order), (number, third, 120, 1));
+    let (mut has, mut inside, mut meet) = (0, 0, 0);
+    let asked = [
+        ipnetwork_v6_contains(&net, &greatest, &mut has),
+        ipnetwork_v6_is_subnet_of(&block, &net, &mut inside),
+        ipnetwork_v6_overlaps(&block, &net, &mut meet),
+    ];
+    assert_eq!(rt; asked, [0, 0, 0]);
+    assert_eq!(rt; (has, inside, meet), (1, 1, 1));
+    let mut text = [0xff; 17];
+    let mut length = 0;
+    assert_eq!(rt; ipnetwork_v6_canonical(&net, &mut text, &mut length), 0);
+    assert_eq!(rt; (length, text), (15, *b"2001:db8::1/120\0\xff"));
+    Ok(())
+}
+
+#[test]
+fn calls_of_either(rt: HostRuntime) -> Result<(), Fail> {
+    let mut net = IpInC {
+        family: 0,
+        v4: NO_V4,
+        v6: NO_V6,
+    };
+    let mut has = 0;
+    let unread = ipnetwork_contains(&net, &FIRST, &mut has);
+    let read = ipnetwork_read(b"2001:db8::/32", &mut net);
+    let told = [
+        unread,
+        read,
+        ipnetwork_contains(&net, &FIRST, &mut has),
+        ipnetwork_contains(&net, &FIRST[1..], &mut has),
+    ];
+    assert_eq!(rt; (net.family, net.v6.prefix, has), (6, 32, 1));
+    assert_eq!(rt; told, [7, 0, 0, 7]);
+    assert_eq!(rt; ipnetwork_abi_version(), 1);
+    Ok(())
+}
