@@ -164,7 +164,8 @@ impl IpNetwork {
     pub fn is_subnet_of(self, other: IpNetwork) -> bool
         ensures { IsTrue result ↔ IpSubnet self other }
     {
-        // Its clause tells that the address is a member, so that the set is not empty.
+        // The clause `network` of `ip` tells that the address fits its family, so it is a member and the set is not
+        // empty.
         let _ = self.ip();
         match self {
             IpNetwork::V4(inner) => match other {
