@@ -30,7 +30,8 @@ asked (Ok network) (Some address) = if is_ip_member network address then codes "
 unfoldable pub has_answer : List ℕ → List ℕ → List ℕ
 has_answer network address = asked (ip_network_of network) (ip_of address)
 
--- `ends T`: the least address of the set, the greatest, the mask and the number of addresses (at prefix length 0 one less), with blanks between
+-- `ends T`: the least address of the set, the greatest, the mask and the number of addresses (at prefix length 0 one
+-- less), with blanks between
 abbrev pub ends_text : IpNetwork → List ℕ
 ends_text network =
     canonical_ip (ip_low network) ++ blank ∷ canonical_ip (ip_high network) ++ blank ∷ canonical_ip (ip_mask_of network)
@@ -43,8 +44,8 @@ told (Err fault) = refused
 unfoldable pub ends_answer : List ℕ → List ℕ
 ends_answer text = told (ip_network_of text)
 
--- `rel T U`: whether the sets are the same, the first is a smaller part of the second, the second is one of the first, or
--- neither is part of the other
+-- `rel T U`: whether the sets are the same, the first is a smaller part of the second, the second is one of the
+-- first, or neither is part of the other
 abbrev pub relation : IpNetwork → IpNetwork → List ℕ
 relation a b =
     if is_ip_subnet a b

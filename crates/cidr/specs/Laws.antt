@@ -26,8 +26,8 @@ HasAnswersMembership = (text word : List ℕ) (n : IpNetwork) (a : IpAddr) → N
     → ((has_answer text word ≡ codes "yes") ↔ IpMember n a) × ((has_answer text word ≡ codes "no") ↔ ¬ (IpMember n a))
 
 -- of texts that name two networks, `rel` answers by their sets: `same` exactly if each is part of the other, `inside`
--- exactly if only the first is part of the second, `around` exactly if only the second is part of the first, and `apart`
--- exactly if neither is
+-- exactly if only the first is part of the second, `around` exactly if only the second is part of the first, and
+-- `apart` exactly if neither is
 pub record Relates (answer : List ℕ) (a b : IpNetwork) : Type 0 where
   pub same : (answer ≡ codes "same") ↔ (IpSubnet a b × IpSubnet b a)
   pub inside : (answer ≡ codes "inside") ↔ (IpSubnet a b × (¬ (IpSubnet b a)))

@@ -16,6 +16,7 @@ abbrev pub dropped : Option ℕ → List ℕ
 dropped None = codes "absent"
 dropped (Some number) = codes "dropped"
 
+-- the answer to an `add` that is out of memory
 abbrev pub out_of_memory : List ℕ
 out_of_memory = codes "out of memory"
 

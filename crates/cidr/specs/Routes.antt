@@ -5,6 +5,7 @@ use Rattle.ipnetwork_family.specs.Network.{block_of, network_cmp}
 use Rattle.ipnetwork.specs.declared.ip_network.IpNetwork.{IpNetwork}
 use Rattle.ipnetwork.specs.declared.ip_network.IpNetwork.TheVariants.{V4, V6}
 
+-- two finite maps from blocks to numbers, one for each family
 pub record Routes : Type 0 where
   pub v4 : FinMap network_cmp ℕ
   pub v6 : FinMap network_cmp ℕ

@@ -17,8 +17,8 @@ pub fn has4_answers_membership()
     laws::membership_is_computed();
 }
 
-/// `has` answers `yes` exactly for the members of the network's set, and `no` exactly for the other addresses, those of
-/// the other family among them.
+/// `has` answers `yes` exactly for the members of the network's set, and `no` exactly for the other addresses, those
+/// of the other family among them.
 pub fn has_answers_membership()
     ensures { HasAnswersMembership }
 {
@@ -35,8 +35,8 @@ pub fn rel_answers_sets()
     laws::ip_subnet_is_computed();
 }
 
-/// Where no `add` is out of memory, an input has one output, `output_of` of it; and each output that may be written is
-/// that one, unless one of its answers is `out of memory`.
+/// Where no `add` is out of memory, an input has one output, `output_of` of it; and each output that may be written
+/// is that one, unless one of its answers is `out of memory`.
 pub fn output_without_refusals()
     ensures full { FullIsComputed }
     ensures computed { ComputedIsAllowed }

@@ -116,8 +116,8 @@ abbrev pub GivesMaskPrefix : IpAddr → Result ℕ IpNetworkError → Type 0
 GivesMaskPrefix mask result =
     MatchResult result (IsIpMask mask) (λ fault. (fault ≡ InvalidPrefix) × ((p : ℕ) → ¬ (IsIpMask mask p)))
 
--- what making a network with a mask answers: the network of the mask's prefix length, or `InvalidPrefix` where there is
--- none or it is greater than the width
+-- what making a network with a mask answers: the network of the mask's prefix length, or `InvalidPrefix` where there
+-- is none or it is greater than the width
 abbrev pub MakesWithMask : IpAddr → IpAddr → Result IpNetwork IpNetworkError → Type 0
 MakesWithMask ip mask result =
     MatchResult result (λ n. (n ≡ made_of ip (prefix_of n)) × (prefix_of n ≤ width_of ip) × IsIpMask mask (prefix_of n))

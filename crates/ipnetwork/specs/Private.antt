@@ -1,1 +1,2 @@
+-- How contracts see private fields.
 pub mod Members

@@ -160,7 +160,8 @@ impl IpNetwork {
         }
     }
 
-    /// Whether each member is one of `other`, host bits or not. No network of the other family is.
+    /// Whether each member of this network is a member of `other`. Host bits change nothing.
+    /// `false` where the two are of different families.
     pub fn is_subnet_of(self, other: IpNetwork) -> bool
         ensures { IsTrue result ↔ IpSubnet self other }
     {
@@ -179,7 +180,8 @@ impl IpNetwork {
         }
     }
 
-    /// Whether each member of `other` is one, host bits or not.
+    /// Whether each member of `other` is a member of this network. Host bits change nothing.
+    /// `false` where the two are of different families.
     pub fn is_supernet_of(self, other: IpNetwork) -> bool
         ensures { IsTrue result ↔ IpSubnet other self }
     {
@@ -276,6 +278,7 @@ impl From<Ipv4Network> for IpNetwork {
 
     ghost from_gives = { λ network either. either ≡ networks.V4 network };
 
+    /// The network itself, in the variant `V4`. Does not allocate.
     fn from(network: Ipv4Network) -> Self {
         IpNetwork::V4(network)
     }
@@ -287,6 +290,7 @@ impl From<Ipv6Network> for IpNetwork {
 
     ghost from_gives = { λ network either. either ≡ networks.V6 network };
 
+    /// The network itself, in the variant `V6`. Does not allocate.
     fn from(network: Ipv6Network) -> Self {
         IpNetwork::V6(network)
     }
@@ -298,6 +302,7 @@ impl From<IpAddr> for IpNetwork {
 
     ghost from_gives = { λ address network. network ≡ made_of address (width_of address) };
 
+    /// The network of this address alone, of prefix length 32 or 128. Does not allocate.
     fn from(address: IpAddr) -> Self {
         match address {
             IpAddr::V4(address) => IpNetwork::V4(Ipv4Network::from(address)),
@@ -313,6 +318,7 @@ impl TryFrom<IpNetwork> for Ipv4Network {
 
     ghost try_from_gives = { TakesV4 };
 
+    /// The network itself, or `WrongFamily` where it is an IPv6 network. Does not allocate.
     fn try_from(network: IpNetwork) -> Result<Self, WrongFamily> {
         match network {
             IpNetwork::V4(network) => Ok(network),
@@ -328,6 +334,7 @@ impl TryFrom<IpNetwork> for Ipv6Network {
 
     ghost try_from_gives = { TakesV6 };
 
+    /// The network itself, or `WrongFamily` where it is an IPv4 network. Does not allocate.
     fn try_from(network: IpNetwork) -> Result<Self, WrongFamily> {
         match network {
             IpNetwork::V4(_) => Err(WrongFamily),
@@ -346,6 +353,7 @@ impl IntoIterator for &IpNetwork {
 
     ghost into_iter_gives = { λ network left. left ≡ ip_members network.now };
 
+    /// As `iter`.
     fn into_iter(self) -> IpNetworkIterator {
         self.iter()
     }
@@ -358,6 +366,7 @@ impl FromStr for IpNetwork {
 
     ghost from_str_gives = { ReadsIpNetwork };
 
+    /// As `read_bytes`.
     fn from_str(text: &str) -> Result<Self, CidrFault> {
         IpNetwork::read_bytes(text.as_bytes())
     }
@@ -370,6 +379,7 @@ impl TryFrom<&str> for IpNetwork {
 
     ghost try_from_gives = { λ text result. ReadsIpNetwork text.now result };
 
+    /// As `read_bytes`.
     fn try_from(text: &str) -> Result<Self, CidrFault> {
         IpNetwork::from_str(text)
     }

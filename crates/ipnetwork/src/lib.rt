@@ -1,6 +1,8 @@
 //! IPv4 and IPv6 networks in CIDR notation: read from texts, printed, and asked about the set of
 //! addresses that they stand for.
 //!
+//! Only calls that are given an allocator allocate.
+//!
 //! This crate shows the crates below it at its root: `ipnetwork_addr`, the addresses, and
 //! `ipnetwork_family`, the networks of one family.
 #![tactic(auto)]

@@ -33,6 +33,7 @@ impl From<u32> for NetworkSize {
 
     ghost from_gives = { λ number size. size ≡ sizes.V4 number };
 
+    /// The size of this number, in the variant `V4`. Does not allocate.
     fn from(number: u32) -> Self {
         NetworkSize::V4(number)
     }
@@ -44,6 +45,7 @@ impl From<u128> for NetworkSize {
 
     ghost from_gives = { λ number size. size ≡ sizes.V6 number };
 
+    /// The size of this number, in the variant `V6`. Does not allocate.
     fn from(number: u128) -> Self {
         NetworkSize::V6(number)
     }
@@ -55,6 +57,7 @@ impl From<NetworkSize> for u128 {
 
     ghost from_gives = { λ size number. number ≡ number_of size };
 
+    /// The number of either size. Does not allocate.
     fn from(size: NetworkSize) -> Self {
         match size {
             NetworkSize::V4(number) => u128::from(number),
@@ -70,7 +73,7 @@ impl TryFrom<NetworkSize> for u32 {
 
     ghost try_from_gives = { FitsV4 };
 
-    /// The number of an IPv4 size. An IPv6 size is `NetworkIsTooLarge`, however small it is.
+    /// The number of an IPv4 size. An IPv6 size is `NetworkIsTooLarge`, however small it is. Does not allocate.
     fn try_from(size: NetworkSize) -> Result<Self, NetworkSizeError> {
         match size {
             NetworkSize::V4(number) => Ok(number),

@@ -79,6 +79,7 @@ impl Ipv4Addr {
 impl From<u32> for Ipv4Addr {
     ghost from_gives = { λ number address. address ≡ number };
 
+    /// The address of this number. Does not allocate.
     fn from(number: u32) -> Self {
         Ipv4Addr { number }
     }
@@ -87,6 +88,7 @@ impl From<u32> for Ipv4Addr {
 impl From<[u8; 4]> for Ipv4Addr {
     ghost from_gives = { λ octets address. address ≡ number_from_digits 256 octets };
 
+    /// The address of these octets, highest first. Does not allocate.
     fn from(octets: [u8; 4]) -> Self {
         let [a, b, c, d] = octets;
         Ipv4Addr::new(a, b, c, d)
@@ -96,6 +98,7 @@ impl From<[u8; 4]> for Ipv4Addr {
 impl From<Ipv4Addr> for u32 {
     ghost from_gives = { λ address number. number ≡ address };
 
+    /// The number of the address. Does not allocate.
     fn from(address: Ipv4Addr) -> Self {
         address.number
     }
@@ -108,6 +111,7 @@ impl FromStr for Ipv4Addr {
 
     ghost from_str_gives = { Reads NamesV4 faults.Ipv4 };
 
+    /// As `read_bytes`.
     fn from_str(text: &str) -> Result<Self, AddrParseError> {
         Ipv4Addr::read_bytes(text.as_bytes())
     }

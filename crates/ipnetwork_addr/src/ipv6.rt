@@ -79,7 +79,8 @@ impl Ipv6Addr {
 
     /// The canonical text, at most 39 bytes (RFC 5952). An address of `::ffff:0:0/96` is `::ffff:` and
     /// an IPv4 text (section 5). Any other is its groups in shortest lower-case hex, with `::` for the
-    /// longest run of two or more zero groups, and of two as long for the one on the left (section 4). Does not allocate.
+    /// longest run of two or more zero groups, and of two as long for the one on the left (section 4). Does
+    /// not allocate.
     pub fn canonical(&self) -> ArrayString<TEXT_CAPACITY>
         ensures canonical { IsCanonicalV6 result.bytes self.now }
         ensures bytes { result.bytes ≡ canonical_v6 self.now }
@@ -99,6 +100,7 @@ fn split(number: u128) -> (u128, u16)
 impl From<u128> for Ipv6Addr {
     ghost from_gives = { λ number address. address ≡ number };
 
+    /// The address of this number. Does not allocate.
     fn from(number: u128) -> Self {
         Ipv6Addr { number }
     }
@@ -107,6 +109,7 @@ impl From<u128> for Ipv6Addr {
 impl From<[u16; 8]> for Ipv6Addr {
     ghost from_gives = { λ segments address. address ≡ number_from_digits (2 ^ 16) segments };
 
+    /// The address of these groups, highest first. Does not allocate.
     fn from(segments: [u16; 8]) -> Self {
         let [a, b, c, d, e, f, g, h] = segments;
         Ipv6Addr::new(a, b, c, d, e, f, g, h)
@@ -116,6 +119,7 @@ impl From<[u16; 8]> for Ipv6Addr {
 impl From<Ipv6Addr> for u128 {
     ghost from_gives = { λ address number. number ≡ address };
 
+    /// The number of the address. Does not allocate.
     fn from(address: Ipv6Addr) -> Self {
         address.number
     }
@@ -128,6 +132,7 @@ impl FromStr for Ipv6Addr {
 
     ghost from_str_gives = { Reads NamesV6 faults.Ipv6 };
 
+    /// As `read_bytes`.
     fn from_str(text: &str) -> Result<Self, AddrParseError> {
         Ipv6Addr::read_bytes(text.as_bytes())
     }

@@ -45,9 +45,9 @@ pub extern "C" fn ipnetwork_v4_new(address: &[u8; 4], prefix: u8, network: &mut 
     OK
 }
 
-/// The canonical text and a zero byte behind it, in a buffer of this many bytes, of which 19 are enough. The length of
-/// the text, without the zero byte, is told too. Where the buffer has no room for both it is `SHORT_BUFFER`, the length is told
-/// and nothing else is written. `PREFIX` where the prefix length is greater than 32.
+/// The canonical text and a zero byte behind it, in a buffer of this many bytes, of which 19 are enough. The length
+/// of the text, without the zero byte, is told too. Where the buffer has no room for both it is `SHORT_BUFFER`, the
+/// length is told and nothing else is written. `PREFIX` where the prefix length is greater than 32.
 #[unsafe(no_mangle)]
 pub extern "C" fn ipnetwork_v4_canonical(
     network: &Ipv4InC,
@@ -62,7 +62,7 @@ pub extern "C" fn ipnetwork_v4_canonical(
     }
 }
 
-/// Whether an address lies in the network's set, as 1 or 0.
+/// Whether an address lies in the network's set, as 1 or 0. `PREFIX` where the prefix length is greater than 32.
 #[unsafe(no_mangle)]
 pub extern "C" fn ipnetwork_v4_contains(
     network: &Ipv4InC,
@@ -80,7 +80,7 @@ pub extern "C" fn ipnetwork_v4_contains(
     }
 }
 
-/// The least member: the address with its host bits cleared.
+/// The least member: the address with its host bits cleared. `PREFIX` where the prefix length is greater than 32.
 #[unsafe(no_mangle)]
 pub extern "C" fn ipnetwork_v4_network(network: &Ipv4InC, address: &mut [u8; 4]) -> u32
     ensures { Asked (Fits 32 (v4_in network.now)) (λ octets. octets ≡ octets_of (low 32 (v4_in network.now))) address.old address.new result }
@@ -94,7 +94,7 @@ pub extern "C" fn ipnetwork_v4_network(network: &Ipv4InC, address: &mut [u8; 4])
     }
 }
 
-/// The greatest member: the address with its host bits set.
+/// The greatest member: the address with its host bits set. `PREFIX` where the prefix length is greater than 32.
 #[unsafe(no_mangle)]
 pub extern "C" fn ipnetwork_v4_broadcast(network: &Ipv4InC, address: &mut [u8; 4]) -> u32
     ensures { Asked (Fits 32 (v4_in network.now)) (λ octets. octets ≡ octets_of (high 32 (v4_in network.now))) address.old address.new result }
@@ -108,7 +108,8 @@ pub extern "C" fn ipnetwork_v4_broadcast(network: &Ipv4InC, address: &mut [u8; 4
     }
 }
 
-/// The mask: as many ones in front as the prefix length says, and zeros behind them.
+/// The mask: as many ones in front as the prefix length says, and zeros behind them. `PREFIX` where the prefix
+/// length is greater than 32.
 #[unsafe(no_mangle)]
 pub extern "C" fn ipnetwork_v4_mask(network: &Ipv4InC, mask: &mut [u8; 4]) -> u32
     ensures { Asked (Fits 32 (v4_in network.now)) (λ octets. octets ≡ octets_of (mask_of 32 network.now.prefix)) mask.old mask.new result }
@@ -136,7 +137,8 @@ pub extern "C" fn ipnetwork_v4_prefix_of_mask(mask: &[u8; 4], prefix: &mut u8) -
     }
 }
 
-/// The number of members, and at prefix length 0, where that needs 33 bits, one less: 4,294,967,295.
+/// The number of members, and at prefix length 0, where that needs 33 bits, one less: 4,294,967,295. `PREFIX` where
+/// the prefix length is greater than 32.
 #[unsafe(no_mangle)]
 pub extern "C" fn ipnetwork_v4_size(network: &Ipv4InC, size: &mut u32) -> u32
     ensures { Asked (Fits 32 (v4_in network.now)) (λ told. told ≡ size_of 32 (v4_in network.now)) size.old size.new result }
@@ -150,7 +152,8 @@ pub extern "C" fn ipnetwork_v4_size(network: &Ipv4InC, size: &mut u32) -> u32
     }
 }
 
-/// The member number `n` in order, counted from 0; `NO_MEMBER` where `n` is not below the size.
+/// The member number `n` in order, counted from 0; `NO_MEMBER` where `n` is not below the size. `PREFIX` where the
+/// prefix length is greater than 32.
 #[unsafe(no_mangle)]
 pub extern "C" fn ipnetwork_v4_nth(network: &Ipv4InC, n: u32, address: &mut [u8; 4]) -> u32
     ensures { TellsMember 32 octets_of (v4_in network.now) n address.old address.new result }
@@ -167,7 +170,8 @@ pub extern "C" fn ipnetwork_v4_nth(network: &Ipv4InC, n: u32, address: &mut [u8;
     }
 }
 
-/// Whether each member of the first is one of the second, host bits or not, as 1 or 0.
+/// Whether each member of the first network is a member of the second, as 1 or 0. Host bits change nothing. `PREFIX`
+/// where a prefix length is greater than 32.
 #[unsafe(no_mangle)]
 pub extern "C" fn ipnetwork_v4_is_subnet_of(
     inner: &Ipv4InC,
@@ -185,7 +189,7 @@ pub extern "C" fn ipnetwork_v4_is_subnet_of(
     }
 }
 
-/// Whether some address is a member of both, as 1 or 0.
+/// Whether some address is a member of both, as 1 or 0. `PREFIX` where a prefix length is greater than 32.
 #[unsafe(no_mangle)]
 pub extern "C" fn ipnetwork_v4_overlaps(one: &Ipv4InC, other: &Ipv4InC, answer: &mut u8) -> u32
     ensures { Asked (Fits 32 (v4_in one.now) × Fits 32 (v4_in other.now)) (Says (Overlap 32 (v4_in one.now) (v4_in other.now))) answer.old answer.new result }
@@ -200,7 +204,7 @@ pub extern "C" fn ipnetwork_v4_overlaps(one: &Ipv4InC, other: &Ipv4InC, answer: 
 }
 
 /// Which of two networks comes first, by address and then by prefix length: -1 the first, 1 the second, 0 where they
-/// are equal.
+/// are equal. `PREFIX` where a prefix length is greater than 32.
 #[unsafe(no_mangle)]
 pub extern "C" fn ipnetwork_v4_compare(one: &Ipv4InC, other: &Ipv4InC, order: &mut i32) -> u32
     ensures { Asked (Fits 32 (v4_in one.now) × Fits 32 (v4_in other.now)) (λ told. told ≡ order_number (network_cmp (v4_in one.now) (v4_in other.now))) order.old order.new result }

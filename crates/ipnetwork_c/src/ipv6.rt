@@ -45,9 +45,9 @@ pub extern "C" fn ipnetwork_v6_new(address: &[u8; 16], prefix: u8, network: &mut
     OK
 }
 
-/// The canonical text and a zero byte behind it, in a buffer of this many bytes, of which 44 are enough. The length of
-/// the text, without the zero byte, is told too. Where the buffer has no room for both it is `SHORT_BUFFER`, the length is told
-/// and nothing else is written. `PREFIX` where the prefix length is greater than 128.
+/// The canonical text and a zero byte behind it, in a buffer of this many bytes, of which 44 are enough. The length
+/// of the text, without the zero byte, is told too. Where the buffer has no room for both it is `SHORT_BUFFER`, the
+/// length is told and nothing else is written. `PREFIX` where the prefix length is greater than 128.
 #[unsafe(no_mangle)]
 pub extern "C" fn ipnetwork_v6_canonical(
     network: &Ipv6InC,
@@ -62,7 +62,7 @@ pub extern "C" fn ipnetwork_v6_canonical(
     }
 }
 
-/// Whether an address lies in the network's set, as 1 or 0.
+/// Whether an address lies in the network's set, as 1 or 0. `PREFIX` where the prefix length is greater than 128.
 #[unsafe(no_mangle)]
 pub extern "C" fn ipnetwork_v6_contains(
     network: &Ipv6InC,
@@ -80,7 +80,7 @@ pub extern "C" fn ipnetwork_v6_contains(
     }
 }
 
-/// The least member: the address with its host bits cleared.
+/// The least member: the address with its host bits cleared. `PREFIX` where the prefix length is greater than 128.
 #[unsafe(no_mangle)]
 pub extern "C" fn ipnetwork_v6_network(network: &Ipv6InC, address: &mut [u8; 16]) -> u32
     ensures { Asked (Fits 128 (v6_in network.now)) (λ octets. octets ≡ octets_of_v6 (low 128 (v6_in network.now))) address.old address.new result }
@@ -94,7 +94,7 @@ pub extern "C" fn ipnetwork_v6_network(network: &Ipv6InC, address: &mut [u8; 16]
     }
 }
 
-/// The greatest member: the address with its host bits set.
+/// The greatest member: the address with its host bits set. `PREFIX` where the prefix length is greater than 128.
 #[unsafe(no_mangle)]
 pub extern "C" fn ipnetwork_v6_broadcast(network: &Ipv6InC, address: &mut [u8; 16]) -> u32
     ensures { Asked (Fits 128 (v6_in network.now)) (λ octets. octets ≡ octets_of_v6 (high 128 (v6_in network.now))) address.old address.new result }
@@ -108,7 +108,8 @@ pub extern "C" fn ipnetwork_v6_broadcast(network: &Ipv6InC, address: &mut [u8; 1
     }
 }
 
-/// The mask: as many ones in front as the prefix length says, and zeros behind them.
+/// The mask: as many ones in front as the prefix length says, and zeros behind them. `PREFIX` where the prefix
+/// length is greater than 128.
 #[unsafe(no_mangle)]
 pub extern "C" fn ipnetwork_v6_mask(network: &Ipv6InC, mask: &mut [u8; 16]) -> u32
     ensures { Asked (Fits 128 (v6_in network.now)) (λ octets. octets ≡ octets_of_v6 (mask_of 128 network.now.prefix)) mask.old mask.new result }
@@ -137,7 +138,7 @@ pub extern "C" fn ipnetwork_v6_prefix_of_mask(mask: &[u8; 16], prefix: &mut u8) 
 }
 
 /// The number of members, and at prefix length 0, where that needs 129 bits, one less: 2^128 - 1; as 16
-/// octets, the highest first.
+/// octets, the highest first. `PREFIX` where the prefix length is greater than 128.
 #[unsafe(no_mangle)]
 pub extern "C" fn ipnetwork_v6_size(network: &Ipv6InC, size: &mut [u8; 16]) -> u32
     ensures { Asked (Fits 128 (v6_in network.now)) (λ octets. octets ≡ octets_of_v6 (size_of 128 (v6_in network.now))) size.old size.new result }
@@ -152,7 +153,7 @@ pub extern "C" fn ipnetwork_v6_size(network: &Ipv6InC, size: &mut [u8; 16]) -> u
 }
 
 /// The member number `n`, 16 octets, the highest first, in order, counted from 0; `NO_MEMBER` where `n` is not below
-/// the size.
+/// the size. `PREFIX` where the prefix length is greater than 128.
 #[unsafe(no_mangle)]
 pub extern "C" fn ipnetwork_v6_nth(network: &Ipv6InC, n: &[u8; 16], address: &mut [u8; 16]) -> u32
     ensures { TellsMember 128 octets_of_v6 (v6_in network.now) (number_of n.now) address.old address.new result }
@@ -169,7 +170,8 @@ pub extern "C" fn ipnetwork_v6_nth(network: &Ipv6InC, n: &[u8; 16], address: &mu
     }
 }
 
-/// Whether each member of the first is one of the second, host bits or not, as 1 or 0.
+/// Whether each member of the first network is a member of the second, as 1 or 0. Host bits change nothing. `PREFIX`
+/// where a prefix length is greater than 128.
 #[unsafe(no_mangle)]
 pub extern "C" fn ipnetwork_v6_is_subnet_of(
     inner: &Ipv6InC,
@@ -187,7 +189,7 @@ pub extern "C" fn ipnetwork_v6_is_subnet_of(
     }
 }
 
-/// Whether some address is a member of both, as 1 or 0.
+/// Whether some address is a member of both, as 1 or 0. `PREFIX` where a prefix length is greater than 128.
 #[unsafe(no_mangle)]
 pub extern "C" fn ipnetwork_v6_overlaps(one: &Ipv6InC, other: &Ipv6InC, answer: &mut u8) -> u32
     ensures { Asked (Fits 128 (v6_in one.now) × Fits 128 (v6_in other.now)) (Says (Overlap 128 (v6_in one.now) (v6_in other.now))) answer.old answer.new result }
@@ -202,7 +204,7 @@ pub extern "C" fn ipnetwork_v6_overlaps(one: &Ipv6InC, other: &Ipv6InC, answer: 
 }
 
 /// Which of two networks comes first, by address and then by prefix length: -1 the first, 1 the second, 0 where they
-/// are equal.
+/// are equal. `PREFIX` where a prefix length is greater than 128.
 #[unsafe(no_mangle)]
 pub extern "C" fn ipnetwork_v6_compare(one: &Ipv6InC, other: &Ipv6InC, order: &mut i32) -> u32
     ensures { Asked (Fits 128 (v6_in one.now) × Fits 128 (v6_in other.now)) (λ told. told ≡ order_number (network_cmp (v6_in one.now) (v6_in other.now))) order.old order.new result }

@@ -10,7 +10,7 @@ use Rattle.ipnetwork_family.specs.declared.error.NetworkSizeError.TheVariants.{N
 use Rattle.ipnetwork_family.specs.declared.error.IpNetworkError.{IpNetworkError}
 use Rattle.ipnetwork_family.specs.declared.error.IpNetworkError.TheVariants as errors
 
--- what a refusal says: its variant, and its text as bytes
+-- a refusal: its variant, and its text as bytes
 pub data Refusal : Type 0 where
   BadAddress : List ℕ → Refusal
   BadPrefix : Refusal
@@ -18,6 +18,7 @@ pub data Refusal : Type 0 where
   BadSize : NetworkSizeError → Refusal
   NoMemory : Refusal
 
+-- what an error says: its variant, and the bytes of its text
 abbrev pub refusal_of : IpNetworkError → Refusal
 refusal_of (errors.InvalidAddr text) = BadAddress (string_bytes text)
 refusal_of errors.InvalidPrefix = BadPrefix
@@ -53,7 +54,7 @@ fault_of Addr Ipv6 input = BadAddress (fault_text Ipv6)
 fault_of Addr Ip input = BadAddress input
 fault_of Prefix kind input = BadPrefix
 
--- the error is this refusal or, where that has a text, says that there was no memory for it
+-- the error is this refusal or, where that has a text, `OutOfMemory`
 abbrev pub IsRefusal : Refusal → IpNetworkError → Type 0
 IsRefusal (BadAddress text) error = (refusal_of error ≡ BadAddress text) ⊎ (refusal_of error ≡ NoMemory)
 IsRefusal BadPrefix error = refusal_of error ≡ BadPrefix

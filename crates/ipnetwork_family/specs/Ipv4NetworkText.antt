@@ -34,6 +34,7 @@ abbrev pub v4_length_from : Option ℕ → Option ℕ → Option ℕ
 v4_length_from None mask = masked mask
 v4_length_from (Some number) mask = if nat_le number 32 then Some number else masked mask
 
+-- the prefix length that a suffix gives, if it gives one
 abbrev pub v4_length_of : List ℕ → Option ℕ
 v4_length_of text = v4_length_from (prefix_number_of text) (v4_of text)
 

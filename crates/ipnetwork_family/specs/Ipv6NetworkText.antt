@@ -26,6 +26,7 @@ abbrev pub v6_length_from : Option ℕ → Option ℕ
 v6_length_from None = None
 v6_length_from (Some number) = if nat_le number 128 then Some number else None
 
+-- the prefix length that a suffix gives, if it gives one
 abbrev pub v6_length_of : List ℕ → Option ℕ
 v6_length_of text = v6_length_from (prefix_number_of text)
 

@@ -12,8 +12,8 @@ use Rattle.ipnetwork_family.specs.ErrorTexts.{fault_of, IsRefusal}
 use Rattle.ipnetwork_family.specs.declared.error.CidrFault.{CidrFault}
 use Rattle.ipnetwork_family.specs.declared.error.IpNetworkError.{IpNetworkError}
 
--- the network that the text names; where it names none, the refusal of the text for its cause, which may be that there
--- was no memory for the text of the refusal
+-- the network that the text names; where it names none, the refusal of the text for its cause or, where that has a
+-- text, `OutOfMemory` in its place
 abbrev pub Parses : {N : Type 0} → (List ℕ → N → Type 0) → (List ℕ → CidrFault → Type 0) → AddrParseError → List ℕ → Result N IpNetworkError → Type 0
 Parses {N} Names IsCauseOf kind text result =
     MatchResult result (Names text)

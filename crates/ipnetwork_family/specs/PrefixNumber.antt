@@ -1,4 +1,4 @@
--- Which texts name a prefix length.
+-- Which texts name a number, in the spelling of prefix lengths.
 use Rattle.std.specs.Prelude.{◌≡◌, ℕ, ◌≤◌, ◌⊎◌, nat_lt, if◌then◌else◌, List, ◌∷◌, length, Option, None, Some}
 use Rattle.std.specs.Str.{all_ascii_digits}
 use Rattle.std.specs.Str.Parse.{IsNumeral, digits_value, without_leading_plus}
@@ -18,11 +18,11 @@ pub record IsPrefixNumber (text : List ℕ) (value : ℕ) : Type 0 where
   pub spelled : (text ≡ digits) ⊎ (text ≡ 43 ∷ digits)
   pub numeral : IsNumeralOf digits value
 
--- the text names no prefix length of at most max
+-- the text names no number of at most max
 abbrev pub IsNoPrefixNumber : List ℕ → ℕ → Type 0
 IsNoPrefixNumber text max = (value : ℕ) → IsPrefixNumber text value → ¬ (value ≤ max)
 
--- the value that a text names as a prefix length, if it names one, computed
+-- the value that a text names, if it names one, computed
 abbrev pub prefix_number_of : List ℕ → Option ℕ
 prefix_number_of text =
     let digits = without_leading_plus text in

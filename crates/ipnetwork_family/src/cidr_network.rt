@@ -17,10 +17,13 @@ pub trait CidrNetwork: Copy + Ord {
     /// The number of bits of an address, and the greatest prefix length.
     const WIDTH: u8;
 
+    // The number of bits, as contracts see it.
     ghost WIDTH: { ℕ };
 
+    // The number that an address means.
     ghost number: { Self.Addr → ℕ };
 
+    // The address and the prefix length that a network means.
     ghost pair: { Self → Network };
 
     /// The address as made, host bits included.
@@ -45,7 +48,7 @@ pub trait CidrNetwork: Copy + Ord {
     fn contains(&self, ip: Self::Addr) -> bool
         ensures { IsTrue result ↔ Member WIDTH (pair self.now) (number ip) };
 
-    /// Whether each member is one of `other`, host bits or not.
+    /// Whether each member of this network is a member of `other`. Host bits change nothing.
     fn is_subnet_of(self, other: Self) -> bool
         ensures { IsTrue result ↔ Subnet WIDTH (pair self) (pair other) };
 
@@ -60,8 +63,10 @@ pub trait CidrNetwork: Copy + Ord {
         ensures cases { MatchOption result (WIDTH < prefix)
             (λ n. (prefix ≤ WIDTH) × (pair n ≡ block_of WIDTH (record { address = number addr; prefix = prefix }))) };
 
+    // Addresses are ordered by their numbers.
     ghost address_order: { (x y : Self.Addr) → Self.Addr.cmp x y ≡ nat_cmp (number x) (number y) };
 
+    // Networks are ordered by their address, then by their prefix length.
     ghost network_order: { (a b : Self) → Self.cmp a b ≡ network_cmp (pair a) (pair b) };
 }
 

@@ -22,9 +22,11 @@ pub enum CidrFault {
 /// Why a network is refused, with the text of what was refused.
 #[derive(Debug, PartialEq, Eq, Drop)]
 pub enum IpNetworkError {
-    /// What stands for the address is none.
+    /// What stands before the `/`, or the whole text where there is no `/`, is no address; of `IpNetwork`, the
+    /// text names no network, whatever is wrong with it.
     InvalidAddr(String),
-    /// The prefix length is greater than the number of bits, or the mask is none.
+    /// The prefix length is greater than the number of bits, what stands after the `/` gives none, or the address
+    /// given as a mask is none of its family's masks.
     InvalidPrefix,
     /// The text holds two or more `/`.
     InvalidCidrFormat(String),
@@ -134,7 +136,7 @@ impl IpNetworkError {
     }
 }
 
-/// Two texts in one, for which memory is asked once.
+/// Two texts, one after the other. Allocates once.
 fn joined(alloc: Global, front: &str, back: &str) -> Result<String, AllocError>
     ensures { IfOk result (λ text. string_bytes text ≡ front.now ++ back.now) }
 {

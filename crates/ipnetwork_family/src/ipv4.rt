@@ -161,14 +161,14 @@ impl Ipv4Network {
         }
     }
 
-    /// Whether each member is one of `other`, host bits or not.
+    /// Whether each member of this network is a member of `other`. Host bits change nothing.
     pub fn is_subnet_of(self, other: Ipv4Network) -> bool
         ensures { IsTrue result ↔ Subnet 32 self other }
     {
         other.prefix() <= self.prefix() && other.contains(self.ip())
     }
 
-    /// Whether each member of `other` is one, host bits or not.
+    /// Whether each member of `other` is a member of this network. Host bits change nothing.
     pub fn is_supernet_of(self, other: Ipv4Network) -> bool
         ensures { IsTrue result ↔ Subnet 32 other self }
     {
@@ -283,6 +283,7 @@ pub fn ipv4_mask_to_prefix(mask: Ipv4Addr) -> Result<u8, IpNetworkError>
 impl From<Ipv4Addr> for Ipv4Network {
     ghost from_gives = { λ address network. network ≡ record { address = address; prefix = 32 } };
 
+    /// The network of this address alone, of prefix length 32. Does not allocate.
     fn from(addr: Ipv4Addr) -> Self {
         Ipv4Network {
             address: u32::from(addr),
@@ -298,6 +299,7 @@ impl IntoIterator for &Ipv4Network {
 
     ghost into_iter_gives = { λ network left. left ≡ members 32 network.now };
 
+    /// As `iter`.
     fn into_iter(self) -> Ipv4NetworkIterator {
         self.iter()
     }
@@ -308,6 +310,7 @@ impl FromStr for Ipv4Network {
 
     ghost from_str_gives = { ReadsV4Network };
 
+    /// As `read_bytes`.
     fn from_str(text: &str) -> Result<Self, CidrFault> {
         Ipv4Network::read_bytes(text.as_bytes())
     }
@@ -318,6 +321,7 @@ impl TryFrom<&str> for Ipv4Network {
 
     ghost try_from_gives = { λ text result. ReadsV4Network text.now result };
 
+    /// As `read_bytes`.
     fn try_from(text: &str) -> Result<Self, CidrFault> {
         Ipv4Network::from_str(text)
     }

@@ -244,6 +244,7 @@ impl<'a, N: CidrNetwork, V: Copy> IntoIterator for &'a PrefixTable<N, V> {
 }
 
 impl<N: CidrNetwork + Debug, V: Copy + Debug> Debug for PrefixTable<N, V> {
+    /// The blocks and their values, in order. Nothing is promised of the text.
     fn fmt<W: Write>(&self, f: &mut Formatter<W>) -> fmt::Result {
         let mut out = f.debug_map();
         for (network, value) in self {

@@ -9,7 +9,8 @@ use std::io::{Read, Write};
 /// A reader or a writer, and whether a call of it has failed.
 ///
 /// `read`, `write` and `flush` ask for a device that has not failed, and the rest of the crate has no other call.
-/// Those that ask a device whether it failed or not, `try_read`, `try_write` and `try_flush`, are for `Watched` alone.
+/// Those that ask a device whether it failed or not, `try_read`, `try_write` and `try_flush`, are for `Watched`
+/// alone.
 #[derive(Drop)]
 pub(crate) struct Device<D> {
     inner: D,

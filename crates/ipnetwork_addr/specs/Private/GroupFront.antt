@@ -75,6 +75,7 @@ pub record BeginsWithLeft (text : List ℕ) (count number : ℕ) (end : Option (
   pub value : number ≡ number_from_digits (2 ^ 16) groups
   pub small : number < (2 ^ 16) ^ count
 
+-- it begins with no such groups, or with more than eight
 abbrev pub NoLeft : List ℕ → Type 0
 NoLeft text = (groups : List ℕ) (end : Option (List ℕ)) → IsLeft groups text end → 8 < length groups
 
@@ -90,5 +91,6 @@ pub record EndsWithRight (room : ℕ) (text : List ℕ) (number : ℕ) : Type 0 
   pub value : number ≡ number_from_digits (2 ^ 16) groups
   pub small : number < (2 ^ 16) ^ room
 
+-- it is no such groups, or more of them than the room
 abbrev pub NoRight : ℕ → List ℕ → Type 0
 NoRight room text = (groups : List ℕ) → IsRight groups text → room < length groups

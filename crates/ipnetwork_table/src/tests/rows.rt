@@ -134,3 +134,15 @@ fn entries_in_order(rt: HostRuntime) -> Result<(), Fail> {
     assert!(rt; entries.next().is_none() && sum == 15);
     Ok(())
 }
+
+#[test]
+fn debug_text_has_each_entry(rt: HostRuntime) -> Result<(), Fail> {
+    let mut table = PrefixTable::new(rt.alloc());
+    table.insert(v4("10.1.9.32/16")?, 3)?;
+    table.insert(v4("10.0.0.0/8")?, 2)?;
+    let wide = format!(in rt.alloc(); "{:?}", v4("10.0.0.0/8")?)?;
+    let narrow = format!(in rt.alloc(); "{:?}", v4("10.1.0.0/16")?)?;
+    let both = format!(in rt.alloc(); "{{{wide}: 2, {narrow}: 3}}")?;
+    assert_eq!(rt; format!(in rt.alloc(); "{:?}", table)?.as_str(), both.as_str());
+    Ok(())
+}
