@@ -7,7 +7,7 @@ use Rattle.cidr.specs.Output.{complete_part}
 use Rattle.cidr.specs.OutputLaws.{output_of}
 use Rattle.ipnetwork.specs.declared.ip_network.IpNetwork.TheVariants.{V4}
 use Rattle.ipnetwork_addr.specs.Ipv6Computed.{v6_of, gap_below}
-use Rattle.cidr.specs.Requests.{Add, Plain, number_of, one_word_request, two_words_request, request_in, request_of}
+use Rattle.cidr.specs.Requests.{Add, Plain, route_number_of, one_word_request, two_words_request, request_in, request_of}
 
 pub return_before_line_feed : output_of (codes "has4 10.0.0.0/8 10.255.255.255" ++ (13 ∷ 10 ∷ [])) ≡ codes "yes" ++ (10 ∷ [])
 unfolding digits request_of request_in two_words_request two_words_answer
@@ -48,11 +48,11 @@ unfinished_line = refl
 -- ---- what lines ask of the routes
 
 pub add_keeps_the_network : request_of (codes "add 10.0.0.1/8 +05") ≡ Add (V4 (record { address = 167772161; prefix = 8 })) 5
-unfolding digits request_of request_in two_words_request number_of
+unfolding digits request_of request_in two_words_request route_number_of
 add_keeps_the_network = refl
 
 pub number_past_32_bits : request_of (codes "add 10.0.0.0/8 4294967296") ≡ Plain (codes "refused")
-unfolding digits request_of request_in two_words_request number_of
+unfolding digits request_of request_in two_words_request route_number_of
 number_past_32_bits = refl
 
 pub find_asks_of_an_address : request_of (codes "find 10.0.0.0/8") ≡ Plain (codes "refused")

@@ -10,7 +10,7 @@ use Rattle.ipnetwork.specs.IpNetworkText.{ip_network_of}
 use Rattle.cidr.specs.Commands.{one_word_answer, two_words_answer, answer_to, command_answer}
 use Rattle.cidr.specs.Output.{MayGet, MayAnswer, reply, replies, answer_of}
 use Rattle.cidr.specs.OutputLaws.{IsPlainLine, PlainLinesAskNothing, PlainInputsHaveOneOutput}
-use Rattle.cidr.specs.Requests.{Request, Plain, adding, dropping, finding, number_of, one_word_request, two_words_request, request_in, request_of}
+use Rattle.cidr.specs.Requests.{Request, Plain, adding, dropping, finding, route_number_of, one_word_request, two_words_request, request_in, request_of}
 use Rattle.cidr.specs.Routes.{Routes, no_routes}
 use Rattle.cidr.specs.Words.{words}
 
@@ -27,7 +27,7 @@ one_word command word no_drop no_find =
 two_words : (command first second : List ℕ) → command ≢ codes "add" → two_words_request command first second ≡ Plain (two_words_answer command first second)
 unfolding two_words_request
 two_words command first second no_add =
-    ap (λ b. cond b (adding (ip_network_of first) (number_of second)) (Plain (two_words_answer command first second))) (differs command (codes "add") no_add)
+    ap (λ b. cond b (adding (ip_network_of first) (route_number_of second)) (Plain (two_words_answer command first second))) (differs command (codes "add") no_add)
 
 plain_words : (command : List ℕ) (others : List (List ℕ)) → command ≢ codes "add" → command ≢ codes "drop" → command ≢ codes "find"
     → request_in (command ∷ others) ≡ Plain (answer_to (command ∷ others))

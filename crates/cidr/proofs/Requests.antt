@@ -7,7 +7,7 @@ use Rattle.ipnetwork_family.proofs.ComputedV4.{prefix_number_sound, prefix_numbe
 use Rattle.cidr.specs.declared.replies.Replies.{Replies}
 use Rattle.cidr.specs.Output.{MayGet}
 use Rattle.cidr.specs.Private.Replies.{Adds, RepliesTo}
-use Rattle.cidr.specs.Requests.{Request, Plain, number_of, within_32_bits}
+use Rattle.cidr.specs.Requests.{Request, Plain, route_number_of, within_32_bits}
 use Rattle.cidr.specs.Routes.{Routes}
 
 -- ---- replies
@@ -33,8 +33,8 @@ other_reply r s x y old new asked test says fails replies = replies_as r s _ y o
 
 -- ---- numbers
 
-pub number_is : (text : List ℕ) (value : ℕ) → IsPrefixNumber text value → value ≤ 4294967295 → number_of text ≡ Some value
-unfolding number_of
+pub number_is : (text : List ℕ) (value : ℕ) → IsPrefixNumber text value → value ≤ 4294967295 → route_number_of text ≡ Some value
+unfolding route_number_of
 number_is text value names fits =
     ap within_32_bits (prefix_number_complete text value names) ∙ ap (λ b. cond b (Some value) None) (le-leb value 4294967295 fits)
 
@@ -45,6 +45,6 @@ not_within (Some value) h = elim (leb_tells value 4294967295) [
   | inr over ↦ ap (λ b. cond b (Some value) None) over.0
 ]
 
-pub number_is_none : (text : List ℕ) → IsNoPrefixNumber text 4294967295 → number_of text ≡ None
-unfolding number_of
+pub number_is_none : (text : List ℕ) → IsNoPrefixNumber text 4294967295 → route_number_of text ≡ None
+unfolding route_number_of
 number_is_none text none = not_within (prefix_number_of text) (λ value e. none value (prefix_number_sound text value e))

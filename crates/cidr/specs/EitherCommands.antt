@@ -5,7 +5,7 @@ use Rattle.ipnetwork_addr.specs.declared.ip.IpAddr.{IpAddr}
 use Rattle.ipnetwork_family.specs.declared.error.CidrFault.{CidrFault}
 use Rattle.ipnetwork.specs.IpNetworks.{ip_low, ip_high, ip_mask_of, ip_size, is_ip_member, is_ip_subnet}
 use Rattle.ipnetwork.specs.IpNetworkText.{ip_network_text, ip_network_of}
-use Rattle.ipnetwork.specs.Sizes.{number_of}
+use Rattle.ipnetwork.specs.Sizes.{size_number}
 use Rattle.ipnetwork.specs.declared.ip_network.IpNetwork.{IpNetwork}
 use Rattle.cidr.specs.Words.{blank}
 
@@ -35,7 +35,7 @@ has_answer network address = asked (ip_network_of network) (ip_of address)
 abbrev pub ends_text : IpNetwork → List ℕ
 ends_text network =
     canonical_ip (ip_low network) ++ blank ∷ canonical_ip (ip_high network) ++ blank ∷ canonical_ip (ip_mask_of network)
-    ++ blank ∷ decimal (number_of (ip_size network))
+    ++ blank ∷ decimal (size_number (ip_size network))
 
 abbrev pub told : Result IpNetwork CidrFault → List ℕ
 told (Ok network) = ends_text network

@@ -4,7 +4,7 @@ use Rattle.cidr.specs.declared.fault.RunFault.{RunFault}
 use Rattle.cidr.specs.declared.fault.RunFault.TheVariants.{Read, Write, InputTooLong}
 
 -- what the program writes to standard error
-abbrev pub fault_text : RunFault → List ℕ
-fault_text Read = codes "read error"
-fault_text Write = codes "write error"
-fault_text InputTooLong = codes "input too long"
+abbrev pub run_fault_text : RunFault → List ℕ
+run_fault_text Read = codes "read error"
+run_fault_text Write = codes "write error"
+run_fault_text InputTooLong = codes "input too long"

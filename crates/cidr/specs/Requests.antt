@@ -26,8 +26,8 @@ abbrev pub within_32_bits : Option ℕ → Option ℕ
 within_32_bits None = None
 within_32_bits (Some number) = if nat_le number 4294967295 then Some number else None
 
-unfoldable pub number_of : List ℕ → Option ℕ
-number_of text = within_32_bits (prefix_number_of text)
+unfoldable pub route_number_of : List ℕ → Option ℕ
+route_number_of text = within_32_bits (prefix_number_of text)
 
 -- `add T N`: the block of the network that T names gets the number that N names; T is judged first
 abbrev pub adding : Result IpNetwork CidrFault → Option ℕ → Request
@@ -53,7 +53,7 @@ one_word_request command word =
 
 unfoldable pub two_words_request : List ℕ → List ℕ → List ℕ → Request
 two_words_request command first second =
-    if bytes_eq command (codes "add") then adding (ip_network_of first) (number_of second) else Plain (two_words_answer command first second)
+    if bytes_eq command (codes "add") then adding (ip_network_of first) (route_number_of second) else Plain (two_words_answer command first second)
 
 -- what the words of a line ask, by their number
 unfoldable pub request_in : List (List ℕ) → Request

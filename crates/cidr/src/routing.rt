@@ -7,7 +7,7 @@ ghost use Rattle.ipnetwork.specs.IpNetworkText.{ip_network_of};
 ghost use Rattle.cidr.specs.Output.{MayGet};
 ghost use Rattle.cidr.specs.Private.Replies.{HasRoom, Adds, RepliesTo};
 ghost use Rattle.cidr.specs.Private.Routes.{routes_of};
-ghost use Rattle.cidr.specs.Requests.{Add, Drop, Find, adding, dropping, finding, number_of};
+ghost use Rattle.cidr.specs.Requests.{Add, Drop, Find, adding, dropping, finding, route_number_of};
 ghost use Rattle.cidr.specs.Words.{blank};
 
 use crate::either::{Answer, REFUSED};
@@ -27,7 +27,7 @@ const NONE: &str = "none";
 #[inline(never)]
 pub(crate) fn add(network: &[u8], number: &[u8], routes: &mut RouteTables, replies: &mut Replies)
     requires { HasRoom replies.old }
-    ensures { RepliesTo (routes_of routes.old) (adding (ip_network_of network.now) (number_of number.now))
+    ensures { RepliesTo (routes_of routes.old) (adding (ip_network_of network.now) (route_number_of number.now))
         replies.old replies.new (routes_of routes.new) }
 {
     // Does nothing: the proof of this body needs the law.

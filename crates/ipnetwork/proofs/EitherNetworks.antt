@@ -14,7 +14,7 @@ use Rattle.ipnetwork_family.specs.declared.error.CidrFault.TheVariants.{Format}
 use Rattle.ipnetwork.specs.declared.ip_network.IpNetwork.{IpNetwork}
 use Rattle.ipnetwork.specs.declared.ip_network.IpNetwork.TheVariants.{V4, V6}
 use Rattle.ipnetwork.proofs.Families.{names_none}
-use Rattle.ipnetwork.specs.IpNetworkText.{NamesIpNetwork, ReadsIpNetwork, ip_network_text, either_of, ip_network_of}
+use Rattle.ipnetwork.specs.IpNetworkText.{NamesIpNetwork, ReadsIpNetwork, ip_network_text, either_network_of, ip_network_of}
 
 -- the address of a network that was computed stands before the slash
 from_address : (address prefix : Option ℕ) (n : Network) → network_from address prefix ≡ Ok n → address ≡ Some n.address
@@ -61,7 +61,7 @@ names_one f text (V6 a) (V4 b) h k = absurd (not_both f text b a k h)
 names_one f text (V6 a) (V6 b) h k = ap V6 (same_v6 f text a b h k)
 
 -- the computed answer is an answer
-read_either : (text : List ℕ) (v4 v6 : Result Network CidrFault) → ReadsV4Network text v4 → ReadsV6Network text v6 → ReadsIpNetwork text (either_of v4 v6)
+read_either : (text : List ℕ) (v4 v6 : Result Network CidrFault) → ReadsV4Network text v4 → ReadsV6Network text v6 → ReadsIpNetwork text (either_network_of v4 v6)
 read_either text (Ok n) v6 h k = h
 read_either text (Err fault) (Ok n) h k = k
 read_either text (Err fault) (Err other) h k = (refl, names_none text h.1 k.1)

@@ -12,7 +12,7 @@ use Rattle.ipnetwork.specs.declared.ip_network.IpNetwork.TheVariants.{V4, V6}
 use Rattle.ipnetwork.specs.declared.size.NetworkSize.TheVariants as sizes
 use Rattle.ipnetwork.specs.IpNetworks.{IpMember, IpSubnet, IpOverlap, ip_size, made_of, width_of, IsIpMask, IsIpBefore, IsIpAtMost, ip_network_cmp}
 use Rattle.ipnetwork.specs.IpNetworkText.{ip_network_of}
-use Rattle.ipnetwork.specs.Sizes.{number_of, FitsV4}
+use Rattle.ipnetwork.specs.Sizes.{size_number, FitsV4}
 
 -- 0.0.0.0/0, ::/0, and ::ffff:0:0/96, the block of the IPv4-mapped addresses
 abbrev pub all_v4 : IpNetwork
@@ -47,7 +47,7 @@ size_of_everything_v4 = refl
 pub size_of_the_mapped_block : ip_size mapped ≡ sizes.V6 4294967296
 size_of_the_mapped_block = refl
 
-pub family_does_not_count : number_of (sizes.V4 100) ≡ number_of (sizes.V6 100)
+pub family_does_not_count : size_number (sizes.V4 100) ≡ size_number (sizes.V6 100)
 family_does_not_count = refl
 
 pub small_v6_size_does_not_fit : FitsV4 (sizes.V6 100) (Err NetworkIsTooLarge)

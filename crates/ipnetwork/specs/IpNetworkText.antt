@@ -34,11 +34,11 @@ ip_network_text (V4 n) = network_text canonical_v4 n
 ip_network_text (V6 n) = network_text canonical_v6 n
 
 -- what reading answers, by what each family reads: the network of the family that reads one, or `Addr`
-abbrev pub either_of : Result Network CidrFault → Result Network CidrFault → Result IpNetwork CidrFault
-either_of (Ok n) v6 = Ok (V4 n)
-either_of (Err fault) (Ok n) = Ok (V6 n)
-either_of (Err fault) (Err other) = Err Addr
+abbrev pub either_network_of : Result Network CidrFault → Result Network CidrFault → Result IpNetwork CidrFault
+either_network_of (Ok n) v6 = Ok (V4 n)
+either_network_of (Err fault) (Ok n) = Ok (V6 n)
+either_network_of (Err fault) (Err other) = Err Addr
 
 -- what reading answers, computed
 abbrev pub ip_network_of : List ℕ → Result IpNetwork CidrFault
-ip_network_of text = either_of (v4_network_of text) (v6_network_of text)
+ip_network_of text = either_network_of (v4_network_of text) (v6_network_of text)

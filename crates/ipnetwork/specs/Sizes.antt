@@ -6,9 +6,9 @@ use Rattle.ipnetwork.specs.declared.size.NetworkSize.{NetworkSize}
 use Rattle.ipnetwork.specs.declared.size.NetworkSize.TheVariants.{V4, V6}
 
 -- the number that a size means, whatever its family
-abbrev pub number_of : NetworkSize → ℕ
-number_of (V4 number) = number
-number_of (V6 number) = number
+abbrev pub size_number : NetworkSize → ℕ
+size_number (V4 number) = number
+size_number (V6 number) = number
 
 -- what converting a size to a number of 32 bits answers: the number of an IPv4 size, and a refusal of any other
 abbrev pub FitsV4 : NetworkSize → Result ℕ NetworkSizeError → Type 0

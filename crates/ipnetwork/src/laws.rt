@@ -13,7 +13,7 @@ ghost use Rattle.ipnetwork_family.specs.declared.json.JsonFault.{JsonFault};
 ghost use Rattle.ipnetwork_family.specs.declared.error.CidrFault.{CidrFault};
 ghost use Rattle.ipnetwork.specs.IpNetworks.{IsIpNetwork, IsIpBefore, IsIpAtMost, ip_network_cmp, ip_network_writes, AreApart, IpMember, IpSubnet, is_ip_member, is_ip_subnet, ip_members};
 ghost use Rattle.ipnetwork.specs.IpNetworkText.{NamesIpNetwork, ReadsIpNetwork, ParsesIpNetwork, ip_network_text, ip_network_of};
-ghost use Rattle.ipnetwork.specs.Sizes.{number_of};
+ghost use Rattle.ipnetwork.specs.Sizes.{size_number};
 ghost use Rattle.ipnetwork_family.specs.Network.{Network, IsNetwork};
 ghost use Rattle.ipnetwork.specs.declared.ip_network.IpNetwork.TheVariants as networks;
 
@@ -189,16 +189,16 @@ pub fn ip_network_order(a: IpNetwork, b: IpNetwork) -> (bool, bool, Ordering)
 
 /// `==` of sizes is equality of their numbers.
 pub fn network_size_equality(a: NetworkSize, b: NetworkSize) -> bool
-    ensures { IsTrue result ↔ (number_of a ≡ number_of b) }
+    ensures { IsTrue result ↔ (size_number a ≡ size_number b) }
 {
     a == b
 }
 
 /// Sizes are ordered by their numbers: `<`, `<=` and `cmp`.
 pub fn network_size_order(a: NetworkSize, b: NetworkSize) -> (bool, bool, Ordering)
-    ensures less { IsTrue result.0 ↔ (number_of a < number_of b) }
-    ensures at_most { IsTrue result.1 ↔ (number_of a ≤ number_of b) }
-    ensures compare { result.2 ≡ nat_cmp (number_of a) (number_of b) }
+    ensures less { IsTrue result.0 ↔ (size_number a < size_number b) }
+    ensures at_most { IsTrue result.1 ↔ (size_number a ≤ size_number b) }
+    ensures compare { result.2 ≡ nat_cmp (size_number a) (size_number b) }
 {
     (a < b, a <= b, a.cmp(&b))
 }
@@ -206,7 +206,7 @@ pub fn network_size_order(a: NetworkSize, b: NetworkSize) -> (bool, bool, Orderi
 /// A size feeds a hasher its number as one of 128 bits, whatever its variant. So two hashers in one state
 /// that are fed equal sizes are in one state afterwards.
 pub fn network_size_hash<H: Hasher>(size: NetworkSize, state: &mut H)
-    ensures { state.new ≡ fold H.write state.old (fed.u128 (number_of size)) }
+    ensures { state.new ≡ fold H.write state.old (fed.u128 (size_number size)) }
 {
     size.hash(state);
 }

@@ -53,9 +53,9 @@ impl From<u128> for NetworkSize {
 
 impl From<NetworkSize> for u128 {
     ghost use Rattle.std.specs.Prelude.{◌≡◌};
-    ghost use Rattle.ipnetwork.specs.Sizes.{number_of};
+    ghost use Rattle.ipnetwork.specs.Sizes.{size_number};
 
-    ghost from_gives = { λ size number. number ≡ number_of size };
+    ghost from_gives = { λ size number. number ≡ size_number size };
 
     /// The number of either size. Does not allocate.
     fn from(size: NetworkSize) -> Self {
@@ -83,9 +83,9 @@ impl TryFrom<NetworkSize> for u32 {
 }
 
 impl PartialEq for NetworkSize {
-    ghost use Rattle.ipnetwork.specs.Sizes.{number_of};
+    ghost use Rattle.ipnetwork.specs.Sizes.{size_number};
 
-    ghost eq = { on number_of ◌==◌ };
+    ghost eq = { on size_number ◌==◌ };
 
     ghost laws = { Prim.search (comparing, rules) };
 
@@ -99,9 +99,9 @@ impl Eq for NetworkSize {
 }
 
 impl Ord for NetworkSize {
-    ghost use Rattle.ipnetwork.specs.Sizes.{number_of};
+    ghost use Rattle.ipnetwork.specs.Sizes.{size_number};
 
-    ghost cmp = { on number_of nat_cmp };
+    ghost cmp = { on size_number nat_cmp };
 
     ghost total = { Prim.search (comparing, rules) };
 
@@ -115,9 +115,9 @@ impl Ord for NetworkSize {
 }
 
 impl PartialOrd for NetworkSize {
-    ghost use Rattle.ipnetwork.specs.Sizes.{number_of};
+    ghost use Rattle.ipnetwork.specs.Sizes.{size_number};
 
-    ghost partial_cmp = { as_partial_cmp (on number_of nat_cmp) };
+    ghost partial_cmp = { as_partial_cmp (on size_number nat_cmp) };
 
     ghost laws = { partial_order_from_own_ties (Prim.search (comparing, rules)) (Prim.search (comparing, rules)) };
 
@@ -127,9 +127,9 @@ impl PartialOrd for NetworkSize {
 }
 
 impl Hash for NetworkSize {
-    ghost use Rattle.ipnetwork.specs.Sizes.{number_of};
+    ghost use Rattle.ipnetwork.specs.Sizes.{size_number};
 
-    ghost hash_input = { λ size. fed.u128 (number_of size) };
+    ghost hash_input = { λ size. fed.u128 (size_number size) };
 
     ghost respects_eq = { Prim.search (hashing, rules) };
 
@@ -139,11 +139,11 @@ impl Hash for NetworkSize {
 }
 
 impl fmt::Display for NetworkSize {
-    ghost use Rattle.ipnetwork.specs.Sizes.{number_of};
+    ghost use Rattle.ipnetwork.specs.Sizes.{size_number};
 
-    ghost output = { λ size. Some (decimal (number_of size)) };
+    ghost output = { λ size. Some (decimal (size_number size)) };
 
-    ghost styled_output = { λ size _. Some (decimal (number_of size)) };
+    ghost styled_output = { λ size _. Some (decimal (size_number size)) };
 
     fn fmt<W: fmt::Write>(&self, f: &mut fmt::Formatter<W>) -> fmt::Result {
         let mut text = ArrayString::<DECIMAL_MAX>::new();

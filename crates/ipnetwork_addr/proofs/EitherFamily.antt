@@ -7,14 +7,14 @@ use Rattle.ipnetwork_addr.specs.Ipv4Text.{NamesV4}
 use Rattle.ipnetwork_addr.specs.Ipv6Text.{NamesV6}
 use Rattle.ipnetwork_addr.specs.Ipv6Canonical.{canonical_v6}
 use Rattle.ipnetwork_addr.specs.Either.{NamesIp, canonical_ip, FitsIp}
-use Rattle.ipnetwork_addr.specs.Private.GroupFront.{NoHex, IsPart, IsLeft}
+use Rattle.ipnetwork_addr.specs.Private.GroupFront.{NoHex, IsTextPart, IsLeft}
 use Rattle.ipnetwork_addr.proofs.Ipv4Lemmas.{v4_unique, canonical_v4_names}
 use Rattle.ipnetwork_addr.proofs.Parts.{v4_begins, IsLast, IsDot, IsGap, IsNext, kind_of, no_hex_no_group, nil_cons, other_first}
 use Rattle.ipnetwork_addr.proofs.Ipv6Names.{Shape, Full, Gapped, shape_of, v6_unique}
 use Rattle.ipnetwork_addr.proofs.Ipv6Printed.{canonical_v6_names, canonical_v6_is}
 
 -- an IPv4 text is a part of two groups, up to the end
-alone : (groups text : List ℕ) (end : Option (List ℕ)) (address : ℕ) → NamesV4 text address → IsPart groups text end → (length groups ≡ 2) × (end ≡ None)
+alone : (groups text : List ℕ) (end : Option (List ℕ)) (address : ℕ) → NamesV4 text address → IsTextPart groups text end → (length groups ≡ 2) × (end ≡ None)
 alone groups text end address named part =
     let b = v4_begins text address named in
     elim (kind_of groups text end b.group (46 ∷ b.after) b.begins part) [

@@ -9,8 +9,8 @@ use Rattle.ipnetwork_addr.specs.declared.error.AddrParseError.{AddrParseError}
 use Rattle.ipnetwork_addr.specs.declared.error.AddrParseError.TheVariants.{Ipv4, Ipv6, Ip}
 use Rattle.ipnetwork_addr.specs.declared.ip.IpAddr.TheVariants.{V4, V6}
 use Rattle.ipnetwork_addr.specs.Digits.{octets_of, octets_of_v6, segments_of}
-use Rattle.ipnetwork_addr.specs.Either.{FitsIp, IsBefore, IsAtMost, ip_cmp, ip_writes, ip_of, canonical_ip}
-use Rattle.ipnetwork_addr.specs.Faults.{fault_text}
+use Rattle.ipnetwork_addr.specs.Either.{FitsIp, IsAddrBefore, IsAtMost, ip_cmp, ip_writes, ip_of, canonical_ip}
+use Rattle.ipnetwork_addr.specs.Faults.{addr_fault_text}
 use Rattle.ipnetwork_addr.specs.Reading.{Reads, answer_from}
 use Rattle.ipnetwork_addr.specs.Texts.{IsAddressByte, Digit, UpperHex, LowerHex, Dot, Colon}
 use Rattle.ipnetwork_addr.specs.Ipv4Text.{NamesV4, v4_of}
@@ -58,22 +58,22 @@ greatest_v6_fits = lit≤ tt
 pub v6_of_129_bits : ¬ (FitsIp (V6 (2 ^ 128)))
 v6_of_129_bits h = omega (arith, h)
 
-pub lower_v4_before : IsBefore (V4 1) (V4 2)
+pub lower_v4_before : IsAddrBefore (V4 1) (V4 2)
 lower_v4_before = lit≤ tt
 
-pub v4_not_before_itself : ¬ (IsBefore (V4 2) (V4 2))
+pub v4_not_before_itself : ¬ (IsAddrBefore (V4 2) (V4 2))
 v4_not_before_itself h = omega (arith, h)
 
-pub v4_before_v6 : IsBefore (V4 0xffffffff) (V6 0)
+pub v4_before_v6 : IsAddrBefore (V4 0xffffffff) (V6 0)
 v4_before_v6 = tt
 
-pub v6_not_before_v4 : ¬ (IsBefore (V6 0) (V4 0xffffffff))
+pub v6_not_before_v4 : ¬ (IsAddrBefore (V6 0) (V4 0xffffffff))
 v6_not_before_v4 h = h
 
-pub lower_v6_before : IsBefore (V6 1) (V6 2)
+pub lower_v6_before : IsAddrBefore (V6 1) (V6 2)
 lower_v6_before = lit≤ tt
 
-pub higher_v6_not_before : ¬ (IsBefore (V6 2) (V6 1))
+pub higher_v6_not_before : ¬ (IsAddrBefore (V6 2) (V6 1))
 higher_v6_not_before h = omega (arith, h)
 
 pub v4_at_most_itself : IsAtMost (V4 2) (V4 2)
@@ -135,13 +135,13 @@ v6_fault_alone h = let e : 0 ≡ 6 = ap kind h.0 in omega (arith, e)
 pub answers : answer_from {A = ℕ} Ipv6 (Some 1) ∷ answer_from Ipv6 None ∷ [] ≡ Ok 1 ∷ Err Ipv6 ∷ []
 answers = refl
 
-pub v4_fault : fault_text Ipv4 ≡ codes "invalid IPv4 address syntax"
+pub v4_fault : addr_fault_text Ipv4 ≡ codes "invalid IPv4 address syntax"
 v4_fault = refl
 
-pub v6_fault : fault_text Ipv6 ≡ codes "invalid IPv6 address syntax"
+pub v6_fault : addr_fault_text Ipv6 ≡ codes "invalid IPv6 address syntax"
 v6_fault = refl
 
-pub ip_fault : fault_text Ip ≡ codes "invalid IP address syntax"
+pub ip_fault : addr_fault_text Ip ≡ codes "invalid IP address syntax"
 ip_fault = refl
 
 -- ---- bytes of addresses

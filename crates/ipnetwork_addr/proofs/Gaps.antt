@@ -4,7 +4,7 @@ use Rattle.std.proofs.Math.Nat.{pow-le-pow_right}
 use Rattle.std.proofs.lemmas.Option.{none-some, same_Some}
 use Rattle.std.specs.Int.Digits.{number_from_digits}
 use Rattle.ipnetwork_addr.specs.Ipv6Text.{NamesV6, NamesNoV6}
-use Rattle.ipnetwork_addr.specs.Private.GroupFront.{IsPart, BeginsWithPart, NoPart, IsLeft, BeginsWithLeft, NoLeft, IsRight, EndsWithRight, NoRight}
+use Rattle.ipnetwork_addr.specs.Private.GroupFront.{IsTextPart, BeginsWithPart, NoPart, IsLeft, BeginsWithLeft, NoLeft, IsRight, EndsWithRight, NoRight}
 use Rattle.ipnetwork_addr.proofs.Parts.{part_unique, no_part_of_nothing}
 use Rattle.ipnetwork_addr.proofs.Ipv6Names.{Shape, Full, Gapped, shape_of, names_of, left_unique}
 use Rattle.ipnetwork_addr.proofs.Shifts.{positive, number_with_gap}
@@ -19,7 +19,7 @@ right_part room text count number end h e =
     let most : (2 ^ 16) ^ count ≤ (2 ^ 16) ^ room = pow-le-pow_right {n = 65536} (lit≤ tt) h.fits in
     record {
       groups = h.groups;
-      right = inl (subst (IsPart h.groups text) e h.part);
+      right = inl (subst (IsTextPart h.groups text) e h.part);
       fits = omega (arith, h.fits, h.counted);
       value = h.value;
       small = omega (arith, most, h.small);
@@ -29,7 +29,7 @@ pub no_right_gap : (room : ℕ) (text : List ℕ) (count number : ℕ) (end : Op
 no_right_gap room text count number end next h e groups (inl part) =
     absurd (none-some next ((part_unique groups h.groups text None end part h.part).1 ∙ e))
 no_right_gap room text count number end next h e groups (inr empty) =
-    absurd (no_part_of_nothing h.groups end (subst (λ (t : List ℕ). IsPart h.groups t end) empty.1 h.part))
+    absurd (no_part_of_nothing h.groups end (subst (λ (t : List ℕ). IsTextPart h.groups t end) empty.1 h.part))
 
 pub no_right_part : (room : ℕ) (text : List ℕ) → NoPart room text → text ≢ [] → NoRight room text
 no_right_part room text none some groups (inl part) = none groups None part
@@ -49,7 +49,7 @@ module _ (text : List ℕ) (count number : ℕ) (end : Option (List ℕ)) (h : B
   names_full e eight = go h.left
     where
       go : IsLeft h.groups text end → NamesV6 text number
-      go (inl part) = names_of text number (Full h.groups (subst (IsPart h.groups text) e part) (sym h.counted ∙ eight) h.value)
+      go (inl part) = names_of text number (Full h.groups (subst (IsTextPart h.groups text) e part) (sym h.counted ∙ eight) h.value)
       go (inr none) = absurd (none-some none.next (sym e ∙ none.ends))
 
   pub too_few : end ≡ None → count ≢ 8 → NamesNoV6 text

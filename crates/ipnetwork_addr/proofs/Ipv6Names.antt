@@ -5,13 +5,13 @@ use Rattle.std.specs.List.{join_with_byte, AllZip}
 use Rattle.std.specs.Int.Digits.{number_from_digits}
 use Rattle.ipnetwork_addr.specs.Ipv4Text.{NamesV4}
 use Rattle.ipnetwork_addr.specs.Ipv6Text.{IsGroup, IsPlain, IsDotted, IsEnded, NamesV6, halves}
-use Rattle.ipnetwork_addr.specs.Private.GroupFront.{NoHex, BeginsWithGroup, Last, Dotted, Gap, Next, IsPart, IsLeft, IsRight}
+use Rattle.ipnetwork_addr.specs.Private.GroupFront.{NoHex, BeginsWithGroup, Last, Dotted, Gap, Next, IsTextPart, IsLeft, IsRight}
 use Rattle.ipnetwork_addr.proofs.Compressed.{room_of, value_of, compressed}
 use Rattle.ipnetwork_addr.proofs.Parts.{part_unique, no_part_at_colon, no_part_of_nothing}
 
 -- the two forms of a text, in the words of the reader
 pub data Shape (text : List ℕ) (address : ℕ) : Type 0 where
-  Full : (groups : List ℕ) → IsPart groups text None → length groups ≡ 8 → address ≡ number_from_digits (2 ^ 16) groups → Shape text address
+  Full : (groups : List ℕ) → IsTextPart groups text None → length groups ≡ 8 → address ≡ number_from_digits (2 ^ 16) groups → Shape text address
   Gapped : (left right next : List ℕ) → IsLeft left text (Some next) → IsRight right next → length left + length right ≤ 7 → address ≡ number_from_digits (2 ^ 16) (left ++ replicate (8 - length left - length right) 0 ++ right) → Shape text address
 
 -- ---- from the definitions to the parts
@@ -19,7 +19,7 @@ pub data Shape (text : List ℕ) (address : ℕ) : Type 0 where
 begins : (part : List ℕ) (g : ℕ) (rest : List ℕ) → IsGroup part g → NoHex rest → BeginsWithGroup (part ++ rest) g rest
 begins part g rest named stops = record { front = part; named = named; split = refl; stops = stops }
 
-plain_part : (parts : List (List ℕ)) (groups : List ℕ) → AllZip IsGroup parts groups → 0 < length groups → IsPart groups (join_with_byte 58 parts) None
+plain_part : (parts : List (List ℕ)) (groups : List ℕ) → AllZip IsGroup parts groups → 0 < length groups → IsTextPart groups (join_with_byte 58 parts) None
 plain_part [] [] named some = absurd (omega arith)
 plain_part [] (g ∷ groups) named some = absurd named
 plain_part (p ∷ parts) [] named some = absurd named
@@ -29,7 +29,7 @@ plain_part (p ∷ q ∷ parts) (g ∷ []) named some = absurd named.1
 plain_part (p ∷ q ∷ parts) (g ∷ h ∷ groups) named some =
     Next (join_with_byte 58 (q ∷ parts)) (begins p g (58 ∷ join_with_byte 58 (q ∷ parts)) named.0 (lit≤ tt)) (plain_part (q ∷ parts) (h ∷ groups) named.1 (omega arith))
 
-dotted_part : (parts : List (List ℕ)) (front last : List ℕ) (address : ℕ) → AllZip IsGroup parts front → NamesV4 last address → IsPart (front ++ halves address) (join_with_byte 58 (parts ++ last ∷ [])) None
+dotted_part : (parts : List (List ℕ)) (front last : List ℕ) (address : ℕ) → AllZip IsGroup parts front → NamesV4 last address → IsTextPart (front ++ halves address) (join_with_byte 58 (parts ++ last ∷ [])) None
 dotted_part [] [] last address named dotted = Dotted address dotted refl refl
 dotted_part [] (g ∷ front) last address named dotted = absurd named
 dotted_part (p ∷ parts) [] last address named dotted = absurd named
@@ -39,7 +39,7 @@ dotted_part (p ∷ q ∷ parts) (g ∷ front) last address named dotted =
     let next : List ℕ = join_with_byte 58 (q ∷ (parts ++ last ∷ [])) in
     Next next (begins p g (58 ∷ next) named.0 (lit≤ tt)) (dotted_part (q ∷ parts) front last address named.1 dotted)
 
-left_part : (parts : List (List ℕ)) (groups next : List ℕ) → AllZip IsGroup parts groups → 0 < length groups → IsPart groups (join_with_byte 58 parts ++ 58 ∷ 58 ∷ next) (Some next)
+left_part : (parts : List (List ℕ)) (groups next : List ℕ) → AllZip IsGroup parts groups → 0 < length groups → IsTextPart groups (join_with_byte 58 parts ++ 58 ∷ 58 ∷ next) (Some next)
 left_part [] [] next named some = absurd (omega arith)
 left_part [] (g ∷ groups) next named some = absurd named
 left_part (p ∷ parts) [] next named some = absurd named
@@ -51,8 +51,8 @@ left_part (p ∷ q ∷ parts) (g ∷ h ∷ groups) next named some =
     let e : (p ++ 58 ∷ join_with_byte 58 (q ∷ parts)) ++ 58 ∷ 58 ∷ next ≡ p ++ 58 ∷ later = append_assoc p (58 ∷ join_with_byte 58 (q ∷ parts)) (58 ∷ 58 ∷ next) in
     Next later (subst (λ (t : List ℕ). BeginsWithGroup t g (58 ∷ later)) (sym e) (begins p g (58 ∷ later) named.0 (lit≤ tt))) (left_part (q ∷ parts) (h ∷ groups) next named.1 (omega arith))
 
-ended_part : (text groups : List ℕ) → IsEnded text groups → 0 < length groups → IsPart groups text None
-ended_part text groups (inl h) some = subst (λ (t : List ℕ). IsPart groups t None) (sym h.spelled) (plain_part h.parts groups h.named some)
+ended_part : (text groups : List ℕ) → IsEnded text groups → 0 < length groups → IsTextPart groups text None
+ended_part text groups (inl h) some = subst (λ (t : List ℕ). IsTextPart groups t None) (sym h.spelled) (plain_part h.parts groups h.named some)
 ended_part text groups (inr h) some = rw (h.spelled, h.value) (dotted_part h.parts h.front h.last h.address h.named h.dotted)
 
 right_of : (text groups : List ℕ) → IsEnded text groups → IsRight groups text
@@ -71,7 +71,7 @@ left_of text left_text [] next e h = inr (record { next = next; none = refl; spe
     nothing [] e named = e
     nothing (p ∷ parts) e named = absurd named
 left_of text left_text (g ∷ groups) next e h =
-    inl (subst (λ (t : List ℕ). IsPart (g ∷ groups) t (Some next)) (sym (e ∙ ap (λ t. t ++ 58 ∷ 58 ∷ next) h.spelled)) (left_part h.parts (g ∷ groups) next h.named (omega arith)))
+    inl (subst (λ (t : List ℕ). IsTextPart (g ∷ groups) t (Some next)) (sym (e ∙ ap (λ t. t ++ 58 ∷ 58 ∷ next) h.spelled)) (left_part h.parts (g ∷ groups) next h.named (omega arith)))
 
 pub shape_of : (text : List ℕ) (address : ℕ) → NamesV6 text address → Shape text address
 shape_of text address (inl h) = Full h.groups (ended_part text h.groups h.ended (omega (arith, h.eight))) h.eight h.value
@@ -89,7 +89,7 @@ as_many [] [] named some = some
 as_many [] (g ∷ groups) named some = absurd named
 as_many (p ∷ parts) groups named some = omega arith
 
-some_group : (groups text : List ℕ) (end : Option (List ℕ)) → IsPart groups text end → 0 < length groups
+some_group : (groups text : List ℕ) (end : Option (List ℕ)) → IsTextPart groups text end → 0 < length groups
 some_group [] text end part = absurd part
 some_group (g ∷ groups) text end part = omega arith
 
@@ -115,7 +115,7 @@ dotted_more text next g groups b h = record {
 plain_one : (text : List ℕ) (g : ℕ) (groups : List ℕ) → BeginsWithGroup text g [] → groups ≡ [] → IsPlain text (g ∷ groups)
 plain_one text g groups b e = rw e (record { parts = b.front ∷ []; spelled = b.split ∙ append-nil b.front; named = (b.named, tt) })
 
-part_ended : (groups text : List ℕ) → IsPart groups text None → IsEnded text groups
+part_ended : (groups text : List ℕ) → IsTextPart groups text None → IsEnded text groups
 part_ended [] text part = absurd part
 part_ended (g ∷ groups) text (Last b e f) = inl (plain_one text g groups b e)
 part_ended (g ∷ groups) text (Dotted address named e f) =
@@ -134,7 +134,7 @@ record LeftText (text groups next : List ℕ) : Type 0 where
 front_one : (g : ℕ) (groups part : List ℕ) → IsGroup part g → groups ≡ [] → IsPlain part (g ∷ groups)
 front_one g groups part h e = rw e (record { parts = part ∷ []; spelled = refl; named = (h, tt) })
 
-part_left : (groups text next : List ℕ) → IsPart groups text (Some next) → LeftText text groups next
+part_left : (groups text next : List ℕ) → IsTextPart groups text (Some next) → LeftText text groups next
 part_left [] text next part = absurd part
 part_left (g ∷ groups) text next (Last b e f) = absurd (none-some next (sym f))
 part_left (g ∷ groups) text next (Dotted address named e f) = absurd (none-some next (sym f))
@@ -173,14 +173,14 @@ names_of text address (Gapped left right next l r room value) =
 
 pub left_unique : (gs hs text : List ℕ) (e f : Option (List ℕ)) → IsLeft gs text e → IsLeft hs text f → (gs ≡ hs) × (e ≡ f)
 left_unique gs hs text e f (inl p) (inl q) = part_unique gs hs text e f p q
-left_unique gs hs text e f (inl p) (inr q) = absurd (no_part_at_colon gs (58 ∷ q.next) e (subst (λ (t : List ℕ). IsPart gs t e) q.spelled p))
-left_unique gs hs text e f (inr p) (inl q) = absurd (no_part_at_colon hs (58 ∷ p.next) f (subst (λ (t : List ℕ). IsPart hs t f) p.spelled q))
+left_unique gs hs text e f (inl p) (inr q) = absurd (no_part_at_colon gs (58 ∷ q.next) e (subst (λ (t : List ℕ). IsTextPart gs t e) q.spelled p))
+left_unique gs hs text e f (inr p) (inl q) = absurd (no_part_at_colon hs (58 ∷ p.next) f (subst (λ (t : List ℕ). IsTextPart hs t f) p.spelled q))
 left_unique gs hs text e f (inr p) (inr q) = (p.none ∙ sym q.none, p.ends ∙ ap (λ t. Some (drop 2 t)) (sym p.spelled ∙ q.spelled) ∙ sym q.ends)
 
 pub right_unique : (gs hs text : List ℕ) → IsRight gs text → IsRight hs text → gs ≡ hs
 right_unique gs hs text (inl p) (inl q) = (part_unique gs hs text None None p q).0
-right_unique gs hs text (inl p) (inr q) = absurd (no_part_of_nothing gs None (subst (λ (t : List ℕ). IsPart gs t None) q.1 p))
-right_unique gs hs text (inr p) (inl q) = absurd (no_part_of_nothing hs None (subst (λ (t : List ℕ). IsPart hs t None) p.1 q))
+right_unique gs hs text (inl p) (inr q) = absurd (no_part_of_nothing gs None (subst (λ (t : List ℕ). IsTextPart gs t None) q.1 p))
+right_unique gs hs text (inr p) (inl q) = absurd (no_part_of_nothing hs None (subst (λ (t : List ℕ). IsTextPart hs t None) p.1 q))
 right_unique gs hs text (inr p) (inr q) = p.0 ∙ sym q.0
 
 -- ---- a text names one address

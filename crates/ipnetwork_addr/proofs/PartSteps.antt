@@ -6,7 +6,7 @@ use Rattle.std.proofs.lemmas.Int.Digits.{number_after_append}
 use Rattle.std.specs.Int.Digits.{number_from_digits}
 use Rattle.ipnetwork_addr.specs.Ipv4Text.{NamesV4, NamesNoV4}
 use Rattle.ipnetwork_addr.specs.Ipv6Text.{halves}
-use Rattle.ipnetwork_addr.specs.Private.GroupFront.{BeginsWithGroup, NoGroup, Last, Dotted, Gap, Next, IsPart, BeginsWithPart, NoPart}
+use Rattle.ipnetwork_addr.specs.Private.GroupFront.{BeginsWithGroup, NoGroup, Last, Dotted, Gap, Next, IsTextPart, BeginsWithPart, NoPart}
 use Rattle.ipnetwork_addr.proofs.Groups.{group_fits}
 use Rattle.ipnetwork_addr.proofs.Parts.{IsLast, IsDot, IsGap, IsNext, kind_of, no_group_no_part, nil_cons, other_first}
 
@@ -28,23 +28,23 @@ steps_push : (groups text rest : List ℕ) (g : ℕ) (next : List ℕ) → Steps
 steps_push [] text rest g next e b other = (next, subst (λ (t : List ℕ). BeginsWithGroup t g (58 ∷ next)) (sym e) b, other, refl)
 steps_push (h ∷ groups) text rest g next s b other = (s.0, s.1, s.2, steps_push groups s.0 rest g next s.3 b other)
 
-steps_part : (groups more text rest : List ℕ) (end : Option (List ℕ)) → Steps groups text rest → IsPart more rest end → IsPart (groups ++ more) text end
-steps_part [] more text rest end e p = subst (λ (t : List ℕ). IsPart more t end) (sym e) p
+steps_part : (groups more text rest : List ℕ) (end : Option (List ℕ)) → Steps groups text rest → IsTextPart more rest end → IsTextPart (groups ++ more) text end
+steps_part [] more text rest end e p = subst (λ (t : List ℕ). IsTextPart more t end) (sym e) p
 steps_part (g ∷ groups) more text rest end s p = Next s.0 s.1 (steps_part groups more s.0 rest end s.3 p)
 
 record Remaining (groups part rest : List ℕ) (end : Option (List ℕ)) : Type 0 where
   more : List ℕ
   is : part ≡ groups ++ more
-  later : IsPart more rest end
+  later : IsTextPart more rest end
 
-steps_back : (groups part text rest : List ℕ) (end : Option (List ℕ)) → Steps groups text rest → IsPart part text end → Remaining groups part rest end
-steps_back [] part text rest end e p = record { more = part; is = refl; later = subst (λ (t : List ℕ). IsPart part t end) e p }
+steps_back : (groups part text rest : List ℕ) (end : Option (List ℕ)) → Steps groups text rest → IsTextPart part text end → Remaining groups part rest end
+steps_back [] part text rest end e p = record { more = part; is = refl; later = subst (λ (t : List ℕ). IsTextPart part t end) e p }
 steps_back (g ∷ groups) part text rest end s p = elim (kind_of part text end g (58 ∷ s.0) s.1 p) [
   | IsLast e _ _ ↦ absurd (nil_cons 58 s.0 (sym e))
   | IsDot _ more e _ _ _ ↦ absurd (other_first 58 46 s.0 more e (omega arith))
   | IsGap next e _ _ ↦ absurd (s.2 next (ap (drop 1) e))
   | IsNext next more e is_part p' ↦
-      let later = steps_back groups more s.0 rest end s.3 (subst (λ (t : List ℕ). IsPart more t end) (sym (ap (drop 1) e)) p') in
+      let later = steps_back groups more s.0 rest end s.3 (subst (λ (t : List ℕ). IsTextPart more t end) (sym (ap (drop 1) e)) p') in
       record { more = later.more; is = is_part ∙ ap (λ t. g ∷ t) later.is; later = later.later }
 ]
 
@@ -98,7 +98,7 @@ so_far_more text rest after next count number g s b colon other = record {
 -- ---- the exits
 
 -- a part of one more group, which ends as its own part does
-ended : (text rest : List ℕ) (count number g room : ℕ) (end : Option (List ℕ)) → PartSoFar text rest count number → IsPart (g ∷ []) rest end → count < room → g < 2 ^ 16 → BeginsWithPart room text (count + 1) (number * 2 ^ 16 + g) end
+ended : (text rest : List ℕ) (count number g room : ℕ) (end : Option (List ℕ)) → PartSoFar text rest count number → IsTextPart (g ∷ []) rest end → count < room → g < 2 ^ 16 → BeginsWithPart room text (count + 1) (number * 2 ^ 16 + g) end
 ended text rest count number g room end s part h fits = record {
   groups = s.groups ++ g ∷ [];
   part = steps_part s.groups (g ∷ []) text rest end s.steps part;
@@ -129,7 +129,7 @@ ends_dotted text rest count number address room s named h fits = record {
 -- ---- no part
 
 -- where the text goes on with no part, it begins with none
-none_on : (text rest : List ℕ) (count number room : ℕ) → PartSoFar text rest count number → ((more : List ℕ) (end : Option (List ℕ)) → IsPart more rest end → room < count + length more) → NoPart room text
+none_on : (text rest : List ℕ) (count number room : ℕ) → PartSoFar text rest count number → ((more : List ℕ) (end : Option (List ℕ)) → IsTextPart more rest end → room < count + length more) → NoPart room text
 none_on text rest count number room s long part end p =
     let k = steps_back s.groups part text rest end s.steps p in
     let most = long k.more end k.later in
@@ -142,7 +142,7 @@ no_group_on text rest count number room s none =
 pub no_room : (text rest : List ℕ) (count number room : ℕ) → PartSoFar text rest count number → room ≤ count → NoPart room text
 no_room text rest count number room s full = none_on text rest count number room s go
   where
-    go : (more : List ℕ) (end : Option (List ℕ)) → IsPart more rest end → room < count + length more
+    go : (more : List ℕ) (end : Option (List ℕ)) → IsTextPart more rest end → room < count + length more
     go [] end p = absurd p
     go (g ∷ more) end p = omega arith
 

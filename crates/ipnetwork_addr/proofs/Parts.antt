@@ -5,7 +5,7 @@ use Rattle.std.specs.Char.{digit_value}
 use Rattle.std.specs.Str.Parse.{AllDigits, digits_value}
 use Rattle.ipnetwork_addr.specs.Ipv4Text.{NamesV4}
 use Rattle.ipnetwork_addr.specs.Ipv6Text.{halves}
-use Rattle.ipnetwork_addr.specs.Private.GroupFront.{NoHex, BeginsWithGroup, NoGroup, Last, Dotted, Gap, Next, IsPart}
+use Rattle.ipnetwork_addr.specs.Private.GroupFront.{NoHex, BeginsWithGroup, NoGroup, Last, Dotted, Gap, Next, IsTextPart}
 use Rattle.ipnetwork_addr.proofs.Groups.{group_unique}
 use Rattle.ipnetwork_addr.proofs.Ipv4Lemmas.{reading_of, v4_unique}
 
@@ -46,9 +46,9 @@ pub data Kind (text : List ℕ) (group : ℕ) (after : List ℕ) (groups : List 
   IsLast : after ≡ [] → groups ≡ group ∷ [] → end ≡ None → Kind text group after groups end
   IsDot : (address : ℕ) (more : List ℕ) → after ≡ 46 ∷ more → NamesV4 text address → groups ≡ halves address → end ≡ None → Kind text group after groups end
   IsGap : (next : List ℕ) → after ≡ 58 ∷ 58 ∷ next → groups ≡ group ∷ [] → end ≡ Some next → Kind text group after groups end
-  IsNext : (next more : List ℕ) → after ≡ 58 ∷ next → groups ≡ group ∷ more → IsPart more next end → Kind text group after groups end
+  IsNext : (next more : List ℕ) → after ≡ 58 ∷ next → groups ≡ group ∷ more → IsTextPart more next end → Kind text group after groups end
 
-pub kind_of : (groups text : List ℕ) (end : Option (List ℕ)) (g : ℕ) (after : List ℕ) → BeginsWithGroup text g after → IsPart groups text end → Kind text g after groups end
+pub kind_of : (groups text : List ℕ) (end : Option (List ℕ)) (g : ℕ) (after : List ℕ) → BeginsWithGroup text g after → IsTextPart groups text end → Kind text g after groups end
 kind_of [] text end g after b part = absurd part
 kind_of (h ∷ groups) text end g after b (Last c e f) =
     let same = group_unique text g h after [] b c in
@@ -65,7 +65,7 @@ kind_of (h ∷ groups) text end g after b (Next next c more) =
 
 -- ---- texts that begin with no part
 
-pub no_group_no_part : (groups text : List ℕ) (end : Option (List ℕ)) → NoGroup text → ¬ (IsPart groups text end)
+pub no_group_no_part : (groups text : List ℕ) (end : Option (List ℕ)) → NoGroup text → ¬ (IsTextPart groups text end)
 no_group_no_part [] text end none part = part
 no_group_no_part (g ∷ groups) text end none (Last b e f) = none g [] b
 no_group_no_part (g ∷ groups) text end none (Dotted address named e f) = let b = v4_begins text address named in none b.group (46 ∷ b.after) b.begins
@@ -82,10 +82,10 @@ no_front text (x ∷ front) rest some digits none e =
 pub no_hex_no_group : (text : List ℕ) → NoHex text → NoGroup text
 no_hex_no_group text none g rest h = no_front text h.front rest h.named.digits.0 h.named.digits.1 none h.split
 
-pub no_part_at_colon : (groups text : List ℕ) (end : Option (List ℕ)) → ¬ (IsPart groups (58 ∷ text) end)
+pub no_part_at_colon : (groups text : List ℕ) (end : Option (List ℕ)) → ¬ (IsTextPart groups (58 ∷ text) end)
 no_part_at_colon groups text end = no_group_no_part groups (58 ∷ text) end (no_hex_no_group (58 ∷ text) (lit≤ tt))
 
-pub no_part_of_nothing : (groups : List ℕ) (end : Option (List ℕ)) → ¬ (IsPart groups [] end)
+pub no_part_of_nothing : (groups : List ℕ) (end : Option (List ℕ)) → ¬ (IsTextPart groups [] end)
 no_part_of_nothing groups end = no_group_no_part groups [] end (no_hex_no_group [] (lit≤ tt))
 
 -- ---- there is one part, and one end
@@ -103,7 +103,7 @@ other_first x y xs ys e other = other (ap (λ t. get_or t 0 0) e)
 pub behind_first : (x y : ℕ) (xs ys : List ℕ) → x ∷ xs ≡ y ∷ ys → xs ≡ ys
 behind_first x y xs ys e = ap (drop 1) e
 
-pub part_unique : (gs hs text : List ℕ) (e f : Option (List ℕ)) → IsPart gs text e → IsPart hs text f → (gs ≡ hs) × (e ≡ f)
+pub part_unique : (gs hs text : List ℕ) (e f : Option (List ℕ)) → IsTextPart gs text e → IsTextPart hs text f → (gs ≡ hs) × (e ≡ f)
 part_unique [] hs text e f p q = absurd p
 part_unique (g ∷ gs) hs text e f (Last b is_gs is_e) q = elim (kind_of hs text f g [] b q) [
   | IsLast _ is_hs is_f ↦ (ap (λ t. g ∷ t) is_gs ∙ sym is_hs, is_e ∙ sym is_f)
@@ -123,13 +123,13 @@ part_unique (g ∷ gs) hs text e f (Gap next b is_gs is_e) q = elim (kind_of hs 
   | IsLast s _ _ ↦ absurd (nil_cons 58 (58 ∷ next) (sym s))
   | IsDot _ more s _ _ _ ↦ absurd (other_first 58 46 (58 ∷ next) more s (omega arith))
   | IsGap other s is_hs is_f ↦ (ap (λ t. g ∷ t) is_gs ∙ sym is_hs, is_e ∙ ap Some (ap (drop 2) s) ∙ sym is_f)
-  | IsNext other more s _ part ↦ absurd (no_part_at_colon more next f (subst (λ (t : List ℕ). IsPart more t f) (sym (ap (drop 1) s)) part))
+  | IsNext other more s _ part ↦ absurd (no_part_at_colon more next f (subst (λ (t : List ℕ). IsTextPart more t f) (sym (ap (drop 1) s)) part))
 ]
 part_unique (g ∷ gs) hs text e f (Next next b part) q = elim (kind_of hs text f g (58 ∷ next) b q) [
   | IsLast s _ _ ↦ absurd (nil_cons 58 next (sym s))
   | IsDot _ more s _ _ _ ↦ absurd (other_first 58 46 next more s (omega arith))
-  | IsGap other s _ _ ↦ absurd (no_part_at_colon gs other e (subst (λ (t : List ℕ). IsPart gs t e) (ap (drop 1) s) part))
+  | IsGap other s _ _ ↦ absurd (no_part_at_colon gs other e (subst (λ (t : List ℕ). IsTextPart gs t e) (ap (drop 1) s) part))
   | IsNext other more s is_hs part' ↦
-      let later = part_unique gs more next e f part (subst (λ (t : List ℕ). IsPart more t f) (sym (ap (drop 1) s)) part') in
+      let later = part_unique gs more next e f part (subst (λ (t : List ℕ). IsTextPart more t f) (sym (ap (drop 1) s)) part') in
       (ap (λ t. g ∷ t) later.0 ∙ sym is_hs, later.1)
 ]

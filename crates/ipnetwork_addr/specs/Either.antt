@@ -37,11 +37,11 @@ FitsIp (V4 address) = address < 2 ^ 32
 FitsIp (V6 address) = address < 2 ^ 128
 
 -- the first address is before the second: by number in a family, and IPv4 before IPv6
-abbrev pub IsBefore : IpAddr → IpAddr → Type 0
-IsBefore (V4 a) (V4 b) = a < b
-IsBefore (V4 a) (V6 b) = ⊤
-IsBefore (V6 a) (V4 b) = ⊥
-IsBefore (V6 a) (V6 b) = a < b
+abbrev pub IsAddrBefore : IpAddr → IpAddr → Type 0
+IsAddrBefore (V4 a) (V4 b) = a < b
+IsAddrBefore (V4 a) (V6 b) = ⊤
+IsAddrBefore (V6 a) (V4 b) = ⊥
+IsAddrBefore (V6 a) (V6 b) = a < b
 
 -- the first address is before the second, or is the second
 abbrev pub IsAtMost : IpAddr → IpAddr → Type 0

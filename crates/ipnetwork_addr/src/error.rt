@@ -16,11 +16,11 @@ pub enum AddrParseError {
 
 impl fmt::Display for AddrParseError {
     ghost use Rattle.std.specs.Prelude.{Some};
-    ghost use Rattle.ipnetwork_addr.specs.Faults.{fault_text};
+    ghost use Rattle.ipnetwork_addr.specs.Faults.{addr_fault_text};
 
-    ghost output = { λ fault. Some (fault_text fault) };
+    ghost output = { λ fault. Some (addr_fault_text fault) };
 
-    ghost styled_output = { λ fault _. Some (fault_text fault) };
+    ghost styled_output = { λ fault _. Some (addr_fault_text fault) };
 
     fn fmt<W: fmt::Write>(&self, f: &mut fmt::Formatter<W>) -> fmt::Result {
         f.write_str(match self {

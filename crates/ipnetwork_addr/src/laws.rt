@@ -4,7 +4,7 @@ ghost use Rattle.std.specs.Prelude.{true, false, ◌++◌, ◌≡◌, ◌↔◌,
 ghost use Rattle.std.specs.Hash as writes;
 ghost use Rattle.std.specs.Ordering.{nat_cmp};
 ghost use Rattle.ipnetwork_addr.specs.Ipv4Text.{IsOctet, IsPlainOctet, NamesV4, canonical_v4, v4_of};
-ghost use Rattle.ipnetwork_addr.specs.Either.{NamesIp, FitsIp, IsBefore, IsAtMost, ip_cmp, ip_writes, canonical_ip, ip_of};
+ghost use Rattle.ipnetwork_addr.specs.Either.{NamesIp, FitsIp, IsAddrBefore, IsAtMost, ip_cmp, ip_writes, canonical_ip, ip_of};
 ghost use Rattle.ipnetwork_addr.specs.Ipv6Canonical.{IsCanonicalV6, canonical_v6};
 ghost use Rattle.ipnetwork_addr.specs.Ipv6Computed.{v6_of};
 ghost use Rattle.ipnetwork_addr.specs.Ipv6Text.{NamesV6};
@@ -66,7 +66,7 @@ pub fn v6_order(a: Ipv6Addr, b: Ipv6Addr) -> (bool, bool, Ordering)
 /// `<`, `<=` and `cmp` put each IPv4 address before each IPv6 address, and compare two of one family
 /// by their numbers.
 pub fn ip_order(a: IpAddr, b: IpAddr) -> (bool, bool, Ordering)
-    ensures less { IsTrue result.0 ↔ IsBefore a b }
+    ensures less { IsTrue result.0 ↔ IsAddrBefore a b }
     ensures at_most { IsTrue result.1 ↔ IsAtMost a b }
     ensures compare { result.2 ≡ ip_cmp a b }
 {

@@ -5,17 +5,17 @@ use Rattle.std.specs.declared.cmp.Ordering.TheVariants.{Less}
 use Rattle.ipnetwork_addr.specs.declared.ip.IpAddr.TheVariants.{V4}
 use Rattle.ipnetwork_family.specs.declared.error.CidrFault.TheVariants.{Prefix}
 use Rattle.ipnetwork_c.specs.Numbers.{fault_number, order_number}
-use Rattle.ipnetwork_c.specs.Held.{Fits, number_of, v4_in}
+use Rattle.ipnetwork_c.specs.Held.{PrefixFits, number_of_octets, v4_in}
 use Rattle.ipnetwork_c.specs.Answers.{StandsIn}
 use Rattle.ipnetwork_c.specs.Either.{address_in, ip_in}
 
-pub first_octet_highest : number_of (192 ∷ 0 ∷ 2 ∷ 1 ∷ []) ≡ 0xc0000201
+pub first_octet_highest : number_of_octets (192 ∷ 0 ∷ 2 ∷ 1 ∷ []) ≡ 0xc0000201
 first_octet_highest = refl
 
 pub struct_of_a_network : v4_in (record { address = 10 ∷ 0 ∷ 0 ∷ 1 ∷ []; prefix = 200 }) ≡ record { address = 0x0a000001; prefix = 200 }
 struct_of_a_network = refl
 
-pub full_width_fits : Fits 32 (record { address = 0; prefix = 32 })
+pub full_width_fits : PrefixFits 32 (record { address = 0; prefix = 32 })
 full_width_fits = omega arith
 
 pub zero_byte_behind : StandsIn (49 ∷ 48 ∷ []) (7 ∷ 7 ∷ 7 ∷ 7 ∷ []) (49 ∷ 48 ∷ 0 ∷ 7 ∷ [])

@@ -8,9 +8,9 @@ use Rattle.ipnetwork_addr.specs.Digits.{digits_in}
 use Rattle.ipnetwork_family.specs.Network.{Network, IsNetwork}
 use Rattle.ipnetwork_c.specs.declared.structs.Ipv4InC.{Ipv4InC}
 use Rattle.ipnetwork_c.specs.declared.structs.Ipv6InC.{Ipv6InC}
-use Rattle.ipnetwork_c.specs.Held.{v4_in, v6_in, HoldsV4, HoldsV6, number_of}
+use Rattle.ipnetwork_c.specs.Held.{v4_in, v6_in, HoldsV4, HoldsV6, number_of_octets}
 
-pub number_again : (count n : ℕ) → n < 256 ^ count → number_of (digits_in 256 count n) ≡ n
+pub number_again : (count n : ℕ) → n < 256 ^ count → number_of_octets (digits_in 256 count n) ≡ n
 number_again zero n fits = omega (arith, fits)
 number_again (suc count) n fits =
     let more : n < 256 ^ count * 256 = subst (λ m. n < m) (pow-suc 256 count) fits in
@@ -20,8 +20,8 @@ number_again (suc count) n fits =
 
 pub v4_again : (held : Ipv4InC) (n : Network) → IsNetwork 32 n → HoldsV4 held n → v4_in held ≡ n
 v4_again held n is holds =
-    ap₂ (λ a p. record { address = a; prefix = p }) (ap number_of holds.0 ∙ number_again 4 n.address is.address_fits) holds.1
+    ap₂ (λ a p. record { address = a; prefix = p }) (ap number_of_octets holds.0 ∙ number_again 4 n.address is.address_fits) holds.1
 
 pub v6_again : (held : Ipv6InC) (n : Network) → IsNetwork 128 n → HoldsV6 held n → v6_in held ≡ n
 v6_again held n is holds =
-    ap₂ (λ a p. record { address = a; prefix = p }) (ap number_of holds.0 ∙ number_again 16 n.address is.address_fits) holds.1
+    ap₂ (λ a p. record { address = a; prefix = p }) (ap number_of_octets holds.0 ∙ number_again 16 n.address is.address_fits) holds.1

@@ -4,7 +4,7 @@ use Rattle.std.specs.Prelude.{Bool, true, false, ◌≡◌, ◌↔◌, ℕ, ◌+
 use Rattle.ipnetwork_family.specs.Network.{Network, IsNoMask, mask_of, size_of, low}
 use Rattle.ipnetwork_family.specs.declared.error.CidrFault.{CidrFault}
 use Rattle.ipnetwork_c.specs.Numbers.{ok, prefix, short_buffer, no_mask, no_member, fault_number}
-use Rattle.ipnetwork_c.specs.Held.{Fits}
+use Rattle.ipnetwork_c.specs.Held.{PrefixFits}
 
 -- a reading is told: the struct holds the network, or the number is that of the cause
 abbrev pub Told : {N C : Type 0} → (C → N → Type 0) → C → C → ℕ → Result N CidrFault → Type 0
@@ -41,9 +41,9 @@ pub data TellsText (text before after : List ℕ) (code : ℕ) : Type 0 where
 
 -- the text of a network is put into a buffer, and its length is told, even where the buffer is too short
 pub data Puts (w : ℕ) (n : Network) (text before after : List ℕ) (told_before told code : ℕ) : Type 0 where
-  Put : Fits w n → length text < length before → code ≡ ok → told ≡ length text → StandsIn text before after → Puts w n text before after told_before told code
-  TooShort : Fits w n → length before ≤ length text → code ≡ short_buffer → told ≡ length text → after ≡ before → Puts w n text before after told_before told code
-  NoNetwork : ¬ (Fits w n) → code ≡ prefix → told ≡ told_before → after ≡ before → Puts w n text before after told_before told code
+  Put : PrefixFits w n → length text < length before → code ≡ ok → told ≡ length text → StandsIn text before after → Puts w n text before after told_before told code
+  TooShort : PrefixFits w n → length before ≤ length text → code ≡ short_buffer → told ≡ length text → after ≡ before → Puts w n text before after told_before told code
+  NoNetwork : ¬ (PrefixFits w n) → code ≡ prefix → told ≡ told_before → after ≡ before → Puts w n text before after told_before told code
 
 -- the prefix length of a mask is told, or the number is `no_mask`
 pub data TellsPrefix (w mask before after code : ℕ) : Type 0 where
@@ -52,6 +52,6 @@ pub data TellsPrefix (w mask before after code : ℕ) : Type 0 where
 
 -- the octets of the member number i in order are told, or the number is `no_member`
 pub data TellsMember (w : ℕ) (octets_of : ℕ → List ℕ) (n : Network) (i : ℕ) (before after : List ℕ) (code : ℕ) : Type 0 where
-  Member : Fits w n → i < size_of w n → code ≡ ok → after ≡ octets_of (low w n + i) → TellsMember w octets_of n i before after code
-  NoMember : Fits w n → size_of w n ≤ i → code ≡ no_member → after ≡ before → TellsMember w octets_of n i before after code
-  NoNetwork : ¬ (Fits w n) → code ≡ prefix → after ≡ before → TellsMember w octets_of n i before after code
+  Member : PrefixFits w n → i < size_of w n → code ≡ ok → after ≡ octets_of (low w n + i) → TellsMember w octets_of n i before after code
+  NoMember : PrefixFits w n → size_of w n ≤ i → code ≡ no_member → after ≡ before → TellsMember w octets_of n i before after code
+  NoNetwork : ¬ (PrefixFits w n) → code ≡ prefix → after ≡ before → TellsMember w octets_of n i before after code

@@ -9,7 +9,7 @@ use Rattle.ipnetwork_c.specs.declared.structs.Ipv4InC.{Ipv4InC}
 use Rattle.ipnetwork_c.specs.declared.structs.Ipv6InC.{Ipv6InC}
 use Rattle.ipnetwork_c.specs.declared.structs.IpInC.{IpInC}
 use Rattle.ipnetwork_c.specs.Numbers.{ok, prefix, no_family}
-use Rattle.ipnetwork_c.specs.Held.{Fits, HoldsV4, HoldsV6, v4_in, v6_in, number_of}
+use Rattle.ipnetwork_c.specs.Held.{PrefixFits, HoldsV4, HoldsV6, v4_in, v6_in, number_of_octets}
 use Rattle.ipnetwork_c.specs.Answers.{Says}
 
 -- a struct of zeros
@@ -32,15 +32,15 @@ ip_in held =
 -- the address of 4 or 16 octets
 abbrev pub address_in : List ℕ → Option IpAddr
 address_in octets =
-    if length octets == 4 then Some (addresses.V4 (number_of octets)) else (if length octets == 16 then Some (addresses.V6 (number_of octets)) else None)
+    if length octets == 4 then Some (addresses.V4 (number_of_octets octets)) else (if length octets == 16 then Some (addresses.V6 (number_of_octets octets)) else None)
 
 -- the prefix length is one of the network's family
-abbrev pub FitsIp : IpNetwork → Type 0
-FitsIp (V4 n) = Fits 32 n
-FitsIp (V6 n) = Fits 128 n
+abbrev pub IpPrefixFits : IpNetwork → Type 0
+IpPrefixFits (V4 n) = PrefixFits 32 n
+IpPrefixFits (V6 n) = PrefixFits 128 n
 
 -- what is answered to the question whether octets are an address of the set that a struct stands for
 pub data AsksMember (held : IpInC) (octets : List ℕ) (before after code : ℕ) : Type 0 where
-  Answered : (n : IpNetwork) → (a : IpAddr) → ip_in held ≡ Some n → address_in octets ≡ Some a → FitsIp n → code ≡ ok → Says (IpMember n a) after → AsksMember held octets before after code
-  NoPrefix : (n : IpNetwork) → (a : IpAddr) → ip_in held ≡ Some n → address_in octets ≡ Some a → ¬ (FitsIp n) → code ≡ prefix → after ≡ before → AsksMember held octets before after code
+  Answered : (n : IpNetwork) → (a : IpAddr) → ip_in held ≡ Some n → address_in octets ≡ Some a → IpPrefixFits n → code ≡ ok → Says (IpMember n a) after → AsksMember held octets before after code
+  NoPrefix : (n : IpNetwork) → (a : IpAddr) → ip_in held ≡ Some n → address_in octets ≡ Some a → ¬ (IpPrefixFits n) → code ≡ prefix → after ≡ before → AsksMember held octets before after code
   NoFamily : (ip_in held ≡ None) ⊎ (address_in octets ≡ None) → code ≡ no_family → after ≡ before → AsksMember held octets before after code

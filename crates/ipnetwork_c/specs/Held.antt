@@ -8,19 +8,19 @@ use Rattle.ipnetwork_c.specs.declared.structs.Ipv4InC.{Ipv4InC}
 use Rattle.ipnetwork_c.specs.declared.structs.Ipv6InC.{Ipv6InC}
 
 -- the number of an address
-abbrev pub number_of : List ℕ → ℕ
-number_of octets = number_from_digits 256 octets
+abbrev pub number_of_octets : List ℕ → ℕ
+number_of_octets octets = number_from_digits 256 octets
 
 -- the address and the prefix length that a struct stands for, whatever its prefix length is
 abbrev pub v4_in : Ipv4InC → Network
-v4_in held = record { address = number_of held.address; prefix = held.prefix }
+v4_in held = record { address = number_of_octets held.address; prefix = held.prefix }
 
 abbrev pub v6_in : Ipv6InC → Network
-v6_in held = record { address = number_of held.address; prefix = held.prefix }
+v6_in held = record { address = number_of_octets held.address; prefix = held.prefix }
 
 -- the prefix length is one of addresses of w bits
-abbrev pub Fits : ℕ → Network → Type 0
-Fits w n = n.prefix ≤ w
+abbrev pub PrefixFits : ℕ → Network → Type 0
+PrefixFits w n = n.prefix ≤ w
 
 -- the struct holds the network
 abbrev pub HoldsV4 : Ipv4InC → Network → Type 0

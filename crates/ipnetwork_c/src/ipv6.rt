@@ -6,7 +6,7 @@ ghost use Rattle.ipnetwork_family.specs.Network.{Network, Member, low, high, mas
 ghost use Rattle.ipnetwork_family.specs.NetworkText.{network_text};
 ghost use Rattle.ipnetwork_family.specs.Ipv6NetworkText.{ReadsV6Network};
 ghost use Rattle.ipnetwork_c.specs.Numbers.{order_number};
-ghost use Rattle.ipnetwork_c.specs.Held.{v6_in, HoldsV6, Fits, number_of};
+ghost use Rattle.ipnetwork_c.specs.Held.{v6_in, HoldsV6, PrefixFits, number_of_octets};
 ghost use Rattle.ipnetwork_c.specs.Answers.{ReadsInto, Asked, Says, Puts, TellsPrefix, TellsMember};
 
 use crate::fault::{self, NO_MASK, NO_MEMBER, OK, PREFIX};
@@ -69,7 +69,7 @@ pub extern "C" fn ipnetwork_v6_contains(
     address: &[u8; 16],
     answer: &mut u8,
 ) -> u32
-    ensures { Asked (Fits 128 (v6_in network.now)) (Says (Member 128 (v6_in network.now) (number_of address.now))) answer.old answer.new result }
+    ensures { Asked (PrefixFits 128 (v6_in network.now)) (Says (Member 128 (v6_in network.now) (number_of_octets address.now))) answer.old answer.new result }
 {
     match network.network() {
         Some(network) => {
@@ -83,7 +83,7 @@ pub extern "C" fn ipnetwork_v6_contains(
 /// The least member: the address with its host bits cleared. `PREFIX` where the prefix length is greater than 128.
 #[unsafe(no_mangle)]
 pub extern "C" fn ipnetwork_v6_network(network: &Ipv6InC, address: &mut [u8; 16]) -> u32
-    ensures { Asked (Fits 128 (v6_in network.now)) (λ octets. octets ≡ octets_of_v6 (low 128 (v6_in network.now))) address.old address.new result }
+    ensures { Asked (PrefixFits 128 (v6_in network.now)) (λ octets. octets ≡ octets_of_v6 (low 128 (v6_in network.now))) address.old address.new result }
 {
     match network.network() {
         Some(network) => {
@@ -97,7 +97,7 @@ pub extern "C" fn ipnetwork_v6_network(network: &Ipv6InC, address: &mut [u8; 16]
 /// The greatest member: the address with its host bits set. `PREFIX` where the prefix length is greater than 128.
 #[unsafe(no_mangle)]
 pub extern "C" fn ipnetwork_v6_broadcast(network: &Ipv6InC, address: &mut [u8; 16]) -> u32
-    ensures { Asked (Fits 128 (v6_in network.now)) (λ octets. octets ≡ octets_of_v6 (high 128 (v6_in network.now))) address.old address.new result }
+    ensures { Asked (PrefixFits 128 (v6_in network.now)) (λ octets. octets ≡ octets_of_v6 (high 128 (v6_in network.now))) address.old address.new result }
 {
     match network.network() {
         Some(network) => {
@@ -112,7 +112,7 @@ pub extern "C" fn ipnetwork_v6_broadcast(network: &Ipv6InC, address: &mut [u8; 1
 /// length is greater than 128.
 #[unsafe(no_mangle)]
 pub extern "C" fn ipnetwork_v6_mask(network: &Ipv6InC, mask: &mut [u8; 16]) -> u32
-    ensures { Asked (Fits 128 (v6_in network.now)) (λ octets. octets ≡ octets_of_v6 (mask_of 128 network.now.prefix)) mask.old mask.new result }
+    ensures { Asked (PrefixFits 128 (v6_in network.now)) (λ octets. octets ≡ octets_of_v6 (mask_of 128 network.now.prefix)) mask.old mask.new result }
 {
     match network.network() {
         Some(network) => {
@@ -126,7 +126,7 @@ pub extern "C" fn ipnetwork_v6_mask(network: &Ipv6InC, mask: &mut [u8; 16]) -> u
 /// The prefix length of a mask; `NO_MASK` where the address is none of the 129 masks.
 #[unsafe(no_mangle)]
 pub extern "C" fn ipnetwork_v6_prefix_of_mask(mask: &[u8; 16], prefix: &mut u8) -> u32
-    ensures { TellsPrefix 128 (number_of mask.now) prefix.old prefix.new result }
+    ensures { TellsPrefix 128 (number_of_octets mask.now) prefix.old prefix.new result }
 {
     match ipv6_mask_to_prefix(address_of(mask)) {
         Ok(found) => {
@@ -141,7 +141,7 @@ pub extern "C" fn ipnetwork_v6_prefix_of_mask(mask: &[u8; 16], prefix: &mut u8) 
 /// octets, the highest first. `PREFIX` where the prefix length is greater than 128.
 #[unsafe(no_mangle)]
 pub extern "C" fn ipnetwork_v6_size(network: &Ipv6InC, size: &mut [u8; 16]) -> u32
-    ensures { Asked (Fits 128 (v6_in network.now)) (λ octets. octets ≡ octets_of_v6 (size_of 128 (v6_in network.now))) size.old size.new result }
+    ensures { Asked (PrefixFits 128 (v6_in network.now)) (λ octets. octets ≡ octets_of_v6 (size_of 128 (v6_in network.now))) size.old size.new result }
 {
     match network.network() {
         Some(network) => {
@@ -156,7 +156,7 @@ pub extern "C" fn ipnetwork_v6_size(network: &Ipv6InC, size: &mut [u8; 16]) -> u
 /// the size. `PREFIX` where the prefix length is greater than 128.
 #[unsafe(no_mangle)]
 pub extern "C" fn ipnetwork_v6_nth(network: &Ipv6InC, n: &[u8; 16], address: &mut [u8; 16]) -> u32
-    ensures { TellsMember 128 octets_of_v6 (v6_in network.now) (number_of n.now) address.old address.new result }
+    ensures { TellsMember 128 octets_of_v6 (v6_in network.now) (number_of_octets n.now) address.old address.new result }
 {
     match network.network() {
         Some(network) => match network.nth(u128::from(address_of(n))) {
@@ -178,7 +178,7 @@ pub extern "C" fn ipnetwork_v6_is_subnet_of(
     outer: &Ipv6InC,
     answer: &mut u8,
 ) -> u32
-    ensures { Asked (Fits 128 (v6_in inner.now) × Fits 128 (v6_in outer.now)) (Says (Subnet 128 (v6_in inner.now) (v6_in outer.now))) answer.old answer.new result }
+    ensures { Asked (PrefixFits 128 (v6_in inner.now) × PrefixFits 128 (v6_in outer.now)) (Says (Subnet 128 (v6_in inner.now) (v6_in outer.now))) answer.old answer.new result }
 {
     match (inner.network(), outer.network()) {
         (Some(inner), Some(outer)) => {
@@ -192,7 +192,7 @@ pub extern "C" fn ipnetwork_v6_is_subnet_of(
 /// Whether some address is a member of both, as 1 or 0. `PREFIX` where a prefix length is greater than 128.
 #[unsafe(no_mangle)]
 pub extern "C" fn ipnetwork_v6_overlaps(one: &Ipv6InC, other: &Ipv6InC, answer: &mut u8) -> u32
-    ensures { Asked (Fits 128 (v6_in one.now) × Fits 128 (v6_in other.now)) (Says (Overlap 128 (v6_in one.now) (v6_in other.now))) answer.old answer.new result }
+    ensures { Asked (PrefixFits 128 (v6_in one.now) × PrefixFits 128 (v6_in other.now)) (Says (Overlap 128 (v6_in one.now) (v6_in other.now))) answer.old answer.new result }
 {
     match (one.network(), other.network()) {
         (Some(one), Some(other)) => {
@@ -207,7 +207,7 @@ pub extern "C" fn ipnetwork_v6_overlaps(one: &Ipv6InC, other: &Ipv6InC, answer: 
 /// are equal. `PREFIX` where a prefix length is greater than 128.
 #[unsafe(no_mangle)]
 pub extern "C" fn ipnetwork_v6_compare(one: &Ipv6InC, other: &Ipv6InC, order: &mut i32) -> u32
-    ensures { Asked (Fits 128 (v6_in one.now) × Fits 128 (v6_in other.now)) (λ told. told ≡ order_number (network_cmp (v6_in one.now) (v6_in other.now))) order.old order.new result }
+    ensures { Asked (PrefixFits 128 (v6_in one.now) × PrefixFits 128 (v6_in other.now)) (λ told. told ≡ order_number (network_cmp (v6_in one.now) (v6_in other.now))) order.old order.new result }
 {
     match (one.network(), other.network()) {
         (Some(one), Some(other)) => {

@@ -3,13 +3,13 @@
 ghost use Rattle.std.specs.Prelude.{◌≡◌, ℕ, ◌^◌, ◌<◌};
 ghost use Rattle.ipnetwork_addr.specs.Digits.{digits_in};
 ghost use Rattle.ipnetwork_family.specs.Network.{Network, IsNetwork};
-ghost use Rattle.ipnetwork_c.specs.Held.{v4_in, v6_in, HoldsV4, HoldsV6, number_of};
+ghost use Rattle.ipnetwork_c.specs.Held.{v4_in, v6_in, HoldsV4, HoldsV6, number_of_octets};
 
 use crate::structs::{Ipv4InC, Ipv6InC};
 
 /// The octets of a number, as many as it needs, stand for that number.
 pub fn octets_tell_the_number()
-    ensures { (count n : ℕ) → n < 256 ^ count → number_of (digits_in 256 count n) ≡ n }
+    ensures { (count n : ℕ) → n < 256 ^ count → number_of_octets (digits_in 256 count n) ≡ n }
 {}
 
 /// A struct that holds an IPv4 network stands for it.

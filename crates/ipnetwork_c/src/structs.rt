@@ -1,7 +1,7 @@
 //! The structs of the header, and the networks that they stand for.
 ghost use Rattle.std.specs.Prelude.{◌≡◌, ◌≤◌};
 ghost use Rattle.std.specs.Option.{SomeIff};
-ghost use Rattle.ipnetwork_c.specs.Held.{v4_in, v6_in, Fits, HoldsV4, HoldsV6, number_of};
+ghost use Rattle.ipnetwork_c.specs.Held.{v4_in, v6_in, PrefixFits, HoldsV4, HoldsV6, number_of_octets};
 ghost use Rattle.ipnetwork_c.specs.Either.{HoldsIp};
 
 use ipnetwork::{IpNetwork, Ipv4Addr, Ipv4Network, Ipv6Addr, Ipv6Network};
@@ -29,7 +29,7 @@ impl Ipv4InC {
 
     /// The network, if the prefix length is at most 32.
     pub(crate) fn network(&self) -> Option<Ipv4Network>
-        ensures { SomeIff result (Fits 32 (v4_in self.now)) (v4_in self.now) }
+        ensures { SomeIff result (PrefixFits 32 (v4_in self.now)) (v4_in self.now) }
     {
         Ipv4Network::new_checked(Ipv4Addr::from(self.address), self.prefix)
     }
@@ -58,7 +58,7 @@ impl Ipv6InC {
 
     /// The network, if the prefix length is at most 128.
     pub(crate) fn network(&self) -> Option<Ipv6Network>
-        ensures { SomeIff result (Fits 128 (v6_in self.now)) (v6_in self.now) }
+        ensures { SomeIff result (PrefixFits 128 (v6_in self.now)) (v6_in self.now) }
     {
         Ipv6Network::new_checked(address_of(&self.address), self.prefix)
     }
@@ -110,7 +110,7 @@ impl IpInC {
 
 /// The IPv6 address of 16 octets.
 pub(crate) fn address_of(octets: &[u8; 16]) -> Ipv6Addr
-    ensures { result ≡ number_of octets.now }
+    ensures { result ≡ number_of_octets octets.now }
 {
     let [a, b, c, d, e, f, g, h, i, j, k, l, m, n, o, p] = *octets;
     Ipv6Addr::from(u128::from_be_bytes([a, b, c, d, e, f, g, h, i, j, k, l, m, n, o, p]))

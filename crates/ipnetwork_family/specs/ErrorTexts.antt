@@ -2,7 +2,7 @@
 use Rattle.std.specs.Prelude.{◌≡◌, ◌⊎◌, ℕ, List, ◌++◌, codes, string_bytes, Result, MatchResult}
 use Rattle.ipnetwork_addr.specs.declared.error.AddrParseError.{AddrParseError}
 use Rattle.ipnetwork_addr.specs.declared.error.AddrParseError.TheVariants.{Ipv4, Ipv6, Ip}
-use Rattle.ipnetwork_addr.specs.Faults.{fault_text}
+use Rattle.ipnetwork_addr.specs.Faults.{addr_fault_text}
 use Rattle.ipnetwork_family.specs.declared.error.CidrFault.{CidrFault}
 use Rattle.ipnetwork_family.specs.declared.error.CidrFault.TheVariants.{Format, Addr, Prefix}
 use Rattle.ipnetwork_family.specs.declared.error.NetworkSizeError.{NetworkSizeError}
@@ -16,7 +16,7 @@ pub data Refusal : Type 0 where
   BadPrefix : Refusal
   BadFormat : List ℕ → Refusal
   BadSize : NetworkSizeError → Refusal
-  NoMemory : Refusal
+  RanOutOfMemory : Refusal
 
 -- what an error says: its variant, and the bytes of its text
 abbrev pub refusal_of : IpNetworkError → Refusal
@@ -24,7 +24,7 @@ refusal_of (errors.InvalidAddr text) = BadAddress (string_bytes text)
 refusal_of errors.InvalidPrefix = BadPrefix
 refusal_of (errors.InvalidCidrFormat text) = BadFormat (string_bytes text)
 refusal_of (errors.NetworkSizeError error) = BadSize error
-refusal_of errors.OutOfMemory = NoMemory
+refusal_of errors.OutOfMemory = RanOutOfMemory
 
 -- what the refusal of a size prints
 abbrev pub size_error_text : NetworkSizeError → List ℕ
@@ -36,7 +36,7 @@ refusal_text (BadAddress text) = codes "invalid address: " ++ text
 refusal_text BadPrefix = codes "invalid prefix"
 refusal_text (BadFormat text) = codes "invalid cidr format: " ++ text
 refusal_text (BadSize error) = codes "network size error: " ++ size_error_text error
-refusal_text NoMemory = codes "out of memory"
+refusal_text RanOutOfMemory = codes "out of memory"
 
 -- its kind in a few words
 abbrev pub description_of : Refusal → List ℕ
@@ -44,23 +44,23 @@ description_of (BadAddress text) = codes "address is invalid"
 description_of BadPrefix = codes "prefix is invalid"
 description_of (BadFormat text) = codes "cidr is invalid"
 description_of (BadSize error) = codes "network size error"
-description_of NoMemory = codes "out of memory"
+description_of RanOutOfMemory = codes "out of memory"
 
 -- the refusal of an input of the kind that was asked for, by its cause
 abbrev pub fault_of : CidrFault → AddrParseError → List ℕ → Refusal
 fault_of Format kind input = BadFormat (codes "CIDR must contain a single '/': " ++ input)
-fault_of Addr Ipv4 input = BadAddress (fault_text Ipv4)
-fault_of Addr Ipv6 input = BadAddress (fault_text Ipv6)
+fault_of Addr Ipv4 input = BadAddress (addr_fault_text Ipv4)
+fault_of Addr Ipv6 input = BadAddress (addr_fault_text Ipv6)
 fault_of Addr Ip input = BadAddress input
 fault_of Prefix kind input = BadPrefix
 
 -- the error is this refusal or, where that has a text, `OutOfMemory`
 abbrev pub IsRefusal : Refusal → IpNetworkError → Type 0
-IsRefusal (BadAddress text) error = (refusal_of error ≡ BadAddress text) ⊎ (refusal_of error ≡ NoMemory)
+IsRefusal (BadAddress text) error = (refusal_of error ≡ BadAddress text) ⊎ (refusal_of error ≡ RanOutOfMemory)
 IsRefusal BadPrefix error = refusal_of error ≡ BadPrefix
-IsRefusal (BadFormat text) error = (refusal_of error ≡ BadFormat text) ⊎ (refusal_of error ≡ NoMemory)
+IsRefusal (BadFormat text) error = (refusal_of error ≡ BadFormat text) ⊎ (refusal_of error ≡ RanOutOfMemory)
 IsRefusal (BadSize size) error = refusal_of error ≡ BadSize size
-IsRefusal NoMemory error = refusal_of error ≡ NoMemory
+IsRefusal RanOutOfMemory error = refusal_of error ≡ RanOutOfMemory
 
 -- the refusal has a text of its own
 abbrev pub HasText : Refusal → Type 0
@@ -68,4 +68,4 @@ HasText (BadAddress text) = Unit {0}
 HasText BadPrefix = ⊥
 HasText (BadFormat text) = Unit {0}
 HasText (BadSize error) = ⊥
-HasText NoMemory = ⊥
+HasText RanOutOfMemory = ⊥

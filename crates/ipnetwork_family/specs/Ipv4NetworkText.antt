@@ -1,7 +1,7 @@
 -- The texts of IPv4 networks.
 use Rattle.std.specs.Prelude.{ℕ, ◌≤◌, ◌⊎◌, nat_le, if◌then◌else◌, List, Option, None, Some, Result}
 use Rattle.ipnetwork_addr.specs.Ipv4Text.{NamesV4, v4_of}
-use Rattle.ipnetwork_family.specs.Network.{Network, mask_of, prefix_of}
+use Rattle.ipnetwork_family.specs.Network.{Network, mask_of, prefix_of_mask}
 use Rattle.ipnetwork_family.specs.NetworkText.{NamesNetwork, ReadsNetwork, network_of}
 use Rattle.ipnetwork_family.specs.PrefixNumber.{IsPrefixNumber, prefix_number_of}
 use Rattle.ipnetwork_family.specs.declared.error.CidrFault.{CidrFault}
@@ -27,7 +27,7 @@ ReadsV4Network text result = ReadsNetwork 32 NamesV4 IsV4Suffix text result
 -- the prefix length of the mask that a text names as an IPv4 address
 abbrev pub masked : Option ℕ → Option ℕ
 masked None = None
-masked (Some mask) = prefix_of 32 mask
+masked (Some mask) = prefix_of_mask 32 mask
 
 -- the prefix length that a text gives as a number of at most 32, or else as a mask
 abbrev pub v4_length_from : Option ℕ → Option ℕ → Option ℕ

@@ -89,5 +89,5 @@ abbrev pub IsNoMask : ℕ → ℕ → Type 0
 IsNoMask w mask = (p : ℕ) → p ≤ w → mask ≢ mask_of w p
 
 -- the prefix length of a mask, if the number is one, computed: as many as the ones in front of it
-abbrev pub prefix_of : ℕ → ℕ → Option ℕ
-prefix_of w mask = let p = count_leading_zeros w (2 ^ w - 1 - mask) in if mask == mask_of w p then Some p else None
+abbrev pub prefix_of_mask : ℕ → ℕ → Option ℕ
+prefix_of_mask w mask = let p = count_leading_zeros w (2 ^ w - 1 - mask) in if mask == mask_of w p then Some p else None

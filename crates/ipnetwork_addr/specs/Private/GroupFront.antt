@@ -38,14 +38,14 @@ pub data IsPartFrom (More : List ℕ → Type 0) (text : List ℕ) (group : ℕ)
   Next : (next : List ℕ) → BeginsWithGroup text group (colon ∷ next) → More next → IsPartFrom More text group groups end
 
 -- the text begins with a part of these groups and this end
-abbrev pub IsPart : List ℕ → List ℕ → Option (List ℕ) → Type 0
-IsPart [] text end = ⊥
-IsPart (group ∷ groups) text end = IsPartFrom (λ next. IsPart groups next end) text group groups end
+abbrev pub IsTextPart : List ℕ → List ℕ → Option (List ℕ) → Type 0
+IsTextPart [] text end = ⊥
+IsTextPart (group ∷ groups) text end = IsPartFrom (λ next. IsTextPart groups next end) text group groups end
 
 -- the text begins with a part of so many groups, up to the room, of this number and this end
 pub record BeginsWithPart (room : ℕ) (text : List ℕ) (count number : ℕ) (end : Option (List ℕ)) : Type 0 where
   pub groups : List ℕ
-  pub part : IsPart groups text end
+  pub part : IsTextPart groups text end
   pub counted : count ≡ length groups
   pub fits : count ≤ room
   pub value : number ≡ number_from_digits (2 ^ 16) groups
@@ -53,7 +53,7 @@ pub record BeginsWithPart (room : ℕ) (text : List ℕ) (count number : ℕ) (e
 
 -- it begins with none
 abbrev pub NoPart : ℕ → List ℕ → Type 0
-NoPart room text = (groups : List ℕ) (end : Option (List ℕ)) → IsPart groups text end → room < length groups
+NoPart room text = (groups : List ℕ) (end : Option (List ℕ)) → IsTextPart groups text end → room < length groups
 
 -- the text begins with `::`, and there are no groups
 pub record IsNoLeft (groups text : List ℕ) (end : Option (List ℕ)) : Type 0 where
@@ -64,7 +64,7 @@ pub record IsNoLeft (groups text : List ℕ) (end : Option (List ℕ)) : Type 0 
 
 -- the text begins with groups up to an end, none of them where it begins with `::`
 abbrev pub IsLeft : List ℕ → List ℕ → Option (List ℕ) → Type 0
-IsLeft groups text end = IsPart groups text end ⊎ IsNoLeft groups text end
+IsLeft groups text end = IsTextPart groups text end ⊎ IsNoLeft groups text end
 
 -- so many, up to eight
 pub record BeginsWithLeft (text : List ℕ) (count number : ℕ) (end : Option (List ℕ)) : Type 0 where
@@ -81,7 +81,7 @@ NoLeft text = (groups : List ℕ) (end : Option (List ℕ)) → IsLeft groups te
 
 -- the text is groups up to its end, or empty
 abbrev pub IsRight : List ℕ → List ℕ → Type 0
-IsRight groups text = IsPart groups text None ⊎ ((groups ≡ []) × (text ≡ []))
+IsRight groups text = IsTextPart groups text None ⊎ ((groups ≡ []) × (text ≡ []))
 
 -- so many, up to the room
 pub record EndsWithRight (room : ℕ) (text : List ℕ) (number : ℕ) : Type 0 where

@@ -1,13 +1,13 @@
 use Rattle.std.proofs.Common.{Ok, Err, ap, ap₂, sym}
 use Rattle.cidr.specs.Private.Routes.{routes_of}
-use Rattle.cidr.specs.Requests.{Add, adding, number_of}
+use Rattle.cidr.specs.Requests.{Add, adding, route_number_of}
 use Rattle.cidr.proofs.Requests.{plain_reply, reply_with, replies_as, number_is, number_is_none}
 use Rattle.cidr.proofs.routing.add.Goals as goal
 
 pub returns-in_default : goal.returns-in_default
 returns-in_default c =
     let network = (c.ip_network_reading_is_computed.ensures c.args.network.now (Err c.in_default.field-0)).0 c.in_default.ensures in
-    replies_as (routes_of c.args.routes.now) (routes_of c.args.routes.now) _ _ _ _ (ap (λ n. adding n (number_of c.args.number.now)) (sym network))
+    replies_as (routes_of c.args.routes.now) (routes_of c.args.routes.now) _ _ _ _ (ap (λ n. adding n (route_number_of c.args.number.now)) (sym network))
     (plain_reply (routes_of c.args.routes.now) _ _ _ c.push.ensures)
 
 pub returns-in_default-read_number : goal.returns-in_default-read_number
