@@ -10,7 +10,7 @@ use Rattle.std.specs.Str.Lines.{strip_carriage_return}
 use Rattle.cidr.specs.declared.line.Line.{Line}
 use Rattle.cidr.specs.Private.Line.{Holds}
 use Rattle.cidr.specs.Output.{reply, replies, IsBeginning}
-use Rattle.cidr.specs.Private.Bytes.{HasNo, IsFirst}
+use Rattle.cidr.proofs.BytesLemmas.{HasNo, IsFirst}
 use Rattle.cidr.specs.Private.Progress.{lines_from, pending_from, last_line, AppendsBeginning, Gathers, GathersReplies, WritesReplies, StopsReplying, GathersLine, StopsAtLine, GathersPiece, AnswersPiece, StopsInPiece}
 use Rattle.cidr.specs.Private.Replies.{RepliesTo, gathered}
 use Rattle.cidr.specs.Requests.{request_of}

@@ -5,8 +5,7 @@ use Rattle.std.proofs.Math.Bool.{or-true}
 use Rattle.std.proofs.Math.Dec.{eqb-suc-zero}
 use Rattle.std.specs.List.{list_any, slice_split}
 use Rattle.std.specs.Str.Lines.{lines, lines_of_parts, strip_carriage_return}
-use Rattle.cidr.specs.Private.Bytes.{HasNo}
-use Rattle.cidr.proofs.BytesLemmas.{HasNo-push, split_at, split_none, split_cons}
+use Rattle.cidr.proofs.BytesLemmas.{HasNo, HasNo-push, split_at, split_none, split_cons}
 use Rattle.cidr.specs.Output.{complete_part, IsBeginning}
 use Rattle.cidr.specs.Private.Progress.{lines_from, pending_from, last_line}
 

@@ -1,5 +1,4 @@
 -- Words of the private functions, and of how contracts look into private fields.
-pub mod Bytes
 pub mod Device
 pub mod Line
 pub mod Progress

@@ -5,7 +5,8 @@ use Rattle.std.proofs.lemmas.Fmt.{decimal_digit}
 use Rattle.std.specs.List.{AllByRecursion}
 use Rattle.ipnetwork_addr.specs.Texts.{IsAddressByte, Digit, Dot}
 use Rattle.ipnetwork_addr.specs.Ipv4Text.{NamesV4}
-use Rattle.ipnetwork_addr.specs.Private.OctetFront.{BeginsWithOctet, BeginsWithDottedOctet}
+use Rattle.ipnetwork_addr.specs.Private.OctetFront.{BeginsWithOctet}
+use Rattle.ipnetwork_addr.proofs.Octets.{BeginsWithDottedOctet}
 use Rattle.ipnetwork_addr.proofs.Decimals.{decimal_two, decimal_three}
 use Rattle.ipnetwork_addr.proofs.Ipv4Lemmas.{reading_of}
 

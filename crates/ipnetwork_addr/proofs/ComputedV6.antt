@@ -15,7 +15,8 @@ use Rattle.ipnetwork_addr.specs.Ipv6Text.{IsGroup, IsPlain, IsDotted, IsEnded, N
 use Rattle.ipnetwork_addr.specs.Ipv6Computed.{or_else, group_of, grouped, groups_of, halves_of, dotted_groups_of, colon_parts, plain_of, dotted_of, full_number, gap_number, gap_at, gap_below, v6_of}
 use Rattle.std.proofs.lemmas.Fmt.{decimal_is_IsNumeral}
 use Rattle.std.proofs.lemmas.Str.Parse.{digit_from_value}
-use Rattle.ipnetwork_addr.specs.Private.OctetFront.{BeginsWithOctet, BeginsWithDottedOctet}
+use Rattle.ipnetwork_addr.specs.Private.OctetFront.{BeginsWithOctet}
+use Rattle.ipnetwork_addr.proofs.Octets.{BeginsWithDottedOctet}
 use Rattle.ipnetwork_addr.proofs.Compressed.{room_of, compressed}
 use Rattle.ipnetwork_addr.proofs.Ipv4Lemmas.{reading_of}
 use Rattle.ipnetwork_addr.proofs.ComputedV4.{v4_of_sound, v4_of_complete}

@@ -6,8 +6,8 @@ use Rattle.std.specs.List.{join_with_byte, AllZip}
 use Rattle.std.specs.Int.Digits.{number_from_digits}
 use Rattle.ipnetwork_addr.specs.Digits.{octets_of}
 use Rattle.ipnetwork_addr.specs.Ipv4Text.{IsOctet, NamesV4, canonical_v4}
-use Rattle.ipnetwork_addr.specs.Private.OctetFront.{NoDigit, BeginsWithOctet, BeginsWithDottedOctet}
-use Rattle.ipnetwork_addr.proofs.Octets.{octet_unique, dotted_octet_unique}
+use Rattle.ipnetwork_addr.specs.Private.OctetFront.{NoDigit, BeginsWithOctet}
+use Rattle.ipnetwork_addr.proofs.Octets.{BeginsWithDottedOctet, octet_unique, dotted_octet_unique}
 
 -- four octets, read one after the other, and nothing after them
 pub record Chain (text : List ℕ) (a b c d : ℕ) : Type 0 where

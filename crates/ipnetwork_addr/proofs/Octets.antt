@@ -3,8 +3,15 @@ use Rattle.std.proofs.Common.{◌≡◌, ℕ, ◌+◌, ◌/◌, ◌%◌, ◌<◌
 use Rattle.std.proofs.lemmas.Bool.{cases_lt}
 use Rattle.std.proofs.lemmas.List.{append_cancel_left}
 use Rattle.std.proofs.lemmas.Fmt.{decimal_digit}
-use Rattle.ipnetwork_addr.specs.Private.OctetFront.{BeginsWithOctet, BeginsWithDottedOctet}
+use Rattle.ipnetwork_addr.specs.Private.OctetFront.{BeginsWithOctet}
+use Rattle.ipnetwork_addr.specs.Texts.{dot}
 use Rattle.ipnetwork_addr.proofs.Decimals.{decimal_two, decimal_three}
+
+-- the text is a dot, an octet, and then the rest
+pub record BeginsWithDottedOctet (text : List ℕ) (octet : ℕ) (rest : List ℕ) : Type 0 where
+  pub after_dot : List ℕ
+  pub dotted : text ≡ dot ∷ after_dot
+  pub begins : BeginsWithOctet after_dot octet rest
 
 -- the byte is no decimal digit
 abbrev NotDigit : ℕ → Type 0

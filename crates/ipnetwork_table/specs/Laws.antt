@@ -4,9 +4,9 @@ use Rattle.std.specs.FinMap.{FinMap, get, entries}
 use Rattle.ipnetwork_family.specs.Network.{Network, IsBlock, Member, Subnet, IsBefore, network_cmp}
 use Rattle.ipnetwork_table.specs.Table.{HasBlocksAlone, IsLongest, NoneHolds}
 
--- two blocks of one prefix length that share an address are the same
-abbrev pub BlocksThatMeet : Type 0
-BlocksThatMeet = (w : ℕ) (m n : Network) (x : ℕ) → IsBlock w m → IsBlock w n → m.prefix ≡ n.prefix → Member w m x → Member w n x → m ≡ n
+-- two blocks of one prefix length that share an address are the same, whatever the number of bits
+abbrev pub BlocksOfAnyWidthThatMeet : Type 0
+BlocksOfAnyWidthThatMeet = (w : ℕ) (m n : Network) (x : ℕ) → IsBlock w m → IsBlock w n → m.prefix ≡ n.prefix → Member w m x → Member w n x → m ≡ n
 
 -- this is the longest block that holds x and its value, or it is nothing and no stored block holds x
 abbrev pub Answers : {V : Type 0} → ℕ → FinMap network_cmp V → ℕ → Option (Network × V) → Type 0

@@ -1,10 +1,11 @@
 //! The laws of tables. Each function's contract is a law; it does nothing, and a proof whose function calls it
 //! may use the law.
-ghost use Rattle.ipnetwork_table.specs.Laws.{BlocksThatMeet, AnswerExists, AnswerIsOne, ListedIsStored, StoredIsListed, EntriesAscend, WiderBlocksFirst};
+ghost use Rattle.ipnetwork_table.specs.Laws.{BlocksOfAnyWidthThatMeet, AnswerExists, AnswerIsOne, ListedIsStored, StoredIsListed, EntriesAscend, WiderBlocksFirst};
 
-/// Two blocks of one prefix length that share an address are the same.
-pub fn blocks_that_meet()
-    ensures { BlocksThatMeet }
+/// Two blocks of one prefix length that share an address are the same, for addresses of any number of bits. So no
+/// table has two blocks of one prefix length that hold one address.
+pub fn blocks_of_any_width_that_meet()
+    ensures { BlocksOfAnyWidthThatMeet }
 {}
 
 /// For each content of a table and each address there is a longest block that holds the address, or no stored

@@ -29,12 +29,6 @@ pub record BeginsWithOctet (text : List ℕ) (octet : ℕ) (rest : List ℕ) : T
   pub split : text ≡ decimal octet ++ rest
   pub stops : NoDigit rest
 
--- the text is a dot, an octet, and then the rest
-pub record BeginsWithDottedOctet (text : List ℕ) (octet : ℕ) (rest : List ℕ) : Type 0 where
-  pub after_dot : List ℕ
-  pub dotted : text ≡ dot ∷ after_dot
-  pub begins : BeginsWithOctet after_dot octet rest
-
 -- the text begins with no octet and dot
 abbrev pub NoOctetAndDot : List ℕ → Type 0
 NoOctetAndDot text = (octet : ℕ) (rest : List ℕ) → ¬ (BeginsWithOctet text octet (dot ∷ rest))
