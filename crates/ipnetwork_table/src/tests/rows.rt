@@ -143,6 +143,9 @@ fn debug_text_has_each_entry(rt: HostRuntime) -> Result<(), Fail> {
     let wide = format!(in rt.alloc(); "{:?}", v4("10.0.0.0/8")?)?;
     let narrow = format!(in rt.alloc(); "{:?}", v4("10.1.0.0/16")?)?;
     let both = format!(in rt.alloc(); "{{{wide}: 2, {narrow}: 3}}")?;
-    assert_eq!(rt; format!(in rt.alloc(); "{:?}", table)?.as_str(), both.as_str());
+    assert_eq!(rt;
+        format!(in rt.alloc(); "{:?}", table)?.as_str(),
+        both.as_str()
+    );
     Ok(())
 }
