@@ -1,5 +1,5 @@
 -- Segments, by the address that they make up.
-use Rattle.std.proofs.Common.{◌≡◌, ◌≢◌, ◌↔◌, ◌==◌, Bool, true, false, IsTrue, ℕ, zero, suc, ◌+◌, ◌-◌, ◌*◌, ◌/◌, ◌^◌, ◌<◌, ◌≤◌, min, List, length, take, get_or, set, sym, refl, ap, subst, ◌∙◌, arith, ⊎_elim, lit<, bit_and, bit_or}
+use Rattle.std.proofs.Common.{◌≡◌, ◌≢◌, ◌↔◌, ◌==◌, Bool, true, false, IsTrue, ℕ, zero, suc, ◌+◌, ◌-◌, ◌*◌, ◌/◌, ◌^◌, ◌<◌, ◌≤◌, min, List, length, take, get_or, set, sym, refl, ap, ap₂, subst, ◌∙◌, arith, ⊎_elim, lit<, bit_and, bit_or}
 use Rattle.std.specs.Int.Count.{count_leading_zeros}
 use Rattle.std.proofs.lemmas.Int.Digits.{number_more, number_push}
 use Rattle.std.proofs.lemmas.List.{take_all, take_more_set, length-set, get_or-set_same, get_or-set_other}
@@ -309,17 +309,21 @@ ones_more xs p i count h within below e before =
 -- ---- what the methods of a network hand on
 
 -- the address of segments that were computed for an end of the set
-pub low_back : (xs segments : List ℕ) (p n : ℕ) → AreSegments xs × (p ≤ 128) → segments ≡ segments_of (low 128 (record { address = number_of xs; prefix = p })) → n ≡ number_of segments
-    → n ≡ low 128 (record { address = number_of xs; prefix = p })
-low_back xs segments p n h e made =
-    let network : Network = record { address = number_of xs; prefix = p } in
-    made ∙ ap number_of e ∙ number_back (low 128 network) (omega (arith, high_fits 128 network (is_network xs p h), size_pos 128 p))
+pub low_back : (n : Network) (segments : List ℕ) (address prefix x : ℕ) → IsNetwork 128 n → address ≡ n.address → prefix ≡ n.prefix
+    → segments ≡ segments_of (low 128 (record { address = address; prefix = prefix })) → x ≡ number_of segments → x ≡ low 128 n
+low_back n segments address prefix x h same_address same_prefix e made =
+    made
+    ∙ ap number_of e
+    ∙ ap₂ (λ a p. number_of (segments_of (low 128 (record { address = a; prefix = p })))) same_address same_prefix
+    ∙ number_back (low 128 n) (omega (arith, high_fits 128 n h, size_pos 128 n.prefix))
 
-pub high_back : (xs segments : List ℕ) (p n : ℕ) → AreSegments xs × (p ≤ 128) → segments ≡ segments_of (high 128 (record { address = number_of xs; prefix = p })) → n ≡ number_of segments
-    → n ≡ high 128 (record { address = number_of xs; prefix = p })
-high_back xs segments p n h e made =
-    let network : Network = record { address = number_of xs; prefix = p } in
-    made ∙ ap number_of e ∙ number_back (high 128 network) (omega (arith, high_fits 128 network (is_network xs p h), size_pos 128 p))
+pub high_back : (n : Network) (segments : List ℕ) (address prefix x : ℕ) → IsNetwork 128 n → address ≡ n.address → prefix ≡ n.prefix
+    → segments ≡ segments_of (high 128 (record { address = address; prefix = prefix })) → x ≡ number_of segments → x ≡ high 128 n
+high_back n segments address prefix x h same_address same_prefix e made =
+    made
+    ∙ ap number_of e
+    ∙ ap₂ (λ a p. number_of (segments_of (high 128 (record { address = a; prefix = p })))) same_address same_prefix
+    ∙ number_back (high 128 n) (omega (arith, high_fits 128 n h, size_pos 128 n.prefix))
 
 pub mask_back : (segments : List ℕ) (p n : ℕ) → segments ≡ segments_of (mask_of 128 p) → n ≡ number_of segments → n ≡ mask_of 128 p
 mask_back segments p n e made = made ∙ ap number_of e ∙ number_back (mask_of 128 p) (omega (arith, size_pos 128 p))

@@ -1,65 +1,12 @@
 -- Segments compared and hashed, by the address that they make up.
-use Rattle.std.proofs.Common.{◌≡◌, ℕ, zero, suc, ◌+◌, ◌*◌, ◌/◌, ◌%◌, ◌^◌, ◌<◌, List, [], ◌∷◌, length, take, get_or, refl, sym, ap, ◌∙◌, arith, lit<, Ordering}
-use Rattle.std.specs.declared.cmp.Ordering.TheVariants.{Less, Equal, Greater}
-use Rattle.std.specs.Cmp.Lexicographic.{slice_cmp}
+use Rattle.std.proofs.Common.{◌≡◌, ℕ, zero, suc, ◌+◌, ◌*◌, ◌/◌, ◌%◌, ◌^◌, ◌<◌, List, [], ◌∷◌, length, take, get_or, refl, sym, ap, ◌∙◌, arith, lit<}
 use Rattle.std.specs.Hash.{le_bytes}
 use Rattle.std.specs.Int.{byte_at, bytes_low_first}
-use Rattle.std.specs.Int.Digits.{number_from_digits_after}
-use Rattle.std.specs.Ordering.{nat_cmp, ordering_then}
 use Rattle.std.proofs.Math.Nat.{div-div-eq-div-mul}
-use Rattle.std.proofs.lemmas.Cmp.{ranked, by_ranked}
 use Rattle.std.proofs.lemmas.Int.Digits.{number_more}
 use Rattle.std.proofs.lemmas.List.{take_all}
 use Rattle.std.proofs.lemmas.Nat.{div-mul-add, pow-add}
 use Rattle.ipnetwork_family.specs.Private.Segments.{number_of, AreSegments}
-
--- ---- order
-
-less : (n m : ℕ) → n < m → nat_cmp n m ≡ Less
-less n m h = by_ranked (n < m) (n ≡ m) (m < n) (nat_cmp n m) (ranked n m _ refl) (λ e _. e) (λ _ e. absurd (omega arith)) (λ _ e. absurd (omega arith))
-
-greater : (n m : ℕ) → m < n → nat_cmp n m ≡ Greater
-greater n m h = by_ranked (n < m) (n ≡ m) (m < n) (nat_cmp n m) (ranked n m _ refl) (λ _ e. absurd (omega arith)) (λ _ e. absurd (omega arith)) (λ e _. e)
-
-equal : (n m : ℕ) → n ≡ m → nat_cmp n m ≡ Equal
-equal n m h = by_ranked (n < m) (n ≡ m) (m < n) (nat_cmp n m) (ranked n m _ refl) (λ _ e. absurd (omega arith)) (λ e _. e) (λ _ e. absurd (omega arith))
-
--- numbers with one digit more are ordered by what stands before it, then by the digit
-digit_cmp : (n m x y : ℕ) → x < 65536 → y < 65536 → nat_cmp (n * 65536 + x) (m * 65536 + y) ≡ ordering_then (nat_cmp n m) (nat_cmp x y)
-digit_cmp n m x y h k =
-    by_ranked (n < m) (n ≡ m) (m < n) (nat_cmp n m) (ranked n m _ refl)
-    (λ e first. less (n * 65536 + x) (m * 65536 + y) (omega arith) ∙ sym (ap (λ o. ordering_then o (nat_cmp x y)) e))
-    (λ e same.
-    by_ranked (x < y) (x ≡ y) (y < x) (nat_cmp x y) (ranked x y _ refl)
-    (λ f last. less (n * 65536 + x) (m * 65536 + y) (omega arith) ∙ sym (ap (λ o. ordering_then o (nat_cmp x y)) e ∙ f))
-    (λ f last. equal (n * 65536 + x) (m * 65536 + y) (omega arith) ∙ sym (ap (λ o. ordering_then o (nat_cmp x y)) e ∙ f))
-    (λ f last. greater (n * 65536 + x) (m * 65536 + y) (omega arith) ∙ sym (ap (λ o. ordering_then o (nat_cmp x y)) e ∙ f)))
-    (λ e first. greater (n * 65536 + x) (m * 65536 + y) (omega arith) ∙ sym (ap (λ o. ordering_then o (nat_cmp x y)) e))
-
-then_then : (a b c : Ordering) → ordering_then (ordering_then a b) c ≡ ordering_then a (ordering_then b c)
-then_then Less b c = refl
-then_then Equal b c = refl
-then_then Greater b c = refl
-
-then_equal : (a : Ordering) → a ≡ ordering_then a Equal
-then_equal Less = refl
-then_equal Equal = refl
-then_equal Greater = refl
-
--- digits behind two numbers are compared where the numbers are equal
-cmp_after : (n m : ℕ) (xs ys : List ℕ) → length xs ≡ length ys → ((i : ℕ) → get_or xs i 0 < 65536) → ((i : ℕ) → get_or ys i 0 < 65536)
-    → nat_cmp (number_from_digits_after 65536 n xs) (number_from_digits_after 65536 m ys) ≡ ordering_then (nat_cmp n m) (slice_cmp nat_cmp xs ys)
-cmp_after n m [] [] l h k = then_equal (nat_cmp n m)
-cmp_after n m [] (y ∷ ys) l h k = absurd (omega arith)
-cmp_after n m (x ∷ xs) [] l h k = absurd (omega arith)
-cmp_after n m (x ∷ xs) (y ∷ ys) l h k =
-    cmp_after (n * 65536 + x) (m * 65536 + y) xs ys (omega arith) (λ i. h (suc i)) (λ i. k (suc i))
-    ∙ ap (λ o. ordering_then o (slice_cmp nat_cmp xs ys)) (digit_cmp n m x y (h zero) (k zero))
-    ∙ then_then (nat_cmp n m) (nat_cmp x y) (slice_cmp nat_cmp xs ys)
-
--- segments are ordered as their addresses are
-pub segments_cmp : (xs ys : List ℕ) → AreSegments xs → AreSegments ys → slice_cmp nat_cmp xs ys ≡ nat_cmp (number_of xs) (number_of ys)
-segments_cmp xs ys h k = sym (cmp_after 0 0 xs ys (omega (arith, h.eight, k.eight)) h.each k.each)
 
 -- ---- octets
 

@@ -8,6 +8,7 @@ ghost use Rattle.ipnetwork_family.specs.Network.{Network, IsNetwork, Member, IsN
 ghost use Rattle.ipnetwork_family.specs.NetworkText.{GivesPrefix, GivesNoPrefix, network_text};
 ghost use Rattle.ipnetwork_family.specs.Ipv6NetworkText.{IsV6Suffix, ReadsV6Network};
 ghost use Rattle.ipnetwork_family.specs.Parsing.{ParsesV6Network};
+ghost use Rattle.ipnetwork_family.specs.Private.Segments.{number_of};
 
 use crate::ipv6_iter::Ipv6NetworkIterator;
 use crate::ipv6_mask::{WIDTH, host_ones};
@@ -27,33 +28,54 @@ use std::str::FromStr;
 /// Ordered by address, then by prefix length.
 #[derive(Clone, Copy, Debug)]
 pub struct Ipv6Network {
-    segments: [u16; 8],
+    // The eight segments, the lowest first: on machines that store the low octets of a number first, as most do, each
+    // half of the address lies in memory as one number of 64 bits. `order` compares by these.
+    low_first: [u16; 8],
     prefix: u8,
 }
 
 // A contract sees a network as the pair of its address and its prefix length.
 impl Model for Ipv6Network {
-    ghost use Rattle.std.specs.Prelude.{◌≤◌};
+    ghost use Rattle.std.specs.Prelude.{◌≤◌, reverse};
     ghost use Rattle.std.proofs.Common.{ap};
     ghost use Rattle.ipnetwork_addr.specs.Digits.{segments_of};
     ghost use Rattle.ipnetwork_family.specs.Network.{Network};
     ghost use Rattle.ipnetwork_family.specs.Private.Segments.{number_of, AreSegments};
-    ghost use Rattle.ipnetwork_family.specs.Private.SegmentsBack.{segments_back};
+    ghost use Rattle.ipnetwork_family.specs.Private.SegmentsBack.{low_first_back};
 
     ghost Value = { Network };
 
-    ghost view = { λ n. record { address = number_of n.segments; prefix = n.prefix } };
+    ghost view = { λ n. record { address = number_of (reverse n.low_first); prefix = n.prefix } };
 
-    ghost invariant = { λ n. AreSegments n.segments × (n.prefix ≤ 128) };
+    ghost invariant = { λ n. AreSegments n.low_first × (n.prefix ≤ 128) };
 
-    ghost inverse = { λ n. record { segments = segments_of n.address; prefix = n.prefix } };
+    ghost inverse = { λ n. record { low_first = reverse (segments_of n.address); prefix = n.prefix } };
 
-    ghost inverse_ok = { λ n h. ap (λ s. record { segments = s; prefix = n.prefix }) (segments_back n.segments h.0) };
+    ghost inverse_ok = { λ n h. ap (λ s. record { low_first = s; prefix = n.prefix }) (low_first_back n.low_first h.0) };
 }
 
 // The clause `network` tells a proof in another crate what holds of each network: both fields are private,
 // so nothing else says it. It stands on the calls that such proofs begin with.
 impl Ipv6Network {
+    // The network of the address of these segments, the highest first.
+    fn from_segments(segments: &[u16; 8], prefix: u8) -> Self
+        requires { prefix ≤ 128 }
+        ensures { result ≡ record { address = number_of segments.now; prefix = prefix } }
+    {
+        Ipv6Network {
+            low_first: segments::reversed(segments),
+            prefix,
+        }
+    }
+
+    // The segments of the address, the highest first.
+    fn segments(&self) -> [u16; 8]
+        ensures address { number_of result ≡ self.now.address }
+        ensures network { IsNetwork 128 self.now }
+    {
+        segments::reversed(&self.low_first)
+    }
+
     /// The network of this address, host bits kept, and this prefix length; `None` where that is
     /// greater than 128.
     pub fn new_checked(addr: Ipv6Addr, prefix: u8) -> Option<Self>
@@ -62,10 +84,7 @@ impl Ipv6Network {
         if prefix > WIDTH {
             return None;
         }
-        Some(Ipv6Network {
-            segments: addr.segments(),
-            prefix,
-        })
+        Some(Ipv6Network::from_segments(&addr.segments(), prefix))
     }
 
     /// The network without host bits of this prefix length that holds the address; `None` where the
@@ -75,11 +94,11 @@ impl Ipv6Network {
         ensures cases { MatchOption result (128 < prefix)
             (λ n. (prefix ≤ 128) × (n ≡ block_of 128 (record { address = addr; prefix = prefix }))) }
     {
-        let network = Ipv6Network::new_checked(addr, prefix)?;
-        Some(Ipv6Network {
-            segments: segments::least(&network.segments, network.prefix),
-            prefix: network.prefix,
-        })
+        if prefix > WIDTH {
+            return None;
+        }
+        let least = segments::least(&addr.segments(), prefix);
+        Some(Ipv6Network::from_segments(&least, prefix))
     }
 
     /// The network of this address, host bits kept, and this prefix length; `InvalidPrefix` where that is
@@ -111,7 +130,7 @@ impl Ipv6Network {
         ensures made { result ≡ self.now.address }
         ensures network { IsNetwork 128 self.now }
     {
-        Ipv6Addr::from(self.segments)
+        Ipv6Addr::from(self.segments())
     }
 
     /// The prefix length, in bits.
@@ -134,21 +153,21 @@ impl Ipv6Network {
         ensures least { result ≡ low 128 self.now }
         ensures network { IsNetwork 128 self.now }
     {
-        Ipv6Addr::from(segments::least(&self.segments, self.prefix))
+        Ipv6Addr::from(segments::least(&self.segments(), self.prefix()))
     }
 
     /// The greatest member: the address with its host bits set.
     pub fn broadcast(&self) -> Ipv6Addr
         ensures { result ≡ high 128 self.now }
     {
-        Ipv6Addr::from(segments::greatest(&self.segments, self.prefix))
+        Ipv6Addr::from(segments::greatest(&self.segments(), self.prefix()))
     }
 
     /// Whether an address lies in the network's set.
     pub fn contains(&self, ip: Ipv6Addr) -> bool
         ensures { IsTrue result ↔ Member 128 self.now ip }
     {
-        segments::agree(&ip.segments(), &self.segments, self.prefix)
+        segments::agree(&ip.segments(), &self.segments(), self.prefix())
     }
 
     /// Whether the address of another network lies in the network's set.
@@ -156,7 +175,7 @@ impl Ipv6Network {
         ensures member { IsTrue result ↔ Member 128 self.now other.now.address }
         ensures networks { IsNetwork 128 self.now × IsNetwork 128 other.now }
     {
-        segments::agree(&other.segments, &self.segments, self.prefix)
+        segments::agree(&other.segments(), &self.segments(), self.prefix())
     }
 
     /// The number of members, and at prefix length 0, where that needs 129 bits, one less: 2^128 - 1.
@@ -198,20 +217,26 @@ impl Ipv6Network {
         self.holds(&other) || other.holds(&self)
     }
 
-    /// Which of two networks comes first: by the segments, then by the prefix length.
+    /// Which of two networks comes first: by the halves of the addresses, then by the prefix length.
     pub(crate) fn order(&self, other: &Ipv6Network) -> Ordering
         ensures { result ≡ network_cmp self.now other.now }
     {
-        self.segments
-            .cmp(&other.segments)
-            .then(self.prefix.cmp(&other.prefix))
+        let (high, low) = segments::halves(&self.low_first);
+        let (other_high, other_low) = segments::halves(&other.low_first);
+        if high != other_high {
+            return high.cmp(&other_high);
+        }
+        if low != other_low {
+            return low.cmp(&other_low);
+        }
+        self.prefix.cmp(&other.prefix)
     }
 
     /// The octets of the address, the lowest first.
     pub(crate) fn address_octets(&self) -> [u8; 16]
         ensures { result ≡ le_bytes 16 self.now.address }
     {
-        segments::octets_low_first(&self.segments)
+        segments::octets_low_first(&self.segments())
     }
 
     /// The members, each once, in ascending order.
@@ -236,10 +261,7 @@ impl Ipv6Network {
         let Some(prefix) = prefix_length(suffix) else {
             return Err(CidrFault::Prefix);
         };
-        Ok(Ipv6Network {
-            segments: address.segments(),
-            prefix,
-        })
+        Ok(Ipv6Network::from_segments(&address.segments(), prefix))
     }
 
     /// The network that a text names, as `read_bytes` reads it; where it names none, the error for its
@@ -301,10 +323,7 @@ impl From<Ipv6Addr> for Ipv6Network {
     ghost from_gives = { λ address network. network ≡ record { address = address; prefix = 128 } };
 
     fn from(addr: Ipv6Addr) -> Self {
-        Ipv6Network {
-            segments: addr.segments(),
-            prefix: WIDTH,
-        }
+        Ipv6Network::from_segments(&addr.segments(), WIDTH)
     }
 }
 

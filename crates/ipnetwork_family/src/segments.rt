@@ -1,6 +1,6 @@
 //! What a prefix length makes of the eight segments of an address of 128 bits, segment by segment: whole before
 //! the segment that it cuts, by a mask of 16 bits there, and cleared or set behind it.
-ghost use Rattle.std.specs.Prelude.{◌≡◌, ◌↔◌, ℕ, ◌-◌, ◌/◌, ◌%◌, ◌^◌, ◌<◌, ◌≤◌, IsTrue, MatchOption};
+ghost use Rattle.std.specs.Prelude.{◌≡◌, ◌↔◌, ℕ, ◌+◌, ◌-◌, ◌*◌, ◌/◌, ◌%◌, ◌^◌, ◌<◌, ◌≤◌, IsTrue, MatchOption, reverse, [], ◌∷◌};
 ghost use Rattle.std.specs.Hash.{le_bytes};
 ghost use Rattle.ipnetwork_addr.specs.Digits.{segments_of};
 ghost use Rattle.ipnetwork_family.specs.Network.{low, high, block_size, mask_of, IsNoMask};
@@ -82,6 +82,31 @@ pub(crate) fn prefix_of_mask(segments: &[u16; 8]) -> Option<u8>
     } else {
         None
     }
+}
+
+/// The segments in the other order.
+pub(crate) fn reversed(segments: &[u16; 8]) -> [u16; 8]
+    ensures { result ≡ reverse segments.now }
+{
+    let [a, b, c, d, e, f, g, h] = *segments;
+    [h, g, f, e, d, c, b, a]
+}
+
+/// The two halves of an address whose segments stand the lowest first, as numbers of 64 bits: the high half, and
+/// the low one.
+pub(crate) fn halves(low_first: &[u16; 8]) -> (u64, u64)
+    ensures { number_of (reverse low_first.now) ≡ result.0 * 2 ^ 64 + result.1 }
+{
+    let [h, g, f, e, d, c, b, a] = *low_first;
+    (half(a, b, c, d), half(e, f, g, h))
+}
+
+/// The number that four segments make up.
+fn half(a: u16, b: u16, c: u16, d: u16) -> u64
+    ensures { result ≡ number_of (a ∷ b ∷ c ∷ d ∷ []) }
+{
+    let two = u64::from(a) * 0x1_0000 + u64::from(b);
+    (two * 0x1_0000 + u64::from(c)) * 0x1_0000 + u64::from(d)
 }
 
 /// The sixteen octets of an address, the lowest first.

@@ -1,10 +1,11 @@
 -- Why an IPv6 network is known by its address and its prefix length: eight segments are those of their address.
-use Rattle.std.specs.Prelude.{◌≡◌, ℕ, zero, suc, ◌+◌, ◌*◌, ◌/◌, ◌%◌, ◌<◌, ◌≤◌, List, [], ◌∷◌, ◌++◌, length, take}
-use Rattle.std.proofs.Common.{get_or, refl, sym, ap, ◌∙◌}
-use Rattle.std.proofs.Math.Nat.{le_of_eq, le_of_lt}
+use Rattle.std.specs.Prelude.{◌≡◌, ℕ, zero, suc, ◌+◌, ◌-◌, ◌*◌, ◌/◌, ◌%◌, ◌<◌, ◌≤◌, List, [], ◌∷◌, ◌++◌, length, take, reverse}
+use Rattle.std.proofs.Common.{get_or, refl, sym, ap, subst, ◌∙◌, ⊎_elim, lit<}
+use Rattle.std.proofs.Math.Nat.{le_of_eq, le_of_lt, le_trans}
 use Rattle.std.proofs.Math.Seq.{take-suc}
 use Rattle.std.proofs.lemmas.Int.Digits.{number_push}
-use Rattle.std.proofs.lemmas.List.{take_all}
+use Rattle.std.proofs.lemmas.Bool.{cases_lt}
+use Rattle.std.proofs.lemmas.List.{take_all, length-reverse, get_or-reverse, get_or_past, reverse-reverse}
 use Rattle.std.proofs.lemmas.Nat.{div-mul-add, mod-mul-add}
 use Rattle.ipnetwork_addr.specs.Digits.{digits_in, segments_of}
 use Rattle.ipnetwork_family.specs.Private.Segments.{number_of, AreSegments}
@@ -28,3 +29,18 @@ pub segments_back : (xs : List ℕ) → AreSegments xs → segments_of (number_o
 segments_back xs are =
     let all : take 8 xs ≡ xs = take_all 8 xs (le_of_eq are.eight) in
     sym (ap (λ segments. segments_of (number_of segments)) all) ∙ first_back xs 8 (le_of_eq (sym are.eight)) are.each ∙ all
+
+-- ---- the lowest first
+
+pub reversed_segments : (xs : List ℕ) → AreSegments xs → AreSegments (reverse xs)
+reversed_segments xs are = record {
+  eight = length-reverse xs ∙ are.eight;
+  each = λ i. ⊎_elim
+      (λ (within : i < length xs). subst (λ (d : ℕ). d < 65536) (sym (get_or-reverse xs i 0 within)) (are.each (length xs - 1 - i)))
+      (λ (past : length xs ≤ i). subst (λ (d : ℕ). d < 65536) (sym (get_or_past (reverse xs) i 0 (le_trans (le_of_eq (length-reverse xs)) past))) (lit< tt))
+      (cases_lt i (length xs));
+}
+
+-- segments that stand the lowest first are those of their address
+pub low_first_back : (xs : List ℕ) → AreSegments xs → reverse (segments_of (number_of (reverse xs))) ≡ xs
+low_first_back xs are = ap reverse (segments_back (reverse xs) (reversed_segments xs are)) ∙ reverse-reverse xs

@@ -2,5 +2,5 @@ use Rattle.ipnetwork_family.proofs.EightSegments.{high_back}
 use Rattle.ipnetwork_family.proofs.ipv6.Ipv6Network.broadcast.Goals as goal
 
 pub returns : goal.returns
-returns c = rw (← c.self.view_is)
-    (high_back c.self.inside.segments c.greatest.result c.self.inside.prefix c.from.result c.self.invariant c.greatest.ensures c.from.ensures)
+returns c =
+    high_back c.args.self.now c.greatest.result _ c.prefix.result c.from.result c.segments.ensures.network c.segments.ensures.address c.prefix.ensures.made c.greatest.ensures c.from.ensures

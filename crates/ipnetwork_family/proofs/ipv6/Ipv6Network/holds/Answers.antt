@@ -1,10 +1,6 @@
-use Rattle.ipnetwork_family.proofs.EightSegments.{is_network}
 use Rattle.ipnetwork_family.proofs.ipv6.Ipv6Network.holds.Goals as goal
 
 pub returns-clause-member : goal.returns-clause-member
-returns-clause-member c = rw (← c.self.view_is, ← c.other.view_is)
-    ((λ t. ((is_network c.other.inside.segments c.other.inside.prefix c.other.invariant).address_fits, c.agree.ensures.0 t)), (λ m. c.agree.ensures.1 m.1))
-
-pub returns-clause-networks : goal.returns-clause-networks
-returns-clause-networks c = rw (← c.self.view_is, ← c.other.view_is)
-    (is_network c.self.inside.segments c.self.inside.prefix c.self.invariant, is_network c.other.inside.segments c.other.inside.prefix c.other.invariant)
+returns-clause-member c =
+    let h = rw (c.segments.ensures.address, c.segments-2.ensures.address, c.prefix.ensures.made) at c.agree.ensures in
+    ((λ t. (c.segments.ensures.network.address_fits, h.0 t)), (λ m. h.1 m.1))

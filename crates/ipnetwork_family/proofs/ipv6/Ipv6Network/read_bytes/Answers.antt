@@ -22,5 +22,5 @@ returns-in_default-prefix_length c =
     no_prefix 128 NamesV6 IsV6Suffix (address_no_slash NamesV6 c.v6_text_bytes.ensures) c.args.text.now _ _ c.in_ok-address.ensures _ c.in-Ok.ensures c.in_default-prefix_length.ensures
 
 pub returns : goal.returns
-returns c =
-    named_by_parts 128 NamesV6 IsV6Suffix c.args.text.now _ _ c.in_ok-address.ensures _ (rw (made_of c.segments.result _ c.segments.ensures.bound c.segments.ensures.segments) c.in-Ok.ensures) c.in-Some.ensures
+returns c = rw (c.from_segments.ensures, made_of c.segments.result _ c.segments.ensures.bound c.segments.ensures.segments)
+    (named_by_parts 128 NamesV6 IsV6Suffix c.args.text.now _ _ c.in_ok-address.ensures _ c.in-Ok.ensures c.in-Some.ensures)
