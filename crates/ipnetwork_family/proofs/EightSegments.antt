@@ -1,10 +1,11 @@
 -- Segments, by the address that they make up.
-use Rattle.std.proofs.Common.{◌≡◌, ◌≢◌, ◌↔◌, ◌==◌, Bool, true, false, IsTrue, ℕ, zero, suc, ◌+◌, ◌-◌, ◌*◌, ◌/◌, ◌^◌, ◌<◌, ◌≤◌, min, List, length, take, get_or, set, sym, refl, ap, ap₂, subst, ◌∙◌, arith, ⊎_elim, lit<, bit_and, bit_or}
+use Rattle.std.proofs.Common.{◌≡◌, ◌≢◌, ◌↔◌, ◌==◌, IsTrue, ℕ, zero, suc, ◌+◌, ◌-◌, ◌*◌, ◌/◌, ◌%◌, ◌^◌, ◌<◌, ◌≤◌, min, List, length, take, get_or, set, sym, refl, ap, ap₂, subst, ◌∙◌, arith, ⊎_elim, lit<, bit_and, bit_or}
+use Rattle.std.specs.Int.Bits.{and_zero_r}
 use Rattle.std.specs.Int.Count.{count_leading_zeros}
 use Rattle.std.proofs.lemmas.Int.Digits.{number_more, number_push}
 use Rattle.std.proofs.lemmas.List.{take_all, take_more_set, length-set, get_or-set_same, get_or-set_other}
 use Rattle.std.proofs.lemmas.Nat.{pow_pos, pow-add, div-mul-add, shr-shr, same_from_place}
-use Rattle.std.proofs.lemmas.Bool.{cases_lt, cases_eq, eqb-true, eq-eqb, true≢false}
+use Rattle.std.proofs.lemmas.Bool.{cases_lt, cases_eq, eqb-true, eq-eqb}
 use Rattle.std.proofs.Math.Nat.{mul-add-div_right, mul_assoc, mul-div_cancel, div-mul-le_self}
 use Rattle.ipnetwork_addr.specs.Digits.{segments_of}
 use Rattle.ipnetwork_family.specs.Network.{Network, IsNetwork, low, high, mask_of}
@@ -135,10 +136,35 @@ host_ones_fit h below =
     let back : 16 - (16 - h) ≡ h = omega arith in
     subst (λ (t : ℕ). 2 ^ t ≤ 65536) back (size_fits 16 (16 - h) (omega arith))
 
-segment_cleared : (h d : ℕ) → h ≤ 16 → d < 65536 → bit_and d (65535 - (2 ^ h - 1)) ≡ cleared h d
-segment_cleared h d below fit =
+-- a mask, as it is computed
+pub segment_mask_is : (p i : ℕ) → min (p / 16 * 65536 + (65536 - 2 ^ (16 - p % 16)) - i * 65536) 65535 ≡ 65536 - 2 ^ host_bits p i
+segment_mask_is p i =
+    let q : ℕ = p / 16 in
+    let k : ℕ = 16 - p % 16 in
+    ⊎_elim
+    (λ (before : i < q).
+    let none : host_bits p i ≡ 0 = omega arith in
+    omega (arith, ap (λ b. 2 ^ b) none, host_ones_fit k (omega arith)))
+    (λ (after : q ≤ i).
+    ⊎_elim
+    (λ (behind : q < i).
+    let all : host_bits p i ≡ 16 = omega arith in
+    omega (arith, ap (λ b. 2 ^ b) all, host_ones_fit k (omega arith)))
+    (λ (at : i ≤ q).
+    let part : host_bits p i ≡ k = omega arith in
+    omega (arith, ap (λ b. 2 ^ b) part, host_ones_fit k (omega arith), pow_pos k))
+    (cases_lt q i))
+    (cases_lt i q)
+
+segment_cleared : (h d mask : ℕ) → h ≤ 16 → d < 65536 → mask ≡ 65536 - 2 ^ h → bit_and d mask ≡ cleared h d
+segment_cleared h d mask below fit is =
     let back : 16 - (16 - h) ≡ h = omega arith in
-    subst (λ (t : ℕ). bit_and d (65535 - (2 ^ t - 1)) ≡ cleared t d) back (clear_hosts 16 (16 - h) d (omega arith) fit)
+    let under : mask ≡ 65535 - (2 ^ h - 1) = omega (arith, is, pow_pos h) in
+    ap (bit_and d) under ∙ subst (λ (t : ℕ). bit_and d (65535 - (2 ^ t - 1)) ≡ cleared t d) back (clear_hosts 16 (16 - h) d (omega arith) fit)
+
+-- the host bits under it
+pub ones_under : (p i mask : ℕ) → mask ≡ 65536 - 2 ^ host_bits p i → 65535 - mask ≡ 2 ^ host_bits p i - 1
+ones_under p i mask is = omega (arith, is, pow_pos (host_bits p i), host_ones_fit (host_bits p i) (host_bits_le p i))
 
 segment_set : (h d : ℕ) → h ≤ 16 → d < 65536 → bit_or (bit_and d (65535 - (2 ^ h - 1))) (2 ^ h - 1) ≡ cleared h d + 2 ^ h - 1
 segment_set h d below fit =
@@ -158,19 +184,18 @@ greatest_none p = let none : 16 * 0 - p ≡ 0 = omega arith in sym (ap (λ k. cl
 
 -- ---- one segment more of an answer
 
-pub mask_more : (ys : List ℕ) (p i ones : ℕ) → AreSegments ys → i < 8 → ones ≡ 2 ^ host_bits p i - 1
-    → number_of (take i ys) + 2 ^ (16 * i - p) ≡ 65536 ^ i → number_of (take (i + 1) (set ys i (65535 - ones))) + 2 ^ (16 * (i + 1) - p) ≡ 65536 ^ (i + 1)
-mask_more ys p i ones h within are before =
-    omega (arith, number_written ys i (65535 - ones) h within, are, before, hosts_more p i, host_ones_fit (host_bits p i) (host_bits_le p i), pow_pos (host_bits p i), pow-add 65536 i 1)
+pub mask_more : (ys : List ℕ) (p i mask : ℕ) → AreSegments ys → i < 8 → mask ≡ 65536 - 2 ^ host_bits p i
+    → number_of (take i ys) + 2 ^ (16 * i - p) ≡ 65536 ^ i → number_of (take (i + 1) (set ys i mask)) + 2 ^ (16 * (i + 1) - p) ≡ 65536 ^ (i + 1)
+mask_more ys p i mask h within are before =
+    omega (arith, number_written ys i mask h within, are, before, hosts_more p i, host_ones_fit (host_bits p i) (host_bits_le p i), pow_pos (host_bits p i), pow-add 65536 i 1)
 
-pub least_more : (xs ys : List ℕ) (p i ones : ℕ) → AreSegments xs → AreSegments ys → i < 8 → ones ≡ 2 ^ host_bits p i - 1
+pub least_more : (xs ys : List ℕ) (p i mask : ℕ) → AreSegments xs → AreSegments ys → i < 8 → mask ≡ 65536 - 2 ^ host_bits p i
     → number_of (take i ys) ≡ cleared (16 * i - p) (number_of (take i xs))
-    → number_of (take (i + 1) (set ys i (bit_and (get_or xs i 0) (65535 - ones)))) ≡ cleared (16 * (i + 1) - p) (number_of (take (i + 1) xs))
-least_more xs ys p i ones g h within are before =
+    → number_of (take (i + 1) (set ys i (bit_and (get_or xs i 0) mask))) ≡ cleared (16 * (i + 1) - p) (number_of (take (i + 1) xs))
+least_more xs ys p i mask g h within are before =
     let d : ℕ = get_or xs i 0 in
-    number_written ys i (bit_and d (65535 - ones)) h within
-    ∙ ap (λ k. number_of (take i ys) * 65536 + bit_and d (65535 - k)) are
-    ∙ ap (λ k. number_of (take i ys) * 65536 + k) (segment_cleared (host_bits p i) d (host_bits_le p i) (g.each i))
+    number_written ys i (bit_and d mask) h within
+    ∙ ap (λ k. number_of (take i ys) * 65536 + k) (segment_cleared (host_bits p i) d mask (host_bits_le p i) (g.each i) are)
     ∙ ap (λ k. k * 65536 + cleared (host_bits p i) d) before
     ∙ sym (clear_more (number_of (take i xs)) d p i (g.each i))
     ∙ ap (cleared (16 * (i + 1) - p)) (sym (number_more 65536 xs i (omega (arith, g.eight))))
@@ -227,17 +252,20 @@ agree_more_right n m d e p i fd fe all =
     same_from_place (cleared (16 * i - p) n) (cleared (host_bits p i) d) (cleared (16 * i - p) m) (cleared (host_bits p i) e) 65536 (omega (arith, left)) (omega (arith, right))
     (sym (clear_more n d p i fd) ∙ all ∙ clear_more m e p i fe)
 
+-- they agree in the bits of the prefix length that lie in the first j segments
+abbrev AgreeIn : List ℕ → List ℕ → ℕ → ℕ → Type 0
+AgreeIn xs ys p j = cleared (16 * j - p) (number_of (take j xs)) ≡ cleared (16 * j - p) (number_of (take j ys))
+
 -- they agree in one segment more exactly if they agreed before it and agree in it
-pub agree_more : (xs ys : List ℕ) (p i ones : ℕ) → AreSegments xs → AreSegments ys → i < 8 → ones ≡ 2 ^ host_bits p i - 1
-    → (cleared (16 * (i + 1) - p) (number_of (take (i + 1) xs)) ≡ cleared (16 * (i + 1) - p) (number_of (take (i + 1) ys)))
-    ↔ ((cleared (16 * i - p) (number_of (take i xs)) ≡ cleared (16 * i - p) (number_of (take i ys))) × (bit_and (get_or xs i 0) (65535 - ones) ≡ bit_and (get_or ys i 0) (65535 - ones)))
-agree_more xs ys p i ones g h within are =
+agree_more : (xs ys : List ℕ) (p i mask : ℕ) → AreSegments xs → AreSegments ys → i < 8 → mask ≡ 65536 - 2 ^ host_bits p i
+    → AgreeIn xs ys p (i + 1) ↔ (AgreeIn xs ys p i × (bit_and (get_or xs i 0) mask ≡ bit_and (get_or ys i 0) mask))
+agree_more xs ys p i mask g h within are =
     let d : ℕ = get_or xs i 0 in
     let e : ℕ = get_or ys i 0 in
     let nx : number_of (take (i + 1) xs) ≡ number_of (take i xs) * 65536 + d = number_more 65536 xs i (omega (arith, g.eight)) in
     let ny : number_of (take (i + 1) ys) ≡ number_of (take i ys) * 65536 + e = number_more 65536 ys i (omega (arith, h.eight)) in
-    let dx : bit_and d (65535 - ones) ≡ cleared (host_bits p i) d = ap (λ k. bit_and d (65535 - k)) are ∙ segment_cleared (host_bits p i) d (host_bits_le p i) (g.each i) in
-    let ex : bit_and e (65535 - ones) ≡ cleared (host_bits p i) e = ap (λ k. bit_and e (65535 - k)) are ∙ segment_cleared (host_bits p i) e (host_bits_le p i) (h.each i) in
+    let dx : bit_and d mask ≡ cleared (host_bits p i) d = segment_cleared (host_bits p i) d mask (host_bits_le p i) (g.each i) are in
+    let ex : bit_and e mask ≡ cleared (host_bits p i) e = segment_cleared (host_bits p i) e mask (host_bits_le p i) (h.each i) are in
     let c : ℕ = 16 * (i + 1) - p in (
       (λ all.
           let parts = agree_more_right (number_of (take i xs)) (number_of (take i ys)) d e p i (g.each i) (h.each i) (sym (ap (cleared c) nx) ∙ all ∙ ap (cleared c) ny) in
@@ -246,21 +274,8 @@ agree_more xs ys p i ones g h within are =
           ap (cleared c) nx ∙ agree_more_left (number_of (take i xs)) (number_of (take i ys)) d e p i (g.each i) (h.each i) parts.0 (sym dx ∙ parts.1 ∙ ex) ∙ sym (ap (cleared c) ny)),
     )
 
--- so does the test, where it was true before the segment, and where it was not
-pub agree_on : (was now : Bool) (x y : ℕ) {Before After : Type 0} → (IsTrue was ↔ Before) → (After ↔ (Before × (x ≡ y))) → was ≡ true → now ≡ (x == y) → IsTrue now ↔ After
-agree_on was now x y before more is next = (
-  (λ t. more.1 (before.0 is, eqb-true x y (sym next ∙ t))),
-  (λ all. next ∙ eq-eqb x y (more.0 all).1),
-)
-
-pub agree_off : (was now : Bool) (x y : ℕ) {Before After : Type 0} → (IsTrue was ↔ Before) → (After ↔ (Before × (x ≡ y))) → was ≡ false → now ≡ was → IsTrue now ↔ After
-agree_off was now x y before more is next = (
-  (λ t. absurd (true≢false (sym t ∙ next ∙ is))),
-  (λ all. absurd (true≢false (sym (before.1 (more.0 all).0) ∙ is))),
-)
-
-pub agree_whole : (xs ys : List ℕ) (p i : ℕ) → AreSegments xs → AreSegments ys → i ≡ 8
-    → (cleared (16 * i - p) (number_of (take i xs)) ≡ cleared (16 * i - p) (number_of (take i ys))) ↔ (number_of xs / 2 ^ (128 - p) ≡ number_of ys / 2 ^ (128 - p))
+agree_whole : (xs ys : List ℕ) (p i : ℕ) → AreSegments xs → AreSegments ys → i ≡ 8
+    → AgreeIn xs ys p i ↔ (number_of xs / 2 ^ (128 - p) ≡ number_of ys / 2 ^ (128 - p))
 agree_whole xs ys p i g h e =
     let to : 16 * i - p ≡ 128 - p = omega arith in
     let tx : take i xs ≡ xs = take_all i xs (omega (arith, g.eight)) in
@@ -269,6 +284,45 @@ agree_whole xs ys p i g h e =
     let ay : cleared (16 * i - p) (number_of (take i ys)) ≡ cleared (128 - p) (number_of ys) = ap (λ k. cleared k (number_of (take i ys))) to ∙ ap (λ l. cleared (128 - p) (number_of l)) ty in (
       (λ all. sym (mul-div_cancel (number_of xs / 2 ^ (128 - p)) (pow_pos (128 - p))) ∙ ap (λ n. n / 2 ^ (128 - p)) (sym ax ∙ all ∙ ay) ∙ mul-div_cancel (number_of ys / 2 ^ (128 - p)) (pow_pos (128 - p))),
       (λ same. ax ∙ ap (λ q. q * 2 ^ (128 - p)) same ∙ sym ay),
+    )
+
+-- they agree in fewer segments
+agree_fewer : (xs ys : List ℕ) (p j k : ℕ) → AreSegments xs → AreSegments ys → j + k ≡ 8 → AgreeIn xs ys p 8 → AgreeIn xs ys p j
+agree_fewer xs ys p j zero g h e all = let last : 8 ≡ j = omega arith in subst (λ (n : ℕ). AgreeIn xs ys p n) last all
+agree_fewer xs ys p j (suc k) g h e all =
+    ((agree_more xs ys p j (65536 - 2 ^ host_bits p j) g h (omega arith) refl).0 (agree_fewer xs ys p (j + 1) k g h (omega arith) all)).0
+
+-- and in more, behind the prefix length
+agree_behind : (xs ys : List ℕ) (p j k : ℕ) → AreSegments xs → AreSegments ys → j + k ≡ 8 → p ≤ 16 * j → AgreeIn xs ys p j → AgreeIn xs ys p 8
+agree_behind xs ys p j zero g h e behind so_far = let last : j ≡ 8 = omega arith in subst (λ (n : ℕ). AgreeIn xs ys p n) last so_far
+agree_behind xs ys p j (suc k) g h e behind so_far =
+    let all : host_bits p j ≡ 16 = omega arith in
+    let none : 0 ≡ 65536 - 2 ^ host_bits p j = omega (arith, ap (λ b. 2 ^ b) all) in
+    let more = agree_more xs ys p j 0 g h (omega arith) none in
+    agree_behind xs ys p (j + 1) k g h (omega arith) (omega arith) (more.1 (so_far, and_zero_r (get_or xs j 0) ∙ sym (and_zero_r (get_or ys j 0))))
+
+-- what the first segment in which they differ tells
+pub agree_at : (xs ys : List ℕ) (p i mask : ℕ) → AreSegments xs → AreSegments ys → i < 8 → mask ≡ 65536 - 2 ^ host_bits p i
+    → take i xs ≡ take i ys → get_or xs i 0 ≢ get_or ys i 0
+    → IsTrue (bit_and (get_or xs i 0) mask == bit_and (get_or ys i 0) mask) ↔ (number_of xs / 2 ^ (128 - p) ≡ number_of ys / 2 ^ (128 - p))
+agree_at xs ys p i mask g h within are before differ =
+    let d : ℕ = get_or xs i 0 in
+    let e : ℕ = get_or ys i 0 in
+    let more = agree_more xs ys p i mask g h within are in
+    let whole = agree_whole xs ys p 8 g h refl in
+    let front : AgreeIn xs ys p i = ap (λ l. cleared (16 * i - p) (number_of l)) before in (
+      (λ t.
+          let same : bit_and d mask ≡ bit_and e mask = eqb-true (bit_and d mask) (bit_and e mask) t in
+          let behind : p ≤ 16 * (i + 1) =
+          ⊎_elim
+          (λ (inside : 16 * (i + 1) < p).
+          let none : host_bits p i ≡ 0 = omega arith in
+          let kept : (x : ℕ) → x < 65536 → bit_and x mask ≡ x = λ x fit. segment_cleared (host_bits p i) x mask (host_bits_le p i) fit are ∙ ap (λ k. cleared k x) none ∙ (omega arith) in
+          absurd (differ (sym (kept d (g.each i)) ∙ same ∙ kept e (h.each i))))
+          (λ (past : p ≤ 16 * (i + 1)). past)
+          (cases_lt (16 * (i + 1)) p) in
+          whole.0 (agree_behind xs ys p (i + 1) (7 - i) g h (omega arith) behind (more.1 (front, same)))),
+      (λ all. eq-eqb (bit_and d mask) (bit_and e mask) (more.0 (agree_fewer xs ys p (i + 1) (7 - i) g h (omega arith) (whole.1 all))).1),
     )
 
 -- ---- the segments of a mask

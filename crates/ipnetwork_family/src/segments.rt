@@ -6,17 +6,20 @@ ghost use Rattle.ipnetwork_addr.specs.Digits.{segments_of};
 ghost use Rattle.ipnetwork_family.specs.Network.{low, high, block_size, mask_of, IsNoMask};
 ghost use Rattle.ipnetwork_family.specs.Private.Segments.{number_of, host_bits};
 
-/// The ones at the bits of a segment that lie past the first `prefix` bits of the address: none before the
-/// segment that the prefix length cuts, and 16 behind it.
-#[tactic(auto, using(crate::proofs::EightSegments::host_ones_fit))]
-fn host_ones(prefix: u8, index: usize) -> u16
+/// The mask of a prefix length in one segment: all ones before the segment that the prefix length cuts, and no ones
+/// behind it. As 2^16 for each segment before the cut one, and the mask there, less 2^16 for each segment before this
+/// one, it takes no branch and no shift by the index: so a compiler can make all eight at once.
+#[tactic(auto, using(crate::proofs::EightSegments::host_ones_fit, crate::proofs::EightSegments::segment_mask_is))]
+fn segment_mask(prefix: u8, index: usize) -> u16
     requires { index < 8 }
-    ensures { result ≡ 2 ^ host_bits prefix index - 1 }
+    ensures { result ≡ 2 ^ 16 - 2 ^ host_bits prefix index }
 {
-    let hosts = (16 * (index as u32 + 1))
-        .saturating_sub(u32::from(prefix))
-        .min(16);
-    ((1u32 << hosts) - 1) as u16
+    let prefix = u32::from(prefix);
+    let whole = prefix / 16 * 0x1_0000;
+    let cut = 0x1_0000 - (1u32 << (16 - prefix % 16));
+    (whole + cut)
+        .saturating_sub(index as u32 * 0x1_0000)
+        .min(0xffff) as u16
 }
 
 /// The mask of a prefix length.
@@ -26,7 +29,7 @@ pub(crate) fn mask(prefix: u8) -> [u16; 8]
 {
     let mut mask = [0; 8];
     for i in 0..8 {
-        mask[i] = !host_ones(prefix, i);
+        mask[i] = segment_mask(prefix, i);
     }
     mask
 }
@@ -38,7 +41,7 @@ pub(crate) fn least(segments: &[u16; 8], prefix: u8) -> [u16; 8]
 {
     let mut least = [0; 8];
     for i in 0..8 {
-        least[i] = segments[i] & !host_ones(prefix, i);
+        least[i] = segments[i] & segment_mask(prefix, i);
     }
     least
 }
@@ -50,23 +53,25 @@ pub(crate) fn greatest(segments: &[u16; 8], prefix: u8) -> [u16; 8]
 {
     let mut greatest = [0; 8];
     for i in 0..8 {
-        let ones = host_ones(prefix, i);
+        let ones = !segment_mask(prefix, i);
         greatest[i] = segments[i] & !ones | ones;
     }
     greatest
 }
 
-/// Whether two addresses agree in their first `prefix` bits.
+/// Whether two addresses agree in their first `prefix` bits: whether the first segment in which they differ, if there
+/// is one, differs behind these bits alone.
 pub(crate) fn agree(a: &[u16; 8], b: &[u16; 8], prefix: u8) -> bool
     requires { prefix ≤ 128 }
     ensures { IsTrue result ↔ (number_of a.now / block_size 128 prefix ≡ number_of b.now / block_size 128 prefix) }
 {
-    let mut agree = true;
     for i in 0..8 {
-        let mask = !host_ones(prefix, i);
-        agree = agree && a[i] & mask == b[i] & mask;
+        if a[i] != b[i] {
+            let mask = segment_mask(prefix, i);
+            return a[i] & mask == b[i] & mask;
+        }
     }
-    agree
+    true
 }
 
 /// The prefix length of a mask: as many ones in front, and zeros behind them.
