@@ -15,6 +15,6 @@ pub mod Members
 pub mod NetworkTexts
 pub mod Numerals
 mod Shown
-pub mod SegmentOrder
+pub mod SegmentOctets
 pub mod Slashes
 pub mod Suffixes

@@ -28,8 +28,8 @@ use std::str::FromStr;
 /// Ordered by address, then by prefix length.
 #[derive(Clone, Copy, Debug)]
 pub struct Ipv6Network {
-    // The eight segments, the lowest first: on machines that store the low octets of a number first, as most do, each
-    // half of the address lies in memory as one number of 64 bits. `order` compares by these.
+    // The eight segments, the lowest first. Where the low octets of a number are stored first, as on most machines,
+    // each half of the address then lies in memory as one number of 64 bits: `order` compares by these.
     low_first: [u16; 8],
     prefix: u8,
 }
@@ -57,7 +57,7 @@ impl Model for Ipv6Network {
 // The clause `network` tells a proof in another crate what holds of each network: both fields are private,
 // so nothing else says it. It stands on the calls that such proofs begin with.
 impl Ipv6Network {
-    // The network of the address of these segments, the highest first.
+    /// The network of the address of these segments, the highest first.
     fn from_segments(segments: &[u16; 8], prefix: u8) -> Self
         requires { prefix ≤ 128 }
         ensures { result ≡ record { address = number_of segments.now; prefix = prefix } }
@@ -68,7 +68,7 @@ impl Ipv6Network {
         }
     }
 
-    // The segments of the address, the highest first.
+    /// The segments of the address, the highest first.
     fn segments(&self) -> [u16; 8]
         ensures address { number_of result ≡ self.now.address }
         ensures network { IsNetwork 128 self.now }

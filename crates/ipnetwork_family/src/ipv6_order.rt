@@ -1,4 +1,4 @@
-//! IPv6 networks compared and hashed: by the segments, then the prefix length.
+//! IPv6 networks compared and hashed: by the address, then the prefix length.
 ghost use Rattle.std.specs.Prelude.{◌++◌};
 ghost use Rattle.std.specs.Hash as fed;
 ghost use Rattle.std.specs.Cmp.{partial_order_from_own_ties};

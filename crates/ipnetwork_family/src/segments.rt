@@ -1,19 +1,21 @@
 //! What a prefix length makes of the eight segments of an address of 128 bits, segment by segment: whole before
-//! the segment that it cuts, by a mask of 16 bits there, and cleared or set behind it.
+//! the segment that it cuts, by a mask of 16 bits there, and cleared or set behind it. The highest stands first,
+//! where nothing else is said.
 ghost use Rattle.std.specs.Prelude.{◌≡◌, ◌↔◌, ℕ, ◌+◌, ◌-◌, ◌*◌, ◌/◌, ◌%◌, ◌^◌, ◌<◌, ◌≤◌, IsTrue, MatchOption, reverse, [], ◌∷◌};
 ghost use Rattle.std.specs.Hash.{le_bytes};
 ghost use Rattle.ipnetwork_addr.specs.Digits.{segments_of};
 ghost use Rattle.ipnetwork_family.specs.Network.{low, high, block_size, mask_of, IsNoMask};
 ghost use Rattle.ipnetwork_family.specs.Private.Segments.{number_of, host_bits};
 
-/// The mask of a prefix length in one segment: all ones before the segment that the prefix length cuts, and no ones
-/// behind it. As 2^16 for each segment before the cut one, and the mask there, less 2^16 for each segment before this
-/// one, it takes no branch and no shift by the index: so a compiler can make all eight at once.
+/// The mask of a prefix length in one segment: all ones before the segment that the prefix length cuts, and none
+/// behind it.
 #[tactic(auto, using(crate::proofs::EightSegments::host_ones_fit, crate::proofs::EightSegments::segment_mask_is))]
 fn segment_mask(prefix: u8, index: usize) -> u16
     requires { index < 8 }
     ensures { result ≡ 2 ^ 16 - 2 ^ host_bits prefix index }
 {
+    // The mask of the cut segment and 2^16 for each segment before it, less 2^16 for each segment before this one, is
+    // held between no ones and all. With no branch and no shift by the index, a compiler can make all eight at once.
     let prefix = u32::from(prefix);
     let whole = prefix / 16 * 0x1_0000;
     let cut = 0x1_0000 - (1u32 << (16 - prefix % 16));

@@ -1,4 +1,4 @@
--- Segments compared and hashed, by the address that they make up.
+-- The octets of segments, by the address that they make up.
 use Rattle.std.proofs.Common.{◌≡◌, ℕ, zero, suc, ◌+◌, ◌*◌, ◌/◌, ◌%◌, ◌^◌, ◌<◌, List, [], ◌∷◌, length, take, get_or, refl, sym, ap, ◌∙◌, arith, lit<}
 use Rattle.std.specs.Hash.{le_bytes}
 use Rattle.std.specs.Int.{byte_at, bytes_low_first}
@@ -7,8 +7,6 @@ use Rattle.std.proofs.lemmas.Int.Digits.{number_more}
 use Rattle.std.proofs.lemmas.List.{take_all}
 use Rattle.std.proofs.lemmas.Nat.{div-mul-add, pow-add}
 use Rattle.ipnetwork_family.specs.Private.Segments.{number_of, AreSegments}
-
--- ---- octets
 
 -- the octets past a segment are those of what stands before it
 octet_before : (n d i : ℕ) → d < 65536 → byte_at (suc (suc i)) (n * 65536 + d) ≡ byte_at i n
