@@ -1,10 +1,11 @@
-/* Which addresses of standard input, one a line, a list of networks holds. The list is a file with one network a line;
- * blank lines and lines that begin with '#' say nothing.
+/* Which addresses of standard input, one a line, a list of networks holds. The list is a file with one network a
+ * line; empty lines and lines that begin with '#' say nothing.
  *
  *   allow LIST < ADDRESSES
  *
- * It prints each address and whether it is allowed. The status is 0; or 2 where the list cannot be read or a line of it
- * is no network. */
+ * It prints each address and whether it is allowed. The status is 0; or 2, with the reason on standard error, where
+ * the list or standard input cannot be read to its end, an answer cannot be written, memory is out, or a line of the
+ * list is no network. Nothing is printed to standard output before the whole list has been read. */
 #define _POSIX_C_SOURCE 200809L
 #include "ipnetwork.h"
 
@@ -13,26 +14,110 @@
 #include <string.h>
 #include <sys/types.h>
 
-/* The next line without its end, or NULL after the last. */
-static char *next_line(FILE *file, char **line, size_t *room, size_t *length) {
-    ssize_t got = getline(line, room, file);
-    if (got < 0)
-        return NULL;
-    *length = (size_t)got;
-    while (*length > 0 && ((*line)[*length - 1] == '\n' || (*line)[*length - 1] == '\r'))
-        *length -= 1;
-    return *line;
+/* A line without its end, in memory that getline gives. */
+struct line {
+    char *text;
+    size_t room, length;
+};
+
+struct list {
+    ipnetwork_ip *networks;
+    size_t count, room;
+};
+
+/* Whether there is a next line. A line that a failed read cut short is none: its front may name another network. */
+static int next_line(FILE *file, struct line *line) {
+    ssize_t got = getline(&line->text, &line->room, file);
+    if (got < 0 || ferror(file))
+        return 0;
+    line->length = (size_t)got;
+    while (line->length > 0 && (line->text[line->length - 1] == '\n' || line->text[line->length - 1] == '\r'))
+        line->length -= 1;
+    return 1;
 }
 
-/* 1 where a network of the list holds the address, which is a network of a single member; else 0. */
-static int is_allowed(const ipnetwork_ip *list, size_t count, const ipnetwork_ip *address) {
+/* Whether the file was read to its end. Where neither ferror nor feof holds, getline was out of memory. */
+static int was_read(FILE *file, const char *name) {
+    if (feof(file) && !ferror(file))
+        return 1;
+    perror(name);
+    return 0;
+}
+
+/* Whether the list has a place for one network more. */
+static int has_place(struct list *list) {
+    if (list->count < list->room)
+        return 1;
+    size_t room = list->room == 0 ? 16 : 2 * list->room;
+    ipnetwork_ip *more = realloc(list->networks, room * sizeof *more);
+    if (more == NULL) {
+        perror("allow");
+        return 0;
+    }
+    list->networks = more;
+    list->room = room;
+    return 1;
+}
+
+/* Whether the list was read, and each line of it is a network. */
+static int read_list(FILE *file, const char *name, struct list *list, struct line *line) {
+    for (size_t number = 1; next_line(file, line); number++) {
+        if (line->length == 0 || line->text[0] == '#')
+            continue;
+        if (!has_place(list))
+            return 0;
+        if (ipnetwork_read(line->text, line->length, &list->networks[list->count]) != IPNETWORK_OK) {
+            fprintf(stderr, "%s:%zu: no network: %.*s\n", name, number, (int)line->length, line->text);
+            return 0;
+        }
+        list->count += 1;
+    }
+    return was_read(file, name);
+}
+
+/* The same of the file of this name. */
+static int open_list(const char *name, struct list *list, struct line *line) {
+    FILE *file = fopen(name, "r");
+    if (file == NULL) {
+        perror(name);
+        return 0;
+    }
+    int done = read_list(file, name, list, line);
+    fclose(file);
+    return done;
+}
+
+/* Whether a network of the list holds the address, which is a network of a single member. */
+static int is_allowed(const struct list *list, const ipnetwork_ip *address) {
     const uint8_t *octets = address->family == 4 ? address->v4.address : address->v6.address;
     size_t length = address->family == 4 ? sizeof address->v4.address : sizeof address->v6.address;
-    for (size_t i = 0; i < count; i++) {
+    for (size_t i = 0; i < list->count; i++) {
         uint8_t answer;
-        if (ipnetwork_contains(&list[i], octets, length, &answer) == IPNETWORK_OK && answer == 1)
+        if (ipnetwork_contains(&list->networks[i], octets, length, &answer) == IPNETWORK_OK && answer == 1)
             return 1;
     }
+    return 0;
+}
+
+static const char *answer_to(const struct line *line, const struct list *list) {
+    ipnetwork_ip address;
+    if (memchr(line->text, '/', line->length) != NULL ||
+        ipnetwork_read(line->text, line->length, &address) != IPNETWORK_OK)
+        return "no address";
+    return is_allowed(list, &address) ? "allowed" : "not allowed";
+}
+
+/* Whether standard input was read to its end, and the answer to each line of it was written. */
+static int answer_all(const struct list *list, struct line *line) {
+    while (next_line(stdin, line)) {
+        fwrite(line->text, 1, line->length, stdout);
+        printf(" %s\n", answer_to(line, list));
+    }
+    if (!was_read(stdin, "standard input"))
+        return 0;
+    if (fflush(stdout) == 0 && !ferror(stdout))
+        return 1;
+    perror("standard output");
     return 0;
 }
 
@@ -41,42 +126,10 @@ int main(int count, char **words) {
         fprintf(stderr, "usage: allow LIST < ADDRESSES\n");
         return 2;
     }
-    FILE *file = fopen(words[1], "r");
-    if (file == NULL) {
-        perror(words[1]);
-        return 2;
-    }
-    ipnetwork_ip *list = NULL;
-    size_t networks = 0, places = 0, number = 0, room = 0, length;
-    char *line = NULL;
-    while (next_line(file, &line, &room, &length) != NULL) {
-        number++;
-        if (length == 0 || line[0] == '#')
-            continue;
-        if (networks == places) {
-            places = places == 0 ? 16 : 2 * places;
-            ipnetwork_ip *more = realloc(list, places * sizeof *list);
-            if (more == NULL) {
-                perror("allow");
-                return 2;
-            }
-            list = more;
-        }
-        if (ipnetwork_read(line, length, &list[networks]) != IPNETWORK_OK) {
-            fprintf(stderr, "%s:%zu: no network: %.*s\n", words[1], number, (int)length, line);
-            return 2;
-        }
-        networks++;
-    }
-    fclose(file);
-    while (next_line(stdin, &line, &room, &length) != NULL) {
-        ipnetwork_ip address;
-        if (memchr(line, '/', length) != NULL || ipnetwork_read(line, length, &address) != IPNETWORK_OK)
-            printf("%.*s no address\n", (int)length, line);
-        else
-            printf("%.*s %s\n", (int)length, line, is_allowed(list, networks, &address) ? "allowed" : "not allowed");
-    }
-    free(line);
-    free(list);
-    return 0;
+    struct list list = {NULL, 0, 0};
+    struct line line = {NULL, 0, 0};
+    int done = open_list(words[1], &list, &line) && answer_all(&list, &line);
+    free(line.text);
+    free(list.networks);
+    return done ? 0 : 2;
 }
