@@ -1,12 +1,12 @@
 /* IP networks in CIDR notation, IPv4 and IPv6: read from texts, printed, and asked about their sets of addresses.
  *
- * Every call answers an ipnetwork_fault: IPNETWORK_OK, which is 0, or why there is no answer. Answers go where the last
- * pointers say. After a fault nothing has been written, but for the length that a canonical call tells with
- * IPNETWORK_SHORT_BUFFER. A struct that the caller has filled is checked: a prefix length past the width is
- * IPNETWORK_PREFIX, and never trusted.
+ * Every call but ipnetwork_abi_version answers an ipnetwork_fault: IPNETWORK_OK, which is 0, or why there is no
+ * answer. Answers go where the last pointers say. After a fault nothing has been written, but for the length that a
+ * canonical call tells with IPNETWORK_SHORT_BUFFER. A struct that the caller has filled is checked: a prefix length
+ * past the width is IPNETWORK_PREFIX, and never trusted.
  *
- * No call allocates or keeps anything. Each may be made from any thread, and from several at once, as long as no other
- * thread writes what it reads or touches what it writes.
+ * No call allocates or keeps anything. Each may be made from any thread, and from several at once, as long as no
+ * other thread writes what it reads or touches what it writes.
  *
  * What the caller has to see to, since no call can check it:
  *   - no pointer is NULL, not even with a length of 0;
@@ -15,7 +15,8 @@
  *
  * A text is bytes with a length. It need not end with a zero byte, and a zero byte in it is a byte like any other.
  * An address is its octets in network order, as struct in_addr and struct in6_addr hold them: pass
- * (const uint8_t *)&in_addr, or in6_addr.s6_addr. No struct here has padding, so they may be copied and hashed as bytes.
+ * (const uint8_t *)&in_addr, or in6_addr.s6_addr. No struct here has padding, so that they may be copied and hashed
+ * as bytes.
  */
 #ifndef IPNETWORK_H
 #define IPNETWORK_H
@@ -27,7 +28,8 @@
 extern "C" {
 #endif
 
-/* A change of a name, a struct or a number below changes it. ipnetwork_abi_version() is that of the library. */
+/* The version of the names, structs and numbers below: it changes with any of them. ipnetwork_abi_version() answers
+ * that of the library. */
 #define IPNETWORK_ABI_VERSION 1
 
 /* Enough for every text of the family and the zero byte behind it. */
@@ -74,38 +76,41 @@ typedef struct ipnetwork_ip {
 
 uint32_t ipnetwork_abi_version(void);
 
-/* The network that a text names. IPv4: an address of four decimals (RFC 3986, section 3.2.2), and after a '/' an
- * optional '+' and a prefix length in decimal, or one of the 33 masks. IPv6: an address as RFC 4291, section 2.2, has
- * it, and after a '/' a prefix length. Without a '/' the prefix length is the full width. Host bits are kept. Else
+/* The network that a text names: an address, and after a '/' a prefix length (an optional '+' and decimal digits,
+ * leading zeros too) or, for IPv4 alone, one of the 33 masks as an address. Without a '/' the prefix length is the
+ * full width, 32 or 128. An IPv4 address is four decimals without leading zeros (RFC 3986, section 3.2.2), an IPv6
+ * address has the forms of RFC 4291, section 2.2. Host bits are kept. For any other text the fault is
  * IPNETWORK_FORMAT, IPNETWORK_ADDRESS or IPNETWORK_PREFIX, the first that holds. */
 IPNETWORK_CHECKED ipnetwork_fault ipnetwork_v4_read(const char *text, size_t text_length, ipnetwork_v4 *network);
 IPNETWORK_CHECKED ipnetwork_fault ipnetwork_v6_read(const char *text, size_t text_length, ipnetwork_v6 *network);
 
-/* The network of either family that a text names; the struct of the other family is all zeros. Else
- * IPNETWORK_ADDRESS, whatever is wrong with the text. */
+/* The network of either family that a text names; the struct of the other family is all zeros. For any other text the
+ * fault is IPNETWORK_ADDRESS, whatever is wrong with it. */
 IPNETWORK_CHECKED ipnetwork_fault ipnetwork_read(const char *text, size_t text_length, ipnetwork_ip *network);
 
 /* The network of this address, host bits kept, and this prefix length. IPNETWORK_PREFIX past the width. */
 IPNETWORK_CHECKED ipnetwork_fault ipnetwork_v4_new(const uint8_t address[4], uint8_t prefix, ipnetwork_v4 *network);
 IPNETWORK_CHECKED ipnetwork_fault ipnetwork_v6_new(const uint8_t address[16], uint8_t prefix, ipnetwork_v6 *network);
 
-/* The canonical text (an IPv6 address as RFC 5952, section 4, says, and of the addresses of section 5 the IPv4-mapped
- * ones dotted) and a zero byte behind it, in the front of a buffer of buffer_length bytes. text_length is that of the
- * text, without the zero byte. IPNETWORK_SHORT_BUFFER where buffer_length is not greater: then text_length is told all
- * the same, and the buffer is not written. A buffer of no bytes, at any pointer but NULL, asks for the length alone. */
+/* The canonical text, host bits kept (an IPv6 address as RFC 5952, section 4, says, and of the addresses of section 5
+ * the IPv4-mapped ones dotted), and a zero byte behind it, in the front of a buffer of buffer_length bytes.
+ * *text_length is the length of the text, without the zero byte. IPNETWORK_SHORT_BUFFER where buffer_length is not
+ * greater than that: then *text_length is told all the same, and the buffer is not written. A buffer of no bytes, at
+ * any pointer but NULL, asks for the length alone. */
 IPNETWORK_CHECKED ipnetwork_fault ipnetwork_v4_canonical(const ipnetwork_v4 *network, char *buffer,
                                                          size_t buffer_length, size_t *text_length);
 IPNETWORK_CHECKED ipnetwork_fault ipnetwork_v6_canonical(const ipnetwork_v6 *network, char *buffer,
                                                          size_t buffer_length, size_t *text_length);
 
-/* Whether an address lies in the network's set: *answer is 1 or 0. */
+/* Whether an address is a member of the network: whether its first bits, as many as the prefix length says, are those
+ * of the network's address. *answer is 1 or 0. */
 IPNETWORK_CHECKED ipnetwork_fault ipnetwork_v4_contains(const ipnetwork_v4 *network, const uint8_t address[4],
                                                         uint8_t *answer);
 IPNETWORK_CHECKED ipnetwork_fault ipnetwork_v6_contains(const ipnetwork_v6 *network, const uint8_t address[16],
                                                         uint8_t *answer);
 
-/* The same of either family, for an address of 4 or 16 octets. No address of the other family lies in the set, an
- * IPv4-mapped IPv6 address in an IPv4 network neither. IPNETWORK_NO_FAMILY comes before IPNETWORK_PREFIX. */
+/* The same of either family, for an address of 4 or 16 octets. No address of the other family is a member: not even
+ * an IPv4-mapped IPv6 address of an IPv4 network. IPNETWORK_NO_FAMILY comes before IPNETWORK_PREFIX. */
 IPNETWORK_CHECKED ipnetwork_fault ipnetwork_contains(const ipnetwork_ip *network, const uint8_t *address,
                                                      size_t address_length, uint8_t *answer);
 
@@ -126,13 +131,13 @@ IPNETWORK_CHECKED ipnetwork_fault ipnetwork_v6_prefix_of_mask(const uint8_t mask
 IPNETWORK_CHECKED ipnetwork_fault ipnetwork_v4_size(const ipnetwork_v4 *network, uint32_t *size);
 IPNETWORK_CHECKED ipnetwork_fault ipnetwork_v6_size(const ipnetwork_v6 *network, uint8_t size[16]);
 
-/* The member number n in order, counted from 0; for IPv6 n is 16 octets, the highest first. IPNETWORK_NO_MEMBER where n
- * is not below the size. */
+/* The member number n in order, counted from 0; for IPv6 n is 16 octets, the highest first. IPNETWORK_NO_MEMBER where
+ * n is not below the size. */
 IPNETWORK_CHECKED ipnetwork_fault ipnetwork_v4_nth(const ipnetwork_v4 *network, uint32_t n, uint8_t address[4]);
 IPNETWORK_CHECKED ipnetwork_fault ipnetwork_v6_nth(const ipnetwork_v6 *network, const uint8_t n[16],
                                                    uint8_t address[16]);
 
-/* Whether each member of inner is one of outer, host bits or not: *answer is 1 or 0. */
+/* Whether each member of inner is a member of outer: *answer is 1 or 0. Host bits change nothing. */
 IPNETWORK_CHECKED ipnetwork_fault ipnetwork_v4_is_subnet_of(const ipnetwork_v4 *inner, const ipnetwork_v4 *outer,
                                                             uint8_t *answer);
 IPNETWORK_CHECKED ipnetwork_fault ipnetwork_v6_is_subnet_of(const ipnetwork_v6 *inner, const ipnetwork_v6 *outer,
@@ -144,7 +149,8 @@ IPNETWORK_CHECKED ipnetwork_fault ipnetwork_v4_overlaps(const ipnetwork_v4 *one,
 IPNETWORK_CHECKED ipnetwork_fault ipnetwork_v6_overlaps(const ipnetwork_v6 *one, const ipnetwork_v6 *other,
                                                         uint8_t *answer);
 
-/* Which comes first, by address and then by prefix length: *order is -1 for one, 1 for other, 0 where they are equal. */
+/* Which comes first, by address, host bits included, and then by prefix length: *order is -1 for one, 1 for other, 0
+ * where they are equal. */
 IPNETWORK_CHECKED ipnetwork_fault ipnetwork_v4_compare(const ipnetwork_v4 *one, const ipnetwork_v4 *other,
                                                        int32_t *order);
 IPNETWORK_CHECKED ipnetwork_fault ipnetwork_v6_compare(const ipnetwork_v6 *one, const ipnetwork_v6 *other,

@@ -1,5 +1,5 @@
-/* Each call of the header: rows with known answers, buffers of every length, prefix lengths past the width. Every text
- * and buffer stands in a block of exactly its size, so that valgrind or a sanitizer sees a byte too many. */
+/* Each call of the header: rows with known answers, buffers of every length, prefix lengths past the width. Every
+ * text and buffer stands in a block of exactly its size, so that valgrind or a sanitizer sees a byte too many. */
 #include "ipnetwork.h"
 #include "rows.h"
 
