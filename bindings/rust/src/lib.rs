@@ -1,6 +1,6 @@
 //! IP networks in CIDR notation, read, printed and asked by a library whose functions are proved. This crate is the
-//! thin layer between its C functions and Rust: the addresses are those of `std::net`, texts are read by `FromStr` and
-//! printed by `Display`, and no call here allocates but those of the caller's formatter.
+//! thin layer between its C functions and Rust: the addresses are those of `std::net`, texts are read by `FromStr`
+//! and printed by `Display`, and no call here allocates but those of the caller's formatter.
 //!
 //! ```
 //! use ipnetwork_c::Ipv4Network;
@@ -136,9 +136,10 @@ fn result(number: u32) -> Result<(), Fault> {
     }
 }
 
-/// A network of this crate has a prefix length of its family, so that a question about it has no fault.
+/// A network of this crate has a prefix length of its family, so that a question about it has no fault. A fault would
+/// be one of the library that is linked: no answer then, rather than one that the library did not give.
 fn answered(number: u32) {
-    debug_assert_eq!(number, OK);
+    assert_eq!(number, OK, "a question about a network has no fault");
 }
 
 macro_rules! family {
@@ -161,7 +162,8 @@ macro_rules! family {
                 Ok($name(network))
             }
 
-            /// The network that a text names, whatever its bytes.
+            /// The network that a text names, whatever its bytes. `Fault::Format`, `Fault::Address` or
+            /// `Fault::Prefix`, the first that holds.
             pub fn read_bytes(text: &[u8]) -> Result<Self, Fault> {
                 let mut network = Self::BLANK;
                 // A slice is never null, and has this many bytes.
@@ -214,7 +216,7 @@ macro_rules! family {
                 Ok(prefix)
             }
 
-            /// Whether each member is one of `other`, host bits or not.
+            /// Whether each member of this network is a member of `other`. Host bits change nothing.
             pub fn is_subnet_of(&self, other: &Self) -> bool {
                 let mut answer = 0;
                 answered(c::$is_subnet_of(&self.0, &other.0, &mut answer));
@@ -294,7 +296,10 @@ impl Ipv4Network {
         let mut octets = [0; 4];
         match c::ipnetwork_v4_nth(&self.0, index, &mut octets) {
             NO_MEMBER => None,
-            _ => Some(Ipv4Addr::from(octets)),
+            number => {
+                answered(number);
+                Some(Ipv4Addr::from(octets))
+            }
         }
     }
 }
@@ -312,7 +317,10 @@ impl Ipv6Network {
         let mut octets = [0; 16];
         match c::ipnetwork_v6_nth(&self.0, &index.to_be_bytes(), &mut octets) {
             NO_MEMBER => None,
-            _ => Some(Ipv6Addr::from(octets)),
+            number => {
+                answered(number);
+                Some(Ipv6Addr::from(octets))
+            }
         }
     }
 }
@@ -320,7 +328,9 @@ impl Ipv6Network {
 /// A network of either family. Each IPv4 network is before each IPv6 network.
 #[derive(Clone, Copy, PartialEq, Eq, PartialOrd, Ord, Hash, Debug)]
 pub enum IpNetwork {
+    /// An IPv4 network.
     V4(Ipv4Network),
+    /// An IPv6 network.
     V6(Ipv6Network),
 }
 
