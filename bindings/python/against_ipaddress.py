@@ -70,7 +70,7 @@ def mutated(rng, text):
 
 
 def is_mask(text):
-    """Whether a dotted suffix is one of the 33 masks: ipaddress takes masks of host bits too, and this module none."""
+    """Whether a dotted suffix is one of the 33 masks: ipaddress takes masks of host bits too, ours takes none."""
     try:
         ones = int(IPv4Address(text)) ^ 0xFFFFFFFF
     except ValueError:

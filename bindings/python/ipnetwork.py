@@ -9,10 +9,11 @@ True
 >>> network.network_address, network.prefixlen
 (IPv4Address('10.1.0.0'), 16)
 
-A network keeps the host bits of its address, as ``ipaddress.ip_interface`` does. Its set is that of its block, and the
-questions are about the set. Networks are hashable, equal where address and prefix length are, and ordered by address
-and then by prefix length, so that they can be sorted. ``a <= b`` is that order, as in ``ipaddress``; whether a is part
-of b is ``a.subnet_of(b)``. Addresses are those of ``ipaddress``.
+A network keeps the host bits of its address, as ``ipaddress.ip_interface`` does. Its members are the addresses that
+share the first bits of its address, as many as the prefix length says, and the questions are about the members.
+Networks are hashable, equal where address and prefix length are, and ordered by address and then by prefix length, so
+that they can be sorted. ``a <= b`` is that order, as in ``ipaddress``; whether a is part of b is ``a.subnet_of(b)``.
+Addresses are those of ``ipaddress``.
 
 The shared library is looked for beside this file, as ``libipnetwork_c.so``, or at IPNETWORK_LIBRARY.
 """
@@ -65,7 +66,6 @@ _FAULTS: dict[int, tuple[type[NetworkError], str]] = {
     3: (PrefixError, "no prefix length of the family"),
     5: (MaskError, "no mask"),
 }
-_NO_MEMBER = 6
 
 
 def _error(fault: int, given: object) -> NetworkError:
@@ -95,7 +95,7 @@ def _load() -> ctypes.CDLL:
     if library.ipnetwork_abi_version() != 1:
         raise ImportError("libipnetwork_c is of another version than ipnetwork.py")
     library.ipnetwork_read.argtypes = [text, size, pointer]
-    library.ipnetwork_contains.argtypes = [pointer, text, size, pointer]
+    library.ipnetwork_read.restype = word
     for family, index in (("v4", word), ("v6", text)):
         for name, arguments in (
             ("read", [text, size, pointer]),
@@ -163,6 +163,12 @@ class _Network(Generic[Address]):
     def _call(cls, name: str) -> Any:
         return getattr(_library, f"ipnetwork_{cls._prefix}_{name}")
 
+    def _question(self, name: str, *arguments: Any) -> None:
+        """A question about this network, which has a prefix length of its family, so that there is no fault."""
+        fault = self._call(name)(self._at, *arguments)
+        if fault:
+            raise RuntimeError(f"ipnetwork_{self._prefix}_{name} answered fault {fault} of {bytes(self._held)!r}")
+
     @classmethod
     def _of(cls, held: ctypes.Structure) -> Any:
         network = cls.__new__(cls)
@@ -205,7 +211,7 @@ class _Network(Generic[Address]):
 
     def _octets(self, name: str) -> bytes:
         octets = ctypes.create_string_buffer(self.max_prefixlen // 8)
-        self._call(name)(self._at, ctypes.addressof(octets))
+        self._question(name, ctypes.addressof(octets))
         return octets.raw
 
     @property
@@ -228,7 +234,7 @@ class _Network(Generic[Address]):
 
     @property
     def num_addresses(self) -> int:
-        """The number of members. (At prefix length 0 the library tells one less, since its number has no more bits.)"""
+        """The number of members. (At prefix length 0 the library tells one less, as its number has no more bits.)"""
         return self._size() + (self.prefixlen == 0)
 
     def _index(self, index: int) -> Any:
@@ -243,7 +249,7 @@ class _Network(Generic[Address]):
         if place >= self._size():
             return self.broadcast_address
         octets = ctypes.create_string_buffer(self.max_prefixlen // 8)
-        self._call("nth")(self._at, self._index(place), ctypes.addressof(octets))
+        self._question("nth", self._index(place), ctypes.addressof(octets))
         return self._address(octets.raw)
 
     def __iter__(self) -> Iterator[Address]:
@@ -251,10 +257,10 @@ class _Network(Generic[Address]):
         return (self[place] for place in range(self.num_addresses))
 
     def __contains__(self, address: object) -> bool:
-        """Whether an address lies in the network's set. No address of the other family does."""
+        """Whether an address is a member of the network. No address of the other family is."""
         if isinstance(address, self._address):
             answer = ctypes.c_uint8()
-            self._call("contains")(self._at, address.packed, ctypes.addressof(answer))
+            self._question("contains", address.packed, ctypes.addressof(answer))
             return answer.value == 1
         if isinstance(address, (IPv4Address, IPv6Address)):
             return False
@@ -264,15 +270,15 @@ class _Network(Generic[Address]):
         if not isinstance(other, type(self)):
             raise TypeError(f"{self!r} and {other!r} are not of one family")
         answer = ctypes.c_uint8()
-        self._call(name)(self._at, other._at, ctypes.addressof(answer))
+        self._question(name, other._at, ctypes.addressof(answer))
         return answer.value == 1
 
     def subnet_of(self, other: Any) -> bool:
-        """Whether each member is one of ``other``, host bits or not."""
+        """Whether each member of this network is a member of ``other``. Host bits change nothing."""
         return self._ask("is_subnet_of", other)
 
     def supernet_of(self, other: Any) -> bool:
-        """Whether each member of ``other`` is one, host bits or not."""
+        """Whether each member of ``other`` is a member of this network. Host bits change nothing."""
         if not isinstance(other, type(self)):
             raise TypeError(f"{self!r} and {other!r} are not of one family")
         return other.subnet_of(self)
@@ -283,7 +289,7 @@ class _Network(Generic[Address]):
 
     def _order(self, other: _Network[Any]) -> int:
         order = ctypes.c_int32()
-        self._call("compare")(self._at, other._at, ctypes.addressof(order))
+        self._question("compare", other._at, ctypes.addressof(order))
         return order.value
 
     def __eq__(self, other: object) -> bool:
@@ -303,7 +309,7 @@ class _Network(Generic[Address]):
         """The canonical text."""
         text = ctypes.create_string_buffer(_TEXT)
         length = ctypes.c_size_t()
-        self._call("canonical")(self._at, ctypes.addressof(text), _TEXT, ctypes.addressof(length))
+        self._question("canonical", ctypes.addressof(text), _TEXT, ctypes.addressof(length))
         return text.raw[: length.value].decode("ascii")
 
     def __repr__(self) -> str:
@@ -325,7 +331,7 @@ class IPv4Network(_Network[IPv4Address]):
 
     def _size(self) -> int:
         size = ctypes.c_uint32()
-        self._call("size")(self._at, ctypes.addressof(size))
+        self._question("size", ctypes.addressof(size))
         return size.value
 
     def _index(self, index: int) -> Any:
