@@ -41,7 +41,8 @@ typedef uint32_t ipnetwork_fault;
 enum {
     IPNETWORK_OK = 0,
     IPNETWORK_FORMAT = 1,       /* the text holds two or more '/' */
-    IPNETWORK_ADDRESS = 2,      /* what stands before the '/', or the whole text where there is none, is no address */
+    IPNETWORK_ADDRESS = 2,      /* what stands before the '/', or the whole text where there is none, is no address of
+                                   the family; of ipnetwork_read: the text is no network of either family */
     IPNETWORK_PREFIX = 3,       /* no prefix length of the family, whether a text, an argument or a struct has it */
     IPNETWORK_SHORT_BUFFER = 4, /* no room for the text and a zero byte */
     IPNETWORK_NO_MASK = 5,      /* the address is no mask */

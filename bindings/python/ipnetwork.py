@@ -48,8 +48,8 @@ class FormatError(NetworkError):
 
 
 class AddressError(NetworkError):
-    """What stands before the slash, or the whole text where there is none, is no address. Of ``ip_network``: the text
-    names no network, whatever is wrong with it."""
+    """What stands before the slash, or the whole text where there is none, is no address of the family. Of
+    ``ip_network``: the text names no network of either family, whatever is wrong with it."""
 
 
 class PrefixError(NetworkError):
@@ -353,9 +353,8 @@ def ip_network(text: str | bytes) -> Union[IPv4Network, IPv6Network]:
     """The network of either family that a text names; AddressError where it names none, whatever is wrong with it."""
     given = _bytes(text)
     either = _Either()
-    fault = _library.ipnetwork_read(given, len(given), ctypes.addressof(either))
-    if fault:
-        raise _error(fault, text)
+    if _library.ipnetwork_read(given, len(given), ctypes.addressof(either)):
+        raise AddressError(f"no network of either family: {text!r}")
     kind, held = (IPv4Network, either.v4) if either.family == 4 else (IPv6Network, either.v6)
     own = kind._struct()
     ctypes.pointer(own)[0] = held

@@ -24,8 +24,8 @@ use std::str::FromStr;
 pub enum Fault {
     /// The text holds two or more `/`.
     Format,
-    /// What stands before the `/`, or the whole text where there is none, is no address. Of `IpNetwork`: the text
-    /// names no network, whatever is wrong with it.
+    /// What stands before the `/`, or the whole text where there is none, is no address of the family. Of
+    /// `IpNetwork`: the text names no network of either family, whatever is wrong with it.
     Address,
     /// The prefix length is none of the family.
     Prefix,
@@ -37,7 +37,7 @@ impl fmt::Display for Fault {
     fn fmt(&self, f: &mut fmt::Formatter<'_>) -> fmt::Result {
         f.write_str(match self {
             Fault::Format => "more than one slash",
-            Fault::Address => "no address before the slash",
+            Fault::Address => "no address before the slash, or no network of either family",
             Fault::Prefix => "no prefix length of the family",
             Fault::NoMask => "no mask",
         })
