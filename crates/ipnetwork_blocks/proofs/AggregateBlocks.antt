@@ -2,9 +2,14 @@
 use Rattle.std.proofs.Common.{◌≡◌, ℕ, ◌+◌, ◌-◌, ◌*◌, ◌/◌, ◌^◌, ◌<◌, ◌≤◌, ◌⊎◌, inl, inr, sym, refl, ap, ◌∙◌, arith, ⊎_elim, ◌↔◌}
 use Rattle.std.proofs.Math.Nat.{div-mul-le_self, mul-div_cancel}
 use Rattle.std.proofs.lemmas.Bool.{cases_lt}
-use Rattle.ipnetwork_family.specs.Network.{Network, IsNetwork, Member, low, block_size, IsBlock, Subnet, high, AtMost}
+use Rattle.ipnetwork_family.specs.Network.{Network, IsNetwork, Member, low, block_size, block_of, IsBlock, Subnet, high, AtMost}
 use Rattle.ipnetwork_family.proofs.Blocks.{size_pos, size_divides, within_member, member_within, subnet_from, shares_address, coarser_size, multiple_begins, has_ends}
-use Rattle.ipnetwork_blocks.specs.Private.Joining.{around, parent, AreHalves, IsBlockNetwork}
+use Rattle.ipnetwork_blocks.specs.Around.{parent}
+use Rattle.ipnetwork_blocks.specs.Private.Joining.{AreHalves, IsBlockNetwork}
+
+-- the block of prefix length p that holds x
+abbrev pub around : ℕ → ℕ → ℕ → Network
+around w x p = block_of w (record { address = x; prefix = p })
 
 pub around_network : (w x p : ℕ) → x < 2 ^ w → p ≤ w → IsNetwork w (around w x p)
 around_network w x p h k = record {

@@ -7,7 +7,7 @@ use Rattle.std.proofs.lemmas.List.{take_all, drop_all, append-nil}
 use Rattle.std.proofs.lemmas.List.Elements.{AllWithin-more_set}
 use Rattle.ipnetwork_family.specs.Network.{Network, block_of}
 use Rattle.ipnetwork_blocks.specs.Aggregate.{SameUnion, IsAggregate}
-use Rattle.ipnetwork_blocks.specs.Private.Joining.{IsBlockNetwork, IsJoined}
+use Rattle.ipnetwork_blocks.specs.Private.Joining.{IsBlockNetwork, AreJoined}
 use Rattle.ipnetwork_blocks.proofs.AggregateUnions.{union_trans, union_cleared, union_permutation}
 use Rattle.ipnetwork_blocks.proofs.AggregateJoined.{joined_is_aggregate}
 
@@ -32,7 +32,7 @@ cleared w xs ys i h l size = (
 )
 
 -- host bits cleared, sorted and joined, networks have become their aggregate
-pub aggregate_of_sorted : (w : ℕ) (ns zs r : List Network) → IsPermutation (map (block_of w) ns) zs → IsJoined w r → SameUnion w r zs → IsAggregate w ns r
+pub aggregate_of_sorted : (w : ℕ) (ns zs r : List Network) → IsPermutation (map (block_of w) ns) zs → AreJoined w r → SameUnion w r zs → IsAggregate w ns r
 aggregate_of_sorted w ns zs r p h u =
     joined_is_aggregate w ns r h
     (union_trans w r zs ns u (union_trans w zs (map (block_of w) ns) ns (union_permutation w (map (block_of w) ns) zs p) (union_cleared w ns)))

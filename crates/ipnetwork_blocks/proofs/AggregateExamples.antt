@@ -1,12 +1,12 @@
 -- Aggregates at which a misreading of the definitions would show, over addresses of 4 bits.
 use Rattle.std.proofs.Common.{◌≡◌, ℕ, zero, suc, ◌-◌, ◌*◌, ◌/◌, ◌^◌, ◌<◌, refl, ap, arith, ⊎_elim, [], ◌∷◌, length, get_or}
-use Rattle.std.specs.List.{Contains}
+use Rattle.std.specs.List.{Contains, filter_map}
 use Rattle.ipnetwork_family.specs.Network.{Network, high}
 use Rattle.ipnetwork_family.proofs.Blocks.{subnet_from}
 use Rattle.ipnetwork.specs.declared.ip_network.IpNetwork.TheVariants.{V4, V6}
 use Rattle.ipnetwork_blocks.specs.Aggregate.{IsMaximal, IsAggregate}
-use Rattle.ipnetwork_blocks.specs.AggregateEither.{v4_networks, v6_networks}
-use Rattle.ipnetwork_blocks.specs.Private.Joining.{IsBlockNetwork, IsJoined}
+use Rattle.ipnetwork_blocks.specs.AggregateEither.{v4_of, v6_of}
+use Rattle.ipnetwork_blocks.specs.Private.Joining.{IsBlockNetwork, AreJoined}
 use Rattle.ipnetwork_blocks.proofs.AggregateLists.{contains_cons, contains_head, contains_nil}
 use Rattle.ipnetwork_blocks.proofs.AggregateUnions.{union_same, union_skip, union_join, union_cleared}
 use Rattle.ipnetwork_blocks.proofs.AggregateFront.{joined_nil, joined_push}
@@ -30,7 +30,7 @@ third_quarter = is_block 8 2 (omega arith) (omega arith) refl
 first_half : IsBlockNetwork 4 (net 0 1)
 first_half = is_block 0 1 (omega arith) (omega arith) refl
 
-single : (b : Network) → IsBlockNetwork 4 b → IsJoined 4 (b ∷ [])
+single : (b : Network) → IsBlockNetwork 4 b → AreJoined 4 (b ∷ [])
 single b block = joined_push 4 [] b (joined_nil 4) block (λ i d l. absurd (omega arith)) (λ d l. absurd (omega arith))
 
 -- two halves become their block,
@@ -75,10 +75,8 @@ pub no_networks : IsAggregate 4 [] []
 no_networks = joined_is_aggregate 4 [] [] (joined_nil 4) (union_same 4 [])
 
 -- each family keeps its order
-pub v4_alone : v4_networks (V6 (net 1 128) ∷ V4 (net 2 32) ∷ V6 (net 3 128) ∷ V4 (net 1 32) ∷ []) ≡ net 2 32 ∷ net 1 32 ∷ []
-unfolding v4_networks
+pub v4_alone : filter_map v4_of (V6 (net 1 128) ∷ V4 (net 2 32) ∷ V6 (net 3 128) ∷ V4 (net 1 32) ∷ []) ≡ net 2 32 ∷ net 1 32 ∷ []
 v4_alone = refl
 
-pub v6_alone : v6_networks (V6 (net 3 128) ∷ V4 (net 2 32) ∷ V6 (net 1 128) ∷ V4 (net 1 32) ∷ []) ≡ net 3 128 ∷ net 1 128 ∷ []
-unfolding v6_networks
+pub v6_alone : filter_map v6_of (V6 (net 3 128) ∷ V4 (net 2 32) ∷ V6 (net 1 128) ∷ V4 (net 1 32) ∷ []) ≡ net 3 128 ∷ net 1 128 ∷ []
 v6_alone = refl

@@ -8,19 +8,20 @@ use Rattle.std.proofs.lemmas.List.Quantifiers.{all_pairs_push}
 use Rattle.ipnetwork_family.specs.Network.{Network, high, AtMost}
 use Rattle.ipnetwork_family.proofs.Blocks.{size_pos}
 use Rattle.ipnetwork_blocks.specs.Aggregate.{SameUnion}
-use Rattle.ipnetwork_blocks.specs.Private.Joining.{parent, AreHalves, IsBlockNetwork, Follows, IsJoined}
+use Rattle.ipnetwork_blocks.specs.Around.{parent}
+use Rattle.ipnetwork_blocks.specs.Private.Joining.{AreHalves, IsBlockNetwork, Follows, AreJoined}
 use Rattle.ipnetwork_blocks.proofs.AggregateLists.{pairs_take}
 use Rattle.ipnetwork_blocks.proofs.AggregateBlocks.{around_network, around_block, halves_join, nothing_between}
 use Rattle.ipnetwork_blocks.proofs.AggregateUnions.{union_same, union_trans, union_join}
 
-pub joined_nil : (w : ℕ) → IsJoined w []
+pub joined_nil : (w : ℕ) → AreJoined w []
 joined_nil w = record { blocks = λ k d l. absurd (omega arith); pairs = λ i j d l m. absurd (omega arith) }
 
-pub joined_take : (w k : ℕ) (r : List Network) → IsJoined w r → IsJoined w (take k r)
+pub joined_take : (w k : ℕ) (r : List Network) → AreJoined w r → AreJoined w (take k r)
 joined_take w k r h = record { blocks = All-take (IsBlockNetwork w) k r h.blocks; pairs = pairs_take (Follows w) r k h.pairs }
 
 -- what begins behind the end of the last block begins behind the end of each
-pub after_all : (w : ℕ) (r : List Network) (t b : Network) → IsJoined w r → 0 < length r → get_or r (length r - 1) t ≡ t → high w t < b.address
+pub after_all : (w : ℕ) (r : List Network) (t b : Network) → AreJoined w r → 0 < length r → get_or r (length r - 1) t ≡ t → high w t < b.address
     → All (λ a. high w a < b.address) r
 after_all w r t b h some is l i d m =
     let last : get_or r (length r - 1) d ≡ t = get_or_default r (length r - 1) d t (omega arith) ∙ is in
@@ -37,8 +38,8 @@ after_all w r t b h some is l i d m =
     (cases_lt i (length r - 1))
 
 -- one block more behind the others, where it is no half of a block together with the last
-pub joined_push : (w : ℕ) (r : List Network) (b : Network) → IsJoined w r → IsBlockNetwork w b → All (λ a. high w a < b.address) r
-    → ((d : Network) → 0 < length r → ¬ (AreHalves w (get_or r (length r - 1) d) b)) → IsJoined w (r ++ b ∷ [])
+pub joined_push : (w : ℕ) (r : List Network) (b : Network) → AreJoined w r → IsBlockNetwork w b → All (λ a. high w a < b.address) r
+    → ((d : Network) → 0 < length r → ¬ (AreHalves w (get_or r (length r - 1) d) b)) → AreJoined w (r ++ b ∷ [])
 joined_push w r b h bb after last = record {
   blocks = All-push (IsBlockNetwork w) r b h.blocks bb;
   pairs = all_pairs_push (Follows w) r b h.pairs (λ k d l. (
@@ -74,7 +75,7 @@ joining_starts w r b hb after =
       order = inr (refl, omega arith);
     }
 
-pub joining_more : (w : ℕ) (r : List Network) (b : Network) (left : ℕ) (whole t : Network) → IsJoined w r → IsJoining w r b left whole → 0 < left
+pub joining_more : (w : ℕ) (r : List Network) (b : Network) (left : ℕ) (whole t : Network) → AreJoined w r → IsJoining w r b left whole → 0 < left
     → t ≡ get_or r (left - 1) t → AreHalves w t whole → IsJoining w r b (left - 1) (parent w t)
 joining_more w r b left whole t h j some is s =
     let bound = j.bound in
@@ -109,8 +110,8 @@ joining_more w r b left whole t h j some is s =
     }
 
 -- where it stops, whole goes behind those that are left
-pub joining_stops : (w : ℕ) (r : List Network) (b : Network) (left : ℕ) (whole : Network) → IsJoined w r → IsJoining w r b left whole
-    → ((t : Network) → 0 < left → t ≡ get_or r (left - 1) t → ¬ (AreHalves w t whole)) → IsJoined w (take left r ++ whole ∷ [])
+pub joining_stops : (w : ℕ) (r : List Network) (b : Network) (left : ℕ) (whole : Network) → AreJoined w r → IsJoining w r b left whole
+    → ((t : Network) → 0 < left → t ≡ get_or r (left - 1) t → ¬ (AreHalves w t whole)) → AreJoined w (take left r ++ whole ∷ [])
 joining_stops w r b left whole h j apart =
     let size : length (take left r) ≡ left = length-take-le left r j.bound in
     joined_push w (take left r) whole (joined_take w left r h) j.block j.after

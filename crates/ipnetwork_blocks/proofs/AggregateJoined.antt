@@ -5,13 +5,14 @@ use Rattle.std.specs.List.{Contains}
 use Rattle.std.proofs.lemmas.List.Elements.{All-contains}
 use Rattle.ipnetwork_family.specs.Network.{Network, IsNetwork, Member, low, block_size, Subnet}
 use Rattle.ipnetwork_family.proofs.Blocks.{size_pos, within_member, member_within, subnet_from, subnet_prefix, shares_address, multiple_begins}
-use Rattle.ipnetwork_blocks.specs.Private.Joining.{around, parent, AreHalves, IsBlockNetwork, Follows, IsJoined}
+use Rattle.ipnetwork_blocks.specs.Around.{parent}
+use Rattle.ipnetwork_blocks.specs.Private.Joining.{AreHalves, IsBlockNetwork, Follows, AreJoined}
 use Rattle.ipnetwork_blocks.specs.Aggregate.{LiesInUnion, SameUnion, IsMaximal, IsAggregate}
 use Rattle.ipnetwork_blocks.proofs.AggregateLists.{pairs_contains}
-use Rattle.ipnetwork_blocks.proofs.AggregateBlocks.{around_network, around_block, around_holds, around_subnet, around_quotient, same_block, size_half}
+use Rattle.ipnetwork_blocks.proofs.AggregateBlocks.{around, around_network, around_block, around_holds, around_subnet, around_quotient, same_block, size_half}
 
 -- two blocks of a joined list that share an address are the same
-pub joined_apart : (w : ℕ) (r : List Network) → IsJoined w r → (a b : Network) → Contains r a → Contains r b → (x : ℕ) → Member w a x → Member w b x → a ≡ b
+pub joined_apart : (w : ℕ) (r : List Network) → AreJoined w r → (a b : Network) → Contains r a → Contains r b → (x : ℕ) → Member w a x → Member w b x → a ≡ b
 joined_apart w r h a b ca cb x ma mb =
     let ba : IsBlockNetwork w a = All-contains (IsBlockNetwork w) r a h.blocks ca in
     let bb : IsBlockNetwork w b = All-contains (IsBlockNetwork w) r b h.blocks cb in
@@ -26,7 +27,7 @@ joined_apart w r h a b ca cb x ma mb =
 
 -- where the halves of a block lie in two blocks of the list, the whole lies in one of the two: otherwise they would be
 -- these halves
-halves_joined : (w : ℕ) (r : List Network) → IsJoined w r → (x p : ℕ) → p < w → x < 2 ^ w → (a b : Network) → Contains r a → Contains r b
+halves_joined : (w : ℕ) (r : List Network) → AreJoined w r → (x p : ℕ) → p < w → x < 2 ^ w → (a b : Network) → Contains r a → Contains r b
     → Subnet w (around w (x / block_size w p * block_size w p) (p + 1)) a
     → Subnet w (around w (x / block_size w p * block_size w p + block_size w (p + 1)) (p + 1)) b
     → (n : Network) × Contains r n × Subnet w (around w x p) n
@@ -73,7 +74,7 @@ halves_joined w r h x p lt l a b ca cb sa sb =
     (cases_lt b.prefix (p + 1)))
     (cases_lt a.prefix (p + 1))
   where
-    not_both : {G : Type 0} (w : ℕ) (r : List Network) → IsJoined w r → (a b : Network) → Contains r a → Contains r b → a.address < b.address → AreHalves w a b → G
+    not_both : {G : Type 0} (w : ℕ) (r : List Network) → AreJoined w r → (a b : Network) → Contains r a → Contains r b → a.address < b.address → AreHalves w a b → G
     not_both {G} w r h a b ca cb l s =
         let bb : IsBlockNetwork w b = All-contains (IsBlockNetwork w) r b h.blocks cb in
         ⊎_elim (λ (e : a ≡ b). let same : a.address ≡ b.address = ap (λ n. n.address) e in absurd (omega arith))
@@ -83,7 +84,7 @@ halves_joined w r h x p lt l a b ca cb sa sb =
         (pairs_contains (Follows w) r a b h.pairs ca cb)
 
 -- a block that lies in the union lies in one block of the list: an address does, and halves hand it on to the whole
-pub block_in_one : (w : ℕ) (r : List Network) → IsJoined w r → (k x p : ℕ) → p + k ≡ w → x < 2 ^ w → LiesInUnion w (around w x p) r
+pub block_in_one : (w : ℕ) (r : List Network) → AreJoined w r → (k x p : ℕ) → p + k ≡ w → x < 2 ^ w → LiesInUnion w (around w x p) r
     → (n : Network) × Contains r n × Subnet w (around w x p) n
 block_in_one w r h zero x p e l within =
     let c = within x (around_holds w x p l) in
@@ -107,7 +108,7 @@ block_in_one w r h (suc k) x p e l within =
     halves_joined w r h x p (omega arith) l c0.0 c1.0 c0.1 c1.1 c0.2 c1.2
 
 -- the same of any network
-pub network_in_one : (w : ℕ) (r : List Network) → IsJoined w r → (c : Network) → IsNetwork w c → LiesInUnion w c r → (n : Network) × Contains r n × Subnet w c n
+pub network_in_one : (w : ℕ) (r : List Network) → AreJoined w r → (c : Network) → IsNetwork w c → LiesInUnion w c r → (n : Network) × Contains r n × Subnet w c n
 network_in_one w r h c cn within =
     let own : Member w c c.address = (cn.address_fits, refl) in
     let fits = cn.prefix_fits in
@@ -116,7 +117,7 @@ network_in_one w r h c cn within =
     (o.0, o.1, λ y m. o.2 y (m.0, m.1 ∙ sym (around_quotient w c.address c.prefix)))
 
 -- the blocks of a joined list are the maximal ones of its union
-pub joined_is_maximal : (w : ℕ) (r : List Network) → IsJoined w r → (b : Network) → Contains r b → IsMaximal w r b
+pub joined_is_maximal : (w : ℕ) (r : List Network) → AreJoined w r → (b : Network) → Contains r b → IsMaximal w r b
 joined_is_maximal w r h b cb =
     let bb : IsBlockNetwork w b = All-contains (IsBlockNetwork w) r b h.blocks cb in
     record {
@@ -131,7 +132,7 @@ joined_is_maximal w r h b cb =
           absurd (omega (arith, subnet_prefix w c b cn bb.network inside, lt));
     }
 
-pub maximal_is_joined : (w : ℕ) (r : List Network) → IsJoined w r → (b : Network) → IsMaximal w r b → Contains r b
+pub maximal_is_joined : (w : ℕ) (r : List Network) → AreJoined w r → (b : Network) → IsMaximal w r b → Contains r b
 maximal_is_joined w r h b m =
     let o = network_in_one w r h b m.network m.lies in
     let n : Network = o.0 in
@@ -158,7 +159,7 @@ pub union_turned : (w : ℕ) (ns ms : List Network) → SameUnion w ns ms → Sa
 union_turned w ns ms same x = ((same x).1, (same x).0)
 
 -- a joined list with the union of the networks is their aggregate
-pub joined_is_aggregate : (w : ℕ) (ns r : List Network) → IsJoined w r → SameUnion w r ns → IsAggregate w ns r
+pub joined_is_aggregate : (w : ℕ) (ns r : List Network) → AreJoined w r → SameUnion w r ns → IsAggregate w ns r
 joined_is_aggregate w ns r h same = record {
   maximal = λ b. (
     (λ c. maximal_of_union w r ns same b (joined_is_maximal w r h b c)),

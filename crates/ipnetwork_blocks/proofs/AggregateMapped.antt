@@ -3,6 +3,7 @@ use Rattle.std.proofs.Common.{◌≡◌, ℕ, ◌+◌, ◌<◌, inl, inr, sym, r
 use Rattle.std.specs.Ordering.{nat_cmp, ordering_then, is_lt, MatchOrdering}
 use Rattle.std.specs.declared.cmp.Ordering.{Ordering}
 use Rattle.std.specs.declared.cmp.Ordering.TheVariants.{Less, Equal, Greater}
+use Rattle.std.specs.List.{All}
 use Rattle.std.specs.List.Sorted.{IsSorted}
 use Rattle.std.proofs.lemmas.Cmp.{ranked}
 use Rattle.std.proofs.lemmas.List.{get_or-map, length-map}
@@ -13,6 +14,10 @@ use Rattle.ipnetwork_blocks.specs.Private.Joining.{AreInOrder}
 pub read_map : {X : Type 0} (f : X → Network) (xs : List X) (i : ℕ) (x : X) → i < length xs → x ≡ get_or xs i x → f x ≡ get_or (map f xs) i (f x)
 read_map f xs i x l is = ap f is ∙ sym (get_or-map f xs i x (f x) l)
 
+-- and a network that is what it means
+pub read_held : {X : Type 0} (f : X → Network) (xs : List X) (i : ℕ) (x : X) (n : Network) → i < length xs → x ≡ get_or xs i x → n ≡ f x → n ≡ get_or (map f xs) i n
+read_held f xs i x n l is e = subst (λ (m : Network). m ≡ get_or (map f xs) i m) (sym e) (read_map f xs i x l is)
+
 at_most_from : (a b : Network) (o p : Ordering) → MatchOrdering o (a.address < b.address) (a.address ≡ b.address) (b.address < a.address)
     → MatchOrdering p (a.prefix < b.prefix) (a.prefix ≡ b.prefix) (b.prefix < a.prefix) → is_lt (ordering_then o p) ≡ false → AtMost b a
 at_most_from a b Less p h k e = cc
@@ -22,16 +27,16 @@ at_most_from a b Equal Greater h k e = inr (sym h, omega arith)
 at_most_from a b Greater p h k e = inl h
 
 -- what is sorted is in the order of networks
-pub in_order_from_sort : {X : Type 0} (f : X → Network) (R : X → X → Ordering) (xs : List X) → ((x y : X) → R x y ≡ network_cmp (f x) (f y)) → IsSorted R xs
-    → AreInOrder (map f xs)
-in_order_from_sort f R [] law h k d l = absurd (omega arith)
-in_order_from_sort {X} f R (e ∷ es) law h k d l =
+pub in_order_from_sort : {X : Type 0} (f : X → Network) (Is : X → Type 0) (R : X → X → Ordering) (xs : List X)
+    → ((x y : X) → Is x → Is y → R x y ≡ network_cmp (f x) (f y)) → All Is xs → IsSorted R xs → AreInOrder (map f xs)
+in_order_from_sort f Is R [] law all h k d l = absurd (omega arith)
+in_order_from_sort {X} f Is R (e ∷ es) law all h k d l =
     let xs : List X = e ∷ es in
     let size = length-map xs f in
     let m : k + 1 < length xs = omega arith in
     let x : X = get_or xs k e in
     let y : X = get_or xs (k + 1) e in
-    let test : is_lt (network_cmp (f y) (f x)) ≡ false = sym (ap is_lt (law y x)) ∙ h k e (omega arith) m in
+    let test : is_lt (network_cmp (f y) (f x)) ≡ false = sym (ap is_lt (law y x (all (k + 1) e m) (all k e (omega arith)))) ∙ h k e (omega arith) m in
     let order : AtMost (f x) (f y) = at_most_from (f y) (f x) (nat_cmp (f y).address (f x).address) (nat_cmp (f y).prefix (f x).prefix)
     (ranked (f y).address (f x).address (nat_cmp (f y).address (f x).address) refl) (ranked (f y).prefix (f x).prefix (nat_cmp (f y).prefix (f x).prefix) refl) test in
     subst (λ (n : Network). AtMost n (get_or (map f xs) (k + 1) d)) (sym (get_or-map f xs k e d (omega arith)))

@@ -5,9 +5,8 @@ use Rattle.std.specs.List.{Contains}
 use Rattle.ipnetwork_family.specs.Network.{Network, IsNetwork, Member, low, block_size, Subnet}
 use Rattle.ipnetwork_family.proofs.Blocks.{within_member, member_within, subnet_prefix, nested}
 use Rattle.ipnetwork_blocks.specs.Aggregate.{InUnion, LiesInUnion, IsMaximal}
-use Rattle.ipnetwork_blocks.specs.Private.Joining.{around}
 use Rattle.ipnetwork_blocks.proofs.AggregateLists.{contains_cons, contains_head, contains_tail, contains_nil}
-use Rattle.ipnetwork_blocks.proofs.AggregateBlocks.{around_network, around_block, around_holds, around_subnet, same_block}
+use Rattle.ipnetwork_blocks.proofs.AggregateBlocks.{around, around_network, around_block, around_holds, around_subnet, same_block}
 
 -- ---- an address, and a network, lies in a union or does not
 

@@ -6,7 +6,7 @@ use Rattle.std.proofs.lemmas.List.{get_or_default, get_or-take, length-take, len
 use Rattle.std.proofs.lemmas.List.Elements.{Contains-get_or}
 use Rattle.ipnetwork_family.specs.Network.{Network, high, Subnet, AtMost}
 use Rattle.ipnetwork_blocks.specs.Aggregate.{SameUnion}
-use Rattle.ipnetwork_blocks.specs.Private.Joining.{IsBlockNetwork, IsJoined, AreInOrder, LiesInLast}
+use Rattle.ipnetwork_blocks.specs.Private.Joining.{IsBlockNetwork, AreJoined, AreInOrder, LiesInLast}
 use Rattle.ipnetwork_blocks.proofs.AggregateBlocks.{past_top}
 use Rattle.ipnetwork_blocks.proofs.AggregateUnions.{union_same, union_trans, union_push, union_skip}
 use Rattle.ipnetwork_blocks.proofs.AggregateFront.{joined_nil, after_all}
@@ -37,7 +37,7 @@ pub record IsPassing (w : ℕ) (z xs : List Network) (next kept : ℕ) : Type 0 
   pub within : next ≤ length z
   pub size : length xs ≡ length z
   pub rest : (k : ℕ) (d : Network) → next ≤ k → get_or xs k d ≡ get_or z k d
-  pub joined : IsJoined w (take kept xs)
+  pub joined : AreJoined w (take kept xs)
   pub union : SameUnion w (take kept xs) (take next z)
   pub order : (d : Network) → 0 < kept → next < length z → AtMost (get_or xs (kept - 1) d) (get_or z next d)
 
@@ -104,7 +104,7 @@ passing_block w z xs next kept b blocks h l is =
 
 pub passing_places : (w : ℕ) (z xs : List Network) (next kept : ℕ) (b : Network) (left : ℕ) (whole : Network) → AreInOrder z
     → IsPassing w z xs next kept → next < length z → b ≡ get_or xs next b → left ≤ kept
-    → IsJoined w (take left (take kept xs) ++ whole ∷ []) → SameUnion w (take left (take kept xs) ++ whole ∷ []) (take kept xs ++ b ∷ []) → AtMost whole b
+    → AreJoined w (take left (take kept xs) ++ whole ∷ []) → SameUnion w (take left (take kept xs) ++ whole ∷ []) (take kept xs ++ b ∷ []) → AtMost whole b
     → IsPassing w z (set xs left whole) (next + 1) (left + 1)
 passing_places w z xs next kept b left whole o h l is le joined union order =
     let bound = h.bound in
@@ -120,7 +120,7 @@ passing_places w z xs next kept b left whole o h l is le joined union order =
       within = omega arith;
       size = length-set xs left whole ∙ size;
       rest = λ k d m. let other : k ≢ left = omega arith in get_or-set_other xs left k whole d other ∙ h.rest k d (omega arith);
-      joined = subst (λ (t : List Network). IsJoined w t) front joined;
+      joined = subst (λ (t : List Network). AreJoined w t) front joined;
       union = subst (λ (t : List Network). SameUnion w t (take (next + 1) z)) front
           (union_trans w (take left r ++ whole ∷ []) (r ++ b ∷ []) (take (next + 1) z) union
           (subst (λ (t : List Network). SameUnion w (r ++ b ∷ []) t) (sym more) (union_push w r (take next z) b h.union)));

@@ -7,7 +7,8 @@ use Rattle.std.proofs.lemmas.List.{get_or-map, length-map}
 use Rattle.std.proofs.lemmas.List.Elements.{Contains-append_left, Contains-push, Contains-push_cases, Contains-get_or}
 use Rattle.ipnetwork_family.specs.Network.{Network, Member, high, block_of, Subnet}
 use Rattle.ipnetwork_blocks.specs.Aggregate.{InUnion, SameUnion}
-use Rattle.ipnetwork_blocks.specs.Private.Joining.{parent, AreHalves, IsBlockNetwork}
+use Rattle.ipnetwork_blocks.specs.Around.{parent}
+use Rattle.ipnetwork_blocks.specs.Private.Joining.{AreHalves, IsBlockNetwork}
 use Rattle.ipnetwork_blocks.proofs.AggregateBlocks.{around_quotient, halves_join}
 
 pub in_union_push : (w : ℕ) (r : List Network) (b : Network) (x : ℕ) → InUnion w (r ++ b ∷ []) x ↔ (InUnion w r x ⊎ Member w b x)

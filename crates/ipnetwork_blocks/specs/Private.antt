@@ -1,4 +1,5 @@
 -- What the private functions promise each other, and how contracts see private fields.
+pub mod Held
 pub mod Joining
 pub mod Parts
 pub mod RangeList

@@ -3,22 +3,23 @@ ghost use Rattle.std.specs.Prelude.{◌≡◌, ◌<◌, ◌≤◌, ◌↔◌, Is
 ghost use Rattle.std.specs.List.{All};
 ghost use Rattle.ipnetwork_family.specs.Network.{AtMost, block_of, high};
 ghost use Rattle.ipnetwork_blocks.specs.Aggregate.{SameUnion, IsAggregate};
-ghost use Rattle.ipnetwork_blocks.specs.Private.Joining.{IsBlockNetwork, IsJoined, AreHalves, parent, AreInOrder, LiesInLast};
+ghost use Rattle.ipnetwork_blocks.specs.Around.{parent};
+ghost use Rattle.ipnetwork_blocks.specs.Private.Joining.{IsBlockNetwork, AreJoined, AreHalves, AreInOrder, LiesInLast};
 
+use crate::around::block;
+use crate::holds::Holds;
 use ipnetwork_family::CidrNetwork;
 
 /// Puts the aggregate of the networks, host bits or not, in front, and answers how many blocks it has: the
 /// blocks of the networks' union that lie in no greater block of it, in ascending order. No list of networks with the
-/// same union is shorter (`aggregate_laws`). What stands behind them is of no use.
+/// same union is shorter (`aggregate_laws`). The rest of the slice holds unspecified networks.
 ///
 /// Sorts the slice and goes over it once. Does not allocate.
 pub fn aggregate_in_place<N: CidrNetwork>(networks: &mut [N]) -> usize
     ensures within { result ≤ length networks.old }
     ensures aggregate { IsAggregate N.WIDTH (map N.pair networks.old) (map N.pair (take result networks.new)) }
 {
-    clear_host_bits(networks);
-    networks.sort_unstable();
-    join_sorted(networks)
+    aggregate_held::<N, N>(networks)
 }
 
 /// Puts the aggregate of the networks in their place: what `aggregate_in_place` puts in front, and nothing
@@ -30,42 +31,47 @@ pub fn aggregate_vec<N: CidrNetwork>(networks: &mut Vec<N>)
     networks.truncate(count);
 }
 
-// Each network becomes its block.
-fn clear_host_bits<N: CidrNetwork>(networks: &mut [N])
-    ensures cleared { map N.pair networks.new ≡ map (block_of N.WIDTH) (map N.pair networks.old) }
-    ensures blocks { All (IsBlockNetwork N.WIDTH) (map N.pair networks.new) }
+/// Puts values that hold the aggregate of the networks that the values hold in front, and answers how many.
+pub(crate) fn aggregate_held<N: CidrNetwork, H: Holds<N>>(values: &mut [H]) -> usize
+    requires { All H.holds values.old }
+    ensures within { result ≤ length values.old }
+    ensures aggregate { IsAggregate N.WIDTH (map H.held values.old) (map H.held (take result values.new)) }
+    ensures held { All H.holds values.new }
 {
-    for network in networks.iter_mut() {
-        *network = block_around(*network);
-    }
+    clear_host_bits::<N, H>(values);
+    values.sort_unstable();
+    join_sorted::<N, H>(values)
 }
 
-// The block of a network.
-fn block_around<N: CidrNetwork>(network: N) -> N
-    ensures same { N.pair result ≡ block_of N.WIDTH (N.pair network) }
-    ensures block { IsBlockNetwork N.WIDTH (N.pair result) }
+// Each network becomes its block.
+fn clear_host_bits<N: CidrNetwork, H: Holds<N>>(values: &mut [H])
+    requires { All H.holds values.old }
+    ensures cleared { map H.held values.new ≡ map (block_of N.WIDTH) (map H.held values.old) }
+    ensures blocks { All (IsBlockNetwork N.WIDTH) (map H.held values.new) }
+    ensures held { All H.holds values.new }
 {
-    let Some(block) = N::block(network.ip(), network.prefix()) else {
-        unreachable!()
-    };
-    block
+    for value in values.iter_mut() {
+        *value = H::holding(block(value.network()));
+    }
 }
 
 // Aggregates blocks in order. Those that were read and not dropped stand in front, joined as far as they go, and
 // the next one lies in the last of them, or is joined with those at their end.
-fn join_sorted<N: CidrNetwork>(blocks: &mut [N]) -> usize
-    requires blocks { All (IsBlockNetwork N.WIDTH) (map N.pair blocks.old) }
-    requires order { AreInOrder (map N.pair blocks.old) }
-    ensures within { result ≤ length blocks.old }
-    ensures joined { IsJoined N.WIDTH (take result (map N.pair blocks.new)) }
-    ensures union { SameUnion N.WIDTH (take result (map N.pair blocks.new)) (map N.pair blocks.old) }
+fn join_sorted<N: CidrNetwork, H: Holds<N>>(values: &mut [H]) -> usize
+    requires held { All H.holds values.old }
+    requires blocks { All (IsBlockNetwork N.WIDTH) (map H.held values.old) }
+    requires order { AreInOrder (map H.held values.old) }
+    ensures within { result ≤ length values.old }
+    ensures joined { AreJoined N.WIDTH (take result (map H.held values.new)) }
+    ensures union { SameUnion N.WIDTH (take result (map H.held values.new)) (map H.held values.old) }
+    ensures held { All H.holds values.new }
 {
     let mut kept = 0;
-    for next in 0..blocks.len() {
-        let block = blocks[next];
-        if !lies_in_last(&blocks[..kept], block) {
-            let (left, joined) = join_back(&blocks[..kept], block);
-            blocks[left] = joined;
+    for next in 0..values.len() {
+        let block = values[next].network();
+        if !lies_in_last(&values[..kept], block) {
+            let (left, joined) = join_back(&values[..kept], block);
+            values[left] = H::holding(joined);
             kept = left + 1;
         }
     }
@@ -73,30 +79,32 @@ fn join_sorted<N: CidrNetwork>(blocks: &mut [N]) -> usize
 }
 
 // Whether the block lies in the last of the others.
-fn lies_in_last<N: CidrNetwork>(front: &[N], block: N) -> bool
-    ensures { IsTrue result ↔ LiesInLast N.WIDTH (map N.pair front.now) (N.pair block) }
+fn lies_in_last<N: CidrNetwork, H: Holds<N>>(front: &[H], block: N) -> bool
+    requires { All H.holds front.now }
+    ensures { IsTrue result ↔ LiesInLast N.WIDTH (map H.held front.now) (N.pair block) }
 {
     match front.last() {
-        Some(last) => block.is_subnet_of(*last),
+        Some(last) => block.is_subnet_of(last.network()),
         None => false,
     }
 }
 
 // Joins the block with the last of those in front, and what comes of it with the one before, for as long as the two
 // are the halves of one block: how many in front are left, and what to put behind them.
-fn join_back<N: CidrNetwork>(front: &[N], block: N) -> (usize, N)
-    requires joined { IsJoined N.WIDTH (map N.pair front.now) }
+fn join_back<N: CidrNetwork, H: Holds<N>>(front: &[H], block: N) -> (usize, N)
+    requires held { All H.holds front.now }
+    requires joined { AreJoined N.WIDTH (map H.held front.now) }
     requires block { IsBlockNetwork N.WIDTH (N.pair block) }
-    requires behind { All (λ a. high N.WIDTH a < (N.pair block).address) (map N.pair front.now) }
+    requires behind { All (λ a. high N.WIDTH a < (N.pair block).address) (map H.held front.now) }
     ensures left { result.0 ≤ length front.now }
-    ensures joined { IsJoined N.WIDTH (take result.0 (map N.pair front.now) ++ N.pair result.1 ∷ []) }
-    ensures union { SameUnion N.WIDTH (take result.0 (map N.pair front.now) ++ N.pair result.1 ∷ []) (map N.pair front.now ++ N.pair block ∷ []) }
+    ensures joined { AreJoined N.WIDTH (take result.0 (map H.held front.now) ++ N.pair result.1 ∷ []) }
+    ensures union { SameUnion N.WIDTH (take result.0 (map H.held front.now) ++ N.pair result.1 ∷ []) (map H.held front.now ++ N.pair block ∷ []) }
     ensures order { AtMost (N.pair result.1) (N.pair block) }
 {
     let mut left = front.len();
     let mut joined = block;
     while left > 0 {
-        match join(front[left - 1], joined) {
+        match join(front[left - 1].network(), joined) {
             Some(whole) => {
                 joined = whole;
                 left -= 1;

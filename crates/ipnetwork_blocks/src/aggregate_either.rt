@@ -1,75 +1,52 @@
 //! The least list of blocks with the union of networks of either family.
-ghost use Rattle.std.specs.Prelude.{◌≡◌, OnOk, IfOk, ◌++◌, map};
-ghost use Rattle.ipnetwork.specs.declared.ip_network.IpNetwork.TheVariants.{V4, V6};
-ghost use Rattle.ipnetwork_blocks.specs.AggregateEither.{IsIpAggregate, v4_networks, v6_networks};
+ghost use Rattle.std.specs.Prelude.{◌≤◌, length, take, drop};
+ghost use Rattle.std.specs.List.{All};
+ghost use Rattle.std.specs.List.Sorted.{IsPermutation};
+ghost use Rattle.ipnetwork.specs.IpNetworks.{IsV4, IsV6};
+ghost use Rattle.ipnetwork_blocks.specs.AggregateEither.{IsIpAggregate};
 
-use crate::aggregate_vec;
+use crate::aggregate::aggregate_held;
 use ipnetwork::{IpNetwork, Ipv4Network, Ipv6Network};
-use std::alloc::{AllocError, Global};
 
-/// The aggregate of the IPv4 networks, and behind it that of the IPv6 networks: for each family what `aggregate_vec`
-/// makes of its networks.
+/// Puts the aggregate of the IPv4 networks in front, and behind it that of the IPv6 networks, and answers how many
+/// blocks these are: for each family what `aggregate_in_place` makes of its networks. The rest of the slice holds
+/// unspecified networks.
 ///
-/// Allocates the list, and in passing one for each family; an error says that one of these was out of memory.
-pub fn aggregate_ip(alloc: Global, networks: &[IpNetwork]) -> Result<Vec<IpNetwork>, AllocError>
-    ensures { IfOk result (λ blocks. IsIpAggregate networks.now blocks.items) }
+/// Sorts each family and goes over it once. Does not allocate.
+pub fn aggregate_ip_in_place(networks: &mut [IpNetwork]) -> usize
+    ensures within { result ≤ length networks.old }
+    ensures aggregate { IsIpAggregate networks.old (take result networks.new) }
 {
-    let mut v4 = v4_of(alloc, networks)?;
-    let mut v6 = v6_of(alloc, networks)?;
-    aggregate_vec(&mut v4);
-    aggregate_vec(&mut v6);
-    let mut blocks = Vec::new(alloc);
-    push_v4(&mut blocks, &v4)?;
-    push_v6(&mut blocks, &v6)?;
-    Ok(blocks)
+    let v4_count = put_v4_first(networks);
+    let (v4, v6) = networks.split_at_mut(v4_count);
+    let v4_blocks = aggregate_held::<Ipv4Network, IpNetwork>(v4);
+    let v6_blocks = aggregate_held::<Ipv6Network, IpNetwork>(v6);
+    networks.copy_within(v4_count..v4_count + v6_blocks, v4_blocks);
+    v4_blocks + v6_blocks
 }
 
-// The IPv4 networks of a list.
-#[tactic(auto, unfolding(crate::specs::AggregateEither::v4_networks))]
-fn v4_of(alloc: Global, networks: &[IpNetwork]) -> Result<Vec<Ipv4Network>, AllocError>
-    ensures { IfOk result (λ v4. v4.items ≡ v4_networks networks.now) }
+/// Puts the aggregate of the IPv4 networks, and behind it that of the IPv6 networks, in the place of the networks:
+/// what `aggregate_ip_in_place` puts in front, and nothing behind it. Does not allocate, and frees no memory.
+pub fn aggregate_ip_vec(networks: &mut Vec<IpNetwork>)
+    ensures { IsIpAggregate networks.old.items networks.new.items }
 {
-    let mut v4 = Vec::new(alloc);
-    for network in networks {
-        match network {
-            IpNetwork::V4(network) => v4.push(*network)?,
-            IpNetwork::V6(_) => {}
+    let count = aggregate_ip_in_place(networks.as_mut_slice());
+    networks.truncate(count);
+}
+
+// Puts the IPv4 networks before the IPv6 networks, and answers how many there are.
+fn put_v4_first(networks: &mut [IpNetwork]) -> usize
+    ensures within { result ≤ length networks.old }
+    ensures same { IsPermutation networks.old networks.new }
+    ensures v4 { All IsV4 (take result networks.new) }
+    ensures v6 { All IsV6 (drop result networks.new) }
+{
+    let mut v4_count = 0;
+    for next in 0..networks.len() {
+        if networks[next].is_ipv4() {
+            networks.swap(v4_count, next);
+            v4_count += 1;
         }
     }
-    Ok(v4)
-}
-
-// The IPv6 networks of a list.
-#[tactic(auto, unfolding(crate::specs::AggregateEither::v6_networks))]
-fn v6_of(alloc: Global, networks: &[IpNetwork]) -> Result<Vec<Ipv6Network>, AllocError>
-    ensures { IfOk result (λ v6. v6.items ≡ v6_networks networks.now) }
-{
-    let mut v6 = Vec::new(alloc);
-    for network in networks {
-        match network {
-            IpNetwork::V6(network) => v6.push(*network)?,
-            IpNetwork::V4(_) => {}
-        }
-    }
-    Ok(v6)
-}
-
-// Adds IPv4 networks to a list.
-fn push_v4(list: &mut Vec<IpNetwork>, v4: &[Ipv4Network]) -> Result<(), AllocError>
-    ensures { OnOk result (list.new.items ≡ list.old.items ++ map V4 v4.now) }
-{
-    for network in v4 {
-        list.push(IpNetwork::V4(*network))?;
-    }
-    Ok(())
-}
-
-// Adds IPv6 networks to a list.
-fn push_v6(list: &mut Vec<IpNetwork>, v6: &[Ipv6Network]) -> Result<(), AllocError>
-    ensures { OnOk result (list.new.items ≡ list.old.items ++ map V6 v6.now) }
-{
-    for network in v6 {
-        list.push(IpNetwork::V6(*network))?;
-    }
-    Ok(())
+    v4_count
 }

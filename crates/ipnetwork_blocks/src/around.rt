@@ -1,6 +1,6 @@
 //! The block of a network, the blocks around it, and the other half of its parent.
 ghost use Rattle.std.specs.Prelude.{◌≡◌, ◌<◌, ◌≤◌, MatchOption};
-ghost use Rattle.ipnetwork_family.specs.Network.{IsBlock, block_of};
+ghost use Rattle.ipnetwork_family.specs.Network.{IsNetwork, IsBlock, block_of};
 ghost use Rattle.ipnetwork_blocks.specs.Around.{IsAround, IsSibling};
 
 use ipnetwork_family::CidrNetwork;
@@ -9,6 +9,7 @@ use ipnetwork_family::CidrNetwork;
 pub fn block<N: CidrNetwork>(network: N) -> N
     ensures made { N.pair result ≡ block_of N.WIDTH (N.pair network) }
     ensures no_host_bits { IsBlock N.WIDTH (N.pair result) }
+    ensures network { IsNetwork N.WIDTH (N.pair result) }
 {
     let Some(block) = N::block(network.ip(), network.prefix()) else {
         unreachable!()

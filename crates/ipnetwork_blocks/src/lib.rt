@@ -11,6 +11,7 @@ mod around;
 mod before;
 mod climb;
 mod exclusions;
+mod holds;
 mod host_addresses;
 mod parts;
 mod range;
@@ -20,7 +21,7 @@ pub mod subnet_laws;
 mod tests;
 
 pub use aggregate::{aggregate_in_place, aggregate_vec};
-pub use aggregate_either::aggregate_ip;
+pub use aggregate_either::{aggregate_ip_in_place, aggregate_ip_vec};
 pub use around::{block, sibling, supernet};
 pub use climb::following;
 pub use exclusions::{Exclusion, exclude};

@@ -1,15 +1,8 @@
 -- Blocks that are joined as far as they go: what stands in front while a list is aggregated.
 use Rattle.std.specs.Prelude.{◌≡◌, ℕ, ◌+◌, ◌-◌, ◌<◌, List, length, slice_index_or}
 use Rattle.std.specs.List.{All, AllPairs}
-use Rattle.ipnetwork_family.specs.Network.{Network, IsNetwork, IsBlock, Member, high, block_of, AtMost, Subnet}
-
--- the block of prefix length p that holds x
-abbrev pub around : ℕ → ℕ → ℕ → Network
-around w x p = block_of w (record { address = x; prefix = p })
-
--- the block of one bit less that holds the network
-abbrev pub parent : ℕ → Network → Network
-parent w n = around w n.address (n.prefix - 1)
+use Rattle.ipnetwork_family.specs.Network.{Network, IsNetwork, IsBlock, Member, high, AtMost, Subnet}
+use Rattle.ipnetwork_blocks.specs.Around.{parent}
 
 -- of two blocks that differ: they are the halves of one block
 abbrev pub AreHalves : ℕ → Network → Network → Type 0
@@ -25,7 +18,7 @@ abbrev pub Follows : ℕ → Network → Network → Type 0
 Follows w a b = (high w a < b.address) × ¬ (AreHalves w a b)
 
 -- blocks in ascending order and apart, no two of them the halves of one block
-pub record IsJoined (w : ℕ) (list : List Network) : Type 0 where
+pub record AreJoined (w : ℕ) (list : List Network) : Type 0 where
   pub blocks : All (IsBlockNetwork w) list
   pub pairs : AllPairs (Follows w) list
 

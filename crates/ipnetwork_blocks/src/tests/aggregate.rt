@@ -1,7 +1,7 @@
 //! Lists, and the aggregates that Python's `ipaddress.collapse_addresses` gives of them. The first IPv4 list is the
 //! example of that module's documentation.
 
-use crate::{aggregate_in_place, aggregate_ip, aggregate_vec};
+use crate::{aggregate_in_place, aggregate_ip_in_place, aggregate_ip_vec, aggregate_vec};
 use ipnetwork::IpNetwork;
 use ipnetwork_family::{CidrNetwork, Ipv4Network, Ipv6Network};
 use std::alloc::Global;
@@ -112,6 +112,7 @@ fn collapsed(rt: HostRuntime) -> Result<(), Fail> {
     Ok(())
 }
 
+/// Each family is what Python's `collapse_addresses` makes of its networks.
 #[test]
 fn both_families(rt: HostRuntime) -> Result<(), Fail> {
     for (given, wanted) in [
@@ -121,10 +122,29 @@ fn both_families(rt: HostRuntime) -> Result<(), Fail> {
         ),
         ("::/0 0.0.0.0/1 128.0.0.0/1", "0.0.0.0/0 ::/0"),
         ("", ""),
+        ("0.0.0.0/32 ::/128", "0.0.0.0/32 ::/128"),
+        (
+            "::ffff:192.0.2.0/120 192.0.2.0/24",
+            "192.0.2.0/24 ::ffff:192.0.2.0/120",
+        ),
+        ("10.0.1.7/24 10.0.0.0/24 10.0.0.0/25", "10.0.0.0/23"),
+        ("8000::/1 ::5/1 8000::/2", "::/0"),
+        (
+            "::2 10.0.0.2/32 ::3 10.0.0.3/32 ::1 10.0.0.1/32 ::0 10.0.0.0/32",
+            "10.0.0.0/30 ::/126",
+        ),
+        (
+            "ffff::/16 255.255.255.255 fffe::/16 255.255.255.254 ::/1",
+            "255.255.255.254/31 ::/1 fffe::/15",
+        ),
     ] {
-        let given = networks::<IpNetwork>(rt.alloc(), given)?;
+        let mut slice = networks::<IpNetwork>(rt.alloc(), given)?;
+        let mut list = networks::<IpNetwork>(rt.alloc(), given)?;
         let wanted = networks::<IpNetwork>(rt.alloc(), wanted)?;
-        assert!(rt; aggregate_ip(rt.alloc(), &given)? == wanted);
+        let count = aggregate_ip_in_place(slice.as_mut_slice());
+        slice.truncate(count);
+        aggregate_ip_vec(&mut list);
+        assert!(rt; slice == wanted && list == wanted, "{given}");
     }
     Ok(())
 }

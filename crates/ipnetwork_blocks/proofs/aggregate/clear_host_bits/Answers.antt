@@ -1,27 +1,34 @@
 use Rattle.std.proofs.Common.{◌≡◌, ◌+◌, ℕ, List, arith, ◌∙◌, ap, sym, subst, map}
 use Rattle.std.proofs.lemmas.List.{length-map, map-set}
+use Rattle.std.proofs.lemmas.List.Elements.{All-set}
 use Rattle.ipnetwork_family.specs.Network.{Network, block_of}
+use Rattle.ipnetwork_blocks.specs.Private.Joining.{IsBlockNetwork}
 use Rattle.ipnetwork_blocks.proofs.AggregateMapped.{read_map}
 use Rattle.ipnetwork_blocks.proofs.AggregateClearing.{IsClearing, clearing_more, cleared}
 use Rattle.ipnetwork_blocks.proofs.aggregate.clear_host_bits.Goals as goal
 
-pub loop-network-preserved : goal.loop-network-preserved
-loop-network-preserved g c =
+pub loop-value-preserved : goal.loop-value-preserved
+loop-value-preserved g c =
     let w : ℕ = g.N.CidrNetwork.WIDTH in
-    let i : ℕ = c.loop-network.network-index in
-    let xs : List Network = map g.N.CidrNetwork.pair c.args.networks.now in
-    let ys : List Network = map g.N.CidrNetwork.pair c.loop-network.networks in
-    let v : Network = g.N.CidrNetwork.pair c.block_around.result in
-    let size_x = length-map c.args.networks.now g.N.CidrNetwork.pair in
-    let size_y = length-map c.loop-network.networks g.N.CidrNetwork.pair in
-    let is = read_map g.N.CidrNetwork.pair c.loop-network.networks i c.network-item.result (omega arith) c.network-item.is in
-    let one : v ≡ block_of w (g.N.CidrNetwork.pair c.network-item.result) = c.block_around.ensures.same ∙ ap (λ n. block_of w (g.N.CidrNetwork.pair n)) (sym c.network-item.is) in
-    subst (λ (t : List Network). IsClearing w xs t (i + 1)) (sym (map-set g.N.CidrNetwork.pair c.loop-network.networks i c.block_around.result))
-    (clearing_more w xs ys i (g.N.CidrNetwork.pair c.network-item.result) v c.loop-network.invariant (omega arith) (omega arith) is one c.block_around.ensures.block)
+    let i : ℕ = c.loop-value.value-index in
+    let xs : List Network = map g.H.Holds.held c.args.values.now in
+    let ys : List Network = map g.H.Holds.held c.loop-value.values in
+    let v : Network = g.H.Holds.held c.holding.result in
+    let size_x = length-map c.args.values.now g.H.Holds.held in
+    let size_y = length-map c.loop-value.values g.H.Holds.held in
+    let is = read_map g.H.Holds.held c.loop-value.values i c.value-item.result (omega arith) c.value-item.is in
+    let made : v ≡ block_of w (g.N.CidrNetwork.pair c.network.result) = c.holding.ensures.1 ∙ c.block.ensures.made in
+    let one : v ≡ block_of w (g.H.Holds.held c.value-item.result) = made ∙ ap (block_of w) (c.network.ensures ∙ ap g.H.Holds.held (sym c.value-item.is)) in
+    let is_block : IsBlockNetwork w v = subst (λ (n : Network). IsBlockNetwork w n) (sym c.holding.ensures.1)
+    (record { network = c.block.ensures.network; block = c.block.ensures.no_host_bits }) in (
+      All-set g.H.Holds.holds c.loop-value.values i c.holding.result c.holding.ensures.0 c.loop-value.invariant.0,
+      subst (λ (t : List Network). IsClearing w xs t (i + 1)) (sym (map-set g.H.Holds.held c.loop-value.values i c.holding.result))
+          (clearing_more w xs ys i (g.H.Holds.held c.value-item.result) v c.loop-value.invariant.1 (omega arith) (omega arith) is one is_block),
+    )
 
 pub returns-clause-blocks : goal.returns-clause-blocks
 returns-clause-blocks g c =
-    let size_x = length-map c.args.networks.now g.N.CidrNetwork.pair in
-    let size_y = length-map c.loop-network.networks g.N.CidrNetwork.pair in
-    (cleared g.N.CidrNetwork.WIDTH (map g.N.CidrNetwork.pair c.args.networks.now) (map g.N.CidrNetwork.pair c.loop-network.networks)
-    c.loop-network.network-index c.loop-network.invariant (omega arith) (omega arith)).1
+    let size_x = length-map c.args.values.now g.H.Holds.held in
+    let size_y = length-map c.loop-value.values g.H.Holds.held in
+    (cleared g.N.CidrNetwork.WIDTH (map g.H.Holds.held c.args.values.now) (map g.H.Holds.held c.loop-value.values)
+    c.loop-value.value-index c.loop-value.invariant.1 (omega arith) (omega arith)).1

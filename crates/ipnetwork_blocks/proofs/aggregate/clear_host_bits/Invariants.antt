@@ -1,6 +1,7 @@
 use Rattle.std.proofs.Common.{map}
+use Rattle.std.specs.List.{All}
 use Rattle.ipnetwork_blocks.proofs.AggregateClearing.{IsClearing}
 use Rattle.ipnetwork_blocks.proofs.aggregate.clear_host_bits.Given as goal
 
-abbrev pub invariant-loop-network : goal.invariant-loop-network
-invariant-loop-network g l = IsClearing g.N.CidrNetwork.WIDTH (map g.N.CidrNetwork.pair l.initial.networks) (map g.N.CidrNetwork.pair l.networks) l.network-index
+abbrev pub invariant-loop-value : goal.invariant-loop-value
+invariant-loop-value g l = All g.H.Holds.holds l.values × IsClearing g.N.CidrNetwork.WIDTH (map g.H.Holds.held l.initial.values) (map g.H.Holds.held l.values) l.value-index

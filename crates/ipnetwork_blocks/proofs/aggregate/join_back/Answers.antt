@@ -2,7 +2,7 @@ use Rattle.std.proofs.Common.{sym, subst, ◌∙◌, arith, ◌-◌, ◌<◌, �
 use Rattle.std.proofs.lemmas.List.{get_or_default, length-map}
 use Rattle.ipnetwork_family.specs.Network.{Network}
 use Rattle.ipnetwork_blocks.specs.Private.Joining.{AreHalves}
-use Rattle.ipnetwork_blocks.proofs.AggregateMapped.{read_map}
+use Rattle.ipnetwork_blocks.proofs.AggregateMapped.{read_held}
 use Rattle.ipnetwork_blocks.proofs.AggregateFront.{IsJoining, joining_more, joining_stops}
 use Rattle.ipnetwork_blocks.proofs.aggregate.join_back.Goals as goal
 
@@ -10,21 +10,23 @@ pub loop-left-preserved : goal.loop-left-preserved
 loop-left-preserved g c =
     let w : ℕ = g.N.CidrNetwork.WIDTH in
     let s = c.in-Some.ensures in
-    let r : List Network = map g.N.CidrNetwork.pair c.args.front.now in
-    let len = length-map c.args.front.now g.N.CidrNetwork.pair in
+    let r : List Network = map g.H.Holds.held c.args.front.now in
+    let last : Network = g.N.CidrNetwork.pair c.network.result in
+    let len = length-map c.args.front.now g.H.Holds.held in
     let fits : c.loop-left.left - 1 < length c.args.front.now = let b = c.loop-left.invariant.bound in omega arith in
+    let is = read_held g.H.Holds.held c.args.front.now (c.loop-left.left - 1) c.index-front-left.result last fits c.index-front-left.is c.network.ensures in
     subst (λ (n : Network). IsJoining w r (g.N.CidrNetwork.pair c.args.block) (c.loop-left.left - 1) n) (sym s.1)
-    (joining_more w r (g.N.CidrNetwork.pair c.args.block) c.loop-left.left (g.N.CidrNetwork.pair c.loop-left.joined) (g.N.CidrNetwork.pair c.index-front-left.result) c.requires.joined c.loop-left.invariant
-    (omega arith) (read_map g.N.CidrNetwork.pair c.args.front.now (c.loop-left.left - 1) c.index-front-left.result fits c.index-front-left.is) s.0)
+    (joining_more w r (g.N.CidrNetwork.pair c.args.block) c.loop-left.left (g.N.CidrNetwork.pair c.loop-left.joined) last c.requires.joined c.loop-left.invariant
+    (omega arith) is s.0)
 
 pub returns-in-None-clause-joined : goal.returns-in-None-clause-joined
 returns-in-None-clause-joined g c =
     let w : ℕ = g.N.CidrNetwork.WIDTH in
-    let r : List Network = map g.N.CidrNetwork.pair c.args.front.now in
+    let r : List Network = map g.H.Holds.held c.args.front.now in
     let joined : Network = g.N.CidrNetwork.pair c.loop-left.joined in
-    let top : Network = g.N.CidrNetwork.pair c.index-front-left.result in
-    let len = length-map c.args.front.now g.N.CidrNetwork.pair in
+    let last : Network = g.N.CidrNetwork.pair c.network.result in
+    let len = length-map c.args.front.now g.H.Holds.held in
     let fits : c.loop-left.left - 1 < length c.args.front.now = let b = c.loop-left.invariant.bound in omega arith in
-    let is = read_map g.N.CidrNetwork.pair c.args.front.now (c.loop-left.left - 1) c.index-front-left.result fits c.index-front-left.is in
+    let is = read_held g.H.Holds.held c.args.front.now (c.loop-left.left - 1) c.index-front-left.result last fits c.index-front-left.is c.network.ensures in
     joining_stops w r (g.N.CidrNetwork.pair c.args.block) c.loop-left.left joined c.requires.joined c.loop-left.invariant
-    (λ t some at s. c.in-None.ensures (subst (λ (n : Network). AreHalves w n joined) (at ∙ get_or_default r (c.loop-left.left - 1) t top (omega arith) ∙ sym is) s))
+    (λ t some at s. c.in-None.ensures (subst (λ (n : Network). AreHalves w n joined) (at ∙ get_or_default r (c.loop-left.left - 1) t last (omega arith) ∙ sym is) s))

@@ -1,0 +1,89 @@
+//! Values that hold a network of one family, so that one pass aggregates a list of such networks as well as the
+//! part of a list of both families that is of one.
+ghost use Rattle.std.specs.Prelude.{◌≡◌};
+ghost use Rattle.ipnetwork_family.specs.Network.{Network, network_cmp};
+
+use ipnetwork::{IpNetwork, Ipv4Network, Ipv6Network};
+use ipnetwork_family::CidrNetwork;
+
+/// A value that may hold a network of the family of `N`. Values that do are ordered as their networks are.
+pub(crate) trait Holds<N: CidrNetwork>: Copy + Ord {
+    ghost holds: { Self → Type 0 };
+
+    ghost held: { Self → Network };
+
+    /// The network that the value holds.
+    fn network(self) -> N
+        requires { holds self }
+        ensures { N.pair result ≡ held self };
+
+    /// The value that holds the network.
+    fn holding(network: N) -> Self
+        ensures { holds result × (held result ≡ N.pair network) };
+
+    ghost held_order: { (x y : Self) → holds x → holds y → Self.cmp x y ≡ network_cmp (held x) (held y) };
+}
+
+impl<N: CidrNetwork> Holds<N> for N {
+    ghost use Rattle.std.specs.Prelude.{⊤};
+
+    ghost holds = { λ _. ⊤ };
+
+    ghost held = { N.pair };
+
+    fn network(self) -> N {
+        self
+    }
+
+    fn holding(network: N) -> N {
+        network
+    }
+
+    ghost held_order = { λ x y _ _. N.network_order x y };
+}
+
+impl Holds<Ipv4Network> for IpNetwork {
+    ghost use Rattle.std.specs.Prelude.{refl};
+    ghost use Rattle.ipnetwork.specs.IpNetworks.{IsV4};
+    ghost use Rattle.ipnetwork_blocks.specs.Private.Held.{the_network, v4_order};
+
+    ghost holds = { IsV4 };
+
+    ghost held = { the_network };
+
+    fn network(self) -> Ipv4Network {
+        match self {
+            IpNetwork::V4(network) => network,
+            IpNetwork::V6(_) => unreachable!(),
+        }
+    }
+
+    fn holding(network: Ipv4Network) -> IpNetwork {
+        IpNetwork::V4(network)
+    }
+
+    ghost held_order = { v4_order _ (λ a b. refl) };
+}
+
+impl Holds<Ipv6Network> for IpNetwork {
+    ghost use Rattle.std.specs.Prelude.{refl};
+    ghost use Rattle.ipnetwork.specs.IpNetworks.{IsV6};
+    ghost use Rattle.ipnetwork_blocks.specs.Private.Held.{the_network, v6_order};
+
+    ghost holds = { IsV6 };
+
+    ghost held = { the_network };
+
+    fn network(self) -> Ipv6Network {
+        match self {
+            IpNetwork::V6(network) => network,
+            IpNetwork::V4(_) => unreachable!(),
+        }
+    }
+
+    fn holding(network: Ipv6Network) -> IpNetwork {
+        IpNetwork::V6(network)
+    }
+
+    ghost held_order = { v6_order _ (λ a b. refl) };
+}
