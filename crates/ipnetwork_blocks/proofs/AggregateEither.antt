@@ -15,7 +15,7 @@ use Rattle.ipnetwork_family.specs.Network.{Network}
 use Rattle.ipnetwork_blocks.specs.Aggregate.{InUnion, SameUnion, IsAggregate}
 use Rattle.ipnetwork_blocks.specs.AggregateEither.{v4_of, v6_of, IsIpAggregate}
 use Rattle.ipnetwork_blocks.specs.Private.Held.{the_network}
-use Rattle.ipnetwork_blocks.proofs.AggregateJoined.{maximal_of_union, union_turned}
+use Rattle.ipnetwork_blocks.proofs.LeastLists.{least_of_same}
 
 -- ---- the loop of `put_v4_first`
 
@@ -119,22 +119,12 @@ v6_not_given (V6 n) h = absurd h
 
 -- ---- the aggregate of either family
 
--- an aggregate is one of each list with the same union
-of_same_union : (w : ℕ) (ns ms r : List Network) → IsAggregate w ns r → SameUnion w ns ms → IsAggregate w ms r
-of_same_union w ns ms r h same = record {
-  maximal = λ b. (
-    (λ c. maximal_of_union w ns ms same b ((h.maximal b).0 c)),
-    (λ m. (h.maximal b).1 (maximal_of_union w ms ns (union_turned w ns ms same) b m)),
-  );
-  ascending = h.ascending;
-}
-
 -- of the whole list, where its networks of one family are those of a part
 of_part : (h : IpNetwork → Option Network) (w : ℕ) (old parted part : List IpNetwork) (r : List Network) → IsPermutation old parted
     → filter_map h parted ≡ map the_network part → IsAggregate w (map the_network part) r → IsAggregate w (filter_map h old) r
 of_part h w old parted part r p e a =
-    of_same_union w (map the_network part) (filter_map h old) r a
-    (subst (λ (ns : List Network). SameUnion w ns (filter_map h old)) e (reordered h w parted old (IsPermutation-sym old parted p)))
+    least_of_same w (InUnion w (map the_network part)) (InUnion w (filter_map h old)) r
+    (subst (λ (ns : List Network). SameUnion w ns (filter_map h old)) e (reordered h w parted old (IsPermutation-sym old parted p))) a
 
 pub either_aggregate : (old parted v4 v6 moved : List IpNetwork) (k a b : ℕ) → IsPermutation old parted → All IsV4 (take k parted) → All IsV6 (drop k parted)
     → length v4 ≡ k → a ≤ k → b ≤ length v6 → All IsV4 v4 → All IsV6 v6

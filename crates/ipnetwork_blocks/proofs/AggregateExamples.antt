@@ -4,10 +4,11 @@ use Rattle.std.specs.List.{Contains, filter_map}
 use Rattle.ipnetwork_family.specs.Network.{Network, high}
 use Rattle.ipnetwork_family.proofs.Blocks.{subnet_from}
 use Rattle.ipnetwork.specs.declared.ip_network.IpNetwork.TheVariants.{V4, V6}
-use Rattle.ipnetwork_blocks.specs.Aggregate.{IsMaximal, IsAggregate}
+use Rattle.ipnetwork_blocks.specs.LeastList.{IsMaximalIn}
+use Rattle.ipnetwork_blocks.specs.Aggregate.{InUnion, IsAggregate}
 use Rattle.ipnetwork_blocks.specs.AggregateEither.{v4_of, v6_of}
 use Rattle.ipnetwork_blocks.specs.Private.Joining.{IsBlockNetwork, AreJoined}
-use Rattle.ipnetwork_blocks.proofs.AggregateLists.{contains_cons, contains_head, contains_nil}
+use Rattle.ipnetwork_blocks.proofs.LeastLists.{contains_cons, contains_head, contains_nil}
 use Rattle.ipnetwork_blocks.proofs.AggregateUnions.{union_same, union_skip, union_join, union_cleared}
 use Rattle.ipnetwork_blocks.proofs.AggregateFront.{joined_nil, joined_push}
 use Rattle.ipnetwork_blocks.proofs.AggregateJoined.{joined_is_aggregate}
@@ -40,7 +41,7 @@ halves =
     (union_join 4 [] (net 0 2) (net 4 2) first_quarter second_quarter (omega arith) (refl, omega arith, (omega arith, refl)))
 
 -- and neither is maximal
-pub half_is_not_maximal : ¬ (IsMaximal 4 (net 0 2 ∷ net 4 2 ∷ []) (net 0 2))
+pub half_is_not_maximal : ¬ (IsMaximalIn 4 (InUnion 4 (net 0 2 ∷ net 4 2 ∷ [])) (net 0 2))
 half_is_not_maximal m =
     ⊎_elim
     (λ (e : net 0 1 ≡ net 0 2). let lengths : 1 ≡ 2 = ap (λ n. n.prefix) e in omega arith)

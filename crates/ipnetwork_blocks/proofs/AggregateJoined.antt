@@ -7,8 +7,10 @@ use Rattle.ipnetwork_family.specs.Network.{Network, IsNetwork, Member, low, bloc
 use Rattle.ipnetwork_family.proofs.Blocks.{size_pos, within_member, member_within, subnet_from, subnet_prefix, shares_address, multiple_begins}
 use Rattle.ipnetwork_blocks.specs.Around.{parent}
 use Rattle.ipnetwork_blocks.specs.Private.Joining.{AreHalves, IsBlockNetwork, Follows, AreJoined}
-use Rattle.ipnetwork_blocks.specs.Aggregate.{LiesInUnion, SameUnion, IsMaximal, IsAggregate}
+use Rattle.ipnetwork_blocks.specs.LeastList.{IsMaximalIn}
+use Rattle.ipnetwork_blocks.specs.Aggregate.{InUnion, LiesInUnion, SameUnion, IsAggregate}
 use Rattle.ipnetwork_blocks.proofs.AggregateLists.{pairs_contains}
+use Rattle.ipnetwork_blocks.proofs.LeastLists.{least_of_same}
 use Rattle.ipnetwork_blocks.proofs.AggregateBlocks.{around, around_network, around_block, around_holds, around_subnet, around_quotient, same_block, size_half}
 
 -- two blocks of a joined list that share an address are the same
@@ -117,7 +119,7 @@ network_in_one w r h c cn within =
     (o.0, o.1, λ y m. o.2 y (m.0, m.1 ∙ sym (around_quotient w c.address c.prefix)))
 
 -- the blocks of a joined list are the maximal ones of its union
-pub joined_is_maximal : (w : ℕ) (r : List Network) → AreJoined w r → (b : Network) → Contains r b → IsMaximal w r b
+joined_is_maximal : (w : ℕ) (r : List Network) → AreJoined w r → (b : Network) → Contains r b → IsMaximalIn w (InUnion w r) b
 joined_is_maximal w r h b cb =
     let bb : IsBlockNetwork w b = All-contains (IsBlockNetwork w) r b h.blocks cb in
     record {
@@ -132,7 +134,7 @@ joined_is_maximal w r h b cb =
           absurd (omega (arith, subnet_prefix w c b cn bb.network inside, lt));
     }
 
-pub maximal_is_joined : (w : ℕ) (r : List Network) → AreJoined w r → (b : Network) → IsMaximal w r b → Contains r b
+maximal_is_joined : (w : ℕ) (r : List Network) → AreJoined w r → (b : Network) → IsMaximalIn w (InUnion w r) b → Contains r b
 maximal_is_joined w r h b m =
     let o = network_in_one w r h b m.network m.lies in
     let n : Network = o.0 in
@@ -146,27 +148,13 @@ maximal_is_joined w r h b m =
     subst (λ k. Contains r k) same o.1)
     (cases_lt n.prefix b.prefix)
 
--- which blocks are maximal is settled by the union
-pub maximal_of_union : (w : ℕ) (ns ms : List Network) → SameUnion w ns ms → (b : Network) → IsMaximal w ns b → IsMaximal w ms b
-maximal_of_union w ns ms same b m = record {
-  network = m.network;
-  block = m.block;
-  lies = λ x k. (same x).0 (m.lies x k);
-  maximal = λ c cn lt sub within. m.maximal c cn lt sub (λ x k. (same x).1 (within x k));
-}
-
-pub union_turned : (w : ℕ) (ns ms : List Network) → SameUnion w ns ms → SameUnion w ms ns
-union_turned w ns ms same x = ((same x).1, (same x).0)
-
 -- a joined list with the union of the networks is their aggregate
 pub joined_is_aggregate : (w : ℕ) (ns r : List Network) → AreJoined w r → SameUnion w r ns → IsAggregate w ns r
-joined_is_aggregate w ns r h same = record {
-  maximal = λ b. (
-    (λ c. maximal_of_union w r ns same b (joined_is_maximal w r h b c)),
-    (λ m. maximal_is_joined w r h b (maximal_of_union w ns r (union_turned w r ns same) b m)),
-  );
-  ascending = λ i j d l m.
-      let b : IsBlockNetwork w (get_or r i d) = h.blocks i d (omega arith) in
-      let f = h.pairs i j d l m in
-      omega (arith, f.0, b.block, size_pos w (get_or r i d).prefix);
-}
+joined_is_aggregate w ns r h same =
+    least_of_same w (InUnion w r) (InUnion w ns) r same (record {
+      maximal = λ b. (joined_is_maximal w r h b, maximal_is_joined w r h b);
+      ascending = λ i j d l m.
+          let b : IsBlockNetwork w (get_or r i d) = h.blocks i d (omega arith) in
+          let f = h.pairs i j d l m in
+          omega (arith, f.0, b.block, size_pos w (get_or r i d).prefix);
+    })

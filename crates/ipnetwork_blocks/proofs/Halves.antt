@@ -93,7 +93,7 @@ halves_whole w base s lower upper b h net begins size x = (
 )
 
 -- a network and the other half of its parent
-sibling_from : (w : ℕ) (n b : Network) → IsNetwork w n → IsNetwork w b → 0 < n.prefix → b.prefix ≡ n.prefix → IsBlock w b
+pub sibling_from : (w : ℕ) (n b : Network) → IsNetwork w n → IsNetwork w b → 0 < n.prefix → b.prefix ≡ n.prefix → IsBlock w b
     → ((low w n ≡ low w (parent w n)) × (low w b ≡ low w (parent w n) + block_size w n.prefix))
     ⊎ ((low w n ≡ low w (parent w n) + block_size w n.prefix) × (low w b ≡ low w (parent w n)))
     → IsSibling w n b

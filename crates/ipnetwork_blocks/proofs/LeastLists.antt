@@ -12,7 +12,7 @@ use Rattle.ipnetwork_blocks.proofs.BlocksAt.{same_block}
 -- ---- lists
 
 -- an element of x ∷ xs is x, or one of xs
-contains_cons : {X : Type 0} (x : X) (xs : List X) (y : X) → Contains (x ∷ xs) y → (x ≡ y) ⊎ Contains xs y
+pub contains_cons : {X : Type 0} (x : X) (xs : List X) (y : X) → Contains (x ∷ xs) y → (x ≡ y) ⊎ Contains xs y
 contains_cons {X} x xs y c = go c.0 c.1 c.2
   where
     go : (k : ℕ) → k < length (x ∷ xs) → get_or (x ∷ xs) k y ≡ y → (x ≡ y) ⊎ Contains xs y
@@ -25,7 +25,7 @@ contains_head x xs = (0, omega arith, refl)
 pub contains_tail : {X : Type 0} (x : X) (xs : List X) (y : X) → Contains xs y → Contains (x ∷ xs) y
 contains_tail x xs y c = (suc c.0, (let l = c.1 in omega arith), c.2)
 
-contains_nil : {X : Type 0} (x : X) → Contains [] x → ⊥
+pub contains_nil : {X : Type 0} (x : X) → Contains [] x → ⊥
 contains_nil x c = let l = c.1 in omega arith
 
 pub pairs_tail : {X : Type 0} (R : X → X → Type 0) (x : X) (xs : List X) → AllPairs R (x ∷ xs) → AllPairs R xs

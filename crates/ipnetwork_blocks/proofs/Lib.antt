@@ -9,9 +9,9 @@ pub mod AggregateFront
 pub mod AggregateJoined
 pub mod AggregateLists
 pub mod AggregateMapped
-pub mod AggregateMaximal
 pub mod AggregatePass
 pub mod AggregateUnions
+pub mod BlockExamples
 pub mod BlocksAt
 pub mod Climbing
 pub mod ExcludedCounts

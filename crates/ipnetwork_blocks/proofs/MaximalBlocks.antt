@@ -70,7 +70,7 @@ widest_from w S tells x (suc p) h l lies =
     ))
     (lies_or_not w S tells (block_at w x p) (block_at_network w x p l fits))
 
-in_a_maximal : (w : ℕ) (S : ℕ → Type 0) → ((x : ℕ) → S x ⊎ ¬ (S x)) → (x : ℕ) → x < 2 ^ w → S x → (b : Network) × IsMaximalIn w S b × Member w b x
+pub in_a_maximal : (w : ℕ) (S : ℕ → Type 0) → ((x : ℕ) → S x ⊎ ¬ (S x)) → (x : ℕ) → x < 2 ^ w → S x → (b : Network) × IsMaximalIn w S b × Member w b x
 in_a_maximal w S tells x l s =
     let alone : (y : ℕ) → Member w (block_at w x w) y → x ≡ y = λ y m.
     let size : block_size w w ≡ 1 = let e : w - w ≡ 0 = omega arith in ap (λ k. 2 ^ k) e in
@@ -157,7 +157,7 @@ as_long {X} {Y} P (x ∷ xs) ys apart has =
     omega (arith, length-remove ys at l)
 
 -- a maximal block holds one of the networks
-holds_one : (w : ℕ) (S : ℕ → Type 0) (ms : List Network) (b : Network) → All (IsNetwork w) ms → ((x : ℕ) → InUnion w ms x ↔ S x) → IsMaximalIn w S b
+pub holds_one : (w : ℕ) (S : ℕ → Type 0) (ms : List Network) (b : Network) → All (IsNetwork w) ms → ((x : ℕ) → InUnion w ms x ↔ S x) → IsMaximalIn w S b
     → (n : Network) × Contains ms n × Subnet w n b
 holds_one w S ms b hm same m =
     let own : Member w b b.address = own_address w b m.network in
@@ -191,7 +191,7 @@ least_is_shortest w S r ms h hm same =
 
 -- ---- the laws
 
-is_shortest : (w : ℕ) (S : ℕ → Type 0) (r : List Network) → ((x : ℕ) → S x ⊎ ¬ (S x)) → ((x : ℕ) → S x → x < 2 ^ w) → IsLeastList w S r → IsShortest w S r
+pub is_shortest : (w : ℕ) (S : ℕ → Type 0) (r : List Network) → ((x : ℕ) → S x ⊎ ¬ (S x)) → ((x : ℕ) → S x → x < 2 ^ w) → IsLeastList w S r → IsShortest w S r
 is_shortest w S r tells fits h = record {
   addresses = has_set w S r tells fits h;
   apart = least_is_apart w S r h;
@@ -212,7 +212,7 @@ range_is_shortest w first last r fits h =
     (λ x p. let a = p.1 in omega arith)
     h
 
-member_or_not : (w : ℕ) (n : Network) (x : ℕ) → Member w n x ⊎ ¬ (Member w n x)
+pub member_or_not : (w : ℕ) (n : Network) (x : ℕ) → Member w n x ⊎ ¬ (Member w n x)
 member_or_not w n x =
     ⊎_elim
     (λ (l : x < 2 ^ w). ⊎_elim

@@ -2,7 +2,7 @@
 use Rattle.std.specs.Prelude.{ℕ, ◌↔◌, List}
 use Rattle.std.specs.List.{Contains}
 use Rattle.ipnetwork_family.specs.Network.{Network, Member}
-use Rattle.ipnetwork_blocks.specs.LeastList.{LiesIn, IsMaximalIn, IsLeastList}
+use Rattle.ipnetwork_blocks.specs.LeastList.{LiesIn, IsLeastList}
 
 -- the address lies in the union of the networks: one of them has it as a member
 abbrev pub InUnion : ℕ → List Network → ℕ → Type 0
@@ -15,10 +15,6 @@ LiesInUnion w b networks = LiesIn w (InUnion w networks) b
 -- the unions of two lists have the same addresses
 abbrev pub SameUnion : ℕ → List Network → List Network → Type 0
 SameUnion w networks others = (x : ℕ) → InUnion w networks x ↔ InUnion w others x
-
--- the block is maximal within the union: it lies in it, and no network of a shorter prefix length around it does
-abbrev pub IsMaximal : ℕ → List Network → Network → Type 0
-IsMaximal w networks b = IsMaximalIn w (InUnion w networks) b
 
 -- the result has the maximal blocks of the union of the networks and no others, in ascending order
 abbrev pub IsAggregate : ℕ → List Network → List Network → Type 0

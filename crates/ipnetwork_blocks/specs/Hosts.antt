@@ -3,7 +3,8 @@ use Rattle.std.specs.Prelude.{◌≡◌, ◌≢◌, ℕ, ◌≤◌, ◌↔◌, L
 use Rattle.std.specs.List.Sorted.{IsStrictlyIncreasing}
 use Rattle.ipnetwork_family.specs.Network.{Network, IsNetwork, Member, members, low, high}
 
--- up to prefix length 30 the members of an IPv4 network less the first and the last; at 31 and 32 all members (RFC 3021)
+-- up to prefix length 30 the members of an IPv4 network less the first and the last; at 31 and 32 all members
+-- (RFC 3021)
 pub record AreIpv4Hosts (n : Network) (hosts : List ℕ) : Type 0 where
   pub inner : n.prefix ≤ 30 → members 32 n ≡ low 32 n ∷ hosts ++ high 32 n ∷ []
   pub whole : 31 ≤ n.prefix → members 32 n ≡ hosts

@@ -13,7 +13,8 @@ pub record IsPart (w : ℕ) (n : Network) (p : ℕ) (b : Network) : Type 0 where
   pub within : Subnet w b n
 
 -- the list has the blocks of prefix length p within the network and no others, each ends before the next begins, and
--- together they have its addresses; there are 2 ^ (p - n.prefix), and each begins one block's size behind the one before
+-- together they have its addresses; there are 2 ^ (p - n.prefix), and each begins one block's size behind the one
+-- before
 pub record ListsSubnets (w : ℕ) (n : Network) (p : ℕ) : Type 0 where
   pub exactly : (b : Network) → Contains (subnets_of w n p) b ↔ IsPart w n p b
   pub apart : AllPairs (λ a b. high w a < b.address) (subnets_of w n p)

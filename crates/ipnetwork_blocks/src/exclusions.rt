@@ -15,6 +15,7 @@ use std::marker::Model;
 
 /// The blocks of what one network has and another has not that are still to come, in ascending order.
 #[derive(Drop)]
+#[derive_where(Debug; N, N::Addr)]
 pub struct Exclusion<N: CidrNetwork> {
     below: RangeBlocks<N>,
     above: RangeBlocks<N>,

@@ -9,7 +9,7 @@ use std::alloc::AllocError;
 use std::marker::Model;
 
 /// The blocks of a network that are still to come, in ascending order.
-#[derive(Drop)]
+#[derive(Debug, Drop)]
 pub struct SubnetIterator<N: CidrNetwork> {
     next: Option<N>,
     last: N,

@@ -11,7 +11,7 @@ use std::alloc::AllocError;
 use std::marker::Model;
 
 /// The blocks of a range of addresses that are still to come, in ascending order.
-#[derive(Drop)]
+#[derive(Debug, Drop)]
 pub struct RangeBlocks<N: CidrNetwork> {
     next: N::Addr,
     last: N::Addr,

@@ -1,6 +1,6 @@
-//! Prefix lengths that are refused, long lists, and copies of iterators.
+//! Prefix lengths that are refused, long lists, copies of iterators, and how Debug prints these.
 
-use crate::{ipv4_hosts, ipv6_hosts, subnets, supernet};
+use crate::{exclude, ipv4_hosts, ipv6_hosts, subnets, supernet};
 use ipnetwork_addr::{Ipv4Addr, Ipv6Addr};
 use ipnetwork_family::{CidrNetwork, Ipv4Network, Ipv6Network};
 use std::test::Fail;
@@ -64,6 +64,23 @@ fn long_lists(rt: HostRuntime) -> Result<(), Fail> {
     assert_eq!(rt;
         ipv6_hosts("::/0".parse::<Ipv6Network>()?).next(),
         Some(Ipv6Addr::new(0, 0, 0, 0, 0, 0, 0, 1))
+    );
+    Ok(())
+}
+
+// What Rust's derive prints of these fields.
+#[test]
+fn fields_printed(rt: HostRuntime) -> Result<(), Fail> {
+    let four = "0.0.0.8/30".parse::<Ipv4Network>()?;
+    let blocks = subnets(four, 31).expect(&rt, "two blocks");
+    assert_eq!(rt;
+        format!(in rt.alloc(); "{:?}", blocks)?.as_str(),
+        "SubnetIterator { next: Some(Ipv4Network { address: 8, prefix: 31 }), last: Ipv4Network { address: 10, prefix: 31 } }"
+    );
+    let left = exclude("0.0.0.8/29".parse()?, "0.0.0.10/31".parse::<Ipv4Network>()?);
+    assert_eq!(rt;
+        format!(in rt.alloc(); "{:?}", left)?.as_str(),
+        "Exclusion { below: RangeBlocks { next: Ipv4Addr { number: 8 }, last: Ipv4Addr { number: 9 }, is_done: false }, above: RangeBlocks { next: Ipv4Addr { number: 12 }, last: Ipv4Addr { number: 15 }, is_done: false } }"
     );
     Ok(())
 }

@@ -1,0 +1,112 @@
+-- Hosts, subnets, siblings and blocks that follow at which a misreading of the definitions would show.
+use Rattle.std.proofs.Common.{◌≡◌, ◌↔◌, ℕ, ◌^◌, ◌<◌, ◌≤◌, sym, refl, ap, subst, arith, inl, inr, List, [], ◌∷◌}
+use Rattle.std.proofs.lemmas.List.{append_cancel_right}
+use Rattle.ipnetwork_family.specs.Network.{Network, IsNetwork, count_up}
+use Rattle.ipnetwork_blocks.specs.Around.{IsSibling}
+use Rattle.ipnetwork_blocks.specs.Following.{following_block}
+use Rattle.ipnetwork_blocks.specs.Hosts.{AreIpv4Hosts, AreIpv6Hosts}
+use Rattle.ipnetwork_blocks.specs.Subnets.{subnets_of}
+use Rattle.ipnetwork_blocks.proofs.Halves.{sibling_from}
+use Rattle.ipnetwork_blocks.proofs.LeastLists.{own_address}
+
+abbrev net : ℕ → ℕ → Network
+net address prefix = record { address = address; prefix = prefix }
+
+-- ---- hosts: these are they, and no other list is, as one that has an end more or one less
+
+one_list : (Are : List ℕ → Type 0) (hosts : List ℕ) → Are hosts → ((xs : List ℕ) → Are xs → xs ≡ hosts) → (xs : List ℕ) → Are xs ↔ (xs ≡ hosts)
+one_list Are hosts are alone xs = (alone xs, λ e. subst Are (sym e) are)
+
+rest : List ℕ → List ℕ
+rest [] = []
+rest (x ∷ xs) = xs
+
+-- 0.0.0.5/30
+pub two_of_four : (hosts : List ℕ) → AreIpv4Hosts (net 5 30) hosts ↔ (hosts ≡ 5 ∷ 6 ∷ [])
+unfolding count_up rest
+two_of_four =
+    one_list (AreIpv4Hosts (net 5 30)) (5 ∷ 6 ∷ []) (record { inner = λ short. refl; whole = λ long. absurd (omega arith) })
+    (λ xs h. append_cancel_right xs (5 ∷ 6 ∷ []) (7 ∷ []) (sym (ap rest (h.inner (omega arith)))))
+
+-- 0.0.0.5/31
+pub both_of_two : (hosts : List ℕ) → AreIpv4Hosts (net 5 31) hosts ↔ (hosts ≡ 4 ∷ 5 ∷ [])
+unfolding count_up
+both_of_two =
+    one_list (AreIpv4Hosts (net 5 31)) (4 ∷ 5 ∷ []) (record { inner = λ short. absurd (omega arith); whole = λ long. refl })
+    (λ xs h. sym (h.whole (omega arith)))
+
+-- 0.0.0.5/32
+pub the_one : (hosts : List ℕ) → AreIpv4Hosts (net 5 32) hosts ↔ (hosts ≡ 5 ∷ [])
+unfolding count_up
+the_one =
+    one_list (AreIpv4Hosts (net 5 32)) (5 ∷ []) (record { inner = λ short. absurd (omega arith); whole = λ long. refl })
+    (λ xs h. sym (h.whole (omega arith)))
+
+-- ::5/126
+pub three_of_four : (hosts : List ℕ) → AreIpv6Hosts (net 5 126) hosts ↔ (hosts ≡ 5 ∷ 6 ∷ 7 ∷ [])
+unfolding count_up rest
+three_of_four =
+    one_list (AreIpv6Hosts (net 5 126)) (5 ∷ 6 ∷ 7 ∷ []) (record { inner = λ short. refl; whole = λ long. absurd (omega arith) })
+    (λ xs h. sym (ap rest (h.inner (omega arith))))
+
+-- ::5/127
+pub both_of_two_v6 : (hosts : List ℕ) → AreIpv6Hosts (net 5 127) hosts ↔ (hosts ≡ 4 ∷ 5 ∷ [])
+unfolding count_up
+both_of_two_v6 =
+    one_list (AreIpv6Hosts (net 5 127)) (4 ∷ 5 ∷ []) (record { inner = λ short. absurd (omega arith); whole = λ long. refl })
+    (λ xs h. sym (h.whole (omega arith)))
+
+-- ::5/128
+pub the_one_v6 : (hosts : List ℕ) → AreIpv6Hosts (net 5 128) hosts ↔ (hosts ≡ 5 ∷ [])
+unfolding count_up
+the_one_v6 =
+    one_list (AreIpv6Hosts (net 5 128)) (5 ∷ []) (record { inner = λ short. absurd (omega arith); whole = λ long. refl })
+    (λ xs h. sym (h.whole (omega arith)))
+
+-- ---- subnets: 192.0.2.0 is 3221225984, and host bits change nothing
+
+-- the four of 192.0.2.77/24
+pub four_subnets : subnets_of 32 (net 3221226061 24) 26 ≡ net 3221225984 26 ∷ net 3221226048 26 ∷ net 3221226112 26 ∷ net 3221226176 26 ∷ []
+unfolding count_up
+four_subnets = refl
+
+pub own_length : subnets_of 32 (net 3221226061 24) 24 ≡ net 3221225984 24 ∷ []
+unfolding count_up
+own_length = refl
+
+-- ---- the block that follows
+
+-- behind 192.0.2.77/26
+pub next_quarter : following_block 32 (net 3221226061 26) ≡ net 3221226112 26
+next_quarter = refl
+
+-- behind 255.255.255.255 there is no address
+pub past_the_last : ¬ (IsNetwork 32 (following_block 32 (net 4294967295 32)))
+past_the_last h = omega (arith, h.address_fits)
+
+-- ---- siblings
+
+fits : (address prefix : ℕ) → address < 2 ^ 32 → prefix ≤ 32 → IsNetwork 32 (net address prefix)
+fits address prefix below short = record { address_fits = below; prefix_fits = short }
+
+-- at the first bit
+pub upper_half : IsSibling 32 (net 5 1) (net 2147483648 1)
+upper_half =
+    sibling_from 32 (net 5 1) (net 2147483648 1) (fits 5 1 (omega arith) (omega arith)) (fits 2147483648 1 (omega arith) (omega arith)) (omega arith) refl refl (inl (refl, refl))
+
+pub lower_half : IsSibling 32 (net 4294967295 1) (net 0 1)
+lower_half =
+    sibling_from 32 (net 4294967295 1) (net 0 1) (fits 4294967295 1 (omega arith) (omega arith)) (fits 0 1 (omega arith) (omega arith)) (omega arith) refl refl (inr (refl, refl))
+
+-- and at the last
+pub even_and_odd : IsSibling 32 (net 4 32) (net 5 32)
+even_and_odd =
+    sibling_from 32 (net 4 32) (net 5 32) (fits 4 32 (omega arith) (omega arith)) (fits 5 32 (omega arith) (omega arith)) (omega arith) refl refl (inl (refl, refl))
+
+-- the block that follows is not always the sibling
+pub odd_and_even : ¬ (IsSibling 32 (net 5 32) (net 6 32))
+odd_and_even h = omega (arith, ((h.whole 6).1 (inr (own_address 32 (net 6 32) h.network))).1)
+
+-- the whole address space has none
+pub none_at_prefix_0 : (b : Network) → ¬ (IsSibling 32 (net 0 0) b)
+none_at_prefix_0 b h = h.apart (b.address, (h.network.address_fits, omega (arith, h.network.address_fits)), own_address 32 b h.network)
