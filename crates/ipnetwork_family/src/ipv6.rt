@@ -8,7 +8,7 @@ ghost use Rattle.ipnetwork_family.specs.Network.{Network, IsNetwork, Member, IsN
 ghost use Rattle.ipnetwork_family.specs.NetworkText.{GivesPrefix, GivesNoPrefix, network_text};
 ghost use Rattle.ipnetwork_family.specs.Ipv6NetworkText.{IsV6Suffix, ReadsV6Network};
 ghost use Rattle.ipnetwork_family.specs.Parsing.{ParsesV6Network};
-ghost use Rattle.ipnetwork_family.specs.Private.Segments.{number_of};
+ghost use Rattle.ipnetwork_family.specs.Private.Segments.{number_of_segments};
 
 use crate::ipv6_iter::Ipv6NetworkIterator;
 use crate::ipv6_mask::{WIDTH, host_ones};
@@ -40,12 +40,12 @@ impl Model for Ipv6Network {
     ghost use Rattle.std.proofs.Common.{ap};
     ghost use Rattle.ipnetwork_addr.specs.Digits.{segments_of};
     ghost use Rattle.ipnetwork_family.specs.Network.{Network};
-    ghost use Rattle.ipnetwork_family.specs.Private.Segments.{number_of, AreSegments};
+    ghost use Rattle.ipnetwork_family.specs.Private.Segments.{number_of_segments, AreSegments};
     ghost use Rattle.ipnetwork_family.specs.Private.SegmentsBack.{low_first_back};
 
     ghost Value = { Network };
 
-    ghost view = { λ n. record { address = number_of (reverse n.low_first); prefix = n.prefix } };
+    ghost view = { λ n. record { address = number_of_segments (reverse n.low_first); prefix = n.prefix } };
 
     ghost invariant = { λ n. AreSegments n.low_first × (n.prefix ≤ 128) };
 
@@ -60,7 +60,7 @@ impl Ipv6Network {
     /// The network of the address of these segments, the highest first.
     fn from_segments(segments: &[u16; 8], prefix: u8) -> Self
         requires { prefix ≤ 128 }
-        ensures { result ≡ record { address = number_of segments.now; prefix = prefix } }
+        ensures { result ≡ record { address = number_of_segments segments.now; prefix = prefix } }
     {
         Ipv6Network {
             low_first: segments::reversed(segments),
@@ -70,7 +70,7 @@ impl Ipv6Network {
 
     /// The segments of the address, the highest first.
     fn segments(&self) -> [u16; 8]
-        ensures address { number_of result ≡ self.now.address }
+        ensures address { number_of_segments result ≡ self.now.address }
         ensures network { IsNetwork 128 self.now }
     {
         segments::reversed(&self.low_first)
@@ -196,14 +196,14 @@ impl Ipv6Network {
         }
     }
 
-    /// Whether each member is one of `other`, host bits or not.
+    /// Whether each member of this network is a member of `other`. Host bits change nothing.
     pub fn is_subnet_of(self, other: Ipv6Network) -> bool
         ensures { IsTrue result ↔ Subnet 128 self other }
     {
         other.prefix() <= self.prefix() && other.holds(&self)
     }
 
-    /// Whether each member of `other` is one, host bits or not.
+    /// Whether each member of `other` is a member of this network. Host bits change nothing.
     pub fn is_supernet_of(self, other: Ipv6Network) -> bool
         ensures { IsTrue result ↔ Subnet 128 other self }
     {
@@ -322,6 +322,7 @@ pub fn ipv6_mask_to_prefix(mask: Ipv6Addr) -> Result<u8, IpNetworkError>
 impl From<Ipv6Addr> for Ipv6Network {
     ghost from_gives = { λ address network. network ≡ record { address = address; prefix = 128 } };
 
+    /// The network of this address alone, of prefix length 128. Does not allocate.
     fn from(addr: Ipv6Addr) -> Self {
         Ipv6Network::from_segments(&addr.segments(), WIDTH)
     }
@@ -334,6 +335,7 @@ impl IntoIterator for &Ipv6Network {
 
     ghost into_iter_gives = { λ network left. left ≡ members 128 network.now };
 
+    /// As `iter`.
     fn into_iter(self) -> Ipv6NetworkIterator {
         self.iter()
     }
@@ -344,6 +346,7 @@ impl FromStr for Ipv6Network {
 
     ghost from_str_gives = { ReadsV6Network };
 
+    /// As `read_bytes`.
     fn from_str(text: &str) -> Result<Self, CidrFault> {
         Ipv6Network::read_bytes(text.as_bytes())
     }
@@ -354,6 +357,7 @@ impl TryFrom<&str> for Ipv6Network {
 
     ghost try_from_gives = { λ text result. ReadsV6Network text.now result };
 
+    /// As `read_bytes`.
     fn try_from(text: &str) -> Result<Self, CidrFault> {
         Ipv6Network::from_str(text)
     }

@@ -3,8 +3,8 @@ use Rattle.std.specs.Prelude.{◌≡◌, ℕ, ◌+◌, ◌-◌, ◌*◌, ◌^◌
 use Rattle.std.specs.Int.Digits.{number_from_digits}
 
 -- the address of segments
-abbrev pub number_of : List ℕ → ℕ
-number_of segments = number_from_digits (2 ^ 16) segments
+abbrev pub number_of_segments : List ℕ → ℕ
+number_of_segments segments = number_from_digits (2 ^ 16) segments
 
 -- how many of the last bits of the segment i lie past the first p bits of the address
 abbrev pub host_bits : ℕ → ℕ → ℕ
