@@ -13,7 +13,7 @@ use Rattle.ipnetwork.specs.declared.ip_network.IpNetwork.TheVariants.{V4, V6}
 use Rattle.ipnetwork.specs.IpNetworks.{IsV4, IsV6}
 use Rattle.ipnetwork_family.specs.Network.{Network}
 use Rattle.ipnetwork_blocks.specs.Aggregate.{InUnion, SameUnion, IsAggregate}
-use Rattle.ipnetwork_blocks.specs.AggregateEither.{v4_of, v6_of, IsIpAggregate}
+use Rattle.ipnetwork_blocks.specs.AggregateEither.{as_v4, as_v6, IsIpAggregate}
 use Rattle.ipnetwork_blocks.specs.Private.Held.{the_network}
 use Rattle.ipnetwork_blocks.proofs.LeastLists.{least_of_same}
 
@@ -101,19 +101,19 @@ v6_known : (x : IpNetwork) → IsV6 x → x ≡ V6 (the_network x)
 v6_known (V4 n) h = absurd h
 v6_known (V6 n) h = refl
 
-v4_given : (x : IpNetwork) → IsV4 x → v4_of x ≡ Some (the_network x)
+v4_given : (x : IpNetwork) → IsV4 x → as_v4 x ≡ Some (the_network x)
 v4_given (V4 n) h = refl
 v4_given (V6 n) h = absurd h
 
-v6_given : (x : IpNetwork) → IsV6 x → v6_of x ≡ Some (the_network x)
+v6_given : (x : IpNetwork) → IsV6 x → as_v6 x ≡ Some (the_network x)
 v6_given (V4 n) h = absurd h
 v6_given (V6 n) h = refl
 
-v4_not_given : (x : IpNetwork) → IsV6 x → v4_of x ≡ None
+v4_not_given : (x : IpNetwork) → IsV6 x → as_v4 x ≡ None
 v4_not_given (V4 n) h = absurd h
 v4_not_given (V6 n) h = refl
 
-v6_not_given : (x : IpNetwork) → IsV4 x → v6_of x ≡ None
+v6_not_given : (x : IpNetwork) → IsV4 x → as_v6 x ≡ None
 v6_not_given (V4 n) h = refl
 v6_not_given (V6 n) h = absurd h
 
@@ -132,16 +132,16 @@ pub either_aggregate : (old parted v4 v6 moved : List IpNetwork) (k a b : ℕ) �
     → moved ≡ copy_within (v4 ++ v6) k (k + b) a → IsIpAggregate old (take (a + b) moved)
 either_aggregate old parted v4 v6 moved k a b p is4 is6 size le within all4 all6 agg4 agg6 e =
     let d : List IpNetwork = v4 ++ v6 in
-    let whole : filter_map v4_of parted ≡ filter_map v4_of (take k parted) ++ filter_map v4_of (drop k parted) =
-    ap (filter_map v4_of) (sym (take-append-drop k parted)) ∙ filter_map-append v4_of (take k parted) (drop k parted) in
-    let others : filter_map v6_of parted ≡ filter_map v6_of (take k parted) ++ filter_map v6_of (drop k parted) =
-    ap (filter_map v6_of) (sym (take-append-drop k parted)) ∙ filter_map-append v6_of (take k parted) (drop k parted) in
-    let of4 : filter_map v4_of parted ≡ map the_network (take k parted) =
-    whole ∙ ap (λ ns. ns ++ filter_map v4_of (drop k parted)) (gives_all v4_of the_network IsV4 v4_given (take k parted) is4)
-    ∙ ap (λ ns. map the_network (take k parted) ++ ns) (gives_none v4_of IsV6 v4_not_given (drop k parted) is6) ∙ append-nil (map the_network (take k parted)) in
-    let of6 : filter_map v6_of parted ≡ map the_network (drop k parted) =
-    others ∙ ap (λ ns. ns ++ filter_map v6_of (drop k parted)) (gives_none v6_of IsV4 v6_not_given (take k parted) is4)
-    ∙ gives_all v6_of the_network IsV6 v6_given (drop k parted) is6 in
+    let whole : filter_map as_v4 parted ≡ filter_map as_v4 (take k parted) ++ filter_map as_v4 (drop k parted) =
+    ap (filter_map as_v4) (sym (take-append-drop k parted)) ∙ filter_map-append as_v4 (take k parted) (drop k parted) in
+    let others : filter_map as_v6 parted ≡ filter_map as_v6 (take k parted) ++ filter_map as_v6 (drop k parted) =
+    ap (filter_map as_v6) (sym (take-append-drop k parted)) ∙ filter_map-append as_v6 (take k parted) (drop k parted) in
+    let of4 : filter_map as_v4 parted ≡ map the_network (take k parted) =
+    whole ∙ ap (λ ns. ns ++ filter_map as_v4 (drop k parted)) (gives_all as_v4 the_network IsV4 v4_given (take k parted) is4)
+    ∙ ap (λ ns. map the_network (take k parted) ++ ns) (gives_none as_v4 IsV6 v4_not_given (drop k parted) is6) ∙ append-nil (map the_network (take k parted)) in
+    let of6 : filter_map as_v6 parted ≡ map the_network (drop k parted) =
+    others ∙ ap (λ ns. ns ++ filter_map as_v6 (drop k parted)) (gives_none as_v6 IsV4 v6_not_given (take k parted) is4)
+    ∙ gives_all as_v6 the_network IsV6 v6_given (drop k parted) is6 in
     let size_d : length d ≡ k + length v6 = length-append v4 v6 ∙ ap (λ n. n + length v6) size in
     let behind : drop k d ≡ v6 = ap (λ n. drop n d) (sym size) ∙ drop-append_seam v4 v6 in
     let fits : b ≤ length (drop k d) = subst (λ (l : List IpNetwork). b ≤ length l) (sym behind) within in
@@ -154,6 +154,6 @@ either_aggregate old parted v4 v6 moved k a b p is4 is6 size le within all4 all6
       map the_network (take b v6),
       front ∙ ap (λ l. l ++ take b v6) (known the_network V4 IsV4 v4_known (take a v4) (All-take IsV4 a v4 all4))
           ∙ ap (λ l. map V4 (map the_network (take a v4)) ++ l) (known the_network V6 IsV6 v6_known (take b v6) (All-take IsV6 b v6 all6)),
-      of_part v4_of 32 old parted (take k parted) (map the_network (take a v4)) p of4 agg4,
-      of_part v6_of 128 old parted (drop k parted) (map the_network (take b v6)) p of6 agg6,
+      of_part as_v4 32 old parted (take k parted) (map the_network (take a v4)) p of4 agg4,
+      of_part as_v6 128 old parted (drop k parted) (map the_network (take b v6)) p of6 agg6,
     )

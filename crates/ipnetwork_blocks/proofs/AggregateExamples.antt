@@ -6,7 +6,7 @@ use Rattle.ipnetwork_family.proofs.Blocks.{subnet_from}
 use Rattle.ipnetwork.specs.declared.ip_network.IpNetwork.TheVariants.{V4, V6}
 use Rattle.ipnetwork_blocks.specs.LeastList.{IsMaximalIn}
 use Rattle.ipnetwork_blocks.specs.Aggregate.{InUnion, IsAggregate}
-use Rattle.ipnetwork_blocks.specs.AggregateEither.{v4_of, v6_of}
+use Rattle.ipnetwork_blocks.specs.AggregateEither.{as_v4, as_v6}
 use Rattle.ipnetwork_blocks.specs.Private.Joining.{IsBlockNetwork, AreJoined}
 use Rattle.ipnetwork_blocks.proofs.LeastLists.{contains_cons, contains_head, contains_nil}
 use Rattle.ipnetwork_blocks.proofs.AggregateUnions.{union_same, union_skip, union_join, union_cleared}
@@ -76,8 +76,8 @@ pub no_networks : IsAggregate 4 [] []
 no_networks = joined_is_aggregate 4 [] [] (joined_nil 4) (union_same 4 [])
 
 -- each family keeps its order
-pub v4_alone : filter_map v4_of (V6 (net 1 128) ∷ V4 (net 2 32) ∷ V6 (net 3 128) ∷ V4 (net 1 32) ∷ []) ≡ net 2 32 ∷ net 1 32 ∷ []
+pub v4_alone : filter_map as_v4 (V6 (net 1 128) ∷ V4 (net 2 32) ∷ V6 (net 3 128) ∷ V4 (net 1 32) ∷ []) ≡ net 2 32 ∷ net 1 32 ∷ []
 v4_alone = refl
 
-pub v6_alone : filter_map v6_of (V6 (net 3 128) ∷ V4 (net 2 32) ∷ V6 (net 1 128) ∷ V4 (net 1 32) ∷ []) ≡ net 3 128 ∷ net 1 128 ∷ []
+pub v6_alone : filter_map as_v6 (V6 (net 3 128) ∷ V4 (net 2 32) ∷ V6 (net 1 128) ∷ V4 (net 1 32) ∷ []) ≡ net 3 128 ∷ net 1 128 ∷ []
 v6_alone = refl

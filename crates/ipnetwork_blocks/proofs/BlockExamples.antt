@@ -12,7 +12,7 @@ use Rattle.ipnetwork_blocks.proofs.LeastLists.{own_address}
 abbrev net : ℕ → ℕ → Network
 net address prefix = record { address = address; prefix = prefix }
 
--- ---- hosts: these are they, and no other list is, as one that has an end more or one less
+-- ---- hosts: this list, and no other, such as one with an end too many or too few
 
 one_list : (Are : List ℕ → Type 0) (hosts : List ℕ) → Are hosts → ((xs : List ℕ) → Are xs → xs ≡ hosts) → (xs : List ℕ) → Are xs ↔ (xs ≡ hosts)
 one_list Are hosts are alone xs = (alone xs, λ e. subst Are (sym e) are)

@@ -7,15 +7,15 @@ use Rattle.ipnetwork.specs.declared.ip_network.IpNetwork.TheVariants.{V4, V6}
 use Rattle.ipnetwork_blocks.specs.Aggregate.{IsAggregate}
 
 -- the network, where it is one of IPv4; and where it is one of IPv6
-abbrev pub v4_of : IpNetwork → Option Network
-v4_of (V4 n) = Some n
-v4_of (V6 n) = None
+abbrev pub as_v4 : IpNetwork → Option Network
+as_v4 (V4 n) = Some n
+as_v4 (V6 n) = None
 
-abbrev pub v6_of : IpNetwork → Option Network
-v6_of (V4 n) = None
-v6_of (V6 n) = Some n
+abbrev pub as_v6 : IpNetwork → Option Network
+as_v6 (V4 n) = None
+as_v6 (V6 n) = Some n
 
 -- the result is the aggregate of the IPv4 networks, and behind it that of the IPv6 networks
 abbrev pub IsIpAggregate : List IpNetwork → List IpNetwork → Type 0
 IsIpAggregate networks result = (v4 : List Network) × (v6 : List Network) × (result ≡ map V4 v4 ++ map V6 v6)
-    × IsAggregate 32 (filter_map v4_of networks) v4 × IsAggregate 128 (filter_map v6_of networks) v6
+    × IsAggregate 32 (filter_map as_v4 networks) v4 × IsAggregate 128 (filter_map as_v6 networks) v6

@@ -8,8 +8,10 @@ use ipnetwork_family::CidrNetwork;
 
 /// A value that may hold a network of the family of `N`. Values that do are ordered as their networks are.
 pub(crate) trait Holds<N: CidrNetwork>: Copy + Ord {
+    // Whether the value holds such a network.
     ghost holds: { Self → Type 0 };
 
+    // The address and the prefix length of the network that it holds.
     ghost held: { Self → Network };
 
     /// The network that the value holds.
@@ -21,6 +23,7 @@ pub(crate) trait Holds<N: CidrNetwork>: Copy + Ord {
     fn holding(network: N) -> Self
         ensures { holds result × (held result ≡ N.pair network) };
 
+    // Values that hold networks are ordered as these are.
     ghost held_order: { (x y : Self) → holds x → holds y → Self.cmp x y ≡ network_cmp (held x) (held y) };
 }
 

@@ -1,7 +1,7 @@
 //! Blocks of IP addresses, for networks of either family: the blocks within a network and around it, its hosts, and
 //! the least lists of blocks with the addresses of given networks, of a range or of an exclusion.
 //!
-//! Only a call that is given an allocator allocates.
+//! Nothing here allocates.
 #![tactic(auto)]
 
 mod aggregate;
