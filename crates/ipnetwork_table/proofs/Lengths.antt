@@ -1,6 +1,6 @@
 -- The marks of the prefix lengths in use.
-use Rattle.std.proofs.Common.{◌≡◌, ℕ, ◌<◌, ◌≤◌, Bool, true, false, cond, List, length, get_or, set, Some, None, Result, Ok, Err, sym, refl, ap, subst, ◌∙◌, arith, ⊎_elim}
-use Rattle.std.specs.Prelude.{IsSome, OnOk, OnErr}
+use Rattle.std.proofs.Common.{◌≡◌, ℕ, ◌<◌, ◌≤◌, Bool, true, false, cond, List, length, get_or, set, Some, None, sym, refl, ap, subst, ◌∙◌, arith, ⊎_elim}
+use Rattle.std.specs.Prelude.{IsSome}
 use Rattle.std.specs.Ordering.{eq_by_cmp}
 use Rattle.std.specs.FinMap.{FinMap, get, insert, remove, empty, get-empty, get-insert, get-remove}
 use Rattle.std.proofs.lemmas.Bool.{cases_lt}
@@ -26,10 +26,7 @@ stays marks p q within marked = ⊎_elim
     (cases_lt p q)
 
 module _ {V : Type 0} where
-  pub more_marks : (t : FinMap network_cmp V) (marks : List Bool) (p : ℕ) → p < length marks → MarksLengths t marks → MarksLengths t (set marks p true)
-  more_marks t marks p within marked n stored = stays marks p n.prefix within (marked n stored)
-
-  marked_with : (t : FinMap network_cmp V) (marks : List Bool) (m : Network) (v : V) → m.prefix < length marks → MarksLengths t marks → MarksLengths (insert t m v) (set marks m.prefix true)
+  pub marked_with : (t : FinMap network_cmp V) (marks : List Bool) (m : Network) (v : V) → m.prefix < length marks → MarksLengths t marks → MarksLengths (insert t m v) (set marks m.prefix true)
   marked_with t marks m v within marked n =
       elim (eq_by_cmp network_cmp n m) as (λ b. eq_by_cmp network_cmp n m ≡ b → get (insert t m v) n ≡ cond b (Some v) (get t n) → IsSome (get (insert t m v) n)
       → get_or (set marks m.prefix true) n.prefix false ≡ true) [
@@ -46,10 +43,11 @@ module _ {V : Type 0} where
         | false ↦ λ is stored. marked n (subst IsSome is stored)
       ] (get-remove total t m n)
 
-  -- an insert that succeeded or was refused, after a mark was set
-  pub marked_after : {A E : Type 0} (result : Result A E) (t u : FinMap network_cmp V) (m : Network) (v : V) (marks : List Bool) (p : ℕ) → OnOk result (u ≡ insert t m v) → OnErr result (u ≡ t)
-      → p ≡ m.prefix → p < length marks → MarksLengths t marks → MarksLengths u (set marks p true)
-  marked_after (Ok a) t u m v marks p put unchanged same within marked =
-      subst (λ k. MarksLengths k (set marks p true)) (sym put)
-      (subst (λ q. MarksLengths (insert t m v) (set marks q true)) (sym same) (marked_with t marks m v (omega (arith, same, within)) marked))
-  marked_after (Err e) t u m v marks p put unchanged same within marked = subst (λ k. MarksLengths k (set marks p true)) (sym unchanged) (more_marks t marks p within marked)
+  -- a stored block gets another value
+  pub marked_again : (t : FinMap network_cmp V) (marks : List Bool) (m : Network) (v : V) → IsSome (get t m) → MarksLengths t marks → MarksLengths (insert t m v) marks
+  marked_again t marks m v there marked n =
+      elim (eq_by_cmp network_cmp n m) as (λ b. eq_by_cmp network_cmp n m ≡ b → get (insert t m v) n ≡ cond b (Some v) (get t n) → IsSome (get (insert t m v) n)
+      → get_or marks n.prefix false ≡ true) [
+        | true ↦ λ tied is stored. marked n (subst (λ (k : Network). IsSome (get t k)) (sym (one_network n m (tie_of _ tied))) there)
+        | false ↦ λ apart is stored. marked n (subst IsSome is stored)
+      ] refl (get-insert total t m v n)

@@ -1,8 +1,8 @@
 -- Tables of blocks, and the search for the longest block that holds an address.
-use Rattle.std.proofs.Common.{◌≡◌, ℕ, ◌-◌, ◌*◌, ◌^◌, ◌<◌, ◌≤◌, true, false, cond, Some, None, Result, Ok, Err, sym, refl, ap, subst, ◌∙◌, arith, ⊎_elim}
-use Rattle.std.specs.Prelude.{IsSome, OnOk, OnErr}
+use Rattle.std.proofs.Common.{◌≡◌, ℕ, ◌-◌, ◌*◌, ◌^◌, ◌<◌, ◌≤◌, true, false, cond, Option, Some, None, is_some, sym, refl, ap, subst, ◌∙◌, arith, ⊎_elim}
+use Rattle.std.specs.Prelude.{IsSome}
 use Rattle.std.specs.Ordering.{eq_by_cmp}
-use Rattle.std.specs.FinMap.{FinMap, get, insert, remove, empty, get-empty, get-insert, get-remove}
+use Rattle.std.specs.FinMap.{FinMap, get, insert, remove, empty, get-empty, get-insert, get-remove, same_map}
 use Rattle.std.proofs.lemmas.Bool.{cases_lt}
 use Rattle.ipnetwork_family.specs.Network.{Network, IsNetwork, Member, IsBlock, block_size, block_of, network_cmp}
 use Rattle.ipnetwork_family.proofs.Blocks.{block_same_set}
@@ -18,6 +18,10 @@ IsKey w n = IsNetwork w n × IsBlock w n
 
 nothing : false ≡ true → ⊥
 nothing e = cc
+
+pub no_value : {V : Type 0} (old : Option V) → is_some old ≡ false → old ≡ None
+no_value None none = refl
+no_value (Some v) none = absurd (nothing (sym none))
 
 -- ---- the tables that calls make
 
@@ -39,10 +43,14 @@ module _ {V : Type 0} (w : ℕ) where
         | false ↦ λ is stored. blocks m (subst IsSome is stored)
       ] (get-remove total t n m)
 
-  -- an insert that succeeded or was refused
-  pub after_insert : {A E : Type 0} (result : Result A E) (t u : Table V) (n : Network) (v : V) → OnOk result (u ≡ insert t n v) → OnErr result (u ≡ t) → IsKey w n → HasBlocksAlone w t → HasBlocksAlone w u
-  after_insert (Ok a) t u n v set unchanged key blocks = subst (HasBlocksAlone w) (sym set) (with_block t n v key blocks)
-  after_insert (Err e) t u n v set unchanged key blocks = subst (HasBlocksAlone w) (sym unchanged) blocks
+-- a new block that is taken out again leaves the table as it was
+pub taken_out_again : {V : Type 0} (t : Table V) (n : Network) (v : V) → get t n ≡ None → remove (insert t n v) n ≡ t
+taken_out_again t n v new = same_map total one_network _ _ (λ m.
+    elim (eq_by_cmp network_cmp m n) as (λ b. eq_by_cmp network_cmp m n ≡ b → get (insert t n v) m ≡ cond b (Some v) (get t m)
+    → get (remove (insert t n v) n) m ≡ cond b None (get (insert t n v) m) → get (remove (insert t n v) n) m ≡ get t m) [
+      | true ↦ λ tied put gone. gone ∙ sym new ∙ ap (get t) (sym (one_network m n (tie_of _ tied)))
+      | false ↦ λ apart put gone. gone ∙ put
+    ] refl (get-insert total t n v m) (get-remove total (insert t n v) n m))
 
 -- ---- the search
 

@@ -24,7 +24,7 @@ pub struct PrefixTable<N: CidrNetwork, V: Copy> {
     store: Store<N, V>,
     // `used[p]` is true where some stored block has the prefix length p, and may be true of others.
     used: [bool; 256],
-    // Has each stored block, and may have others.
+    // The blocks of the store, and no others.
     blocks: Blocks<N>,
 }
 
@@ -34,7 +34,7 @@ impl<N: CidrNetwork, V: Copy> Model for PrefixTable<N, V> {
     ghost use Rattle.ipnetwork_family.specs.Network.{network_cmp};
     ghost use Rattle.ipnetwork_table.specs.Table.{network_code, HasBlocksAlone};
     ghost use Rattle.ipnetwork_table.specs.Private.Lengths.{MarksLengths};
-    ghost use Rattle.ipnetwork_table.specs.Private.Nearest.{HasEach};
+    ghost use Rattle.ipnetwork_table.specs.Private.Nearest.{HaveTheSame};
 
     ghost Value = { map.FinMap network_cmp V };
 
@@ -42,7 +42,7 @@ impl<N: CidrNetwork, V: Copy> Model for PrefixTable<N, V> {
 
     ghost view = { λ t. t.store };
 
-    ghost invariant = { λ t. HasBlocksAlone N.WIDTH t.store × MarksLengths t.store t.used × HasEach t.store t.blocks × HasBlocksAlone N.WIDTH t.blocks };
+    ghost invariant = { λ t. HasBlocksAlone N.WIDTH t.store × MarksLengths t.store t.used × HaveTheSame t.store t.blocks };
 }
 
 // The block of a network.
@@ -122,8 +122,8 @@ impl<N: CidrNetwork, V: Copy> PrefixTable<N, V> {
 
     /// Sets the value of the block of `net`, and answers the value that it had.
     ///
-    /// Allocates for a new block alone. Where that is out of memory the answer is an error, and the table is as
-    /// before.
+    /// Allocates only for a new block. If that is out of memory, the result is an error and the table is as it was:
+    /// nothing of the block is kept.
     pub fn insert(&mut self, net: N, value: V) -> Result<Option<V>, AllocError>
         ensures old { IfOk result (λ old. old ≡ map.get self.old (block_of N.WIDTH (N.pair net))) }
         ensures set { OnOk result (self.new ≡ map.insert self.old (block_of N.WIDTH (N.pair net)) value) }
@@ -133,7 +133,8 @@ impl<N: CidrNetwork, V: Copy> PrefixTable<N, V> {
         self.insert_block(key_of(net), value)
     }
 
-    // Marks the prefix length and keeps the block in order first: one too many of either changes no answer.
+    // A new block is kept in order too, and its prefix length is marked. Where there is no memory to keep it in order,
+    // it is taken out again.
     fn insert_block(&mut self, block: N, value: V) -> Result<Option<V>, AllocError>
         requires { IsBlock N.WIDTH (N.pair block) }
         ensures old { IfOk result (λ old. old ≡ map.get self.old (N.pair block)) }
@@ -141,9 +142,16 @@ impl<N: CidrNetwork, V: Copy> PrefixTable<N, V> {
         ensures absent { OnErr result (map.get self.old (N.pair block) ≡ None) }
         ensures unchanged { OnErr result (self.new ≡ self.old) }
     {
+        let old = self.store.insert(block, value)?;
+        if old.is_some() {
+            return Ok(old);
+        }
+        if let Err(refused) = self.blocks.insert(block) {
+            self.store.remove(block);
+            return Err(refused);
+        }
         self.used[block.prefix() as usize] = true;
-        self.blocks.insert(block)?;
-        self.store.insert(block, value)
+        Ok(None)
     }
 
     /// Takes the block of `net` out, and answers the value that it had, or `None`.

@@ -7,6 +7,5 @@ pub invariant_of-self : goal.invariant_of-self
 invariant_of-self g c = rw c.clear.ensures (
   new_table g.N.CidrNetwork.WIDTH g.row.V.Denot,
   λ n stored. absurd (none_stored g.row.V.Denot n stored),
-  λ n stored. absurd (none_stored g.row.V.Denot n stored),
-  rw c.clear-2.ensures (new_table g.N.CidrNetwork.WIDTH ⊤),
+  rw c.clear-2.ensures (λ n. ((λ stored. absurd (none_stored g.row.V.Denot n stored)), (λ stored. absurd (none_stored ⊤ n stored)))),
 )

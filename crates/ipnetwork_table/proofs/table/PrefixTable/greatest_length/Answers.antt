@@ -25,7 +25,7 @@ returns-then-contains-clause-bound g c =
       omega (arith, c.prefix.ensures.made, c.prefix.ensures.network.prefix_fits),
       rw (← c.self.view_is)
           (subst (NoneAbove w c.self.inside.store x) (sym c.prefix.ensures.made)
-          (none_above_near w x near c.self.inside.store c.self.inside.blocks c.self.invariant.0 c.self.invariant.2 c.self.invariant.3
+          (none_above_near w x near c.self.inside.store c.self.inside.blocks c.self.invariant.0 c.self.invariant.2
           (subst (λ length. IsLastUpTo c.self.inside.blocks (around w x length) near) c.WIDTH.ensures
           (subst (λ end. IsLastUpTo c.self.inside.blocks end near) c.in-Some.ensures.cases.1 c.in_ok-near.ensures))
           (c.contains.ensures.0 c.if-contains.true))),

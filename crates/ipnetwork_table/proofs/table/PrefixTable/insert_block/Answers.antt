@@ -1,28 +1,42 @@
-use Rattle.std.proofs.Common.{arith, sym, subst}
-use Rattle.ipnetwork_table.specs.Table.{HasBlocksAlone}
-use Rattle.ipnetwork_table.specs.Private.Nearest.{HasEach}
-use Rattle.ipnetwork_table.proofs.Lengths.{marked_after, more_marks}
-use Rattle.ipnetwork_table.proofs.Longest.{after_insert, with_block}
-use Rattle.ipnetwork_table.proofs.Nearest.{has_each_after}
+use Rattle.std.proofs.Common.{◌≡◌, ◌∙◌, arith, sym, subst, None}
+use Rattle.std.specs.Prelude.{IsSome}
+use Rattle.std.specs.FinMap.{get}
+use Rattle.ipnetwork_table.proofs.Lengths.{marked_again, marked_with}
+use Rattle.ipnetwork_table.proofs.Longest.{no_value, taken_out_again, with_block}
+use Rattle.ipnetwork_table.proofs.Nearest.{same_keys, same_with}
 use Rattle.ipnetwork_table.proofs.table.PrefixTable.insert_block.Goals as goal
 
-pub invariant_of-self : goal.invariant_of-self
-invariant_of-self g c = (
-  c.self.invariant.0,
-  more_marks c.self.inside.store c.self.inside.used c.prefix.result (omega (arith, c.prefix.type_inv, c.self.told)) c.self.invariant.1,
-  subst (λ others. HasEach c.self.inside.store others) (sym c.in_err-insert.ensures.unchanged) c.self.invariant.2,
-  subst (HasBlocksAlone g.N.CidrNetwork.WIDTH) (sym c.in_err-insert.ensures.unchanged) c.self.invariant.3,
-)
+pub invariant_of-self-then-is_some : goal.invariant_of-self-then-is_some
+invariant_of-self-then-is_some g c =
+    let w = g.N.CidrNetwork.WIDTH in
+    let block = g.N.CidrNetwork.pair c.args.block in
+    let there : IsSome (get c.self.inside.store block) = subst IsSome c.in_ok-old.ensures.old (sym c.if-is_some.ensures) in
+    rw c.in_ok-old.ensures.set (
+      with_block w c.self.inside.store block c.args.value (c.self.invariant.0 block there) c.self.invariant.0,
+      marked_again c.self.inside.store c.self.inside.used block c.args.value there c.self.invariant.1,
+      same_keys c.self.inside.store c.self.inside.blocks block c.args.value there c.self.invariant.2,
+    )
+
+-- the block is taken out again
+pub returns-in-Err-clause-unchanged : goal.returns-in-Err-clause-unchanged
+returns-in-Err-clause-unchanged g c =
+    let block = g.N.CidrNetwork.pair c.args.block in
+    let new : get c.self.inside.store block ≡ None = sym c.in_ok-old.ensures.old ∙ no_value _ (sym c.if-is_some.ensures) in
+    rw (c.remove.ensures.removed, c.in_ok-old.ensures.set) (taken_out_again c.self.inside.store block c.args.value new ∙ c.self.view_is)
+
+pub invariant_of-self-in-Err : goal.invariant_of-self-in-Err
+invariant_of-self-in-Err g c =
+    let block = g.N.CidrNetwork.pair c.args.block in
+    let new : get c.self.inside.store block ≡ None = sym c.in_ok-old.ensures.old ∙ no_value _ (sym c.if-is_some.ensures) in
+    rw (c.remove.ensures.removed, c.in_ok-old.ensures.set, taken_out_again c.self.inside.store block c.args.value new, c.in-Err.ensures.unchanged)
+    c.self.invariant
 
 pub invariant_of-self-2 : goal.invariant_of-self-2
 invariant_of-self-2 g c =
-    let block = g.N.CidrNetwork.pair c.args.block in (
-      after_insert g.N.CidrNetwork.WIDTH c.insert-2.result c.self.inside.store c.insert-2.new.self block c.args.value c.insert-2.ensures.set c.insert-2.ensures.unchanged
-          (c.prefix.ensures.network, c.requires) c.self.invariant.0,
-      marked_after c.insert-2.result c.self.inside.store c.insert-2.new.self block c.args.value c.self.inside.used c.prefix.result
-          c.insert-2.ensures.set c.insert-2.ensures.unchanged c.prefix.ensures.made (omega (arith, c.prefix.type_inv, c.self.told)) c.self.invariant.1,
-      has_each_after c.insert-2.result c.self.inside.store c.insert-2.new.self c.self.inside.blocks c.insert.new.self block c.args.value tt
-          c.insert-2.ensures.set c.insert-2.ensures.unchanged c.in_ok-insert.ensures.put c.self.invariant.2,
-      subst (HasBlocksAlone g.N.CidrNetwork.WIDTH) (sym c.in_ok-insert.ensures.put)
-          (with_block g.N.CidrNetwork.WIDTH c.self.inside.blocks block tt (c.prefix.ensures.network, c.requires) c.self.invariant.3),
+    let w = g.N.CidrNetwork.WIDTH in
+    let block = g.N.CidrNetwork.pair c.args.block in
+    rw (c.in_ok-old.ensures.set, c.in_default.ensures.put, c.prefix.ensures.made) (
+      with_block w c.self.inside.store block c.args.value (c.prefix.ensures.network, c.requires) c.self.invariant.0,
+      marked_with c.self.inside.store c.self.inside.used block c.args.value (omega (arith, c.prefix.ensures.made, c.prefix.type_inv, c.self.told)) c.self.invariant.1,
+      same_with c.self.inside.store c.self.inside.blocks block c.args.value tt c.self.invariant.2,
     )

@@ -7,6 +7,5 @@ pub invariant_of-result : goal.invariant_of-result
 invariant_of-result g c = rw c.new.ensures (
   new_table g.N.CidrNetwork.WIDTH g.row.V.Denot,
   λ n stored. absurd (none_stored g.row.V.Denot n stored),
-  λ n stored. absurd (none_stored g.row.V.Denot n stored),
-  rw c.new-2.ensures (new_table g.N.CidrNetwork.WIDTH ⊤),
+  rw c.new-2.ensures (λ n. ((λ stored. absurd (none_stored g.row.V.Denot n stored)), (λ stored. absurd (none_stored ⊤ n stored)))),
 )

@@ -1,12 +1,11 @@
 use Rattle.ipnetwork_table.proofs.Lengths.{marked_without}
 use Rattle.ipnetwork_table.proofs.Longest.{without}
-use Rattle.ipnetwork_table.proofs.Nearest.{has_less}
+use Rattle.ipnetwork_table.proofs.Nearest.{same_without}
 use Rattle.ipnetwork_table.proofs.table.PrefixTable.remove_block.Goals as goal
 
 pub invariant_of-self : goal.invariant_of-self
 invariant_of-self g c = rw c.remove.ensures (rw c.remove-2.ensures.removed (
   without g.N.CidrNetwork.WIDTH c.self.inside.store (g.N.CidrNetwork.pair c.args.block) c.self.invariant.0,
   marked_without c.self.inside.store c.self.inside.used (g.N.CidrNetwork.pair c.args.block) c.self.invariant.1,
-  has_less c.self.inside.store c.self.inside.blocks (g.N.CidrNetwork.pair c.args.block) c.self.invariant.2,
-  without g.N.CidrNetwork.WIDTH c.self.inside.blocks (g.N.CidrNetwork.pair c.args.block) c.self.invariant.3,
+  same_without c.self.inside.store c.self.inside.blocks (g.N.CidrNetwork.pair c.args.block) c.self.invariant.2,
 ))
