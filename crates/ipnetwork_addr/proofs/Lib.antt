@@ -24,3 +24,4 @@ pub mod Printed
 pub mod Shifts
 mod WideDecimals
 pub mod ZeroRuns
+mod ZeroScan

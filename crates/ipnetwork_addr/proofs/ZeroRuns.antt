@@ -1,5 +1,5 @@
 -- The leftmost of the longest runs of zero groups is found.
-use Rattle.std.proofs.Common.{◌≡◌, ◌≢◌, ℕ, zero, suc, ◌+◌, ◌-◌, ◌<◌, ◌≤◌, ◌==◌, List, [], ◌∷◌, length, get_or, take, drop, replicate, drop-cons, length-drop, get_or-drop, cond, ne_eqb, refl, sym, ap, ap₂, ◌∙◌, subst, arith, inl, inr}
+use Rattle.std.proofs.Common.{◌≡◌, ℕ, zero, suc, ◌+◌, ◌-◌, ◌<◌, ◌≤◌, ◌==◌, List, [], ◌∷◌, length, get_or, take, drop, replicate, length-drop, get_or-drop, refl, sym, ap, ap₂, ◌∙◌, arith, inl, inr}
 use Rattle.std.specs.Prelude.{nat_le}
 use Rattle.std.proofs.lemmas.Bool.{cond_both, leb-true, leb-false, eqb-true, cases_eq, cases_lt}
 use Rattle.ipnetwork_addr.specs.Ipv6Canonical.{IsZeroRun, IsGap, zeros_in_front, gap_among}
@@ -134,11 +134,6 @@ module _ (groups : List ℕ) (eight : length groups ≡ 8) where
   pub no_gap : (gap_among groups 8).1 < 2 → (i n : ℕ) → ¬ (IsGap groups i n)
   no_gap few i n gap = omega (arith, none_longer_than i n gap.zeros, gap.several, few)
 
--- the same of the printer's answer
-pub gap_ends : (groups : List ℕ) (start : ℕ) (longest : ℕ × ℕ) → length groups ≡ 8 → start ≡ 8 → longest ≡ gap_among groups start → longest.0 + longest.1 ≤ 8
-gap_ends groups start longest eight end e =
-    subst (λ (run : ℕ × ℕ). run.0 + run.1 ≤ 8) (sym (e ∙ ap (gap_among groups) end)) (gap_within groups eight)
-
 -- ---- the groups of a run
 
 all_zeros : (n : ℕ) (groups : List ℕ) → n ≤ length groups → ((place : ℕ) → place < n → get_or groups place 0 ≡ 0) → take n groups ≡ replicate n 0
@@ -151,22 +146,3 @@ pub run_is_zeros : (groups : List ℕ) (i n : ℕ) → IsZeroRun groups i n → 
 run_is_zeros groups i n run =
     all_zeros n (drop i groups) (omega (arith, run.there, length-drop i groups))
     (λ place below. get_or-drop i groups place 0 ∙ run.zero_groups (i + place) (omega arith) (omega (arith, below)))
-
--- ---- the printer's count of zeros
-
-module _ (groups : List ℕ) (count : ℕ) (counted : zeros_in_front groups ≡ count + zeros_in_front (drop count groups)) where
-  pub zeros_more : (next : ℕ) → next ≡ count + 1 → count < length groups → get_or groups count 0 ≡ 0 → zeros_in_front groups ≡ next + zeros_in_front (drop next groups)
-  zeros_more next is_next within is_zero =
-      let step : suc count ≡ next = omega (arith, is_next) in
-      let here : drop count groups ≡ 0 ∷ drop next groups = drop-cons groups count 0 within ∙ ap₂ (λ x n. x ∷ drop n groups) is_zero step in
-      let later : zeros_in_front (drop count groups) ≡ suc (zeros_in_front (drop next groups)) = ap zeros_in_front here in
-      omega (arith, counted, later, is_next)
-
-  pub zeros_stop : count < length groups → get_or groups count 0 ≢ 0 → count ≡ zeros_in_front groups
-  zeros_stop within other =
-      let here : drop count groups ≡ get_or groups count 0 ∷ drop (suc count) groups = drop-cons groups count 0 within in
-      let none : zeros_in_front (drop count groups) ≡ 0 = ap zeros_in_front here ∙ ap (λ b. cond b (suc (zeros_in_front (drop (suc count) groups))) 0) (ne_eqb (get_or groups count 0) 0 other) in
-      omega (arith, counted, none)
-
-  pub zeros_end : count ≡ length groups → count ≡ zeros_in_front groups
-  zeros_end e = omega (arith, counted, e, zeros_fit (drop count groups), length-drop count groups)

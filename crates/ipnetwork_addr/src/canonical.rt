@@ -1,7 +1,8 @@
 //! The canonical text of an IPv6 address.
 ghost use Rattle.std.specs.Prelude.{◌≡◌, ◌↔◌, ℕ, suc, zero, ◌+◌, ◌/◌, ◌%◌, ◌^◌, ◌<◌, ◌≤◌, nat_le, if◌then◌else◌, length, IsTrue};
 ghost use Rattle.ipnetwork_addr.specs.Digits.{segments_of};
-ghost use Rattle.ipnetwork_addr.specs.Ipv6Canonical.{IsMapped, IsCanonicalV6, zeros_in_front, longer_run, gap_among};
+ghost use Rattle.ipnetwork_addr.specs.Ipv6Canonical.{IsMapped, IsCanonicalV6};
+ghost use Rattle.ipnetwork_addr.specs.Private.LongestRun.{IsLongestRun};
 
 use crate::hexadecimal::push_groups;
 use crate::{Ipv4Addr, TEXT_CAPACITY};
@@ -25,7 +26,7 @@ pub(crate) fn canonical_text(number: u128, groups: &[u16; 8]) -> ArrayString<TEX
         text.push_str(last.as_str());
         return text;
     }
-    let (start, len) = longest_gap(groups);
+    let (start, len) = longest_run(groups);
     if len >= SHORTEST_GAP {
         push_groups(&mut text, &groups[..start]);
         text.push_str("::");
@@ -43,35 +44,20 @@ fn is_mapped(number: u128) -> bool
     number / 0x1_0000_0000 == MAPPED_PREFIX
 }
 
-/// The longest of the runs of zero groups that begin at each group: its first group and its length.
-/// Of two runs as long, the one on the left.
-fn longest_gap(groups: &[u16; 8]) -> (usize, usize)
-    ensures value { result ≡ gap_among groups.now 8 }
+/// The longest run of zero groups: its first group and its length, 0 if no group is zero. Of two runs of one length,
+/// the one on the left.
+fn longest_run(groups: &[u16; 8]) -> (usize, usize)
+    ensures run { IsLongestRun groups.now result.0 result.1 }
     ensures within { result.0 + result.1 ≤ 8 }
 {
     let mut longest = (0, 0);
-    for start in 0..8 {
-        longest = longer_run(longest, (start, zeros_in_front(&groups[start..])));
-    }
-    longest
-}
-
-/// The longer of two runs, and of two as long the one on the left.
-fn longer_run(left: (usize, usize), right: (usize, usize)) -> (usize, usize)
-    ensures { result ≡ longer_run left right }
-{
-    if right.1 <= left.1 { left } else { right }
-}
-
-/// How many zero groups there are before the first other group, or before the end.
-fn zeros_in_front(groups: &[u16]) -> usize
-    ensures value { result ≡ zeros_in_front groups.now }
-    ensures within { result ≤ length groups.now }
-{
-    for count in 0..groups.len() {
-        if groups[count] != 0 {
-            return count;
+    let mut start = 0;
+    for place in 0..8 {
+        if groups[place] != 0 {
+            start = place + 1;
+        } else if longest.1 < place + 1 - start {
+            longest = (start, place + 1 - start);
         }
     }
-    groups.len()
+    longest
 }
