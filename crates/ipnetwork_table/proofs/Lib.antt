@@ -1,3 +1,4 @@
+mod Keys
 mod Lengths
 pub mod Listing
 mod Longest

@@ -5,7 +5,7 @@ use Rattle.std.specs.Option.{unwrap_or}
 use Rattle.std.specs.FinMap.{FinMap, get}
 use Rattle.std.proofs.lemmas.Bool.{cases_lt}
 use Rattle.ipnetwork_family.specs.Network.{Network, IsBlock, Member, network_cmp}
-use Rattle.ipnetwork_table.specs.Table.{HasBlocksAlone, IsLongest}
+use Rattle.ipnetwork_table.specs.Table.{HasBlocksAlone, HasNoHostBits, IsLongest}
 use Rattle.ipnetwork_table.specs.Laws.{Answers}
 use Rattle.ipnetwork_table.specs.Private.Nearest.{NoneAbove}
 use Rattle.ipnetwork_table.proofs.Longest.{around, around_is, none_above_width, none_above_next, none_at_all, longest_here}
@@ -41,6 +41,7 @@ module _ {V : Type 0} (w : ℕ) (t : FinMap network_cmp V) (x : ℕ) (blocks : H
       (λ (beyond : 2 ^ w ≤ x). (None, λ n stored holds. omega (arith, beyond, holds.0)))
       (cases_lt x (2 ^ w))
 
+module _ {V : Type 0} (w : ℕ) (t : FinMap network_cmp V) (x : ℕ) (blocks : HasNoHostBits w t) where
   is_stored : (n : Network) (v : V) → IsLongest w t x n v → IsSome (get t n)
   is_stored n v longest = ap is_some longest.stored
 
@@ -52,6 +53,6 @@ module _ {V : Type 0} (w : ℕ) (t : FinMap network_cmp V) (x : ℕ) (blocks : H
       let shorter : d.0.prefix ≤ e.0.prefix = there.longest d.0 (is_stored d.0 d.1 here) here.holds in
       let longer : e.0.prefix ≤ d.0.prefix = here.longest e.0 (is_stored e.0 e.1 there) there.holds in
       let same : d.0 ≡ e.0 =
-      blocks_meet w d.0 e.0 x (blocks d.0 (is_stored d.0 d.1 here)).1 (blocks e.0 (is_stored e.0 e.1 there)).1 (omega (arith, shorter, longer)) here.holds there.holds in
+      blocks_meet w d.0 e.0 x (blocks d.0 (is_stored d.0 d.1 here)) (blocks e.0 (is_stored e.0 e.1 there)) (omega (arith, shorter, longer)) here.holds there.holds in
       let value : d.1 ≡ e.1 = same_value d.1 e.1 (sym here.stored ∙ ap (get t) same ∙ there.stored) in
       λ i. Some (same i, value i)

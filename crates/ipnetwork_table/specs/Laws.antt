@@ -1,8 +1,8 @@
 -- The laws of tables, for addresses of any number of bits and values of any type.
 use Rattle.std.specs.Prelude.{◌≡◌, ℕ, ◌<◌, Option, Some, MatchOption, slice_get}
-use Rattle.std.specs.FinMap.{FinMap, get, entries}
-use Rattle.ipnetwork_family.specs.Network.{Network, IsBlock, Member, Subnet, IsBefore, network_cmp}
-use Rattle.ipnetwork_table.specs.Table.{HasBlocksAlone, IsLongest, NoneHolds}
+use Rattle.std.specs.FinMap.{FinMap, empty, get, insert, remove, entries}
+use Rattle.ipnetwork_family.specs.Network.{Network, IsBlock, Member, Subnet, IsBefore, block_of, network_cmp}
+use Rattle.ipnetwork_table.specs.Table.{HasBlocksAlone, HasNoHostBits, IsLongest, NoneHolds}
 
 -- two blocks of one prefix length that share an address are the same, whatever the number of bits
 abbrev pub BlocksOfAnyWidthThatMeet : Type 0
@@ -19,7 +19,19 @@ module _ (V : Type 0) where
 
   -- and one alone
   abbrev pub AnswerIsOne : Type 0
-  AnswerIsOne = (w : ℕ) (t : FinMap network_cmp V) (x : ℕ) (a b : Option (Network × V)) → HasBlocksAlone w t → Answers w t x a → Answers w t x b → a ≡ b
+  AnswerIsOne = (w : ℕ) (t : FinMap network_cmp V) (x : ℕ) (a b : Option (Network × V)) → HasNoHostBits w t → Answers w t x a → Answers w t x b → a ≡ b
+
+  -- no key of the empty table has host bits,
+  abbrev pub EmptyHasNoHostBits : Type 0
+  EmptyHasNoHostBits = (w : ℕ) → HasNoHostBits w (empty {X = V} {R = network_cmp})
+
+  -- and where none has, none has after the block of a network is inserted,
+  abbrev pub InsertAddsNoHostBits : Type 0
+  InsertAddsNoHostBits = (w : ℕ) (t : FinMap network_cmp V) (n : Network) (v : V) → HasNoHostBits w t → HasNoHostBits w (insert t (block_of w n) v)
+
+  -- nor after a network is removed
+  abbrev pub RemoveAddsNoHostBits : Type 0
+  RemoveAddsNoHostBits = (w : ℕ) (t : FinMap network_cmp V) (n : Network) → HasNoHostBits w t → HasNoHostBits w (remove t n)
 
   -- an entry is a block that is stored with the value,
   abbrev pub ListedIsStored : Type 0

@@ -17,6 +17,10 @@ by_pair pair entries = map (λ e. (pair e.0, e.1)) entries
 abbrev pub HasBlocksAlone : {V : Type 0} → ℕ → FinMap network_cmp V → Type 0
 HasBlocksAlone w t = (n : Network) → IsSome (get t n) → IsNetwork w n × IsBlock w n
 
+-- no key has host bits
+abbrev pub HasNoHostBits : {V : Type 0} → ℕ → FinMap network_cmp V → Type 0
+HasNoHostBits w t = (n : Network) → IsSome (get t n) → IsBlock w n
+
 -- the block n is stored with the value v and holds x, and no stored block that holds x has a greater prefix length
 pub record IsLongest {V : Type 0} (w : ℕ) (t : FinMap network_cmp V) (x : ℕ) (n : Network) (v : V) : Type 0 where
   pub stored : get t n ≡ Some v

@@ -1,6 +1,8 @@
 //! The laws of tables. Each function's contract is a law; it does nothing, and a proof whose function calls it
 //! may use the law.
-ghost use Rattle.ipnetwork_table.specs.Laws.{BlocksOfAnyWidthThatMeet, AnswerExists, AnswerIsOne, ListedIsStored, StoredIsListed, EntriesAscend, WiderBlocksFirst};
+ghost use Rattle.ipnetwork_table.specs.Laws.{BlocksOfAnyWidthThatMeet, AnswerExists, AnswerIsOne, EmptyHasNoHostBits, InsertAddsNoHostBits, RemoveAddsNoHostBits, ListedIsStored, StoredIsListed, EntriesAscend, WiderBlocksFirst};
+
+use ipnetwork_family::laws;
 
 /// Two blocks of one prefix length that share an address are the same, for addresses of any number of bits. So no
 /// table has two blocks of one prefix length that hold one address.
@@ -14,6 +16,16 @@ pub fn one_answer<V: Copy>()
     ensures exists { AnswerExists V }
     ensures one { AnswerIsOne V }
 {}
+
+/// No key of a table has host bits: none of the empty table has, and none gets any where the block of a network is
+/// inserted or a network is removed.
+pub fn keys_without_host_bits<V: Copy>()
+    ensures empty { EmptyHasNoHostBits V }
+    ensures insert { InsertAddsNoHostBits V }
+    ensures remove { RemoveAddsNoHostBits V }
+{
+    laws::blocks();
+}
 
 /// The entries of a table are its blocks with their values, in the order of networks, and no block lies in
 /// one that stands after it.

@@ -4,7 +4,8 @@ ghost use Rattle.ipnetwork_table.specs.Private.Nearest.{ShareAtMost};
 
 use ipnetwork_family::CidrNetwork;
 
-/// The number of bits that two addresses have in common in front, found by halves.
+/// How many bits two addresses have in common in front, found by halves. The contract says only that they have no more
+/// in common: a greater number would cost look-ups and change no result.
 pub(crate) fn shared_length<N: CidrNetwork>(addr: N::Addr, other: N::Addr) -> u8
     ensures within { result ≤ N.WIDTH }
     ensures shared { ShareAtMost N.WIDTH (N.number addr) (N.number other) result }
