@@ -38,12 +38,12 @@ pub use ipnetwork_family::laws::{
     ip_network_error_equality, json_fault_equality, listing, longest_network_text, masks,
     membership_is_computed, nested_networks, nesting, network_size_error_clone,
     network_size_error_equality, networks_are_pairs, order, ordered_blocks, overlaps_by_four_tests,
-    overlaps_is_four_tests, subnet_is_computed, subnets, v4_network_clone, v4_network_equality,
-    v4_network_hash, v4_network_order, v4_network_reading_is_computed, v4_network_stands_in_quotes,
-    v4_network_text_names_one, v4_network_through_json, v4_network_value_reads_back,
-    v6_network_clone, v6_network_equality, v6_network_hash, v6_network_order,
-    v6_network_reading_is_computed, v6_network_stands_in_quotes, v6_network_text_names_one,
-    v6_network_through_json, v6_network_value_reads_back,
+    overlaps_is_four_tests, prefix_number_is_computed, subnet_is_computed, subnets,
+    v4_network_clone, v4_network_equality, v4_network_hash, v4_network_order,
+    v4_network_reading_is_computed, v4_network_stands_in_quotes, v4_network_text_names_one,
+    v4_network_through_json, v4_network_value_reads_back, v6_network_clone, v6_network_equality,
+    v6_network_hash, v6_network_order, v6_network_reading_is_computed, v6_network_stands_in_quotes,
+    v6_network_text_names_one, v6_network_through_json, v6_network_value_reads_back,
 };
 use serde_json::{Error, Value};
 use std::alloc::{AllocError, Global};
