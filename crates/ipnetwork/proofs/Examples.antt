@@ -108,9 +108,9 @@ pub mask_of_48 : ip_mask_of (V6 (record { address = 1; prefix = 48 })) ≡ addre
 mask_of_48 = refl
 
 pub members_ascend :
-  ip_members (V6 four)
-      ≡ addresses.V6 42540766411282592856903984951653826560 ∷ addresses.V6 42540766411282592856903984951653826561
-      ∷ addresses.V6 42540766411282592856903984951653826562 ∷ addresses.V6 42540766411282592856903984951653826563 ∷ []
+    ip_members (V6 four)
+    ≡ addresses.V6 42540766411282592856903984951653826560 ∷ addresses.V6 42540766411282592856903984951653826561
+    ∷ addresses.V6 42540766411282592856903984951653826562 ∷ addresses.V6 42540766411282592856903984951653826563 ∷ []
 unfolding count_up
 members_ascend = refl
 
@@ -174,8 +174,8 @@ unfolding le_bytes
 v4_is_fed = refl
 
 pub v6_is_fed :
-  ip_network_writes (V6 (record { address = 258; prefix = 64 }))
-      ≡ (1 ∷ 0 ∷ 0 ∷ 0 ∷ 0 ∷ 0 ∷ 0 ∷ 0 ∷ []) ∷ (2 ∷ 1 ∷ 0 ∷ 0 ∷ 0 ∷ 0 ∷ 0 ∷ 0 ∷ 0 ∷ 0 ∷ 0 ∷ 0 ∷ 0 ∷ 0 ∷ 0 ∷ 0 ∷ []) ∷ (64 ∷ []) ∷ []
+    ip_network_writes (V6 (record { address = 258; prefix = 64 }))
+    ≡ (1 ∷ 0 ∷ 0 ∷ 0 ∷ 0 ∷ 0 ∷ 0 ∷ 0 ∷ []) ∷ (2 ∷ 1 ∷ 0 ∷ 0 ∷ 0 ∷ 0 ∷ 0 ∷ 0 ∷ 0 ∷ 0 ∷ 0 ∷ 0 ∷ 0 ∷ 0 ∷ 0 ∷ 0 ∷ []) ∷ (64 ∷ []) ∷ []
 unfolding le_bytes
 v6_is_fed = refl
 

@@ -26,41 +26,110 @@ ghost use Rattle.ipnetwork_family.specs.Parsing.{ParsesAsItReads};
 ghost use Rattle.ipnetwork_family.specs.Network.{Network, IsNetwork};
 ghost use Rattle.ipnetwork.specs.declared.ip_network.IpNetwork.TheVariants as networks;
 
-use crate::{
-    IpAddr, IpNetwork, IpNetworkError, JsonFault, NetworkSize, WrongFamily, ip_mask_to_prefix,
-};
+use crate::IpAddr;
+use crate::IpNetwork;
+use crate::IpNetworkError;
+use crate::JsonFault;
+use crate::NetworkSize;
+use crate::WrongFamily;
+use crate::ip_mask_to_prefix;
 use ipnetwork_addr::laws as addresses;
-pub use ipnetwork_addr::laws::{
-    addr_parse_error_clone, addr_parse_error_equality, canonical_ip_is_one_to_one,
-    canonical_ip_names_its_address, canonical_v4_is_one_to_one, canonical_v4_names_its_address,
-    canonical_v6_is_one_text, canonical_v6_is_one_to_one, canonical_v6_names_its_address, ip_clone,
-    ip_equality, ip_hash, ip_order, ip_reading_is_computed, ip_text_names_one, no_text_names_both,
-    octet_texts, v4_clone, v4_equality, v4_hash, v4_order, v4_reading_is_computed, v4_text_bytes,
-    v4_text_has_a_dot_first, v4_text_is_computed, v4_text_names_one, v6_clone, v6_equality,
-    v6_hash, v6_order, v6_reading_is_computed, v6_text_bytes, v6_text_has_a_colon_first,
-    v6_text_is_computed, v6_text_names_one,
-};
+pub use ipnetwork_addr::laws::addr_parse_error_clone;
+pub use ipnetwork_addr::laws::addr_parse_error_equality;
+pub use ipnetwork_addr::laws::canonical_ip_is_one_to_one;
+pub use ipnetwork_addr::laws::canonical_ip_names_its_address;
+pub use ipnetwork_addr::laws::canonical_v4_is_one_to_one;
+pub use ipnetwork_addr::laws::canonical_v4_names_its_address;
+pub use ipnetwork_addr::laws::canonical_v6_is_one_text;
+pub use ipnetwork_addr::laws::canonical_v6_is_one_to_one;
+pub use ipnetwork_addr::laws::canonical_v6_names_its_address;
+pub use ipnetwork_addr::laws::ip_clone;
+pub use ipnetwork_addr::laws::ip_equality;
+pub use ipnetwork_addr::laws::ip_hash;
+pub use ipnetwork_addr::laws::ip_order;
+pub use ipnetwork_addr::laws::ip_reading_is_computed;
+pub use ipnetwork_addr::laws::ip_text_names_one;
+pub use ipnetwork_addr::laws::no_text_names_both;
+pub use ipnetwork_addr::laws::octet_texts;
+pub use ipnetwork_addr::laws::v4_clone;
+pub use ipnetwork_addr::laws::v4_equality;
+pub use ipnetwork_addr::laws::v4_hash;
+pub use ipnetwork_addr::laws::v4_order;
+pub use ipnetwork_addr::laws::v4_reading_is_computed;
+pub use ipnetwork_addr::laws::v4_text_bytes;
+pub use ipnetwork_addr::laws::v4_text_has_a_dot_first;
+pub use ipnetwork_addr::laws::v4_text_is_computed;
+pub use ipnetwork_addr::laws::v4_text_names_one;
+pub use ipnetwork_addr::laws::v6_clone;
+pub use ipnetwork_addr::laws::v6_equality;
+pub use ipnetwork_addr::laws::v6_hash;
+pub use ipnetwork_addr::laws::v6_order;
+pub use ipnetwork_addr::laws::v6_reading_is_computed;
+pub use ipnetwork_addr::laws::v6_text_bytes;
+pub use ipnetwork_addr::laws::v6_text_has_a_colon_first;
+pub use ipnetwork_addr::laws::v6_text_is_computed;
+pub use ipnetwork_addr::laws::v6_text_names_one;
 use ipnetwork_family::laws as families;
-pub use ipnetwork_family::laws::{
-    blocks, blocks_that_meet, canonical_v4_network_bytes, canonical_v4_network_is_one_to_one,
-    canonical_v4_network_names_it, canonical_v4_network_reads_back, canonical_v6_network_bytes,
-    canonical_v6_network_is_one_to_one, canonical_v6_network_names_it,
-    canonical_v6_network_reads_back, cidr_fault_clone, cidr_fault_equality, ends,
-    ip_network_error_equality, json_fault_equality, listing, longest_network_text, mask_conversion,
-    masks, membership_is_computed, nested_networks, nesting, network_size_error_clone,
-    network_size_error_equality, networks_are_pairs, order, ordered_blocks, overlaps_by_four_tests,
-    overlaps_is_four_tests, parsing_is_reading, same_errors_say_the_same, subnet_is_computed,
-    subnets, v4_mask_converts_back, v4_network_clone, v4_network_equality,
-    v4_network_hash, v4_network_order, v4_network_reading_is_computed, v4_network_stands_in_quotes,
-    v4_network_text_names_one, v4_network_through_json, v4_network_value_reads_back,
-    v6_mask_converts_back, v6_network_clone, v6_network_equality, v6_network_hash, v6_network_order,
-    v6_network_reading_is_computed, v6_network_stands_in_quotes, v6_network_text_names_one,
-    v6_network_through_json, v6_network_value_reads_back,
-};
-use serde_json::{Error, Value};
-use std::alloc::{AllocError, Global};
+pub use ipnetwork_family::laws::blocks;
+pub use ipnetwork_family::laws::blocks_that_meet;
+pub use ipnetwork_family::laws::canonical_v4_network_bytes;
+pub use ipnetwork_family::laws::canonical_v4_network_is_one_to_one;
+pub use ipnetwork_family::laws::canonical_v4_network_names_it;
+pub use ipnetwork_family::laws::canonical_v4_network_reads_back;
+pub use ipnetwork_family::laws::canonical_v6_network_bytes;
+pub use ipnetwork_family::laws::canonical_v6_network_is_one_to_one;
+pub use ipnetwork_family::laws::canonical_v6_network_names_it;
+pub use ipnetwork_family::laws::canonical_v6_network_reads_back;
+pub use ipnetwork_family::laws::cidr_fault_clone;
+pub use ipnetwork_family::laws::cidr_fault_equality;
+pub use ipnetwork_family::laws::ends;
+pub use ipnetwork_family::laws::ip_network_error_equality;
+pub use ipnetwork_family::laws::json_fault_equality;
+pub use ipnetwork_family::laws::listing;
+pub use ipnetwork_family::laws::longest_network_text;
+pub use ipnetwork_family::laws::mask_conversion;
+pub use ipnetwork_family::laws::masks;
+pub use ipnetwork_family::laws::membership_is_computed;
+pub use ipnetwork_family::laws::nested_networks;
+pub use ipnetwork_family::laws::nesting;
+pub use ipnetwork_family::laws::network_size_error_clone;
+pub use ipnetwork_family::laws::network_size_error_equality;
+pub use ipnetwork_family::laws::networks_are_pairs;
+pub use ipnetwork_family::laws::order;
+pub use ipnetwork_family::laws::ordered_blocks;
+pub use ipnetwork_family::laws::overlaps_by_four_tests;
+pub use ipnetwork_family::laws::overlaps_is_four_tests;
+pub use ipnetwork_family::laws::parsing_is_reading;
+pub use ipnetwork_family::laws::same_errors_say_the_same;
+pub use ipnetwork_family::laws::subnet_is_computed;
+pub use ipnetwork_family::laws::subnets;
+pub use ipnetwork_family::laws::v4_mask_converts_back;
+pub use ipnetwork_family::laws::v4_network_clone;
+pub use ipnetwork_family::laws::v4_network_equality;
+pub use ipnetwork_family::laws::v4_network_hash;
+pub use ipnetwork_family::laws::v4_network_order;
+pub use ipnetwork_family::laws::v4_network_reading_is_computed;
+pub use ipnetwork_family::laws::v4_network_stands_in_quotes;
+pub use ipnetwork_family::laws::v4_network_text_names_one;
+pub use ipnetwork_family::laws::v4_network_through_json;
+pub use ipnetwork_family::laws::v4_network_value_reads_back;
+pub use ipnetwork_family::laws::v6_mask_converts_back;
+pub use ipnetwork_family::laws::v6_network_clone;
+pub use ipnetwork_family::laws::v6_network_equality;
+pub use ipnetwork_family::laws::v6_network_hash;
+pub use ipnetwork_family::laws::v6_network_order;
+pub use ipnetwork_family::laws::v6_network_reading_is_computed;
+pub use ipnetwork_family::laws::v6_network_stands_in_quotes;
+pub use ipnetwork_family::laws::v6_network_text_names_one;
+pub use ipnetwork_family::laws::v6_network_through_json;
+pub use ipnetwork_family::laws::v6_network_value_reads_back;
+use serde_json::Error;
+use serde_json::Value;
+use std::alloc::AllocError;
+use std::alloc::Global;
 use std::cmp::Ordering;
-use std::hash::{Hash, Hasher};
+use std::hash::Hash;
+use std::hash::Hasher;
 
 /// A text names at most one network, across both families.
 pub fn ip_network_text_names_one()

@@ -2,9 +2,7 @@
 ghost use Rattle.std.specs.Prelude.{◌≡◌, Ok};
 ghost use Rattle.ipnetwork_family.specs.Laws.{MaskIsComputed, MaskIsConverted};
 
-use crate::{
-    IpNetworkError, Ipv4Network, Ipv6Network, ipv4_mask_to_prefix, ipv6_mask_to_prefix,
-};
+use crate::{IpNetworkError, Ipv4Network, Ipv6Network, ipv4_mask_to_prefix, ipv6_mask_to_prefix};
 
 /// The conversion of the mask of a prefix length gives that prefix length, for addresses of any number of bits.
 pub fn mask_conversion()
