@@ -1,17 +1,20 @@
 -- Values at which a misreading of the definitions would show. What these say is computed.
-use Rattle.std.proofs.Common.{◌≡◌, Ok, Err, inl, refl, arith}
+use Rattle.std.proofs.Common.{◌≡◌, [], ◌∷◌, Ok, Err, inl, inr, refl, arith}
 use Rattle.std.specs.Prelude.{codes}
 use Rattle.std.specs.Fmt.{digits}
-use Rattle.std.specs.declared.cmp.Ordering.TheVariants.{Less}
+use Rattle.std.specs.Hash.{le_bytes}
+use Rattle.std.specs.declared.cmp.Ordering.TheVariants.{Less, Greater}
 use Rattle.ipnetwork_addr.specs.declared.ip.IpAddr.TheVariants as addresses
 use Rattle.ipnetwork_addr.specs.Ipv6Computed.{v6_of, gap_below}
+use Rattle.ipnetwork_family.specs.Network.{Network, count_up}
 use Rattle.ipnetwork_family.specs.declared.error.CidrFault.TheVariants.{Addr}
+use Rattle.ipnetwork_family.specs.declared.error.IpNetworkError.TheVariants as errors
 use Rattle.ipnetwork_family.specs.declared.error.NetworkSizeError.TheVariants.{NetworkIsTooLarge}
 use Rattle.ipnetwork.specs.declared.ip_network.IpNetwork.{IpNetwork}
 use Rattle.ipnetwork.specs.declared.ip_network.IpNetwork.TheVariants.{V4, V6}
 use Rattle.ipnetwork.specs.declared.size.NetworkSize.TheVariants as sizes
-use Rattle.ipnetwork.specs.IpNetworks.{IpMember, IpSubnet, IpOverlap, ip_size, made_of, width_of, IsIpMask, IsIpBefore, IsIpAtMost, ip_network_cmp}
-use Rattle.ipnetwork.specs.IpNetworkText.{ip_network_of}
+use Rattle.ipnetwork.specs.IpNetworks.{IpMember, IpSubnet, IpOverlap, address_of, prefix_of, ip_mask_of, ip_low, ip_high, ip_size, ip_members, made_of, width_of, Makes, IsIpMask, GivesMaskPrefix, MakesWithMask, TakesV4, TakesV6, IsIpBefore, IsIpAtMost, ip_network_cmp, ip_network_writes}
+use Rattle.ipnetwork.specs.IpNetworkText.{ip_network_of, ip_network_text}
 use Rattle.ipnetwork.specs.Sizes.{size_number, FitsV4}
 
 -- 0.0.0.0/0, ::/0, and ::ffff:0:0/96, the block of the IPv4-mapped addresses
@@ -85,3 +88,101 @@ prefix_past_the_width = refl
 pub two_slashes : ip_network_of (codes "::1/24/") ≡ Err Addr
 unfolding digits v6_of gap_below
 two_slashes = refl
+
+-- ---- 2001:db8::3/126, a network with host bits, whose set begins at 2001:db8::
+
+abbrev pub four : Network
+four = record { address = 42540766411282592856903984951653826563; prefix = 126 }
+
+pub host_bits_are_in_the_address : (address_of (V6 four) ≡ addresses.V6 42540766411282592856903984951653826563) × (prefix_of (V6 four) ≡ 126)
+host_bits_are_in_the_address = (refl, refl)
+
+pub and_not_in_the_least_member : ip_low (V6 four) ≡ addresses.V6 42540766411282592856903984951653826560
+and_not_in_the_least_member = refl
+
+pub greatest_member : ip_high (V6 (record { address = 42540766411282592856903984951653826561; prefix = 126 })) ≡ addresses.V6 42540766411282592856903984951653826563
+greatest_member = refl
+
+-- ffff:ffff:ffff::, the mask of 48
+pub mask_of_48 : ip_mask_of (V6 (record { address = 1; prefix = 48 })) ≡ addresses.V6 340282366920937254537554992802593505280
+mask_of_48 = refl
+
+pub members_ascend :
+    ip_members (V6 four)
+    ≡ addresses.V6 42540766411282592856903984951653826560 ∷ addresses.V6 42540766411282592856903984951653826561
+    ∷ addresses.V6 42540766411282592856903984951653826562 ∷ addresses.V6 42540766411282592856903984951653826563 ∷ []
+unfolding count_up
+members_ascend = refl
+
+pub v4_members_ascend : ip_members (V4 (record { address = 7; prefix = 31 })) ≡ addresses.V4 6 ∷ addresses.V4 7 ∷ []
+unfolding count_up
+v4_members_ascend = refl
+
+pub v6_is_printed : ip_network_text (V6 (record { address = 1; prefix = 64 })) ≡ codes "::1/64"
+unfolding digits
+v6_is_printed = refl
+
+-- ---- what is made
+
+pub greatest_prefix_is_made : Makes (addresses.V6 1) 128 (Ok (V6 (record { address = 1; prefix = 128 })))
+greatest_prefix_is_made = (refl, omega arith)
+
+pub one_more_is_refused : Makes (addresses.V4 1) 33 (Err errors.InvalidPrefix)
+one_more_is_refused = (refl, omega arith)
+
+pub a_prefix_is_not_refused : ¬ (Makes (addresses.V4 1) 32 (Err errors.InvalidPrefix))
+a_prefix_is_not_refused h = omega (arith, h.1)
+
+-- 10.0.0.1 with ffff:ff00:: is 10.0.0.1/24: the mask of one family gives a prefix length of the other
+pub mask_of_the_other_family : MakesWithMask (addresses.V4 167772161) (addresses.V6 340282346638528859811704183484516925440) (Ok (V4 (record { address = 167772161; prefix = 24 })))
+mask_of_the_other_family = (refl, omega arith, (omega arith, refl))
+
+-- and 255.255.0.0 with ::1 is ::1/16
+pub mask_of_v4_for_v6 : MakesWithMask (addresses.V6 1) (addresses.V4 4294901760) (Ok (V6 (record { address = 1; prefix = 16 })))
+mask_of_v4_for_v6 = (refl, omega arith, (omega arith, refl))
+
+-- ffff:ffff:8000::, the mask of 33, gives IPv4 no prefix length
+pub mask_past_the_width : ¬ (MakesWithMask (addresses.V4 1) (addresses.V6 340282366881324382206242438634996236288) (Ok (V4 (record { address = 1; prefix = 33 }))))
+mask_past_the_width h = omega (arith, h.1)
+
+pub mask_is_converted : GivesMaskPrefix (addresses.V6 340282346638528859811704183484516925440) (Ok 24)
+mask_is_converted = (omega arith, refl)
+
+pub v4_is_taken : TakesV4 (V4 four) (Ok four)
+v4_is_taken = refl
+
+pub v6_is_no_v4 : ¬ (TakesV4 (V6 four) (Ok four))
+v6_is_no_v4 h = cc
+
+pub v6_is_taken : TakesV6 (V6 four) (Ok four)
+v6_is_taken = refl
+
+pub v4_is_no_v6 : ¬ (TakesV6 (V4 four) (Ok four))
+v4_is_no_v6 h = cc
+
+-- ---- order and hashes across the families
+
+pub each_v4_comes_first : (a b : Network) → IsIpBefore (V4 a) (V6 b) × IsIpAtMost (V4 a) (V6 b)
+each_v4_comes_first a b = (tt, tt)
+
+pub no_v6_comes_first : (a b : Network) → ¬ (IsIpBefore (V6 a) (V4 b)) × ¬ (IsIpAtMost (V6 a) (V4 b)) × (ip_network_cmp (V6 a) (V4 b) ≡ Greater)
+no_v6_comes_first a b = ((λ h. h), (λ h. h), refl)
+
+-- the family as eight bytes, the address as 4 or 16, the prefix length as one
+pub v4_is_fed : ip_network_writes (V4 (record { address = 258; prefix = 24 })) ≡ (0 ∷ 0 ∷ 0 ∷ 0 ∷ 0 ∷ 0 ∷ 0 ∷ 0 ∷ []) ∷ (2 ∷ 1 ∷ 0 ∷ 0 ∷ []) ∷ (24 ∷ []) ∷ []
+unfolding le_bytes
+v4_is_fed = refl
+
+pub v6_is_fed :
+    ip_network_writes (V6 (record { address = 258; prefix = 64 }))
+    ≡ (1 ∷ 0 ∷ 0 ∷ 0 ∷ 0 ∷ 0 ∷ 0 ∷ 0 ∷ []) ∷ (2 ∷ 1 ∷ 0 ∷ 0 ∷ 0 ∷ 0 ∷ 0 ∷ 0 ∷ 0 ∷ 0 ∷ 0 ∷ 0 ∷ 0 ∷ 0 ∷ 0 ∷ 0 ∷ []) ∷ (64 ∷ []) ∷ []
+unfolding le_bytes
+v6_is_fed = refl
+
+-- ---- sizes
+
+pub size_is_its_number : (size_number (sizes.V4 100) ≡ 100) × (size_number (sizes.V6 4294967296) ≡ 4294967296)
+size_is_its_number = (refl, refl)
+
+pub v4_size_fits : FitsV4 (sizes.V4 4294967295) (Ok 4294967295)
+v4_size_fits = refl

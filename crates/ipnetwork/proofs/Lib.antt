@@ -1,5 +1,8 @@
 mod Examples
 mod EitherNetworks
 mod Families
+mod FamilyQuestions
 mod FirstMarks
 mod Listings
+mod Masked
+mod Parsed

@@ -1,4 +1,5 @@
 pub mod IpNetworks
 pub mod IpNetworkText
+pub mod Laws
 pub mod Sizes
 pub mod Private

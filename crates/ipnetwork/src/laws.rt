@@ -1,6 +1,6 @@
 //! The laws of addresses, of networks and of their texts. Each function's contract is a law, and a
 //! proof that calls it may use the law.
-ghost use Rattle.std.specs.Prelude.{◌≡◌, ◌<◌, ◌≤◌, ◌↔◌, ℕ, List, Contains, fold, Some, Result, Ok, IsTrue, IfOk, IfErr, string_bytes};
+ghost use Rattle.std.specs.Prelude.{◌≡◌, ◌<◌, ◌≤◌, ◌↔◌, ℕ, List, fold, Some, Result, Ok, IsTrue, IfOk, IfErr, string_bytes};
 ghost use Rattle.std.specs.Hash as fed;
 ghost use Rattle.std.specs.Ordering.{nat_cmp};
 ghost use Rattle.std.specs.List.{AllByRecursion};
@@ -11,13 +11,30 @@ ghost use Rattle.ipnetwork_family.specs.NetworkText.{IsNetworkByte};
 ghost use Rattle.ipnetwork_family.specs.JsonValues.{ReadsValue, in_quotes};
 ghost use Rattle.ipnetwork_family.specs.declared.json.JsonFault.{JsonFault};
 ghost use Rattle.ipnetwork_family.specs.declared.error.CidrFault.{CidrFault};
-ghost use Rattle.ipnetwork.specs.IpNetworks.{IsIpNetwork, IsIpBefore, IsIpAtMost, ip_network_cmp, ip_network_writes, AreApart, IpMember, IpSubnet, is_ip_member, is_ip_subnet, ip_members};
+ghost use Rattle.ipnetwork.specs.IpNetworks.{IsIpNetwork, IsIpBefore, IsIpAtMost, ip_network_cmp, ip_network_writes, AreApart, IpMember, IpSubnet, is_ip_member, is_ip_subnet, prefix_of, IsV4, IsV6, TakesV4, TakesV6};
 ghost use Rattle.ipnetwork.specs.IpNetworkText.{NamesIpNetwork, ReadsIpNetwork, ParsesIpNetwork, ip_network_text, ip_network_of};
+ghost use Rattle.ipnetwork.specs.Laws.{AsksItsFamily, MakesInItsFamily, ReadsInItsFamily, TakesItsFamily, MaskedIsMade, NoMaskIsRefused, IpMembersAreListed, IpMembersAscend};
 ghost use Rattle.ipnetwork.specs.Sizes.{size_number};
+ghost use Rattle.ipnetwork.specs.declared.size.NetworkSize.TheVariants as sizes;
+ghost use Rattle.ipnetwork_addr.specs.Ipv4Text.{canonical_v4};
+ghost use Rattle.ipnetwork_addr.specs.Ipv6Canonical.{canonical_v6};
+ghost use Rattle.ipnetwork_addr.specs.declared.error.AddrParseError.TheVariants as kinds;
+ghost use Rattle.ipnetwork_addr.specs.declared.ip.IpAddr.TheVariants as ips;
+ghost use Rattle.ipnetwork_family.specs.Ipv4NetworkText.{NamesV4Network};
+ghost use Rattle.ipnetwork_family.specs.Ipv6NetworkText.{NamesV6Network};
+ghost use Rattle.ipnetwork_family.specs.Parsing.{ParsesAsItReads};
 ghost use Rattle.ipnetwork_family.specs.Network.{Network, IsNetwork};
 ghost use Rattle.ipnetwork.specs.declared.ip_network.IpNetwork.TheVariants as networks;
 
-use crate::{IpAddr, IpNetwork, JsonFault, NetworkSize, WrongFamily};
+use crate::{
+    IpAddr, IpNetwork, IpNetworkError, JsonFault, NetworkSize, WrongFamily, ip_mask_to_prefix,
+};
+use serde_json::{Error, Value};
+use std::alloc::{AllocError, Global};
+use std::cmp::Ordering;
+use std::hash::{Hash, Hasher};
+
+// The laws of addresses and of their texts.
 use ipnetwork_addr::laws as addresses;
 pub use ipnetwork_addr::laws::{
     addr_parse_error_clone, addr_parse_error_equality, canonical_ip_is_one_to_one,
@@ -29,26 +46,25 @@ pub use ipnetwork_addr::laws::{
     v6_hash, v6_order, v6_reading_is_computed, v6_text_bytes, v6_text_has_a_colon_first,
     v6_text_is_computed, v6_text_names_one,
 };
+
+// The laws of networks of one family.
 use ipnetwork_family::laws as families;
 pub use ipnetwork_family::laws::{
     blocks, blocks_that_meet, canonical_v4_network_bytes, canonical_v4_network_is_one_to_one,
     canonical_v4_network_names_it, canonical_v4_network_reads_back, canonical_v6_network_bytes,
     canonical_v6_network_is_one_to_one, canonical_v6_network_names_it,
     canonical_v6_network_reads_back, cidr_fault_clone, cidr_fault_equality, ends,
-    ip_network_error_equality, json_fault_equality, listing, longest_network_text, masks,
-    membership_is_computed, nested_networks, nesting, network_size_error_clone,
+    ip_network_error_equality, json_fault_equality, listing, longest_network_text, mask_conversion,
+    masks, membership_is_computed, nested_networks, nesting, network_size_error_clone,
     network_size_error_equality, networks_are_pairs, order, ordered_blocks, overlaps_by_four_tests,
-    overlaps_is_four_tests, prefix_number_is_computed, subnet_is_computed, subnets,
-    v4_network_clone, v4_network_equality, v4_network_hash, v4_network_order,
-    v4_network_reading_is_computed, v4_network_stands_in_quotes, v4_network_text_names_one,
-    v4_network_through_json, v4_network_value_reads_back, v6_network_clone, v6_network_equality,
+    overlaps_is_four_tests, parsing_is_reading, prefix_number_is_computed,
+    same_errors_say_the_same, subnet_is_computed, subnets, v4_mask_converts_back, v4_network_clone,
+    v4_network_equality, v4_network_hash, v4_network_order, v4_network_reading_is_computed,
+    v4_network_stands_in_quotes, v4_network_text_names_one, v4_network_through_json,
+    v4_network_value_reads_back, v6_mask_converts_back, v6_network_clone, v6_network_equality,
     v6_network_hash, v6_network_order, v6_network_reading_is_computed, v6_network_stands_in_quotes,
     v6_network_text_names_one, v6_network_through_json, v6_network_value_reads_back,
 };
-use serde_json::{Error, Value};
-use std::alloc::{AllocError, Global};
-use std::cmp::Ordering;
-use std::hash::{Hash, Hasher};
 
 /// A text names at most one network, across both families.
 pub fn ip_network_text_names_one()
@@ -155,12 +171,49 @@ pub fn ip_membership_is_computed()
     families::membership_is_computed();
 }
 
-/// The list of the members has each address of the set and no other. In what order, says the list of the
-/// family (`listing`).
+/// The list of the members has each address of the set and no other, in ascending order, each once.
 pub fn ip_listing()
-    ensures { (n : IpNetwork) (x : IpAddr) → IsIpNetwork n → Contains (ip_members n) x ↔ IpMember n x }
+    ensures members { IpMembersAreListed }
+    ensures ascending { IpMembersAscend }
 {
     families::listing();
+}
+
+/// Each question of a network of either family is the question of its own family.
+pub fn each_asks_its_family()
+    ensures v4 { AsksItsFamily 32 networks.V4 ips.V4 sizes.V4 }
+    ensures v6 { AsksItsFamily 128 networks.V6 ips.V6 sizes.V6 }
+{}
+
+/// Each call that makes a network of either family is the call of its own family. Making one with a mask is making it
+/// with the prefix length to which the mask converts, in whichever family. What converts to a network of one family is a
+/// network of that family, and converts to itself.
+pub fn each_is_made_in_its_family()
+    ensures v4 { MakesInItsFamily 32 networks.V4 ips.V4 }
+    ensures v6 { MakesInItsFamily 128 networks.V6 ips.V6 }
+    ensures masked { MaskedIsMade }
+    ensures refused { NoMaskIsRefused }
+    ensures takes_v4 { TakesItsFamily networks.V4 networks.V6 IsV4 TakesV4 }
+    ensures takes_v6 { TakesItsFamily networks.V6 networks.V4 IsV6 TakesV6 }
+{
+    families::masks();
+}
+
+/// The texts of a network of either family are those of its own family. Parsing answers as reading does: the same
+/// network, or the error for the cause `Addr` and the kind `Ip`, or `OutOfMemory` in its place.
+pub fn each_is_read_in_its_family()
+    ensures v4 { ReadsInItsFamily networks.V4 NamesV4Network canonical_v4 }
+    ensures v6 { ReadsInItsFamily networks.V6 NamesV6Network canonical_v6 }
+    ensures parsed { ParsesAsItReads ReadsIpNetwork kinds.Ip ParsesIpNetwork }
+{}
+
+/// What `ip_mask_to_prefix` answers to the mask of a network: the network's prefix length.
+pub fn ip_mask_converts_back(network: IpNetwork) -> Result<u8, IpNetworkError>
+    ensures { result ≡ Ok (prefix_of network) }
+{
+    families::mask_conversion();
+    let _ = network.prefix();
+    ip_mask_to_prefix(network.mask())
 }
 
 /// A network is a subnet of another exactly if the computing test says so.

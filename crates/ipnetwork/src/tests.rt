@@ -2,6 +2,7 @@
 
 mod hostile;
 mod json_values;
+mod laws;
 mod questions;
 mod refusals;
 mod sizes;

@@ -54,7 +54,7 @@ given_first h None x n ms xs e more c = let m = more c in (m.0, (suc m.1.0, omeg
 given_first h (Some m) x n ms xs e more (zero, l, is) = (x, (zero, omega arith, refl), e ∙ ap Some is)
 given_first h (Some m) x n ms xs e more (suc i, l, is) = let r = more (i, omega arith, is) in (r.0, (suc r.1.0, omega (arith, r.1.1), r.1.2), r.2)
 
-given : (h : IpNetwork → Option Network) (xs : List IpNetwork) (n : Network) → Contains (filter_map h xs) n → (y : IpNetwork) × Contains xs y × (h y ≡ Some n)
+pub given : (h : IpNetwork → Option Network) (xs : List IpNetwork) (n : Network) → Contains (filter_map h xs) n → (y : IpNetwork) × Contains xs y × (h y ≡ Some n)
 given h [] n c = absurd (let l = c.1 in omega arith)
 given h (x ∷ xs) n c = given_first h (h x) x n (filter_map h xs) xs refl (given h xs n) c
 
@@ -63,7 +63,7 @@ kept_behind : (o : Option Network) (ms : List Network) (n : Network) → Contain
 kept_behind None ms n c = c
 kept_behind (Some m) ms n c = (suc c.0, (let l = c.1 in omega arith), c.2)
 
-gives : (h : IpNetwork → Option Network) (xs : List IpNetwork) (y : IpNetwork) (n : Network) → Contains xs y → h y ≡ Some n → Contains (filter_map h xs) n
+pub gives : (h : IpNetwork → Option Network) (xs : List IpNetwork) (y : IpNetwork) (n : Network) → Contains xs y → h y ≡ Some n → Contains (filter_map h xs) n
 gives h [] y n c e = absurd (let l = c.1 in omega arith)
 gives h (x ∷ xs) y n (zero, l, is) e = subst (λ (o : Option Network). Contains (cons_option o (filter_map h xs)) n) (sym (ap h is ∙ e)) (zero, omega arith, refl)
 gives h (x ∷ xs) y n (suc i, l, is) e = kept_behind (h x) (filter_map h xs) n (gives h xs y n (i, omega arith, is) e)

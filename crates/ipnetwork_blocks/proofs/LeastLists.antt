@@ -36,7 +36,7 @@ pairs_head {X} R x xs h y c =
     let l = c.1 in
     subst (λ (z : X). R x z) c.2 (h 0 (suc c.0) y (omega arith) (omega arith))
 
-pairs_append : {X : Type 0} (R : X → X → Type 0) (xs ys : List X) → AllPairs R xs → AllPairs R ys
+pub pairs_append : {X : Type 0} (R : X → X → Type 0) (xs ys : List X) → AllPairs R xs → AllPairs R ys
     → ((a b : X) → Contains xs a → Contains ys b → R a b) → AllPairs R (xs ++ ys)
 pairs_append R [] ys h k across = k
 pairs_append {X} R (x ∷ xs) ys h k across =

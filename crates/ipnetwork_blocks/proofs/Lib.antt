@@ -3,6 +3,7 @@ pub mod Addresses
 pub mod AggregateBlocks
 pub mod AggregateClearing
 pub mod AggregateEither
+pub mod AggregateEitherLaws
 pub mod AggregateExamples
 pub mod AggregateFacts
 pub mod AggregateFront

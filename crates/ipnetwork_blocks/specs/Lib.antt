@@ -1,5 +1,6 @@
 pub mod Aggregate
 pub mod AggregateEither
+pub mod AggregateEitherLaws
 pub mod AggregateLaws
 pub mod Around
 pub mod Exclusion

@@ -14,6 +14,8 @@ pub mod Masks
 pub mod Members
 pub mod NetworkTexts
 pub mod Numerals
+pub mod Parsed
+pub mod SameErrors
 mod Shown
 pub mod SegmentOctets
 pub mod Slashes

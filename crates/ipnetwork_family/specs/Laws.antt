@@ -1,7 +1,11 @@
 -- The laws of networks, for addresses of any number of bits.
-use Rattle.std.specs.Prelude.{◌≡◌, ℕ, ◌+◌, ◌<◌, ◌≤◌, ◌⊎◌, ◌↔◌, Contains, slice_get, Some, IsTrue}
+use Rattle.std.specs.Prelude.{◌≡◌, ℕ, ◌+◌, ◌<◌, ◌≤◌, ◌⊎◌, ◌↔◌, Contains, slice_get, Some, Result, Ok, IsTrue}
 use Rattle.std.specs.List.Sorted.{IsStrictlyIncreasing}
-use Rattle.ipnetwork_family.specs.Network.{Network, IsNetwork, Member, is_member, is_subnet, low, high, block_size, block_of, IsBlock, Subnet, Overlap, AtMost, members, mask_of}
+use Rattle.ipnetwork_family.specs.Network.{Network, IsNetwork, Member, is_member, is_subnet, low, high, block_size, block_of, IsBlock, Subnet, Overlap, AtMost, members, mask_of, prefix_of_mask}
+use Rattle.ipnetwork_family.specs.ErrorTexts.{refusal_of}
+use Rattle.ipnetwork_family.specs.Faults.{SameError}
+use Rattle.ipnetwork_family.specs.Masks.{GivesPrefixOfMask}
+use Rattle.ipnetwork_family.specs.declared.error.IpNetworkError.{IpNetworkError}
 
 -- the ends are the least and the greatest member, and the address is a member
 pub record HasEnds (w : ℕ) (n : Network) : Type 0 where
@@ -88,3 +92,15 @@ SubnetComputed = (w : ℕ) (a b : Network) → IsNetwork w a → IsNetwork w b �
 -- the w + 1 masks differ
 abbrev pub MasksDiffer : Type 0
 MasksDiffer = (w p q : ℕ) → p ≤ w → q ≤ w → mask_of w p ≡ mask_of w q → p ≡ q
+
+-- the prefix length that is computed of a mask is the one whose mask it is,
+abbrev pub MaskIsComputed : Type 0
+MaskIsComputed = (w p : ℕ) → p ≤ w → prefix_of_mask w (mask_of w p) ≡ Some p
+
+-- and the conversion of the mask answers it and nothing else
+abbrev pub MaskIsConverted : Type 0
+MaskIsConverted = (w p : ℕ) (result : Result ℕ IpNetworkError) → p ≤ w → GivesPrefixOfMask w (mask_of w p) result ↔ (result ≡ Ok p)
+
+-- two errors are the same exactly if they say the same
+abbrev pub SameErrorSaysTheSame : Type 0
+SameErrorSaysTheSame = (a b : IpNetworkError) → SameError a b ↔ (refusal_of a ≡ refusal_of b)

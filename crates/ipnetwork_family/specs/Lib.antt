@@ -4,6 +4,7 @@ pub mod Ipv4NetworkText
 pub mod Ipv6NetworkText
 pub mod JsonValues
 pub mod Laws
+pub mod Masks
 pub mod Network
 pub mod NetworkText
 pub mod Parsing

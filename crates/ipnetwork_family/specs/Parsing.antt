@@ -1,5 +1,5 @@
 -- What parsing answers: reading with an error that carries a text.
-use Rattle.std.specs.Prelude.{List, ℕ, Result, MatchResult}
+use Rattle.std.specs.Prelude.{◌↔◌, List, ℕ, Result, Ok, Err, MatchResult}
 use Rattle.ipnetwork_addr.specs.declared.error.AddrParseError.{AddrParseError}
 use Rattle.ipnetwork_addr.specs.declared.error.AddrParseError.TheVariants as kinds
 use Rattle.ipnetwork_addr.specs.Ipv4Text.{NamesV4}
@@ -25,3 +25,9 @@ ParsesV4Network text result = Parses NamesV4Network (IsCause NamesV4) kinds.Ipv4
 
 abbrev pub ParsesV6Network : List ℕ → Result Network IpNetworkError → Type 0
 ParsesV6Network text result = Parses NamesV6Network (IsCause NamesV6) kinds.Ipv6 text result
+
+-- parsing answers as reading does: the same network, or the error for the same cause, where an address of this kind
+-- was asked for, or `OutOfMemory` in its place where that has a text
+abbrev pub ParsesAsItReads : {N : Type 0} → (List ℕ → Result N CidrFault → Type 0) → AddrParseError → (List ℕ → Result N IpNetworkError → Type 0) → Type 0
+ParsesAsItReads {N} Reads kind ParsesNetwork = (text : List ℕ) (result : Result N IpNetworkError) → ParsesNetwork text result
+    ↔ MatchResult result (λ n. Reads text (Ok n)) (λ error. (fault : CidrFault) × Reads text (Err fault) × IsRefusal (fault_of fault kind text) error)

@@ -2,6 +2,7 @@
 ghost use Rattle.std.specs.Prelude.{◌≡◌, ℕ, ◌+◌, ◌^◌, ◌<◌, ◌≤◌, ◌↔◌, IsTrue, Some, MatchOption, MatchResult, IfOk, string_bytes, length, option_copied};
 ghost use Rattle.std.specs.Option.{SomeIff};
 ghost use Rattle.ipnetwork_addr.specs.Ipv4Text.{NamesV4, canonical_v4};
+ghost use Rattle.ipnetwork_family.specs.Masks.{GivesPrefixOfMask};
 ghost use Rattle.ipnetwork_family.specs.Network.{Network, IsNetwork, Member, IsNoMask, mask_of, low, high, size_of, members, Subnet, Overlap, block_of};
 ghost use Rattle.ipnetwork_family.specs.NetworkText.{GivesPrefix, GivesNoPrefix, network_text};
 ghost use Rattle.ipnetwork_family.specs.Ipv4NetworkText.{IsV4Suffix, IsNoV4Suffix, ReadsV4Network};
@@ -271,8 +272,7 @@ fn read_suffix(suffix: &[u8]) -> Option<u8>
 
 /// The prefix length of a mask, or `InvalidPrefix` where the address is none of the 33 masks. Does not allocate.
 pub fn ipv4_mask_to_prefix(mask: Ipv4Addr) -> Result<u8, IpNetworkError>
-    ensures { MatchResult result (λ p. (p ≤ 32) × (mask ≡ mask_of 32 p))
-        (λ fault. (fault ≡ IpNetworkError.InvalidPrefix) × IsNoMask 32 mask) }
+    ensures { GivesPrefixOfMask 32 mask result }
 {
     match prefix_of_mask(u32::from(mask)) {
         Some(prefix) => Ok(prefix),

@@ -4,6 +4,7 @@ ghost use Rattle.std.specs.Hash.{le_bytes};
 ghost use Rattle.std.specs.Option.{SomeIff};
 ghost use Rattle.ipnetwork_addr.specs.Ipv6Text.{NamesV6};
 ghost use Rattle.ipnetwork_addr.specs.Ipv6Canonical.{canonical_v6};
+ghost use Rattle.ipnetwork_family.specs.Masks.{GivesPrefixOfMask};
 ghost use Rattle.ipnetwork_family.specs.Network.{Network, IsNetwork, Member, IsNoMask, mask_of, low, high, size_of, members, Subnet, Overlap, block_of, network_cmp};
 ghost use Rattle.ipnetwork_family.specs.NetworkText.{GivesPrefix, GivesNoPrefix, network_text};
 ghost use Rattle.ipnetwork_family.specs.Ipv6NetworkText.{IsV6Suffix, ReadsV6Network};
@@ -310,8 +311,7 @@ fn prefix_length(suffix: Option<&[u8]>) -> Option<u8>
 
 /// The prefix length of a mask, or `InvalidPrefix` where the address is none of the 129 masks. Does not allocate.
 pub fn ipv6_mask_to_prefix(mask: Ipv6Addr) -> Result<u8, IpNetworkError>
-    ensures { MatchResult result (λ p. (p ≤ 128) × (mask ≡ mask_of 128 p))
-        (λ fault. (fault ≡ IpNetworkError.InvalidPrefix) × IsNoMask 128 mask) }
+    ensures { GivesPrefixOfMask 128 mask result }
 {
     match segments::prefix_of_mask(&mask.segments()) {
         Some(prefix) => Ok(prefix),

@@ -1,11 +1,11 @@
 -- There is one answer to a look-up, and never more.
 use Rattle.std.proofs.Common.{◌≡◌, ℕ, zero, suc, ◌-◌, ◌^◌, ◌<◌, ◌≤◌, Option, Some, None, sym, refl, ap, subst, ◌∙◌, arith, ⊎_elim, is_some}
-use Rattle.std.specs.Prelude.{IsSome}
+use Rattle.std.specs.Prelude.{IsSome, MatchOption}
 use Rattle.std.specs.Option.{unwrap_or}
 use Rattle.std.specs.FinMap.{FinMap, get}
 use Rattle.std.proofs.lemmas.Bool.{cases_lt}
 use Rattle.ipnetwork_family.specs.Network.{Network, IsBlock, Member, network_cmp}
-use Rattle.ipnetwork_table.specs.Table.{HasBlocksAlone, HasNoHostBits, IsLongest}
+use Rattle.ipnetwork_table.specs.Table.{HasBlocksAlone, HasNoHostBits, IsLongest, NoneHolds, found_by_pair}
 use Rattle.ipnetwork_table.specs.Laws.{Answers}
 use Rattle.ipnetwork_table.specs.Private.Nearest.{NoneAbove}
 use Rattle.ipnetwork_table.proofs.Longest.{around, around_is, none_above_width, none_above_next, none_at_all, longest_here}
@@ -56,3 +56,9 @@ module _ {V : Type 0} (w : ℕ) (t : FinMap network_cmp V) (x : ℕ) (blocks : H
       blocks_meet w d.0 e.0 x (blocks d.0 (is_stored d.0 d.1 here)) (blocks e.0 (is_stored e.0 e.1 there)) (omega (arith, shorter, longer)) here.holds there.holds in
       let value : d.1 ≡ e.1 = same_value d.1 e.1 (sym here.stored ∙ ap (get t) same ∙ there.stored) in
       λ i. Some (same i, value i)
+
+-- what a look-up answers, its block told by what it means
+pub answers_by_pair : {N V : Type 0} (pair : N → Network) (w : ℕ) (t : FinMap network_cmp V) (x : ℕ) (found : Option (N × V))
+    → MatchOption found (NoneHolds w t x) (λ f. IsLongest w t x (pair f.0) f.1) → Answers w t x (found_by_pair pair found)
+answers_by_pair pair w t x None h = h
+answers_by_pair pair w t x (Some f) h = h

@@ -1,6 +1,6 @@
 -- Tables: finite maps from blocks of addresses of w bits to values, and the longest block that holds an address
 -- (RFC 4632, section 5.1).
-use Rattle.std.specs.Prelude.{◌≡◌, ℕ, ◌≤◌, List, map, Some, IsSome, refl}
+use Rattle.std.specs.Prelude.{◌≡◌, ℕ, ◌≤◌, List, map, Option, None, Some, IsSome, refl}
 use Rattle.std.specs.Coded.{Coded, code_by, coded×, coded_ℕ}
 use Rattle.std.specs.FinMap.{FinMap, get}
 use Rattle.ipnetwork_family.specs.Network.{Network, IsNetwork, IsBlock, Member, network_cmp}
@@ -12,6 +12,11 @@ network_code = code_by (ℕ × ℕ) (coded× coded_ℕ coded_ℕ) (λ n. (n.addr
 -- entries under networks of some type, each network as what it means
 abbrev pub by_pair : {N V : Type 0} → (N → Network) → List (N × V) → List (Network × V)
 by_pair pair entries = map (λ e. (pair e.0, e.1)) entries
+
+-- what was found under networks of some type, the network as what it means
+abbrev pub found_by_pair : {N V : Type 0} → (N → Network) → Option (N × V) → Option (Network × V)
+found_by_pair pair None = None
+found_by_pair pair (Some found) = Some (pair found.0, found.1)
 
 -- each key is a network without host bits
 abbrev pub HasBlocksAlone : {V : Type 0} → ℕ → FinMap network_cmp V → Type 0

@@ -1,8 +1,11 @@
-//! The laws of tables. Each function's contract is a law; it does nothing, and a proof whose function calls it
-//! may use the law.
+//! The laws of tables. Each function's contract is a law. One that takes nothing does nothing; a proof whose function
+//! calls it may use the law.
+ghost use Rattle.std.specs.Prelude.{◌≡◌};
+ghost use Rattle.ipnetwork_table.specs.Table.{found_by_pair};
 ghost use Rattle.ipnetwork_table.specs.Laws.{BlocksOfAnyWidthThatMeet, AnswerExists, AnswerIsOne, EmptyHasNoHostBits, InsertAddsNoHostBits, RemoveAddsNoHostBits, ListedIsStored, StoredIsListed, EntriesAscend, WiderBlocksFirst};
 
-use ipnetwork_family::laws;
+use crate::PrefixTable;
+use ipnetwork_family::{CidrNetwork, laws};
 
 /// Two blocks of one prefix length that share an address are the same, for addresses of any number of bits. So no
 /// table has two blocks of one prefix length that hold one address.
@@ -35,3 +38,16 @@ pub fn listing<V: Copy>()
     ensures ascending { EntriesAscend V }
     ensures wider_first { WiderBlocksFirst V }
 {}
+
+/// What `lookup` answers, and the first part of what `lookup_steps` answers: the same block, as its address and its
+/// prefix length, and the same value.
+pub fn lookups_agree<N: CidrNetwork, V: Copy>(
+    table: &PrefixTable<N, V>,
+    addr: N::Addr,
+) -> (Option<(N, V)>, Option<(N, V)>)
+    ensures { found_by_pair N.pair result.0 ≡ found_by_pair N.pair result.1 }
+{
+    one_answer::<V>();
+    let (counted, _) = table.lookup_steps(addr);
+    (table.lookup(addr), counted)
+}

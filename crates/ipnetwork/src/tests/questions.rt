@@ -2,12 +2,12 @@
 use super::texts::{address, network};
 use crate::{
     IpAddr, IpNetwork, IpNetworkError, Ipv4Addr, Ipv4Network, Ipv6Addr, Ipv6Network, NetworkSize,
-    WrongFamily, ip_mask_to_prefix,
+    WrongFamily, ip_mask_to_prefix, laws,
 };
 use std::test::Fail;
 
 // A network, and its least member, greatest member, mask and size.
-const ENDS: [(&str, &str, &str, &str, u128); 7] = [
+const ENDS: [(&str, &str, &str, &str, u128); 9] = [
     (
         "10.1.9.32/16",
         "10.1.0.0",
@@ -51,6 +51,20 @@ const ENDS: [(&str, &str, &str, &str, u128); 7] = [
         79228162514264337593543950336,
     ),
     (
+        "2001:db8::3/126",
+        "2001:db8::",
+        "2001:db8::3",
+        "ffff:ffff:ffff:ffff:ffff:ffff:ffff:fffc",
+        4,
+    ),
+    (
+        "2001:db8::1/64",
+        "2001:db8::",
+        "2001:db8::ffff:ffff:ffff:ffff",
+        "ffff:ffff:ffff:ffff::",
+        18446744073709551616,
+    ),
+    (
         "::1",
         "::1",
         "::1",
@@ -74,7 +88,7 @@ const MEMBERS: [(&str, &str, bool); 9] = [
 
 // Two networks, whether the first is part of the second, whether the second is of the first, and
 // whether they overlap.
-const PAIRS: [(&str, &str, bool, bool, bool); 11] = [
+const PAIRS: [(&str, &str, bool, bool, bool); 13] = [
     ("10.0.0.0/30", "10.0.0.5/24", true, false, true),
     ("10.255.255.255/8", "10.255.255.0/24", false, true, true),
     ("10.0.0.1/24", "10.0.0.0/24", true, true, true),
@@ -82,6 +96,8 @@ const PAIRS: [(&str, &str, bool, bool, bool); 11] = [
     ("10.0.0.0/9", "10.128.0.0/9", false, false, false),
     ("::1/0", "ffff::/16", false, true, true),
     ("2000:aaa::/56", "2000:aaa::/48", true, false, true),
+    ("2000:999::/56", "2000:aaa::/48", false, false, false),
+    ("2000:bbb::/56", "2000:aaa::/48", false, false, false),
     ("0.0.0.0/0", "::/0", false, false, false),
     ("::ffff:0:0/96", "0.0.0.0/0", false, false, false),
     ("::ffff:10.0.0.0/104", "10.0.0.0/8", false, false, false),
@@ -102,7 +118,7 @@ fn ends_masks_and_sizes(rt: HostRuntime) -> Result<(), Fail> {
             "{text}"
         );
         assert_eq!(rt; matches!(n.ip(), IpAddr::V6(_)), n.is_ipv6(), "{text}");
-        assert_eq!(rt; ip_mask_to_prefix(n.mask()), Ok(n.prefix()), "{text}");
+        assert_eq!(rt; laws::ip_mask_converts_back(n), Ok(n.prefix()), "{text}");
     }
     Ok(())
 }

@@ -120,6 +120,7 @@ fn refused_texts(rt: HostRuntime) -> Result<(), Fail> {
             format!(in rt.alloc(); "{error}")?,
             format!(in rt.alloc(); "invalid address: {text}")?
         );
+        assert_eq!(rt; error.description(), "address is invalid");
         assert_eq!(rt; IpNetwork::parse(rt.alloc(), text), Err(error), "{text}");
     }
     Ok(())

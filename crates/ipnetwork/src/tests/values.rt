@@ -1,15 +1,17 @@
 //! Equality, order, hash and clones across the two families.
 use super::texts::network;
-use crate::{IpNetworkError, NetworkSizeError, laws};
+use crate::{IpNetworkError, NetworkSizeError, WrongFamily, laws};
 use std::hash::{DefaultHasher, Hash, Hasher};
 use std::test::Fail;
 
 // Networks in order: IPv4 first, and in a family by address, then by prefix length.
-const ORDERED: [&str; 9] = [
+const ORDERED: [&str; 11] = [
     "0.0.0.0/0",
     "0.0.0.1/0",
     "10.0.0.0/8",
     "10.0.0.0/16",
+    "10.0.0.0/24",
+    "10.0.0.1/24",
     "255.255.255.255/32",
     "::/0",
     "::/128",
@@ -46,6 +48,8 @@ fn hashers_and_clones_agree(rt: HostRuntime) -> Result<(), Fail> {
         laws::ip_network_hash(n, n, &mut one, &mut other);
         assert_eq!(rt; one.finish(), other.finish(), "{text}");
     }
+    assert!(rt; laws::wrong_family_equality(WrongFamily, WrongFamily));
+    assert_eq!(rt; laws::wrong_family_clone(WrongFamily)?, WrongFamily);
     Ok(())
 }
 

@@ -1,4 +1,4 @@
-//! The laws, each called once.
+//! The laws: those that take nothing are each called once, the others with values.
 use crate::{AddrParseError, IpAddr, Ipv4Addr, Ipv6Addr, laws};
 use std::cmp::Ordering;
 
@@ -23,6 +23,8 @@ fn laws_are_called() {
     laws::v4_reading_is_computed();
     laws::v6_reading_is_computed();
     laws::ip_reading_is_computed();
+    laws::v4_text_has_a_dot_first();
+    laws::v6_text_has_a_colon_first();
 }
 
 #[test]

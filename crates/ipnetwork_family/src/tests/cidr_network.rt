@@ -2,6 +2,7 @@
 
 use crate::{CidrNetwork, Ipv4Network, Ipv6Network, laws};
 use ipnetwork_addr::{Ipv4Addr, Ipv6Addr};
+use std::alloc::Global;
 use std::cmp::Ordering;
 use std::test::Fail;
 
@@ -72,6 +73,7 @@ fn blocks(rt: HostRuntime) -> Result<(), Fail> {
         Some(v6("2001:db8::1/128")?)
     );
     assert_eq!(rt; Ipv6Network::block(address, 129), None);
+    assert_eq!(rt; Ipv6Network::block(Ipv6Addr::from(1), 129), None);
     Ok(())
 }
 
@@ -121,34 +123,41 @@ fn overlap_is_four_tests(rt: HostRuntime) -> Result<(), Fail> {
     Ok(())
 }
 
+/// The networks of the sorted list at the last five digits of a number in base 5.
+fn picked(alloc: Global, sorted: &[Ipv4Network], number: usize) -> Result<Vec<Ipv4Network>, Fail> {
+    let mut networks = Vec::new(alloc);
+    let mut rest = number;
+    for _ in 0..5 {
+        networks.push(*sorted.get(rest % 5).ok_or("five networks")?)?;
+        rest /= 5;
+    }
+    Ok(networks)
+}
+
+// Of the 3,125 lists of five of these networks, the 120 that have each of them are sorted into one order.
 #[test]
 fn sorted_networks(rt: HostRuntime) -> Result<(), Fail> {
-    let texts = [
-        "10.0.0.0/8",
-        "10.0.0.0/16",
-        "10.0.5.0/24",
-        "10.1.0.0/16",
-        "11.0.0.0/8",
+    let sorted = [
+        v4("10.0.0.0/8")?,
+        v4("10.0.0.0/16")?,
+        v4("10.0.5.0/24")?,
+        v4("10.1.0.0/16")?,
+        v4("11.0.0.0/8")?,
     ];
-    for order in [
-        [0, 1, 2, 3, 4],
-        [4, 3, 2, 1, 0],
-        [2, 0, 4, 1, 3],
-        [1, 0, 3, 4, 2],
-    ] {
-        let mut networks = Vec::new(rt.alloc());
-        for i in order {
-            let at: usize = i;
-            networks.push(v4(texts.get(at).copied().unwrap_or(""))?)?;
-        }
+    let mut orders = 0u32;
+    for number in 0..3125 {
+        let mut networks = picked(rt.alloc(), &sorted, number)?;
         networks.sort()?;
-        let mut at = 0usize;
-        for network in &networks {
-            assert_eq!(rt; *network, v4(texts.get(at).copied().unwrap_or(""))?);
-            at = at.saturating_add(1);
+        if networks.as_slice() == sorted.as_slice() {
+            orders = orders.saturating_add(1);
         }
-        assert_eq!(rt; at, 5);
     }
+    assert_eq!(rt; orders, 120);
+    Ok(())
+}
+
+#[test]
+fn laws_of_the_trait(rt: HostRuntime) -> Result<(), Fail> {
     assert_eq!(rt;
         laws::networks_are_pairs(v4("10.0.0.0/8")?, v4("10.0.0.0/16")?),
         (false, Ordering::Less)

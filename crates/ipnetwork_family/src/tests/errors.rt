@@ -147,6 +147,27 @@ fn errors_of_parsing(rt: HostRuntime) -> Result<(), Fail> {
     Ok(())
 }
 
+// A text, and the description of the error of parsing it as an IPv4 network and as an IPv6 network.
+#[test]
+fn descriptions_of_parsed_errors(rt: HostRuntime) -> Result<(), Fail> {
+    for (text, v4, v6) in [
+        ("10.1.1.1/24/", "cidr is invalid", "cidr is invalid"),
+        ("x/99", "address is invalid", "address is invalid"),
+        ("10.0.0.0/33", "prefix is invalid", "address is invalid"),
+        ("::1/129", "address is invalid", "prefix is invalid"),
+    ] {
+        match Ipv4Network::parse(rt.alloc(), text) {
+            Ok(network) => assert!(rt; false, "{network}"),
+            Err(error) => assert_eq!(rt; error.description(), v4),
+        }
+        match Ipv6Network::parse(rt.alloc(), text) {
+            Ok(network) => assert!(rt; false, "{network}"),
+            Err(error) => assert_eq!(rt; error.description(), v6),
+        }
+    }
+    Ok(())
+}
+
 #[test]
 fn parsed_and_printed(rt: HostRuntime) -> Result<(), Fail> {
     let v4 = Ipv4Network::new(Ipv4Addr::new(10, 1, 9, 32), 16)?;

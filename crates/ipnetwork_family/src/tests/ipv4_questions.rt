@@ -1,4 +1,4 @@
-use crate::{IpNetworkError, Ipv4Network, Ipv4NetworkIterator, ipv4_mask_to_prefix};
+use crate::{IpNetworkError, Ipv4Network, Ipv4NetworkIterator, ipv4_mask_to_prefix, laws};
 use ipnetwork_addr::Ipv4Addr;
 use std::test::Fail;
 
@@ -117,7 +117,7 @@ fn masks_and_prefix_lengths(rt: HostRuntime) -> Result<(), Fail> {
     }
     for prefix in 0..=32u8 {
         let n = Ipv4Network::new(Ipv4Addr::new(0, 0, 0, 0), prefix)?;
-        assert_eq!(rt; ipv4_mask_to_prefix(n.mask()), Ok(prefix));
+        assert_eq!(rt; laws::v4_mask_converts_back(n), Ok(prefix));
     }
     Ok(())
 }

@@ -99,6 +99,7 @@ fn accepted_texts(rt: HostRuntime) -> Result<(), Fail> {
         let mut printed = ArrayString::<43>::new();
         write!(printed, "{network}")?;
         assert_eq!(rt; printed.as_str(), canonical);
+        assert_eq!(rt; network.to_text(rt.alloc())?.as_str(), canonical);
         assert_eq!(rt; Ipv4Network::read_bytes(canonical.as_bytes()), Ok(network));
     }
     Ok(())

@@ -192,6 +192,8 @@ fn test_is_supernet_of(rt: HostRuntime) -> Result<(), Fail> {
         ("2000:aaa::/48", "2000:aaa::/56", true),
         ("2000:aaa::/56", "2000:aaa::/48", false),
         ("2000:aaa::/48", "2000:999::/56", false),
+        ("2000:999::/56", "2000:aaa::/48", false),
+        ("2000:bbb::/56", "2000:aaa::/48", false),
     ] {
         assert_eq!(rt;
             network(a)?.is_supernet_of(network(b)?),

@@ -1,4 +1,4 @@
-use crate::{IpNetworkError, Ipv6Network, Ipv6NetworkIterator, ipv6_mask_to_prefix};
+use crate::{IpNetworkError, Ipv6Network, Ipv6NetworkIterator, ipv6_mask_to_prefix, laws};
 use ipnetwork_addr::Ipv6Addr;
 use std::test::Fail;
 
@@ -117,7 +117,7 @@ fn masks_and_prefix_lengths(rt: HostRuntime) -> Result<(), Fail> {
     }
     for prefix in 0..=128u8 {
         let n = Ipv6Network::new(Ipv6Addr::from(0), prefix)?;
-        assert_eq!(rt; ipv6_mask_to_prefix(n.mask()), Ok(prefix));
+        assert_eq!(rt; laws::v6_mask_converts_back(n), Ok(prefix));
     }
     Ok(())
 }

@@ -40,6 +40,16 @@ fn order_and_equality_are_by_address_then_prefix(rt: HostRuntime) -> Result<(), 
 }
 
 #[test]
+fn host_bits_make_networks_differ(rt: HostRuntime) -> Result<(), Fail> {
+    for prefix in [0, 24, 31] {
+        let with = Ipv4Network::new(Ipv4Addr::new(10, 0, 0, 1), prefix)?;
+        let without = Ipv4Network::new(Ipv4Addr::new(10, 0, 0, 0), prefix)?;
+        assert!(rt; with != without, "{prefix}");
+    }
+    Ok(())
+}
+
+#[test]
 fn hashes_tell_addresses_and_prefixes_apart(rt: HostRuntime) -> Result<(), Fail> {
     for (i, first) in ORDERED.iter().enumerate() {
         for (j, second) in ORDERED.iter().enumerate() {

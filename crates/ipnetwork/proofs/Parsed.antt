@@ -1,0 +1,9 @@
+-- Parsing networks of either family answers as reading does.
+use Rattle.std.proofs.Common.{Ok, Err}
+use Rattle.ipnetwork_addr.specs.declared.error.AddrParseError.TheVariants.{Ip}
+use Rattle.ipnetwork_family.specs.Parsing.{ParsesAsItReads}
+use Rattle.ipnetwork.specs.IpNetworkText.{ReadsIpNetwork, ParsesIpNetwork}
+
+pub parses_as_it_reads : ParsesAsItReads ReadsIpNetwork Ip ParsesIpNetwork
+parses_as_it_reads text (Ok n) = ((λ h. h), (λ h. h))
+parses_as_it_reads text (Err error) = ((λ h. (h.1.0, (h.1.1, h.0), h.1.2)), (λ h. (h.1.1, (h.0, h.1.0, h.2))))
