@@ -13,6 +13,7 @@ pub mod Found
 pub mod Gathering
 pub mod Kept
 pub mod Keys
+mod LawExamples
 pub mod Lines
 pub mod Membership
 pub mod PlainLines

@@ -26,6 +26,7 @@ pub fn run<R: Read, W: Write>(
     ensures reader_failed { has_failed reader.new ≡ (has_failed reader.old || ended_by_read result) }
     ensures writer_failed { has_failed writer.new ≡ (has_failed writer.old || ended_by_write result) }
     ensures reader_first { IsTrue (has_failed reader.old) → result ≡ Err RunFault.Read }
+    ensures writer_next { IsFalse (has_failed reader.old) → IsTrue (has_failed writer.old) → result ≡ Err RunFault.Write }
     ensures uncalled { IsTrue (has_failed reader.old || has_failed writer.old)
         → (device_of reader.new ≡ device_of reader.old) × (device_of writer.new ≡ device_of writer.old) }
     ensures output { OnOk result (IfSome (R.remaining (device_of reader.old)) (λ input. (output : List ℕ) × IsOutput input output
@@ -68,8 +69,10 @@ pub fn run_limited<R: Read, W: Write>(
     ensures reader_failed { has_failed reader.new ≡ (has_failed reader.old || ended_by_read result) }
     ensures writer_failed { has_failed writer.new ≡ (has_failed writer.old || ended_by_write result) }
 
-    // Where the reader had failed before, it is `Read`, whatever the writer; and no call is made where one had.
+    // Where the reader had failed before, it is `Read`, whatever the writer; else where the writer had, it is `Write`;
+    // and no call is made where one had.
     ensures reader_first { IsTrue (has_failed reader.old) → result ≡ Err RunFault.Read }
+    ensures writer_next { IsFalse (has_failed reader.old) → IsTrue (has_failed writer.old) → result ≡ Err RunFault.Write }
     ensures uncalled { IsTrue (has_failed reader.old || has_failed writer.old)
         → (device_of reader.new ≡ device_of reader.old) × (device_of writer.new ≡ device_of writer.old) }
 
