@@ -29,14 +29,14 @@ IsAnswered line text = (before after : Routes) (answer : List ℕ) → MayGet be
 
 -- ---- `read4 T` and `read6 T`
 
--- the canonical text of the network that T names in the family; where it names none, the first cause that holds
+-- the canonical text of the network that T names in the family; if it names none, the first cause that is so
 pub record AnswersRead (w : ℕ) (NamesAddress IsSuffix : List ℕ → ℕ → Type 0) (canonical : ℕ → List ℕ) (line text : List ℕ) : Type 0 where
   pub network : (n : Network) → NamesNetwork w NamesAddress IsSuffix text n → IsAnswered line (network_text canonical n)
   -- T holds two or more `/`
   pub format : HasSeveralSlashes text → IsAnswered line (codes "refused format")
   -- else what stands before the `/` is no address
   pub address : slashes text ≤ 1 → ((a : ℕ) → ¬ (NamesAddress (before_slash text) a)) → IsAnswered line (codes "refused address")
-  -- else, since T names nothing, what stands behind it is no suffix
+  -- else, since T names nothing, what stands after it is no suffix
   pub prefix : slashes text ≤ 1 → (a : ℕ) → NamesAddress (before_slash text) a → ((n : Network) → ¬ (NamesNetwork w NamesAddress IsSuffix text n))
       → IsAnswered line (codes "refused prefix")
 
@@ -48,7 +48,7 @@ Read6Law = (line text : List ℕ) → HasWords line (codes "read6" ∷ text ∷ 
 
 -- ---- `read T` and `ends T`
 
--- what is told of the network that T names, of either family; `refused` where it names none
+-- what is told of the network that T names, of either family; `refused` if it names none
 pub record AnswersNetwork (IsTold : IpNetwork → List ℕ → Type 0) (line text : List ℕ) : Type 0 where
   pub network : (n : IpNetwork) → IsIpNetwork n → NamesIpNetwork text n → (told : List ℕ) × IsTold n told × IsAnswered line told
   pub none : ((n : IpNetwork) → ¬ (NamesIpNetwork text n)) → IsAnswered line (codes "refused")
@@ -57,7 +57,7 @@ pub record AnswersNetwork (IsTold : IpNetwork → List ℕ → Type 0) (line tex
 abbrev pub ReadLaw : Type 0
 ReadLaw = (line text : List ℕ) → HasWords line (codes "read" ∷ text ∷ []) → AnswersNetwork (λ n told. told ≡ ip_network_text n) line text
 
--- `ends`: the least member and the greatest, the mask, and how many members there are, with blanks between
+-- `ends`: the least member, the greatest, the mask, and the number of members, with blanks between
 pub record TellsEnds (n : IpNetwork) (told : List ℕ) : Type 0 where
   pub least : IpAddr
   pub greatest : IpAddr
@@ -101,7 +101,7 @@ pub record AnswersRelation (line text other : List ℕ) : Type 0 where
 abbrev pub RelLaw : Type 0
 RelLaw = (line text other : List ℕ) → HasWords line (codes "rel" ∷ text ∷ other ∷ []) → AnswersRelation line text other
 
--- ---- `add T N`, `drop T` and `find A`: what they ask of the routes, and that they are refused where there is nothing to ask
+-- ---- `add T N`, `drop T` and `find A`: what they ask of the routes; `refused` if T, N or A names nothing
 
 pub record AsksAdd (line text word : List ℕ) : Type 0 where
   pub asks : (n : IpNetwork) (number : ℕ) → NamesIpNetwork text n → IsPrefixNumber word number → number ≤ 4294967295 → request_of line ≡ Add n number
@@ -144,6 +144,6 @@ IsCommand _ = ⊥
 abbrev pub UnknownLaw : Type 0
 UnknownLaw = (line : List ℕ) → length line ≤ 1024 → ¬ (IsCommand (words line)) → IsAnswered line (codes "unknown command")
 
--- and none of more than 1,024 bytes is
+-- nor is one of more than 1,024 bytes
 abbrev pub LongLaw : Type 0
 LongLaw = (line : List ℕ) → 1024 < length line → IsAnswered line (codes "line too long")

@@ -18,7 +18,8 @@ pub record Renumbers (before : Routes) (n : IpNetwork) (number : Option ℕ) (af
   pub same : (m : IpNetwork) → IsIpNetwork m → IpSubnet m n × IpSubnet n m → number_at after m ≡ number
   pub others : (m : IpNetwork) → IsIpNetwork m → ¬ (IpSubnet m n × IpSubnet n m) → number_at after m ≡ number_at before m
 
--- what an `add` gets: by what the block had, whatever that number was; and it is out of memory only where it had none
+-- what an `add` gets: `new` if the block had no number, `changed` if it had one, whatever that was; it can be out of
+-- memory only if the block had none
 pub data GetsAdd (before : Routes) (n : IpNetwork) (number : ℕ) (answer : List ℕ) (after : Routes) : Type 0 where
   New : number_at before n ≡ None → answer ≡ codes "new" → Renumbers before n (Some number) after → GetsAdd before n number answer after
   Changed : (old : ℕ) → number_at before n ≡ Some old → answer ≡ codes "changed" → Renumbers before n (Some number) after → GetsAdd before n number answer after

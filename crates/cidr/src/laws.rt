@@ -79,16 +79,16 @@ pub fn lines_about_routes()
     laws::ip_network_reading_is_computed();
 }
 
-/// There are no commands but these ten, each with its number of words: any other line is `unknown command`, and one
-/// of more than 1,024 bytes is `line too long`.
+/// There are no commands but these ten, each with its number of words: any other line gets `unknown command`, and one
+/// of more than 1,024 bytes `line too long`.
 pub fn other_lines()
     ensures unknown { UnknownLaw }
     ensures long { LongLaw }
 {}
 
-/// `add` and `drop` answer by the number that the block had, and change what networks with the same set have and
-/// nothing else. `find` tells the longest block that holds the address. Only an `add` of a block without a number may
-/// be out of memory, and then the routes stay.
+/// `add` and `drop` answer by the number that the block had, and change the number of the networks with the same set
+/// and of no other. `find` tells the longest block that holds the address. Only an `add` of a block without a number
+/// can be out of memory, and then the routes stay.
 pub fn routes_by_sets()
     ensures add { AddsGet }
     ensures drop { DropsGet }
