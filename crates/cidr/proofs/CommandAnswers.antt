@@ -1,5 +1,5 @@
 -- What each command answers, or asks of the routes.
-use Rattle.std.proofs.Common.{◌≡◌, ◌≢◌, ◌↔◌, ℕ, ◌+◌, ◌-◌, ◌*◌, ◌/◌, ◌<◌, ◌≤◌, min, ◌^◌, Bool, true, false, cond, IsTrue, inl, inr, List, ◌∷◌, ◌++◌, Option, None, Some, Result, Ok, Err, length, map, codes, decimal, refl, sym, ap, ap₂, ◌∙◌, arith}
+use Rattle.std.proofs.Common.{◌≡◌, ◌≢◌, ◌↔◌, ℕ, ◌+◌, ◌-◌, ◌*◌, ◌<◌, ◌≤◌, ◌^◌, Bool, true, false, cond, IsTrue, inl, inr, List, Option, None, Some, Result, Ok, Err, length, codes, refl, sym, ap, ap₂, ◌∙◌, arith}
 use Rattle.std.specs.Prelude.{nat_le}
 use Rattle.std.proofs.Math.Pow.{pow_mono, pow-add}
 use Rattle.std.proofs.lemmas.Nat.{pow_pos}
@@ -14,9 +14,9 @@ use Rattle.ipnetwork_addr.specs.declared.ip.IpAddr.{IpAddr}
 use Rattle.ipnetwork_addr.specs.declared.ip.IpAddr.TheVariants as addresses
 use Rattle.ipnetwork_family.specs.Laws.{HasEnds, EndsLaw as HaveEnds}
 use Rattle.ipnetwork_family.specs.Network.{Network, IsNetwork, is_member, low, block_size, size_of, members}
-use Rattle.ipnetwork_family.specs.NetworkText.{HasSeveralSlashes, slashes, before_slash, NamesNetwork, ReadsNetwork, network_text, suffix_of, prefix_given, network_from, network_of}
+use Rattle.ipnetwork_family.specs.NetworkText.{slashes, before_slash, ReadsNetwork, network_text, suffix_of, prefix_given, network_from, network_of}
 use Rattle.ipnetwork_family.specs.declared.error.CidrFault.{CidrFault}
-use Rattle.ipnetwork_family.specs.declared.error.CidrFault.TheVariants.{Format, Addr, Prefix}
+use Rattle.ipnetwork_family.specs.declared.error.CidrFault.TheVariants.{Format, Prefix}
 use Rattle.ipnetwork_family.proofs.Members.{length-count_up}
 use Rattle.ipnetwork.specs.IpNetworks.{IsIpNetwork, IpMember, is_ip_member, ip_low, ip_high, ip_mask_of}
 use Rattle.ipnetwork.specs.IpNetworkText.{NamesIpNetwork, ip_network_text}
@@ -139,7 +139,7 @@ tells_ends ends (V4 n) fits =
       text = refl;
       is_least = (has.low_is_member, λ x member. least_v4 n has x member);
       is_greatest = (has.high_is_member, λ x member. greatest_v4 n has x member);
-      is_mask = (fits.prefix_fits, refl);
+      is_mask = ((fits.prefix_fits, refl), refl);
       is_number = λ some. length-map (members 32 n) addresses.V4 ∙ some_members 32 n fits some;
       is_one_less = λ none. length-map (members 32 n) addresses.V4 ∙ all_members 32 n none;
     }
@@ -153,7 +153,7 @@ tells_ends ends (V6 n) fits =
       text = refl;
       is_least = (has.low_is_member, λ x member. least_v6 n has x member);
       is_greatest = (has.high_is_member, λ x member. greatest_v6 n has x member);
-      is_mask = (fits.prefix_fits, refl);
+      is_mask = ((fits.prefix_fits, refl), refl);
       is_number = λ some. length-map (members 128 n) addresses.V6 ∙ some_members 128 n fits some;
       is_one_less = λ none. length-map (members 128 n) addresses.V6 ∙ all_members 128 n none;
     }

@@ -1,14 +1,12 @@
 -- What the words of a line make of it.
-use Rattle.std.proofs.Common.{◌≡◌, ◌≢◌, ℕ, ◌<◌, ◌≤◌, Bool, true, false, cond, List, [], ◌∷◌, length, codes, refl, sym, ap, ◌∙◌, subst, arith, inl}
-use Rattle.std.specs.Prelude.{bytes_eq}
+use Rattle.std.proofs.Common.{◌≡◌, ℕ, Bool, false, cond, List, [], ◌∷◌, codes, refl, sym, ap, ◌∙◌, subst, arith, inl}
 use Rattle.ipnetwork_addr.specs.Either.{ip_of}
 use Rattle.ipnetwork.specs.IpNetworkText.{ip_network_of}
-use Rattle.cidr.specs.CommandLaws.{HasWords, IsAnswered, IsCommand, names_before_one, names_before_two, UnknownLaw, LongLaw}
+use Rattle.cidr.specs.CommandLaws.{HasWords, IsAnswered, IsCommand, UnknownLaw, LongLaw}
 use Rattle.cidr.specs.Commands.{one_word_answer, two_words_answer, unknown, read4_answer, read6_answer, has4_answer}
 use Rattle.cidr.specs.EitherCommands.{read_answer, has_answer, ends_answer, rel_answer}
 use Rattle.cidr.specs.Output.{MayGet}
 use Rattle.cidr.specs.Requests.{Request, Plain, adding, dropping, finding, route_number_of, one_word_request, two_words_request, request_in, request_of}
-use Rattle.cidr.specs.Routes.{Routes}
 use Rattle.cidr.specs.Words.{words}
 use Rattle.cidr.proofs.Kept.{request_long, request_short}
 use Rattle.cidr.proofs.PlainLines.{differs, one_word, two_words, plain_gets}

@@ -1,5 +1,5 @@
 -- What `rel` answers, and what `add`, `drop` and `find` ask.
-use Rattle.std.proofs.Common.{◌≡◌, ◌↔◌, ℕ, ◌≤◌, List, Option, None, Some, Result, Ok, Err, refl, sym, ap, ap₂, ◌∙◌}
+use Rattle.std.proofs.Common.{◌≡◌, ◌↔◌, ℕ, List, None, Some, Result, Ok, Err, refl, sym, ap, ap₂, ◌∙◌}
 use Rattle.ipnetwork_addr.specs.Either.{NamesIp, ip_of}
 use Rattle.ipnetwork_addr.specs.declared.ip.IpAddr.{IpAddr}
 use Rattle.ipnetwork_family.specs.declared.error.CidrFault.{CidrFault}

@@ -1,9 +1,8 @@
 -- What the laws let one conclude, where a weaker law would not.
-use Rattle.std.proofs.Common.{◌≡◌, ℕ, ◌<◌, ◌≤◌, List, [], ◌∷◌, ◌++◌, length, refl, codes, arith}
+use Rattle.std.proofs.Common.{ℕ, List, [], ◌++◌, codes, arith}
 use Rattle.std.specs.Prelude.{Option, Some, Ok, Err}
-use Rattle.cidr.specs.declared.fault.RunFault.TheVariants.{Read, Write}
+use Rattle.cidr.specs.declared.fault.RunFault.TheVariants.{Read, Write, InputTooLong}
 use Rattle.cidr.specs.Laws.{AfterOk, AfterReadFault, AfterWriteFault, AfterTooLong}
-use Rattle.cidr.specs.OutputLaws.{IsPlainLine}
 use Rattle.cidr.specs.Run.{Ran}
 
 -- an input past the limit does not end in Ok
@@ -16,3 +15,7 @@ read_fault_is_within_the_limit law held holds ran = absurd (omega (arith, (law 3
 
 pub write_fault_is_within_the_limit : AfterWriteFault → (held holds : List ℕ) → ¬ (Ran 3 (Some (codes "read" ++ [])) (Some []) (Some held) (Some holds) (Err Write))
 write_fault_is_within_the_limit law held holds ran = absurd (omega (arith, (law 3 (codes "read") [] held holds ran).0))
+
+-- and an input within the limit is not too long
+pub within_the_limit_is_not_too_long : AfterTooLong → (held holds : List ℕ) → ¬ (Ran 4 (Some (codes "read" ++ [])) (Some []) (Some held) (Some holds) (Err InputTooLong))
+within_the_limit_is_not_too_long law held holds ran = absurd (omega (arith, (law 4 (codes "read") [] held holds ran).0))

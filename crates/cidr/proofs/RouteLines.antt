@@ -1,5 +1,5 @@
 -- What `add`, `drop` and `find` get, by networks and sets.
-use Rattle.std.proofs.Common.{◌≡◌, ℕ, ◌≤◌, ◌⊎◌, inl, inr, Bool, true, false, cond, List, [], ◌∷◌, ◌++◌, Option, None, Some, codes, is_some, refl, sym, ap, ap₂, ◌∙◌, subst}
+use Rattle.std.proofs.Common.{◌≡◌, ℕ, ◌≤◌, ◌⊎◌, inl, inr, true, false, cond, List, [], ◌∷◌, Option, None, Some, codes, is_some, refl, sym, ap, ◌∙◌, subst}
 use Rattle.std.specs.Prelude.{IsSome}
 use Rattle.std.specs.FinMap.{FinMap, get, get-empty, get-insert, get-remove}
 use Rattle.std.specs.Ordering.{eq_by_cmp}
@@ -12,7 +12,7 @@ use Rattle.ipnetwork_addr.specs.Ipv6Canonical.{canonical_v6}
 use Rattle.ipnetwork_addr.specs.declared.ip.IpAddr.{IpAddr}
 use Rattle.ipnetwork_addr.specs.declared.ip.IpAddr.TheVariants as addresses
 use Rattle.ipnetwork_family.specs.Laws.{SameSet, BlockHasSameSet}
-use Rattle.ipnetwork_family.specs.Network.{Network, IsNetwork, IsBlock, Subnet, Member, block_of, low, network_cmp}
+use Rattle.ipnetwork_family.specs.Network.{Network, IsNetwork, IsBlock, Subnet, Member, block_of, network_cmp}
 use Rattle.ipnetwork.specs.IpNetworks.{IsIpNetwork, IpMember, IpSubnet, AreApart, prefix_of}
 use Rattle.ipnetwork.specs.declared.ip_network.IpNetwork.{IpNetwork}
 use Rattle.ipnetwork.specs.declared.ip_network.IpNetwork.TheVariants.{V4, V6}
@@ -21,7 +21,7 @@ use Rattle.cidr.specs.CommandLaws.{AddLaw, DropLaw, FindLaw}
 use Rattle.cidr.specs.Finding.{FindsIn}
 use Rattle.cidr.specs.Output.{added, dropped, MayGet, MayAnswer, reply, replies, RunsOut, IsOutput, IsBeginning}
 use Rattle.cidr.specs.Requests.{Request, Add, Drop, Find, Plain, request_of}
-use Rattle.cidr.specs.RouteLaws.{Renumbers, GetsAdd, New, Changed, OutOfMemory, AddsGet, GetsDrop, Dropped, Absent, DropsGet, AreLeft, GetsFind, Longest, Nothing, FindsGet, FirstFindsNothing, FirstDropsNothing, FirstAddsNew}
+use Rattle.cidr.specs.RouteLaws.{Renumbers, GetsAdd, New, Changed, OutOfMemory, AddsGet, GetsDrop, Dropped, Absent, DropsGet, GetsFind, Longest, Nothing, FindsGet, FirstFindsNothing, FirstDropsNothing, FirstAddsNew}
 use Rattle.cidr.specs.Routes.{Routes, no_routes, number_at, with_number, without}
 use Rattle.cidr.proofs.Computed.{one_way, next_keys}
 use Rattle.cidr.proofs.Found.{HasBlocks}

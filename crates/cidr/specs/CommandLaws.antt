@@ -10,7 +10,7 @@ use Rattle.ipnetwork_family.specs.Ipv6NetworkText.{IsV6Suffix}
 use Rattle.ipnetwork_family.specs.Network.{Network, Member}
 use Rattle.ipnetwork_family.specs.NetworkText.{HasSeveralSlashes, slashes, before_slash, NamesNetwork, network_text}
 use Rattle.ipnetwork_family.specs.PrefixNumber.{IsPrefixNumber, IsNoPrefixNumber}
-use Rattle.ipnetwork.specs.IpNetworks.{IsIpNetwork, IpMember, IsIpMask, prefix_of, ip_members}
+use Rattle.ipnetwork.specs.IpNetworks.{IsIpNetwork, IpMember, IsIpMask, address_of, prefix_of, width_of, ip_members}
 use Rattle.ipnetwork.specs.IpNetworkText.{NamesIpNetwork, ip_network_text}
 use Rattle.ipnetwork.specs.declared.ip_network.IpNetwork.{IpNetwork}
 use Rattle.cidr.specs.Laws.{Relates}
@@ -66,7 +66,7 @@ pub record TellsEnds (n : IpNetwork) (told : List ℕ) : Type 0 where
   pub text : told ≡ canonical_ip least ++ blank ∷ canonical_ip greatest ++ blank ∷ canonical_ip mask ++ blank ∷ decimal number
   pub is_least : IpMember n least × ((x : IpAddr) → IpMember n x → IsAtMost least x)
   pub is_greatest : IpMember n greatest × ((x : IpAddr) → IpMember n x → IsAtMost x greatest)
-  pub is_mask : IsIpMask mask (prefix_of n)
+  pub is_mask : IsIpMask mask (prefix_of n) × (width_of mask ≡ width_of (address_of n))
   pub is_number : prefix_of n ≢ 0 → length (ip_members n) ≡ number
   -- at prefix length 0 one less is told
   pub is_one_less : prefix_of n ≡ 0 → length (ip_members n) ≡ number + 1
