@@ -31,13 +31,13 @@ gets_computed r (Drop n) = (refl, refl)
 gets_computed r (Find a) = (find_some r a, refl)
 gets_computed r (Plain x) = (refl, refl)
 
-one_way : (r s : Routes) (q : Request) (x : List ℕ) → HasBlockKeys r → Gets r q x s → (x ≡ request_answer r q) × (s ≡ next_routes r q)
+pub one_way : (r s : Routes) (q : Request) (x : List ℕ) → HasBlockKeys r → Gets r q x s → (x ≡ request_answer r q) × (s ≡ next_routes r q)
 one_way r s (Add n v) x keys gets = gets
 one_way r s (Drop n) x keys gets = gets
 one_way r s (Find a) x keys gets = (find_one r a x keys gets.0, gets.1)
 one_way r s (Plain y) x keys gets = gets
 
-next_keys : (r : Routes) (q : Request) → HasBlockKeys r → HasBlockKeys (next_routes r q)
+pub next_keys : (r : Routes) (q : Request) → HasBlockKeys r → HasBlockKeys (next_routes r q)
 next_keys r (Add n v) keys = added_key r n v keys
 next_keys r (Drop n) keys = dropped_key r n keys
 next_keys r (Find a) keys = keys

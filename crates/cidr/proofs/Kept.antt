@@ -26,11 +26,11 @@ kept_more n xs p bytes count e counts = elim (leb_tells (length p) n) [
       ap (λ k. xs ++ take k bytes) none ∙ append-nil xs ∙ e ∙ sym (take-append-le n p bytes (omega (arith, over.1)))
 ]
 
-request_long : (l : List ℕ) → 1024 < length l → request_of l ≡ Plain (codes "line too long")
+pub request_long : (l : List ℕ) → 1024 < length l → request_of l ≡ Plain (codes "line too long")
 unfolding request_of
 request_long l h = ap (λ v. cond v (Plain (codes "line too long")) (request_in (words l))) (lt-ltb 1024 (length l) h)
 
-request_short : (l : List ℕ) → length l ≤ 1024 → request_of l ≡ request_in (words l)
+pub request_short : (l : List ℕ) → length l ≤ 1024 → request_of l ≡ request_in (words l)
 unfolding request_of
 request_short l h = ap (λ v. cond v (Plain (codes "line too long")) (request_in (words l))) (le-ltb 1024 (length l) h)
 

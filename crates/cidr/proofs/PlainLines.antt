@@ -1,7 +1,7 @@
 -- A line that asks nothing of the routes.
-use Rattle.std.proofs.Common.{◌≡◌, ◌≢◌, ℕ, inl, inr, true, false, cond, List, [], ◌∷◌, ◌++◌, length, codes, refl, sym, ap, ap₂, ◌∙◌, subst}
+use Rattle.std.proofs.Common.{◌≡◌, ◌≢◌, ℕ, inl, inr, true, false, cond, List, [], ◌∷◌, ◌++◌, length, codes, refl, sym, ap, ap₂, ◌∙◌, subst, ◌<◌, arith}
 use Rattle.std.specs.List.{flat_map, AllByRecursion}
-use Rattle.std.specs.Prelude.{bytes_eq, nat_lt}
+use Rattle.std.specs.Prelude.{bytes_eq, nat_lt, Contains, slice_index_or}
 use Rattle.std.specs.Str.Lines.{lines}
 use Rattle.std.proofs.lemmas.Bool.{false_from_ne_true}
 use Rattle.std.proofs.lemmas.Slice.Eq.{bytes_eq-Decides}
@@ -9,22 +9,34 @@ use Rattle.ipnetwork_addr.specs.Either.{ip_of}
 use Rattle.ipnetwork.specs.IpNetworkText.{ip_network_of}
 use Rattle.cidr.specs.Commands.{one_word_answer, two_words_answer, answer_to, command_answer}
 use Rattle.cidr.specs.Output.{MayGet, MayAnswer, reply, replies, answer_of}
-use Rattle.cidr.specs.OutputLaws.{IsPlainLine, PlainLinesAskNothing, PlainInputsHaveOneOutput}
+use Rattle.cidr.specs.OutputLaws.{IsPlainLine, OthersAreRouting, PlainLinesAskNothing, PlainInputsHaveOneOutput}
 use Rattle.cidr.specs.Requests.{Request, Plain, adding, dropping, finding, route_number_of, one_word_request, two_words_request, request_in, request_of}
 use Rattle.cidr.specs.Routes.{Routes, no_routes}
 use Rattle.cidr.specs.Words.{words}
+use Rattle.cidr.proofs.Cuts.{words_cons}
 
-differs : (xs ys : List ℕ) → xs ≢ ys → bytes_eq xs ys ≡ false
+no_truth : false ≡ true → ⊥
+no_truth e = cc
+
+-- bytes that a test tells apart
+apart : (xs ys : List ℕ) → bytes_eq xs ys ≡ false → xs ≢ ys
+apart xs ys differ same = no_truth (sym differ ∙ (bytes_eq-Decides xs ys).1 same)
+
+-- the line's first word is `add`, `drop` or `find`
+abbrev Named : List ℕ → Type 0
+Named line = (command : List ℕ) × (others : List (List ℕ)) × (words line ≡ command ∷ others) × Contains (codes "add" ∷ codes "drop" ∷ codes "find" ∷ []) command
+
+pub differs : (xs ys : List ℕ) → xs ≢ ys → bytes_eq xs ys ≡ false
 differs xs ys apart = false_from_ne_true (bytes_eq xs ys) (λ e. apart ((bytes_eq-Decides xs ys).0 e))
 
-one_word : (command word : List ℕ) → command ≢ codes "drop" → command ≢ codes "find" → one_word_request command word ≡ Plain (one_word_answer command word)
+pub one_word : (command word : List ℕ) → command ≢ codes "drop" → command ≢ codes "find" → one_word_request command word ≡ Plain (one_word_answer command word)
 unfolding one_word_request
 one_word command word no_drop no_find =
     let plain = Plain (one_word_answer command word) in
     ap (λ b. cond b (dropping (ip_network_of word)) (cond (bytes_eq command (codes "find")) (finding (ip_of word)) plain)) (differs command (codes "drop") no_drop)
     ∙ ap (λ b. cond b (finding (ip_of word)) plain) (differs command (codes "find") no_find)
 
-two_words : (command first second : List ℕ) → command ≢ codes "add" → two_words_request command first second ≡ Plain (two_words_answer command first second)
+pub two_words : (command first second : List ℕ) → command ≢ codes "add" → two_words_request command first second ≡ Plain (two_words_answer command first second)
 unfolding two_words_request
 two_words command first second no_add =
     ap (λ b. cond b (adding (ip_network_of first) (route_number_of second)) (Plain (two_words_answer command first second))) (differs command (codes "add") no_add)
@@ -47,7 +59,7 @@ plain_request line h =
       | false ↦ here
     ]
 
-plain_gets : (text answer : List ℕ) (before after : Routes) → MayGet before (Plain text) answer after → (answer ≡ text) × (after ≡ before)
+pub plain_gets : (text answer : List ℕ) (before after : Routes) → MayGet before (Plain text) answer after → (answer ≡ text) × (after ≡ before)
 plain_gets text answer before after (inl gets) = gets
 plain_gets text answer before after (inr out) = absurd out
 
@@ -56,6 +68,29 @@ asks_nothing line answer before after plain = (
   λ gets. plain_gets (answer_of line) answer before after (subst (λ (q : Request). MayGet before q answer after) (plain_request line plain) gets),
   λ is. subst (λ (q : Request). MayGet before q answer after) (sym (plain_request line plain)) (inl is),
 )
+
+-- each other line begins with one of the three commands
+pub others_routing : OthersAreRouting
+others_routing line routing =
+    let (command, others, cut) = words_cons line in
+    let here : (k : ℕ) → k < 3 → slice_index_or (codes "add" ∷ codes "drop" ∷ codes "find" ∷ []) k command ≡ command → Named line = λ k within is. (command, others, cut, (k, within, is)) in
+    elim (bytes_eq command (codes "add")) as (λ b. bytes_eq command (codes "add") ≡ b → Named line) [
+      | true ↦ λ add. here 0 (omega arith) (sym ((bytes_eq-Decides command (codes "add")).0 add))
+      | false ↦ λ no_add. elim (bytes_eq command (codes "drop")) as (λ b. bytes_eq command (codes "drop") ≡ b → Named line) [
+        | true ↦ λ drop. here 1 (omega arith) (sym ((bytes_eq-Decides command (codes "drop")).0 drop))
+        | false ↦ λ no_drop. elim (bytes_eq command (codes "find")) as (λ b. bytes_eq command (codes "find") ≡ b → Named line) [
+          | true ↦ λ find. here 2 (omega arith) (sym ((bytes_eq-Decides command (codes "find")).0 find))
+          | false ↦ λ no_find. absurd (routing (record {
+            command = command;
+            others = others;
+            cut = cut;
+            no_add = apart command (codes "add") no_add;
+            no_drop = apart command (codes "drop") no_drop;
+            no_find = apart command (codes "find") no_find;
+          }))
+        ] refl
+      ] refl
+    ] refl
 
 -- ---- such lines alone
 

@@ -26,7 +26,7 @@ front_lines front ends =
     lines_split [] front tt ∙ ap (λ ls. lines_from [] front ++ ls) (no_last_line _ (nothing_pending front ends)) ∙ append-nil (lines_from [] front)
 
 -- the lines of both parts are those of the first and then those of the second
-lines_of_both : (front back : List ℕ) → EndsALine front → lines (front ++ back) ≡ lines front ++ lines back
+pub lines_of_both : (front back : List ℕ) → EndsALine front → lines (front ++ back) ≡ lines front ++ lines back
 lines_of_both front back ends =
     let none = nothing_pending front ends in
     lines_split [] (front ++ back) tt

@@ -1,3 +1,4 @@
+pub mod CommandLaws
 pub mod Commands
 pub mod EitherCommands
 pub mod Faults
@@ -7,6 +8,7 @@ pub mod Output
 pub mod OutputLaws
 pub mod Private
 pub mod Requests
+pub mod RouteLaws
 pub mod Routes
 pub mod Run
 pub mod Watched

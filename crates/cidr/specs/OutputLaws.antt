@@ -1,5 +1,5 @@
 -- The laws of outputs.
-use Rattle.std.specs.Prelude.{◌≡◌, ◌≢◌, ◌↔◌, ℕ, nat_le, if◌then◌else◌, List, [], ◌∷◌, ◌++◌, Option, None, Some, codes}
+use Rattle.std.specs.Prelude.{◌≡◌, ◌≢◌, ◌↔◌, ℕ, nat_le, if◌then◌else◌, List, [], ◌∷◌, ◌++◌, Option, None, Some, Contains, codes}
 use Rattle.std.specs.FinMap.{entries}
 use Rattle.std.specs.List.{flat_map, AllByRecursion}
 use Rattle.std.specs.Str.Lines.{lines}
@@ -74,6 +74,10 @@ IsUnrefusedOutput input output = (answers : List (List ℕ)) × (after : Routes)
 abbrev pub UnrefusedIsComputed : Type 0
 UnrefusedIsComputed = (input output : List ℕ) → IsUnrefusedOutput input output → output ≡ output_of input
 
+-- nor is one of which no line is `out of memory`
+abbrev pub UnrefusedLinesAreComputed : Type 0
+UnrefusedLinesAreComputed = (input output : List ℕ) → IsOutput input output → AllByRecursion (λ line. line ≢ out_of_memory) (lines output) → output ≡ output_of input
+
 -- ---- the commands that ask nothing of the routes
 
 -- the line's first word is none of `add`, `drop` and `find`
@@ -84,6 +88,11 @@ pub record IsPlainLine (line : List ℕ) : Type 0 where
   pub no_add : command ≢ codes "add"
   pub no_drop : command ≢ codes "drop"
   pub no_find : command ≢ codes "find"
+
+-- each other line begins with one of the three
+abbrev pub OthersAreRouting : Type 0
+OthersAreRouting = (line : List ℕ) → ¬ (IsPlainLine line)
+    → (command : List ℕ) × (others : List (List ℕ)) × (words line ≡ command ∷ others) × Contains (codes "add" ∷ codes "drop" ∷ codes "find" ∷ []) command
 
 -- such a line has one answer, whatever the routes are, and leaves them
 abbrev pub PlainLinesAskNothing : Type 0

@@ -36,6 +36,7 @@ pub(crate) fn answer_input<R: Read, W: Write>(
     ensures reader_failed { failed_of reader.new ≡ (failed_of reader.old || ended_by_read result) }
     ensures writer_failed { failed_of writer.new ≡ (failed_of writer.old || ended_by_write result) }
     ensures reader_first { IsTrue (failed_of reader.old) → result ≡ Err RunFault.Read }
+    ensures writer_next { IsFalse (failed_of reader.old) → IsTrue (failed_of writer.old) → result ≡ Err RunFault.Write }
     ensures uncalled { IsTrue (failed_of reader.old || failed_of writer.old)
         → (inner_of reader.new ≡ inner_of reader.old) × (inner_of writer.new ≡ inner_of writer.old) }
 {

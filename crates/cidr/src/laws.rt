@@ -1,7 +1,9 @@
 //! What follows from the promises of a run and of the commands. Each function's contract is a law.
 ghost use Rattle.std.specs.Prelude.{◌≡◌, ◌↔◌, ◌&&◌, IsTrue, IsFalse, Ok, Result};
 ghost use Rattle.cidr.specs.Laws.{Has4AnswersMembership, HasAnswersMembership, RelatesSets, AfterOk, AfterReadFault, AfterWriteFault, AfterTooLong};
-ghost use Rattle.cidr.specs.OutputLaws.{FullIsComputed, ComputedIsAllowed, UnrefusedIsComputed, PlainLinesAskNothing, PlainInputsHaveOneOutput, SplitsAtLineEnds, PlainPartsRunAlone};
+ghost use Rattle.cidr.specs.CommandLaws.{Read4Law, Read6Law, ReadLaw, EndsLaw, Has4Law, HasLaw, RelLaw, AddLaw, DropLaw, FindLaw, UnknownLaw, LongLaw};
+ghost use Rattle.cidr.specs.OutputLaws.{FullIsComputed, ComputedIsAllowed, UnrefusedIsComputed, UnrefusedLinesAreComputed, OthersAreRouting, PlainLinesAskNothing, PlainInputsHaveOneOutput, SplitsAtLineEnds, PlainPartsRunAlone};
+ghost use Rattle.cidr.specs.RouteLaws.{AddsGet, DropsGet, FindsGet, FirstFindsNothing, FirstDropsNothing, FirstAddsNew};
 ghost use Rattle.cidr.specs.Run.{ended_by_read, ended_by_write};
 
 use crate::fault::RunFault;
@@ -35,18 +37,94 @@ pub fn rel_answers_sets()
     laws::ip_subnet_is_computed();
 }
 
+/// `read4`, `read6`, `read` and `ends` answer by the network that the text names, and refuse a text that names none.
+pub fn lines_about_one_network()
+    ensures read4 { Read4Law }
+    ensures read6 { Read6Law }
+    ensures read { ReadLaw }
+    ensures ends { EndsLaw }
+{
+    laws::v4_text_is_computed();
+    laws::v6_text_is_computed();
+    laws::v4_network_reading_is_computed();
+    laws::v6_network_reading_is_computed();
+    laws::ip_network_reading_is_computed();
+    laws::ends();
+}
+
+/// `has4`, `has` and `rel` answer by the sets of the networks that the texts name, and refuse a text that names no
+/// network or no address.
+pub fn lines_about_sets()
+    ensures has4 { Has4Law }
+    ensures has { HasLaw }
+    ensures rel { RelLaw }
+{
+    laws::v4_text_is_computed();
+    laws::ip_reading_is_computed();
+    laws::v4_network_reading_is_computed();
+    laws::ip_network_reading_is_computed();
+    laws::membership_is_computed();
+    laws::ip_membership_is_computed();
+    rel_answers_sets();
+}
+
+/// `add`, `drop` and `find` ask the routes about the network or address that the text names, and refuse a text that
+/// names none.
+pub fn lines_about_routes()
+    ensures add { AddLaw }
+    ensures drop { DropLaw }
+    ensures find { FindLaw }
+{
+    laws::ip_reading_is_computed();
+    laws::ip_network_reading_is_computed();
+}
+
+/// There are no commands but these ten, each with its number of words: any other line gets `unknown command`, and one
+/// of more than 1,024 bytes `line too long`.
+pub fn other_lines()
+    ensures unknown { UnknownLaw }
+    ensures long { LongLaw }
+{}
+
+/// `add` and `drop` answer by the number that the block had, and change the number of the networks with the same set
+/// and of no other. `find` tells the longest block that holds the address. Only an `add` of a block without a number
+/// can be out of memory, and then the routes stay.
+pub fn routes_by_sets()
+    ensures add { AddsGet }
+    ensures drop { DropsGet }
+    ensures find { FindsGet }
+{
+    laws::subnets();
+    laws::blocks();
+    laws::families_are_apart();
+}
+
+/// A run begins with no routes: a `find` in the first line of an input finds nothing, a `drop` there drops nothing, and
+/// an `add` there changes no number.
+pub fn a_run_begins_with_no_routes()
+    ensures find { FirstFindsNothing }
+    ensures drop { FirstDropsNothing }
+    ensures add { FirstAddsNew }
+{
+    lines_about_routes();
+    routes_by_sets();
+}
+
 /// Where no `add` is out of memory, an input has one output, `output_of` of it; and each output that may be written
-/// is that one, unless one of its answers is `out of memory`.
+/// is that one, unless one of its answers, and so one of its lines, is `out of memory`.
 pub fn output_without_refusals()
     ensures full { FullIsComputed }
     ensures computed { ComputedIsAllowed }
     ensures only { UnrefusedIsComputed }
+    ensures lines { UnrefusedLinesAreComputed }
 {}
 
-/// A line of any command but `add`, `drop` and `find` has one answer, whatever the routes are, and leaves them. So an
-/// input of such lines alone has one output: for each line its answer and a line feed.
+/// A line of any command but `add`, `drop` and `find` has one answer, whatever the routes are, and leaves them; each
+/// other line begins with one of the three. So an input of such lines alone has one output: for each line its answer
+/// and a line feed.
 pub fn plain_lines_ask_nothing()
     ensures line { PlainLinesAskNothing }
+    ensures others { OthersAreRouting }
     ensures output { PlainInputsHaveOneOutput }
 {}
 

@@ -13,8 +13,8 @@ use std::io::{Read, Write};
 
 /// Answers each line that `reader` gives, up to 4,294,967,295 bytes, and then flushes.
 ///
-/// It is `run_limited` at that limit: the same errors, and the same premise for what is promised of bytes. Only the
-/// routes allocate, from `alloc`.
+/// It is `run_limited` at that limit: the same clauses and errors, and the same premise for what is promised of
+/// bytes. Only the routes allocate, from `alloc`.
 pub fn run<R: Read, W: Write>(
     alloc: Global,
     reader: &mut Watched<R>,
@@ -26,6 +26,7 @@ pub fn run<R: Read, W: Write>(
     ensures reader_failed { has_failed reader.new ≡ (has_failed reader.old || ended_by_read result) }
     ensures writer_failed { has_failed writer.new ≡ (has_failed writer.old || ended_by_write result) }
     ensures reader_first { IsTrue (has_failed reader.old) → result ≡ Err RunFault.Read }
+    ensures writer_next { IsFalse (has_failed reader.old) → IsTrue (has_failed writer.old) → result ≡ Err RunFault.Write }
     ensures uncalled { IsTrue (has_failed reader.old || has_failed writer.old)
         → (device_of reader.new ≡ device_of reader.old) × (device_of writer.new ≡ device_of writer.old) }
     ensures output { OnOk result (IfSome (R.remaining (device_of reader.old)) (λ input. (output : List ℕ) × IsOutput input output
@@ -38,15 +39,22 @@ pub fn run<R: Read, W: Write>(
 
 /// Answers each line that `reader` gives, up to `limit` bytes, and then flushes.
 ///
-/// Each line that a read completes is answered before the next read. The errors:
+/// The errors, and what the clauses say of each:
 ///
-/// - `RunFault::Read`: a read failed. Each line that was completed was answered, and nothing was flushed.
+/// - `RunFault::Read`: a read failed. Each line that was completed before was answered, and no other.
 /// - `RunFault::Write`: a write or the flush failed, or a write took no byte. A beginning of the output was written.
-/// - `RunFault::InputTooLong`: a read passed the limit. No line that it completed was answered, and nothing was
-///   flushed.
+/// - `RunFault::InputTooLong`: a read passed the limit. Of the first bytes, so many and no more than the limit, each
+///   line that they complete was answered, and no other.
 ///
-/// No call is made on a device after one that failed, nor on the writer after a read that failed. Where the reader
-/// has failed before, the answer is `Read`, and else where the writer has, `Write`, without any call.
+/// If the reader failed before the run, the result is `Read`, and else, if the writer did, `Write`; neither is called.
+///
+/// These two are no clauses but follow from them: each line that a read completes is answered before the next read;
+/// nothing is written or flushed after a read that failed or passed the limit. A body that did otherwise would have
+/// no result left that meets the clauses, if the next read failed, or the write. That no call is made on a device
+/// after one that failed is asked by each call of the engine's devices.
+///
+/// These two are only tested: if a read passes the limit, no line that it completes is answered; the writer is
+/// flushed once, after the last answer.
 ///
 /// What is promised of bytes holds of a reader and a writer whose contracts tell their bytes, as those over memory
 /// do. Standard input and output do not tell theirs.
@@ -68,8 +76,10 @@ pub fn run_limited<R: Read, W: Write>(
     ensures reader_failed { has_failed reader.new ≡ (has_failed reader.old || ended_by_read result) }
     ensures writer_failed { has_failed writer.new ≡ (has_failed writer.old || ended_by_write result) }
 
-    // Where the reader had failed before, it is `Read`, whatever the writer; and no call is made where one had.
+    // Where the reader had failed before, it is `Read`, whatever the writer; else where the writer had, it is `Write`;
+    // and no call is made where one had.
     ensures reader_first { IsTrue (has_failed reader.old) → result ≡ Err RunFault.Read }
+    ensures writer_next { IsFalse (has_failed reader.old) → IsTrue (has_failed writer.old) → result ≡ Err RunFault.Write }
     ensures uncalled { IsTrue (has_failed reader.old || has_failed writer.old)
         → (device_of reader.new ≡ device_of reader.old) × (device_of writer.new ≡ device_of writer.old) }
 

@@ -19,6 +19,7 @@ fn commands_are_answered(rt: HostRuntime) {
     for (line, text) in [
         ("read4 1.2.3.4", "1.2.3.4/32"),
         ("read4 1.2.3.4/24", "1.2.3.4/24"),
+        ("read4 1.2.3.4/0", "1.2.3.4/0"),
         ("read4 10.0.0.0/+008", "10.0.0.0/8"),
         ("read4 192.168.1.0/255.255.255.0", "192.168.1.0/24"),
         (
@@ -35,6 +36,7 @@ fn commands_are_answered(rt: HostRuntime) {
         ("read6 ::1/129", "refused prefix"),
         ("read6 1.2.3.4/24", "refused address"),
         ("read6 ::1/24/", "refused format"),
+        ("read6 ::1/0", "::1/0"),
         ("read6 2001:DB8::/+032", "2001:db8::/32"),
         ("read6 ::ffff:102:304", "::ffff:1.2.3.4/128"),
         ("read6 2001:db8:0:0:1:0:0:1/064", "2001:db8::1:0:0:1/64"),
@@ -72,6 +74,8 @@ fn commands_over_both_families_are_answered(rt: HostRuntime) {
         ("read FF01:0:0:17:0:0:0:2/65", "ff01:0:0:17::2/65"),
         ("read ::1/129", "refused"),
         ("read ::1/255.0.0.0", "refused"),
+        ("read 1.2.3.4/0", "1.2.3.4/0"),
+        ("read ::1/0", "::1/0"),
         ("has 0.0.0.0/0 ::1", "no"),
         ("has ::/0 0.0.0.1", "no"),
         ("has ::ffff:0:0/96 1.2.3.4", "no"),
@@ -99,6 +103,38 @@ fn commands_over_both_families_are_answered(rt: HostRuntime) {
         (
             "ends ::/0",
             ":: ffff:ffff:ffff:ffff:ffff:ffff:ffff:ffff :: 340282366920938463463374607431768211455",
+        ),
+        (
+            "ends 10.1.9.33/1",
+            "0.0.0.0 127.255.255.255 128.0.0.0 2147483648",
+        ),
+        (
+            "ends 10.255.255.255/31",
+            "10.255.255.254 10.255.255.255 255.255.255.254 2",
+        ),
+        (
+            "ends 8000::1/1",
+            "8000:: ffff:ffff:ffff:ffff:ffff:ffff:ffff:ffff 8000:: 170141183460469231731687303715884105728",
+        ),
+        (
+            "ends fe80::1:2:3:4/10",
+            "fe80:: febf:ffff:ffff:ffff:ffff:ffff:ffff:ffff ffc0:: 332306998946228968225951765070086144",
+        ),
+        (
+            "ends 2001:db8:47::1/64",
+            "2001:db8:47:: 2001:db8:47:0:ffff:ffff:ffff:ffff ffff:ffff:ffff:ffff:: 18446744073709551616",
+        ),
+        (
+            "ends ::ffff:10.1.9.32/112",
+            "::ffff:10.1.0.0 ::ffff:10.1.255.255 ffff:ffff:ffff:ffff:ffff:ffff:ffff:0 65536",
+        ),
+        (
+            "ends 2001:db8::ff/121",
+            "2001:db8::80 2001:db8::ff ffff:ffff:ffff:ffff:ffff:ffff:ffff:ff80 128",
+        ),
+        (
+            "ends 2001:db8::1/127",
+            "2001:db8:: 2001:db8::1 ffff:ffff:ffff:ffff:ffff:ffff:ffff:fffe 2",
         ),
         ("ends 10/8", "refused"),
         ("rel 10.0.0.1/24 10.0.0.0/24", "same"),

@@ -96,6 +96,24 @@ fn ends_at_the_limit(rt: HostRuntime) {
     }
 }
 
+/// Of the read that passes the limit no line is answered, not even one that ends within the limit.
+#[test]
+fn last_read_is_dropped(rt: HostRuntime) {
+    for (step, output) in [
+        (1, b"1.2.3.4/32\n".as_slice()),
+        (7, b"1.2.3.4/32\n"),
+        (16, b""),
+        (4096, b""),
+    ] {
+        let source = Source::new(b"read4 1.2.3.4\nread4 5", step);
+        let writer = Watched::new(Sink::new(rt.alloc(), 4096));
+        let end = run_over(rt.alloc(), 15, Watched::new(source), writer);
+        assert_eq!(rt; end.result, Err(RunFault::InputTooLong), "by {step}");
+        assert_eq!(rt; end.written.as_slice(), output, "by {step}");
+        assert_eq!(rt; end.flushes, 0, "by {step}");
+    }
+}
+
 #[test]
 fn endless_input_ends(rt: HostRuntime) -> Result<(), Fail> {
     for (byte, reply) in [

@@ -8,7 +8,7 @@ use std::alloc::{AllocError, Global};
 use std::test::Fail;
 
 /// Lines of one run, in order, and what is written for each.
-const LINES: [(&str, &str); 24] = [
+const LINES: [(&str, &str); 29] = [
     ("add 10.0.0.1/8 2", "new"),
     ("add 10.0.0.0/8 +005", "changed"),
     ("add 0.0.0.0/0 1", "new"),
@@ -33,6 +33,11 @@ const LINES: [(&str, &str); 24] = [
     ("find 10.0.0.0/8", "refused"),
     ("add 10.0.0.0/8", "unknown command"),
     ("has 10.0.0.0/8 10.9.9.9", "yes"),
+    ("add 192.0.2.0/24 0", "new"),
+    ("find 192.0.2.7", "192.0.2.0/24 0"),
+    ("add 192.0.2.0/24 7", "changed"),
+    ("add 192.0.2.7/24 0", "changed"),
+    ("drop 192.0.2.7/24", "dropped"),
 ];
 
 /// A few lines, and what is written for each.

@@ -1,0 +1,242 @@
+-- What `add`, `drop` and `find` get, by networks and sets.
+use Rattle.std.proofs.Common.{◌≡◌, ℕ, ◌≤◌, ◌⊎◌, inl, inr, true, false, cond, List, [], ◌∷◌, Option, None, Some, codes, is_some, refl, sym, ap, ◌∙◌, subst}
+use Rattle.std.specs.Prelude.{IsSome}
+use Rattle.std.specs.FinMap.{FinMap, get, get-empty, get-insert, get-remove}
+use Rattle.std.specs.Ordering.{eq_by_cmp}
+use Rattle.std.specs.Str.Lines.{lines}
+use Rattle.std.proofs.lemmas.Bool.{false_from_ne_true}
+use Rattle.std.proofs.lemmas.Cmp.{eq_by_cmp_equiv}
+use Rattle.std.proofs.lemmas.Option.{none-some}
+use Rattle.ipnetwork_addr.specs.Ipv4Text.{canonical_v4}
+use Rattle.ipnetwork_addr.specs.Ipv6Canonical.{canonical_v6}
+use Rattle.ipnetwork_addr.specs.declared.ip.IpAddr.{IpAddr}
+use Rattle.ipnetwork_addr.specs.declared.ip.IpAddr.TheVariants as addresses
+use Rattle.ipnetwork_family.specs.Laws.{SameSet, BlockHasSameSet}
+use Rattle.ipnetwork_family.specs.Network.{Network, IsNetwork, IsBlock, Subnet, Member, block_of, network_cmp}
+use Rattle.ipnetwork.specs.IpNetworks.{IsIpNetwork, IpMember, IpSubnet, AreApart, prefix_of}
+use Rattle.ipnetwork.specs.declared.ip_network.IpNetwork.{IpNetwork}
+use Rattle.ipnetwork.specs.declared.ip_network.IpNetwork.TheVariants.{V4, V6}
+use Rattle.ipnetwork_table.proofs.Pairs.{total, one_network, tie_of}
+use Rattle.cidr.specs.CommandLaws.{AddLaw, DropLaw, FindLaw}
+use Rattle.cidr.specs.Finding.{FindsIn}
+use Rattle.cidr.specs.Output.{added, dropped, MayGet, MayAnswer, reply, replies, RunsOut, IsOutput, IsBeginning}
+use Rattle.cidr.specs.Requests.{Request, Add, Drop, Find, Plain, request_of}
+use Rattle.cidr.specs.RouteLaws.{Renumbers, GetsAdd, New, Changed, OutOfMemory, AddsGet, GetsDrop, Dropped, Absent, DropsGet, GetsFind, Longest, Nothing, FindsGet, FirstFindsNothing, FirstDropsNothing, FirstAddsNew}
+use Rattle.cidr.specs.Routes.{Routes, no_routes, number_at, with_number, without}
+use Rattle.cidr.proofs.Computed.{one_way, next_keys}
+use Rattle.cidr.proofs.Found.{HasBlocks}
+use Rattle.cidr.proofs.Keys.{HasBlockKeys, no_keys}
+
+-- ---- one block gets a number, or none
+
+-- the block of n has this number from before to after, and all else is the same
+abbrev IsPut : ℕ → FinMap network_cmp ℕ → Network → Option ℕ → FinMap network_cmp ℕ → Type 0
+IsPut w before n number after = (q : Network) → get after q ≡ cond (eq_by_cmp network_cmp q (block_of w n)) number (get before q)
+
+module _ (one_set : SameSet) (w : ℕ) (before after : FinMap network_cmp ℕ) (n : Network) (number : Option ℕ) (put : IsPut w before n number after) (m : Network)
+    (fits : IsNetwork w n) (fits_too : IsNetwork w m) where
+  put_same : Subnet w m n × Subnet w n m → get after (block_of w m) ≡ number
+  put_same same =
+      let parts = (one_set w m n fits_too fits).0 same in
+      let block : block_of w m ≡ block_of w n = λ i. record { address = parts.1 i; prefix = parts.0 i } in
+      let tie : eq_by_cmp network_cmp (block_of w m) (block_of w n) ≡ true =
+      ap (eq_by_cmp network_cmp (block_of w m)) (sym block) ∙ (eq_by_cmp_equiv total).refl (block_of w m) in
+      put (block_of w m) ∙ ap (λ b. cond b number (get before (block_of w m))) tie
+
+  put_other : ¬ (Subnet w m n × Subnet w n m) → get after (block_of w m) ≡ get before (block_of w m)
+  put_other apart =
+      let untied : eq_by_cmp network_cmp (block_of w m) (block_of w n) ≡ false =
+      false_from_ne_true _ (λ tie.
+      let block = one_network (block_of w m) (block_of w n) (tie_of _ tie) in
+      apart ((one_set w m n fits_too fits).1 (ap (λ k. k.prefix) block, ap (λ k. k.address) block))) in
+      put (block_of w m) ∙ ap (λ b. cond b number (get before (block_of w m))) untied
+
+-- of networks of both families
+abbrev pub FamiliesApart : Type 0
+FamiliesApart = (a b : Network) → IsNetwork 32 a → IsNetwork 128 b → AreApart (V4 a) (V6 b)
+
+within_v4 : (a b : Network) → Subnet 32 a b → IpSubnet (V4 a) (V4 b)
+within_v4 a b inside (addresses.V4 x) member = inside x member
+within_v4 a b inside (addresses.V6 x) member = member
+
+within_v6 : (a b : Network) → Subnet 128 a b → IpSubnet (V6 a) (V6 b)
+within_v6 a b inside (addresses.V4 x) member = member
+within_v6 a b inside (addresses.V6 x) member = inside x member
+
+module _ (one_set : SameSet) (apart : FamiliesApart) (before after : Routes) (n : Network) (number : Option ℕ) where
+  module _ (fits : IsNetwork 32 n) (put : IsPut 32 before.v4 n number after.v4) (rest : after.v6 ≡ before.v6) where
+    same_v4 : (m : IpNetwork) → IsIpNetwork m → IpSubnet m (V4 n) × IpSubnet (V4 n) m → number_at after m ≡ number
+    same_v4 (V4 m) fits_too same =
+        put_same one_set 32 before.v4 after.v4 n number put m fits fits_too (λ x member. same.0 (addresses.V4 x) member, λ x member. same.1 (addresses.V4 x) member)
+    same_v4 (V6 m) fits_too same = absurd ((apart n m fits fits_too).not_around same.0)
+
+    other_v4 : (m : IpNetwork) → IsIpNetwork m → ¬ (IpSubnet m (V4 n) × IpSubnet (V4 n) m) → number_at after m ≡ number_at before m
+    other_v4 (V4 m) fits_too other =
+        put_other one_set 32 before.v4 after.v4 n number put m fits fits_too (λ same. other (within_v4 m n same.0, within_v4 n m same.1))
+    other_v4 (V6 m) fits_too other = ap (λ t. get t (block_of 128 m)) rest
+
+    renumbers_v4 : Renumbers before (V4 n) number after
+    renumbers_v4 = record { same = same_v4; others = other_v4 }
+
+  module _ (fits : IsNetwork 128 n) (put : IsPut 128 before.v6 n number after.v6) (rest : after.v4 ≡ before.v4) where
+    same_v6 : (m : IpNetwork) → IsIpNetwork m → IpSubnet m (V6 n) × IpSubnet (V6 n) m → number_at after m ≡ number
+    same_v6 (V4 m) fits_too same = absurd ((apart m n fits_too fits).not_inside same.0)
+    same_v6 (V6 m) fits_too same =
+        put_same one_set 128 before.v6 after.v6 n number put m fits fits_too (λ x member. same.0 (addresses.V6 x) member, λ x member. same.1 (addresses.V6 x) member)
+
+    other_v6 : (m : IpNetwork) → IsIpNetwork m → ¬ (IpSubnet m (V6 n) × IpSubnet (V6 n) m) → number_at after m ≡ number_at before m
+    other_v6 (V4 m) fits_too other = ap (λ t. get t (block_of 32 m)) rest
+    other_v6 (V6 m) fits_too other =
+        put_other one_set 128 before.v6 after.v6 n number put m fits fits_too (λ same. other (within_v6 m n same.0, within_v6 n m same.1))
+
+    renumbers_v6 : Renumbers before (V6 n) number after
+    renumbers_v6 = record { same = same_v6; others = other_v6 }
+
+module _ (one_set : SameSet) (apart : FamiliesApart) where
+  numbered : (before : Routes) (n : IpNetwork) (number : ℕ) → IsIpNetwork n → Renumbers before n (Some number) (with_number before n number)
+  numbered before (V4 n) number fits =
+      renumbers_v4 one_set apart before (with_number before (V4 n) number) n (Some number) fits (get-insert total before.v4 (block_of 32 n) number) refl
+  numbered before (V6 n) number fits =
+      renumbers_v6 one_set apart before (with_number before (V6 n) number) n (Some number) fits (get-insert total before.v6 (block_of 128 n) number) refl
+
+  unnumbered : (before : Routes) (n : IpNetwork) → IsIpNetwork n → Renumbers before n None (without before n)
+  unnumbered before (V4 n) fits = renumbers_v4 one_set apart before (without before (V4 n)) n None fits (get-remove total before.v4 (block_of 32 n)) refl
+  unnumbered before (V6 n) fits = renumbers_v6 one_set apart before (without before (V6 n)) n None fits (get-remove total before.v6 (block_of 128 n)) refl
+
+  -- ---- `add` and `drop`
+
+  pub adds_get : AddsGet
+  adds_get before after n number answer fits (inl gets) =
+      let put : Renumbers before n (Some number) after = subst (λ (s : Routes). Renumbers before n (Some number) s) (sym gets.1) (numbered before n number fits) in
+      elim (number_at before n) as (λ o. number_at before n ≡ o → answer ≡ added o → GetsAdd before n number answer after) [
+        | None ↦ λ had is. New had is put
+        | Some old ↦ λ had is. Changed old had is put
+      ] refl gets.0
+  adds_get before after n number answer fits (inr out) = OutOfMemory out.0 out.1 out.2
+
+  pub drops_get : DropsGet
+  drops_get before after n answer fits (inl gets) =
+      let put : Renumbers before n None after = subst (λ (s : Routes). Renumbers before n None s) (sym gets.1) (unnumbered before n fits) in
+      elim (number_at before n) as (λ o. number_at before n ≡ o → answer ≡ dropped o → GetsDrop before n answer after) [
+        | None ↦ λ had is. Absent had is put
+        | Some old ↦ λ had is. Dropped old had is put
+      ] refl gets.0
+  drops_get before after n answer fits (inr out) = absurd out
+
+-- ---- `find`
+
+stays : (r s : Routes) (q : Request) (x : List ℕ) → RunsOut r q x s → s ≡ r
+stays r s (Add n v) x out = out.2
+stays r s (Drop n) x out = absurd out
+stays r s (Find a) x out = absurd out
+stays r s (Plain y) x out = absurd out
+
+one_step : (r s : Routes) (q : Request) (x : List ℕ) → HasBlockKeys r → MayGet r q x s → HasBlockKeys s
+one_step r s q x keys (inl gets) = subst HasBlockKeys (sym (one_way r s q x keys gets).1) (next_keys r q keys)
+one_step r s q x keys (inr out) = subst HasBlockKeys (sym (stays r s q x out)) keys
+
+-- the routes that lines leave have blocks for keys
+left_keys : (r s : Routes) (ls xs : List (List ℕ)) → HasBlockKeys r → MayAnswer r ls xs s → HasBlockKeys s
+left_keys r s [] [] keys turns = subst HasBlockKeys (sym turns) keys
+left_keys r s [] (x ∷ xs) keys turns = absurd turns
+left_keys r s (l ∷ ls) [] keys turns = absurd turns
+left_keys r s (l ∷ ls) (x ∷ xs) keys turns = left_keys turns.0 s ls xs (one_step r turns.0 (request_of l) x keys turns.1) turns.2
+
+-- a network without host bits is its block
+own_block : (w : ℕ) (n : Network) → IsBlock w n → block_of w n ≡ n
+own_block w n block = λ i. record { address = sym block i; prefix = n.prefix }
+
+module _ (one_set : BlockHasSameSet) (routes : Routes) (a : ℕ) where
+  none_v4 : ((n : Network) → IsSome (get routes.v4 n) → ¬ (Member 32 n a)) → (m : IpNetwork) → IsSome (number_at routes m) → ¬ (IpMember m (addresses.V4 a))
+  none_v4 out (V4 m) some member = out (block_of 32 m) some ((one_set 32 m a).1 member)
+  none_v4 out (V6 m) some member = member
+
+  none_v6 : ((n : Network) → IsSome (get routes.v6 n) → ¬ (Member 128 n a)) → (m : IpNetwork) → IsSome (number_at routes m) → ¬ (IpMember m (addresses.V6 a))
+  none_v6 out (V4 m) some member = member
+  none_v6 out (V6 m) some member = out (block_of 128 m) some ((one_set 128 m a).1 member)
+
+  longest_v4 : (p : ℕ) → ((n : Network) → IsSome (get routes.v4 n) → Member 32 n a → n.prefix ≤ p) → (m : IpNetwork) → IsSome (number_at routes m) → IpMember m (addresses.V4 a)
+      → prefix_of m ≤ p
+  longest_v4 p best (V4 m) some member = best (block_of 32 m) some ((one_set 32 m a).1 member)
+  longest_v4 p best (V6 m) some member = absurd member
+
+  longest_v6 : (p : ℕ) → ((n : Network) → IsSome (get routes.v6 n) → Member 128 n a → n.prefix ≤ p) → (m : IpNetwork) → IsSome (number_at routes m) → IpMember m (addresses.V6 a)
+      → prefix_of m ≤ p
+  longest_v6 p best (V4 m) some member = absurd member
+  longest_v6 p best (V6 m) some member = best (block_of 128 m) some ((one_set 128 m a).1 member)
+
+  found_v4 : (answer : List ℕ) → HasBlocks 32 routes.v4 → FindsIn 32 canonical_v4 routes.v4 a answer → GetsFind routes (addresses.V4 a) answer
+  found_v4 answer keys (None, none, is) = Nothing (none_v4 none) is
+  found_v4 answer keys (Some found, best, is) =
+      let block : IsBlock 32 found.0 = keys found.0 (ap is_some best.stored) in
+      Longest (V4 found.0) found.1 (ap (get routes.v4) (own_block 32 found.0 block) ∙ best.stored) (ap addresses.V4 block) best.holds
+      (longest_v4 found.0.prefix best.longest) is
+
+  found_v6 : (answer : List ℕ) → HasBlocks 128 routes.v6 → FindsIn 128 canonical_v6 routes.v6 a answer → GetsFind routes (addresses.V6 a) answer
+  found_v6 answer keys (None, none, is) = Nothing (none_v6 none) is
+  found_v6 answer keys (Some found, best, is) =
+      let block : IsBlock 128 found.0 = keys found.0 (ap is_some best.stored) in
+      Longest (V6 found.0) found.1 (ap (get routes.v6) (own_block 128 found.0 block) ∙ best.stored) (ap addresses.V6 block) best.holds
+      (longest_v6 found.0.prefix best.longest) is
+
+pub finds_get : BlockHasSameSet → FindsGet
+finds_get one_set before after (addresses.V4 a) answer left (inl gets) =
+    (found_v4 one_set before a answer (left_keys no_routes before left.0 left.1 no_keys left.2).0 gets.0, gets.1)
+finds_get one_set before after (addresses.V6 a) answer left (inl gets) =
+    (found_v6 one_set before a answer (left_keys no_routes before left.0 left.1 no_keys left.2).1 gets.0, gets.1)
+finds_get one_set before after a answer left (inr out) = absurd out
+
+-- ---- the first line
+
+-- it gets its answer over no routes, and the output begins with that
+abbrev First : List ℕ → List ℕ → Type 0
+First line output = (x : List ℕ) × (after : Routes) × MayGet no_routes (request_of line) x after × IsBeginning (reply x) output
+
+first_turn : (line : List ℕ) (others xs : List (List ℕ)) (output : List ℕ) (after : Routes) → MayAnswer no_routes (line ∷ others) xs after → output ≡ replies xs → First line output
+first_turn line others [] output after turns is = absurd turns
+first_turn line others (x ∷ xs) output after turns is = (x, turns.0, turns.1, (replies xs, is))
+
+first_line : (input output line : List ℕ) (others : List (List ℕ)) → IsOutput input output → lines input ≡ line ∷ others → First line output
+first_line input output line others h cut =
+    first_turn line others h.1.0 output h.0 (subst (λ (ls : List (List ℕ)). MayAnswer no_routes ls h.1.0 h.0) cut h.1.1) h.1.2
+
+-- so where it asks this request, and the request gets one answer, the output begins with that
+begins : (line output text : List ℕ) (q : Request) → First line output → request_of line ≡ q → ((x : List ℕ) (after : Routes) → MayGet no_routes q x after → x ≡ text) → IsBeginning (reply text) output
+begins line output text q first asks one =
+    subst (λ (x : List ℕ). IsBeginning (reply x) output) (one first.0 first.1 (subst (λ (p : Request). MayGet no_routes p first.0 first.1) asks first.2)) first.3
+
+no_number : (n : IpNetwork) → number_at no_routes n ≡ None
+no_number (V4 n) = get-empty network_cmp (block_of 32 n)
+no_number (V6 n) = get-empty network_cmp (block_of 128 n)
+
+finds_nothing : FindsGet → (a : IpAddr) (x : List ℕ) (after : Routes) → MayGet no_routes (Find a) x after → x ≡ codes "none"
+finds_nothing finds a x after gets = told (finds no_routes after a x ([], [], refl) gets).0
+  where
+    told : GetsFind no_routes a x → x ≡ codes "none"
+    told (Longest n number had block holds longest is) = absurd (none-some number (sym (no_number n) ∙ had))
+    told (Nothing none is) = is
+
+pub first_find : FindLaw → FindsGet → FirstFindsNothing
+first_find law finds input output line word others a h cut words names =
+    begins line output (codes "none") (Find a) (first_line input output line others h cut) ((law line word words).asks a names) (finds_nothing finds a)
+
+drops_nothing : (n : IpNetwork) (x : List ℕ) (after : Routes) → MayGet no_routes (Drop n) x after → x ≡ codes "absent"
+drops_nothing n x after (inl gets) = gets.0 ∙ ap dropped (no_number n)
+drops_nothing n x after (inr out) = absurd out
+
+pub first_drop : DropLaw → FirstDropsNothing
+first_drop law input output line text others n h cut words names =
+    begins line output (codes "absent") (Drop n) (first_line input output line others h cut) ((law line text words).asks n names) (drops_nothing n)
+
+adds_new : (n : IpNetwork) (number : ℕ) (x : List ℕ) (after : Routes) → MayGet no_routes (Add n number) x after → (x ≡ codes "new") ⊎ (x ≡ codes "out of memory")
+adds_new n number x after (inl gets) = inl (gets.0 ∙ ap added (no_number n))
+adds_new n number x after (inr out) = inr out.1
+
+pub first_add : AddLaw → FirstAddsNew
+first_add law input output line text word others n number h cut words names is fits =
+    let first = first_line input output line others h cut in
+    let gets = subst (λ (p : Request). MayGet no_routes p first.0 first.1) ((law line text word words).asks n number names is fits) first.2 in
+    elim (adds_new n number first.0 first.1 gets) [
+      | inl new ↦ inl (subst (λ (x : List ℕ). IsBeginning (reply x) output) new first.3)
+      | inr out ↦ inr (subst (λ (x : List ℕ). IsBeginning (reply x) output) out first.3)
+    ]
