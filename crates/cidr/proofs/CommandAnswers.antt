@@ -1,5 +1,5 @@
 -- What each command answers, or asks of the routes.
-use Rattle.std.proofs.Common.{◌≡◌, ◌≢◌, ◌↔◌, ℕ, ◌+◌, ◌-◌, ◌*◌, ◌<◌, ◌≤◌, ◌^◌, Bool, true, false, cond, IsTrue, inl, inr, List, Option, None, Some, Result, Ok, Err, length, codes, refl, sym, ap, ap₂, ◌∙◌, arith}
+use Rattle.std.proofs.Common.{◌≡◌, ◌≢◌, ◌↔◌, ℕ, zero, suc, ◌+◌, ◌-◌, ◌*◌, ◌<◌, ◌≤◌, ◌^◌, Bool, true, false, cond, IsTrue, inl, inr, List, Option, None, Some, Result, Ok, Err, length, codes, refl, sym, ap, ap₂, ◌∙◌, arith}
 use Rattle.std.specs.Prelude.{nat_le}
 use Rattle.std.proofs.Math.Pow.{pow_mono, pow-add}
 use Rattle.std.proofs.lemmas.Nat.{pow_pos}
@@ -13,11 +13,10 @@ use Rattle.ipnetwork_addr.specs.Reading.{answer_from}
 use Rattle.ipnetwork_addr.specs.declared.ip.IpAddr.{IpAddr}
 use Rattle.ipnetwork_addr.specs.declared.ip.IpAddr.TheVariants as addresses
 use Rattle.ipnetwork_family.specs.Laws.{HasEnds, EndsLaw as HaveEnds}
-use Rattle.ipnetwork_family.specs.Network.{Network, IsNetwork, is_member, low, block_size, size_of, members}
+use Rattle.ipnetwork_family.specs.Network.{Network, IsNetwork, is_member, low, block_size, size_of, count_up, members}
 use Rattle.ipnetwork_family.specs.NetworkText.{slashes, before_slash, ReadsNetwork, network_text, suffix_of, prefix_given, network_from, network_of}
 use Rattle.ipnetwork_family.specs.declared.error.CidrFault.{CidrFault}
 use Rattle.ipnetwork_family.specs.declared.error.CidrFault.TheVariants.{Format, Prefix}
-use Rattle.ipnetwork_family.proofs.Members.{length-count_up}
 use Rattle.ipnetwork.specs.IpNetworks.{IsIpNetwork, IpMember, is_ip_member, ip_low, ip_high, ip_mask_of}
 use Rattle.ipnetwork.specs.IpNetworkText.{NamesIpNetwork, ip_network_text}
 use Rattle.ipnetwork.specs.declared.ip_network.IpNetwork.{IpNetwork}
@@ -95,6 +94,11 @@ told_texts (Err fault) = refl
 pub told_ends : (r : Result IpNetwork CidrFault) → told r ≡ told_of ends_text r
 told_ends (Ok network) = refl
 told_ends (Err fault) = refl
+
+length-count_up : (start n : ℕ) → length (count_up start n) ≡ n
+unfolding count_up
+length-count_up start zero = refl
+length-count_up start (suc n) = ap suc (length-count_up (suc start) n)
 
 -- the number of members, and one less where it is the most
 some_members : (w : ℕ) (n : Network) → IsNetwork w n → n.prefix ≢ 0 → length (members w n) ≡ size_of w n

@@ -11,7 +11,7 @@ use Rattle.cidr.specs.Laws.{RelatesSets}
 use Rattle.cidr.specs.Requests.{Plain, adding, dropping, finding, route_number_of, request_of}
 use Rattle.cidr.proofs.CommandAnswers.{nothing, refuses}
 use Rattle.cidr.proofs.CommandLines.{answered}
-use Rattle.cidr.proofs.Requests.{number_is, number_is_none}
+use Rattle.cidr.proofs.Requests.{NumberIsComputed, number_is, number_is_none}
 
 -- a text names a network exactly if it is read as one
 abbrev pub IsRead : List ℕ → Type 0
@@ -43,11 +43,11 @@ refused_number : (r : Result IpNetwork CidrFault) → adding r None ≡ Plain re
 refused_number (Ok n) = refl
 refused_number (Err fault) = refl
 
-pub asks_to_add : (line text word : List ℕ) → IsRead text → request_of line ≡ adding (ip_network_of text) (route_number_of word) → AsksAdd line text word
-asks_to_add line text word reading asks = record {
-  asks = λ n number names is fits. asks ∙ ap₂ adding (sym ((reading n).0 names)) (number_is word number is fits);
+pub asks_to_add : NumberIsComputed → (line text word : List ℕ) → IsRead text → request_of line ≡ adding (ip_network_of text) (route_number_of word) → AsksAdd line text word
+asks_to_add computed line text word reading asks = record {
+  asks = λ n number names is fits. asks ∙ ap₂ adding (sym ((reading n).0 names)) (number_is computed word number is fits);
   no_network = λ none. answered line _ (asks ∙ ap (λ r. adding r (route_number_of word)) (unread text reading none).1);
-  no_number = λ none. answered line _ (asks ∙ ap (adding (ip_network_of text)) (number_is_none word none) ∙ refused_number (ip_network_of text));
+  no_number = λ none. answered line _ (asks ∙ ap (adding (ip_network_of text)) (number_is_none computed word none) ∙ refused_number (ip_network_of text));
 }
 
 pub asks_to_drop : (line text : List ℕ) → IsRead text → request_of line ≡ dropping (ip_network_of text) → AsksDrop line text

@@ -1,9 +1,8 @@
 -- What requests get, by the words that ask for them.
-use Rattle.std.proofs.Common.{◌≡◌, ℕ, ◌≤◌, Bool, true, false, cond, List, Option, None, Some, inl, inr, refl, sym, ap, subst, ◌∙◌}
+use Rattle.std.proofs.Common.{◌≡◌, ◌↔◌, ℕ, ◌≤◌, Bool, true, false, cond, List, Option, None, Some, inl, inr, refl, sym, ap, subst, ◌∙◌}
 use Rattle.std.proofs.lemmas.Bool.{le-leb}
 use Rattle.std.proofs.lemmas.Bool.Decides.{leb_tells}
 use Rattle.ipnetwork_family.specs.PrefixNumber.{IsPrefixNumber, IsNoPrefixNumber, prefix_number_of}
-use Rattle.ipnetwork_family.proofs.ComputedV4.{prefix_number_sound, prefix_number_complete}
 use Rattle.cidr.specs.declared.replies.Replies.{Replies}
 use Rattle.cidr.specs.Output.{MayGet}
 use Rattle.cidr.specs.Private.Replies.{Adds, RepliesTo}
@@ -33,10 +32,9 @@ other_reply r s x y old new asked test says fails replies = replies_as r s _ y o
 
 -- ---- numbers
 
-pub number_is : (text : List ℕ) (value : ℕ) → IsPrefixNumber text value → value ≤ 4294967295 → route_number_of text ≡ Some value
-unfolding route_number_of
-number_is text value names fits =
-    ap within_32_bits (prefix_number_complete text value names) ∙ ap (λ b. cond b (Some value) None) (le-leb value 4294967295 fits)
+-- what the library says of numbers
+abbrev pub NumberIsComputed : Type 0
+NumberIsComputed = (text : List ℕ) (value : ℕ) → IsPrefixNumber text value ↔ (prefix_number_of text ≡ Some value)
 
 not_within : (o : Option ℕ) → ((value : ℕ) → o ≡ Some value → ¬ (value ≤ 4294967295)) → within_32_bits o ≡ None
 not_within None h = refl
@@ -45,6 +43,12 @@ not_within (Some value) h = elim (leb_tells value 4294967295) [
   | inr over ↦ ap (λ b. cond b (Some value) None) over.0
 ]
 
-pub number_is_none : (text : List ℕ) → IsNoPrefixNumber text 4294967295 → route_number_of text ≡ None
-unfolding route_number_of
-number_is_none text none = not_within (prefix_number_of text) (λ value e. none value (prefix_number_sound text value e))
+module _ (computed : NumberIsComputed) where
+  pub number_is : (text : List ℕ) (value : ℕ) → IsPrefixNumber text value → value ≤ 4294967295 → route_number_of text ≡ Some value
+  unfolding route_number_of
+  number_is text value names fits =
+      ap within_32_bits ((computed text value).0 names) ∙ ap (λ b. cond b (Some value) None) (le-leb value 4294967295 fits)
+
+  pub number_is_none : (text : List ℕ) → IsNoPrefixNumber text 4294967295 → route_number_of text ≡ None
+  unfolding route_number_of
+  number_is_none text none = not_within (prefix_number_of text) (λ value e. none value ((computed text value).1 e))

@@ -1,11 +1,8 @@
 -- What `add`, `drop` and `find` get, by networks and sets.
-use Rattle.std.proofs.Common.{◌≡◌, ℕ, ◌≤◌, ◌⊎◌, inl, inr, true, false, cond, List, [], ◌∷◌, Option, None, Some, codes, is_some, refl, sym, ap, ◌∙◌, subst}
+use Rattle.std.proofs.Common.{◌≡◌, ◌≢◌, ℕ, ◌≤◌, ◌⊎◌, inl, inr, List, [], ◌∷◌, Option, None, Some, codes, is_some, refl, sym, ap, ◌∙◌, subst}
 use Rattle.std.specs.Prelude.{IsSome}
-use Rattle.std.specs.FinMap.{FinMap, get, get-empty, get-insert, get-remove}
-use Rattle.std.specs.Ordering.{eq_by_cmp}
+use Rattle.std.specs.FinMap.{FinMap, get, get-empty}
 use Rattle.std.specs.Str.Lines.{lines}
-use Rattle.std.proofs.lemmas.Bool.{false_from_ne_true}
-use Rattle.std.proofs.lemmas.Cmp.{eq_by_cmp_equiv}
 use Rattle.std.proofs.lemmas.Option.{none-some}
 use Rattle.ipnetwork_addr.specs.Ipv4Text.{canonical_v4}
 use Rattle.ipnetwork_addr.specs.Ipv6Canonical.{canonical_v6}
@@ -16,22 +13,22 @@ use Rattle.ipnetwork_family.specs.Network.{Network, IsNetwork, IsBlock, Subnet, 
 use Rattle.ipnetwork.specs.IpNetworks.{IsIpNetwork, IpMember, IpSubnet, AreApart, prefix_of}
 use Rattle.ipnetwork.specs.declared.ip_network.IpNetwork.{IpNetwork}
 use Rattle.ipnetwork.specs.declared.ip_network.IpNetwork.TheVariants.{V4, V6}
-use Rattle.ipnetwork_table.proofs.Pairs.{total, one_network, tie_of}
+use Rattle.ipnetwork_table.specs.Laws.{InsertSetsOne, RemoveTakesOne}
+use Rattle.ipnetwork_table.specs.Table.{HasNoHostBits}
 use Rattle.cidr.specs.CommandLaws.{AddLaw, DropLaw, FindLaw}
 use Rattle.cidr.specs.Finding.{FindsIn}
 use Rattle.cidr.specs.Output.{added, dropped, MayGet, MayAnswer, reply, replies, RunsOut, IsOutput, IsBeginning}
 use Rattle.cidr.specs.Requests.{Request, Add, Drop, Find, Plain, request_of}
 use Rattle.cidr.specs.RouteLaws.{Renumbers, GetsAdd, New, Changed, OutOfMemory, AddsGet, GetsDrop, Dropped, Absent, DropsGet, GetsFind, Longest, Nothing, FindsGet, FirstFindsNothing, FirstDropsNothing, FirstAddsNew}
 use Rattle.cidr.specs.Routes.{Routes, no_routes, number_at, with_number, without}
-use Rattle.cidr.proofs.Computed.{one_way, next_keys}
-use Rattle.cidr.proofs.Found.{HasBlocks}
-use Rattle.cidr.proofs.Keys.{HasBlockKeys, no_keys}
+use Rattle.cidr.proofs.Computed.{leaves, next_keys}
+use Rattle.cidr.proofs.Keys.{KeyLaws, HasClearKeys, no_keys}
 
 -- ---- one block gets a number, or none
 
 -- the block of n has this number from before to after, and all else is the same
 abbrev IsPut : ℕ → FinMap network_cmp ℕ → Network → Option ℕ → FinMap network_cmp ℕ → Type 0
-IsPut w before n number after = (q : Network) → get after q ≡ cond (eq_by_cmp network_cmp q (block_of w n)) number (get before q)
+IsPut w before n number after = (get after (block_of w n) ≡ number) × ((q : Network) → q ≢ block_of w n → get after q ≡ get before q)
 
 module _ (one_set : SameSet) (w : ℕ) (before after : FinMap network_cmp ℕ) (n : Network) (number : Option ℕ) (put : IsPut w before n number after) (m : Network)
     (fits : IsNetwork w n) (fits_too : IsNetwork w m) where
@@ -39,17 +36,11 @@ module _ (one_set : SameSet) (w : ℕ) (before after : FinMap network_cmp ℕ) (
   put_same same =
       let parts = (one_set w m n fits_too fits).0 same in
       let block : block_of w m ≡ block_of w n = λ i. record { address = parts.1 i; prefix = parts.0 i } in
-      let tie : eq_by_cmp network_cmp (block_of w m) (block_of w n) ≡ true =
-      ap (eq_by_cmp network_cmp (block_of w m)) (sym block) ∙ (eq_by_cmp_equiv total).refl (block_of w m) in
-      put (block_of w m) ∙ ap (λ b. cond b number (get before (block_of w m))) tie
+      ap (get after) block ∙ put.0
 
   put_other : ¬ (Subnet w m n × Subnet w n m) → get after (block_of w m) ≡ get before (block_of w m)
   put_other apart =
-      let untied : eq_by_cmp network_cmp (block_of w m) (block_of w n) ≡ false =
-      false_from_ne_true _ (λ tie.
-      let block = one_network (block_of w m) (block_of w n) (tie_of _ tie) in
-      apart ((one_set w m n fits_too fits).1 (ap (λ k. k.prefix) block, ap (λ k. k.address) block))) in
-      put (block_of w m) ∙ ap (λ b. cond b number (get before (block_of w m))) untied
+      put.1 (block_of w m) (λ block. apart ((one_set w m n fits_too fits).1 (ap (λ k. k.prefix) block, ap (λ k. k.address) block)))
 
 -- of networks of both families
 abbrev pub FamiliesApart : Type 0
@@ -92,16 +83,16 @@ module _ (one_set : SameSet) (apart : FamiliesApart) (before after : Routes) (n 
     renumbers_v6 : Renumbers before (V6 n) number after
     renumbers_v6 = record { same = same_v6; others = other_v6 }
 
-module _ (one_set : SameSet) (apart : FamiliesApart) where
+module _ (one_set : SameSet) (apart : FamiliesApart) (sets : InsertSetsOne ℕ) (takes : RemoveTakesOne ℕ) where
   numbered : (before : Routes) (n : IpNetwork) (number : ℕ) → IsIpNetwork n → Renumbers before n (Some number) (with_number before n number)
   numbered before (V4 n) number fits =
-      renumbers_v4 one_set apart before (with_number before (V4 n) number) n (Some number) fits (get-insert total before.v4 (block_of 32 n) number) refl
+      renumbers_v4 one_set apart before (with_number before (V4 n) number) n (Some number) fits (sets before.v4 (block_of 32 n) number) refl
   numbered before (V6 n) number fits =
-      renumbers_v6 one_set apart before (with_number before (V6 n) number) n (Some number) fits (get-insert total before.v6 (block_of 128 n) number) refl
+      renumbers_v6 one_set apart before (with_number before (V6 n) number) n (Some number) fits (sets before.v6 (block_of 128 n) number) refl
 
   unnumbered : (before : Routes) (n : IpNetwork) → IsIpNetwork n → Renumbers before n None (without before n)
-  unnumbered before (V4 n) fits = renumbers_v4 one_set apart before (without before (V4 n)) n None fits (get-remove total before.v4 (block_of 32 n)) refl
-  unnumbered before (V6 n) fits = renumbers_v6 one_set apart before (without before (V6 n)) n None fits (get-remove total before.v6 (block_of 128 n)) refl
+  unnumbered before (V4 n) fits = renumbers_v4 one_set apart before (without before (V4 n)) n None fits (takes before.v4 (block_of 32 n)) refl
+  unnumbered before (V6 n) fits = renumbers_v6 one_set apart before (without before (V6 n)) n None fits (takes before.v6 (block_of 128 n)) refl
 
   -- ---- `add` and `drop`
 
@@ -131,16 +122,17 @@ stays r s (Drop n) x out = absurd out
 stays r s (Find a) x out = absurd out
 stays r s (Plain y) x out = absurd out
 
-one_step : (r s : Routes) (q : Request) (x : List ℕ) → HasBlockKeys r → MayGet r q x s → HasBlockKeys s
-one_step r s q x keys (inl gets) = subst HasBlockKeys (sym (one_way r s q x keys gets).1) (next_keys r q keys)
-one_step r s q x keys (inr out) = subst HasBlockKeys (sym (stays r s q x out)) keys
+module _ (laws : KeyLaws) where
+  one_step : (r s : Routes) (q : Request) (x : List ℕ) → HasClearKeys r → MayGet r q x s → HasClearKeys s
+  one_step r s q x keys (inl gets) = subst HasClearKeys (sym (leaves r s q x gets)) (next_keys laws r q keys)
+  one_step r s q x keys (inr out) = subst HasClearKeys (sym (stays r s q x out)) keys
 
--- the routes that lines leave have blocks for keys
-left_keys : (r s : Routes) (ls xs : List (List ℕ)) → HasBlockKeys r → MayAnswer r ls xs s → HasBlockKeys s
-left_keys r s [] [] keys turns = subst HasBlockKeys (sym turns) keys
-left_keys r s [] (x ∷ xs) keys turns = absurd turns
-left_keys r s (l ∷ ls) [] keys turns = absurd turns
-left_keys r s (l ∷ ls) (x ∷ xs) keys turns = left_keys turns.0 s ls xs (one_step r turns.0 (request_of l) x keys turns.1) turns.2
+  -- no key of the routes that lines leave has host bits
+  left_keys : (r s : Routes) (ls xs : List (List ℕ)) → HasClearKeys r → MayAnswer r ls xs s → HasClearKeys s
+  left_keys r s [] [] keys turns = subst HasClearKeys (sym turns) keys
+  left_keys r s [] (x ∷ xs) keys turns = absurd turns
+  left_keys r s (l ∷ ls) [] keys turns = absurd turns
+  left_keys r s (l ∷ ls) (x ∷ xs) keys turns = left_keys turns.0 s ls xs (one_step r turns.0 (request_of l) x keys turns.1) turns.2
 
 -- a network without host bits is its block
 own_block : (w : ℕ) (n : Network) → IsBlock w n → block_of w n ≡ n
@@ -165,26 +157,26 @@ module _ (one_set : BlockHasSameSet) (routes : Routes) (a : ℕ) where
   longest_v6 p best (V4 m) some member = absurd member
   longest_v6 p best (V6 m) some member = best (block_of 128 m) some ((one_set 128 m a).1 member)
 
-  found_v4 : (answer : List ℕ) → HasBlocks 32 routes.v4 → FindsIn 32 canonical_v4 routes.v4 a answer → GetsFind routes (addresses.V4 a) answer
+  found_v4 : (answer : List ℕ) → HasNoHostBits 32 routes.v4 → FindsIn 32 canonical_v4 routes.v4 a answer → GetsFind routes (addresses.V4 a) answer
   found_v4 answer keys (None, none, is) = Nothing (none_v4 none) is
   found_v4 answer keys (Some found, best, is) =
       let block : IsBlock 32 found.0 = keys found.0 (ap is_some best.stored) in
       Longest (V4 found.0) found.1 (ap (get routes.v4) (own_block 32 found.0 block) ∙ best.stored) (ap addresses.V4 block) best.holds
       (longest_v4 found.0.prefix best.longest) is
 
-  found_v6 : (answer : List ℕ) → HasBlocks 128 routes.v6 → FindsIn 128 canonical_v6 routes.v6 a answer → GetsFind routes (addresses.V6 a) answer
+  found_v6 : (answer : List ℕ) → HasNoHostBits 128 routes.v6 → FindsIn 128 canonical_v6 routes.v6 a answer → GetsFind routes (addresses.V6 a) answer
   found_v6 answer keys (None, none, is) = Nothing (none_v6 none) is
   found_v6 answer keys (Some found, best, is) =
       let block : IsBlock 128 found.0 = keys found.0 (ap is_some best.stored) in
       Longest (V6 found.0) found.1 (ap (get routes.v6) (own_block 128 found.0 block) ∙ best.stored) (ap addresses.V6 block) best.holds
       (longest_v6 found.0.prefix best.longest) is
 
-pub finds_get : BlockHasSameSet → FindsGet
-finds_get one_set before after (addresses.V4 a) answer left (inl gets) =
-    (found_v4 one_set before a answer (left_keys no_routes before left.0 left.1 no_keys left.2).0 gets.0, gets.1)
-finds_get one_set before after (addresses.V6 a) answer left (inl gets) =
-    (found_v6 one_set before a answer (left_keys no_routes before left.0 left.1 no_keys left.2).1 gets.0, gets.1)
-finds_get one_set before after a answer left (inr out) = absurd out
+pub finds_get : BlockHasSameSet → KeyLaws → FindsGet
+finds_get one_set laws before after (addresses.V4 a) answer left (inl gets) =
+    (found_v4 one_set before a answer (left_keys laws no_routes before left.0 left.1 (no_keys laws) left.2).0 gets.0, gets.1)
+finds_get one_set laws before after (addresses.V6 a) answer left (inl gets) =
+    (found_v6 one_set before a answer (left_keys laws no_routes before left.0 left.1 (no_keys laws) left.2).1 gets.0, gets.1)
+finds_get one_set laws before after a answer left (inr out) = absurd out
 
 -- ---- the first line
 

@@ -13,6 +13,7 @@ use Rattle.cidr.specs.Output.{MayAnswer, IsOutput, replies, complete_part, IsBeg
 use Rattle.cidr.specs.Private.Progress.{lines_from, pending_from, last_line, MayAnswerFirst, WritesReplies, StopsReplying, AnswersPiece, StopsInPiece, Sofar}
 use Rattle.cidr.specs.Routes.{Routes, no_routes}
 use Rattle.cidr.specs.Run.{Ran, BeginsOutput, ended_by_read, ended_by_write}
+use Rattle.ipnetwork_table.specs.Laws.{AnswerIsComputed}
 use Rattle.cidr.proofs.Computed.{goes_on_to_all}
 use Rattle.cidr.proofs.Lines.{pending-append, lines-append, lines_split, lines_complete, begins_with_nothing, begins_after, begins_longer}
 use Rattle.cidr.proofs.Turns.{replies-append, turns-append, first_of_more, first-append}
@@ -60,9 +61,9 @@ complete_answered : (read : List ℕ) (xs : List (List ℕ)) (s : Routes) → Ma
 complete_answered read xs s turns = all_answered (complete_part read) _ xs s (complete read) turns
 
 -- answers to its first lines begin one
-first_answered : (input : List ℕ) (ls xs : List (List ℕ)) (written : List ℕ) → lines input ≡ ls → MayAnswerFirst no_routes ls xs → IsBeginning written (replies xs) → BeginsOutput input written
-first_answered input ls xs written e some begun =
-    let rest = goes_on_to_all no_routes ls xs some in (
+first_answered : AnswerIsComputed ℕ → (input : List ℕ) (ls xs : List (List ℕ)) (written : List ℕ) → lines input ≡ ls → MayAnswerFirst no_routes ls xs → IsBeginning written (replies xs) → BeginsOutput input written
+first_answered computed input ls xs written e some begun =
+    let rest = goes_on_to_all computed no_routes ls xs some in (
       replies (xs ++ rest.0),
       all_answered input ls (xs ++ rest.0) rest.1 e rest.2,
       subst (IsBeginning written) (sym (replies-append xs rest.0)) (begins_longer written _ _ begun),
@@ -94,24 +95,24 @@ too_long limit room line routes left mid rest held holds piece s took over = rec
 }
 
 -- a failure after replies to some lines, at the next ones
-stopped : (routes : Routes) (held between holds : Option (List ℕ)) (input : List ℕ) (ls ms rest : List (List ℕ)) → lines input ≡ (ls ++ ms) ++ rest
+stopped : AnswerIsComputed ℕ → (routes : Routes) (held between holds : Option (List ℕ)) (input : List ℕ) (ls ms rest : List (List ℕ)) → lines input ≡ (ls ++ ms) ++ rest
     → WritesReplies no_routes routes held between ls → StopsReplying routes between [] holds ms
     → (written : List ℕ) × Appends held holds written × BeginsOutput input written
-stopped routes held between holds input ls ms rest e f g =
+stopped computed routes held between holds input ls ms rest e f g =
     let some : MayAnswerFirst no_routes ((ls ++ ms) ++ rest) (f.0 ++ g.0) =
     first_of_more no_routes (ls ++ ms) rest (f.0 ++ g.0) (first-append no_routes routes ls ms f.0 g.0 f.1 g.1) in
     let begun : IsBeginning (replies f.0 ++ g.2.0) (replies (f.0 ++ g.0)) =
     subst (IsBeginning (replies f.0 ++ g.2.0)) (sym (replies-append f.0 g.0)) (begins_after (replies f.0) g.2.0 _ g.2.2) in
-    (replies f.0 ++ g.2.0, Appends-trans held between holds _ _ f.2 g.2.1, first_answered input _ (f.0 ++ g.0) _ e some begun)
+    (replies f.0 ++ g.2.0, Appends-trans held between holds _ _ f.2 g.2.1, first_answered computed input _ (f.0 ++ g.0) _ e some begun)
 
-pub write_failed : (limit room : ℕ) (line : Line) (routes : Routes) (left mid rest held between holds : Option (List ℕ)) (piece : List ℕ)
+pub write_failed : AnswerIsComputed ℕ → (limit room : ℕ) (line : Line) (routes : Routes) (left mid rest held between holds : Option (List ℕ)) (piece : List ℕ)
     → Sofar limit room line routes left mid held between → Consumes mid rest piece → length piece ≤ room
     → StopsInPiece line routes between [] holds piece → Ran limit left rest held holds (Err Write)
-write_failed limit room line routes left mid rest held between holds piece s took fits f =
+write_failed computed limit room line routes left mid rest held between holds piece s took fits f =
     let read = s.read ++ piece in
     let all : lines read ≡ (lines_from [] s.read ++ lines_from (pending_from [] s.read) piece) ++ last_line (pending_from [] read) =
     whole read ∙ ap (λ ls. ls ++ last_line (pending_from [] read)) (lines-append [] s.read piece) in
-    let stop = stopped routes held between holds read _ _ _ all s.writes (f (pending_from [] s.read) s.pending) in
+    let stop = stopped computed routes held between holds read _ _ _ all s.writes (f (pending_from [] s.read) s.pending) in
     record {
       read = read;
       written = stop.0;
@@ -125,12 +126,12 @@ read_nothing : (left mid rest : Option (List ℕ)) (read buffer : List ℕ) (cou
 read_nothing left mid rest read buffer count none reads took =
     subst (Consumes left rest) (append-nil read) (subst (λ (n : ℕ). Consumes left rest (read ++ take n buffer)) none (Consumes-trans left mid rest read (take count buffer) reads took))
 
-pub finished : (limit room : ℕ) (line : Line) (r s : Routes) (left mid rest held between holds : Option (List ℕ)) (buffer : List ℕ) (count : ℕ) (result : Result (Unit {0}) RunFault)
+pub finished : AnswerIsComputed ℕ → (limit room : ℕ) (line : Line) (r s : Routes) (left mid rest held between holds : Option (List ℕ)) (buffer : List ℕ) (count : ℕ) (result : Result (Unit {0}) RunFault)
     → Sofar limit room line r left mid held between → count ≡ 0 → Consumes mid rest (take count buffer) → IsAtEnd rest
     → ((p : List ℕ) → Holds line p → OnOk result (WritesReplies r s between holds (last_line p)))
     → ((p : List ℕ) → Holds line p → OnErr result (StopsReplying r between [] holds (last_line p)))
     → IsOkUnless result Write → Ran limit left rest held holds result
-finished limit room line r s left mid rest held between holds buffer count (Ok done) sofar none took end ok err only =
+finished computed limit room line r s left mid rest held between holds buffer count (Ok done) sofar none took end ok err only =
     let written = more_written no_routes r s held between holds _ _ sofar.writes (ok _ sofar.pending) in
     record {
       read = sofar.read;
@@ -139,9 +140,9 @@ finished limit room line r s left mid rest held between holds buffer count (Ok d
       writes = written.2;
       ends = (end, omega (arith, sofar.counted), all_answered sofar.read _ written.0 s (whole sofar.read) written.1);
     }
-finished limit room line r s left mid rest held between holds buffer count (Err fault) sofar none took end ok err only =
+finished computed limit room line r s left mid rest held between holds buffer count (Err fault) sofar none took end ok err only =
     let all : lines sofar.read ≡ (lines_from [] sofar.read ++ last_line (pending_from [] sofar.read)) ++ [] = whole sofar.read ∙ sym (append-nil _) in
-    let stop = stopped r held between holds sofar.read _ _ _ all sofar.writes (err _ sofar.pending) in
+    let stop = stopped computed r held between holds sofar.read _ _ _ all sofar.writes (err _ sofar.pending) in
     let stops : Ran limit left rest held holds (Err Write) = record {
       read = sofar.read;
       written = stop.0;

@@ -1,5 +1,5 @@
 -- The laws of outputs.
-use Rattle.std.specs.Prelude.{◌≡◌, ◌≢◌, ◌↔◌, ℕ, nat_le, if◌then◌else◌, List, [], ◌∷◌, ◌++◌, Option, None, Some, Contains, codes}
+use Rattle.std.specs.Prelude.{◌≡◌, ◌≢◌, ◌↔◌, ℕ, List, [], ◌∷◌, ◌++◌, Contains, codes}
 use Rattle.std.specs.FinMap.{entries}
 use Rattle.std.specs.List.{flat_map, AllByRecursion}
 use Rattle.std.specs.Str.Lines.{lines}
@@ -7,7 +7,7 @@ use Rattle.ipnetwork_addr.specs.Ipv4Text.{canonical_v4}
 use Rattle.ipnetwork_addr.specs.Ipv6Canonical.{canonical_v6}
 use Rattle.ipnetwork_addr.specs.declared.ip.IpAddr.{IpAddr}
 use Rattle.ipnetwork_addr.specs.declared.ip.IpAddr.TheVariants.{V4, V6}
-use Rattle.ipnetwork_family.specs.Network.{Network, is_member}
+use Rattle.ipnetwork_table.specs.Laws.{longest_of}
 use Rattle.cidr.specs.Finding.{found_text}
 use Rattle.cidr.specs.Output.{added, dropped, out_of_memory, Gets, MayGet, InTurn, MayAnswer, reply, replies, IsOutputFrom, IsOutput, answer_of}
 use Rattle.cidr.specs.Requests.{Request, Add, Drop, Find, Plain, request_of}
@@ -16,17 +16,7 @@ use Rattle.cidr.specs.Words.{words}
 
 -- ---- the output where no `add` is out of memory, computed
 
--- of an entry and another, if there is one, the one of the longer prefix
-abbrev pub longer : Network × ℕ → Option (Network × ℕ) → Option (Network × ℕ)
-longer entry None = Some entry
-longer entry (Some other) = if nat_le other.0.prefix entry.0.prefix then Some entry else Some other
-
--- of the entries whose block holds the address, the one of the longest prefix
-abbrev pub longest_of : ℕ → ℕ → List (Network × ℕ) → Option (Network × ℕ)
-longest_of w address [] = None
-longest_of w address (entry ∷ others) =
-    if is_member w entry.0 address then longer entry (longest_of w address others) else longest_of w address others
-
+-- what is told of the longest of the entries whose block holds the address
 abbrev pub find_answer : Routes → IpAddr → List ℕ
 find_answer routes (V4 address) = found_text canonical_v4 (longest_of 32 address (entries routes.v4))
 find_answer routes (V6 address) = found_text canonical_v6 (longest_of 128 address (entries routes.v6))

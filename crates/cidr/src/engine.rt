@@ -15,6 +15,7 @@ use crate::replies::Replies;
 use crate::route_tables::RouteTables;
 use crate::watched::device::Device;
 use byte_search::find_from;
+use ipnetwork_table::laws;
 use std::alloc::Global;
 use std::io::{Read, Write};
 
@@ -66,6 +67,8 @@ fn answer_all<R: Read, W: Write>(
     ensures reader_failed { failed_of reader.new ≡ (failed_of reader.old || ended_by_read result) }
     ensures writer_failed { failed_of writer.new ≡ (failed_of writer.old || ended_by_write result) }
 {
+    // Does nothing: the proof of this body needs the law.
+    laws::answer_is_computed::<u32>();
     let mut piece = [0u8; PIECE_MAX];
     let mut line = Line::new();
     let mut replies = Replies::new();

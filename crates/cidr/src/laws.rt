@@ -8,6 +8,7 @@ ghost use Rattle.cidr.specs.Run.{ended_by_read, ended_by_write};
 
 use crate::fault::RunFault;
 use ipnetwork::laws;
+use ipnetwork_table::laws as tables;
 use std::alloc::AllocError;
 
 /// `has4` answers `yes` exactly for the members of the network's set, and `no` exactly for the other addresses.
@@ -75,6 +76,7 @@ pub fn lines_about_routes()
     ensures drop { DropLaw }
     ensures find { FindLaw }
 {
+    laws::prefix_number_is_computed();
     laws::ip_reading_is_computed();
     laws::ip_network_reading_is_computed();
 }
@@ -97,6 +99,8 @@ pub fn routes_by_sets()
     laws::subnets();
     laws::blocks();
     laws::families_are_apart();
+    tables::one_key_changes::<u32>();
+    tables::keys_without_host_bits::<u32>();
 }
 
 /// A run begins with no routes: a `find` in the first line of an input finds nothing, a `drop` there drops nothing, and
@@ -117,7 +121,11 @@ pub fn output_without_refusals()
     ensures computed { ComputedIsAllowed }
     ensures only { UnrefusedIsComputed }
     ensures lines { UnrefusedLinesAreComputed }
-{}
+{
+    tables::answer_is_computed::<u32>();
+    tables::one_answer::<u32>();
+    tables::keys_without_host_bits::<u32>();
+}
 
 /// A line of any command but `add`, `drop` and `find` has one answer, whatever the routes are, and leaves them; each
 /// other line begins with one of the three. So an input of such lines alone has one output: for each line its answer

@@ -30,8 +30,9 @@ pub(crate) fn add(network: &[u8], number: &[u8], routes: &mut RouteTables, repli
     ensures { RepliesTo (routes_of routes.old) (adding (ip_network_of network.now) (route_number_of number.now))
         replies.old replies.new (routes_of routes.new) }
 {
-    // Does nothing: the proof of this body needs the law.
+    // Does nothing: the proof of this body needs the laws.
     laws::ip_network_reading_is_computed();
+    laws::prefix_number_is_computed();
     let Ok(network) = IpNetwork::read_bytes(network) else {
         replies.push(REFUSED);
         return;

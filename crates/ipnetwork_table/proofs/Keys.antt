@@ -1,8 +1,10 @@
--- Keys without host bits.
-use Rattle.std.proofs.Common.{◌≡◌, ℕ, true, false, cond, Some, None, sym, refl, subst}
+-- What an insert and a removal do to keys.
+use Rattle.std.proofs.Common.{◌≡◌, ◌≢◌, ℕ, true, false, cond, Some, None, sym, refl, ap, subst, ◌∙◌}
 use Rattle.std.specs.Prelude.{IsSome}
 use Rattle.std.specs.FinMap.{FinMap, get, insert, remove, empty, get-empty, get-insert, get-remove}
 use Rattle.std.specs.Ordering.{eq_by_cmp}
+use Rattle.std.proofs.lemmas.Bool.{false_from_ne_true}
+use Rattle.std.proofs.lemmas.Cmp.{eq_by_cmp_equiv}
 use Rattle.ipnetwork_family.specs.Network.{Network, IsBlock, block_of, network_cmp}
 use Rattle.ipnetwork_table.specs.Table.{HasNoHostBits}
 use Rattle.ipnetwork_table.proofs.Pairs.{total, one_network, tie_of}
@@ -28,3 +30,23 @@ module _ {V : Type 0} (w : ℕ) where
         | true ↦ λ is stored. absurd (nothing (subst IsSome is stored))
         | false ↦ λ is stored. blocks m (subst IsSome is stored)
       ] (get-remove total t n m)
+
+-- a network ties with itself alone
+tied : (n : Network) → eq_by_cmp network_cmp n n ≡ true
+tied n = (eq_by_cmp_equiv total).refl n
+
+untied : (m n : Network) → m ≢ n → eq_by_cmp network_cmp m n ≡ false
+untied m n other = false_from_ne_true _ (λ tie. other (one_network m n (tie_of _ tie)))
+
+module _ {V : Type 0} (t : FinMap network_cmp V) (n : Network) where
+  pub set_one : (v : V) → (get (insert t n v) n ≡ Some v) × ((m : Network) → m ≢ n → get (insert t n v) m ≡ get t m)
+  set_one v = (
+    get-insert total t n v n ∙ ap (λ b. cond b (Some v) (get t n)) (tied n),
+    λ m other. get-insert total t n v m ∙ ap (λ b. cond b (Some v) (get t m)) (untied m n other),
+  )
+
+  pub take_one : (get (remove t n) n ≡ None) × ((m : Network) → m ≢ n → get (remove t n) m ≡ get t m)
+  take_one = (
+    get-remove total t n n ∙ ap (λ b. cond b None (get t n)) (tied n),
+    λ m other. get-remove total t n m ∙ ap (λ b. cond b None (get t m)) (untied m n other),
+  )

@@ -2,6 +2,7 @@ mod Keys
 mod Lengths
 pub mod Listing
 mod Longest
+mod LongestEntry
 mod Nearest
 mod Neighbours
 pub mod OneAnswer

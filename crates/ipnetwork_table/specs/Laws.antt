@@ -1,7 +1,7 @@
 -- The laws of tables, for addresses of any number of bits and values of any type.
-use Rattle.std.specs.Prelude.{◌≡◌, ℕ, ◌<◌, Option, Some, MatchOption, slice_get}
+use Rattle.std.specs.Prelude.{◌≡◌, ◌≢◌, ℕ, ◌<◌, nat_le, if◌then◌else◌, List, [], ◌∷◌, Option, None, Some, MatchOption, slice_get}
 use Rattle.std.specs.FinMap.{FinMap, empty, get, insert, remove, entries}
-use Rattle.ipnetwork_family.specs.Network.{Network, IsBlock, Member, Subnet, IsBefore, block_of, network_cmp}
+use Rattle.ipnetwork_family.specs.Network.{Network, IsBlock, Member, is_member, Subnet, IsBefore, block_of, network_cmp}
 use Rattle.ipnetwork_table.specs.Table.{HasBlocksAlone, HasNoHostBits, IsLongest, NoneHolds}
 
 -- two blocks of one prefix length that share an address are the same, whatever the number of bits
@@ -12,7 +12,22 @@ BlocksOfAnyWidthThatMeet = (w : ℕ) (m n : Network) (x : ℕ) → IsBlock w m �
 abbrev pub Answers : {V : Type 0} → ℕ → FinMap network_cmp V → ℕ → Option (Network × V) → Type 0
 Answers w t x answer = MatchOption answer (NoneHolds w t x) (λ found. IsLongest w t x found.0 found.1)
 
+-- of an entry and another, if there is one, the one of the longer prefix
+abbrev pub longer : {V : Type 0} → Network × V → Option (Network × V) → Option (Network × V)
+longer entry None = Some entry
+longer entry (Some other) = if nat_le other.0.prefix entry.0.prefix then Some entry else Some other
+
+-- of the entries whose block holds the address, the one of the longest prefix
+abbrev pub longest_of : {V : Type 0} → ℕ → ℕ → List (Network × V) → Option (Network × V)
+longest_of w address [] = None
+longest_of w address (entry ∷ others) =
+    if is_member w entry.0 address then longer entry (longest_of w address others) else longest_of w address others
+
 module _ (V : Type 0) where
+  -- the longest of the entries is an answer, whatever the keys are: it can be computed
+  abbrev pub AnswerIsComputed : Type 0
+  AnswerIsComputed = (w : ℕ) (t : FinMap network_cmp V) (x : ℕ) → Answers w t x (longest_of w x (entries t))
+
   -- each content has an answer for each address,
   abbrev pub AnswerExists : Type 0
   AnswerExists = (w : ℕ) (t : FinMap network_cmp V) (x : ℕ) → HasBlocksAlone w t → (answer : Option (Network × V)) × Answers w t x answer
@@ -32,6 +47,14 @@ module _ (V : Type 0) where
   -- nor after a network is removed
   abbrev pub RemoveAddsNoHostBits : Type 0
   RemoveAddsNoHostBits = (w : ℕ) (t : FinMap network_cmp V) (n : Network) → HasNoHostBits w t → HasNoHostBits w (remove t n)
+
+  -- an insert gives one network its value, and every other keeps what it has,
+  abbrev pub InsertSetsOne : Type 0
+  InsertSetsOne = (t : FinMap network_cmp V) (n : Network) (v : V) → (get (insert t n v) n ≡ Some v) × ((m : Network) → m ≢ n → get (insert t n v) m ≡ get t m)
+
+  -- and so does a removal, which leaves one network without
+  abbrev pub RemoveTakesOne : Type 0
+  RemoveTakesOne = (t : FinMap network_cmp V) (n : Network) → (get (remove t n) n ≡ None) × ((m : Network) → m ≢ n → get (remove t n) m ≡ get t m)
 
   -- an entry is a block that is stored with the value,
   abbrev pub ListedIsStored : Type 0

@@ -2,7 +2,7 @@
 //! calls it may use the law.
 ghost use Rattle.std.specs.Prelude.{◌≡◌};
 ghost use Rattle.ipnetwork_table.specs.Table.{found_by_pair};
-ghost use Rattle.ipnetwork_table.specs.Laws.{BlocksOfAnyWidthThatMeet, AnswerExists, AnswerIsOne, EmptyHasNoHostBits, InsertAddsNoHostBits, RemoveAddsNoHostBits, ListedIsStored, StoredIsListed, EntriesAscend, WiderBlocksFirst};
+ghost use Rattle.ipnetwork_table.specs.Laws.{BlocksOfAnyWidthThatMeet, AnswerExists, AnswerIsComputed, AnswerIsOne, EmptyHasNoHostBits, InsertAddsNoHostBits, RemoveAddsNoHostBits, InsertSetsOne, RemoveTakesOne, ListedIsStored, StoredIsListed, EntriesAscend, WiderBlocksFirst};
 
 use crate::PrefixTable;
 use ipnetwork_family::{CidrNetwork, laws};
@@ -20,6 +20,14 @@ pub fn one_answer<V: Copy>()
     ensures one { AnswerIsOne V }
 {}
 
+/// The longest of the entries whose block holds an address is the answer to a look-up of it, so an answer can be
+/// computed from the entries.
+pub fn answer_is_computed<V: Copy>()
+    ensures { AnswerIsComputed V }
+{
+    laws::membership_is_computed();
+}
+
 /// No key of a table has host bits: none of the empty table has, and none gets any where the block of a network is
 /// inserted or a network is removed.
 pub fn keys_without_host_bits<V: Copy>()
@@ -29,6 +37,13 @@ pub fn keys_without_host_bits<V: Copy>()
 {
     laws::blocks();
 }
+
+/// An insert changes the value of one network, and a removal takes one network out; every other network keeps what it
+/// has.
+pub fn one_key_changes<V: Copy>()
+    ensures insert { InsertSetsOne V }
+    ensures remove { RemoveTakesOne V }
+{}
 
 /// The entries of a table are its blocks with their values, in the order of networks, and no block lies in
 /// one that stands after it.

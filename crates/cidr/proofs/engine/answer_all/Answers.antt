@@ -19,7 +19,7 @@ returns-in-Err-clause-ran g c = read_failed c.args.limit c.pieces.room c.pieces.
 pub returns-then-count-eq0-clause-ran : goal.returns-then-count-eq0-clause-ran
 returns-then-count-eq0-clause-ran g c =
     let room : 0 < length c.read.new.buf = omega arith in
-    finished c.args.limit c.pieces.room c.pieces.line (routes_of c.pieces.routes) (routes_of c.finish.new.routes) _ _ _ _ _ _ c.read.new.buf c.in-Ok.count c.finish.result c.pieces.invariant.sofar
+    finished c.answer_is_computed.ensures c.args.limit c.pieces.room c.pieces.line (routes_of c.pieces.routes) (routes_of c.finish.new.routes) _ _ _ _ _ _ c.read.new.buf c.in-Ok.count c.finish.result c.pieces.invariant.sofar
     c.if-count-eq0.true c.in-Ok.ensures.bytes.0 (c.in-Ok.ensures.bytes.1 c.if-count-eq0.true room)
     c.finish.ensures.ok c.finish.ensures.err c.finish.ensures.fault
 
@@ -40,5 +40,5 @@ pub returns-in_err-answer_piece-clause-ran : goal.returns-in_err-answer_piece-cl
 returns-in_err-answer_piece-clause-ran g c =
     let p = err_from_is_err_and c.from_residual.result c.from_residual.ensures.1 in
     rw (p.1, p.2, c.in_err-answer_piece.ensures.fault)
-    (write_failed c.args.limit c.pieces.room c.pieces.line (routes_of c.pieces.routes) _ _ _ _ _ _ _ c.pieces.invariant.sofar
+    (write_failed c.answer_is_computed.ensures c.args.limit c.pieces.room c.pieces.line (routes_of c.pieces.routes) _ _ _ _ _ _ _ c.pieces.invariant.sofar
     c.in-Ok.ensures.bytes.0 (omega (arith, c.in-Ok.ensures.bound.1)) c.in_err-answer_piece.ensures.err)

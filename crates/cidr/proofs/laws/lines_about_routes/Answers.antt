@@ -7,7 +7,7 @@ use Rattle.cidr.proofs.laws.lines_about_routes.Goals as goal
 
 pub returns-clause-add : goal.returns-clause-add
 returns-clause-add c = λ line text word h.
-    asks_to_add line text word (λ n. c.ip_network_reading_is_computed.ensures text (Ok n)) (asks_add line text word h)
+    asks_to_add c.prefix_number_is_computed.ensures line text word (λ n. c.ip_network_reading_is_computed.ensures text (Ok n)) (asks_add line text word h)
 
 pub returns-clause-drop : goal.returns-clause-drop
 returns-clause-drop c = λ line text h.

@@ -14,12 +14,12 @@ pub returns-in_default-read_number : goal.returns-in_default-read_number
 returns-in_default-read_number c =
     let network = (c.ip_network_reading_is_computed.ensures c.args.network.now (Ok c.in-Ok.network)).0 c.in-Ok.ensures in
     replies_as (routes_of c.args.routes.now) (routes_of c.args.routes.now) _ _ _ _
-    (ap₂ adding (sym network) (number_is_none c.args.number.now c.in_default-read_number.ensures))
+    (ap₂ adding (sym network) (number_is_none c.prefix_number_is_computed.ensures c.args.number.now c.in_default-read_number.ensures))
     (plain_reply (routes_of c.args.routes.now) _ _ _ c.push-in_default-read_number.ensures)
 
 pub returns : goal.returns
 returns c =
     let network = (c.ip_network_reading_is_computed.ensures c.args.network.now (Ok c.in-Ok.network)).0 c.in-Ok.ensures in
-    let number = number_is c.args.number.now c.in-Some.number c.in-Some.ensures.0 c.in-Some.ensures.1 in
+    let number = number_is c.prefix_number_is_computed.ensures c.args.number.now c.in-Some.number c.in-Some.ensures.0 c.in-Some.ensures.1 in
     replies_as (routes_of c.args.routes.now) (routes_of c.insert.new.routes) _ _ _ _ (ap₂ adding (sym network) number)
     (reply_with (routes_of c.args.routes.now) (routes_of c.insert.new.routes) (Add c.in-Ok.network c.in-Some.number) _ _ _ c.insert.ensures.text c.push-2.ensures)
