@@ -43,15 +43,15 @@ pub fn run<R: Read, W: Write>(
 ///
 /// - `RunFault::Read`: a read failed. Each line that was completed before was answered, and no other.
 /// - `RunFault::Write`: a write or the flush failed, or a write took no byte. A beginning of the output was written.
-/// - `RunFault::InputTooLong`: a read passed the limit. Of the first bytes, so many and no more than the limit, each
-///   line that they complete was answered, and no other.
+/// - `RunFault::InputTooLong`: a read passed the limit. Each line that some first bytes complete, no more of them than
+///   the limit, was answered, and no other.
 ///
 /// If the reader failed before the run, the result is `Read`, and else, if the writer did, `Write`; neither is called.
 ///
 /// These two are no clauses but follow from them: each line that a read completes is answered before the next read;
-/// nothing is written or flushed after a read that failed or passed the limit. A body that did otherwise would have
-/// no result left that meets the clauses, if the next read failed, or the write. That no call is made on a device
-/// after one that failed is asked by each call of the engine's devices.
+/// nothing is written or flushed after a read that failed or passed the limit. In a body that did otherwise the next
+/// read might fail, or that write, and then no result would meet the clauses. No call is made on a device after one
+/// that failed: each call of the engine's devices requires that none has.
 ///
 /// These two are only tested: if a read passes the limit, no line that it completes is answered; the writer is
 /// flushed once, after the last answer.
