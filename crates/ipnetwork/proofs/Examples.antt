@@ -1,5 +1,5 @@
 -- Values at which a misreading of the definitions would show. What these say is computed.
-use Rattle.std.proofs.Common.{◌≡◌, [], ◌∷◌, Ok, Err, inl, inr, refl, arith}
+use Rattle.std.proofs.Common.{◌≡◌, [], ◌∷◌, Ok, Err, inl, refl, arith}
 use Rattle.std.specs.Prelude.{codes}
 use Rattle.std.specs.Fmt.{digits}
 use Rattle.std.specs.Hash.{le_bytes}

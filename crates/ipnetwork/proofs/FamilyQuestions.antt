@@ -1,5 +1,5 @@
 -- Each question of a network of either family is the question of its own family.
-use Rattle.std.proofs.Common.{◌≡◌, ◌↔◌, ℕ, Result, Ok, Err, refl, sym, ap}
+use Rattle.std.proofs.Common.{◌≡◌, ◌↔◌, ℕ, Result, Ok, Err, refl}
 use Rattle.ipnetwork_addr.specs.Ipv4Text.{canonical_v4}
 use Rattle.ipnetwork_addr.specs.Ipv6Canonical.{canonical_v6}
 use Rattle.ipnetwork_addr.specs.declared.ip.IpAddr.TheVariants as addresses

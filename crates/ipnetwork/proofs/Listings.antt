@@ -1,6 +1,6 @@
--- The list of a network of either family has the members of its set alone.
+-- The list of a network of either family has the members of its set and no others, and it ascends.
 use Rattle.std.proofs.Common.{ℕ, suc, zero, ◌<◌, List, [], ◌∷◌, length, get_or, ap, sym, subst, arith}
-use Rattle.std.specs.Prelude.{◌↔◌, map, Contains}
+use Rattle.std.specs.Prelude.{map, Contains}
 use Rattle.std.specs.List.{AllPairs}
 use Rattle.std.proofs.lemmas.List.{get_or-map, length-map}
 use Rattle.std.proofs.lemmas.List.Kept.{AllPairs-from_increasing}
@@ -11,7 +11,6 @@ use Rattle.ipnetwork_family.specs.Network.{members}
 use Rattle.ipnetwork_family.specs.Laws.{MembersLaw}
 use Rattle.ipnetwork.specs.declared.ip_network.IpNetwork.{IpNetwork}
 use Rattle.ipnetwork.specs.declared.ip_network.IpNetwork.TheVariants.{V4, V6}
-use Rattle.ipnetwork.specs.IpNetworks.{IpMember, IsIpNetwork, ip_members}
 use Rattle.ipnetwork.specs.Laws.{IpMembersAreListed, IpMembersAscend}
 
 -- the images of a list's elements are the elements of the list of images

@@ -1,4 +1,4 @@
--- Parsing networks of either family answers as reading does.
+-- Parsing networks of either family returns what reading does.
 use Rattle.std.proofs.Common.{Ok, Err}
 use Rattle.ipnetwork_addr.specs.declared.error.AddrParseError.TheVariants.{Ip}
 use Rattle.ipnetwork_family.specs.Parsing.{ParsesAsItReads}

@@ -199,7 +199,7 @@ pub fn each_is_made_in_its_family()
     families::masks();
 }
 
-/// The texts of a network of either family are those of its own family. Parsing answers as reading does: the same
+/// The texts of a network of either family are those of its own family. Parsing returns what reading does: the same
 /// network, or the error for the cause `Addr` and the kind `Ip`, or `OutOfMemory` in its place.
 pub fn each_is_read_in_its_family()
     ensures v4 { ReadsInItsFamily networks.V4 NamesV4Network canonical_v4 }
@@ -207,7 +207,7 @@ pub fn each_is_read_in_its_family()
     ensures parsed { ParsesAsItReads ReadsIpNetwork kinds.Ip ParsesIpNetwork }
 {}
 
-/// What `ip_mask_to_prefix` answers to the mask of a network: the network's prefix length.
+/// What `ip_mask_to_prefix` returns for the mask of a network: the network's prefix length.
 pub fn ip_mask_converts_back(network: IpNetwork) -> Result<u8, IpNetworkError>
     ensures { result ≡ Ok (prefix_of network) }
 {

@@ -1,4 +1,4 @@
--- Parsing answers as reading does, whatever the networks and the causes are.
+-- Parsing returns what reading does, whatever the networks and the causes are.
 use Rattle.std.proofs.Common.{ℕ, List, Ok, Err}
 use Rattle.std.specs.Prelude.{MatchResult}
 use Rattle.ipnetwork_addr.specs.declared.error.AddrParseError.{AddrParseError}

@@ -97,7 +97,7 @@ MasksDiffer = (w p q : ℕ) → p ≤ w → q ≤ w → mask_of w p ≡ mask_of 
 abbrev pub MaskIsComputed : Type 0
 MaskIsComputed = (w p : ℕ) → p ≤ w → prefix_of_mask w (mask_of w p) ≡ Some p
 
--- and the conversion of the mask answers it and nothing else
+-- and the conversion of the mask returns it and nothing else
 abbrev pub MaskIsConverted : Type 0
 MaskIsConverted = (w p : ℕ) (result : Result ℕ IpNetworkError) → p ≤ w → GivesPrefixOfMask w (mask_of w p) result ↔ (result ≡ Ok p)
 

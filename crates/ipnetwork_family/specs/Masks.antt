@@ -1,4 +1,4 @@
--- What the conversion of a mask answers.
+-- What the conversion of a mask returns.
 use Rattle.std.specs.Prelude.{◌≡◌, ℕ, ◌≤◌, Result, MatchResult}
 use Rattle.ipnetwork_family.specs.Network.{mask_of, IsNoMask}
 use Rattle.ipnetwork_family.specs.declared.error.IpNetworkError.{IpNetworkError}

@@ -26,7 +26,7 @@ ParsesV4Network text result = Parses NamesV4Network (IsCause NamesV4) kinds.Ipv4
 abbrev pub ParsesV6Network : List ℕ → Result Network IpNetworkError → Type 0
 ParsesV6Network text result = Parses NamesV6Network (IsCause NamesV6) kinds.Ipv6 text result
 
--- parsing answers as reading does: the same network, or the error for the same cause, where an address of this kind
+-- parsing returns what reading does: the same network, or the error for the same cause, where an address of this kind
 -- was asked for, or `OutOfMemory` in its place where that has a text
 abbrev pub ParsesAsItReads : {N : Type 0} → (List ℕ → Result N CidrFault → Type 0) → AddrParseError → (List ℕ → Result N IpNetworkError → Type 0) → Type 0
 ParsesAsItReads {N} Reads kind ParsesNetwork = (text : List ℕ) (result : Result N IpNetworkError) → ParsesNetwork text result

@@ -54,7 +54,7 @@ pub fn listing<V: Copy>()
     ensures wider_first { WiderBlocksFirst V }
 {}
 
-/// What `lookup` answers, and the first part of what `lookup_steps` answers: the same block, as its address and its
+/// What `lookup` returns, and the first part of what `lookup_steps` returns: the same block, as its address and its
 /// prefix length, and the same value.
 pub fn lookups_agree<N: CidrNetwork, V: Copy>(
     table: &PrefixTable<N, V>,

@@ -1,4 +1,4 @@
-//! Laws of masks: what the conversions answer to the mask of a network.
+//! Laws of masks: what the conversions return for the mask of a network.
 ghost use Rattle.std.specs.Prelude.{◌≡◌, Ok};
 ghost use Rattle.ipnetwork_family.specs.Laws.{MaskIsComputed, MaskIsConverted};
 
@@ -10,7 +10,7 @@ pub fn mask_conversion()
     ensures converted { MaskIsConverted }
 {}
 
-/// What `ipv4_mask_to_prefix` answers to the mask of a network: the network's prefix length.
+/// What `ipv4_mask_to_prefix` returns for the mask of a network: the network's prefix length.
 pub fn v4_mask_converts_back(network: Ipv4Network) -> Result<u8, IpNetworkError>
     ensures { result ≡ Ok network.prefix }
 {
@@ -19,7 +19,7 @@ pub fn v4_mask_converts_back(network: Ipv4Network) -> Result<u8, IpNetworkError>
     ipv4_mask_to_prefix(network.mask())
 }
 
-/// What `ipv6_mask_to_prefix` answers to the mask of a network: the network's prefix length.
+/// What `ipv6_mask_to_prefix` returns for the mask of a network: the network's prefix length.
 pub fn v6_mask_converts_back(network: Ipv6Network) -> Result<u8, IpNetworkError>
     ensures { result ≡ Ok network.prefix }
 {
