@@ -3,7 +3,7 @@
 use crate::answer::answer;
 use crate::replies::Replies;
 use crate::route_tables::RouteTables;
-use ipnetwork::{CidrNetwork, Ipv4Addr, Ipv4Network, Ipv6Addr, Ipv6Network};
+use ipnetwork::{CidrNetwork, IpAddr, IpNetwork, Ipv4Addr, Ipv4Network, Ipv6Addr, Ipv6Network};
 use std::alloc::{AllocError, Global};
 use std::fmt::Display;
 use std::test::Fail;
@@ -159,5 +159,63 @@ fn many_ipv6_routes(rt: HostRuntime) -> Result<(), Fail> {
             "{step}"
         );
     }
+    Ok(())
+}
+
+/// An address of each family, no two alike for any two numbers: the factor is odd.
+fn hosts(number: u32) -> [IpAddr; 2] {
+    let bits = number.wrapping_mul(2654435769);
+    [
+        IpAddr::V4(Ipv4Addr::from(bits)),
+        IpAddr::V6(Ipv6Addr::from(u128::from(bits) << 77)),
+    ]
+}
+
+/// Whether the address becomes a new route with this number.
+fn adds(
+    alloc: Global,
+    address: IpAddr,
+    number: u32,
+    routes: &mut RouteTables,
+) -> Result<bool, AllocError> {
+    let line = format!(in alloc; "add {address} {number}")?;
+    Ok(says(line.as_str(), "new", routes))
+}
+
+/// Whether the route of the address is found, with this number.
+fn finds_host(
+    alloc: Global,
+    address: IpAddr,
+    number: u32,
+    routes: &mut RouteTables,
+) -> Result<bool, AllocError> {
+    let line = format!(in alloc; "find {address}")?;
+    let host = IpNetwork::from(address);
+    let text = format!(in alloc; "{host} {number}")?;
+    Ok(says(line.as_str(), text.as_str(), routes))
+}
+
+#[test]
+fn thousands_of_routes(rt: HostRuntime) -> Result<(), Fail> {
+    let mut routes = RouteTables::new(rt.alloc());
+    let mut added = 0u32;
+    let mut found = 0u32;
+    for number in 0..2500u32 {
+        let [v4, v6] = hosts(number);
+        if adds(rt.alloc(), v4, number, &mut routes)?
+            && adds(rt.alloc(), v6, number, &mut routes)?
+        {
+            added = added.saturating_add(1);
+        }
+    }
+    for number in 0..2500u32 {
+        let [v4, v6] = hosts(number);
+        if finds_host(rt.alloc(), v4, number, &mut routes)?
+            && finds_host(rt.alloc(), v6, number, &mut routes)?
+        {
+            found = found.saturating_add(1);
+        }
+    }
+    assert_eq!(rt; (added, found), (2500, 2500));
     Ok(())
 }
