@@ -155,6 +155,7 @@ fn subsets_and_overlap(rt: HostRuntime) -> Result<(), Fail> {
         ("2001:db8::/96", "::/0", true, true),
         ("2001:db8:acad::20:2/64", "2001:db8:acad::1/64", true, true),
         ("::/128", "::1/128", false, false),
+        ("2001:db8:acad::1/64", "2001:db8:acad::20:2/64", true, true),
     ] {
         let (a, b) = (network(a)?, network(b)?);
         assert_eq!(rt;
