@@ -20,6 +20,7 @@ fn laws_are_called() {
     laws::canonical_v4_network_is_one_to_one();
     laws::canonical_v4_network_bytes();
     laws::longest_network_text();
+    laws::prefix_number_is_computed();
     laws::parsing_is_reading();
     laws::same_errors_say_the_same();
     laws::v6_network_text_names_one();
