@@ -227,7 +227,7 @@ impl IpNetwork {
     }
 
     /// The network that a text names, as `read_bytes` reads it; any other text is `InvalidAddr` with the
-    /// whole text, or `OutOfMemory`. Allocates once, for a refusal.
+    /// whole text, or `OutOfMemory`. Allocates at most once, for a refusal.
     pub fn parse(alloc: Global, text: &str) -> Result<Self, IpNetworkError>
         ensures { ParsesIpNetwork text.now result }
     {

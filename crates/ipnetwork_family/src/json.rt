@@ -30,7 +30,7 @@ impl Ipv4Network {
     }
 
     /// The network that a string value names. A string is judged as `parse` judges it, and what that
-    /// refuses is `Refused` with its error; any other value is `NotAString`. Allocates once, and only
+    /// refuses is `Refused` with its error; any other value is `NotAString`. Allocates at most once, only
     /// for a refusal whose error carries a text: out of memory, the answer is then
     /// `Refused(IpNetworkError::OutOfMemory)`.
     pub fn from_value(alloc: Global, value: &Value) -> Result<Self, JsonFault>
@@ -55,7 +55,7 @@ impl Ipv6Network {
     }
 
     /// The network that a string value names. A string is judged as `parse` judges it, and what that
-    /// refuses is `Refused` with its error; any other value is `NotAString`. Allocates once, and only
+    /// refuses is `Refused` with its error; any other value is `NotAString`. Allocates at most once, only
     /// for a refusal whose error carries a text: out of memory, the answer is then
     /// `Refused(IpNetworkError::OutOfMemory)`.
     pub fn from_value(alloc: Global, value: &Value) -> Result<Self, JsonFault>

@@ -2,5 +2,4 @@
 
 mod against_a_list;
 mod many;
-mod refused;
 mod rows;

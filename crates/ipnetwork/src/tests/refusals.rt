@@ -1,5 +1,5 @@
-//! Calls that allocate, where one allocation is refused. No test can refuse one itself: run these with each
-//! allocation of the run refused in turn. Then the call that was refused says so, and no other does,
+//! Calls that allocate. No test can refuse an allocation itself; `tests/refusals` has each refused in turn. If these run with one
+//! that is refused, the call that was refused says so, and no other does,
 //! so none asks for memory a second time.
 use crate::{
     AddrParseError, CidrFault, IpNetwork, IpNetworkError, Ipv4Addr, Ipv4Network, Ipv6Addr,
