@@ -213,7 +213,7 @@ impl Ipv4Network {
 
     /// The network that a text names, as `read_bytes` reads it; where it names none, the error for its
     /// cause, as `IpNetworkError::from_fault` of `AddrParseError::Ipv4` and the text gives it. Allocates
-    /// once, for a refusal that carries a text, and answers `OutOfMemory` only in place of one.
+    /// at most once, for a refusal that carries a text, and returns `OutOfMemory` only in place of one.
     pub fn parse(alloc: Global, text: &str) -> Result<Self, IpNetworkError>
         ensures { ParsesV4Network text.now result }
     {

@@ -1,6 +1,5 @@
-//! Calls that allocate. No test can refuse an allocation itself; `tests/refusals` has each refused in turn. If these run with one
-//! that is refused, the call that was refused says so, and no other does,
-//! so none asks for memory a second time.
+//! Calls that allocate. No test can refuse an allocation itself; `tests/refusals` has each refused in turn. If one is
+//! refused here, the call that made it says so, and no other does, so none asks for memory a second time.
 use crate::{
     AddrParseError, CidrFault, IpNetwork, IpNetworkError, Ipv4Addr, Ipv4Network, Ipv6Addr,
     Ipv6Network,
