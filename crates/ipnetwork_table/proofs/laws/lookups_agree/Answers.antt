@@ -1,3 +1,4 @@
+use Rattle.ipnetwork_table.specs.Table.{found_by_pair}
 use Rattle.ipnetwork_table.proofs.OneAnswer.{answers_by_pair}
 use Rattle.ipnetwork_table.proofs.laws.lookups_agree.Goals as goal
 
