@@ -145,3 +145,13 @@ fn writes_are_few(rt: HostRuntime) -> Result<(), Fail> {
     assert_eq!(rt; [end.reads, end.writes, end.flushes], [2, 3, 1]);
     Ok(())
 }
+
+/// After the read that passes the limit nothing is written, not even the answers to lines within it.
+#[test]
+fn nothing_is_written_past_the_limit(rt: HostRuntime) {
+    let reader = Watched::new(Source::new(REQUESTS, 4096));
+    let writer = Watched::new(Sink::new(rt.alloc(), 4096));
+    let end = run_over(rt.alloc(), 56, reader, writer);
+    assert_eq!(rt; end.result, Err(RunFault::InputTooLong));
+    assert_eq!(rt; [end.reads, end.writes, end.flushes], [1, 0, 0]);
+}
