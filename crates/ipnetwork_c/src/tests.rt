@@ -145,3 +145,24 @@ fn calls_of_either(rt: HostRuntime) -> Result<(), Fail> {
     assert_eq!(rt; ipnetwork_abi_version(), 1);
     Ok(())
 }
+
+// The header's numbers: `IPNETWORK_SHORT_BUFFER` and `IPNETWORK_NO_FAMILY`.
+#[test]
+fn refused_calls_write_nothing(rt: HostRuntime) {
+    let net = Ipv4InC {
+        address: [10, 1, 9, 32],
+        prefix: 16,
+    };
+    let mut text = [0xff; 12];
+    let mut length = 0;
+    assert_eq!(rt; ipnetwork_v4_canonical(&net, &mut text, &mut length), 4);
+    assert_eq!(rt; (length, text), (12, [0xff; 12]));
+    let unknown = IpInC {
+        family: 14,
+        v4: NO_V4,
+        v6: NO_V6,
+    };
+    let mut has = 9;
+    assert_eq!(rt; ipnetwork_contains(&unknown, &FIRST, &mut has), 7);
+    assert_eq!(rt; has, 9);
+}
