@@ -4,6 +4,7 @@ mod against_a_list;
 mod answers;
 mod devices;
 mod faults;
+mod laws;
 mod lines;
 mod routes;
 mod watched;
