@@ -6,24 +6,23 @@ use Rattle.std.proofs.lemmas.Nat.{pow_pos}
 use Rattle.std.proofs.lemmas.Bool.{le-leb}
 use Rattle.std.proofs.lemmas.Bool.Decides.{leb_tells}
 use Rattle.std.proofs.lemmas.List.{length-map}
-use Rattle.ipnetwork_addr.specs.Either.{IsAtMost}
-use Rattle.ipnetwork_addr.specs.Ipv4Text.{canonical_v4}
-use Rattle.ipnetwork_addr.specs.Ipv6Canonical.{canonical_v6}
-use Rattle.ipnetwork_addr.specs.Reading.{answer_from}
+use Rattle.ipnetwork_addr.specs.Either.{IsAddrAtMost}
+use Rattle.ipnetwork_addr.specs.Computed.Reading.{answer_from}
 use Rattle.ipnetwork_addr.specs.declared.ip.IpAddr.{IpAddr}
 use Rattle.ipnetwork_addr.specs.declared.ip.IpAddr.TheVariants as addresses
 use Rattle.ipnetwork_family.specs.Laws.{HasEnds, EndsLaw as HaveEnds}
-use Rattle.ipnetwork_family.specs.Network.{Network, IsNetwork, is_member, low, block_size, size_of, count_up, members}
-use Rattle.ipnetwork_family.specs.NetworkText.{slashes, before_slash, ReadsNetwork, network_text, suffix_of, prefix_given, network_from, network_of}
+use Rattle.ipnetwork_family.specs.Network.{Network, IsNetwork, low, block_size, size_of, count_up, members}
+use Rattle.ipnetwork_family.specs.NetworkText.{slashes, before_slash, ReadsNetwork}
+use Rattle.ipnetwork_family.specs.Computed.NetworkText.{suffix_of, prefix_given, network_from, network_of}
 use Rattle.ipnetwork_family.specs.declared.error.CidrFault.{CidrFault}
 use Rattle.ipnetwork_family.specs.declared.error.CidrFault.TheVariants.{Format, Prefix}
-use Rattle.ipnetwork.specs.IpNetworks.{IsIpNetwork, IpMember, is_ip_member, ip_low, ip_high, ip_mask_of}
-use Rattle.ipnetwork.specs.IpNetworkText.{NamesIpNetwork, ip_network_text}
+use Rattle.ipnetwork.specs.IpNetworks.{IsIpNetwork, IpMember, ip_low, ip_high, ip_mask_of}
+use Rattle.ipnetwork.specs.IpNetworkText.{NamesIpNetwork}
 use Rattle.ipnetwork.specs.declared.ip_network.IpNetwork.{IpNetwork}
 use Rattle.ipnetwork.specs.declared.ip_network.IpNetwork.TheVariants.{V4, V6}
-use Rattle.cidr.specs.CommandLaws.{AnswersRead, AnswersNetwork, TellsEnds, AnswersMembership}
-use Rattle.cidr.specs.Commands.{refusal, printed_v4, printed_v6, asked_v4}
-use Rattle.cidr.specs.EitherCommands.{printed, asked, told, ends_text}
+use Rattle.ipnetwork_family.specs.Laws.{SuffixIsRefused}
+use Rattle.cidr.specs.Laws.Commands.{AnswersRead, AnswersNetwork, TellsEnds, AnswersMembership}
+use Rattle.cidr.specs.Commands.{text_or_cause, text_or_refused, ends_text, membership}
 use Rattle.cidr.specs.Requests.{Plain, request_of}
 use Rattle.cidr.proofs.CommandLines.{answered}
 use Rattle.cidr.proofs.EitherAnswers.{value_from}
@@ -43,57 +42,31 @@ refuses (Err fault) none = (fault, refl)
 no_more : (n : ℕ) → n ≤ 1 → nat_le 2 n ≡ false
 no_more n few = elim (leb_tells 2 n) [ inl two ↦ absurd (omega (arith, few, two.1)) | inr fewer ↦ fewer.0 ]
 
--- the answer, by what reading answers
-abbrev pub shown : (ℕ → List ℕ) → Result Network CidrFault → List ℕ
-shown canonical (Ok network) = network_text canonical network
-shown canonical (Err fault) = refusal fault
-
 module _ (w : ℕ) (N S : List ℕ → ℕ → Type 0) (canonical : ℕ → List ℕ) (address_of length_of : List ℕ → Option ℕ) where
-  pub answers_read : (line text : List ℕ) → ((r : Result Network CidrFault) → ReadsNetwork w N S text r ↔ (r ≡ network_of w address_of length_of text))
-      → ((t : List ℕ) (a : ℕ) → N t a ↔ (address_of t ≡ Some a)) → request_of line ≡ Plain (shown canonical (network_of w address_of length_of text))
+  pub answers_read : SuffixIsRefused w N S → (line text : List ℕ) → ((r : Result Network CidrFault) → ReadsNetwork w N S text r ↔ (r ≡ network_of w address_of length_of text))
+      → ((t : List ℕ) (a : ℕ) → N t a ↔ (address_of t ≡ Some a)) → request_of line ≡ Plain (text_or_cause canonical (network_of w address_of length_of text))
       → AnswersRead w N S canonical line text
-  answers_read line text reading addresses asks =
+  answers_read refused line text reading addresses asks =
       let parts = network_from (address_of (before_slash text)) (prefix_given w length_of (suffix_of text)) in
       record {
-        network = λ n names. answered line _ (asks ∙ ap (λ r. Plain (shown canonical r)) (sym ((reading (Ok n)).0 names)));
-        format = λ two. answered line _ (asks ∙ ap (λ b. Plain (shown canonical (cond b (Err Format) parts))) (le-leb 2 (slashes text) two));
+        network = λ n names. answered line _ (asks ∙ ap (λ r. Plain (text_or_cause canonical r)) (sym ((reading (Ok n)).0 names)));
+        format = λ two. answered line _ (asks ∙ ap (λ b. Plain (text_or_cause canonical (cond b (Err Format) parts))) (le-leb 2 (slashes text) two));
         address = λ few none. answered line _ (
-            asks ∙ ap (λ b. Plain (shown canonical (cond b (Err Format) parts))) (no_more (slashes text) few)
-            ∙ ap (λ o. Plain (shown canonical (network_from o (prefix_given w length_of (suffix_of text)))))
+            asks ∙ ap (λ b. Plain (text_or_cause canonical (cond b (Err Format) parts))) (no_more (slashes text) few)
+            ∙ ap (λ o. Plain (text_or_cause canonical (network_from o (prefix_given w length_of (suffix_of text)))))
             (nothing (address_of (before_slash text)) (λ a is. none a ((addresses (before_slash text) a).1 is))));
-        prefix = λ few a names none. answered line _ (asks ∙ ap (λ r. Plain (shown canonical r)) (sym ((reading (Err Prefix)).0 ((few, (a, names)), none))));
+        prefix = λ few a names none. answered line _ (asks ∙ ap (λ r. Plain (text_or_cause canonical r)) (sym ((reading (Err Prefix)).0 ((few, (a, names), refused text a names none), none))));
       }
-
-pub shown_v4 : (r : Result Network CidrFault) → printed_v4 r ≡ shown canonical_v4 r
-shown_v4 (Ok network) = refl
-shown_v4 (Err fault) = refl
-
-pub shown_v6 : (r : Result Network CidrFault) → printed_v6 r ≡ shown canonical_v6 r
-shown_v6 (Ok network) = refl
-shown_v6 (Err fault) = refl
 
 -- ---- `read` and `ends`
 
--- what is told of a network, or `refused`
-abbrev pub told_of : (IpNetwork → List ℕ) → Result IpNetwork CidrFault → List ℕ
-told_of text (Ok network) = text network
-told_of text (Err fault) = codes "refused"
-
 pub answers_network : (tells : IpNetwork → List ℕ) (IsTold : IpNetwork → List ℕ → Type 0) (line text : List ℕ) (r : Result IpNetwork CidrFault)
     → ((n : IpNetwork) → IsIpNetwork n → IsTold n (tells n)) → ((n : IpNetwork) → NamesIpNetwork text n ↔ (Ok n ≡ r))
-    → request_of line ≡ Plain (told_of tells r) → AnswersNetwork IsTold line text
+    → request_of line ≡ Plain (text_or_refused tells r) → AnswersNetwork IsTold line text
 answers_network tells IsTold line text r told reading asks = record {
-  network = λ n fits names. (tells n, told n fits, answered line _ (asks ∙ ap (λ x. Plain (told_of tells x)) (sym ((reading n).0 names))));
-  none = λ none. answered line _ (asks ∙ ap (λ x. Plain (told_of tells x)) (refuses r (λ n is. none n ((reading n).1 is))).1);
+  network = λ n fits names. (tells n, told n fits, answered line _ (asks ∙ ap (λ x. Plain (text_or_refused tells x)) (sym ((reading n).0 names))));
+  none = λ none. answered line _ (asks ∙ ap (λ x. Plain (text_or_refused tells x)) (refuses r (λ n is. none n ((reading n).1 is))).1);
 }
-
-pub told_texts : (r : Result IpNetwork CidrFault) → printed r ≡ told_of ip_network_text r
-told_texts (Ok network) = refl
-told_texts (Err fault) = refl
-
-pub told_ends : (r : Result IpNetwork CidrFault) → told r ≡ told_of ends_text r
-told_ends (Ok network) = refl
-told_ends (Err fault) = refl
 
 length-count_up : (start n : ℕ) → length (count_up start n) ≡ n
 unfolding count_up
@@ -116,19 +89,19 @@ all_members w n none =
     let more : 0 < 2 ^ w = pow_pos w in
     length-count_up (low w n) (block_size w n.prefix) ∙ omega (arith, all, more)
 
-least_v4 : (n : Network) → HasEnds 32 n → (x : IpAddr) → IpMember (V4 n) x → IsAtMost (ip_low (V4 n)) x
+least_v4 : (n : Network) → HasEnds 32 n → (x : IpAddr) → IpMember (V4 n) x → IsAddrAtMost (ip_low (V4 n)) x
 least_v4 n has (addresses.V4 x) member = (has.within x member).0
 least_v4 n has (addresses.V6 x) member = absurd member
 
-greatest_v4 : (n : Network) → HasEnds 32 n → (x : IpAddr) → IpMember (V4 n) x → IsAtMost x (ip_high (V4 n))
+greatest_v4 : (n : Network) → HasEnds 32 n → (x : IpAddr) → IpMember (V4 n) x → IsAddrAtMost x (ip_high (V4 n))
 greatest_v4 n has (addresses.V4 x) member = (has.within x member).1
 greatest_v4 n has (addresses.V6 x) member = absurd member
 
-least_v6 : (n : Network) → HasEnds 128 n → (x : IpAddr) → IpMember (V6 n) x → IsAtMost (ip_low (V6 n)) x
+least_v6 : (n : Network) → HasEnds 128 n → (x : IpAddr) → IpMember (V6 n) x → IsAddrAtMost (ip_low (V6 n)) x
 least_v6 n has (addresses.V4 x) member = absurd member
 least_v6 n has (addresses.V6 x) member = (has.within x member).0
 
-greatest_v6 : (n : Network) → HasEnds 128 n → (x : IpAddr) → IpMember (V6 n) x → IsAtMost x (ip_high (V6 n))
+greatest_v6 : (n : Network) → HasEnds 128 n → (x : IpAddr) → IpMember (V6 n) x → IsAddrAtMost x (ip_high (V6 n))
 greatest_v6 n has (addresses.V4 x) member = absurd member
 greatest_v6 n has (addresses.V6 x) member = (has.within x member).1
 
@@ -164,40 +137,24 @@ tells_ends ends (V6 n) fits =
 
 -- ---- `has4` and `has`
 
--- the answer, by what reading answers
-abbrev pub held : {N A : Type 0} → (N → A → Bool) → Result N CidrFault → Option A → List ℕ
-held test (Err fault) address = codes "refused network"
-held test (Ok network) None = codes "refused address"
-held test (Ok network) (Some address) = cond (test network address) (codes "yes") (codes "no")
-
 not_true : (b : Bool) → ¬ (IsTrue b) → b ≡ false
 not_true false never = refl
 not_true true never = absurd (never refl)
 
 module _ {N A : Type 0} (Names : List ℕ → N → Type 0) (NamesAddress : List ℕ → A → Type 0) (Holds : N → A → Type 0) (test : N → A → Bool) where
   pub answers_membership : (line text word : List ℕ) (r : Result N CidrFault) (o : Option A) → ((n : N) → Names text n ↔ (Ok n ≡ r)) → ((a : A) → NamesAddress word a ↔ (o ≡ Some a))
-      → ((n : N) (a : A) → IsTrue (test n a) ↔ Holds n a) → request_of line ≡ Plain (held test r o) → AnswersMembership Names NamesAddress Holds line text word
+      → ((n : N) (a : A) → IsTrue (test n a) ↔ Holds n a) → request_of line ≡ Plain (membership test r o) → AnswersMembership Names NamesAddress Holds line text word
   answers_membership line text word r o reading addresses tested asks = record {
     yes = λ n a network address holds. answered line _ (
-        asks ∙ ap₂ (λ x y. Plain (held test x y)) (sym ((reading n).0 network)) ((addresses a).0 address)
+        asks ∙ ap₂ (λ x y. Plain (membership test x y)) (sym ((reading n).0 network)) ((addresses a).0 address)
         ∙ ap (λ b. Plain (cond b (codes "yes") (codes "no"))) ((tested n a).1 holds));
     no = λ n a network address out. answered line _ (
-        asks ∙ ap₂ (λ x y. Plain (held test x y)) (sym ((reading n).0 network)) ((addresses a).0 address)
+        asks ∙ ap₂ (λ x y. Plain (membership test x y)) (sym ((reading n).0 network)) ((addresses a).0 address)
         ∙ ap (λ b. Plain (cond b (codes "yes") (codes "no"))) (not_true (test n a) (λ is. out ((tested n a).0 is))));
-    no_network = λ none. answered line _ (asks ∙ ap (λ x. Plain (held test x o)) (refuses r (λ n is. none n ((reading n).1 is))).1);
+    no_network = λ none. answered line _ (asks ∙ ap (λ x. Plain (membership test x o)) (refuses r (λ n is. none n ((reading n).1 is))).1);
     no_address = λ n network none. answered line _ (
-        asks ∙ ap₂ (λ x y. Plain (held test x y)) (sym ((reading n).0 network)) (nothing o (λ a is. none a ((addresses a).1 is))));
+        asks ∙ ap₂ (λ x y. Plain (membership test x y)) (sym ((reading n).0 network)) (nothing o (λ a is. none a ((addresses a).1 is))));
   }
-
-pub held_v4 : (r : Result Network CidrFault) (o : Option ℕ) → asked_v4 r o ≡ held (is_member 32) r o
-held_v4 (Err fault) o = refl
-held_v4 (Ok network) None = refl
-held_v4 (Ok network) (Some address) = refl
-
-pub held_ip : (r : Result IpNetwork CidrFault) (o : Option IpAddr) → asked r o ≡ held is_ip_member r o
-held_ip (Err fault) o = refl
-held_ip (Ok network) None = refl
-held_ip (Ok network) (Some address) = refl
 
 -- the address that a text names, by what reading answers
 pub address_named : {A E : Type 0} (P : Type 0) (error : E) (o : Option A) (a : A) → (P ↔ (Ok a ≡ answer_from error o)) → P ↔ (o ≡ Some a)

@@ -1,13 +1,15 @@
 -- What `rel` answers, and what `add`, `drop` and `find` ask.
 use Rattle.std.proofs.Common.{◌≡◌, ◌↔◌, ℕ, List, None, Some, Result, Ok, Err, refl, sym, ap, ap₂, ◌∙◌}
-use Rattle.ipnetwork_addr.specs.Either.{NamesIp, ip_of}
+use Rattle.ipnetwork_addr.specs.Either.{NamesIp}
+use Rattle.ipnetwork_addr.specs.Computed.Either.{ip_of}
 use Rattle.ipnetwork_addr.specs.declared.ip.IpAddr.{IpAddr}
 use Rattle.ipnetwork_family.specs.declared.error.CidrFault.{CidrFault}
-use Rattle.ipnetwork.specs.IpNetworkText.{NamesIpNetwork, ip_network_of}
+use Rattle.ipnetwork.specs.IpNetworkText.{NamesIpNetwork}
+use Rattle.ipnetwork.specs.Computed.IpNetworkText.{ip_network_of}
 use Rattle.ipnetwork.specs.declared.ip_network.IpNetwork.{IpNetwork}
-use Rattle.cidr.specs.CommandLaws.{AnswersRelation, AsksAdd, AsksDrop, AsksFind}
-use Rattle.cidr.specs.EitherCommands.{refused, related, rel_answer}
-use Rattle.cidr.specs.Laws.{RelatesSets}
+use Rattle.cidr.specs.Laws.Commands.{AnswersRelation, AsksAdd, AsksDrop, AsksFind}
+use Rattle.cidr.specs.Commands.{refused, related, rel_answer}
+use Rattle.cidr.specs.Laws.Sets.{RelatesSets}
 use Rattle.cidr.specs.Requests.{Plain, adding, dropping, finding, route_number_of, request_of}
 use Rattle.cidr.proofs.CommandAnswers.{nothing, refuses}
 use Rattle.cidr.proofs.CommandLines.{answered}

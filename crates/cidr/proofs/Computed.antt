@@ -2,18 +2,15 @@
 use Rattle.std.proofs.Common.{◌≡◌, ◌≢◌, ℕ, inl, inr, List, [], ◌∷◌, ◌++◌, refl, ap, ap₂, ◌∙◌, subst}
 use Rattle.std.specs.List.{AllByRecursion}
 use Rattle.std.specs.Str.Lines.{lines}
-use Rattle.ipnetwork_addr.specs.Ipv4Text.{canonical_v4}
-use Rattle.ipnetwork_addr.specs.Ipv6Canonical.{canonical_v6}
-use Rattle.ipnetwork_addr.specs.declared.ip.IpAddr.{IpAddr}
-use Rattle.ipnetwork_addr.specs.declared.ip.IpAddr.TheVariants.{V4, V6}
-use Rattle.cidr.specs.Finding.{Finds}
 use Rattle.cidr.specs.Output.{Gets, RunsOut, MayGet, InTurn, MayAnswer, out_of_memory, replies}
-use Rattle.cidr.specs.OutputLaws.{find_answer, request_answer, next_routes, answers_from, FullIsComputed, ComputedIsAllowed, UnrefusedIsComputed}
-use Rattle.cidr.specs.Private.Progress.{MayAnswerFirst}
+use Rattle.cidr.specs.Computed.Output.{request_answer, next_routes, answers_from}
+use Rattle.cidr.specs.Laws.Outputs.{FullIsComputed, ComputedIsAllowed, UnrefusedIsComputed}
+use Rattle.line_engine.specs.Answers.{FirstInTurn}
 use Rattle.cidr.specs.Requests.{Request, Add, Drop, Find, Plain, request_of}
 use Rattle.cidr.specs.Routes.{Routes, no_routes}
-use Rattle.cidr.proofs.Found.{computed_finds, finds_computed}
+use Rattle.cidr.proofs.Found.{find_some, find_one}
 use Rattle.cidr.proofs.Keys.{KeyLaws, HasClearKeys, no_keys, added_key, dropped_key}
+use Rattle.cidr.proofs.Turns.{LineMayGet}
 use Rattle.ipnetwork_table.specs.Laws.{AnswerIsComputed, AnswerIsOne}
 
 -- ---- a request
@@ -42,14 +39,10 @@ routes_after r (l ∷ ls) = routes_after (next_routes r (request_of l)) ls
 -- ---- what is computed may be written
 
 module _ (computed : AnswerIsComputed ℕ) where
-  find_some : (r : Routes) (a : IpAddr) → Finds r a (find_answer r a)
-  find_some r (V4 a) = computed_finds computed 32 canonical_v4 r.v4 a
-  find_some r (V6 a) = computed_finds computed 128 canonical_v6 r.v6 a
-
   gets_computed : (r : Routes) (q : Request) → Gets r q (request_answer r q) (next_routes r q)
   gets_computed r (Add n v) = (refl, refl)
   gets_computed r (Drop n) = (refl, refl)
-  gets_computed r (Find a) = (find_some r a, refl)
+  gets_computed r (Find a) = (find_some computed r a, refl)
   gets_computed r (Plain x) = (refl, refl)
 
   may_compute : (r : Routes) (ls : List (List ℕ)) → MayAnswer r ls (answers_from r ls) (routes_after r ls)
@@ -61,7 +54,7 @@ module _ (computed : AnswerIsComputed ℕ) where
   compute r (l ∷ ls) = (next_routes r (request_of l), gets_computed r (request_of l), compute (next_routes r (request_of l)) ls)
 
   -- answers to the first lines go on to answers to all
-  pub goes_on_to_all : (r : Routes) (ls xs : List (List ℕ)) → MayAnswerFirst r ls xs → (ys : List (List ℕ)) × (s : Routes) × MayAnswer r ls (xs ++ ys) s
+  pub goes_on_to_all : (r : Routes) (ls xs : List (List ℕ)) → FirstInTurn LineMayGet r ls xs → (ys : List (List ℕ)) × (s : Routes) × MayAnswer r ls (xs ++ ys) s
   goes_on_to_all r ls [] some = (answers_from r ls, routes_after r ls, may_compute r ls)
   goes_on_to_all r [] (x ∷ xs) some = absurd some
   goes_on_to_all r (l ∷ ls) (x ∷ xs) some =
@@ -82,14 +75,10 @@ module _ (laws : KeyLaws) where
 -- ---- and nothing else may, without an answer `out of memory`
 
 module _ (computed : AnswerIsComputed ℕ) (one : AnswerIsOne ℕ) (laws : KeyLaws) where
-  find_one : (r : Routes) (a : IpAddr) (x : List ℕ) → HasClearKeys r → Finds r a x → x ≡ find_answer r a
-  find_one r (V4 a) x keys finds = finds_computed computed 32 canonical_v4 r.v4 a one x keys.0 finds
-  find_one r (V6 a) x keys finds = finds_computed computed 128 canonical_v6 r.v6 a one x keys.1 finds
-
   one_way : (r s : Routes) (q : Request) (x : List ℕ) → HasClearKeys r → Gets r q x s → (x ≡ request_answer r q) × (s ≡ next_routes r q)
   one_way r s (Add n v) x keys gets = gets
   one_way r s (Drop n) x keys gets = gets
-  one_way r s (Find a) x keys gets = (find_one r a x keys gets.0, gets.1)
+  one_way r s (Find a) x keys gets = (find_one computed one r a x keys gets.0, gets.1)
   one_way r s (Plain y) x keys gets = gets
 
   one_turn_each : (r s : Routes) (ls xs : List (List ℕ)) → HasClearKeys r → InTurn Gets r ls xs s → xs ≡ answers_from r ls

@@ -3,11 +3,12 @@ use Rattle.std.proofs.Common.{◌≡◌, ℕ, ◌<◌, ◌≤◌, List, ◌++◌
 use Rattle.std.proofs.lemmas.List.{append_cancel_right}
 use Rattle.std.proofs.Math.Seq.{take-append_seam}
 use Rattle.std.specs.Prelude.{Option, None, Some, Result, Err}
-use Rattle.cidr.specs.declared.fault.RunFault.{RunFault}
-use Rattle.cidr.specs.declared.fault.RunFault.TheVariants.{Read, Write, InputTooLong}
-use Rattle.cidr.specs.Output.{IsOutput, complete_part, IsBeginning}
+use Rattle.line_engine.specs.declared.fault.RunFault.{RunFault}
+use Rattle.line_engine.specs.declared.fault.RunFault.TheVariants.{Read, Write, InputTooLong}
+use Rattle.line_engine.specs.Answers.{complete_part, IsBeginning}
+use Rattle.cidr.specs.Output.{IsOutput}
 use Rattle.cidr.specs.Run.{Ran, BeginsOutput}
-use Rattle.cidr.specs.Laws.{AfterOk, AfterReadFault, AfterWriteFault, AfterTooLong}
+use Rattle.cidr.specs.Laws.Runs.{AfterOk, AfterReadFault, AfterWriteFault, AfterTooLong}
 
 -- the run read what the reader lost
 was_read : (limit : ℕ) (read rest : List ℕ) (held holds : Option (List ℕ)) (result : Result (Unit {0}) RunFault)

@@ -1,6 +1,6 @@
 -- The answers of the commands over both families.
 use Rattle.std.proofs.Common.{◌≡◌, ◌↔◌, ℕ, Bool, true, false, cond, List, Option, None, Some, Ok, Err, IsTrue, refl, sym, ap, ◌∙◌}
-use Rattle.ipnetwork_addr.specs.Reading.{answer_from}
+use Rattle.ipnetwork_addr.specs.Computed.Reading.{answer_from}
 
 -- the value behind an answer
 pub value_from : {A E : Type 0} (error : E) (o : Option A) (value : A) → Ok value ≡ answer_from error o → o ≡ Some value

@@ -1,17 +1,19 @@
 -- The answers by membership and by sets, of texts that name networks and addresses.
 use Rattle.std.proofs.Common.{◌≡◌, ◌↔◌, ℕ, List, length, Bool, true, false, cond, IsTrue, codes, get_or, refl, ap, arith}
 use Rattle.std.specs.Prelude.{Ok, Some}
-use Rattle.ipnetwork_addr.specs.Ipv4Text.{v4_of}
-use Rattle.ipnetwork_addr.specs.Either.{ip_of}
+use Rattle.ipnetwork_addr.specs.Computed.Ipv4Text.{v4_of}
+use Rattle.ipnetwork_addr.specs.Computed.Either.{ip_of}
 use Rattle.ipnetwork_addr.specs.declared.ip.IpAddr.{IpAddr}
-use Rattle.ipnetwork_family.specs.Network.{Network, Member, is_member}
-use Rattle.ipnetwork_family.specs.Ipv4NetworkText.{v4_network_of}
-use Rattle.ipnetwork.specs.IpNetworks.{IpMember, is_ip_member, IpSubnet, is_ip_subnet}
-use Rattle.ipnetwork.specs.IpNetworkText.{ip_network_of}
+use Rattle.ipnetwork_family.specs.Network.{Network, Member}
+use Rattle.ipnetwork_family.specs.Computed.Network.{is_member}
+use Rattle.ipnetwork_family.specs.Computed.Ipv4NetworkText.{v4_network_of}
+use Rattle.ipnetwork.specs.IpNetworks.{IpMember, IpSubnet}
+use Rattle.ipnetwork.specs.Computed.IpNetworks.{is_ip_member, is_ip_subnet}
+use Rattle.ipnetwork.specs.Computed.IpNetworkText.{ip_network_of}
 use Rattle.ipnetwork.specs.declared.ip_network.IpNetwork.{IpNetwork}
 use Rattle.cidr.specs.Commands.{has4_answer}
-use Rattle.cidr.specs.EitherCommands.{has_answer, rel_answer}
-use Rattle.cidr.specs.Laws.{Relates}
+use Rattle.cidr.specs.Commands.{has_answer, rel_answer}
+use Rattle.cidr.specs.Laws.Sets.{Relates}
 
 no_truth : false ≡ true → ⊥
 no_truth e = cc

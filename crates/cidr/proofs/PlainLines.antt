@@ -1,16 +1,17 @@
 -- A line that asks nothing of the routes.
-use Rattle.std.proofs.Common.{◌≡◌, ◌≢◌, ℕ, inl, inr, true, false, cond, List, [], ◌∷◌, ◌++◌, length, codes, refl, sym, ap, ap₂, ◌∙◌, subst, ◌<◌, arith}
+use Rattle.std.proofs.Common.{◌≡◌, ◌≢◌, ℕ, Bool, inl, inr, true, false, cond, List, [], ◌∷◌, ◌++◌, length, codes, refl, sym, ap, ap₂, ◌∙◌, subst, ◌<◌, arith}
 use Rattle.std.specs.List.{flat_map, AllByRecursion}
 use Rattle.std.specs.Prelude.{bytes_eq, nat_lt, Contains, slice_index_or}
 use Rattle.std.specs.Str.Lines.{lines}
 use Rattle.std.proofs.lemmas.Bool.{false_from_ne_true}
 use Rattle.std.proofs.lemmas.Slice.Eq.{bytes_eq-Decides}
-use Rattle.ipnetwork_addr.specs.Either.{ip_of}
-use Rattle.ipnetwork.specs.IpNetworkText.{ip_network_of}
-use Rattle.cidr.specs.Commands.{one_word_answer, two_words_answer, answer_to, command_answer}
-use Rattle.cidr.specs.Output.{MayGet, MayAnswer, reply, replies, answer_of}
-use Rattle.cidr.specs.OutputLaws.{IsPlainLine, OthersAreRouting, PlainLinesAskNothing, PlainInputsHaveOneOutput}
-use Rattle.cidr.specs.Requests.{Request, Plain, adding, dropping, finding, route_number_of, one_word_request, two_words_request, request_in, request_of}
+use Rattle.ipnetwork_addr.specs.Computed.Either.{ip_of}
+use Rattle.ipnetwork.specs.Computed.IpNetworkText.{ip_network_of}
+use Rattle.cidr.specs.Commands.{read_answer, read4_answer, read6_answer, ends_answer, has_answer, has4_answer, rel_answer}
+use Rattle.cidr.specs.Computed.Output.{request_answer, answer_of}
+use Rattle.cidr.specs.Output.{MayGet, MayAnswer, reply, replies}
+use Rattle.cidr.specs.Laws.Outputs.{IsPlainLine, OthersAreRouting, PlainLinesAskNothing, PlainInputsHaveOneOutput}
+use Rattle.cidr.specs.Requests.{Request, Plain, too_long, unknown, adding, dropping, finding, route_number_of, one_word_request, two_words_request, request_in, request_of}
 use Rattle.cidr.specs.Routes.{Routes, no_routes}
 use Rattle.cidr.specs.Words.{words}
 use Rattle.cidr.proofs.Cuts.{words_cons}
@@ -29,35 +30,49 @@ Named line = (command : List ℕ) × (others : List (List ℕ)) × (words line �
 pub differs : (xs ys : List ℕ) → xs ≢ ys → bytes_eq xs ys ≡ false
 differs xs ys apart = false_from_ne_true (bytes_eq xs ys) (λ e. apart ((bytes_eq-Decides xs ys).0 e))
 
-pub one_word : (command word : List ℕ) → command ≢ codes "drop" → command ≢ codes "find" → one_word_request command word ≡ Plain (one_word_answer command word)
+-- the request asks nothing of the routes
+abbrev IsPlain : Request → Type 0
+IsPlain request = request ≡ Plain (request_answer no_routes request)
+
+-- one that is chosen among two such requests
+one_of_plain : (test : Bool) (x y : Request) → IsPlain x → IsPlain y → IsPlain (cond test x y)
+one_of_plain true x y first second = first
+one_of_plain false x y first second = second
+
+-- the second, where a test fails
+second_plain : (test : Bool) (x y : Request) → test ≡ false → IsPlain y → IsPlain (cond test x y)
+second_plain test x y fails plain = subst (λ (b : Bool). IsPlain (cond b x y)) (sym fails) plain
+
+one_word : (command word : List ℕ) → command ≢ codes "drop" → command ≢ codes "find" → IsPlain (one_word_request command word)
 unfolding one_word_request
 one_word command word no_drop no_find =
-    let plain = Plain (one_word_answer command word) in
-    ap (λ b. cond b (dropping (ip_network_of word)) (cond (bytes_eq command (codes "find")) (finding (ip_of word)) plain)) (differs command (codes "drop") no_drop)
-    ∙ ap (λ b. cond b (finding (ip_of word)) plain) (differs command (codes "find") no_find)
+    one_of_plain (bytes_eq command (codes "read")) (Plain (read_answer word)) _ refl
+    (one_of_plain (bytes_eq command (codes "ends")) (Plain (ends_answer word)) _ refl
+    (one_of_plain (bytes_eq command (codes "read4")) (Plain (read4_answer word)) _ refl
+    (one_of_plain (bytes_eq command (codes "read6")) (Plain (read6_answer word)) _ refl
+    (second_plain _ (dropping (ip_network_of word)) _ (differs command (codes "drop") no_drop)
+    (second_plain _ (finding (ip_of word)) unknown (differs command (codes "find") no_find) refl)))))
 
-pub two_words : (command first second : List ℕ) → command ≢ codes "add" → two_words_request command first second ≡ Plain (two_words_answer command first second)
+two_words : (command first second : List ℕ) → command ≢ codes "add" → IsPlain (two_words_request command first second)
 unfolding two_words_request
 two_words command first second no_add =
-    ap (λ b. cond b (adding (ip_network_of first) (route_number_of second)) (Plain (two_words_answer command first second))) (differs command (codes "add") no_add)
+    one_of_plain (bytes_eq command (codes "has")) (Plain (has_answer first second)) _ refl
+    (one_of_plain (bytes_eq command (codes "rel")) (Plain (rel_answer first second)) _ refl
+    (one_of_plain (bytes_eq command (codes "has4")) (Plain (has4_answer first second)) _ refl
+    (second_plain _ (adding (ip_network_of first) (route_number_of second)) unknown (differs command (codes "add") no_add) refl)))
 
-plain_words : (command : List ℕ) (others : List (List ℕ)) → command ≢ codes "add" → command ≢ codes "drop" → command ≢ codes "find"
-    → request_in (command ∷ others) ≡ Plain (answer_to (command ∷ others))
-unfolding request_in answer_to
+plain_words : (command : List ℕ) (others : List (List ℕ)) → command ≢ codes "add" → command ≢ codes "drop" → command ≢ codes "find" → IsPlain (request_in (command ∷ others))
+unfolding request_in
 plain_words command [] no_add no_drop no_find = refl
 plain_words command (word ∷ []) no_add no_drop no_find = one_word command word no_drop no_find
 plain_words command (first ∷ second ∷ []) no_add no_drop no_find = two_words command first second no_add
 plain_words command (first ∷ second ∷ third ∷ others) no_add no_drop no_find = refl
 
-plain_request : (line : List ℕ) → IsPlainLine line → request_of line ≡ Plain (answer_of line)
-unfolding request_of answer_of command_answer
+plain_request : (line : List ℕ) → IsPlainLine line → IsPlain (request_of line)
+unfolding request_of
 plain_request line h =
-    let here : request_in (words line) ≡ Plain (answer_to (words line)) =
-    ap request_in h.cut ∙ plain_words h.command h.others h.no_add h.no_drop h.no_find ∙ ap (λ ws. Plain (answer_to ws)) (sym h.cut) in
-    elim (nat_lt 1024 (length line)) as (λ b. cond b (Plain (codes "line too long")) (request_in (words line)) ≡ Plain (cond b (codes "line too long") (answer_to (words line)))) [
-      | true ↦ refl
-      | false ↦ here
-    ]
+    one_of_plain (nat_lt 1024 (length line)) too_long (request_in (words line)) refl
+    (subst (λ (these : List (List ℕ)). IsPlain (request_in these)) (sym h.cut) (plain_words h.command h.others h.no_add h.no_drop h.no_find))
 
 pub plain_gets : (text answer : List ℕ) (before after : Routes) → MayGet before (Plain text) answer after → (answer ≡ text) × (after ≡ before)
 plain_gets text answer before after (inl gets) = gets

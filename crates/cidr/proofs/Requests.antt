@@ -2,8 +2,9 @@
 use Rattle.std.proofs.Common.{◌≡◌, ◌↔◌, ℕ, ◌≤◌, Bool, true, false, cond, List, Option, None, Some, inl, inr, refl, sym, ap, subst, ◌∙◌}
 use Rattle.std.proofs.lemmas.Bool.{le-leb}
 use Rattle.std.proofs.lemmas.Bool.Decides.{leb_tells}
-use Rattle.ipnetwork_family.specs.PrefixNumber.{IsPrefixNumber, IsNoPrefixNumber, prefix_number_of}
-use Rattle.cidr.specs.declared.replies.Replies.{Replies}
+use Rattle.ipnetwork_family.specs.PrefixNumber.{IsPrefixNumber, IsNoPrefixNumber}
+use Rattle.ipnetwork_family.specs.Computed.PrefixNumber.{prefix_number_of}
+use Rattle.line_engine.specs.Buffers.{Filled}
 use Rattle.cidr.specs.Output.{MayGet}
 use Rattle.cidr.specs.Private.Replies.{Adds, RepliesTo}
 use Rattle.cidr.specs.Requests.{Request, Plain, route_number_of, within_32_bits}
@@ -11,22 +12,22 @@ use Rattle.cidr.specs.Routes.{Routes}
 
 -- ---- replies
 
-pub plain_reply : (r : Routes) (old new : Replies) (text : List ℕ) → Adds old new text → RepliesTo r (Plain text) old new r
+pub plain_reply : (r : Routes) (old new : Filled) (text : List ℕ) → Adds old new text → RepliesTo r (Plain text) old new r
 plain_reply r old new text adds = (text, inl (refl, refl), adds)
 
-pub reply_with : (r s : Routes) (q : Request) (old new : Replies) (answer : List ℕ) → MayGet r q answer s → Adds old new answer → RepliesTo r q old new s
+pub reply_with : (r s : Routes) (q : Request) (old new : Filled) (answer : List ℕ) → MayGet r q answer s → Adds old new answer → RepliesTo r q old new s
 reply_with r s q old new answer gets adds = (answer, gets, adds)
 
 -- a request by another name
-pub replies_as : (r s : Routes) (p q : Request) (old new : Replies) → p ≡ q → RepliesTo r q old new s → RepliesTo r p old new s
+pub replies_as : (r s : Routes) (p q : Request) (old new : Filled) → p ≡ q → RepliesTo r q old new s → RepliesTo r p old new s
 replies_as r s p q old new same replies = subst (λ (x : Request). RepliesTo r x old new s) (sym same) replies
 
 -- the command is this one, or another
-pub chosen_reply : (r s : Routes) (x y : Request) (old new : Replies) (asked test : Bool) → test ≡ asked → test ≡ true
+pub chosen_reply : (r s : Routes) (x y : Request) (old new : Filled) (asked test : Bool) → test ≡ asked → test ≡ true
     → RepliesTo r x old new s → RepliesTo r (cond asked x y) old new s
 chosen_reply r s x y old new asked test says holds replies = replies_as r s _ x old new (ap (λ b. cond b x y) (sym says ∙ holds)) replies
 
-pub other_reply : (r s : Routes) (x y : Request) (old new : Replies) (asked test : Bool) → test ≡ asked → test ≡ false
+pub other_reply : (r s : Routes) (x y : Request) (old new : Filled) (asked test : Bool) → test ≡ asked → test ≡ false
     → RepliesTo r y old new s → RepliesTo r (cond asked x y) old new s
 other_reply r s x y old new asked test says fails replies = replies_as r s _ y old new (ap (λ b. cond b x y) (sym says ∙ fails)) replies
 

@@ -4,22 +4,21 @@ use Rattle.std.specs.Prelude.{IsSome}
 use Rattle.std.specs.FinMap.{FinMap, get, get-empty}
 use Rattle.std.specs.Str.Lines.{lines}
 use Rattle.std.proofs.lemmas.Option.{none-some}
-use Rattle.ipnetwork_addr.specs.Ipv4Text.{canonical_v4}
-use Rattle.ipnetwork_addr.specs.Ipv6Canonical.{canonical_v6}
 use Rattle.ipnetwork_addr.specs.declared.ip.IpAddr.{IpAddr}
 use Rattle.ipnetwork_addr.specs.declared.ip.IpAddr.TheVariants as addresses
 use Rattle.ipnetwork_family.specs.Laws.{SameSet, BlockHasSameSet}
-use Rattle.ipnetwork_family.specs.Network.{Network, IsNetwork, IsBlock, Subnet, Member, block_of, network_cmp}
+use Rattle.ipnetwork_family.specs.Network.{Network, IsNetwork, HostBitsAreZero, Subnet, Member, block_of, network_cmp}
 use Rattle.ipnetwork.specs.IpNetworks.{IsIpNetwork, IpMember, IpSubnet, AreApart, prefix_of}
 use Rattle.ipnetwork.specs.declared.ip_network.IpNetwork.{IpNetwork}
 use Rattle.ipnetwork.specs.declared.ip_network.IpNetwork.TheVariants.{V4, V6}
 use Rattle.ipnetwork_table.specs.Laws.{InsertSetsOne, RemoveTakesOne}
-use Rattle.ipnetwork_table.specs.Table.{HasNoHostBits}
-use Rattle.cidr.specs.CommandLaws.{AddLaw, DropLaw, FindLaw}
-use Rattle.cidr.specs.Finding.{FindsIn}
-use Rattle.cidr.specs.Output.{added, dropped, MayGet, MayAnswer, reply, replies, RunsOut, IsOutput, IsBeginning}
+use Rattle.ipnetwork_table.specs.Table.{Answers, HasNoHostBits}
+use Rattle.cidr.specs.Laws.Commands.{AddLaw, DropLaw, FindLaw}
+use Rattle.cidr.specs.Finding.{of_family, found_text}
+use Rattle.line_engine.specs.Answers.{IsBeginning}
+use Rattle.cidr.specs.Output.{added, dropped, MayGet, MayAnswer, reply, replies, RunsOut, IsOutput}
 use Rattle.cidr.specs.Requests.{Request, Add, Drop, Find, Plain, request_of}
-use Rattle.cidr.specs.RouteLaws.{Renumbers, GetsAdd, New, Changed, OutOfMemory, AddsGet, GetsDrop, Dropped, Absent, DropsGet, GetsFind, Longest, Nothing, FindsGet, FirstFindsNothing, FirstDropsNothing, FirstAddsNew}
+use Rattle.cidr.specs.Laws.Routes.{Renumbers, GetsAdd, New, Changed, OutOfMemory, AddsGet, GetsDrop, Dropped, Absent, DropsGet, GetsFind, Longest, Nothing, FindsGet, FirstFindsNothing, FirstDropsNothing, FirstAddsNew}
 use Rattle.cidr.specs.Routes.{Routes, no_routes, number_at, with_number, without}
 use Rattle.cidr.proofs.Computed.{leaves, next_keys}
 use Rattle.cidr.proofs.Keys.{KeyLaws, HasClearKeys, no_keys}
@@ -135,7 +134,7 @@ module _ (laws : KeyLaws) where
   left_keys r s (l ∷ ls) (x ∷ xs) keys turns = left_keys turns.0 s ls xs (one_step r turns.0 (request_of l) x keys turns.1) turns.2
 
 -- a network without host bits is its block
-own_block : (w : ℕ) (n : Network) → IsBlock w n → block_of w n ≡ n
+own_block : (w : ℕ) (n : Network) → HostBitsAreZero w n → block_of w n ≡ n
 own_block w n block = λ i. record { address = sym block i; prefix = n.prefix }
 
 module _ (one_set : BlockHasSameSet) (routes : Routes) (a : ℕ) where
@@ -157,25 +156,31 @@ module _ (one_set : BlockHasSameSet) (routes : Routes) (a : ℕ) where
   longest_v6 p best (V4 m) some member = absurd member
   longest_v6 p best (V6 m) some member = best (block_of 128 m) some ((one_set 128 m a).1 member)
 
-  found_v4 : (answer : List ℕ) → HasNoHostBits 32 routes.v4 → FindsIn 32 canonical_v4 routes.v4 a answer → GetsFind routes (addresses.V4 a) answer
-  found_v4 answer keys (None, none, is) = Nothing (none_v4 none) is
-  found_v4 answer keys (Some found, best, is) =
-      let block : IsBlock 32 found.0 = keys found.0 (ap is_some best.stored) in
+  found_v4 : (answer : List ℕ) → HasNoHostBits 32 routes.v4 → (block : Option (Network × ℕ)) → Answers 32 routes.v4 a block
+      → answer ≡ found_text (of_family V4 block) → GetsFind routes (addresses.V4 a) answer
+  found_v4 answer keys None none is = Nothing (none_v4 none) is
+  found_v4 answer keys (Some found) best is =
+      let block : HostBitsAreZero 32 found.0 = keys found.0 (ap is_some best.stored) in
       Longest (V4 found.0) found.1 (ap (get routes.v4) (own_block 32 found.0 block) ∙ best.stored) (ap addresses.V4 block) best.holds
       (longest_v4 found.0.prefix best.longest) is
 
-  found_v6 : (answer : List ℕ) → HasNoHostBits 128 routes.v6 → FindsIn 128 canonical_v6 routes.v6 a answer → GetsFind routes (addresses.V6 a) answer
-  found_v6 answer keys (None, none, is) = Nothing (none_v6 none) is
-  found_v6 answer keys (Some found, best, is) =
-      let block : IsBlock 128 found.0 = keys found.0 (ap is_some best.stored) in
+  found_v6 : (answer : List ℕ) → HasNoHostBits 128 routes.v6 → (block : Option (Network × ℕ)) → Answers 128 routes.v6 a block
+      → answer ≡ found_text (of_family V6 block) → GetsFind routes (addresses.V6 a) answer
+  found_v6 answer keys None none is = Nothing (none_v6 none) is
+  found_v6 answer keys (Some found) best is =
+      let block : HostBitsAreZero 128 found.0 = keys found.0 (ap is_some best.stored) in
       Longest (V6 found.0) found.1 (ap (get routes.v6) (own_block 128 found.0 block) ∙ best.stored) (ap addresses.V6 block) best.holds
       (longest_v6 found.0.prefix best.longest) is
 
 pub finds_get : BlockHasSameSet → KeyLaws → FindsGet
 finds_get one_set laws before after (addresses.V4 a) answer left (inl gets) =
-    (found_v4 one_set before a answer (left_keys laws no_routes before left.0 left.1 (no_keys laws) left.2).0 gets.0, gets.1)
+    let keys = left_keys laws no_routes before left.0 left.1 (no_keys laws) left.2 in
+    let found = gets.0.1 in
+    (found_v4 one_set before a answer keys.0 found.0 found.1 (gets.0.2 ∙ ap found_text found.2), gets.1)
 finds_get one_set laws before after (addresses.V6 a) answer left (inl gets) =
-    (found_v6 one_set before a answer (left_keys laws no_routes before left.0 left.1 (no_keys laws) left.2).1 gets.0, gets.1)
+    let keys = left_keys laws no_routes before left.0 left.1 (no_keys laws) left.2 in
+    let found = gets.0.1 in
+    (found_v6 one_set before a answer keys.1 found.0 found.1 (gets.0.2 ∙ ap found_text found.2), gets.1)
 finds_get one_set laws before after a answer left (inr out) = absurd out
 
 -- ---- the first line

@@ -2,10 +2,10 @@
 use Rattle.std.proofs.Common.{◌≡◌, ℕ, List, [], ◌∷◌, ◌++◌, sym, ap, ap₂, ◌∙◌, subst, refl, append-nil, append_assoc}
 use Rattle.std.specs.Str.Lines.{lines}
 use Rattle.cidr.specs.Output.{MayAnswer, IsOutputFrom, replies}
-use Rattle.cidr.specs.OutputLaws.{EndsALine, IsOutputInParts, SplitsAtLineEnds, PlainPartsRunAlone}
-use Rattle.cidr.specs.Private.Progress.{lines_from, pending_from, last_line}
+use Rattle.cidr.specs.Laws.Outputs.{EndsALine, IsOutputInParts, SplitsAtLineEnds, PlainPartsRunAlone}
+use Rattle.line_engine.specs.Private.Progress.{lines_from, pending_from, last_line}
 use Rattle.cidr.specs.Routes.{Routes, no_routes}
-use Rattle.cidr.proofs.Lines.{lines-append, pending-append, lines_split}
+use Rattle.line_engine.proofs.Lines.{lines-append, pending-append, lines_split}
 use Rattle.cidr.proofs.PlainLines.{plain_turns}
 use Rattle.cidr.proofs.Turns.{replies-append, turns-append}
 

@@ -3,7 +3,7 @@ use Rattle.std.proofs.Common.{◌≡◌, ◌≢◌, ℕ, List, [], ◌∷◌, �
 use Rattle.std.specs.List.{AllByRecursion}
 use Rattle.std.specs.Str.Lines.{lines}
 use Rattle.cidr.specs.Output.{out_of_memory, reply, replies}
-use Rattle.cidr.specs.OutputLaws.{UnrefusedIsComputed, UnrefusedLinesAreComputed}
+use Rattle.cidr.specs.Laws.Outputs.{UnrefusedIsComputed, UnrefusedLinesAreComputed}
 use Rattle.cidr.proofs.Splits.{lines_of_both}
 
 abbrev AreOther : List (List ℕ) → Type 0

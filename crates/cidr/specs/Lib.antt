@@ -1,15 +1,10 @@
-pub mod CommandLaws
 pub mod Commands
-pub mod EitherCommands
-pub mod Faults
+pub mod Computed
 pub mod Finding
 pub mod Laws
 pub mod Output
-pub mod OutputLaws
 pub mod Private
 pub mod Requests
-pub mod RouteLaws
 pub mod Routes
 pub mod Run
-pub mod Watched
 pub mod Words

@@ -1,8 +1,8 @@
 -- What may be written for what is read.
-use Rattle.std.specs.Prelude.{◌≡◌, ℕ, ◌⊎◌, List, [], ◌∷◌, ◌++◌, Option, None, Some, length, nat_lt, ◌==◌, if◌then◌else◌, codes}
-use Rattle.std.specs.List.{flat_map, list_any}
+use Rattle.std.specs.Prelude.{◌≡◌, ℕ, ◌⊎◌, List, [], ◌∷◌, ◌++◌, Option, None, Some, codes}
+use Rattle.std.specs.List.{flat_map}
 use Rattle.std.specs.Str.Lines.{lines}
-use Rattle.cidr.specs.Commands.{command_answer}
+use Rattle.line_engine.specs.Answers as engine
 use Rattle.cidr.specs.Finding.{Finds}
 use Rattle.cidr.specs.Requests.{Request, Add, Drop, Find, Plain, request_of}
 use Rattle.cidr.specs.Routes.{Routes, no_routes, number_at, with_number, without}
@@ -44,14 +44,7 @@ MayGet before request answer after = Gets before request answer after ⊎ RunsOu
 
 -- from the routes before on, these lines get these answers in turn, one each, and leave the routes after
 abbrev pub InTurn : (Routes → Request → List ℕ → Routes → Type 0) → Routes → List (List ℕ) → List (List ℕ) → Routes → Type 0
--- no line changes nothing
-InTurn Get before [] [] after = after ≡ before
--- the first line is answered, and the others over the routes that it leaves
-InTurn Get before (line ∷ lines) (answer ∷ answers) after =
-    (between : Routes) × Get before (request_of line) answer between × InTurn Get between lines answers after
--- no line goes without an answer, and no answer without a line
-InTurn Get before [] (answer ∷ answers) after = ⊥
-InTurn Get before (line ∷ lines) [] after = ⊥
+InTurn Get = engine.InTurn (λ before line answer after. Get before (request_of line) answer after)
 
 -- the answers that these lines may get
 abbrev pub MayAnswer : Routes → List (List ℕ) → List (List ℕ) → Routes → Type 0
@@ -74,19 +67,3 @@ IsOutputFrom before input output after = (answers : List (List ℕ)) × MayAnswe
 -- what may be written for an input: a run begins with no routes
 abbrev pub IsOutput : List ℕ → List ℕ → Type 0
 IsOutput input output = (after : Routes) × IsOutputFrom no_routes input output after
-
--- the answer to a line that asks nothing of the routes: one of more than 1,024 bytes is too long, and any other is
--- answered as a command
-unfoldable pub answer_of : List ℕ → List ℕ
-answer_of line = if nat_lt 1024 (length line) then codes "line too long" else command_answer line
-
--- the bytes up to and with the last line feed
-unfoldable pub complete_part : List ℕ → List ℕ
--- of no bytes, none
-complete_part [] = []
--- a byte belongs to them where it is a line feed or one comes later
-complete_part (byte ∷ bytes) = if list_any (λ b. b == 10) (byte ∷ bytes) then byte ∷ complete_part bytes else []
-
--- whole begins with written
-abbrev pub IsBeginning : List ℕ → List ℕ → Type 0
-IsBeginning written whole = (rest : List ℕ) × (whole ≡ written ++ rest)

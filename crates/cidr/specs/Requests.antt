@@ -1,13 +1,12 @@
--- What a line asks of the routes.
+-- What a line asks. A line is the list of its bytes, without its end.
 use Rattle.std.specs.Prelude.{ℕ, nat_le, nat_lt, if◌then◌else◌, List, [], ◌∷◌, Option, None, Some, Result, Ok, Err, length, codes, bytes_eq}
-use Rattle.ipnetwork_addr.specs.Either.{ip_of}
+use Rattle.ipnetwork_addr.specs.Computed.Either.{ip_of}
 use Rattle.ipnetwork_addr.specs.declared.ip.IpAddr.{IpAddr}
-use Rattle.ipnetwork_family.specs.PrefixNumber.{prefix_number_of}
+use Rattle.ipnetwork_family.specs.Computed.PrefixNumber.{prefix_number_of}
 use Rattle.ipnetwork_family.specs.declared.error.CidrFault.{CidrFault}
-use Rattle.ipnetwork.specs.IpNetworkText.{ip_network_of}
+use Rattle.ipnetwork.specs.Computed.IpNetworkText.{ip_network_of}
 use Rattle.ipnetwork.specs.declared.ip_network.IpNetwork.{IpNetwork}
-use Rattle.cidr.specs.Commands.{one_word_answer, two_words_answer, unknown}
-use Rattle.cidr.specs.EitherCommands.{refused}
+use Rattle.cidr.specs.Commands.{refused, read_answer, read4_answer, read6_answer, ends_answer, has_answer, has4_answer, rel_answer}
 use Rattle.cidr.specs.Words.{words}
 
 -- what a line asks
@@ -45,22 +44,47 @@ abbrev pub finding : Option IpAddr → Request
 finding None = Plain refused
 finding (Some address) = Find address
 
--- the commands that are asked of one word, and of two
+-- ---- the ten commands
+
+-- any other line
+abbrev pub unknown : Request
+unknown = Plain (codes "unknown command")
+
+-- a line of more than 1,024 bytes
+abbrev pub too_long : Request
+too_long = Plain (codes "line too long")
+
+-- the commands that are asked of one word: those that ask the routes,
+abbrev pub one_word_routing : List ℕ → List ℕ → Request
+one_word_routing command word =
+    if bytes_eq command (codes "drop") then dropping (ip_network_of word)
+    else (if bytes_eq command (codes "find") then finding (ip_of word) else unknown)
+
+-- and before them all others
 unfoldable pub one_word_request : List ℕ → List ℕ → Request
 one_word_request command word =
-    if bytes_eq command (codes "drop") then dropping (ip_network_of word)
-    else (if bytes_eq command (codes "find") then finding (ip_of word) else Plain (one_word_answer command word))
+    if bytes_eq command (codes "read") then Plain (read_answer word)
+    else (if bytes_eq command (codes "ends") then Plain (ends_answer word)
+    else (if bytes_eq command (codes "read4") then Plain (read4_answer word)
+    else (if bytes_eq command (codes "read6") then Plain (read6_answer word) else one_word_routing command word)))
+
+-- the commands that are asked of two words, in the same way
+abbrev pub two_words_routing : List ℕ → List ℕ → List ℕ → Request
+two_words_routing command first second =
+    if bytes_eq command (codes "add") then adding (ip_network_of first) (route_number_of second) else unknown
 
 unfoldable pub two_words_request : List ℕ → List ℕ → List ℕ → Request
 two_words_request command first second =
-    if bytes_eq command (codes "add") then adding (ip_network_of first) (route_number_of second) else Plain (two_words_answer command first second)
+    if bytes_eq command (codes "has") then Plain (has_answer first second)
+    else (if bytes_eq command (codes "rel") then Plain (rel_answer first second)
+    else (if bytes_eq command (codes "has4") then Plain (has4_answer first second) else two_words_routing command first second))
 
 -- what the words of a line ask, by their number
 unfoldable pub request_in : List (List ℕ) → Request
 request_in (command ∷ word ∷ []) = one_word_request command word
 request_in (command ∷ first ∷ second ∷ []) = two_words_request command first second
-request_in _ = Plain unknown
+request_in _ = unknown
 
 -- what a line asks. One of more than 1,024 bytes is too long, whatever its words are
 unfoldable pub request_of : List ℕ → Request
-request_of line = if nat_lt 1024 (length line) then Plain (codes "line too long") else request_in (words line)
+request_of line = if nat_lt 1024 (length line) then too_long else request_in (words line)

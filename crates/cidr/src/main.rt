@@ -4,25 +4,21 @@
 ghost use Rattle.std.specs.Prelude.{◌≡◌, is_ok, if◌then◌else◌};
 ghost use Rattle.std.specs.Process.{exit_status};
 
-mod answer;
-mod either;
-mod engine;
-mod fault;
+mod commands;
+mod dispatch;
+mod handler;
 mod laws;
-mod line;
 mod names;
 mod replies;
 mod route_tables;
-mod routing;
 mod run;
 #[cfg(test)]
 mod tests;
-mod watched;
 mod words;
 
-use crate::fault::RunFault;
 use crate::run::run;
-use crate::watched::Watched;
+use line_engine::fault::RunFault;
+use line_engine::watched::Watched;
 use std::process::ExitCode;
 
 fn main(rt: HostRuntime) -> ExitCode {

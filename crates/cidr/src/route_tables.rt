@@ -1,10 +1,10 @@
 //! The routes that a run keeps.
 ghost use Rattle.std.specs.Prelude.{◌≡◌, None, OnErr, IfOk};
-ghost use Rattle.ipnetwork_table.specs.Laws.{Answers};
+ghost use Rattle.cidr.specs.Finding.{IsFound};
 ghost use Rattle.cidr.specs.Private.Routes.{routes_of};
 ghost use Rattle.cidr.specs.Routes.{no_routes, number_at, with_number, without};
 
-use ipnetwork::{IpNetwork, Ipv4Addr, Ipv4Network, Ipv6Addr, Ipv6Network};
+use ipnetwork::{IpAddr, IpNetwork, Ipv4Network, Ipv6Network};
 use ipnetwork_table::PrefixTable;
 use std::alloc::{AllocError, Global};
 
@@ -55,17 +55,19 @@ impl RouteTables {
         }
     }
 
-    /// The longest block that holds an IPv4 address, and its number.
-    pub(crate) fn find_v4(&self, address: Ipv4Addr) -> Option<(Ipv4Network, u32)>
-        ensures { Answers 32 (routes_of self.now).v4 address result }
+    /// The longest block that holds an address, and its number: of the blocks of the address's family.
+    pub(crate) fn find(&self, address: IpAddr) -> Option<(IpNetwork, u32)>
+        ensures { IsFound (routes_of self.now) address result }
     {
-        self.v4.lookup(address)
-    }
-
-    /// The longest block that holds an IPv6 address, and its number.
-    pub(crate) fn find_v6(&self, address: Ipv6Addr) -> Option<(Ipv6Network, u32)>
-        ensures { Answers 128 (routes_of self.now).v6 address result }
-    {
-        self.v6.lookup(address)
+        match address {
+            IpAddr::V4(address) => {
+                let (block, number) = self.v4.lookup(address)?;
+                Some((IpNetwork::V4(block), number))
+            }
+            IpAddr::V6(address) => {
+                let (block, number) = self.v6.lookup(address)?;
+                Some((IpNetwork::V6(block), number))
+            }
+        }
     }
 }

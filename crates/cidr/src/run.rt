@@ -1,15 +1,27 @@
 //! The run that the program makes, and what it promises.
 ghost use Rattle.std.specs.Prelude.{◌≡◌, ◌||◌, List, ℕ, Err, OnOk, IsOk, IsFalse, IsTrue, IfSome, Some, ◌≤◌, length};
 ghost use Rattle.std.specs.Io.KnownBytes.{Appends};
-ghost use Rattle.cidr.specs.Watched.{device_of, has_failed};
+ghost use Rattle.line_engine.specs.Run.{ended_by_read, ended_by_write};
+ghost use Rattle.line_engine.specs.Watched.{device_of, has_failed};
 ghost use Rattle.cidr.specs.Output.{IsOutput};
-ghost use Rattle.cidr.specs.Run.{Ran, ended_by_read, ended_by_write};
+ghost use Rattle.cidr.specs.Run.{Ran};
 
-use crate::engine::answer_input;
-use crate::fault::RunFault;
-use crate::watched::Watched;
+use crate::route_tables::RouteTables;
+use ipnetwork_table::laws;
+use line_engine::fault::RunFault;
+use line_engine::run::answer_lines;
+use line_engine::watched::Watched;
 use std::alloc::Global;
 use std::io::{Read, Write};
+
+/// The most bytes that are asked for at a time.
+const PIECE_MAX: usize = 65536;
+
+/// A line of so many bytes is too long, with its carriage return or without.
+const REST_MAX: usize = 1026;
+
+/// The most bytes of replies that wait.
+const WAITING_MAX: usize = 65536;
 
 /// Answers each line that `reader` gives, up to 4,294,967,295 bytes, and then flushes.
 ///
@@ -89,5 +101,19 @@ pub fn run_limited<R: Read, W: Write>(
     ensures succeeds { (input : List ℕ) → R.remaining (device_of reader.old) ≡ Some input → length input ≤ limit
         → IsFalse (has_failed reader.new) → IsFalse (has_failed writer.new) → IsOk result }
 {
-    answer_input(alloc, limit, &mut reader.device, &mut writer.device)
+    // Does nothing: the proof of this body needs the law.
+    laws::answer_is_computed::<u32>();
+    let mut routes = RouteTables::new(alloc);
+    let mut piece = [0u8; PIECE_MAX];
+    let mut rest = [0u8; REST_MAX];
+    let mut waiting = [0u8; WAITING_MAX];
+    answer_lines(
+        &mut routes,
+        u64::from(limit),
+        &mut piece,
+        &mut rest,
+        &mut waiting,
+        reader,
+        writer,
+    )
 }

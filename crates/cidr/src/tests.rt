@@ -1,18 +1,17 @@
 //! Runs over devices that cut what passes through them, count their calls and fail.
 
-mod against_a_list;
 mod answers;
 mod devices;
 mod faults;
 mod laws;
 mod lines;
+mod many_routes;
 mod routes;
-mod watched;
 
-use crate::fault::RunFault;
 use crate::run::run_limited;
 use crate::tests::devices::{Sink, Source};
-use crate::watched::Watched;
+use line_engine::fault::RunFault;
+use line_engine::watched::Watched;
 use std::alloc::Global;
 
 /// Four requests, with a line feed after each.

@@ -2,19 +2,24 @@
 use Rattle.std.proofs.Common.{◌≡◌, ◌↔◌, ℕ, List, Option, None, Some, Result, Ok, Err, refl, sym, ap, subst, ◌∙◌}
 use Rattle.std.specs.Prelude.{nat_le}
 use Rattle.std.proofs.lemmas.Bool.{cond_both}
-use Rattle.ipnetwork_addr.specs.Ipv4Text.{NamesV4, v4_of}
+use Rattle.ipnetwork_addr.specs.Ipv4Text.{NamesV4}
+use Rattle.ipnetwork_addr.specs.Computed.Ipv4Text.{v4_of}
 use Rattle.ipnetwork_addr.specs.Ipv6Text.{NamesV6}
-use Rattle.ipnetwork_addr.specs.Ipv6Computed.{v6_of}
+use Rattle.ipnetwork_addr.specs.Computed.Ipv6Text.{v6_of}
 use Rattle.ipnetwork_family.specs.Network.{Network}
-use Rattle.ipnetwork_family.specs.NetworkText.{slashes, before_slash, suffix_of, prefix_given, network_from, network_of}
-use Rattle.ipnetwork_family.specs.Ipv4NetworkText.{NamesV4Network, ReadsV4Network, v4_network_of, v4_length_of}
-use Rattle.ipnetwork_family.specs.Ipv6NetworkText.{NamesV6Network, ReadsV6Network, v6_network_of, v6_length_of}
+use Rattle.ipnetwork_family.specs.NetworkText.{slashes, before_slash}
+use Rattle.ipnetwork_family.specs.Computed.NetworkText.{suffix_of, prefix_given, network_from, network_of}
+use Rattle.ipnetwork_family.specs.Ipv4NetworkText.{NamesV4Network, ReadsV4Network}
+use Rattle.ipnetwork_family.specs.Computed.Ipv4NetworkText.{v4_network_of, v4_length_of}
+use Rattle.ipnetwork_family.specs.Ipv6NetworkText.{NamesV6Network, ReadsV6Network}
+use Rattle.ipnetwork_family.specs.Computed.Ipv6NetworkText.{v6_network_of, v6_length_of}
 use Rattle.ipnetwork_family.specs.declared.error.CidrFault.{CidrFault}
 use Rattle.ipnetwork_family.specs.declared.error.CidrFault.TheVariants.{Format}
 use Rattle.ipnetwork.specs.declared.ip_network.IpNetwork.{IpNetwork}
 use Rattle.ipnetwork.specs.declared.ip_network.IpNetwork.TheVariants.{V4, V6}
 use Rattle.ipnetwork.proofs.Families.{names_none}
-use Rattle.ipnetwork.specs.IpNetworkText.{NamesIpNetwork, ReadsIpNetwork, ip_network_text, either_network_of, ip_network_of}
+use Rattle.ipnetwork.specs.IpNetworkText.{NamesIpNetwork, ReadsIpNetwork, ip_network_text}
+use Rattle.ipnetwork.specs.Computed.IpNetworkText.{either_network_of, ip_network_of}
 
 -- the address of a network that was computed stands before the slash
 from_address : (address prefix : Option ℕ) (n : Network) → network_from address prefix ≡ Ok n → address ≡ Some n.address

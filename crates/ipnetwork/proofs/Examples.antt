@@ -5,7 +5,7 @@ use Rattle.std.specs.Fmt.{digits}
 use Rattle.std.specs.Hash.{le_bytes}
 use Rattle.std.specs.declared.cmp.Ordering.TheVariants.{Less, Greater}
 use Rattle.ipnetwork_addr.specs.declared.ip.IpAddr.TheVariants as addresses
-use Rattle.ipnetwork_addr.specs.Ipv6Computed.{v6_of, gap_below}
+use Rattle.ipnetwork_addr.specs.Computed.Ipv6Text.{v6_of, gap_below}
 use Rattle.ipnetwork_family.specs.Network.{Network, count_up}
 use Rattle.ipnetwork_family.specs.declared.error.CidrFault.TheVariants.{Addr}
 use Rattle.ipnetwork_family.specs.declared.error.IpNetworkError.TheVariants as errors
@@ -14,7 +14,8 @@ use Rattle.ipnetwork.specs.declared.ip_network.IpNetwork.{IpNetwork}
 use Rattle.ipnetwork.specs.declared.ip_network.IpNetwork.TheVariants.{V4, V6}
 use Rattle.ipnetwork.specs.declared.size.NetworkSize.TheVariants as sizes
 use Rattle.ipnetwork.specs.IpNetworks.{IpMember, IpSubnet, IpOverlap, address_of, prefix_of, ip_mask_of, ip_low, ip_high, ip_size, ip_members, made_of, width_of, Makes, IsIpMask, GivesMaskPrefix, MakesWithMask, TakesV4, TakesV6, IsIpBefore, IsIpAtMost, ip_network_cmp, ip_network_writes}
-use Rattle.ipnetwork.specs.IpNetworkText.{ip_network_of, ip_network_text}
+use Rattle.ipnetwork.specs.IpNetworkText.{ip_network_text}
+use Rattle.ipnetwork.specs.Computed.IpNetworkText.{ip_network_of}
 use Rattle.ipnetwork.specs.Sizes.{size_number, FitsV4}
 
 -- 0.0.0.0/0, ::/0, and ::ffff:0:0/96, the block of the IPv4-mapped addresses

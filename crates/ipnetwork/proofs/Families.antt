@@ -3,13 +3,15 @@ use Rattle.std.proofs.Common.{◌≡◌, ℕ, Bool, false, IsTrue, List, refl}
 use Rattle.std.specs.Prelude.{◌↔◌}
 use Rattle.ipnetwork_addr.specs.declared.ip.IpAddr.{IpAddr}
 use Rattle.ipnetwork_addr.specs.declared.ip.IpAddr.TheVariants as addresses
-use Rattle.ipnetwork_family.specs.Network.{Network, IsNetwork, Member, is_member, Subnet, is_subnet, Overlap}
+use Rattle.ipnetwork_family.specs.Network.{Network, IsNetwork, Member, Subnet, Overlap}
+use Rattle.ipnetwork_family.specs.Computed.Network.{is_member, is_subnet}
 use Rattle.ipnetwork.specs.declared.ip_network.IpNetwork.{IpNetwork}
 use Rattle.ipnetwork.specs.declared.ip_network.IpNetwork.TheVariants.{V4, V6}
 use Rattle.ipnetwork_family.specs.Ipv4NetworkText.{NamesV4Network}
 use Rattle.ipnetwork_family.specs.Ipv6NetworkText.{NamesV6Network}
 use Rattle.ipnetwork.specs.IpNetworkText.{NamesIpNetwork}
-use Rattle.ipnetwork.specs.IpNetworks.{IpMember, is_ip_member, IpSubnet, is_ip_subnet, IpOverlap, IsIpNetwork, address_of}
+use Rattle.ipnetwork.specs.IpNetworks.{IpMember, IpSubnet, IpOverlap, IsIpNetwork, address_of}
+use Rattle.ipnetwork.specs.Computed.IpNetworks.{is_ip_member, is_ip_subnet}
 
 no_true : IsTrue false → ⊥
 no_true t = cc

@@ -1,7 +1,7 @@
 -- Each question of a network of either family is the question of its own family.
 use Rattle.std.proofs.Common.{◌≡◌, ◌↔◌, ℕ, Result, Ok, Err, refl}
 use Rattle.ipnetwork_addr.specs.Ipv4Text.{canonical_v4}
-use Rattle.ipnetwork_addr.specs.Ipv6Canonical.{canonical_v6}
+use Rattle.ipnetwork_addr.specs.Computed.Ipv6Canonical.{canonical_v6}
 use Rattle.ipnetwork_addr.specs.declared.ip.IpAddr.TheVariants as addresses
 use Rattle.ipnetwork_family.specs.Ipv4NetworkText.{NamesV4Network}
 use Rattle.ipnetwork_family.specs.Ipv6NetworkText.{NamesV6Network}

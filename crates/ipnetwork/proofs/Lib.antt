@@ -1,3 +1,4 @@
+mod Causes
 mod Examples
 mod EitherNetworks
 mod Families

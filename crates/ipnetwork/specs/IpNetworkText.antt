@@ -1,14 +1,16 @@
 -- The texts of networks of either family.
-use Rattle.std.specs.Prelude.{◌≡◌, List, ℕ, Result, Ok, Err}
+use Rattle.std.specs.Prelude.{◌≡◌, ◌≤◌, List, ℕ, Result, Option, MatchOption}
 use Rattle.ipnetwork_addr.specs.Ipv4Text.{canonical_v4}
-use Rattle.ipnetwork_addr.specs.Ipv6Canonical.{canonical_v6}
+use Rattle.ipnetwork_addr.specs.Computed.Ipv6Canonical.{canonical_v6}
 use Rattle.ipnetwork_addr.specs.Reading.{Reads}
-use Rattle.ipnetwork_family.specs.Network.{Network}
-use Rattle.ipnetwork_family.specs.NetworkText.{network_text}
-use Rattle.ipnetwork_family.specs.Ipv4NetworkText.{NamesV4Network, v4_network_of}
-use Rattle.ipnetwork_family.specs.Ipv6NetworkText.{NamesV6Network, v6_network_of}
+use Rattle.ipnetwork_addr.specs.Either.{NamesIp}
+use Rattle.ipnetwork_addr.specs.declared.ip.IpAddr.{IpAddr}
+use Rattle.ipnetwork_addr.specs.declared.ip.IpAddr.TheVariants as addresses
+use Rattle.ipnetwork_family.specs.NetworkText.{network_text, slashes, before_slash, HasSeveralSlashes, HasNoSuffix}
+use Rattle.ipnetwork_family.specs.Ipv4NetworkText.{IsV4Suffix, NamesV4Network}
+use Rattle.ipnetwork_family.specs.Ipv6NetworkText.{IsV6Suffix, NamesV6Network}
 use Rattle.ipnetwork_family.specs.declared.error.CidrFault.{CidrFault}
-use Rattle.ipnetwork_family.specs.declared.error.CidrFault.TheVariants.{Addr}
+use Rattle.ipnetwork_family.specs.declared.error.CidrFault.TheVariants.{Format, Addr, Prefix}
 use Rattle.ipnetwork_addr.specs.declared.error.AddrParseError.TheVariants as kinds
 use Rattle.ipnetwork_family.specs.Parsing.{Parses}
 use Rattle.ipnetwork_family.specs.declared.error.IpNetworkError.{IpNetworkError}
@@ -28,17 +30,26 @@ ReadsIpNetwork text result = Reads NamesIpNetwork Addr text result
 abbrev pub ParsesIpNetwork : List ℕ → Result IpNetwork IpNetworkError → Type 0
 ParsesIpNetwork text result = Parses NamesIpNetwork (λ _ fault. fault ≡ Addr) kinds.Ip text result
 
+-- after the `/` of a network of this address's family, the text gives this prefix length
+abbrev pub IsIpSuffix : IpAddr → List ℕ → ℕ → Type 0
+IsIpSuffix (addresses.V4 a) text p = IsV4Suffix text p
+IsIpSuffix (addresses.V6 a) text p = IsV6Suffix text p
+
+-- why a text names no network of either family. The first that holds is the cause
+abbrev pub IsIpCause : List ℕ → CidrFault → Type 0
+-- it holds two or more `/`
+IsIpCause text Format = HasSeveralSlashes text
+-- else what stands before the `/` is an address of neither family
+IsIpCause text Addr = (slashes text ≤ 1) × ((a : IpAddr) → ¬ (NamesIp (before_slash text) a))
+-- else what stands after the `/` is no suffix of that address's family
+IsIpCause text Prefix = (slashes text ≤ 1) × ((a : IpAddr) × NamesIp (before_slash text) a × HasNoSuffix (IsIpSuffix a) text)
+
+-- no cause exactly of a text that names a network, and else the cause
+abbrev pub TellsIpCause : List ℕ → Option CidrFault → Type 0
+TellsIpCause text result =
+    MatchOption result ((n : IpNetwork) × NamesIpNetwork text n) (λ fault. IsIpCause text fault × ((n : IpNetwork) → ¬ (NamesIpNetwork text n)))
+
 -- the one text that a network is printed as
 abbrev pub ip_network_text : IpNetwork → List ℕ
 ip_network_text (V4 n) = network_text canonical_v4 n
 ip_network_text (V6 n) = network_text canonical_v6 n
-
--- what reading answers, by what each family reads: the network of the family that reads one, or `Addr`
-abbrev pub either_network_of : Result Network CidrFault → Result Network CidrFault → Result IpNetwork CidrFault
-either_network_of (Ok n) v6 = Ok (V4 n)
-either_network_of (Err fault) (Ok n) = Ok (V6 n)
-either_network_of (Err fault) (Err other) = Err Addr
-
--- what reading answers, computed
-abbrev pub ip_network_of : List ℕ → Result IpNetwork CidrFault
-ip_network_of text = either_network_of (v4_network_of text) (v6_network_of text)

@@ -1,11 +1,11 @@
 -- Networks of either family: a network of one of the two, whose set holds addresses of that family alone.
-use Rattle.std.specs.Prelude.{⊤, Bool, false, ◌≡◌, ◌<◌, ◌≤◌, ℕ, pos, List, ◌++◌, map, Result, Ok, IsErr, MatchResult}
+use Rattle.std.specs.Prelude.{⊤, ◌≡◌, ◌<◌, ◌≤◌, ℕ, pos, List, ◌++◌, map, Result, Ok, IsErr, MatchResult}
 use Rattle.std.specs.Hash.{HashWrites, isize, u8, u32, u128}
 use Rattle.std.specs.declared.cmp.Ordering.{Ordering}
 use Rattle.std.specs.declared.cmp.Ordering.TheVariants.{Less, Greater}
 use Rattle.ipnetwork_addr.specs.declared.ip.IpAddr.{IpAddr}
 use Rattle.ipnetwork_addr.specs.declared.ip.IpAddr.TheVariants as addresses
-use Rattle.ipnetwork_family.specs.Network.{Network, IsNetwork, Member, is_member, is_subnet, low, high, mask_of, size_of, members, IsBefore, AtMost, network_cmp}
+use Rattle.ipnetwork_family.specs.Network.{Network, IsNetwork, Member, low, high, mask_of, size_of, members, IsNetworkBefore, IsNetworkAtMost, network_cmp}
 use Rattle.ipnetwork_family.specs.declared.error.IpNetworkError.{IpNetworkError}
 use Rattle.ipnetwork_family.specs.declared.error.IpNetworkError.TheVariants.{InvalidPrefix}
 use Rattle.ipnetwork.specs.declared.ip_network.IpNetwork.{IpNetwork}
@@ -60,23 +60,9 @@ IpMember (V4 n) (addresses.V6 a) = ⊥
 IpMember (V6 n) (addresses.V4 a) = ⊥
 IpMember (V6 n) (addresses.V6 a) = Member 128 n a
 
--- the same as a test
-abbrev pub is_ip_member : IpNetwork → IpAddr → Bool
-is_ip_member (V4 n) (addresses.V4 a) = is_member 32 n a
-is_ip_member (V4 n) (addresses.V6 a) = false
-is_ip_member (V6 n) (addresses.V4 a) = false
-is_ip_member (V6 n) (addresses.V6 a) = is_member 128 n a
-
 -- each member of a is one of b
 abbrev pub IpSubnet : IpNetwork → IpNetwork → Type 0
 IpSubnet a b = (x : IpAddr) → IpMember a x → IpMember b x
-
--- the same as a test, of networks: in one family as the families test it, and false across families
-abbrev pub is_ip_subnet : IpNetwork → IpNetwork → Bool
-is_ip_subnet (V4 a) (V4 b) = is_subnet 32 a b
-is_ip_subnet (V4 a) (V6 b) = false
-is_ip_subnet (V6 a) (V4 b) = false
-is_ip_subnet (V6 a) (V6 b) = is_subnet 128 a b
 
 -- some address is a member of both
 abbrev pub IpOverlap : IpNetwork → IpNetwork → Type 0
@@ -134,17 +120,17 @@ TakesV6 (V6 n) result = result ≡ Ok n
 
 -- a comes before b: IPv4 before IPv6, and in a family by address, then by prefix length
 abbrev pub IsIpBefore : IpNetwork → IpNetwork → Type 0
-IsIpBefore (V4 a) (V4 b) = IsBefore a b
+IsIpBefore (V4 a) (V4 b) = IsNetworkBefore a b
 IsIpBefore (V4 a) (V6 b) = ⊤
 IsIpBefore (V6 a) (V4 b) = ⊥
-IsIpBefore (V6 a) (V6 b) = IsBefore a b
+IsIpBefore (V6 a) (V6 b) = IsNetworkBefore a b
 
 -- a comes before b, or is b
 abbrev pub IsIpAtMost : IpNetwork → IpNetwork → Type 0
-IsIpAtMost (V4 a) (V4 b) = AtMost a b
+IsIpAtMost (V4 a) (V4 b) = IsNetworkAtMost a b
 IsIpAtMost (V4 a) (V6 b) = ⊤
 IsIpAtMost (V6 a) (V4 b) = ⊥
-IsIpAtMost (V6 a) (V6 b) = AtMost a b
+IsIpAtMost (V6 a) (V6 b) = IsNetworkAtMost a b
 
 -- the same order, as an answer of three
 abbrev pub ip_network_cmp : IpNetwork → IpNetwork → Ordering

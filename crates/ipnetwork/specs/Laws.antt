@@ -4,7 +4,7 @@ use Rattle.std.specs.List.{AllPairs}
 use Rattle.ipnetwork_addr.specs.Either.{IsAddrBefore}
 use Rattle.ipnetwork_addr.specs.declared.ip.IpAddr.{IpAddr}
 use Rattle.ipnetwork_family.specs.Masks.{GivesPrefixOfMask}
-use Rattle.ipnetwork_family.specs.Network.{Network, IsNetwork, Member, low, high, mask_of, size_of, members, Subnet, Overlap, IsBefore, AtMost, network_cmp}
+use Rattle.ipnetwork_family.specs.Network.{Network, IsNetwork, Member, low, high, mask_of, size_of, members, Subnet, Overlap, IsNetworkBefore, IsNetworkAtMost, network_cmp}
 use Rattle.ipnetwork_family.specs.NetworkText.{network_text}
 use Rattle.ipnetwork_family.specs.declared.error.IpNetworkError.{IpNetworkError}
 use Rattle.ipnetwork_family.specs.declared.error.IpNetworkError.TheVariants.{InvalidPrefix}
@@ -28,8 +28,8 @@ pub record AsksItsFamily (w : ℕ) (network : Network → IpNetwork) (address : 
   pub member : (n : Network) (x : ℕ) → IpMember (network n) (address x) ↔ Member w n x
   pub subnet : (a b : Network) → IpSubnet (network a) (network b) ↔ Subnet w a b
   pub overlap : (a b : Network) → IpOverlap (network a) (network b) ↔ Overlap w a b
-  pub before : (a b : Network) → IsIpBefore (network a) (network b) ↔ IsBefore a b
-  pub at_most : (a b : Network) → IsIpAtMost (network a) (network b) ↔ AtMost a b
+  pub before : (a b : Network) → IsIpBefore (network a) (network b) ↔ IsNetworkBefore a b
+  pub at_most : (a b : Network) → IsIpAtMost (network a) (network b) ↔ IsNetworkAtMost a b
   pub compare : (a b : Network) → ip_network_cmp (network a) (network b) ≡ network_cmp a b
 
 -- and each call that makes a network or converts a mask is that of the family

@@ -1,5 +1,6 @@
-pub mod IpNetworks
+pub mod Computed
 pub mod IpNetworkText
+pub mod IpNetworks
 pub mod Laws
-pub mod Sizes
 pub mod Private
+pub mod Sizes

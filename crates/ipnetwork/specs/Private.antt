@@ -1,2 +1,3 @@
--- How contracts see private fields.
+-- How contracts see private fields, and what the private functions promise each other.
+pub mod Causes
 pub mod Members

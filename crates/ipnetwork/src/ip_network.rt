@@ -1,6 +1,4 @@
 //! Networks of either family.
-ghost use Rattle.std.specs.Prelude.{◌≡◌};
-ghost use Rattle.ipnetwork_addr.specs.Texts.{colon_first};
 
 use crate::error::WrongFamily;
 use crate::ip_iter::IpNetworkIterator;
@@ -8,8 +6,11 @@ use crate::ip_mask::ip_mask_to_prefix;
 use crate::laws;
 use crate::size::NetworkSize;
 use arrayvec::ArrayString;
+use ipnetwork_addr::first_mark::has_colon_first;
 use ipnetwork_addr::{AddrParseError, IpAddr};
-use ipnetwork_family::{CidrFault, IpNetworkError, Ipv4Network, Ipv6Network, TEXT_CAPACITY};
+use ipnetwork_family::{
+    CidrFault, IpNetworkError, Ipv4Network, Ipv6Network, NETWORK_TEXT_CAPACITY,
+};
 use std::alloc::{AllocError, Global};
 use std::fmt;
 use std::str::FromStr;
@@ -238,7 +239,7 @@ impl IpNetwork {
     }
 
     /// The canonical text, at most 43 bytes: that of the network in its family. Does not allocate.
-    pub fn canonical(&self) -> ArrayString<TEXT_CAPACITY>
+    pub fn canonical(&self) -> ArrayString<NETWORK_TEXT_CAPACITY>
         ensures bytes { result.bytes ≡ ip_network_text self.now }
         ensures network { IsIpNetwork self.now }
     {
@@ -254,22 +255,6 @@ impl IpNetwork {
     {
         String::from_str(alloc, self.canonical().as_str())
     }
-}
-
-/// Whether of the dots and colons of a text the first is a colon, as in each IPv6 text; in an IPv4 text a
-/// dot comes first. So a text is read in one family alone.
-fn has_colon_first(text: &[u8]) -> bool
-    ensures { result ≡ colon_first text.now }
-{
-    for byte in text {
-        if *byte == b':' {
-            return true;
-        }
-        if *byte == b'.' {
-            return false;
-        }
-    }
-    false
 }
 
 impl From<Ipv4Network> for IpNetwork {

@@ -13,6 +13,7 @@ mod ip_mask;
 mod ip_network;
 mod json;
 pub mod laws;
+mod refusal;
 mod size;
 #[cfg(test)]
 mod tests;
@@ -22,11 +23,12 @@ pub use ip_iter::IpNetworkIterator;
 pub use ip_mask::ip_mask_to_prefix;
 pub use ip_network::IpNetwork;
 pub use ipnetwork_addr::{
-    AddrParseError, IpAddr, Ipv4Addr, Ipv6Addr, TEXT_CAPACITY as ADDRESS_TEXT_CAPACITY, decimal,
+    ADDRESS_TEXT_CAPACITY, AddrParseError, IpAddr, Ipv4Addr, Ipv6Addr, decimal,
 };
 pub use ipnetwork_family::{
-    CidrFault, CidrNetwork, IpNetworkError, Ipv4Network, Ipv4NetworkIterator, Ipv6Network,
-    Ipv6NetworkIterator, JsonFault, NetworkSizeError, TEXT_CAPACITY as NETWORK_TEXT_CAPACITY,
-    ipv4_mask_to_prefix, ipv6_mask_to_prefix, parse,
+    Address, CidrFault, CidrNetwork, IpNetworkError, Ipv4Network, Ipv4NetworkIterator, Ipv6Network,
+    Ipv6NetworkIterator, JsonFault, NETWORK_TEXT_CAPACITY, Network, NetworkIterator,
+    NetworkSizeError, ipv4_mask_to_prefix, ipv6_mask_to_prefix, parse,
 };
+pub use refusal::cause;
 pub use size::NetworkSize;

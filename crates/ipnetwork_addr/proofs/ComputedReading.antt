@@ -4,11 +4,14 @@ use Rattle.std.specs.Prelude.{Result, Ok, Err}
 use Rattle.std.proofs.lemmas.Option.{none-some, same_Some}
 use Rattle.ipnetwork_addr.specs.declared.ip.IpAddr.{IpAddr}
 use Rattle.ipnetwork_addr.specs.declared.ip.IpAddr.TheVariants.{V4, V6}
-use Rattle.ipnetwork_addr.specs.Reading.{Reads, answer_from}
-use Rattle.ipnetwork_addr.specs.Ipv4Text.{NamesV4, v4_of}
+use Rattle.ipnetwork_addr.specs.Reading.{Reads}
+use Rattle.ipnetwork_addr.specs.Computed.Reading.{answer_from}
+use Rattle.ipnetwork_addr.specs.Ipv4Text.{NamesV4}
+use Rattle.ipnetwork_addr.specs.Computed.Ipv4Text.{v4_of}
 use Rattle.ipnetwork_addr.specs.Ipv6Text.{NamesV6}
-use Rattle.ipnetwork_addr.specs.Ipv6Computed.{v6_of}
-use Rattle.ipnetwork_addr.specs.Either.{NamesIp, either_of, ip_of}
+use Rattle.ipnetwork_addr.specs.Computed.Ipv6Text.{v6_of}
+use Rattle.ipnetwork_addr.specs.Either.{NamesIp}
+use Rattle.ipnetwork_addr.specs.Computed.Either.{either_of, ip_of}
 use Rattle.ipnetwork_addr.proofs.ComputedV4.{v4_of_sound, v4_of_complete}
 use Rattle.ipnetwork_addr.proofs.ComputedV6.{v6_of_sound, v6_of_complete}
 use Rattle.ipnetwork_addr.proofs.EitherFamily.{not_both}

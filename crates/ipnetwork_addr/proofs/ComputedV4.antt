@@ -9,7 +9,8 @@ use Rattle.std.specs.Prelude.{nat_lt, bytes_eq}
 use Rattle.std.specs.List.{slice_split}
 use Rattle.std.specs.Int.Digits.{number_from_digits}
 use Rattle.std.specs.Str.Parse.{AllDigits, digits_value}
-use Rattle.ipnetwork_addr.specs.Ipv4Text.{NamesV4, canonical_v4, v4_of}
+use Rattle.ipnetwork_addr.specs.Ipv4Text.{NamesV4, canonical_v4}
+use Rattle.ipnetwork_addr.specs.Computed.Ipv4Text.{v4_of}
 use Rattle.ipnetwork_addr.proofs.Ipv4Lemmas.{Chain, reading_of, number_of, canonical_v4_names}
 
 named_by_print : (text : List ℕ) (n : ℕ) → n < 2 ^ 32 → text ≡ canonical_v4 n → NamesV4 text n

@@ -10,9 +10,10 @@ use Rattle.std.specs.Char.{digit_value, is_digit}
 use Rattle.std.specs.List.{list_all, join_with_byte, AllZip}
 use Rattle.std.specs.Int.Digits.{number_from_digits}
 use Rattle.std.specs.Str.Parse.{AllDigits, digits_value}
-use Rattle.ipnetwork_addr.specs.Ipv4Text.{NamesV4, v4_of}
-use Rattle.ipnetwork_addr.specs.Ipv6Text.{IsGroup, IsPlain, IsDotted, IsEnded, NamesV6, halves}
-use Rattle.ipnetwork_addr.specs.Ipv6Computed.{or_else, group_of, grouped, groups_of, halves_of, dotted_groups_of, colon_parts, plain_of, dotted_of, full_number, gap_number, gap_at, gap_below, v6_of}
+use Rattle.ipnetwork_addr.specs.Ipv4Text.{NamesV4}
+use Rattle.ipnetwork_addr.specs.Computed.Ipv4Text.{v4_of}
+use Rattle.ipnetwork_addr.specs.Ipv6Text.{IsGroup, IsPlain, IsDotted, IsEnded, NamesV6, two_groups}
+use Rattle.ipnetwork_addr.specs.Computed.Ipv6Text.{or_else, group_of, grouped, groups_of, two_groups_of, dotted_groups_of, colon_parts, plain_of, dotted_of, full_number, gap_number, gap_at, gap_below, v6_of}
 use Rattle.std.proofs.lemmas.Fmt.{decimal_is_IsNumeral}
 use Rattle.std.proofs.lemmas.Str.Parse.{digit_from_value}
 use Rattle.ipnetwork_addr.specs.Private.OctetFront.{BeginsWithOctet}
@@ -140,9 +141,9 @@ plain_complete text gs h = go h.parts gs h.spelled h.named
 
 -- ---- texts that end in an IPv4 text
 
-halves_some : (o : Option ℕ) (gs : List ℕ) → halves_of o ≡ Some gs → (address : ℕ) × (o ≡ Some address) × (gs ≡ halves address)
+halves_some : (o : Option ℕ) (gs : List ℕ) → two_groups_of o ≡ Some gs → (address : ℕ) × (o ≡ Some address) × (gs ≡ two_groups address)
 halves_some None gs e = absurd (none-some gs e)
-halves_some (Some a) gs e = (a, refl, sym (same_Some (halves a) gs e))
+halves_some (Some a) gs e = (a, refl, sym (same_Some (two_groups a) gs e))
 
 -- parts of which the last is an IPv4 text
 record DottedParts (parts : List (List ℕ)) (gs : List ℕ) : Type 0 where
@@ -153,7 +154,7 @@ record DottedParts (parts : List (List ℕ)) (gs : List ℕ) : Type 0 where
   spelled : parts ≡ front_parts ++ last ∷ []
   named : AllZip IsGroup front_parts front
   dotted : NamesV4 last address
-  value : gs ≡ front ++ halves address
+  value : gs ≡ front ++ two_groups address
 
 dotted_parts_sound : (parts : List (List ℕ)) (gs : List ℕ) → dotted_groups_of parts ≡ Some gs → DottedParts parts gs
 dotted_parts_sound [] gs e = absurd (none-some gs e)
@@ -220,8 +221,8 @@ dotted_groups_more : (part : List ℕ) (parts : List (List ℕ)) (last : List �
 dotted_groups_more part [] last = refl
 dotted_groups_more part (next ∷ parts) last = refl
 
-dotted_parts_complete : (parts : List (List ℕ)) (front last : List ℕ) (address : ℕ) → AllZip IsGroup parts front → NamesV4 last address → dotted_groups_of (parts ++ last ∷ []) ≡ Some (front ++ halves address)
-dotted_parts_complete [] [] last address named h = ap halves_of (v4_of_complete last address h)
+dotted_parts_complete : (parts : List (List ℕ)) (front last : List ℕ) (address : ℕ) → AllZip IsGroup parts front → NamesV4 last address → dotted_groups_of (parts ++ last ∷ []) ≡ Some (front ++ two_groups address)
+dotted_parts_complete [] [] last address named h = ap two_groups_of (v4_of_complete last address h)
 dotted_parts_complete [] (g ∷ front) last address named h = absurd named
 dotted_parts_complete (part ∷ parts) [] last address named h = absurd named
 dotted_parts_complete (part ∷ parts) (g ∷ front) last address named h =

@@ -5,7 +5,7 @@ use Rattle.ipnetwork_addr.specs.declared.ip.IpAddr.{IpAddr}
 use Rattle.ipnetwork_addr.specs.declared.ip.IpAddr.TheVariants.{V4, V6}
 use Rattle.ipnetwork_addr.specs.Ipv4Text.{NamesV4}
 use Rattle.ipnetwork_addr.specs.Ipv6Text.{NamesV6}
-use Rattle.ipnetwork_addr.specs.Ipv6Canonical.{canonical_v6}
+use Rattle.ipnetwork_addr.specs.Computed.Ipv6Canonical.{canonical_v6}
 use Rattle.ipnetwork_addr.specs.Either.{NamesIp, canonical_ip, FitsIp}
 use Rattle.ipnetwork_addr.specs.Private.GroupFront.{NoHex, IsTextPart, IsLeft}
 use Rattle.ipnetwork_addr.proofs.Ipv4Lemmas.{v4_unique, canonical_v4_names}

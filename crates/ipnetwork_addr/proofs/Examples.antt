@@ -9,14 +9,17 @@ use Rattle.ipnetwork_addr.specs.declared.error.AddrParseError.{AddrParseError}
 use Rattle.ipnetwork_addr.specs.declared.error.AddrParseError.TheVariants.{Ipv4, Ipv6, Ip}
 use Rattle.ipnetwork_addr.specs.declared.ip.IpAddr.TheVariants.{V4, V6}
 use Rattle.ipnetwork_addr.specs.Digits.{octets_of, octets_of_v6, segments_of}
-use Rattle.ipnetwork_addr.specs.Either.{FitsIp, IsAddrBefore, IsAtMost, ip_cmp, ip_writes, ip_of, canonical_ip}
+use Rattle.ipnetwork_addr.specs.Either.{FitsIp, IsAddrBefore, IsAddrAtMost, ip_cmp, ip_writes, canonical_ip}
+use Rattle.ipnetwork_addr.specs.Computed.Either.{ip_of}
 use Rattle.ipnetwork_addr.specs.Faults.{addr_fault_text}
-use Rattle.ipnetwork_addr.specs.Reading.{Reads, answer_from}
+use Rattle.ipnetwork_addr.specs.Reading.{Reads}
+use Rattle.ipnetwork_addr.specs.Computed.Reading.{answer_from}
 use Rattle.ipnetwork_addr.specs.Texts.{IsAddressByte, Digit, UpperHex, LowerHex, Dot, Colon}
-use Rattle.ipnetwork_addr.specs.Ipv4Text.{NamesV4, v4_of}
+use Rattle.ipnetwork_addr.specs.Ipv4Text.{NamesV4}
+use Rattle.ipnetwork_addr.specs.Computed.Ipv4Text.{v4_of}
 use Rattle.ipnetwork_addr.specs.Ipv6Text.{NamesV6}
-use Rattle.ipnetwork_addr.specs.Ipv6Canonical.{canonical_v6}
-use Rattle.ipnetwork_addr.specs.Ipv6Computed.{v6_of, gap_below}
+use Rattle.ipnetwork_addr.specs.Computed.Ipv6Canonical.{canonical_v6}
+use Rattle.ipnetwork_addr.specs.Computed.Ipv6Text.{v6_of, gap_below}
 
 -- ---- digits of numbers
 
@@ -76,16 +79,16 @@ lower_v6_before = lit≤ tt
 pub higher_v6_not_before : ¬ (IsAddrBefore (V6 2) (V6 1))
 higher_v6_not_before h = omega (arith, h)
 
-pub v4_at_most_itself : IsAtMost (V4 2) (V4 2)
+pub v4_at_most_itself : IsAddrAtMost (V4 2) (V4 2)
 v4_at_most_itself = lit≤ tt
 
-pub v4_at_most_v6 : IsAtMost (V4 2) (V6 1)
+pub v4_at_most_v6 : IsAddrAtMost (V4 2) (V6 1)
 v4_at_most_v6 = tt
 
-pub v6_not_at_most_v4 : ¬ (IsAtMost (V6 1) (V4 2))
+pub v6_not_at_most_v4 : ¬ (IsAddrAtMost (V6 1) (V4 2))
 v6_not_at_most_v4 h = h
 
-pub higher_v6_not_at_most : ¬ (IsAtMost (V6 2) (V6 1))
+pub higher_v6_not_at_most : ¬ (IsAddrAtMost (V6 2) (V6 1))
 higher_v6_not_at_most h = omega (arith, h)
 
 pub compared : ip_cmp (V4 1) (V4 2) ∷ ip_cmp (V4 2) (V6 1) ∷ ip_cmp (V6 1) (V4 2) ∷ ip_cmp (V6 2) (V6 1) ∷ ip_cmp (V6 2) (V6 2) ∷ [] ≡ Less ∷ Less ∷ Greater ∷ Greater ∷ Equal ∷ []

@@ -1,13 +1,16 @@
 -- The first dot or colon of an address text.
-use Rattle.std.proofs.Common.{◌≡◌, ℕ, ◌+◌, ◌/◌, ◌%◌, ◌<◌, ◌≤◌, true, false, ◌==◌, List, [], ◌∷◌, ◌++◌, length, length-append, decimal, refl, ap, ◌∙◌, inl, inr, arith, append_assoc}
+use Rattle.std.proofs.Common.{◌≡◌, ℕ, ◌+◌, ◌/◌, ◌%◌, ◌<◌, ◌≤◌, true, false, ◌==◌, List, [], ◌∷◌, ◌++◌, length, length-append, decimal, refl, sym, ap, ◌∙◌, append-nil, inl, inr, arith, append_assoc}
 use Rattle.std.proofs.lemmas.Bool.{cases_lt, ne_eqb}
 use Rattle.std.proofs.lemmas.Fmt.{decimal_digit}
 use Rattle.std.specs.Char.{digit_value}
 use Rattle.std.specs.List.{join_with_byte, AllZip}
 use Rattle.std.specs.Str.Parse.{AllDigits}
 use Rattle.ipnetwork_addr.specs.Texts.{colon_first}
+use Rattle.ipnetwork_addr.specs.declared.ip.IpAddr.{IpAddr}
+use Rattle.ipnetwork_addr.specs.declared.ip.IpAddr.TheVariants.{V4, V6}
+use Rattle.ipnetwork_addr.specs.Either.{NamesIp}
 use Rattle.ipnetwork_addr.specs.Ipv4Text.{NamesV4}
-use Rattle.ipnetwork_addr.specs.Ipv6Text.{IsGroup, IsEnded, NamesV6, halves}
+use Rattle.ipnetwork_addr.specs.Ipv6Text.{IsGroup, IsEnded, NamesV6, two_groups}
 use Rattle.ipnetwork_addr.proofs.Decimals.{decimal_two, decimal_three}
 use Rattle.ipnetwork_addr.proofs.Ipv4Lemmas.{reading_of}
 
@@ -75,7 +78,7 @@ gap_colon (p ∷ q ∷ parts) (g ∷ groups) rest h = rw append_assoc (group_col
 full_colon : (text groups rest : List ℕ) → IsEnded text groups → length groups ≡ 8 → colon_first (text ++ rest) ≡ true
 full_colon text groups rest (inl h) eight = rw h.spelled (groups_colon h.parts groups rest h.named (omega arith))
 full_colon text groups rest (inr h) eight =
-    let count : length groups ≡ length h.front + 2 = ap length h.value ∙ length-append h.front (halves h.address) in
+    let count : length groups ≡ length h.front + 2 = ap length h.value ∙ length-append h.front (two_groups h.address) in
     rw h.spelled (dotted_colon h.parts h.front h.last rest h.named (omega arith))
 
 -- in an IPv6 text a colon comes first
@@ -84,3 +87,18 @@ v6_colon_first text rest address (inl h) = full_colon text h.groups rest h.ended
 v6_colon_first text rest address (inr h) =
     let front = h.high_groups in
     rw (h.split, front.spelled) (simp append_assoc (gap_colon front.parts h.high (58 ∷ (h.behind ++ rest)) front.named))
+
+-- ---- a text that its first mark leaves to one family
+
+different : true ≡ false → ⊥
+different e = cc
+
+-- a text with a colon first that names no IPv6 address names none
+pub none_with_colon : (text : List ℕ) → colon_first text ≡ true → ((address : ℕ) → ¬ (NamesV6 text address)) → (address : IpAddr) → ¬ (NamesIp text address)
+none_with_colon text colon none (V4 address) named = different (sym colon ∙ ap colon_first (sym (append-nil text)) ∙ v4_dot_first text [] address named)
+none_with_colon text colon none (V6 address) named = none address named
+
+-- one without that names no IPv4 address names none
+pub none_without_colon : (text : List ℕ) → colon_first text ≡ false → ((address : ℕ) → ¬ (NamesV4 text address)) → (address : IpAddr) → ¬ (NamesIp text address)
+none_without_colon text no_colon none (V4 address) named = none address named
+none_without_colon text no_colon none (V6 address) named = different (sym (v6_colon_first text [] address named) ∙ ap colon_first (append-nil text) ∙ no_colon)

@@ -3,7 +3,8 @@ use Rattle.std.proofs.Common.{◌≡◌, ◌≢◌, ℕ, ◌+◌, ◌-◌, ◌*�
 use Rattle.std.proofs.Math.Nat.{pow-le-pow_right}
 use Rattle.std.proofs.lemmas.Option.{none-some, same_Some}
 use Rattle.std.specs.Int.Digits.{number_from_digits}
-use Rattle.ipnetwork_addr.specs.Ipv6Text.{NamesV6, NamesNoV6}
+use Rattle.ipnetwork_addr.specs.Ipv6Text.{NamesV6}
+use Rattle.ipnetwork_addr.specs.Private.NoAddress.{NamesNoV6}
 use Rattle.ipnetwork_addr.specs.Private.GroupFront.{IsTextPart, BeginsWithPart, NoPart, IsLeft, BeginsWithLeft, NoLeft, IsRight, EndsWithRight, NoRight}
 use Rattle.ipnetwork_addr.proofs.Parts.{part_unique, no_part_of_nothing}
 use Rattle.ipnetwork_addr.proofs.Ipv6Names.{Shape, Full, Gapped, shape_of, names_of, left_unique}

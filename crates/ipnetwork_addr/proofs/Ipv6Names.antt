@@ -4,7 +4,7 @@ use Rattle.std.proofs.lemmas.Option.{none-some, same_Some}
 use Rattle.std.specs.List.{join_with_byte, AllZip}
 use Rattle.std.specs.Int.Digits.{number_from_digits}
 use Rattle.ipnetwork_addr.specs.Ipv4Text.{NamesV4}
-use Rattle.ipnetwork_addr.specs.Ipv6Text.{IsGroup, IsPlain, IsDotted, IsEnded, NamesV6, halves}
+use Rattle.ipnetwork_addr.specs.Ipv6Text.{IsGroup, IsPlain, IsDotted, IsEnded, NamesV6, two_groups}
 use Rattle.ipnetwork_addr.specs.Private.GroupFront.{NoHex, BeginsWithGroup, Last, Dotted, Gap, Next, IsTextPart, IsLeft, IsRight}
 use Rattle.ipnetwork_addr.proofs.Compressed.{room_of, value_of, compressed}
 use Rattle.ipnetwork_addr.proofs.Parts.{part_unique, no_part_at_colon, no_part_of_nothing}
@@ -29,7 +29,7 @@ plain_part (p ∷ q ∷ parts) (g ∷ []) named some = absurd named.1
 plain_part (p ∷ q ∷ parts) (g ∷ h ∷ groups) named some =
     Next (join_with_byte 58 (q ∷ parts)) (begins p g (58 ∷ join_with_byte 58 (q ∷ parts)) named.0 (lit≤ tt)) (plain_part (q ∷ parts) (h ∷ groups) named.1 (omega arith))
 
-dotted_part : (parts : List (List ℕ)) (front last : List ℕ) (address : ℕ) → AllZip IsGroup parts front → NamesV4 last address → IsTextPart (front ++ halves address) (join_with_byte 58 (parts ++ last ∷ [])) None
+dotted_part : (parts : List (List ℕ)) (front last : List ℕ) (address : ℕ) → AllZip IsGroup parts front → NamesV4 last address → IsTextPart (front ++ two_groups address) (join_with_byte 58 (parts ++ last ∷ [])) None
 dotted_part [] [] last address named dotted = Dotted address dotted refl refl
 dotted_part [] (g ∷ front) last address named dotted = absurd named
 dotted_part (p ∷ parts) [] last address named dotted = absurd named
@@ -61,7 +61,7 @@ right_of text [] (inl h) = inr (refl, nothing h.parts h.spelled h.named)
     nothing : (parts : List (List ℕ)) → text ≡ join_with_byte 58 parts → AllZip IsGroup parts [] → text ≡ []
     nothing [] e named = e
     nothing (p ∷ parts) e named = absurd named
-right_of text [] (inr h) = absurd (omega (arith, ap length h.value, length-append h.front (halves h.address)))
+right_of text [] (inr h) = absurd (omega (arith, ap length h.value, length-append h.front (two_groups h.address)))
 right_of text (g ∷ groups) h = inl (ended_part text (g ∷ groups) h (omega arith))
 
 left_of : (text left_text left next : List ℕ) → text ≡ left_text ++ 58 ∷ 58 ∷ next → IsPlain left_text left → IsLeft left text (Some next)

@@ -8,8 +8,9 @@ use Rattle.std.specs.Int.Digits.{number_from_digits, AllBelowBase}
 use Rattle.std.proofs.lemmas.Fmt.{digits_is_IsNumeral, hex_one_digit, hex_two_digits}
 use Rattle.ipnetwork_addr.specs.Digits.{segments_of}
 use Rattle.ipnetwork_addr.specs.Ipv4Text.{canonical_v4}
-use Rattle.ipnetwork_addr.specs.Ipv6Text.{IsGroup, IsPlain, NamesV6, halves}
-use Rattle.ipnetwork_addr.specs.Ipv6Canonical.{hex, hex_groups, IsMapped, IsZeroRun, IsGap, IsCanonicalV6, Mapped, Gap, Whole, gap_among, canonical_v6}
+use Rattle.ipnetwork_addr.specs.Ipv6Text.{IsGroup, IsPlain, NamesV6, two_groups}
+use Rattle.ipnetwork_addr.specs.Ipv6Canonical.{hex, hex_groups, IsMapped, IsZeroRun, IsGap, IsCanonicalV6, Mapped, Gap, Whole}
+use Rattle.ipnetwork_addr.specs.Computed.Ipv6Canonical.{gap_among, canonical_v6}
 use Rattle.ipnetwork_addr.proofs.Ipv4Lemmas.{canonical_v4_names}
 use Rattle.ipnetwork_addr.proofs.Ipv6Names.{v6_unique}
 use Rattle.ipnetwork_addr.proofs.Hexes.{hex_three, hex_four}
@@ -79,7 +80,7 @@ gap_named address groups text i n eight fit value gap spelled =
     })
 
 -- the number of an address that has an IPv4 address in it
-mapped_number : (address : ℕ) → IsMapped address → address ≡ number_from_digits (2 ^ 16) (0 ∷ 0 ∷ 0 ∷ 0 ∷ 0 ∷ 0xffff ∷ halves (address % 2 ^ 32))
+mapped_number : (address : ℕ) → IsMapped address → address ≡ number_from_digits (2 ^ 16) (0 ∷ 0 ∷ 0 ∷ 0 ∷ 0 ∷ 0xffff ∷ two_groups (address % 2 ^ 32))
 mapped_number address mapped = omega (arith, mapped)
 
 mapped_named : (address : ℕ) (text : List ℕ) → IsMapped address → text ≡ (58 ∷ 58 ∷ 102 ∷ 102 ∷ 102 ∷ 102 ∷ 58 ∷ []) ++ canonical_v4 (address % 2 ^ 32) → NamesV6 text address
@@ -87,7 +88,7 @@ mapped_named address text mapped spelled = inr (record {
   before = [];
   behind = 102 ∷ 102 ∷ 102 ∷ 102 ∷ 58 ∷ canonical_v4 (address % 2 ^ 32);
   high = [];
-  low = 0xffff ∷ halves (address % 2 ^ 32);
+  low = 0xffff ∷ two_groups (address % 2 ^ 32);
   missing = 5;
   split = spelled;
   high_groups = record { parts = []; spelled = refl; named = tt };

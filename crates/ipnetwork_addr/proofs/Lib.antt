@@ -5,6 +5,7 @@ pub mod ComputedReading
 pub mod ComputedV4
 pub mod ComputedV6
 pub mod Decimals
+pub mod EightSegments
 pub mod EitherFamily
 pub mod Examples
 pub mod FirstMarks
@@ -15,12 +16,14 @@ pub mod Ipv4Lemmas
 pub mod Ipv6Bytes
 pub mod Ipv6Names
 pub mod Ipv6Printed
+pub mod MappedGroups
 pub mod OctetFronts
 pub mod Octets
 pub mod PartSteps
 pub mod Parts
 pub mod PlainOctet
 pub mod Printed
+pub mod SegmentOctets
 pub mod Shifts
 mod WideDecimals
 pub mod ZeroRuns

@@ -6,7 +6,8 @@ use Rattle.std.proofs.lemmas.List.{drop_more, get_or_at, get_or-take, take_at}
 use Rattle.std.proofs.lemmas.Str.Parse.{digit_at, digit_from_value}
 use Rattle.std.proofs.lemmas.Str.{digit_value_digit}
 use Rattle.std.specs.Char.{digit_value}
-use Rattle.ipnetwork_addr.specs.Ipv4Text.{IsOctet, IsPlainOctet, NamesV4, NamesNoV4}
+use Rattle.ipnetwork_addr.specs.Ipv4Text.{IsOctet, IsPlainOctet, NamesV4}
+use Rattle.ipnetwork_addr.specs.Private.NoAddress.{NamesNoV4}
 use Rattle.ipnetwork_addr.specs.Private.OctetFront.{IsNoOctet, IsOctetEnd, HasNoOctetEnd, BeginsWithOctet, NoOctetAndDot}
 use Rattle.ipnetwork_addr.proofs.Octets.{BeginsWithDottedOctet}
 use Rattle.ipnetwork_addr.proofs.Ipv4Lemmas.{number_of, names_four, reading_of, same_after_a, same_after_b, same_after_c}

@@ -4,8 +4,9 @@ use Rattle.std.proofs.Math.Nat.{pow-le-pow_right}
 use Rattle.std.proofs.lemmas.Nat.{pow-add}
 use Rattle.std.proofs.lemmas.Int.Digits.{number_after_append}
 use Rattle.std.specs.Int.Digits.{number_from_digits}
-use Rattle.ipnetwork_addr.specs.Ipv4Text.{NamesV4, NamesNoV4}
-use Rattle.ipnetwork_addr.specs.Ipv6Text.{halves}
+use Rattle.ipnetwork_addr.specs.Ipv4Text.{NamesV4}
+use Rattle.ipnetwork_addr.specs.Private.NoAddress.{NamesNoV4}
+use Rattle.ipnetwork_addr.specs.Ipv6Text.{two_groups}
 use Rattle.ipnetwork_addr.specs.Private.GroupFront.{BeginsWithGroup, NoGroup, Last, Dotted, Gap, Next, IsTextPart, BeginsWithPart, NoPart}
 use Rattle.ipnetwork_addr.proofs.Groups.{group_fits}
 use Rattle.ipnetwork_addr.proofs.Parts.{IsLast, IsDot, IsGap, IsNext, kind_of, no_group_no_part, nil_cons, other_first}
@@ -53,10 +54,10 @@ steps_back (g ∷ groups) part text rest end s p = elim (kind_of part text end g
 value_push : (groups : List ℕ) (g n : ℕ) → n ≡ number_from_digits (2 ^ 16) groups → n * 2 ^ 16 + g ≡ number_from_digits (2 ^ 16) (groups ++ g ∷ [])
 value_push groups g n e = ap (λ m. m * 2 ^ 16 + g) e ∙ sym (number_after_append (2 ^ 16) 0 groups (g ∷ []))
 
-value_halves : (groups : List ℕ) (a n : ℕ) → n ≡ number_from_digits (2 ^ 16) groups → n * 2 ^ 32 + a ≡ number_from_digits (2 ^ 16) (groups ++ halves a)
+value_halves : (groups : List ℕ) (a n : ℕ) → n ≡ number_from_digits (2 ^ 16) groups → n * 2 ^ 32 + a ≡ number_from_digits (2 ^ 16) (groups ++ two_groups a)
 value_halves groups a n e =
     let step : n * 2 ^ 32 + a ≡ (n * 2 ^ 16 + a / 2 ^ 16) * 2 ^ 16 + a % 2 ^ 16 = omega arith in
-    step ∙ ap (λ m. (m * 2 ^ 16 + a / 2 ^ 16) * 2 ^ 16 + a % 2 ^ 16) e ∙ sym (number_after_append (2 ^ 16) 0 groups (halves a))
+    step ∙ ap (λ m. (m * 2 ^ 16 + a / 2 ^ 16) * 2 ^ 16 + a % 2 ^ 16) e ∙ sym (number_after_append (2 ^ 16) 0 groups (two_groups a))
 
 small_push : (n count g : ℕ) → n < (2 ^ 16) ^ count → g < 2 ^ 16 → n * 2 ^ 16 + g < (2 ^ 16) ^ (count + 1)
 small_push n count g h k =
@@ -118,9 +119,9 @@ ends_at_gap text rest after next behind count number g room s b colon again h =
 
 pub ends_dotted : (text rest : List ℕ) (count number address room : ℕ) → PartSoFar text rest count number → NamesV4 rest address → count + 2 ≤ room → address < 2 ^ 32 → BeginsWithPart room text (count + 2) (number * 2 ^ 32 + address) None
 ends_dotted text rest count number address room s named h fits = record {
-  groups = s.groups ++ halves address;
-  part = steps_part s.groups (halves address) text rest None s.steps (Dotted address named refl refl);
-  counted = omega (arith, s.counted, length-append s.groups (halves address));
+  groups = s.groups ++ two_groups address;
+  part = steps_part s.groups (two_groups address) text rest None s.steps (Dotted address named refl refl);
+  counted = omega (arith, s.counted, length-append s.groups (two_groups address));
   fits = h;
   value = value_halves s.groups address number s.value;
   small = small_halves number count address s.small fits;

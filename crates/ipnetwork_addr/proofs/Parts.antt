@@ -4,7 +4,7 @@ use Rattle.std.proofs.lemmas.Fmt.{decimal_is_IsNumeral, length-decimal-le}
 use Rattle.std.specs.Char.{digit_value}
 use Rattle.std.specs.Str.Parse.{AllDigits, digits_value}
 use Rattle.ipnetwork_addr.specs.Ipv4Text.{NamesV4}
-use Rattle.ipnetwork_addr.specs.Ipv6Text.{halves}
+use Rattle.ipnetwork_addr.specs.Ipv6Text.{two_groups}
 use Rattle.ipnetwork_addr.specs.Private.GroupFront.{NoHex, BeginsWithGroup, NoGroup, Last, Dotted, Gap, Next, IsTextPart}
 use Rattle.ipnetwork_addr.proofs.Groups.{group_unique}
 use Rattle.ipnetwork_addr.proofs.Ipv4Lemmas.{reading_of, v4_unique}
@@ -44,7 +44,7 @@ v4_begins text address h =
 
 pub data Kind (text : List ℕ) (group : ℕ) (after : List ℕ) (groups : List ℕ) (end : Option (List ℕ)) : Type 0 where
   IsLast : after ≡ [] → groups ≡ group ∷ [] → end ≡ None → Kind text group after groups end
-  IsDot : (address : ℕ) (more : List ℕ) → after ≡ 46 ∷ more → NamesV4 text address → groups ≡ halves address → end ≡ None → Kind text group after groups end
+  IsDot : (address : ℕ) (more : List ℕ) → after ≡ 46 ∷ more → NamesV4 text address → groups ≡ two_groups address → end ≡ None → Kind text group after groups end
   IsGap : (next : List ℕ) → after ≡ 58 ∷ 58 ∷ next → groups ≡ group ∷ [] → end ≡ Some next → Kind text group after groups end
   IsNext : (next more : List ℕ) → after ≡ 58 ∷ next → groups ≡ group ∷ more → IsTextPart more next end → Kind text group after groups end
 
@@ -115,7 +115,7 @@ part_unique (g ∷ gs) hs text e f (Dotted address named is_gs is_e) q =
     let b = v4_begins text address named in
     elim (kind_of hs text f b.group (46 ∷ b.after) b.begins q) [
       | IsLast s _ _ ↦ absurd (nil_cons 46 b.after (sym s))
-      | IsDot other more s named' is_hs is_f ↦ (is_gs ∙ ap halves (v4_unique text address other named named') ∙ sym is_hs, is_e ∙ sym is_f)
+      | IsDot other more s named' is_hs is_f ↦ (is_gs ∙ ap two_groups (v4_unique text address other named named') ∙ sym is_hs, is_e ∙ sym is_f)
       | IsGap next s _ _ ↦ absurd (other_first 46 58 b.after (58 ∷ next) s (omega arith))
       | IsNext next _ s _ _ ↦ absurd (other_first 46 58 b.after next s (omega arith))
     ]

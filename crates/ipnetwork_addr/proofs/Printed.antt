@@ -1,7 +1,8 @@
 -- The printer writes the canonical text.
-use Rattle.std.proofs.Common.{◌≡◌, ◌↔◌, Bool, false, true≢false, IsTrue, sym, ℕ, ◌+◌, ◌<◌, ◌≤◌, List, [], ◌∷◌, ◌++◌, take, drop, ◌∙◌, subst, arith}
+use Rattle.std.proofs.Common.{◌≡◌, ◌↔◌, Bool, false, true≢false, IsTrue, sym, ℕ, ◌+◌, ◌%◌, ◌^◌, ◌<◌, ◌≤◌, List, [], ◌∷◌, ◌++◌, take, drop, codes, ◌∙◌, subst, arith}
 use Rattle.ipnetwork_addr.specs.Digits.{segments_of}
-use Rattle.ipnetwork_addr.specs.Ipv6Canonical.{IsMapped, IsGap, IsCanonicalV6, Gap, Whole, hex_groups}
+use Rattle.ipnetwork_addr.specs.Ipv4Text.{canonical_v4}
+use Rattle.ipnetwork_addr.specs.Ipv6Canonical.{IsMapped, IsGap, IsCanonicalV6, Mapped, Gap, Whole, hex_groups}
 use Rattle.ipnetwork_addr.specs.Private.LongestRun.{IsLongestRun}
 
 pub not_from_test : (b : Bool) (p : Type 0) → (IsTrue b ↔ p) → b ≡ false → ¬ p
@@ -15,6 +16,10 @@ is_gap groups i n run several = record {
   longest = run.longest;
   leftmost = λ j zeros. run.leftmost j (omega (arith, several)) zeros;
 }
+
+pub printed_mapped : (address : ℕ) (text front shown all : List ℕ) (last : ℕ) → IsMapped address → text ≡ [] → front ≡ text ++ codes "::ffff:"
+    → shown ≡ canonical_v4 last → last ≡ address % 2 ^ 32 → all ≡ front ++ shown → IsCanonicalV6 all address
+printed_mapped address text front shown all last mapped empty k is_shown is_last l = Mapped mapped (l ∙ rw (k, empty, is_shown, is_last))
 
 module _ (address : ℕ) (groups : List ℕ) (e : groups ≡ segments_of address) (not_mapped : ¬ (IsMapped address)) (run : ℕ × ℕ) (found : IsLongestRun groups run.0 run.1) where
   pub printed_gap : (text front colons all back : List ℕ) → 2 ≤ run.1 → text ≡ [] → front ≡ text ++ hex_groups (take run.0 groups) → colons ≡ front ++ 58 ∷ 58 ∷ [] → back ≡ drop (run.0 + run.1) groups → all ≡ colons ++ hex_groups back → IsCanonicalV6 all address

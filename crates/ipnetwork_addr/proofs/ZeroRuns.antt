@@ -2,7 +2,8 @@
 use Rattle.std.proofs.Common.{◌≡◌, ℕ, zero, suc, ◌+◌, ◌-◌, ◌<◌, ◌≤◌, ◌==◌, List, [], ◌∷◌, length, get_or, take, drop, replicate, length-drop, get_or-drop, refl, sym, ap, ap₂, ◌∙◌, arith, inl, inr}
 use Rattle.std.specs.Prelude.{nat_le}
 use Rattle.std.proofs.lemmas.Bool.{cond_both, leb-true, leb-false, eqb-true, cases_eq, cases_lt}
-use Rattle.ipnetwork_addr.specs.Ipv6Canonical.{IsZeroRun, IsGap, zeros_in_front, gap_among}
+use Rattle.ipnetwork_addr.specs.Ipv6Canonical.{IsZeroRun, IsGap}
+use Rattle.ipnetwork_addr.specs.Computed.Ipv6Canonical.{zeros_in_front, gap_among}
 
 -- ---- the zeros before the first other group
 

@@ -18,8 +18,3 @@ octets_of_v6 address = digits_in 256 16 address
 -- the groups of an IPv6 address: its eight digits in base 2^16
 abbrev pub segments_of : ℕ → List ℕ
 segments_of address = digits_in (2 ^ 16) 8 address
-
--- the last decimal digits of a number, this many, as bytes
-unfoldable pub padded_decimal : ℕ → ℕ → List ℕ
-padded_decimal zero n = []
-padded_decimal (suc count) n = padded_decimal count (n / 10) ++ (48 + n % 10) ∷ []

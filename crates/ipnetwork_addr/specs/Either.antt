@@ -1,15 +1,14 @@
 -- Texts of an address of either family.
-use Rattle.std.specs.Prelude.{⊤, ℕ, ◌^◌, ◌<◌, ◌≤◌, List, ◌++◌, pos, Option, None, Some}
+use Rattle.std.specs.Prelude.{⊤, ℕ, ◌^◌, ◌<◌, ◌≤◌, List, ◌++◌, pos}
 use Rattle.std.specs.Hash.{HashWrites, isize, u32, u128}
 use Rattle.std.specs.Ordering.{nat_cmp}
 use Rattle.std.specs.declared.cmp.Ordering.{Ordering}
 use Rattle.std.specs.declared.cmp.Ordering.TheVariants.{Less, Greater}
 use Rattle.ipnetwork_addr.specs.declared.ip.IpAddr.{IpAddr}
 use Rattle.ipnetwork_addr.specs.declared.ip.IpAddr.TheVariants.{V4, V6}
-use Rattle.ipnetwork_addr.specs.Ipv4Text.{NamesV4, canonical_v4, v4_of}
+use Rattle.ipnetwork_addr.specs.Ipv4Text.{NamesV4, canonical_v4}
 use Rattle.ipnetwork_addr.specs.Ipv6Text.{NamesV6}
-use Rattle.ipnetwork_addr.specs.Ipv6Canonical.{canonical_v6}
-use Rattle.ipnetwork_addr.specs.Ipv6Computed.{v6_of}
+use Rattle.ipnetwork_addr.specs.Computed.Ipv6Canonical.{canonical_v6}
 
 -- the text names the address
 abbrev pub NamesIp : List ℕ → IpAddr → Type 0
@@ -20,16 +19,6 @@ NamesIp text (V6 address) = NamesV6 text address
 abbrev pub canonical_ip : IpAddr → List ℕ
 canonical_ip (V4 address) = canonical_v4 address
 canonical_ip (V6 address) = canonical_v6 address
-
--- the first of two families in which there is an address
-abbrev pub either_of : Option ℕ → Option ℕ → Option IpAddr
-either_of (Some address) other = Some (V4 address)
-either_of None (Some address) = Some (V6 address)
-either_of None None = None
-
--- the address that a text names, if it names one, computed
-abbrev pub ip_of : List ℕ → Option IpAddr
-ip_of text = either_of (v4_of text) (v6_of text)
 
 -- the number fits the bits of its family
 abbrev pub FitsIp : IpAddr → Type 0
@@ -44,11 +33,11 @@ IsAddrBefore (V6 a) (V4 b) = ⊥
 IsAddrBefore (V6 a) (V6 b) = a < b
 
 -- the first address is before the second, or is the second
-abbrev pub IsAtMost : IpAddr → IpAddr → Type 0
-IsAtMost (V4 a) (V4 b) = a ≤ b
-IsAtMost (V4 a) (V6 b) = ⊤
-IsAtMost (V6 a) (V4 b) = ⊥
-IsAtMost (V6 a) (V6 b) = a ≤ b
+abbrev pub IsAddrAtMost : IpAddr → IpAddr → Type 0
+IsAddrAtMost (V4 a) (V4 b) = a ≤ b
+IsAddrAtMost (V4 a) (V6 b) = ⊤
+IsAddrAtMost (V6 a) (V4 b) = ⊥
+IsAddrAtMost (V6 a) (V6 b) = a ≤ b
 
 -- the same order, as an answer of three
 abbrev pub ip_cmp : IpAddr → IpAddr → Ordering

@@ -1,7 +1,7 @@
 -- Which texts name an IPv4 address, and which one it is printed as: the dotted decimal form of RFC 3986,
 -- section 3.2.2 (`IPv4address` and `dec-octet`).
-use Rattle.std.specs.Prelude.{◌≡◌, ℕ, ◌^◌, ◌≤◌, ◌==◌, nat_lt, bytes_eq, if◌then◌else◌, List, length, map, slice_index, decimal, Option, None, Some}
-use Rattle.std.specs.List.{join_with_byte, slice_split}
+use Rattle.std.specs.Prelude.{◌≡◌, ℕ, ◌≤◌, List, length, map, slice_index, decimal}
+use Rattle.std.specs.List.{join_with_byte}
 use Rattle.std.specs.Int.Digits.{number_from_digits}
 use Rattle.std.specs.Str.Parse.{IsNumeral, digits_value}
 use Rattle.ipnetwork_addr.specs.Digits.{octets_of}
@@ -26,17 +26,6 @@ pub record NamesV4 (text : List ℕ) (address : ℕ) : Type 0 where
   pub four : length octets ≡ 4
   pub value : address ≡ number_from_digits 256 octets
 
--- the text names no IPv4 address
-abbrev pub NamesNoV4 : List ℕ → Type 0
-NamesNoV4 text = (address : ℕ) → ¬ (NamesV4 text address)
-
 -- the one text that an address is printed as: four shortest decimals joined by dots
 abbrev pub canonical_v4 : ℕ → List ℕ
 canonical_v4 address = join_with_byte dot (map decimal (octets_of address))
-
--- the address that a text names, if it names one, computed: cut it at its dots, read the decimals as the digits
--- of a number in base 256, and see that the canonical text of that number is the text
-abbrev pub v4_of : List ℕ → Option ℕ
-v4_of text =
-    let address = number_from_digits 256 (map (digits_value 10) (slice_split (λ byte. byte == dot) text)) in
-    if nat_lt address (2 ^ 32) then (if bytes_eq text (canonical_v4 address) then Some address else None) else None

@@ -17,8 +17,8 @@ abbrev pub IsPlain : List ℕ → List ℕ → Type 0
 IsPlain text groups = IsJoined colon IsGroup text groups
 
 -- the two groups that an IPv4 address stands for
-abbrev pub halves : ℕ → List ℕ
-halves address = address / 2 ^ 16 ∷ address % 2 ^ 16 ∷ []
+abbrev pub two_groups : ℕ → List ℕ
+two_groups address = address / 2 ^ 16 ∷ address % 2 ^ 16 ∷ []
 
 -- groups and, after them, an IPv4 text, all joined by colons
 pub record IsDotted (text groups : List ℕ) : Type 0 where
@@ -29,7 +29,7 @@ pub record IsDotted (text groups : List ℕ) : Type 0 where
   pub spelled : text ≡ join_with_byte colon (parts ++ last ∷ [])
   pub named : AllZip IsGroup parts front
   pub dotted : NamesV4 last address
-  pub value : groups ≡ front ++ halves address
+  pub value : groups ≡ front ++ two_groups address
 
 -- groups joined by colons, the last two of which may be written as an IPv4 text
 abbrev pub IsEnded : List ℕ → List ℕ → Type 0
@@ -59,7 +59,3 @@ pub record IsCompressed (text : List ℕ) (address : ℕ) : Type 0 where
 -- the text names the address
 abbrev pub NamesV6 : List ℕ → ℕ → Type 0
 NamesV6 text address = IsFull text address ⊎ IsCompressed text address
-
--- the text names no IPv6 address
-abbrev pub NamesNoV6 : List ℕ → Type 0
-NamesNoV6 text = (address : ℕ) → ¬ (NamesV6 text address)

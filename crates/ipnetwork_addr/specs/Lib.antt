@@ -1,10 +1,12 @@
+pub mod Computed
 pub mod Digits
 pub mod Either
 pub mod Faults
 pub mod Ipv4Text
 pub mod Ipv6Canonical
-pub mod Ipv6Computed
 pub mod Ipv6Text
 pub mod Private
 pub mod Reading
+pub mod Segments
+pub mod SegmentsBack
 pub mod Texts

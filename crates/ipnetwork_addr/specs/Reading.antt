@@ -1,12 +1,7 @@
 -- What a reader answers.
-use Rattle.std.specs.Prelude.{◌≡◌, ℕ, List, Option, None, Some, Result, Ok, Err, MatchResult}
+use Rattle.std.specs.Prelude.{◌≡◌, ℕ, List, Result, MatchResult}
 
 -- the value that the text names, or this error where the text names none
 abbrev pub Reads : {A E : Type 0} → (List ℕ → A → Type 0) → E → List ℕ → Result A E → Type 0
 Reads {A} Names error text result =
     MatchResult result (Names text) (λ e. (e ≡ error) × ((value : A) → ¬ (Names text value)))
-
--- the same, from the value that the text names, if it names one
-abbrev pub answer_from : {A E : Type 0} → E → Option A → Result A E
-answer_from error None = Err error
-answer_from error (Some value) = Ok value

@@ -21,8 +21,8 @@ pub data IsAddressByte (byte : ℕ) : Type 0 where
   Digit : 48 ≤ byte → byte ≤ 57 → IsAddressByte byte
   UpperHex : 65 ≤ byte → byte ≤ 70 → IsAddressByte byte
   LowerHex : 97 ≤ byte → byte ≤ 102 → IsAddressByte byte
-  Dot : byte ≡ 46 → IsAddressByte byte
-  Colon : byte ≡ 58 → IsAddressByte byte
+  Dot : byte ≡ dot → IsAddressByte byte
+  Colon : byte ≡ colon → IsAddressByte byte
 
 -- of the dots and colons of a text the first is a colon
 abbrev pub colon_first : List ℕ → Bool

@@ -1,27 +1,28 @@
 //! The canonical text of an IPv6 address.
 ghost use Rattle.std.specs.Prelude.{◌≡◌, ◌↔◌, ℕ, suc, zero, ◌+◌, ◌/◌, ◌%◌, ◌^◌, ◌<◌, ◌≤◌, nat_le, if◌then◌else◌, length, IsTrue};
-ghost use Rattle.ipnetwork_addr.specs.Digits.{segments_of};
 ghost use Rattle.ipnetwork_addr.specs.Ipv6Canonical.{IsMapped, IsCanonicalV6};
 ghost use Rattle.ipnetwork_addr.specs.Private.LongestRun.{IsLongestRun};
+ghost use Rattle.ipnetwork_addr.specs.Segments.{number_of_segments};
 
 use crate::hexadecimal::push_groups;
-use crate::{Ipv4Addr, TEXT_CAPACITY};
+use crate::segments::half;
+use crate::{ADDRESS_TEXT_CAPACITY, Ipv4Addr};
 use arrayvec::ArrayString;
 
 /// The fewest zero groups that are written as `::`.
 const SHORTEST_GAP: usize = 2;
 
-/// The high 96 bits of an address that holds an IPv4 address, `::ffff:0:0/96`.
-const MAPPED_PREFIX: u128 = 0xffff;
+/// The fifth and the sixth group of an address that holds an IPv4 address, `::ffff:0:0/96`, as one number; those
+/// before them are 0.
+const MAPPED_GROUPS: u32 = 0xffff;
 
-/// The canonical text of the address of this number, which has these groups.
-pub(crate) fn canonical_text(number: u128, groups: &[u16; 8]) -> ArrayString<TEXT_CAPACITY>
-    requires { groups.now ≡ segments_of number }
-    ensures { IsCanonicalV6 result.bytes number }
+/// The canonical text of the address of these groups, highest first.
+pub(crate) fn canonical_text(groups: &[u16; 8]) -> ArrayString<ADDRESS_TEXT_CAPACITY>
+    ensures { IsCanonicalV6 result.bytes (number_of_segments groups.now) }
 {
     let mut text = ArrayString::new();
-    if is_mapped(number) {
-        let last = Ipv4Addr::from((number % 0x1_0000_0000) as u32).canonical();
+    if is_mapped(groups) {
+        let last = Ipv4Addr::from(last_two(groups)).canonical();
         text.push_str("::ffff:");
         text.push_str(last.as_str());
         return text;
@@ -37,11 +38,23 @@ pub(crate) fn canonical_text(number: u128, groups: &[u16; 8]) -> ArrayString<TEX
     text
 }
 
-/// Whether the address of this number holds an IPv4 address.
-fn is_mapped(number: u128) -> bool
-    ensures { IsTrue result ↔ IsMapped number }
+/// Whether the address of these groups holds an IPv4 address.
+fn is_mapped(groups: &[u16; 8]) -> bool
+    ensures { IsTrue result ↔ IsMapped (number_of_segments groups.now) }
 {
-    number / 0x1_0000_0000 == MAPPED_PREFIX
+    let [a, b, c, d, e, f, _, _] = *groups;
+    if half(a, b, c, d) != 0 {
+        return false;
+    }
+    u32::from(e) * 0x1_0000 + u32::from(f) == MAPPED_GROUPS
+}
+
+/// The IPv4 address that the last two groups hold.
+fn last_two(groups: &[u16; 8]) -> u32
+    ensures { result ≡ number_of_segments groups.now % 2 ^ 32 }
+{
+    let [_, _, _, _, _, _, g, h] = *groups;
+    u32::from(g) * 0x1_0000 + u32::from(h)
 }
 
 /// The longest run of zero groups: its first group and its length, 0 if no group is zero. Of two runs of one length,

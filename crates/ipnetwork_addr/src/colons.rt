@@ -1,7 +1,8 @@
 //! Reads an IPv6 text: the groups to the left of a `::` and those to the right of it.
 ghost use Rattle.std.specs.Prelude.{◌≡◌, ◌^◌, ◌+◌, ◌-◌, ◌*◌, ◌<◌, ◌≤◌, MatchOption};
 ghost use Rattle.std.specs.Option.{option_copied};
-ghost use Rattle.ipnetwork_addr.specs.Ipv6Text.{NamesV6, NamesNoV6};
+ghost use Rattle.ipnetwork_addr.specs.Ipv6Text.{NamesV6};
+ghost use Rattle.ipnetwork_addr.specs.Private.NoAddress.{NamesNoV6};
 ghost use Rattle.ipnetwork_addr.specs.Private.GroupFront.{BeginsWithLeft, NoLeft, EndsWithRight, NoRight};
 
 use crate::group::read_part;

@@ -1,7 +1,7 @@
 //! Numbers, written in decimal at the end of a text.
 ghost use Rattle.std.specs.Prelude.{◌≡◌, ◌+◌, ◌^◌, ◌<◌, ◌≤◌, ◌++◌, length, decimal};
 ghost use Rattle.arrayvec.specs.ArrayString.{array_string_len};
-ghost use Rattle.ipnetwork_addr.specs.Digits.{padded_decimal};
+ghost use Rattle.ipnetwork_addr.specs.Private.Decimals.{padded_decimal};
 
 use arrayvec::ArrayString;
 

@@ -1,7 +1,8 @@
 //! Reads the groups of an IPv6 text, from left to right.
 ghost use Rattle.std.specs.Prelude.{◌≡◌, ◌≢◌, ℕ, ◌^◌, ◌+◌, ◌*◌, ◌<◌, ◌≤◌, List, ◌∷◌, MatchOption};
 ghost use Rattle.std.specs.Option.{option_copied};
-ghost use Rattle.ipnetwork_addr.specs.Ipv4Text.{NamesV4, NamesNoV4};
+ghost use Rattle.ipnetwork_addr.specs.Ipv4Text.{NamesV4};
+ghost use Rattle.ipnetwork_addr.specs.Private.NoAddress.{NamesNoV4};
 ghost use Rattle.ipnetwork_addr.specs.Private.GroupFront.{NoHex, BeginsWithHex, BeginsWithGroup, NoGroup, BeginsWithPart, NoPart};
 
 use crate::hex_value::hex_value;

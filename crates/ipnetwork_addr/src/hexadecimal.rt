@@ -4,12 +4,12 @@ ghost use Rattle.std.specs.Fmt.{digit_glyph};
 ghost use Rattle.ipnetwork_addr.specs.Ipv6Canonical.{hex, hex_groups};
 ghost use Rattle.arrayvec.specs.ArrayString.{array_string_len};
 
-use crate::TEXT_CAPACITY;
+use crate::ADDRESS_TEXT_CAPACITY;
 use arrayvec::ArrayString;
 
 /// Writes groups in shortest lower-case hex, with `:` between them.
-pub(crate) fn push_groups(text: &mut ArrayString<TEXT_CAPACITY>, groups: &[u16])
-    requires { array_string_len text.old + (5 * length groups.now - 1) ≤ TEXT_CAPACITY }
+pub(crate) fn push_groups(text: &mut ArrayString<ADDRESS_TEXT_CAPACITY>, groups: &[u16])
+    requires { array_string_len text.old + (5 * length groups.now - 1) ≤ ADDRESS_TEXT_CAPACITY }
     ensures bytes { text.new.bytes ≡ text.old.bytes ++ hex_groups groups.now }
     ensures room { array_string_len text.new ≤ array_string_len text.old + (5 * length groups.now - 1) }
 {
@@ -24,8 +24,8 @@ pub(crate) fn push_groups(text: &mut ArrayString<TEXT_CAPACITY>, groups: &[u16])
 
 /// Writes the shortest lower-case hex of a group: one to four bytes.
 #[inline(always)]
-fn push_hex(text: &mut ArrayString<TEXT_CAPACITY>, group: u16)
-    requires { array_string_len text.old + 4 ≤ TEXT_CAPACITY }
+fn push_hex(text: &mut ArrayString<ADDRESS_TEXT_CAPACITY>, group: u16)
+    requires { array_string_len text.old + 4 ≤ ADDRESS_TEXT_CAPACITY }
     ensures bytes { text.new.bytes ≡ text.old.bytes ++ hex group }
     ensures room { array_string_len text.new ≤ array_string_len text.old + 4 }
 {

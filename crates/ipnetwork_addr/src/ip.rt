@@ -1,6 +1,7 @@
 //! Addresses of either family.
 
-use crate::{AddrParseError, Ipv4Addr, Ipv6Addr, TEXT_CAPACITY};
+use crate::first_mark::has_colon_first;
+use crate::{ADDRESS_TEXT_CAPACITY, AddrParseError, Ipv4Addr, Ipv6Addr};
 use arrayvec::ArrayString;
 use std::fmt;
 use std::str::FromStr;
@@ -24,17 +25,21 @@ impl IpAddr {
     pub fn read_bytes(text: &[u8]) -> Result<Self, AddrParseError>
         ensures { Reads NamesIp AddrParseError.Ip text.now result }
     {
-        if let Ok(address) = Ipv4Addr::read_bytes(text) {
-            Ok(IpAddr::V4(address))
-        } else if let Ok(address) = Ipv6Addr::read_bytes(text) {
-            Ok(IpAddr::V6(address))
+        if has_colon_first(text) {
+            match Ipv6Addr::read_bytes(text) {
+                Ok(address) => Ok(IpAddr::V6(address)),
+                Err(_) => Err(AddrParseError::Ip),
+            }
         } else {
-            Err(AddrParseError::Ip)
+            match Ipv4Addr::read_bytes(text) {
+                Ok(address) => Ok(IpAddr::V4(address)),
+                Err(_) => Err(AddrParseError::Ip),
+            }
         }
     }
 
     /// The canonical text of the address, at most 39 bytes. Does not allocate.
-    pub fn canonical(&self) -> ArrayString<TEXT_CAPACITY>
+    pub fn canonical(&self) -> ArrayString<ADDRESS_TEXT_CAPACITY>
         ensures bytes { result.bytes ≡ canonical_ip self.now }
         ensures short { length result.bytes ≤ 39 }
     {

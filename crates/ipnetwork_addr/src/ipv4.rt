@@ -7,7 +7,7 @@ ghost use Rattle.ipnetwork_addr.specs.Reading.{Reads};
 
 use crate::decimal::push_decimal;
 use crate::octet::read_octets;
-use crate::{AddrParseError, TEXT_CAPACITY};
+use crate::{ADDRESS_TEXT_CAPACITY, AddrParseError};
 use arrayvec::ArrayString;
 use std::fmt;
 use std::marker::Model;
@@ -59,7 +59,7 @@ impl Ipv4Addr {
     }
 
     /// The canonical text, at most 15 bytes: four shortest decimals joined by `.`. Does not allocate.
-    pub fn canonical(&self) -> ArrayString<TEXT_CAPACITY>
+    pub fn canonical(&self) -> ArrayString<ADDRESS_TEXT_CAPACITY>
         ensures bytes { result.bytes ≡ canonical_v4 self.now }
         ensures short { length result.bytes ≤ 15 }
     {

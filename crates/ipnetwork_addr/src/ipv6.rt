@@ -1,33 +1,48 @@
 //! IPv6 addresses.
 ghost use Rattle.std.specs.Prelude.{◌≡◌, ◌↔◌, ℕ, ◌+◌, ◌*◌, ◌/◌, ◌%◌, ◌^◌, ◌<◌, ◌≤◌, [], ◌∷◌, length, IsTrue, Some};
+ghost use Rattle.std.specs.Hash.{le_bytes};
 ghost use Rattle.std.specs.Int.Digits.{number_from_digits};
+ghost use Rattle.std.specs.Ordering.{nat_cmp};
 ghost use Rattle.ipnetwork_addr.specs.Digits.{octets_of_v6, segments_of};
 ghost use Rattle.ipnetwork_addr.specs.Ipv6Text.{NamesV6};
-ghost use Rattle.ipnetwork_addr.specs.Ipv6Canonical.{IsCanonicalV6, canonical_v6};
+ghost use Rattle.ipnetwork_addr.specs.Ipv6Canonical.{IsCanonicalV6};
+ghost use Rattle.ipnetwork_addr.specs.Computed.Ipv6Canonical.{canonical_v6};
 ghost use Rattle.ipnetwork_addr.specs.Reading.{Reads};
 
 use crate::canonical::canonical_text;
 use crate::colons::read_address;
-use crate::group::append;
-use crate::{AddrParseError, TEXT_CAPACITY};
+use crate::{ADDRESS_TEXT_CAPACITY, AddrParseError, segments};
 use arrayvec::ArrayString;
+use std::cmp::Ordering;
 use std::fmt;
 use std::marker::Model;
 use std::str::FromStr;
 
 /// An IPv6 address of 128 bits, ordered by its number.
-#[derive(Clone, Copy, Debug, PartialEq, Eq, PartialOrd, Ord, Hash)]
+#[derive(Clone, Copy, Debug)]
 pub struct Ipv6Addr {
-    number: u128,
+    // The eight segments, the lowest first. Where the low octets of a number are stored first, as on most machines,
+    // each half of the address then lies in memory as one number of 64 bits: `order` compares by these.
+    low_first: [u16; 8],
 }
 
 // A contract sees an address as its number.
 impl Model for Ipv6Addr {
+    ghost use Rattle.std.specs.Prelude.{ℕ, reverse};
+    ghost use Rattle.std.proofs.Common.{ap};
+    ghost use Rattle.ipnetwork_addr.specs.Digits.{segments_of};
+    ghost use Rattle.ipnetwork_addr.specs.Segments.{number_of_segments, AreSegments};
+    ghost use Rattle.ipnetwork_addr.specs.SegmentsBack.{low_first_back};
+
     ghost Value = { ℕ };
 
-    ghost view = { λ a. a.number };
+    ghost view = { λ a. number_of_segments (reverse a.low_first) };
 
-    ghost inverse = { λ n. record { number = n } };
+    ghost invariant = { λ a. AreSegments a.low_first };
+
+    ghost inverse = { λ n. record { low_first = reverse (segments_of n) } };
+
+    ghost inverse_ok = { λ a h. ap (λ s. record { low_first = s }) (low_first_back a.low_first h) };
 }
 
 impl Ipv6Addr {
@@ -35,9 +50,8 @@ impl Ipv6Addr {
     pub fn new(a: u16, b: u16, c: u16, d: u16, e: u16, f: u16, g: u16, h: u16) -> Self
         ensures { result ≡ number_from_digits (2 ^ 16) (a ∷ b ∷ c ∷ d ∷ e ∷ f ∷ g ∷ h ∷ []) }
     {
-        let four = append(append(append(u128::from(a), b), c), d);
         Ipv6Addr {
-            number: append(append(append(append(four, e), f), g), h),
+            low_first: [h, g, f, e, d, c, b, a],
         }
     }
 
@@ -46,22 +60,14 @@ impl Ipv6Addr {
         ensures segments { result ≡ segments_of self.now }
         ensures bound { self.now < 2 ^ 128 }
     {
-        let (rest, h) = split(self.number);
-        let (rest, g) = split(rest);
-        let (rest, f) = split(rest);
-        let (rest, e) = split(rest);
-        let (rest, d) = split(rest);
-        let (rest, c) = split(rest);
-        let (rest, b) = split(rest);
-        let (_, a) = split(rest);
-        [a, b, c, d, e, f, g, h]
+        segments::reversed(&self.low_first)
     }
 
     /// The sixteen octets, highest first.
     pub fn octets(&self) -> [u8; 16]
         ensures { result ≡ octets_of_v6 self.now }
     {
-        self.number.to_be_bytes()
+        segments::octets_high_first(&self.segments())
     }
 
     /// The address that a text names: eight groups of one to four hex digits of either case, joined by
@@ -72,7 +78,7 @@ impl Ipv6Addr {
         ensures { Reads NamesV6 AddrParseError.Ipv6 text.now result }
     {
         match read_address(text) {
-            Some(number) => Ok(Ipv6Addr { number }),
+            Some(number) => Ok(Ipv6Addr::from(number)),
             None => Err(AddrParseError::Ipv6),
         }
     }
@@ -81,28 +87,48 @@ impl Ipv6Addr {
     /// an IPv4 text (section 5). Any other is its groups in shortest lower-case hex, with `::` for the
     /// longest run of two or more zero groups, and of two as long for the one on the left (section 4). Does
     /// not allocate.
-    pub fn canonical(&self) -> ArrayString<TEXT_CAPACITY>
+    #[inline(always)]
+    pub fn canonical(&self) -> ArrayString<ADDRESS_TEXT_CAPACITY>
         ensures canonical { IsCanonicalV6 result.bytes self.now }
         ensures bytes { result.bytes ≡ canonical_v6 self.now }
         ensures short { length result.bytes ≤ 39 }
     {
-        canonical_text(self.number, &self.segments())
+        canonical_text(&self.segments())
+    }
+
+    /// How the address compares with another: by the high half, then by the low one.
+    pub(crate) fn order(&self, other: &Ipv6Addr) -> Ordering
+        ensures { result ≡ nat_cmp self.now other.now }
+    {
+        let (high, low) = segments::halves(&self.low_first);
+        let (other_high, other_low) = segments::halves(&other.low_first);
+        if high != other_high {
+            return high.cmp(&other_high);
+        }
+        low.cmp(&other_low)
+    }
+
+    /// The sixteen octets, lowest first.
+    pub(crate) fn octets_low_first(&self) -> [u8; 16]
+        ensures { result ≡ le_bytes 16 self.now }
+    {
+        segments::octets_low_first(&self.segments())
     }
 }
 
-/// The number without its last digit in base 2^16, and that digit.
-fn split(number: u128) -> (u128, u16)
-    ensures { (result.0 ≡ number / 2 ^ 16) × (result.1 ≡ number % 2 ^ 16) }
-{
-    (number / 0x1_0000, (number % 0x1_0000) as u16)
-}
+/// What one of the high half counts for in the number of an address.
+const HALF: u128 = 0x1_0000_0000_0000_0000;
 
 impl From<u128> for Ipv6Addr {
     ghost from_gives = { λ number address. address ≡ number };
 
     /// The address of this number. Does not allocate.
     fn from(number: u128) -> Self {
-        Ipv6Addr { number }
+        let high = (number / HALF) as u64;
+        let low = (number % HALF) as u64;
+        Ipv6Addr {
+            low_first: segments::low_first_of(high, low),
+        }
     }
 }
 
@@ -111,8 +137,9 @@ impl From<[u16; 8]> for Ipv6Addr {
 
     /// The address of these groups, highest first. Does not allocate.
     fn from(segments: [u16; 8]) -> Self {
-        let [a, b, c, d, e, f, g, h] = segments;
-        Ipv6Addr::new(a, b, c, d, e, f, g, h)
+        Ipv6Addr {
+            low_first: segments::reversed(&segments),
+        }
     }
 }
 
@@ -121,7 +148,8 @@ impl From<Ipv6Addr> for u128 {
 
     /// The number of the address. Does not allocate.
     fn from(address: Ipv6Addr) -> Self {
-        address.number
+        let (high, low) = segments::halves(&address.low_first);
+        u128::from(high) * HALF + u128::from(low)
     }
 }
 

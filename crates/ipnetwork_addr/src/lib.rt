@@ -8,14 +8,17 @@ mod colons;
 pub mod decimal;
 mod decimal_value;
 mod error;
+pub mod first_mark;
 mod group;
 mod hex_value;
 mod hexadecimal;
 mod ip;
 mod ipv4;
 mod ipv6;
+mod ipv6_order;
 pub mod laws;
 mod octet;
+mod segments;
 #[cfg(test)]
 mod tests;
 
@@ -25,4 +28,4 @@ pub use ipv4::Ipv4Addr;
 pub use ipv6::Ipv6Addr;
 
 /// The length in bytes of the longest canonical text of an address: eight groups of four hex digits.
-pub const TEXT_CAPACITY: usize = 39;
+pub const ADDRESS_TEXT_CAPACITY: usize = 39;

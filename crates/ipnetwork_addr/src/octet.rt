@@ -1,7 +1,8 @@
 //! Reads the octets of an IPv4 text, from left to right.
 ghost use Rattle.std.specs.Prelude.{◌≡◌, ◌<◌, ◌↔◌, [], ◌∷◌, length, slice_index, IsTrue, MatchOption};
 ghost use Rattle.std.specs.Int.Digits.{number_from_digits};
-ghost use Rattle.ipnetwork_addr.specs.Ipv4Text.{IsOctet, NamesV4, NamesNoV4};
+ghost use Rattle.ipnetwork_addr.specs.Ipv4Text.{IsOctet, NamesV4};
+ghost use Rattle.ipnetwork_addr.specs.Private.NoAddress.{NamesNoV4};
 ghost use Rattle.ipnetwork_addr.specs.Private.OctetFront.{IsNoOctet, IsOctetEnd, HasNoOctetEnd, BeginsWithOctet, NoOctetAndDot};
 ghost use Rattle.ipnetwork_addr.specs.Texts.{dot};
 

@@ -1,8 +1,8 @@
 //! Rows over the public calls.
 
 mod decimal;
+mod first_mark;
 mod hash;
 mod ipv4;
 mod ipv6;
-mod ipv6_comparison;
 mod laws;

@@ -6,7 +6,7 @@ use Rattle.ipnetwork_family.proofs.Blocks.{subnet_from}
 use Rattle.ipnetwork.specs.declared.ip_network.IpNetwork.TheVariants.{V4, V6}
 use Rattle.ipnetwork_blocks.specs.LeastList.{IsMaximalIn}
 use Rattle.ipnetwork_blocks.specs.Aggregate.{InUnion, IsAggregate}
-use Rattle.ipnetwork_blocks.specs.AggregateEither.{as_v4, as_v6}
+use Rattle.ipnetwork_blocks.specs.AggregateIp.{as_v4, as_v6}
 use Rattle.ipnetwork_blocks.specs.Private.Joining.{IsBlockNetwork, AreJoined}
 use Rattle.ipnetwork_blocks.proofs.LeastLists.{contains_cons, contains_head, contains_nil}
 use Rattle.ipnetwork_blocks.proofs.AggregateUnions.{union_same, union_skip, union_join, union_cleared}

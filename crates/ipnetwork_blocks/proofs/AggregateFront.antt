@@ -5,13 +5,14 @@ use Rattle.std.specs.List.{All}
 use Rattle.std.proofs.lemmas.List.{get_or_default, get_or-take, length-take, length-take-le, take_all, take_more}
 use Rattle.std.proofs.lemmas.List.Elements.{All-push, All-take}
 use Rattle.std.proofs.lemmas.List.Quantifiers.{all_pairs_push}
-use Rattle.ipnetwork_family.specs.Network.{Network, high, AtMost}
-use Rattle.ipnetwork_family.proofs.Blocks.{size_pos}
+use Rattle.ipnetwork_family.specs.Network.{Network, high, IsNetworkAtMost}
+use Rattle.ipnetwork_family.proofs.Blocks.{size_pos, block_begins}
+use Rattle.ipnetwork_family.proofs.BlocksAt.{block_at_network}
 use Rattle.ipnetwork_blocks.specs.Aggregate.{SameUnion}
-use Rattle.ipnetwork_blocks.specs.Around.{parent}
+use Rattle.ipnetwork_blocks.specs.Supernets.{parent}
 use Rattle.ipnetwork_blocks.specs.Private.Joining.{AreHalves, IsBlockNetwork, Follows, AreJoined}
 use Rattle.ipnetwork_blocks.proofs.AggregateLists.{pairs_take}
-use Rattle.ipnetwork_blocks.proofs.AggregateBlocks.{around_network, around_block, halves_join, nothing_between}
+use Rattle.ipnetwork_blocks.proofs.HalfBlocks.{halves_join, nothing_between}
 use Rattle.ipnetwork_blocks.proofs.AggregateUnions.{union_same, union_trans, union_join}
 
 pub joined_nil : (w : ℕ) → AreJoined w []
@@ -62,7 +63,7 @@ pub record IsJoining (w : ℕ) (r : List Network) (b : Network) (left : ℕ) (wh
   pub block : IsBlockNetwork w whole
   pub after : All (λ a. high w a < whole.address) (take left r)
   pub union : SameUnion w (take left r ++ whole ∷ []) (r ++ b ∷ [])
-  pub order : AtMost whole b
+  pub order : IsNetworkAtMost whole b
 
 pub joining_starts : (w : ℕ) (r : List Network) (b : Network) → IsBlockNetwork w b → All (λ a. high w a < b.address) r → IsJoining w r b (length r) b
 joining_starts w r b hb after =
@@ -91,8 +92,8 @@ joining_more w r b left whole t h j some is s =
     record {
       bound = omega arith;
       block = record {
-        network = around_network w t.address (t.prefix - 1) bt.network.address_fits (omega arith);
-        block = around_block w t.address (t.prefix - 1);
+        network = (block_at_network w t.address (t.prefix - 1) bt.network.address_fits (omega arith)).0;
+        block = block_begins w (record { address = t.address; prefix = t.prefix - 1 });
       };
       after = λ i d m.
           let size' = length-take (left - 1) r in

@@ -3,15 +3,16 @@ use Rattle.std.proofs.Common.{◌≡◌, ℕ, zero, suc, ◌+◌, ◌-◌, ◌*�
 use Rattle.std.proofs.lemmas.Bool.{cases_lt}
 use Rattle.std.specs.List.{Contains}
 use Rattle.std.proofs.lemmas.List.Elements.{All-contains}
-use Rattle.ipnetwork_family.specs.Network.{Network, IsNetwork, Member, low, block_size, Subnet}
-use Rattle.ipnetwork_family.proofs.Blocks.{size_pos, within_member, member_within, subnet_from, subnet_prefix, shares_address, multiple_begins}
-use Rattle.ipnetwork_blocks.specs.Around.{parent}
+use Rattle.ipnetwork_family.specs.Network.{Network, IsNetwork, Member, low, block_size, block_at, Subnet}
+use Rattle.ipnetwork_family.proofs.Blocks.{size_pos, within_member, member_within, subnet_from, subnet_prefix, shares_address, multiple_begins, block_begins, block_same_set}
+use Rattle.ipnetwork_family.proofs.BlocksAt.{block_at_network, block_at_holds, block_at_subnet, same_block}
+use Rattle.ipnetwork_blocks.specs.Supernets.{parent}
 use Rattle.ipnetwork_blocks.specs.Private.Joining.{AreHalves, IsBlockNetwork, Follows, AreJoined}
 use Rattle.ipnetwork_blocks.specs.LeastList.{IsMaximalIn}
 use Rattle.ipnetwork_blocks.specs.Aggregate.{InUnion, LiesInUnion, SameUnion, IsAggregate}
 use Rattle.ipnetwork_blocks.proofs.AggregateLists.{pairs_contains}
 use Rattle.ipnetwork_blocks.proofs.LeastLists.{least_of_same}
-use Rattle.ipnetwork_blocks.proofs.AggregateBlocks.{around, around_network, around_block, around_holds, around_subnet, around_quotient, same_block, size_half}
+use Rattle.ipnetwork_blocks.proofs.HalfBlocks.{size_half}
 
 -- two blocks of a joined list that share an address are the same
 pub joined_apart : (w : ℕ) (r : List Network) → AreJoined w r → (a b : Network) → Contains r a → Contains r b → (x : ℕ) → Member w a x → Member w b x → a ≡ b
@@ -30,23 +31,23 @@ joined_apart w r h a b ca cb x ma mb =
 -- where the halves of a block lie in two blocks of the list, the whole lies in one of the two: otherwise they would be
 -- these halves
 halves_joined : (w : ℕ) (r : List Network) → AreJoined w r → (x p : ℕ) → p < w → x < 2 ^ w → (a b : Network) → Contains r a → Contains r b
-    → Subnet w (around w (x / block_size w p * block_size w p) (p + 1)) a
-    → Subnet w (around w (x / block_size w p * block_size w p + block_size w (p + 1)) (p + 1)) b
-    → (n : Network) × Contains r n × Subnet w (around w x p) n
+    → Subnet w (block_at w (x / block_size w p * block_size w p) (p + 1)) a
+    → Subnet w (block_at w (x / block_size w p * block_size w p + block_size w (p + 1)) (p + 1)) b
+    → (n : Network) × Contains r n × Subnet w (block_at w x p) n
 halves_joined w r h x p lt l a b ca cb sa sb =
     let s : ℕ = block_size w (p + 1) in
     let q : ℕ = x / block_size w p in
-    let d : Network = around w x p in
-    let dn : IsNetwork w d = around_network w x p l (omega arith) in
-    let begins : d.address ≡ low w d = around_block w x p in
+    let d : Network = block_at w x p in
+    let dn : IsNetwork w d = (block_at_network w x p l (omega arith)).0 in
+    let begins : d.address ≡ low w d = block_begins w (record { address = x; prefix = p }) in
     let half : block_size w p ≡ s + s = size_half w p lt in
     let s_pos : 0 < s = size_pos w (p + 1) in
     let x0 : ℕ = d.address in
     let x1 : ℕ = d.address + s in
     let m0 : Member w d x0 = member_within w d dn x0 (omega arith) (omega arith) in
     let m1 : Member w d x1 = member_within w d dn x1 (omega arith) (omega arith) in
-    let h0 : Member w (around w x0 (p + 1)) x0 = around_holds w x0 (p + 1) m0.0 in
-    let h1 : Member w (around w x1 (p + 1)) x1 = around_holds w x1 (p + 1) m1.0 in
+    let h0 : Member w (block_at w x0 (p + 1)) x0 = block_at_holds w x0 (p + 1) m0.0 in
+    let h1 : Member w (block_at w x1 (p + 1)) x1 = block_at_holds w x1 (p + 1) m1.0 in
     let a0 : Member w a x0 = sa x0 h0 in
     let b1 : Member w b x1 = sb x1 h1 in
     let ba : IsBlockNetwork w a = All-contains (IsBlockNetwork w) r a h.blocks ca in
@@ -57,18 +58,18 @@ halves_joined w r h x p lt l a b ca cb sa sb =
     (λ (na : p + 1 ≤ a.prefix). ⊎_elim
     (λ (wide : b.prefix < p + 1). (b, cb, subnet_from w d b dn (omega arith) (shares_address w d b x1 (omega arith) dn bb.network m1 b1)))
     (λ (nb : p + 1 ≤ b.prefix).
-    let ka = subnet_prefix w (around w x0 (p + 1)) a (around_network w x0 (p + 1) m0.0 (omega arith)) ba.network sa in
-    let kb = subnet_prefix w (around w x1 (p + 1)) b (around_network w x1 (p + 1) m1.0 (omega arith)) bb.network sb in
+    let ka = subnet_prefix w (block_at w x0 (p + 1)) a ((block_at_network w x0 (p + 1) m0.0 (omega arith)).0) ba.network sa in
+    let kb = subnet_prefix w (block_at w x1 (p + 1)) b ((block_at_network w x1 (p + 1) m1.0 (omega arith)).0) bb.network sb in
     let pa : a.prefix ≡ p + 1 = omega arith in
     let pb : b.prefix ≡ p + 1 = omega arith in
-    let ea : a ≡ around w x0 (p + 1) = same_block w a (around w x0 (p + 1)) ba.block (around_block w x0 (p + 1)) pa x0 a0 h0 in
-    let eb : b ≡ around w x1 (p + 1) = same_block w b (around w x1 (p + 1)) bb.block (around_block w x1 (p + 1)) pb x1 b1 h1 in
+    let ea : a ≡ block_at w x0 (p + 1) = same_block w a (block_at w x0 (p + 1)) ba.block (block_begins w (record { address = x0; prefix = p + 1 })) pa x0 a0 h0 in
+    let eb : b ≡ block_at w x1 (p + 1) = same_block w b (block_at w x1 (p + 1)) bb.block (block_begins w (record { address = x1; prefix = p + 1 })) pb x1 b1 h1 in
     let e0 : x0 ≡ q * 2 * s = ap (λ z. q * z) half ∙ (omega arith) in
     let e1 : x1 ≡ (q * 2 + 1) * s = ap (λ z. z + s) e0 ∙ (omega arith) in
     let aa : a.address ≡ x0 = ap (λ n. n.address) ea ∙ ap (λ z. z / s * s) e0 ∙ multiple_begins s (q * 2) s_pos ∙ sym e0 in
     let ab : b.address ≡ x1 = ap (λ n. n.address) eb ∙ ap (λ z. z / s * s) e1 ∙ multiple_begins s (q * 2 + 1) s_pos ∙ sym e1 in
-    let base : Member w (around w x0 p) x1 = (m1.0, m1.1 ∙ sym (around_quotient w x0 p)) in
-    let M : ℕ → ℕ → ℕ → Type 0 = λ u v z. Member w (around w u v) z in
+    let base : Member w (block_at w x0 p) x1 = (block_same_set w (record { address = x0; prefix = p }) x1).1 m1 in
+    let M : ℕ → ℕ → ℕ → Type 0 = λ u v z. Member w (block_at w u v) z in
     let pm : a.prefix - 1 ≡ p = omega arith in
     let held : Member w (parent w a) b.address =
     subst (λ u. M u (a.prefix - 1) b.address) (sym aa) (subst (λ v. M x0 v b.address) (sym pm) (subst (λ z. M x0 p z) (sym ab) base)) in
@@ -86,27 +87,27 @@ halves_joined w r h x p lt l a b ca cb sa sb =
         (pairs_contains (Follows w) r a b h.pairs ca cb)
 
 -- a block that lies in the union lies in one block of the list: an address does, and halves hand it on to the whole
-pub block_in_one : (w : ℕ) (r : List Network) → AreJoined w r → (k x p : ℕ) → p + k ≡ w → x < 2 ^ w → LiesInUnion w (around w x p) r
-    → (n : Network) × Contains r n × Subnet w (around w x p) n
+pub block_in_one : (w : ℕ) (r : List Network) → AreJoined w r → (k x p : ℕ) → p + k ≡ w → x < 2 ^ w → LiesInUnion w (block_at w x p) r
+    → (n : Network) × Contains r n × Subnet w (block_at w x p) n
 block_in_one w r h zero x p e l within =
-    let c = within x (around_holds w x p l) in
+    let c = within x (block_at_holds w x p l) in
     let n : Network = c.0 in
     let b : IsBlockNetwork w n = All-contains (IsBlockNetwork w) r n h.blocks c.1 in
-    (n, c.1, around_subnet w x p n (omega (arith, b.network.prefix_fits)) (omega arith) c.2)
+    (n, c.1, block_at_subnet w x p n (omega (arith, b.network.prefix_fits)) (omega arith) c.2)
 block_in_one w r h (suc k) x p e l within =
     let s : ℕ = block_size w (p + 1) in
     let q : ℕ = x / block_size w p in
-    let d : Network = around w x p in
-    let dn : IsNetwork w d = around_network w x p l (omega arith) in
-    let begins : d.address ≡ low w d = around_block w x p in
+    let d : Network = block_at w x p in
+    let dn : IsNetwork w d = (block_at_network w x p l (omega arith)).0 in
+    let begins : d.address ≡ low w d = block_begins w (record { address = x; prefix = p }) in
     let half : block_size w p ≡ s + s = size_half w p (omega arith) in
     let s_pos : 0 < s = size_pos w (p + 1) in
     let m0 : Member w d d.address = member_within w d dn d.address (omega arith) (omega arith) in
     let m1 : Member w d (d.address + s) = member_within w d dn (d.address + s) (omega arith) (omega arith) in
     let c0 = block_in_one w r h k d.address (p + 1) (omega arith) m0.0
-    (λ y m. within y (around_subnet w d.address (p + 1) d (omega arith) (omega arith) m0 y m)) in
+    (λ y m. within y (block_at_subnet w d.address (p + 1) d (omega arith) (omega arith) m0 y m)) in
     let c1 = block_in_one w r h k (d.address + s) (p + 1) (omega arith) m1.0
-    (λ y m. within y (around_subnet w (d.address + s) (p + 1) d (omega arith) (omega arith) m1 y m)) in
+    (λ y m. within y (block_at_subnet w (d.address + s) (p + 1) d (omega arith) (omega arith) m1 y m)) in
     halves_joined w r h x p (omega arith) l c0.0 c1.0 c0.1 c1.1 c0.2 c1.2
 
 -- the same of any network
@@ -115,8 +116,8 @@ network_in_one w r h c cn within =
     let own : Member w c c.address = (cn.address_fits, refl) in
     let fits = cn.prefix_fits in
     let o = block_in_one w r h (w - c.prefix) c.address c.prefix (omega arith) cn.address_fits
-    (λ y m. within y (around_subnet w c.address c.prefix c (omega arith) fits own y m)) in
-    (o.0, o.1, λ y m. o.2 y (m.0, m.1 ∙ sym (around_quotient w c.address c.prefix)))
+    (λ y m. within y (block_at_subnet w c.address c.prefix c (omega arith) fits own y m)) in
+    (o.0, o.1, λ y m. o.2 y ((block_same_set w c y).1 m))
 
 -- the blocks of a joined list are the maximal ones of its union
 joined_is_maximal : (w : ℕ) (r : List Network) → AreJoined w r → (b : Network) → Contains r b → IsMaximalIn w (InUnion w r) b

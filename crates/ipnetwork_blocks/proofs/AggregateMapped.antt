@@ -7,7 +7,7 @@ use Rattle.std.specs.List.{All}
 use Rattle.std.specs.List.Sorted.{IsSorted}
 use Rattle.std.proofs.lemmas.Cmp.{ranked}
 use Rattle.std.proofs.lemmas.List.{get_or-map, length-map}
-use Rattle.ipnetwork_family.specs.Network.{Network, AtMost, network_cmp}
+use Rattle.ipnetwork_family.specs.Network.{Network, IsNetworkAtMost, network_cmp}
 use Rattle.ipnetwork_blocks.specs.Private.Joining.{AreInOrder}
 
 -- an element that was read, and what it means
@@ -19,7 +19,7 @@ pub read_held : {X : Type 0} (f : X → Network) (xs : List X) (i : ℕ) (x : X)
 read_held f xs i x n l is e = subst (λ (m : Network). m ≡ get_or (map f xs) i m) (sym e) (read_map f xs i x l is)
 
 at_most_from : (a b : Network) (o p : Ordering) → MatchOrdering o (a.address < b.address) (a.address ≡ b.address) (b.address < a.address)
-    → MatchOrdering p (a.prefix < b.prefix) (a.prefix ≡ b.prefix) (b.prefix < a.prefix) → is_lt (ordering_then o p) ≡ false → AtMost b a
+    → MatchOrdering p (a.prefix < b.prefix) (a.prefix ≡ b.prefix) (b.prefix < a.prefix) → is_lt (ordering_then o p) ≡ false → IsNetworkAtMost b a
 at_most_from a b Less p h k e = cc
 at_most_from a b Equal Less h k e = cc
 at_most_from a b Equal Equal h k e = inr (sym h, omega arith)
@@ -37,7 +37,7 @@ in_order_from_sort {X} f Is R (e ∷ es) law all h k d l =
     let x : X = get_or xs k e in
     let y : X = get_or xs (k + 1) e in
     let test : is_lt (network_cmp (f y) (f x)) ≡ false = sym (ap is_lt (law y x (all (k + 1) e m) (all k e (omega arith)))) ∙ h k e (omega arith) m in
-    let order : AtMost (f x) (f y) = at_most_from (f y) (f x) (nat_cmp (f y).address (f x).address) (nat_cmp (f y).prefix (f x).prefix)
+    let order : IsNetworkAtMost (f x) (f y) = at_most_from (f y) (f x) (nat_cmp (f y).address (f x).address) (nat_cmp (f y).prefix (f x).prefix)
     (ranked (f y).address (f x).address (nat_cmp (f y).address (f x).address) refl) (ranked (f y).prefix (f x).prefix (nat_cmp (f y).prefix (f x).prefix) refl) test in
-    subst (λ (n : Network). AtMost n (get_or (map f xs) (k + 1) d)) (sym (get_or-map f xs k e d (omega arith)))
-    (subst (λ (n : Network). AtMost (f x) n) (sym (get_or-map f xs (k + 1) e d m)) order)
+    subst (λ (n : Network). IsNetworkAtMost n (get_or (map f xs) (k + 1) d)) (sym (get_or-map f xs k e d (omega arith)))
+    (subst (λ (n : Network). IsNetworkAtMost (f x) n) (sym (get_or-map f xs (k + 1) e d m)) order)

@@ -4,16 +4,16 @@ use Rattle.std.proofs.lemmas.Bool.{cases_lt}
 use Rattle.std.specs.List.{All, Contains}
 use Rattle.std.proofs.lemmas.List.{get_or_default, get_or-take, length-take, length-take-le, take_all, take_more, take_more_set, take-take, length-set, get_or-set_same, get_or-set_other}
 use Rattle.std.proofs.lemmas.List.Elements.{Contains-get_or}
-use Rattle.ipnetwork_family.specs.Network.{Network, high, Subnet, AtMost}
+use Rattle.ipnetwork_family.specs.Network.{Network, high, Subnet, IsNetworkAtMost}
 use Rattle.ipnetwork_blocks.specs.Aggregate.{SameUnion}
 use Rattle.ipnetwork_blocks.specs.Private.Joining.{IsBlockNetwork, AreJoined, AreInOrder, LiesInLast}
-use Rattle.ipnetwork_blocks.proofs.AggregateBlocks.{past_top}
+use Rattle.ipnetwork_blocks.proofs.HalfBlocks.{past_top}
 use Rattle.ipnetwork_blocks.proofs.AggregateUnions.{union_same, union_trans, union_push, union_skip}
 use Rattle.ipnetwork_blocks.proofs.AggregateFront.{joined_nil, after_all}
 
 -- ---- the order of networks
 
-pub at_most_trans : (a b c : Network) → AtMost a b → AtMost b c → AtMost a c
+pub at_most_trans : (a b c : Network) → IsNetworkAtMost a b → IsNetworkAtMost b c → IsNetworkAtMost a c
 at_most_trans a b c h k =
     ⊎_elim
     (λ (l : a.address < b.address). ⊎_elim
@@ -25,7 +25,7 @@ at_most_trans a b c h k =
     h
 
 -- what is at most a block in order is at most the next one
-next_in_order : (z : List Network) (next : ℕ) (a d : Network) → AreInOrder z → AtMost a (get_or z next d) → next + 1 < length z → AtMost a (get_or z (next + 1) d)
+next_in_order : (z : List Network) (next : ℕ) (a d : Network) → AreInOrder z → IsNetworkAtMost a (get_or z next d) → next + 1 < length z → IsNetworkAtMost a (get_or z (next + 1) d)
 next_in_order z next a d o h l = at_most_trans a (get_or z next d) (get_or z (next + 1) d) h (o next d l)
 
 -- ---- the loop of `join_sorted`
@@ -39,7 +39,7 @@ pub record IsPassing (w : ℕ) (z xs : List Network) (next kept : ℕ) : Type 0 
   pub rest : (k : ℕ) (d : Network) → next ≤ k → get_or xs k d ≡ get_or z k d
   pub joined : AreJoined w (take kept xs)
   pub union : SameUnion w (take kept xs) (take next z)
-  pub order : (d : Network) → 0 < kept → next < length z → AtMost (get_or xs (kept - 1) d) (get_or z next d)
+  pub order : (d : Network) → 0 < kept → next < length z → IsNetworkAtMost (get_or xs (kept - 1) d) (get_or z next d)
 
 pub passing_starts : (w : ℕ) (z : List Network) → IsPassing w z z 0 0
 passing_starts w z = record {
@@ -89,7 +89,7 @@ passing_after w z xs next kept b blocks h l is out =
     let t : Network = get_or xs (kept - 1) b in
     let last : get_or r (kept - 1) b ≡ t = get_or-take kept xs (kept - 1) b (omega arith) in
     let bt : IsBlockNetwork w t = subst (λ (n : Network). IsBlockNetwork w n) last (h.joined.blocks (kept - 1) b (omega arith)) in
-    let order : AtMost t b = subst (λ (n : Network). AtMost t n) here (h.order b some l) in
+    let order : IsNetworkAtMost t b = subst (λ (n : Network). IsNetworkAtMost t n) here (h.order b some l) in
     let ends : high w t < b.address = past_top w t b bt bb order (out some) in
     let at : length r - 1 ≡ kept - 1 = omega arith in
     let top : get_or r (length r - 1) t ≡ t = ap (λ k. get_or r k t) at ∙ get_or_default r (kept - 1) t b (omega arith) ∙ last in
@@ -104,7 +104,7 @@ passing_block w z xs next kept b blocks h l is =
 
 pub passing_places : (w : ℕ) (z xs : List Network) (next kept : ℕ) (b : Network) (left : ℕ) (whole : Network) → AreInOrder z
     → IsPassing w z xs next kept → next < length z → b ≡ get_or xs next b → left ≤ kept
-    → AreJoined w (take left (take kept xs) ++ whole ∷ []) → SameUnion w (take left (take kept xs) ++ whole ∷ []) (take kept xs ++ b ∷ []) → AtMost whole b
+    → AreJoined w (take left (take kept xs) ++ whole ∷ []) → SameUnion w (take left (take kept xs) ++ whole ∷ []) (take kept xs ++ b ∷ []) → IsNetworkAtMost whole b
     → IsPassing w z (set xs left whole) (next + 1) (left + 1)
 passing_places w z xs next kept b left whole o h l is le joined union order =
     let bound = h.bound in
@@ -128,8 +128,8 @@ passing_places w z xs next kept b left whole o h l is le joined union order =
           let at : left ≡ left + 1 - 1 = omega arith in
           let top : whole ≡ get_or (set xs left whole) (left + 1 - 1) d = sym (get_or-set_same xs left whole d fits) ∙ ap (λ j. get_or (set xs left whole) j d) at in
           let read_d : get_or z next d ≡ b = get_or_default z next d b l ∙ here in
-          subst (λ (n : Network). AtMost n (get_or z (next + 1) d)) top
-          (next_in_order z next whole d o (subst (λ (n : Network). AtMost whole n) (sym read_d) order) k);
+          subst (λ (n : Network). IsNetworkAtMost n (get_or z (next + 1) d)) top
+          (next_in_order z next whole d o (subst (λ (n : Network). IsNetworkAtMost whole n) (sym read_d) order) k);
     }
 
 pub passed_all : (w : ℕ) (z xs : List Network) (next kept : ℕ) → IsPassing w z xs next kept → length z ≤ next → SameUnion w (take kept xs) z

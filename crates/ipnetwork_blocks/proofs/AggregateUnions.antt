@@ -6,10 +6,11 @@ use Rattle.std.proofs.lemmas.List.Sorted.{IsPermutation-sym, Contains-permutatio
 use Rattle.std.proofs.lemmas.List.{get_or-map, length-map}
 use Rattle.std.proofs.lemmas.List.Elements.{Contains-append_left, Contains-push, Contains-push_cases, Contains-get_or}
 use Rattle.ipnetwork_family.specs.Network.{Network, Member, high, block_of, Subnet}
+use Rattle.ipnetwork_family.proofs.Blocks.{block_same_set}
 use Rattle.ipnetwork_blocks.specs.Aggregate.{InUnion, SameUnion}
-use Rattle.ipnetwork_blocks.specs.Around.{parent}
+use Rattle.ipnetwork_blocks.specs.Supernets.{parent}
 use Rattle.ipnetwork_blocks.specs.Private.Joining.{AreHalves, IsBlockNetwork}
-use Rattle.ipnetwork_blocks.proofs.AggregateBlocks.{around_quotient, halves_join}
+use Rattle.ipnetwork_blocks.proofs.HalfBlocks.{halves_join}
 
 pub in_union_push : (w : ℕ) (r : List Network) (b : Network) (x : ℕ) → InUnion w (r ++ b ∷ []) x ↔ (InUnion w r x ⊎ Member w b x)
 in_union_push w r b x = (
@@ -71,13 +72,13 @@ union_cleared w ns x = (
       let fits : k < length ns = let l = c.1.1 in omega arith in
       let is : c.0 ≡ block_of w n = sym c.1.2 ∙ get_or-map (block_of w) ns k c.0 c.0 fits in
       let m : Member w (block_of w n) x = subst (λ (t : Network). Member w t x) is c.2 in
-      (n, Contains-get_or ns k c.0 fits, (m.0, m.1 ∙ around_quotient w n.address n.prefix))),
+      (n, Contains-get_or ns k c.0 fits, (block_same_set w n x).0 m)),
   (λ c.
       let k : ℕ = c.1.0 in
       let n : Network = c.0 in
       let size = length-map ns (block_of w) in
       let fits : k < length (map (block_of w) ns) = let l = c.1.1 in omega arith in
-      (block_of w n, (k, fits, get_or-map (block_of w) ns k n (block_of w n) c.1.1 ∙ ap (block_of w) c.1.2), (c.2.0, c.2.1 ∙ sym (around_quotient w n.address n.prefix)))),
+      (block_of w n, (k, fits, get_or-map (block_of w) ns k n (block_of w n) c.1.1 ∙ ap (block_of w) c.1.2), (block_same_set w n x).1 c.2)),
 )
 
 pub union_permutation : (w : ℕ) (xs ys : List Network) → IsPermutation xs ys → SameUnion w ys xs

@@ -2,11 +2,11 @@
 use Rattle.std.proofs.Common.{◌≡◌, ◌↔◌, ℕ, ◌^◌, ◌<◌, ◌≤◌, sym, refl, ap, subst, arith, inl, inr, List, [], ◌∷◌}
 use Rattle.std.proofs.lemmas.List.{append_cancel_right}
 use Rattle.ipnetwork_family.specs.Network.{Network, IsNetwork, count_up}
-use Rattle.ipnetwork_blocks.specs.Around.{IsSibling}
-use Rattle.ipnetwork_blocks.specs.Following.{following_block}
+use Rattle.ipnetwork_blocks.specs.Supernets.{IsSibling}
+use Rattle.ipnetwork_blocks.specs.FollowingBlock.{following_block}
 use Rattle.ipnetwork_blocks.specs.Hosts.{AreIpv4Hosts, AreIpv6Hosts}
 use Rattle.ipnetwork_blocks.specs.Subnets.{subnets_of}
-use Rattle.ipnetwork_blocks.proofs.Halves.{sibling_from}
+use Rattle.ipnetwork_blocks.proofs.WiderBlocks.{sibling_from}
 use Rattle.ipnetwork_blocks.proofs.LeastLists.{own_address}
 
 abbrev net : ℕ → ℕ → Network

@@ -6,8 +6,8 @@ use Rattle.std.proofs.lemmas.Nat.{pow_pos}
 use Rattle.ipnetwork_family.specs.Network.{Network, IsNetwork, Member, Overlap, low, block_size, block_of, Subnet}
 use Rattle.ipnetwork_family.proofs.Blocks.{high_fits, has_ends, within_member, member_within, subnet_from, subnet_prefix, shares_address, block_fits_too, block_begins, block_same_set}
 use Rattle.ipnetwork_blocks.specs.LeastList.{LiesIn, IsLeastList}
-use Rattle.ipnetwork_blocks.specs.Exclusion.{MemberOfFirstAlone}
-use Rattle.ipnetwork_blocks.proofs.BlocksAt.{block_from, Begins, from_network, from_block, in_from, from_in, twice, lower_begins, upper_begins}
+use Rattle.ipnetwork_blocks.specs.Exclusion.{InDifference}
+use Rattle.ipnetwork_blocks.proofs.BlocksFrom.{block_from, Begins, from_network, from_block, in_from, from_in, twice, lower_begins, upper_begins}
 use Rattle.ipnetwork_blocks.proofs.LeastLists.{own_address, least_of_same, least_unique, least_of_none, least_of_one, least_of_two}
 
 -- the addresses of the block with m host bits that begins at base
@@ -149,31 +149,31 @@ rest_list w k hole (suc d) (suc m) base j e h at =
 network_begins : (w : ℕ) (n : Network) → IsNetwork w n → Begins w (w - n.prefix) (low w n)
 network_begins w n h = record { times = n.address / block_size w n.prefix; multiple = refl; bits = omega arith; fits = high_fits w n h }
 
-pub count_inside : (w : ℕ) (n i : Network) (r : List Network) → IsNetwork w n → IsNetwork w i → IsLeastList w (MemberOfFirstAlone w n i) r → Subnet w i n
+pub count_inside : (w : ℕ) (n i : Network) (r : List Network) → IsNetwork w n → IsNetwork w i → IsLeastList w (InDifference w n i) r → Subnet w i n
     → length r ≡ i.prefix - n.prefix
 count_inside w n i r nn ni h sub =
     let shorter = subnet_prefix w i n ni nn sub in
     let fits = ni.prefix_fits in
     let at = within_member w n (low w i) (sub (low w i) (has_ends w i ni).low_is_member) in
     let rest = rest_list w (w - i.prefix) (low w i) (i.prefix - n.prefix) (w - n.prefix) (low w n) (network_begins w i ni) (omega arith) (network_begins w n nn) at in
-    let list : IsLeastList w (MemberOfFirstAlone w n i) rest.0 =
-    least_of_same w (Rest (w - n.prefix) (low w n) (w - i.prefix) (low w i)) (MemberOfFirstAlone w n i) rest.0
+    let list : IsLeastList w (InDifference w n i) rest.0 =
+    least_of_same w (Rest (w - n.prefix) (low w n) (w - i.prefix) (low w i)) (InDifference w n i) rest.0
     (λ x. (
       (λ p. (member_within w n nn x p.0.0 p.0.1, λ m. p.1 (within_member w i x m))),
       (λ p. (within_member w n x p.0, λ q. p.1 (member_within w i ni x q.0 q.1))),
     ))
     rest.1 in
-    ap length (least_unique w (MemberOfFirstAlone w n i) r rest.0 h list) ∙ rest.2
+    ap length (least_unique w (InDifference w n i) r rest.0 h list) ∙ rest.2
 
-pub none_left : (w : ℕ) (n i : Network) (r : List Network) → IsLeastList w (MemberOfFirstAlone w n i) r → Subnet w n i → r ≡ []
+pub none_left : (w : ℕ) (n i : Network) (r : List Network) → IsLeastList w (InDifference w n i) r → Subnet w n i → r ≡ []
 none_left w n i r h sub =
-    least_unique w (MemberOfFirstAlone w n i) r [] h (least_of_none w (MemberOfFirstAlone w n i) (λ x p. p.1 (sub x p.0)))
+    least_unique w (InDifference w n i) r [] h (least_of_none w (InDifference w n i) (λ x p. p.1 (sub x p.0)))
 
-pub all_left : (w : ℕ) (n i : Network) (r : List Network) → IsNetwork w n → IsLeastList w (MemberOfFirstAlone w n i) r → ¬ (Overlap w n i) → r ≡ block_of w n ∷ []
+pub all_left : (w : ℕ) (n i : Network) (r : List Network) → IsNetwork w n → IsLeastList w (InDifference w n i) r → ¬ (Overlap w n i) → r ≡ block_of w n ∷ []
 all_left w n i r nn h apart =
     let b : Network = block_of w n in
-    least_unique w (MemberOfFirstAlone w n i) r (b ∷ []) h
-    (least_of_same w (Member w b) (MemberOfFirstAlone w n i) (b ∷ [])
+    least_unique w (InDifference w n i) r (b ∷ []) h
+    (least_of_same w (Member w b) (InDifference w n i) (b ∷ [])
     (λ x. (
       (λ m. let k = (block_same_set w n x).0 m in (k, λ l. apart (x, k, l))),
       (λ p. (block_same_set w n x).1 p.0),

@@ -5,16 +5,16 @@ use Rattle.ipnetwork_family.specs.Network.{Network, IsNetwork, Member, Overlap, 
 use Rattle.ipnetwork_family.proofs.Blocks.{size_pos, has_ends, within_member, member_within}
 use Rattle.ipnetwork_blocks.specs.LeastList.{IsLeastList}
 use Rattle.ipnetwork_blocks.specs.Ranges.{FromTo}
-use Rattle.ipnetwork_blocks.specs.Exclusion.{MemberOfFirstAlone}
-use Rattle.ipnetwork_blocks.specs.Private.Parts.{Before, Behind}
+use Rattle.ipnetwork_blocks.specs.Exclusion.{InDifference}
+use Rattle.ipnetwork_blocks.specs.Private.Sides.{Before, Behind}
 use Rattle.ipnetwork_blocks.proofs.LeastLists.{least_of_same, least_of_none, least_of_two}
 
 -- networks that share no address
 pub least_apart : (w first last : ℕ) (n i : Network) (r : List Network) → IsNetwork w n → ¬ (Overlap w n i) → first ≡ low w n → last ≡ high w n
-    → IsLeastList w (FromTo first last) r → IsLeastList w (MemberOfFirstAlone w n i) r
+    → IsLeastList w (FromTo first last) r → IsLeastList w (InDifference w n i) r
 least_apart w first last n i r nn apart from to h =
     let pos = size_pos w n.prefix in
-    least_of_same w (FromTo first last) (MemberOfFirstAlone w n i) r
+    least_of_same w (FromTo first last) (InDifference w n i) r
     (λ x. (
       (λ p.
           let a = p.0 in
@@ -27,7 +27,7 @@ least_apart w first last n i r nn apart from to h =
 
 -- networks that share one
 pub least_around : (w first last : ℕ) (n i : Network) (r s : List Network) → IsNetwork w n → IsNetwork w i → Overlap w n i → first ≡ low w n → last ≡ high w n
-    → IsLeastList w (Before w first i) r → IsLeastList w (Behind w i last) s → IsLeastList w (MemberOfFirstAlone w n i) (r ++ s)
+    → IsLeastList w (Before w first i) r → IsLeastList w (Behind w i last) s → IsLeastList w (InDifference w n i) (r ++ s)
 least_around w first last n i r s nn ni o from to h k =
     let shared_n = (has_ends w n nn).within o.0 o.1 in
     let shared_i = (has_ends w i ni).within o.0 o.2 in
@@ -37,7 +37,7 @@ least_around w first last n i r s nn ni o from to h k =
     let d = shared_i.1 in
     let pos_n = size_pos w n.prefix in
     let pos_i = size_pos w i.prefix in
-    let parts : (x : ℕ) → MemberOfFirstAlone w n i x ↔ (Before w first i x ⊎ Behind w i last x) = λ x. (
+    let parts : (x : ℕ) → InDifference w n i x ↔ (Before w first i x ⊎ Behind w i last x) = λ x. (
       (λ p.
           let within = (has_ends w n nn).within x p.0 in
           let e = within.0 in
@@ -60,7 +60,7 @@ least_around w first last n i r s nn ni o from to h k =
           (member_within w n nn x (omega arith) (omega arith), λ m. let j = (has_ends w i ni).within x m in let g = j.1 in omega arith))
           q),
     ) in
-    least_of_two w (MemberOfFirstAlone w n i) (Before w first i) (Behind w i last) r s parts
+    least_of_two w (InDifference w n i) (Before w first i) (Behind w i last) r s parts
     (λ x y p q. let e = p.1 in let f = q.0 in omega arith)
     (λ c cn lies.
     let ends = has_ends w c cn in

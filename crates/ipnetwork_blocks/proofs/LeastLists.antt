@@ -4,10 +4,10 @@ use Rattle.std.proofs.lemmas.Bool.{cases_lt}
 use Rattle.std.specs.List.{AllPairs, Contains}
 use Rattle.std.proofs.lemmas.List.Elements.{Contains-get_or, Contains-append_left, Contains-append_right, Contains-append_cases}
 use Rattle.std.proofs.lemmas.List.Kept.{AllPairs-cons}
-use Rattle.ipnetwork_family.specs.Network.{Network, IsNetwork, IsBlock, Member, Subnet}
+use Rattle.ipnetwork_family.specs.Network.{Network, IsNetwork, HostBitsAreZero, Member, Subnet}
 use Rattle.ipnetwork_family.proofs.Blocks.{subnet_prefix, nested}
+use Rattle.ipnetwork_family.proofs.BlocksAt.{same_block}
 use Rattle.ipnetwork_blocks.specs.LeastList.{LiesIn, IsMaximalIn, IsLeastList}
-use Rattle.ipnetwork_blocks.proofs.BlocksAt.{same_block}
 
 -- ---- lists
 
@@ -130,7 +130,7 @@ least_of_none w S none = record {
 }
 
 -- the addresses of a block
-pub least_of_one : (w : ℕ) (b : Network) → IsNetwork w b → IsBlock w b → IsLeastList w (Member w b) (b ∷ [])
+pub least_of_one : (w : ℕ) (b : Network) → IsNetwork w b → HostBitsAreZero w b → IsLeastList w (Member w b) (b ∷ [])
 least_of_one w b h k =
     let own : IsMaximalIn w (Member w b) b = record {
       network = h;

@@ -5,14 +5,14 @@ use Rattle.std.proofs.lemmas.List.{get_or_default}
 use Rattle.std.proofs.lemmas.List.Edits.{length-remove, get_or-remove_below, get_or-remove_above}
 use Rattle.std.proofs.lemmas.List.Elements.{All-contains, Contains-get_or}
 use Rattle.std.specs.List.{All, AllPairs, Contains, remove}
-use Rattle.ipnetwork_family.specs.Network.{Network, IsNetwork, Member, low, high, block_size, block_of, Subnet}
+use Rattle.ipnetwork_family.specs.Network.{Network, IsNetwork, Member, low, high, block_size, block_of, block_at, Subnet}
 use Rattle.ipnetwork_family.proofs.Blocks.{size_pos, has_ends, within_member, member_within, subnet_from, shares_address, nested, block_fits_too, block_begins, block_same_set}
+use Rattle.ipnetwork_family.proofs.BlocksAt.{block_at_network, block_at_holds, block_at_subnet}
 use Rattle.ipnetwork_blocks.specs.LeastList.{LiesIn, IsMaximalIn, IsLeastList}
 use Rattle.ipnetwork_blocks.specs.Aggregate.{InUnion}
 use Rattle.ipnetwork_blocks.specs.LeastListLaws.{IsShortest, RangeIsShortest, ExclusionIsShortest, NetworkIsOneBlock}
 use Rattle.ipnetwork_blocks.specs.Ranges.{FromTo}
-use Rattle.ipnetwork_blocks.specs.Exclusion.{MemberOfFirstAlone}
-use Rattle.ipnetwork_blocks.proofs.BlocksAt.{block_at, block_at_network, block_at_block, block_at_holds, block_at_subnet}
+use Rattle.ipnetwork_blocks.specs.Exclusion.{InDifference}
 use Rattle.ipnetwork_blocks.proofs.LeastLists.{contains_head, contains_tail, pairs_tail, pairs_head, own_address, maximal_apart, least_of_same, least_of_one, least_unique}
 
 -- ---- each address of the set lies in a maximal block, where it can be told what is in the set
@@ -47,8 +47,8 @@ widest_from : (w : ℕ) (S : ℕ → Type 0) → ((x : ℕ) → S x ⊎ ¬ (S x)
 widest_from w S tells x zero h l lies = (
   block_at w x 0,
   record {
-    network = block_at_network w x 0 l h;
-    block = block_at_block w x 0;
+    network = (block_at_network w x 0 l h).0;
+    block = block_begins w (record { address = x; prefix = 0 });
     lies = lies;
     maximal = λ c cn lt sub more. absurd (omega arith);
   },
@@ -61,14 +61,14 @@ widest_from w S tells x (suc p) h l lies =
     (λ (fails : ¬ (LiesIn w S (block_at w x p))). (
       block_at w x (suc p),
       record {
-        network = block_at_network w x (suc p) l h;
-        block = block_at_block w x (suc p);
+        network = (block_at_network w x (suc p) l h).0;
+        block = block_begins w (record { address = x; prefix = suc p });
         lies = lies;
         maximal = λ c cn lt sub more. fails (λ y m. more y (block_at_subnet w x p c (omega arith) fits (sub x (block_at_holds w x (suc p) l)) y m));
       },
       block_at_holds w x (suc p) l,
     ))
-    (lies_or_not w S tells (block_at w x p) (block_at_network w x p l fits))
+    (lies_or_not w S tells (block_at w x p) ((block_at_network w x p l fits).0))
 
 pub in_a_maximal : (w : ℕ) (S : ℕ → Type 0) → ((x : ℕ) → S x ⊎ ¬ (S x)) → (x : ℕ) → x < 2 ^ w → S x → (b : Network) × IsMaximalIn w S b × Member w b x
 in_a_maximal w S tells x l s =
@@ -224,7 +224,7 @@ member_or_not w n x =
 
 pub exclusion_is_shortest : ExclusionIsShortest
 exclusion_is_shortest w n i r h =
-    is_shortest w (MemberOfFirstAlone w n i) r
+    is_shortest w (InDifference w n i) r
     (λ x. ⊎_elim
     (λ (m : Member w n x). ⊎_elim
     (λ (k : Member w i x). inr (λ p. p.1 k))

@@ -5,7 +5,7 @@ use Rattle.std.proofs.lemmas.List.{length-append}
 use Rattle.std.proofs.lemmas.Nat.{pow_pos}
 use Rattle.ipnetwork_family.specs.Network.{Network}
 use Rattle.ipnetwork_blocks.specs.Private.RangeList.{has_all, blocks_within, blocks_from_to}
-use Rattle.ipnetwork_blocks.proofs.BlocksAt.{block_from, Begins, twice, lower_begins, upper_begins}
+use Rattle.ipnetwork_blocks.proofs.BlocksFrom.{block_from, Begins, twice, lower_begins, upper_begins}
 use Rattle.ipnetwork_blocks.proofs.LeastLists.{least_unique, least_of_none}
 use Rattle.ipnetwork_blocks.proofs.RangeLists.{Part, whole_part, least_within}
 

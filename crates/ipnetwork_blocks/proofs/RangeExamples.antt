@@ -3,7 +3,7 @@ use Rattle.std.proofs.Common.{ℕ, refl, arith, [], ◌∷◌}
 use Rattle.ipnetwork_family.specs.Network.{Network, IsNetwork}
 use Rattle.ipnetwork_blocks.specs.LeastList.{IsLeastList}
 use Rattle.ipnetwork_blocks.specs.Ranges.{FromTo}
-use Rattle.ipnetwork_blocks.specs.Exclusion.{MemberOfFirstAlone}
+use Rattle.ipnetwork_blocks.specs.Exclusion.{InDifference}
 use Rattle.ipnetwork_blocks.specs.Private.RangeList.{blocks_within}
 use Rattle.ipnetwork_blocks.proofs.ExcludedParts.{least_around, least_before, least_behind}
 use Rattle.ipnetwork_blocks.proofs.LeastLists.{own_address, least_unique}
@@ -35,7 +35,7 @@ pub not_two_halves : IsLeastList 3 (FromTo 0 7) (net 0 1 ∷ net 4 1 ∷ []) →
 not_two_halves h = let e = least_unique 3 (FromTo 0 7) (net 0 0 ∷ []) (net 0 1 ∷ net 4 1 ∷ []) all_addresses h in cc
 
 -- host bits of either network change nothing
-pub all_but_one : IsLeastList 3 (MemberOfFirstAlone 3 (net 2 0) (net 5 3)) (net 0 1 ∷ net 4 3 ∷ net 6 2 ∷ [])
+pub all_but_one : IsLeastList 3 (InDifference 3 (net 2 0) (net 5 3)) (net 0 1 ∷ net 4 3 ∷ net 6 2 ∷ [])
 unfolding blocks_within
 all_but_one =
     let n : IsNetwork 3 (net 2 0) = record { address_fits = omega arith; prefix_fits = omega arith } in

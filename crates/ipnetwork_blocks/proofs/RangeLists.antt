@@ -3,12 +3,13 @@ use Rattle.std.proofs.Common.{◌≡◌, ◌↔◌, ℕ, zero, suc, ◌+◌, ◌
 use Rattle.std.proofs.lemmas.Bool.{cases_lt, leb-true, le-leb, and_parts}
 use Rattle.std.proofs.lemmas.Nat.{pow_pos}
 use Rattle.std.specs.Iterator.{MakesProgress, item_count}
-use Rattle.ipnetwork_family.specs.Network.{Network, IsNetwork, Member, low, high, Subnet}
-use Rattle.ipnetwork_family.proofs.Blocks.{size_pos, has_ends, within_member, member_within, subnet_from, shares_address, nested}
+use Rattle.ipnetwork_family.specs.Network.{Network, IsNetwork, Member, low, high, block_at, Subnet}
+use Rattle.ipnetwork_family.proofs.Blocks.{size_pos, has_ends, within_member, member_within, subnet_from, shares_address, nested, block_begins}
+use Rattle.ipnetwork_family.proofs.BlocksAt.{block_at_network, block_at_holds, block_at_subnet}
 use Rattle.ipnetwork_blocks.specs.LeastList.{LiesIn, IsMaximalIn, IsLeastList}
 use Rattle.ipnetwork_blocks.specs.Ranges.{FromTo}
 use Rattle.ipnetwork_blocks.specs.Private.RangeList.{blocks_within, blocks_from_to}
-use Rattle.ipnetwork_blocks.proofs.BlocksAt.{block_at, block_at_network, block_at_block, block_at_holds, block_at_subnet, block_from, Begins, from_network, from_block, in_from, from_in, twice, lower_begins, upper_begins}
+use Rattle.ipnetwork_blocks.proofs.BlocksFrom.{block_from, Begins, from_network, from_block, in_from, from_in, twice, lower_begins, upper_begins}
 use Rattle.ipnetwork_blocks.proofs.LeastLists.{own_address, least_of_same, least_unique, least_of_none, least_of_one, least_of_two}
 
 -- ---- the list by halves
@@ -213,14 +214,14 @@ widest_is_maximal : (w first last p : ℕ) → first < 2 ^ w → p ≤ w → fir
     → IsMaximalIn w (FromTo first last) (block_at w first p)
 widest_is_maximal w first last p fits h from to wider =
     let n : Network = block_at w first p in
-    let nn : IsNetwork w n = block_at_network w first p fits h in
+    let nn : IsNetwork w n = (block_at_network w first p fits h).0 in
     record {
       network = nn;
-      block = block_at_block w first p;
+      block = block_begins w (record { address = first; prefix = p });
       lies = λ x m. let i = (has_ends w n nn).within x m in let a = i.0 in let b = i.1 in (omega arith, omega arith);
       maximal = λ c cn lt sub lies.
           let d : Network = block_at w first (p - 1) in
-          let dn : IsNetwork w d = block_at_network w first (p - 1) fits (omega arith) in
+          let dn : IsNetwork w d = (block_at_network w first (p - 1) fits (omega arith)).0 in
           let inside : Subnet w d c = block_at_subnet w first (p - 1) c (omega arith) (omega arith) (sub first (block_at_holds w first p fits)) in
           let ends = has_ends w d dn in
           let a = lies (low w d) (inside (low w d) ends.low_is_member) in

@@ -3,13 +3,13 @@ use Rattle.std.proofs.Common.{◌≡◌, ◌≢◌, Option, None, Some, MatchOpt
 use Rattle.std.proofs.lemmas.Nat.{pow_pos, mul-le}
 use Rattle.std.proofs.lemmas.Bool.{cases_lt}
 use Rattle.std.specs.Iterator.{MakesProgress, item_count}
-use Rattle.ipnetwork_family.specs.Network.{Network, IsNetwork, IsBlock, low, high, block_size, block_of, count_up}
+use Rattle.ipnetwork_family.specs.Network.{Network, IsNetwork, HostBitsAreZero, low, high, block_size, block_of, count_up}
 use Rattle.ipnetwork_family.proofs.Blocks.{div_within, size_pos, size_divides, has_ends, block_fits_too, block_begins}
 use Rattle.ipnetwork_family.proofs.Members.{count_up-one, count_up-next}
-use Rattle.ipnetwork_blocks.specs.Following.{following_block}
+use Rattle.ipnetwork_blocks.specs.FollowingBlock.{following_block}
 use Rattle.ipnetwork_blocks.specs.Private.Runs.{blocks_left, IsRun, AreEnds}
 use Rattle.ipnetwork_blocks.specs.Subnets.{block_number, subnets_of}
-use Rattle.ipnetwork_blocks.proofs.Climbing.{high_after}
+use Rattle.ipnetwork_blocks.proofs.FollowingBlock.{high_after}
 
 -- of two multiples, the greater is of the greater number
 pub multiple_order : (i j s : ℕ) → 0 < s → i * s ≤ j * s → i ≤ j
@@ -39,7 +39,7 @@ run_numbers w f l run =
       last_is = refl;
     }
 
-pub block_numbered : (w : ℕ) (f : Network) → IsBlock w f → block_number w f.prefix (f.address / block_size w f.prefix) ≡ f
+pub block_numbered : (w : ℕ) (f : Network) → HostBitsAreZero w f → block_number w f.prefix (f.address / block_size w f.prefix) ≡ f
 block_numbered w f begins =
     let at : ℕ → Network = λ address. record { address = address; prefix = f.prefix } in
     ap at (sym begins)
@@ -66,7 +66,7 @@ run_before w f l run differ =
     let after : high w f + 1 ≡ i * s + s = high_after w f in
     omega (arith, m, after, at.last)
 
-pub run_goes_on : (w : ℕ) (f l g : Network) → IsRun w f l → f.address ≢ l.address → g ≡ following_block w f → IsBlock w g
+pub run_goes_on : (w : ℕ) (f l g : Network) → IsRun w f l → f.address ≢ l.address → g ≡ following_block w f → HostBitsAreZero w g
     → IsRun w g l × (blocks_left w (Some f) l ≡ f ∷ blocks_left w (Some g) l)
 run_goes_on w f l g run differ is begins =
     let s : ℕ = block_size w f.prefix in
@@ -82,7 +82,7 @@ run_goes_on w f l g run differ is begins =
     let same : i ≡ j = omega (arith, at.ordered, ge) in
     absurd (differ (at.first ∙ ap (λ k. k * s) same ∙ sym at.last))) (cases_lt i j) in
     let Goes : Network → Type 0 = λ g. IsRun w g l × (blocks_left w (Some f) l ≡ f ∷ blocks_left w (Some g) l) in
-    let begins_next : IsBlock w (following_block w f) = subst (λ b. IsBlock w b) is begins in
+    let begins_next : HostBitsAreZero w (following_block w f) = subst (λ b. HostBitsAreZero w b) is begins in
     let next : (high w f + 1) / s ≡ i + 1 = div_within (i + 1) s (high w f + 1) (omega (arith, after)) (omega (arith, after, s_pos)) in
     let from : ℕ → List Network = λ k. map number (count_up k (j + 1 - k)) in
     subst Goes (sym is) (
@@ -102,10 +102,10 @@ module _ (w : ℕ) {X : Type 0} (pair : X → Network) where
       subst S (sym none) (record { ends = tt; list = run_ends w f l run (ap (λ n. n.address) same) })
 
   pub step_before_last : (f l : Network) (left answer : Option X) → IsRun w f l → f.address ≢ l.address → left ≡ answer
-      → MatchOption answer (high w f + 1 ≡ 2 ^ w) (λ m. (high w f + 1 < 2 ^ w) × (pair m ≡ following_block w f) × IsBlock w (pair m)) → Steps f l left
+      → MatchOption answer (high w f + 1 ≡ 2 ^ w) (λ m. (high w f + 1 < 2 ^ w) × (pair m ≡ following_block w f) × HostBitsAreZero w (pair m)) → Steps f l left
   step_before_last f l left answer run differ is h = subst (λ (o : Option X). Steps f l o) (sym is) (go answer h)
     where
-      go : (answer : Option X) → MatchOption answer (high w f + 1 ≡ 2 ^ w) (λ m. (high w f + 1 < 2 ^ w) × (pair m ≡ following_block w f) × IsBlock w (pair m))
+      go : (answer : Option X) → MatchOption answer (high w f + 1 ≡ 2 ^ w) (λ m. (high w f + 1 < 2 ^ w) × (pair m ≡ following_block w f) × HostBitsAreZero w (pair m))
           → Steps f l answer
       go None h = absurd (omega (arith, h, run_before w f l run differ, run.network.address_fits))
       go (Some m) h = let goes = run_goes_on w f l (pair m) run differ h.1 h.2 in record { ends = goes.0; list = goes.1 }

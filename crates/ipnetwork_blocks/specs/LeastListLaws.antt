@@ -5,7 +5,7 @@ use Rattle.ipnetwork_family.specs.Network.{Network, IsNetwork, low, high, block_
 use Rattle.ipnetwork_blocks.specs.Aggregate.{InUnion}
 use Rattle.ipnetwork_blocks.specs.LeastList.{IsLeastList}
 use Rattle.ipnetwork_blocks.specs.Ranges.{FromTo}
-use Rattle.ipnetwork_blocks.specs.Exclusion.{MemberOfFirstAlone}
+use Rattle.ipnetwork_blocks.specs.Exclusion.{InDifference}
 
 -- the blocks have the addresses of the set and no others, each ends before the next begins, no networks that have
 -- the same addresses are fewer, and no other list of blocks is the least of the set
@@ -21,8 +21,8 @@ RangeIsShortest = (w first last : ℕ) (blocks : List Network) → last < 2 ^ w 
 
 -- and with that of an exclusion
 abbrev pub ExclusionIsShortest : Type 0
-ExclusionIsShortest = (w : ℕ) (network inner : Network) (blocks : List Network) → IsLeastList w (MemberOfFirstAlone w network inner) blocks
-    → IsShortest w (MemberOfFirstAlone w network inner) blocks
+ExclusionIsShortest = (w : ℕ) (network inner : Network) (blocks : List Network) → IsLeastList w (InDifference w network inner) blocks
+    → IsShortest w (InDifference w network inner) blocks
 
 -- the addresses of a network, as a range, are one block
 abbrev pub NetworkIsOneBlock : Type 0

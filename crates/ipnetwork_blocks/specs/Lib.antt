@@ -1,10 +1,9 @@
 pub mod Aggregate
-pub mod AggregateEither
-pub mod AggregateEitherLaws
+pub mod AggregateIp
+pub mod AggregateIpLaws
 pub mod AggregateLaws
-pub mod Around
 pub mod Exclusion
-pub mod Following
+pub mod FollowingBlock
 pub mod Hosts
 pub mod LeastList
 pub mod LeastListLaws
@@ -12,3 +11,4 @@ pub mod Private
 pub mod Ranges
 pub mod SubnetLaws
 pub mod Subnets
+pub mod Supernets

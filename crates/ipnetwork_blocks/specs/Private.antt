@@ -1,6 +1,6 @@
 -- What the private functions promise each other, and how contracts see private fields.
 pub mod Held
 pub mod Joining
-pub mod Parts
 pub mod RangeList
 pub mod Runs
+pub mod Sides

@@ -1,22 +1,15 @@
 -- The laws of the blocks within a network and around it, for addresses of any number of bits.
 use Rattle.std.specs.Prelude.{◌≡◌, ℕ, ◌+◌, ◌-◌, ◌*◌, ◌^◌, ◌<◌, ◌≤◌, ◌↔◌, length, slice_get, Some}
 use Rattle.std.specs.List.{AllPairs, Contains}
-use Rattle.ipnetwork_family.specs.Network.{Network, IsNetwork, IsBlock, Member, Subnet, block_of, block_size, low, high}
-use Rattle.ipnetwork_blocks.specs.Around.{IsAround, IsSibling}
+use Rattle.ipnetwork_family.specs.Network.{Network, IsNetwork, IsCidrBlock, Member, Subnet, block_of, block_size, low, high}
+use Rattle.ipnetwork_blocks.specs.Supernets.{IsAround, IsSibling}
 use Rattle.ipnetwork_blocks.specs.Subnets.{subnets_of}
-
--- b is a block of prefix length p, each of whose addresses is one of the network
-pub record IsPart (w : ℕ) (n : Network) (p : ℕ) (b : Network) : Type 0 where
-  pub network : IsNetwork w b
-  pub length : b.prefix ≡ p
-  pub no_host_bits : IsBlock w b
-  pub within : Subnet w b n
 
 -- the list has the blocks of prefix length p within the network and no others, each ends before the next begins, and
 -- together they have its addresses; there are 2 ^ (p - n.prefix), and each begins one block's size behind the one
 -- before
 pub record ListsSubnets (w : ℕ) (n : Network) (p : ℕ) : Type 0 where
-  pub exactly : (b : Network) → Contains (subnets_of w n p) b ↔ IsPart w n p b
+  pub exactly : (b : Network) → Contains (subnets_of w n p) b ↔ (IsCidrBlock w b × (b.prefix ≡ p) × Subnet w b n)
   pub apart : AllPairs (λ a b. high w a < b.address) (subnets_of w n p)
   pub together : (x : ℕ) → Member w n x ↔ ((b : Network) × Contains (subnets_of w n p) b × Member w b x)
   pub count : length (subnets_of w n p) ≡ 2 ^ (p - n.prefix)

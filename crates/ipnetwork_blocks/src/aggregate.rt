@@ -1,18 +1,18 @@
 //! The least list of blocks with the union of given networks.
 ghost use Rattle.std.specs.Prelude.{◌≡◌, ◌<◌, ◌≤◌, ◌↔◌, IsTrue, MatchOption, length, take, ◌++◌, ◌∷◌, [], map};
 ghost use Rattle.std.specs.List.{All};
-ghost use Rattle.ipnetwork_family.specs.Network.{AtMost, block_of, high};
+ghost use Rattle.ipnetwork_family.specs.Network.{IsNetworkAtMost, block_of, high};
 ghost use Rattle.ipnetwork_blocks.specs.Aggregate.{SameUnion, IsAggregate};
-ghost use Rattle.ipnetwork_blocks.specs.Around.{parent};
+ghost use Rattle.ipnetwork_blocks.specs.Supernets.{parent};
 ghost use Rattle.ipnetwork_blocks.specs.Private.Joining.{IsBlockNetwork, AreJoined, AreHalves, AreInOrder, LiesInLast};
 
-use crate::around::block;
-use crate::holds::Holds;
+use crate::held_network::Holds;
+use crate::supernets::block;
 use ipnetwork_family::CidrNetwork;
 
 /// Puts the aggregate of the networks, host bits or not, in front, and answers how many blocks it has: the
 /// blocks of the networks' union that lie in no greater block of it, in ascending order. No list of networks with the
-/// same union is shorter (`aggregate_laws`). The rest of the slice holds unspecified networks.
+/// same union is shorter (`laws::least`). The rest of the slice holds unspecified networks.
 ///
 /// Sorts the slice and goes over it once. Does not allocate.
 pub fn aggregate_in_place<N: CidrNetwork>(networks: &mut [N]) -> usize
@@ -99,7 +99,7 @@ fn join_back<N: CidrNetwork, H: Holds<N>>(front: &[H], block: N) -> (usize, N)
     ensures left { result.0 ≤ length front.now }
     ensures joined { AreJoined N.WIDTH (take result.0 (map H.held front.now) ++ N.pair result.1 ∷ []) }
     ensures union { SameUnion N.WIDTH (take result.0 (map H.held front.now) ++ N.pair result.1 ∷ []) (map H.held front.now ++ N.pair block ∷ []) }
-    ensures order { AtMost (N.pair result.1) (N.pair block) }
+    ensures order { IsNetworkAtMost (N.pair result.1) (N.pair block) }
 {
     let mut left = front.len();
     let mut joined = block;

@@ -3,12 +3,12 @@ ghost use Rattle.std.specs.Prelude.{◌≡◌, ◌-◌, [], ◌∷◌, length};
 ghost use Rattle.std.specs.Iterator.{YieldsFirstBy, item_count};
 ghost use Rattle.ipnetwork_family.specs.Network.{Subnet, Overlap, block_of};
 ghost use Rattle.ipnetwork_blocks.specs.LeastList.{IsLeastList};
-ghost use Rattle.ipnetwork_blocks.specs.Exclusion.{MemberOfFirstAlone};
-ghost use Rattle.ipnetwork_blocks.specs.Private.Parts.{Before, Behind};
+ghost use Rattle.ipnetwork_blocks.specs.Exclusion.{InDifference};
+ghost use Rattle.ipnetwork_blocks.specs.Private.Sides.{Before, Behind};
 
-use crate::before::address_before;
-use crate::climb::following;
-use crate::range::RangeBlocks;
+use crate::following_block::following;
+use crate::preceding_address::address_before;
+use crate::range_blocks::RangeBlocks;
 use ipnetwork_family::CidrNetwork;
 use std::alloc::AllocError;
 use std::marker::Model;
@@ -38,7 +38,7 @@ impl<N: CidrNetwork> Model for Exclusion<N> {
 /// the block of `network`. Else `inner` lies within the network, and there is one block for each bit by which its
 /// prefix length is greater. Does not allocate, nor does the iterator.
 pub fn exclude<N: CidrNetwork>(network: N, inner: N) -> Exclusion<N>
-    ensures blocks { IsLeastList N.WIDTH (MemberOfFirstAlone N.WIDTH (N.pair network) (N.pair inner)) result }
+    ensures blocks { IsLeastList N.WIDTH (InDifference N.WIDTH (N.pair network) (N.pair inner)) result }
     ensures none { Subnet N.WIDTH (N.pair network) (N.pair inner) → result ≡ [] }
     ensures all { ¬ (Overlap N.WIDTH (N.pair network) (N.pair inner))
         → result ≡ block_of N.WIDTH (N.pair network) ∷ [] }

@@ -5,26 +5,24 @@
 #![tactic(auto)]
 
 mod aggregate;
-mod aggregate_either;
-pub mod aggregate_laws;
-mod around;
-mod before;
-mod climb;
+mod aggregate_ip;
 mod exclusions;
-mod holds;
-mod host_addresses;
-mod parts;
-mod range;
-pub mod range_laws;
-pub mod subnet_laws;
+mod following_block;
+mod held_network;
+mod hosts;
+pub mod laws;
+mod preceding_address;
+mod range_blocks;
+mod subnet_iterator;
+mod supernets;
 #[cfg(test)]
 mod tests;
 
 pub use aggregate::{aggregate_in_place, aggregate_vec};
-pub use aggregate_either::{aggregate_ip_in_place, aggregate_ip_vec};
-pub use around::{block, sibling, supernet};
-pub use climb::following;
+pub use aggregate_ip::{aggregate_ip_in_place, aggregate_ip_vec};
 pub use exclusions::{Exclusion, exclude};
-pub use host_addresses::{Ipv4HostIterator, ipv4_hosts, ipv6_hosts};
-pub use parts::{SubnetIterator, subnets};
-pub use range::{RangeBlocks, range_to_blocks};
+pub use following_block::following;
+pub use hosts::{Ipv4HostIterator, ipv4_hosts, ipv6_hosts};
+pub use range_blocks::{RangeBlocks, range_to_blocks};
+pub use subnet_iterator::{SubnetIterator, subnets};
+pub use supernets::{block, sibling, supernet};

@@ -2,10 +2,10 @@
 ghost use Rattle.std.specs.Iterator.{IsFinite};
 
 mod aggregate;
-mod aggregate_marks;
-mod edges;
 mod exclusions;
 mod host_rows;
+mod iterators;
+mod random_lists;
 mod ranges;
 mod subnet_rows;
 

@@ -1,5 +1,5 @@
 pub mod Buffers
 pub mod Examples
 pub mod Octets
-pub mod Told
+pub mod Families
 pub mod Truths

@@ -1,57 +1,47 @@
 -- What a call of C answers, a number of `Numbers`, and what it leaves where the caller has it write: the answer, or
 -- what stood there before.
-use Rattle.std.specs.Prelude.{Bool, true, false, ◌≡◌, ◌↔◌, ℕ, ◌+◌, ◌<◌, ◌≤◌, List, ◌∷◌, ◌++◌, drop, length, Result, Ok, Err}
+use Rattle.std.specs.Prelude.{◌≡◌, ◌↔◌, ℕ, ◌+◌, ◌<◌, ◌≤◌, List, ◌∷◌, ◌++◌, drop, length, Result, Ok, Err}
 use Rattle.ipnetwork_family.specs.Network.{Network, IsNoMask, mask_of, size_of, low}
 use Rattle.ipnetwork_family.specs.declared.error.CidrFault.{CidrFault}
 use Rattle.ipnetwork_c.specs.Numbers.{ok, prefix, short_buffer, no_mask, no_member, fault_number}
 use Rattle.ipnetwork_c.specs.Held.{PrefixFits}
 
 -- a reading is told: the struct holds the network, or the number is that of the cause
-abbrev pub Told : {N C : Type 0} → (C → N → Type 0) → C → C → ℕ → Result N CidrFault → Type 0
-Told Holds before after code (Ok n) = (code ≡ ok) × Holds after n
-Told Holds before after code (Err fault) = (code ≡ fault_number fault) × (after ≡ before)
+abbrev pub WritesReading : {N C : Type 0} → (C → N → Type 0) → C → C → ℕ → Result N CidrFault → Type 0
+WritesReading Holds before after code (Ok n) = (code ≡ ok) × Holds after n
+WritesReading Holds before after code (Err fault) = (code ≡ fault_number fault) × (after ≡ before)
 
 -- what reading the text answers is told
 abbrev pub ReadsInto : {N C : Type 0} → (List ℕ → Result N CidrFault → Type 0) → (C → N → Type 0) → List ℕ → C → C → ℕ → Type 0
 ReadsInto {N} Reads Holds text before after code =
-    (read : Result N CidrFault) × Reads text read × Told Holds before after code read
+    (read : Result N CidrFault) × Reads text read × WritesReading Holds before after code read
 
 -- what is asked of networks whose prefix lengths fit is answered; where they do not fit, the number is `prefix`
-pub data Asked {A : Type 0} (AllFit : Type 0) (Answers : A → Type 0) (before after : A) (code : ℕ) : Type 0 where
-  Answered : AllFit → code ≡ ok → Answers after → Asked AllFit Answers before after code
-  Refused : ¬ AllFit → code ≡ prefix → after ≡ before → Asked AllFit Answers before after code
+pub data QueryResult {A : Type 0} (AllFit : Type 0) (Answers : A → Type 0) (before after : A) (code : ℕ) : Type 0 where
+  Answered : AllFit → code ≡ ok → Answers after → QueryResult AllFit Answers before after code
+  Refused : ¬ AllFit → code ≡ prefix → after ≡ before → QueryResult AllFit Answers before after code
 
 -- a byte that is 1 where it holds, and 0 where it does not
-abbrev pub Says : Type 0 → ℕ → Type 0
-Says Holds byte = (byte ≤ 1) × ((byte ≡ 1) ↔ Holds)
+abbrev pub IsFlag : Type 0 → ℕ → Type 0
+IsFlag Holds byte = (byte ≤ 1) × ((byte ≡ 1) ↔ Holds)
 
 -- the text stands at the front of the buffer with a zero byte behind it, and nothing else of the buffer has changed
 abbrev pub StandsIn : List ℕ → List ℕ → List ℕ → Type 0
 StandsIn text before after = after ≡ text ++ 0 ∷ drop (length text + 1) before
 
--- whether a text is put into a buffer: exactly if there is room for it and the zero byte
-abbrev pub PutsText : List ℕ → List ℕ → List ℕ → Bool → Type 0
-PutsText text before after true = (length text < length before) × StandsIn text before after
-PutsText text before after false = (length before ≤ length text) × (after ≡ before)
-
--- the same as a number
-pub data TellsText (text before after : List ℕ) (code : ℕ) : Type 0 where
-  Room : length text < length before → code ≡ ok → StandsIn text before after → TellsText text before after code
-  NoRoom : length before ≤ length text → code ≡ short_buffer → after ≡ before → TellsText text before after code
-
 -- the text of a network is put into a buffer, and its length is told, even where the buffer is too short
-pub data Puts (w : ℕ) (n : Network) (text before after : List ℕ) (told_before told code : ℕ) : Type 0 where
-  Put : PrefixFits w n → length text < length before → code ≡ ok → told ≡ length text → StandsIn text before after → Puts w n text before after told_before told code
-  TooShort : PrefixFits w n → length before ≤ length text → code ≡ short_buffer → told ≡ length text → after ≡ before → Puts w n text before after told_before told code
-  NoNetwork : ¬ (PrefixFits w n) → code ≡ prefix → told ≡ told_before → after ≡ before → Puts w n text before after told_before told code
+pub data WritesText (w : ℕ) (n : Network) (text before after : List ℕ) (told_before told code : ℕ) : Type 0 where
+  Put : PrefixFits w n → length text < length before → code ≡ ok → told ≡ length text → StandsIn text before after → WritesText w n text before after told_before told code
+  TooShort : PrefixFits w n → length before ≤ length text → code ≡ short_buffer → told ≡ length text → after ≡ before → WritesText w n text before after told_before told code
+  NoNetwork : ¬ (PrefixFits w n) → code ≡ prefix → told ≡ told_before → after ≡ before → WritesText w n text before after told_before told code
 
 -- the prefix length of a mask is told, or the number is `no_mask`
-pub data TellsPrefix (w mask before after code : ℕ) : Type 0 where
-  Mask : after ≤ w → mask ≡ mask_of w after → code ≡ ok → TellsPrefix w mask before after code
-  NoMask : IsNoMask w mask → code ≡ no_mask → after ≡ before → TellsPrefix w mask before after code
+pub data WritesPrefix (w mask before after code : ℕ) : Type 0 where
+  Mask : after ≤ w → mask ≡ mask_of w after → code ≡ ok → WritesPrefix w mask before after code
+  NoMask : IsNoMask w mask → code ≡ no_mask → after ≡ before → WritesPrefix w mask before after code
 
 -- the octets of the member number i in order are told, or the number is `no_member`
-pub data TellsMember (w : ℕ) (octets_of : ℕ → List ℕ) (n : Network) (i : ℕ) (before after : List ℕ) (code : ℕ) : Type 0 where
-  Member : PrefixFits w n → i < size_of w n → code ≡ ok → after ≡ octets_of (low w n + i) → TellsMember w octets_of n i before after code
-  NoMember : PrefixFits w n → size_of w n ≤ i → code ≡ no_member → after ≡ before → TellsMember w octets_of n i before after code
-  NoNetwork : ¬ (PrefixFits w n) → code ≡ prefix → after ≡ before → TellsMember w octets_of n i before after code
+pub data WritesMember (w : ℕ) (octets_of : ℕ → List ℕ) (n : Network) (i : ℕ) (before after : List ℕ) (code : ℕ) : Type 0 where
+  Member : PrefixFits w n → i < size_of w n → code ≡ ok → after ≡ octets_of (low w n + i) → WritesMember w octets_of n i before after code
+  NoMember : PrefixFits w n → size_of w n ≤ i → code ≡ no_member → after ≡ before → WritesMember w octets_of n i before after code
+  NoNetwork : ¬ (PrefixFits w n) → code ≡ prefix → after ≡ before → WritesMember w octets_of n i before after code

@@ -10,7 +10,7 @@ use Rattle.ipnetwork_c.specs.declared.structs.Ipv6InC.{Ipv6InC}
 use Rattle.ipnetwork_c.specs.declared.structs.IpInC.{IpInC}
 use Rattle.ipnetwork_c.specs.Numbers.{ok, prefix, no_family}
 use Rattle.ipnetwork_c.specs.Held.{PrefixFits, HoldsV4, HoldsV6, v4_in, v6_in, number_of_octets}
-use Rattle.ipnetwork_c.specs.Answers.{Says}
+use Rattle.ipnetwork_c.specs.Answers.{IsFlag}
 
 -- a struct of zeros
 abbrev pub BlankV4 : Ipv4InC → Type 0
@@ -40,7 +40,7 @@ IpPrefixFits (V4 n) = PrefixFits 32 n
 IpPrefixFits (V6 n) = PrefixFits 128 n
 
 -- what is answered to the question whether octets are an address of the set that a struct stands for
-pub data AsksMember (held : IpInC) (octets : List ℕ) (before after code : ℕ) : Type 0 where
-  Answered : (n : IpNetwork) → (a : IpAddr) → ip_in held ≡ Some n → address_in octets ≡ Some a → IpPrefixFits n → code ≡ ok → Says (IpMember n a) after → AsksMember held octets before after code
-  NoPrefix : (n : IpNetwork) → (a : IpAddr) → ip_in held ≡ Some n → address_in octets ≡ Some a → ¬ (IpPrefixFits n) → code ≡ prefix → after ≡ before → AsksMember held octets before after code
-  NoFamily : (ip_in held ≡ None) ⊎ (address_in octets ≡ None) → code ≡ no_family → after ≡ before → AsksMember held octets before after code
+pub data MemberQuery (held : IpInC) (octets : List ℕ) (before after code : ℕ) : Type 0 where
+  Answered : (n : IpNetwork) → (a : IpAddr) → ip_in held ≡ Some n → address_in octets ≡ Some a → IpPrefixFits n → code ≡ ok → IsFlag (IpMember n a) after → MemberQuery held octets before after code
+  NoPrefix : (n : IpNetwork) → (a : IpAddr) → ip_in held ≡ Some n → address_in octets ≡ Some a → ¬ (IpPrefixFits n) → code ≡ prefix → after ≡ before → MemberQuery held octets before after code
+  NoFamily : (ip_in held ≡ None) ⊎ (address_in octets ≡ None) → code ≡ no_family → after ≡ before → MemberQuery held octets before after code

@@ -2,3 +2,4 @@ pub mod Numbers
 pub mod Held
 pub mod Answers
 pub mod Either
+pub mod Private

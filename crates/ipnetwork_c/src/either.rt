@@ -1,7 +1,7 @@
 //! The calls of networks of either family.
 ghost use Rattle.std.specs.Prelude.{◌≡◌};
 ghost use Rattle.ipnetwork.specs.IpNetworkText.{ReadsIpNetwork};
-ghost use Rattle.ipnetwork_c.specs.Either.{HoldsIp, AsksMember, address_in as address_in_c};
+ghost use Rattle.ipnetwork_c.specs.Either.{HoldsIp, MemberQuery, address_in as address_in_c};
 ghost use Rattle.ipnetwork_c.specs.Answers.{ReadsInto};
 
 use crate::fault::{self, NO_FAMILY, OK, PREFIX};
@@ -28,7 +28,7 @@ pub extern "C" fn ipnetwork_read(text: &[u8], network: &mut IpInC) -> u32
 /// `PREFIX` where the prefix length is greater than the family's width.
 #[unsafe(no_mangle)]
 pub extern "C" fn ipnetwork_contains(network: &IpInC, address: &[u8], answer: &mut u8) -> u32
-    ensures { AsksMember network.now address.now answer.old answer.new result }
+    ensures { MemberQuery network.now address.now answer.old answer.new result }
 {
     let Some(address) = address_in(address) else {
         return NO_FAMILY;

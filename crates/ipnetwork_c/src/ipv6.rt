@@ -1,13 +1,13 @@
 //! The calls of IPv6 networks.
 ghost use Rattle.std.specs.Prelude.{◌≡◌, ◌≤◌, ℕ};
 ghost use Rattle.ipnetwork_addr.specs.Digits.{octets_of_v6};
-ghost use Rattle.ipnetwork_addr.specs.Ipv6Canonical.{canonical_v6};
+ghost use Rattle.ipnetwork_addr.specs.Computed.Ipv6Canonical.{canonical_v6};
 ghost use Rattle.ipnetwork_family.specs.Network.{Network, Member, low, high, mask_of, size_of, Subnet, Overlap, network_cmp};
 ghost use Rattle.ipnetwork_family.specs.NetworkText.{network_text};
 ghost use Rattle.ipnetwork_family.specs.Ipv6NetworkText.{ReadsV6Network};
 ghost use Rattle.ipnetwork_c.specs.Numbers.{order_number};
 ghost use Rattle.ipnetwork_c.specs.Held.{v6_in, HoldsV6, PrefixFits, number_of_octets};
-ghost use Rattle.ipnetwork_c.specs.Answers.{ReadsInto, Asked, Says, Puts, TellsPrefix, TellsMember};
+ghost use Rattle.ipnetwork_c.specs.Answers.{ReadsInto, QueryResult, IsFlag, WritesText, WritesPrefix, WritesMember};
 
 use crate::fault::{self, NO_MASK, NO_MEMBER, OK, PREFIX};
 use crate::order::number_of_order;
@@ -33,7 +33,7 @@ pub extern "C" fn ipnetwork_v6_read(text: &[u8], network: &mut Ipv6InC) -> u32
 /// The network of this address, host bits kept, and this prefix length; `PREFIX` where that is greater than 128.
 #[unsafe(no_mangle)]
 pub extern "C" fn ipnetwork_v6_new(address: &[u8; 16], prefix: u8, network: &mut Ipv6InC) -> u32
-    ensures { Asked (prefix ≤ 128) (λ held. (held.address ≡ address.now) × (held.prefix ≡ prefix)) network.old network.new result }
+    ensures { QueryResult (prefix ≤ 128) (λ held. (held.address ≡ address.now) × (held.prefix ≡ prefix)) network.old network.new result }
 {
     if prefix > 128 {
         return PREFIX;
@@ -54,7 +54,7 @@ pub extern "C" fn ipnetwork_v6_canonical(
     buffer: &mut [u8],
     length: &mut usize,
 ) -> u32
-    ensures { Puts 128 (v6_in network.now) (network_text canonical_v6 (v6_in network.now)) buffer.old buffer.new length.old length.new result }
+    ensures { WritesText 128 (v6_in network.now) (network_text canonical_v6 (v6_in network.now)) buffer.old buffer.new length.old length.new result }
 {
     match network.network() {
         Some(network) => text::tell(network.canonical().as_str().as_bytes(), buffer, length),
@@ -69,7 +69,7 @@ pub extern "C" fn ipnetwork_v6_contains(
     address: &[u8; 16],
     answer: &mut u8,
 ) -> u32
-    ensures { Asked (PrefixFits 128 (v6_in network.now)) (Says (Member 128 (v6_in network.now) (number_of_octets address.now))) answer.old answer.new result }
+    ensures { QueryResult (PrefixFits 128 (v6_in network.now)) (IsFlag (Member 128 (v6_in network.now) (number_of_octets address.now))) answer.old answer.new result }
 {
     match network.network() {
         Some(network) => {
@@ -83,7 +83,7 @@ pub extern "C" fn ipnetwork_v6_contains(
 /// The least member: the address with its host bits cleared. `PREFIX` where the prefix length is greater than 128.
 #[unsafe(no_mangle)]
 pub extern "C" fn ipnetwork_v6_network(network: &Ipv6InC, address: &mut [u8; 16]) -> u32
-    ensures { Asked (PrefixFits 128 (v6_in network.now)) (λ octets. octets ≡ octets_of_v6 (low 128 (v6_in network.now))) address.old address.new result }
+    ensures { QueryResult (PrefixFits 128 (v6_in network.now)) (λ octets. octets ≡ octets_of_v6 (low 128 (v6_in network.now))) address.old address.new result }
 {
     match network.network() {
         Some(network) => {
@@ -97,7 +97,7 @@ pub extern "C" fn ipnetwork_v6_network(network: &Ipv6InC, address: &mut [u8; 16]
 /// The greatest member: the address with its host bits set. `PREFIX` where the prefix length is greater than 128.
 #[unsafe(no_mangle)]
 pub extern "C" fn ipnetwork_v6_broadcast(network: &Ipv6InC, address: &mut [u8; 16]) -> u32
-    ensures { Asked (PrefixFits 128 (v6_in network.now)) (λ octets. octets ≡ octets_of_v6 (high 128 (v6_in network.now))) address.old address.new result }
+    ensures { QueryResult (PrefixFits 128 (v6_in network.now)) (λ octets. octets ≡ octets_of_v6 (high 128 (v6_in network.now))) address.old address.new result }
 {
     match network.network() {
         Some(network) => {
@@ -112,7 +112,7 @@ pub extern "C" fn ipnetwork_v6_broadcast(network: &Ipv6InC, address: &mut [u8; 1
 /// length is greater than 128.
 #[unsafe(no_mangle)]
 pub extern "C" fn ipnetwork_v6_mask(network: &Ipv6InC, mask: &mut [u8; 16]) -> u32
-    ensures { Asked (PrefixFits 128 (v6_in network.now)) (λ octets. octets ≡ octets_of_v6 (mask_of 128 network.now.prefix)) mask.old mask.new result }
+    ensures { QueryResult (PrefixFits 128 (v6_in network.now)) (λ octets. octets ≡ octets_of_v6 (mask_of 128 network.now.prefix)) mask.old mask.new result }
 {
     match network.network() {
         Some(network) => {
@@ -126,7 +126,7 @@ pub extern "C" fn ipnetwork_v6_mask(network: &Ipv6InC, mask: &mut [u8; 16]) -> u
 /// The prefix length of a mask; `NO_MASK` where the address is none of the 129 masks.
 #[unsafe(no_mangle)]
 pub extern "C" fn ipnetwork_v6_prefix_of_mask(mask: &[u8; 16], prefix: &mut u8) -> u32
-    ensures { TellsPrefix 128 (number_of_octets mask.now) prefix.old prefix.new result }
+    ensures { WritesPrefix 128 (number_of_octets mask.now) prefix.old prefix.new result }
 {
     match ipv6_mask_to_prefix(address_of(mask)) {
         Ok(found) => {
@@ -141,7 +141,7 @@ pub extern "C" fn ipnetwork_v6_prefix_of_mask(mask: &[u8; 16], prefix: &mut u8) 
 /// octets, the highest first. `PREFIX` where the prefix length is greater than 128.
 #[unsafe(no_mangle)]
 pub extern "C" fn ipnetwork_v6_size(network: &Ipv6InC, size: &mut [u8; 16]) -> u32
-    ensures { Asked (PrefixFits 128 (v6_in network.now)) (λ octets. octets ≡ octets_of_v6 (size_of 128 (v6_in network.now))) size.old size.new result }
+    ensures { QueryResult (PrefixFits 128 (v6_in network.now)) (λ octets. octets ≡ octets_of_v6 (size_of 128 (v6_in network.now))) size.old size.new result }
 {
     match network.network() {
         Some(network) => {
@@ -156,7 +156,7 @@ pub extern "C" fn ipnetwork_v6_size(network: &Ipv6InC, size: &mut [u8; 16]) -> u
 /// the size. `PREFIX` where the prefix length is greater than 128.
 #[unsafe(no_mangle)]
 pub extern "C" fn ipnetwork_v6_nth(network: &Ipv6InC, n: &[u8; 16], address: &mut [u8; 16]) -> u32
-    ensures { TellsMember 128 octets_of_v6 (v6_in network.now) (number_of_octets n.now) address.old address.new result }
+    ensures { WritesMember 128 octets_of_v6 (v6_in network.now) (number_of_octets n.now) address.old address.new result }
 {
     match network.network() {
         Some(network) => match network.nth(u128::from(address_of(n))) {
@@ -178,7 +178,7 @@ pub extern "C" fn ipnetwork_v6_is_subnet_of(
     outer: &Ipv6InC,
     answer: &mut u8,
 ) -> u32
-    ensures { Asked (PrefixFits 128 (v6_in inner.now) × PrefixFits 128 (v6_in outer.now)) (Says (Subnet 128 (v6_in inner.now) (v6_in outer.now))) answer.old answer.new result }
+    ensures { QueryResult (PrefixFits 128 (v6_in inner.now) × PrefixFits 128 (v6_in outer.now)) (IsFlag (Subnet 128 (v6_in inner.now) (v6_in outer.now))) answer.old answer.new result }
 {
     match (inner.network(), outer.network()) {
         (Some(inner), Some(outer)) => {
@@ -192,7 +192,7 @@ pub extern "C" fn ipnetwork_v6_is_subnet_of(
 /// Whether some address is a member of both, as 1 or 0. `PREFIX` where a prefix length is greater than 128.
 #[unsafe(no_mangle)]
 pub extern "C" fn ipnetwork_v6_overlaps(one: &Ipv6InC, other: &Ipv6InC, answer: &mut u8) -> u32
-    ensures { Asked (PrefixFits 128 (v6_in one.now) × PrefixFits 128 (v6_in other.now)) (Says (Overlap 128 (v6_in one.now) (v6_in other.now))) answer.old answer.new result }
+    ensures { QueryResult (PrefixFits 128 (v6_in one.now) × PrefixFits 128 (v6_in other.now)) (IsFlag (Overlap 128 (v6_in one.now) (v6_in other.now))) answer.old answer.new result }
 {
     match (one.network(), other.network()) {
         (Some(one), Some(other)) => {
@@ -207,7 +207,7 @@ pub extern "C" fn ipnetwork_v6_overlaps(one: &Ipv6InC, other: &Ipv6InC, answer: 
 /// are equal. `PREFIX` where a prefix length is greater than 128.
 #[unsafe(no_mangle)]
 pub extern "C" fn ipnetwork_v6_compare(one: &Ipv6InC, other: &Ipv6InC, order: &mut i32) -> u32
-    ensures { Asked (PrefixFits 128 (v6_in one.now) × PrefixFits 128 (v6_in other.now)) (λ told. told ≡ order_number (network_cmp (v6_in one.now) (v6_in other.now))) order.old order.new result }
+    ensures { QueryResult (PrefixFits 128 (v6_in one.now) × PrefixFits 128 (v6_in other.now)) (λ told. told ≡ order_number (network_cmp (v6_in one.now) (v6_in other.now))) order.old order.new result }
 {
     match (one.network(), other.network()) {
         (Some(one), Some(other)) => {

@@ -22,6 +22,10 @@ abbrev pub ReadsValue : {N : Type 0} → (List ℕ → Result N IpNetworkError �
 ReadsValue {N} Parses (Some text) result = (parsed : Result N IpNetworkError) × Parses text parsed × (result ≡ refusing parsed)
 ReadsValue Parses None result = result ≡ Err NotAString
 
--- the text between quotes, `b'"'`
+-- `b'"'`
+abbrev pub quote : ℕ
+quote = 34
+
+-- the text between quotes
 abbrev pub in_quotes : List ℕ → List ℕ
-in_quotes text = 34 ∷ (text ++ 34 ∷ [])
+in_quotes text = quote ∷ (text ++ quote ∷ [])

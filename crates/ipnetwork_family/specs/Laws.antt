@@ -1,7 +1,9 @@
 -- The laws of networks, for addresses of any number of bits.
-use Rattle.std.specs.Prelude.{◌≡◌, ℕ, ◌+◌, ◌<◌, ◌≤◌, ◌⊎◌, ◌↔◌, Contains, slice_get, Some, Result, Ok, IsTrue}
+use Rattle.std.specs.Prelude.{◌≡◌, ℕ, ◌+◌, ◌<◌, ◌≤◌, ◌⊎◌, ◌↔◌, Contains, List, slice_get, Some, Result, Ok, IsTrue}
 use Rattle.std.specs.List.Sorted.{IsStrictlyIncreasing}
-use Rattle.ipnetwork_family.specs.Network.{Network, IsNetwork, Member, is_member, is_subnet, low, high, block_size, block_of, IsBlock, Subnet, Overlap, AtMost, members, mask_of, prefix_of_mask}
+use Rattle.ipnetwork_family.specs.Network.{Network, IsNetwork, Member, low, high, block_size, block_of, HostBitsAreZero, Subnet, Overlap, IsNetworkAtMost, members, mask_of}
+use Rattle.ipnetwork_family.specs.NetworkText.{before_slash, HasNoSuffix, NamesNetwork}
+use Rattle.ipnetwork_family.specs.Computed.Network.{is_member, is_subnet, prefix_of_mask}
 use Rattle.ipnetwork_family.specs.ErrorTexts.{refusal_of}
 use Rattle.ipnetwork_family.specs.Faults.{SameError}
 use Rattle.ipnetwork_family.specs.Masks.{GivesPrefixOfMask}
@@ -37,7 +39,7 @@ BlockFits = (w : ℕ) (n : Network) → IsNetwork w n → IsNetwork w (block_of 
 
 -- has no host bits,
 abbrev pub BlockHasNoHostBits : Type 0
-BlockHasNoHostBits = (w : ℕ) (n : Network) → IsBlock w (block_of w n)
+BlockHasNoHostBits = (w : ℕ) (n : Network) → HostBitsAreZero w (block_of w n)
 
 -- and the same members
 abbrev pub BlockHasSameSet : Type 0
@@ -63,12 +65,12 @@ OverlapByEnds = (w : ℕ) (a b : Network) → IsNetwork w a → IsNetwork w b
 
 -- of networks without host bits, one comes before what lies in it
 abbrev pub SubnetComesAfter : Type 0
-SubnetComesAfter = (w : ℕ) (a c : Network) → IsNetwork w a → IsNetwork w c → IsBlock w a → IsBlock w c → Subnet w c a → AtMost a c
+SubnetComesAfter = (w : ℕ) (a c : Network) → IsNetwork w a → IsNetwork w c → HostBitsAreZero w a → HostBitsAreZero w c → Subnet w c a → IsNetworkAtMost a c
 
 -- and what stands between the two in order lies in it too
 abbrev pub BetweenIsSubnet : Type 0
-BetweenIsSubnet = (w : ℕ) (a b c : Network) → IsNetwork w a → IsNetwork w b → IsNetwork w c → IsBlock w a → IsBlock w b → IsBlock w c
-    → Subnet w c a → AtMost a b → AtMost b c → Subnet w b a
+BetweenIsSubnet = (w : ℕ) (a b c : Network) → IsNetwork w a → IsNetwork w b → IsNetwork w c → HostBitsAreZero w a → HostBitsAreZero w b → HostBitsAreZero w c
+    → Subnet w c a → IsNetworkAtMost a b → IsNetworkAtMost b c → Subnet w b a
 
 -- the list of members is strictly ascending and has the members alone
 pub record ListsMembers (w : ℕ) (n : Network) : Type 0 where
@@ -104,3 +106,8 @@ MaskIsConverted = (w p : ℕ) (result : Result ℕ IpNetworkError) → p ≤ w �
 -- two errors are the same exactly if they say the same
 abbrev pub SameErrorSaysTheSame : Type 0
 SameErrorSaysTheSame = (a b : IpNetworkError) → SameError a b ↔ (refusal_of a ≡ refusal_of b)
+
+-- a text that names no network, although what stands before its first `/` is an address, has a `/` and after it no suffix
+abbrev pub SuffixIsRefused : ℕ → (List ℕ → ℕ → Type 0) → (List ℕ → ℕ → Type 0) → Type 0
+SuffixIsRefused w NamesAddress IsSuffix = (text : List ℕ) (a : ℕ) → NamesAddress (before_slash text) a
+    → ((n : Network) → ¬ (NamesNetwork w NamesAddress IsSuffix text n)) → HasNoSuffix IsSuffix text

@@ -1,4 +1,7 @@
+pub mod Bits
+pub mod Computed
 pub mod ErrorTexts
+pub mod Family
 pub mod Faults
 pub mod Ipv4NetworkText
 pub mod Ipv6NetworkText

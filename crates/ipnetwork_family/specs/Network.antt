@@ -1,7 +1,6 @@
 -- Networks of addresses of w bits, as numbers: 32 for IPv4 and 128 for IPv6 (RFC 4632, section 3.1; RFC 4291,
 -- section 2.3).
-use Rattle.std.specs.Prelude.{◌≡◌, ◌≢◌, ◌==◌, ◌&&◌, nat_le, nat_lt, if◌then◌else◌, Bool, Option, None, Some, ℕ, zero, suc, ◌+◌, ◌-◌, ◌*◌, ◌/◌, ◌^◌, ◌<◌, ◌≤◌, ◌⊎◌, min, List, [], ◌∷◌}
-use Rattle.std.specs.Int.Count.{count_leading_zeros}
+use Rattle.std.specs.Prelude.{◌≡◌, ◌≢◌, ℕ, zero, suc, ◌+◌, ◌-◌, ◌*◌, ◌/◌, ◌^◌, ◌<◌, ◌≤◌, ◌⊎◌, min, List, [], ◌∷◌}
 use Rattle.std.specs.declared.cmp.Ordering.{Ordering}
 use Rattle.std.specs.Ordering.{nat_cmp, ordering_then}
 
@@ -23,10 +22,6 @@ block_size w p = 2 ^ (w - p)
 abbrev pub Member : ℕ → Network → ℕ → Type 0
 Member w n x = (x < 2 ^ w) × (x / block_size w n.prefix ≡ n.address / block_size w n.prefix)
 
--- the same as a test
-abbrev pub is_member : ℕ → Network → ℕ → Bool
-is_member w n x = nat_lt x (2 ^ w) && (x / block_size w n.prefix == n.address / block_size w n.prefix)
-
 -- the mask of a prefix length: the number of w bits whose first p are ones
 abbrev pub mask_of : ℕ → ℕ → ℕ
 mask_of w p = 2 ^ w - block_size w p
@@ -43,9 +38,17 @@ high w n = low w n + block_size w n.prefix - 1
 abbrev pub block_of : ℕ → Network → Network
 block_of w n = record { address = low w n; prefix = n.prefix }
 
--- the network has no host bits
-abbrev pub IsBlock : ℕ → Network → Type 0
-IsBlock w n = n.address ≡ low w n
+-- the block of prefix length p that x lies in
+abbrev pub block_at : ℕ → ℕ → ℕ → Network
+block_at w x p = block_of w (record { address = x; prefix = p })
+
+-- the address has no host bits: those past the prefix length are 0
+abbrev pub HostBitsAreZero : ℕ → Network → Type 0
+HostBitsAreZero w n = n.address ≡ low w n
+
+-- a block: a network without host bits
+abbrev pub IsCidrBlock : ℕ → Network → Type 0
+IsCidrBlock w n = IsNetwork w n × HostBitsAreZero w n
 
 -- count numbers in a row, from start on
 unfoldable pub count_up : ℕ → ℕ → List ℕ
@@ -64,21 +67,17 @@ size_of w n = min (block_size w n.prefix) (2 ^ w - 1)
 abbrev pub Subnet : ℕ → Network → Network → Type 0
 Subnet w a b = (x : ℕ) → Member w a x → Member w b x
 
--- the same as a test, of networks: b fixes no more bits than a, and the address of a is a member of b
-abbrev pub is_subnet : ℕ → Network → Network → Bool
-is_subnet w a b = nat_le b.prefix a.prefix && is_member w b a.address
-
 -- some address is a member of both
 abbrev pub Overlap : ℕ → Network → Network → Type 0
 Overlap w a b = (x : ℕ) × Member w a x × Member w b x
 
 -- in order, a comes before b: by address, then by prefix length
-abbrev pub IsBefore : Network → Network → Type 0
-IsBefore a b = (a.address < b.address) ⊎ ((a.address ≡ b.address) × (a.prefix < b.prefix))
+abbrev pub IsNetworkBefore : Network → Network → Type 0
+IsNetworkBefore a b = (a.address < b.address) ⊎ ((a.address ≡ b.address) × (a.prefix < b.prefix))
 
 -- a comes before b, or is b
-abbrev pub AtMost : Network → Network → Type 0
-AtMost a b = (a.address < b.address) ⊎ ((a.address ≡ b.address) × (a.prefix ≤ b.prefix))
+abbrev pub IsNetworkAtMost : Network → Network → Type 0
+IsNetworkAtMost a b = (a.address < b.address) ⊎ ((a.address ≡ b.address) × (a.prefix ≤ b.prefix))
 
 -- which of the two comes first, or that they are equal: by address, then by prefix length
 abbrev pub network_cmp : Network → Network → Ordering
@@ -87,7 +86,3 @@ network_cmp a b = ordering_then (nat_cmp a.address b.address) (nat_cmp a.prefix 
 -- the number is no mask
 abbrev pub IsNoMask : ℕ → ℕ → Type 0
 IsNoMask w mask = (p : ℕ) → p ≤ w → mask ≢ mask_of w p
-
--- the prefix length of a mask, if the number is one, computed: as many as the ones in front of it
-abbrev pub prefix_of_mask : ℕ → ℕ → Option ℕ
-prefix_of_mask w mask = let p = count_leading_zeros w (2 ^ w - 1 - mask) in if mask == mask_of w p then Some p else None

@@ -6,8 +6,8 @@ use Rattle.ipnetwork_addr.specs.Ipv4Text.{NamesV4}
 use Rattle.ipnetwork_addr.specs.Ipv6Text.{NamesV6}
 use Rattle.ipnetwork_family.specs.Network.{Network}
 use Rattle.ipnetwork_family.specs.NetworkText.{IsCause}
-use Rattle.ipnetwork_family.specs.Ipv4NetworkText.{NamesV4Network}
-use Rattle.ipnetwork_family.specs.Ipv6NetworkText.{NamesV6Network}
+use Rattle.ipnetwork_family.specs.Ipv4NetworkText.{IsV4Suffix, NamesV4Network}
+use Rattle.ipnetwork_family.specs.Ipv6NetworkText.{IsV6Suffix, NamesV6Network}
 use Rattle.ipnetwork_family.specs.ErrorTexts.{fault_of, IsRefusal}
 use Rattle.ipnetwork_family.specs.declared.error.CidrFault.{CidrFault}
 use Rattle.ipnetwork_family.specs.declared.error.IpNetworkError.{IpNetworkError}
@@ -21,10 +21,10 @@ Parses {N} Names IsCauseOf kind text result =
 
 -- of IPv4 networks, and of IPv6 networks
 abbrev pub ParsesV4Network : List ℕ → Result Network IpNetworkError → Type 0
-ParsesV4Network text result = Parses NamesV4Network (IsCause NamesV4) kinds.Ipv4 text result
+ParsesV4Network text result = Parses NamesV4Network (IsCause NamesV4 IsV4Suffix) kinds.Ipv4 text result
 
 abbrev pub ParsesV6Network : List ℕ → Result Network IpNetworkError → Type 0
-ParsesV6Network text result = Parses NamesV6Network (IsCause NamesV6) kinds.Ipv6 text result
+ParsesV6Network text result = Parses NamesV6Network (IsCause NamesV6 IsV6Suffix) kinds.Ipv6 text result
 
 -- parsing returns what reading does: the same network, or the error for the same cause, where an address of this kind
 -- was asked for, or `OutOfMemory` in its place where that has a text

@@ -1,3 +1,5 @@
 -- What the private functions promise each other.
-pub mod Segments
-pub mod SegmentsBack
+pub mod HostBits
+pub mod Numerals
+pub mod Slashes
+pub mod Suffixes

@@ -1,10 +1,9 @@
 //! What the networks of both families have in common.
 ghost use Rattle.std.specs.Prelude.{◌≡◌, ◌↔◌, ℕ, ◌^◌, ◌<◌, ◌≤◌, IsTrue, MatchOption};
 ghost use Rattle.std.specs.Ordering.{nat_cmp};
-ghost use Rattle.ipnetwork_family.specs.Network.{Network, IsNetwork, Member, Subnet, Overlap, block_of, low, high, network_cmp};
+ghost use Rattle.ipnetwork_family.specs.Network.{Network as Pair, IsNetwork, Member, Subnet, Overlap, block_of, low, high, network_cmp};
 
-use crate::{Ipv4Network, Ipv6Network};
-use ipnetwork_addr::{Ipv4Addr, Ipv6Addr};
+use crate::{Address, Network};
 
 /// A network of addresses of `WIDTH` bits, for code that is generic over both families.
 ///
@@ -24,7 +23,7 @@ pub trait CidrNetwork: Copy + Ord {
     ghost number: { Self.Addr → ℕ };
 
     // The address and the prefix length that a network means.
-    ghost pair: { Self → Network };
+    ghost pair: { Self → Pair };
 
     /// The address as made, host bits included.
     fn ip(&self) -> Self::Addr
@@ -70,102 +69,53 @@ pub trait CidrNetwork: Copy + Ord {
     ghost network_order: { (a b : Self) → Self.cmp a b ≡ network_cmp (pair a) (pair b) };
 }
 
-impl CidrNetwork for Ipv4Network {
-    ghost use Rattle.std.specs.Prelude.{refl};
+impl<A: Address> CidrNetwork for Network<A> {
+    ghost use Rattle.std.proofs.Common.{ap, ap₂, ◌∙◌};
+    ghost use Rattle.std.specs.Ordering.{nat_cmp, ordering_then};
 
-    type Addr = Ipv4Addr;
+    type Addr = A;
 
-    const WIDTH: u8 = 32;
+    const WIDTH: u8 = A::WIDTH;
 
-    ghost WIDTH = { 32 };
+    ghost WIDTH = { A.WIDTH };
 
-    ghost number = { λ address. address };
-
-    ghost pair = { λ network. network };
-
-    fn ip(&self) -> Ipv4Addr {
-        Ipv4Network::ip(self)
-    }
-
-    fn prefix(&self) -> u8 {
-        Ipv4Network::prefix(self)
-    }
-
-    fn network(&self) -> Ipv4Addr {
-        Ipv4Network::network(self)
-    }
-
-    fn broadcast(&self) -> Ipv4Addr {
-        Ipv4Network::broadcast(self)
-    }
-
-    fn contains(&self, ip: Ipv4Addr) -> bool {
-        Ipv4Network::contains(self, ip)
-    }
-
-    fn is_subnet_of(self, other: Ipv4Network) -> bool {
-        Ipv4Network::is_subnet_of(self, other)
-    }
-
-    fn overlaps(self, other: Ipv4Network) -> bool {
-        Ipv4Network::overlaps(self, other)
-    }
-
-    fn block(addr: Ipv4Addr, prefix: u8) -> Option<Ipv4Network> {
-        Ipv4Network::block(addr, prefix)
-    }
-
-    ghost address_order = { λ x y. refl };
-
-    ghost network_order = { λ a b. refl };
-}
-
-impl CidrNetwork for Ipv6Network {
-    ghost use Rattle.std.specs.Prelude.{refl};
-
-    type Addr = Ipv6Addr;
-
-    const WIDTH: u8 = 128;
-
-    ghost WIDTH = { 128 };
-
-    ghost number = { λ address. address };
+    ghost number = { A.number };
 
     ghost pair = { λ network. network };
 
-    fn ip(&self) -> Ipv6Addr {
-        Ipv6Network::ip(self)
+    fn ip(&self) -> A {
+        Network::ip(self)
     }
 
     fn prefix(&self) -> u8 {
-        Ipv6Network::prefix(self)
+        Network::prefix(self)
     }
 
-    fn network(&self) -> Ipv6Addr {
-        Ipv6Network::network(self)
+    fn network(&self) -> A {
+        Network::network(self)
     }
 
-    fn broadcast(&self) -> Ipv6Addr {
-        Ipv6Network::broadcast(self)
+    fn broadcast(&self) -> A {
+        Network::broadcast(self)
     }
 
-    fn contains(&self, ip: Ipv6Addr) -> bool {
-        Ipv6Network::contains(self, ip)
+    fn contains(&self, ip: A) -> bool {
+        Network::contains(self, ip)
     }
 
-    fn is_subnet_of(self, other: Ipv6Network) -> bool {
-        Ipv6Network::is_subnet_of(self, other)
+    fn is_subnet_of(self, other: Network<A>) -> bool {
+        Network::is_subnet_of(self, other)
     }
 
-    fn overlaps(self, other: Ipv6Network) -> bool {
-        Ipv6Network::overlaps(self, other)
+    fn overlaps(self, other: Network<A>) -> bool {
+        Network::overlaps(self, other)
     }
 
-    fn block(addr: Ipv6Addr, prefix: u8) -> Option<Ipv6Network> {
-        Ipv6Network::block(addr, prefix)
+    fn block(addr: A, prefix: u8) -> Option<Network<A>> {
+        Network::block(addr, prefix)
     }
 
-    ghost address_order = { λ x y. refl };
+    ghost address_order = { A.address_order };
 
-    ghost network_order = { λ a b. refl };
+    ghost network_order = { λ a b. ap (λ o. ordering_then o (nat_cmp a.prefix b.prefix)) (A.address_order (A.of_number a.address) (A.of_number b.address) ∙ ap₂ nat_cmp (A.forth a.address) (A.forth b.address)) };
 }

@@ -4,29 +4,41 @@
 //! Only calls that are given an allocator allocate. A text is a slice of bytes, of any length and any bytes.
 #![tactic(auto)]
 
+mod address;
 mod cidr_network;
 mod error;
 mod ipv4;
-mod ipv4_iter;
-mod ipv4_mask;
 mod ipv6;
-mod ipv6_iter;
-mod ipv6_mask;
-mod ipv6_order;
+mod iter;
 mod json;
 pub mod laws;
+mod network;
 pub mod parse;
 mod segments;
 #[cfg(test)]
 mod tests;
 
+pub use address::Address;
 pub use cidr_network::CidrNetwork;
 pub use error::{CidrFault, IpNetworkError, NetworkSizeError};
-pub use ipv4::{Ipv4Network, ipv4_mask_to_prefix};
-pub use ipv4_iter::Ipv4NetworkIterator;
-pub use ipv6::{Ipv6Network, ipv6_mask_to_prefix};
-pub use ipv6_iter::Ipv6NetworkIterator;
+use ipnetwork_addr::{Ipv4Addr, Ipv6Addr};
+pub use ipv4::ipv4_mask_to_prefix;
+pub use ipv6::ipv6_mask_to_prefix;
+pub use iter::NetworkIterator;
 pub use json::JsonFault;
+pub use network::Network;
+
+/// An IPv4 network.
+pub type Ipv4Network = Network<Ipv4Addr>;
+
+/// An IPv6 network.
+pub type Ipv6Network = Network<Ipv6Addr>;
+
+/// The members of an IPv4 network that are still to come, in ascending order.
+pub type Ipv4NetworkIterator = NetworkIterator<Ipv4Addr>;
+
+/// The members of an IPv6 network that are still to come, in ascending order.
+pub type Ipv6NetworkIterator = NetworkIterator<Ipv6Addr>;
 
 /// The length in bytes of the longest printed network, one of IPv6.
-pub const TEXT_CAPACITY: usize = 43;
+pub const NETWORK_TEXT_CAPACITY: usize = 43;

@@ -1,20 +1,17 @@
 -- Tables of blocks, and the search for the longest block that holds an address.
-use Rattle.std.proofs.Common.{◌≡◌, ℕ, ◌-◌, ◌*◌, ◌^◌, ◌<◌, ◌≤◌, true, false, cond, Option, Some, None, is_some, sym, refl, ap, subst, ◌∙◌, arith, ⊎_elim}
+use Rattle.std.proofs.Common.{◌≡◌, ℕ, ◌-◌, ◌^◌, ◌<◌, ◌≤◌, true, false, cond, Option, Some, None, is_some, sym, refl, ap, subst, ◌∙◌, arith, ⊎_elim}
 use Rattle.std.specs.Prelude.{IsSome}
 use Rattle.std.specs.Ordering.{eq_by_cmp}
 use Rattle.std.specs.FinMap.{FinMap, get, insert, remove, empty, get-empty, get-insert, get-remove, same_map}
 use Rattle.std.proofs.lemmas.Bool.{cases_lt}
-use Rattle.ipnetwork_family.specs.Network.{Network, IsNetwork, Member, IsBlock, block_size, block_of, network_cmp}
-use Rattle.ipnetwork_family.proofs.Blocks.{block_same_set}
+use Rattle.ipnetwork_family.specs.Network.{Network, Member, network_cmp, block_at, IsCidrBlock}
+use Rattle.ipnetwork_family.proofs.BlocksAt.{block_at_holds, block_at_is}
 use Rattle.ipnetwork_table.specs.Table.{HasBlocksAlone, IsLongest, NoneHolds}
 use Rattle.ipnetwork_table.specs.Private.Nearest.{NoneAbove}
 use Rattle.ipnetwork_table.proofs.Pairs.{total, one_network, tie_of}
 
 abbrev Table : Type 0 → Type 0
 Table V = FinMap network_cmp V
-
-abbrev IsKey : ℕ → Network → Type 0
-IsKey w n = IsNetwork w n × IsBlock w n
 
 nothing : false ≡ true → ⊥
 nothing e = cc
@@ -29,16 +26,16 @@ pub new_table : (w : ℕ) (V : Type 0) → HasBlocksAlone w (empty {X = V} {R = 
 new_table w V n stored = absurd (nothing (subst IsSome (get-empty network_cmp n) stored))
 
 module _ {V : Type 0} (w : ℕ) where
-  pub with_block : (t : Table V) (n : Network) (v : V) → IsKey w n → HasBlocksAlone w t → HasBlocksAlone w (insert t n v)
+  pub with_block : (t : Table V) (n : Network) (v : V) → IsCidrBlock w n → HasBlocksAlone w t → HasBlocksAlone w (insert t n v)
   with_block t n v key blocks m =
-      elim (eq_by_cmp network_cmp m n) as (λ b. eq_by_cmp network_cmp m n ≡ b → get (insert t n v) m ≡ cond b (Some v) (get t m) → IsSome (get (insert t n v) m) → IsKey w m) [
-        | true ↦ λ at is stored. subst (IsKey w) (sym (one_network m n (tie_of _ at))) key
+      elim (eq_by_cmp network_cmp m n) as (λ b. eq_by_cmp network_cmp m n ≡ b → get (insert t n v) m ≡ cond b (Some v) (get t m) → IsSome (get (insert t n v) m) → IsCidrBlock w m) [
+        | true ↦ λ at is stored. subst (IsCidrBlock w) (sym (one_network m n (tie_of _ at))) key
         | false ↦ λ apart is stored. blocks m (subst IsSome is stored)
       ] refl (get-insert total t n v m)
 
   pub without : (t : Table V) (n : Network) → HasBlocksAlone w t → HasBlocksAlone w (remove t n)
   without t n blocks m =
-      elim (eq_by_cmp network_cmp m n) as (λ b. get (remove t n) m ≡ cond b None (get t m) → IsSome (get (remove t n) m) → IsKey w m) [
+      elim (eq_by_cmp network_cmp m n) as (λ b. get (remove t n) m ≡ cond b None (get t m) → IsSome (get (remove t n) m) → IsCidrBlock w m) [
         | true ↦ λ is stored. absurd (nothing (subst IsSome is stored))
         | false ↦ λ is stored. blocks m (subst IsSome is stored)
       ] (get-remove total t n m)
@@ -54,41 +51,28 @@ taken_out_again t n v new = same_map total one_network _ _ (λ m.
 
 -- ---- the search
 
--- the block of prefix length p around x
-abbrev pub around : ℕ → ℕ → ℕ → Network
-around w x p = block_of w (record { address = x; prefix = p })
-
-pub around_holds : (w x p : ℕ) → x < 2 ^ w → Member w (around w x p) x
-around_holds w x p fits = (block_same_set w (record { address = x; prefix = p }) x).1 (fits, refl)
-
--- a block that holds x is the one around x
-pub around_is : (w : ℕ) (n : Network) (x p : ℕ) → IsBlock w n → Member w n x → n.prefix ≡ p → n ≡ around w x p
-around_is w n x p block holds is =
-    ap (λ a. record { address = a; prefix = n.prefix }) (block ∙ ap (λ q. q * block_size w n.prefix) (sym holds.1))
-    ∙ ap (λ q. around w x q) is
-
 module _ {V : Type 0} (w : ℕ) where
   pub none_above_width : (t : Table V) (x : ℕ) → HasBlocksAlone w t → NoneAbove w t x w
   none_above_width t x blocks n stored above holds = let fits = (blocks n stored).0 in omega (arith, fits.prefix_fits, above)
 
   -- after a look-up at p that found nothing
-  none_from : (t : Table V) (x p : ℕ) → HasBlocksAlone w t → NoneAbove w t x p → get t (around w x p) ≡ None
+  none_from : (t : Table V) (x p : ℕ) → HasBlocksAlone w t → NoneAbove w t x p → get t (block_at w x p) ≡ None
       → (n : Network) → IsSome (get t n) → p ≤ n.prefix → ¬ (Member w n x)
   none_from t x p blocks above none n stored from holds = ⊎_elim
       (λ (more : p < n.prefix). above n stored more holds)
-      (λ (same : n.prefix ≤ p). nothing (subst IsSome (ap (get t) (around_is w n x p (blocks n stored).1 holds (omega arith)) ∙ none) stored))
+      (λ (same : n.prefix ≤ p). nothing (subst IsSome (ap (get t) (block_at_is w n x p (blocks n stored).1 holds (omega arith)) ∙ none) stored))
       (cases_lt p n.prefix)
 
-  pub none_above_next : (t : Table V) (x p : ℕ) → HasBlocksAlone w t → NoneAbove w t x p → get t (around w x p) ≡ None → 0 < p → NoneAbove w t x (p - 1)
+  pub none_above_next : (t : Table V) (x p : ℕ) → HasBlocksAlone w t → NoneAbove w t x p → get t (block_at w x p) ≡ None → 0 < p → NoneAbove w t x (p - 1)
   none_above_next t x p blocks above none more n stored beyond = none_from t x p blocks above none n stored (omega arith)
 
-  pub none_at_all : (t : Table V) (x p : ℕ) → HasBlocksAlone w t → NoneAbove w t x p → get t (around w x p) ≡ None → p ≡ 0 → NoneHolds w t x
+  pub none_at_all : (t : Table V) (x p : ℕ) → HasBlocksAlone w t → NoneAbove w t x p → get t (block_at w x p) ≡ None → p ≡ 0 → NoneHolds w t x
   none_at_all t x p blocks above none last n stored = none_from t x p blocks above none n stored (omega arith)
 
-  pub longest_here : (t : Table V) (x p : ℕ) (n : Network) (v : V) → NoneAbove w t x p → x < 2 ^ w → n ≡ around w x p → get t n ≡ Some v → IsLongest w t x n v
+  pub longest_here : (t : Table V) (x p : ℕ) (n : Network) (v : V) → NoneAbove w t x p → x < 2 ^ w → n ≡ block_at w x p → get t n ≡ Some v → IsLongest w t x n v
   longest_here t x p n v above fits is found = record {
     stored = found;
-    holds = subst (λ (m : Network). Member w m x) (sym is) (around_holds w x p fits);
+    holds = subst (λ (m : Network). Member w m x) (sym is) (block_at_holds w x p fits);
     longest = λ m stored holds. ⊎_elim
         (λ (more : p < m.prefix). absurd (above m stored more holds))
         (λ (same : m.prefix ≤ p). let at : n.prefix ≡ p = ap (λ (m : Network). m.prefix) is in omega arith)

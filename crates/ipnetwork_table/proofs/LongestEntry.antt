@@ -5,8 +5,11 @@ use Rattle.std.specs.FinMap.{FinMap, get, entries}
 use Rattle.std.specs.Option.{unwrap_or}
 use Rattle.std.proofs.lemmas.Bool.Decides.{leb_tells}
 use Rattle.ipnetwork_family.specs.Laws.{MembershipComputed}
-use Rattle.ipnetwork_family.specs.Network.{Network, Member, is_member, network_cmp}
-use Rattle.ipnetwork_table.specs.Laws.{Answers, longer, longest_of, AnswerIsComputed}
+use Rattle.ipnetwork_family.specs.Network.{Network, Member, network_cmp}
+use Rattle.ipnetwork_family.specs.Computed.Network.{is_member}
+use Rattle.ipnetwork_table.specs.Laws.{AnswerIsComputed}
+use Rattle.ipnetwork_table.specs.Table.{Answers}
+use Rattle.ipnetwork_table.specs.Computed.Longest.{longer, longest_of}
 use Rattle.ipnetwork_table.proofs.Listing.{listed_is_stored, stored_is_listed}
 
 no_truth : false ≡ true → ⊥

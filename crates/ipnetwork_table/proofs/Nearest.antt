@@ -4,12 +4,11 @@ use Rattle.std.specs.Prelude.{◌↔◌, IsSome}
 use Rattle.std.specs.Ordering.{eq_by_cmp}
 use Rattle.std.specs.FinMap.{FinMap, get, insert, remove, get-insert, get-remove}
 use Rattle.std.proofs.lemmas.Bool.{cases_lt}
-use Rattle.ipnetwork_family.specs.Network.{Network, IsNetwork, Member, Subnet, AtMost, IsBlock, network_cmp}
+use Rattle.ipnetwork_family.specs.Network.{Network, IsNetwork, Member, Subnet, IsNetworkAtMost, HostBitsAreZero, network_cmp, block_at}
 use Rattle.ipnetwork_family.proofs.Blocks.{block_same_set, coarser_size, member_within, within_member, subnet_from, shares_address, subnet_after}
 use Rattle.ipnetwork_table.specs.Table.{HasBlocksAlone, NoneHolds}
 use Rattle.ipnetwork_table.specs.Private.Nearest.{HaveTheSame, NoneUpTo, IsLastUpTo, NoneAbove, ShareAtMost}
 use Rattle.ipnetwork_table.proofs.Pairs.{total, one_network, tie_of}
-use Rattle.ipnetwork_table.proofs.Longest.{around}
 
 nothing : false ≡ true → ⊥
 nothing e = cc
@@ -17,16 +16,16 @@ nothing e = cc
 -- ---- how many bits are shared
 
 -- a block of prefix length p around x that does not hold y
-pub share_less : (w x y p : ℕ) → 0 < p → ¬ (Member w (around w x p) y) → ShareAtMost w x y (p - 1)
+pub share_less : (w x y p : ℕ) → 0 < p → ¬ (Member w (block_at w x p) y) → ShareAtMost w x y (p - 1)
 share_less w x y p more apart q beyond within holds = apart ((block_same_set w (record { address = x; prefix = p }) y).1
     (holds.0, coarser_size w p q y x (omega (arith, more, beyond)) within holds.1))
 
 -- ---- in order
 
-whole : (w x : ℕ) → (around w x w).address ≡ x
+whole : (w x : ℕ) → (block_at w x w).address ≡ x
 whole w x = let none : w - w ≡ 0 = omega arith in ap (λ k. x / 2 ^ k * 2 ^ k) none ∙ omega arith
 
-up_to_address : (w x : ℕ) (n : Network) → IsNetwork w n → IsBlock w n → Member w n x → AtMost n (around w x w)
+up_to_address : (w x : ℕ) (n : Network) → IsNetwork w n → HostBitsAreZero w n → Member w n x → IsNetworkAtMost n (block_at w x w)
 up_to_address w x n fits block holds =
     let from = within_member w n x holds in
     let at = whole w x in
@@ -35,7 +34,7 @@ up_to_address w x n fits block holds =
     (λ (le : x ≤ n.address). inr (omega (arith, le, at, from.0, block), fits.prefix_fits))
     (cases_lt n.address x)
 
-address_up_to : (m n : Network) → AtMost m n → m.address ≤ n.address
+address_up_to : (m n : Network) → IsNetworkAtMost m n → m.address ≤ n.address
 address_up_to m n most = ⊎_elim (λ (less : m.address < n.address). omega (arith, less)) (λ (same : (m.address ≡ n.address) × (m.prefix ≤ n.prefix)). omega (arith, same.0)) most
 
 -- ---- the blocks that are kept in order beside the values
@@ -72,32 +71,32 @@ module _ {V W : Type 0} where
 
   -- ---- the last block up to an address
 
-  pub none_near : (w x : ℕ) (t : FinMap network_cmp V) (s : FinMap network_cmp W) → HasBlocksAlone w t → HaveTheSame t s → NoneUpTo s (around w x w) → NoneHolds w t x
+  pub none_near : (w x : ℕ) (t : FinMap network_cmp V) (s : FinMap network_cmp W) → HasBlocksAlone w t → HaveTheSame t s → NoneUpTo s (block_at w x w) → NoneHolds w t x
   none_near w x t s blocks same none n stored holds =
       let key = blocks n stored in
       none n ((same n).0 stored) (up_to_address w x n key.0 key.1 holds)
 
   -- no stored block that holds x has a longer prefix than x shares with the last one
   pub none_above_shared : (w x c : ℕ) (k : Network) (t : FinMap network_cmp V) (s : FinMap network_cmp W) → HasBlocksAlone w t → HaveTheSame t s
-      → IsLastUpTo s (around w x w) k → ShareAtMost w x k.address c → NoneAbove w t x c
+      → IsLastUpTo s (block_at w x w) k → ShareAtMost w x k.address c → NoneAbove w t x c
   none_above_shared w x c k t s blocks same last shared n stored beyond holds =
       let key = blocks n stored in
-      let upper : AtMost n (around w x w) = up_to_address w x n key.0 key.1 holds in
+      let upper : IsNetworkAtMost n (block_at w x w) = up_to_address w x n key.0 key.1 holds in
       let lower : n.address ≤ k.address = address_up_to n k (last.2 n ((same n).0 stored) upper) in
-      let most : k.address ≤ x = omega (arith, address_up_to k (around w x w) last.1, whole w x) in
+      let most : k.address ≤ x = omega (arith, address_up_to k (block_at w x w) last.1, whole w x) in
       let ends = within_member w n x holds in
       let inside : Member w n k.address = member_within w n key.0 k.address (omega (arith, lower, key.1)) (omega (arith, most, ends.1)) in
       shared n.prefix beyond key.0.prefix_fits (inside.0, inside.1 ∙ sym holds.1)
 
   -- nor than that of the last one, where that holds x too
   pub none_above_near : (w x : ℕ) (k : Network) (t : FinMap network_cmp V) (s : FinMap network_cmp W) → HasBlocksAlone w t → HaveTheSame t s
-      → IsLastUpTo s (around w x w) k → Member w k x → NoneAbove w t x k.prefix
+      → IsLastUpTo s (block_at w x w) k → Member w k x → NoneAbove w t x k.prefix
   none_above_near w x k t s blocks same last here n stored beyond holds =
       let key = blocks n stored in
       let near = blocks k ((same k).1 last.0) in
       let inside : Subnet w n k = subnet_from w n k key.0 (omega (arith, beyond)) (shares_address w n k x (omega (arith, beyond)) key.0 near.0 holds here) in
-      let after : AtMost k n = subnet_after w k n near.0 key.0 near.1 key.1 inside in
-      let upper : AtMost n k = last.2 n ((same n).0 stored) (up_to_address w x n key.0 key.1 holds) in
+      let after : IsNetworkAtMost k n = subnet_after w k n near.0 key.0 near.1 key.1 inside in
+      let upper : IsNetworkAtMost n k = last.2 n ((same n).0 stored) (up_to_address w x n key.0 key.1 holds) in
       let from : k.address ≤ n.address = address_up_to k n after in
       ⊎_elim
       (λ (less : n.address < k.address). omega (arith, less, from))

@@ -10,7 +10,7 @@ use Rattle.std.specs.BTreeMap as tree
 use Rattle.std.specs.BTreeMap.{BTreeMap}
 use Rattle.std.specs.BTreeMap.Range.{IsInRange}
 use Rattle.std.proofs.lemmas.Bool.{cases_lt}
-use Rattle.ipnetwork_family.specs.Network.{Network, AtMost, network_cmp}
+use Rattle.ipnetwork_family.specs.Network.{Network, IsNetworkAtMost, network_cmp}
 use Rattle.ipnetwork_family.proofs.Generic.{at_most_from_cmp}
 use Rattle.ipnetwork_table.specs.Table.{by_pair}
 use Rattle.ipnetwork_table.specs.Private.Nearest.{NoneUpTo, IsLastUpTo}
@@ -20,7 +20,7 @@ nothing : false ≡ true → ⊥
 nothing e = cc
 
 -- what comes before another or is it does not come after it
-not_after : (a b : Network) → AtMost a b → is_gt (network_cmp a b) ≡ false
+not_after : (a b : Network) → IsNetworkAtMost a b → is_gt (network_cmp a b) ≡ false
 not_after a b most = ⊎_elim
     (λ (less : a.address < b.address). ap (λ o. is_gt (ordering_then o (nat_cmp a.prefix b.prefix))) (sym (nat_cmp_is a.address b.address Less less)))
     (λ (same : (a.address ≡ b.address) × (a.prefix ≤ b.prefix)).
@@ -32,7 +32,7 @@ not_after a b most = ⊎_elim
     most
 
 -- what another does not come before comes before it or is it
-at_most_if : (a b : Network) → is_lt (network_cmp b a) ≡ false → AtMost a b
+at_most_if : (a b : Network) → is_lt (network_cmp b a) ≡ false → IsNetworkAtMost a b
 at_most_if a b not = elim (cases_lt a.address b.address) [
   | inl less ↦ inl less
   | inr ge ↦ elim (cases_lt b.address a.address) [
@@ -49,11 +49,11 @@ at_most_if a b not = elim (cases_lt a.address b.address) [
 ]
 
 module _ {K : Type 0} (pair : K → Network) (cmp : K → K → Ordering) (law : (a b : K) → cmp a b ≡ network_cmp (pair a) (pair b)) where
-  within_end : (k end : K) → is_gt (cmp k end) ≡ false → AtMost (pair k) (pair end)
+  within_end : (k end : K) → is_gt (cmp k end) ≡ false → IsNetworkAtMost (pair k) (pair end)
   within_end k end not = at_most_from_cmp (pair k) (pair end) (λ greater. nothing (sym not ∙ ap is_gt (law k end ∙ greater)))
 
-  in_range : (k end : K) (n : Network) → pair k ≡ n → AtMost n (pair end) → IsInRange cmp Unbounded (Included end) k
-  in_range k end n is most = (tt, ap is_gt (law k end) ∙ not_after (pair k) (pair end) (subst (λ m. AtMost m (pair end)) (sym is) most))
+  in_range : (k end : K) (n : Network) → pair k ≡ n → IsNetworkAtMost n (pair end) → IsInRange cmp Unbounded (Included end) k
+  in_range k end n is most = (tt, ap is_gt (law k end) ∙ not_after (pair k) (pair end) (subst (λ m. IsNetworkAtMost m (pair end)) (sym is) most))
 
 module _ {K V : Type 0} (pair : K → Network) (cmp : K → K → Ordering) (law : (a b : K) → cmp a b ≡ network_cmp (pair a) (pair b)) where
   abbrev table_of : BTreeMap K V → FinMap network_cmp V
@@ -87,6 +87,6 @@ module _ {K V : Type 0} (pair : K → Network) (cmp : K → K → Ordering) (law
     within_end pair cmp law last end within.1,
     λ n stored most.
         let key = key_at m n stored in
-        subst (λ k. AtMost k (pair last)) key.1
+        subst (λ k. IsNetworkAtMost k (pair last)) key.1
         (at_most_if (pair key.0) (pair last) (ap is_lt (sym (law last key.0)) ∙ greatest key.0 (in_range pair cmp law key.0 end n key.1 most) (stored_at m key.0 n key.1 stored))),
   )

@@ -1,17 +1,18 @@
 -- There is one answer to a look-up, and never more.
 use Rattle.std.proofs.Common.{◌≡◌, ℕ, zero, suc, ◌-◌, ◌^◌, ◌<◌, ◌≤◌, Option, Some, None, sym, refl, ap, subst, ◌∙◌, arith, ⊎_elim, is_some}
-use Rattle.std.specs.Prelude.{IsSome, MatchOption}
+use Rattle.std.specs.Prelude.{IsSome}
 use Rattle.std.specs.Option.{unwrap_or}
 use Rattle.std.specs.FinMap.{FinMap, get}
 use Rattle.std.proofs.lemmas.Bool.{cases_lt}
-use Rattle.ipnetwork_family.specs.Network.{Network, IsBlock, Member, network_cmp}
-use Rattle.ipnetwork_table.specs.Table.{HasBlocksAlone, HasNoHostBits, IsLongest, NoneHolds, found_by_pair}
-use Rattle.ipnetwork_table.specs.Laws.{Answers}
+use Rattle.ipnetwork_family.specs.Network.{Network, network_cmp, block_at}
+use Rattle.ipnetwork_family.proofs.BlocksAt.{same_block}
+use Rattle.ipnetwork_table.specs.Laws.{BlocksOfAnyWidthThatMeet}
+use Rattle.ipnetwork_table.specs.Table.{HasBlocksAlone, HasNoHostBits, IsLongest, found_by_pair, Finds, Answers}
 use Rattle.ipnetwork_table.specs.Private.Nearest.{NoneAbove}
-use Rattle.ipnetwork_table.proofs.Longest.{around, around_is, none_above_width, none_above_next, none_at_all, longest_here}
+use Rattle.ipnetwork_table.proofs.Longest.{none_above_width, none_above_next, none_at_all, longest_here}
 
-pub blocks_meet : (w : ℕ) (m n : Network) (x : ℕ) → IsBlock w m → IsBlock w n → m.prefix ≡ n.prefix → Member w m x → Member w n x → m ≡ n
-blocks_meet w m n x block_m block_n same in_m in_n = around_is w m x n.prefix block_m in_m same ∙ sym (around_is w n x n.prefix block_n in_n refl)
+pub blocks_meet : BlocksOfAnyWidthThatMeet
+blocks_meet w m n x block_m block_n same in_m in_n = same_block w m n block_m block_n same x in_m in_n
 
 same_value : {A : Type 0} (a b : A) → Some a ≡ Some b → a ≡ b
 same_value a b same = ap (λ o. unwrap_or o a) same
@@ -23,13 +24,13 @@ module _ {V : Type 0} (w : ℕ) (t : FinMap network_cmp V) (x : ℕ) (blocks : H
   -- from a prefix length down
   search_from : x < 2 ^ w → (p : ℕ) → NoneAbove w t x p → Found
   search_from fits zero above =
-      elim (get t (around w x 0)) as (λ o. get t (around w x 0) ≡ o → Found) [
-        | Some v ↦ λ found. (Some (around w x 0, v), longest_here w t x 0 _ v above fits refl found)
+      elim (get t (block_at w x 0)) as (λ o. get t (block_at w x 0) ≡ o → Found) [
+        | Some v ↦ λ found. (Some (block_at w x 0, v), longest_here w t x 0 _ v above fits refl found)
         | None ↦ λ none. (None, none_at_all w t x 0 blocks above none refl)
       ] refl
   search_from fits (suc p) above =
-      elim (get t (around w x (suc p))) as (λ o. get t (around w x (suc p)) ≡ o → Found) [
-        | Some v ↦ λ found. (Some (around w x (suc p), v), longest_here w t x (suc p) _ v above fits refl found)
+      elim (get t (block_at w x (suc p))) as (λ o. get t (block_at w x (suc p)) ≡ o → Found) [
+        | Some v ↦ λ found. (Some (block_at w x (suc p), v), longest_here w t x (suc p) _ v above fits refl found)
         | None ↦ λ none.
             let next : suc p - 1 ≡ p = omega arith in
             search_from fits p (subst (NoneAbove w t x) next (none_above_next w t x (suc p) blocks above none (omega arith)))
@@ -59,6 +60,6 @@ module _ {V : Type 0} (w : ℕ) (t : FinMap network_cmp V) (x : ℕ) (blocks : H
 
 -- what a look-up answers, its block told by what it means
 pub answers_by_pair : {N V : Type 0} (pair : N → Network) (w : ℕ) (t : FinMap network_cmp V) (x : ℕ) (found : Option (N × V))
-    → MatchOption found (NoneHolds w t x) (λ f. IsLongest w t x (pair f.0) f.1) → Answers w t x (found_by_pair pair found)
+    → Finds pair w t x found → Answers w t x (found_by_pair pair found)
 answers_by_pair pair w t x None h = h
 answers_by_pair pair w t x (Some f) h = h

@@ -1,27 +1,13 @@
 -- The laws of tables, for addresses of any number of bits and values of any type.
-use Rattle.std.specs.Prelude.{◌≡◌, ◌≢◌, ℕ, ◌<◌, nat_le, if◌then◌else◌, List, [], ◌∷◌, Option, None, Some, MatchOption, slice_get}
+use Rattle.std.specs.Prelude.{◌≡◌, ◌≢◌, ℕ, ◌<◌, Option, None, Some, slice_get}
 use Rattle.std.specs.FinMap.{FinMap, empty, get, insert, remove, entries}
-use Rattle.ipnetwork_family.specs.Network.{Network, IsBlock, Member, is_member, Subnet, IsBefore, block_of, network_cmp}
-use Rattle.ipnetwork_table.specs.Table.{HasBlocksAlone, HasNoHostBits, IsLongest, NoneHolds}
+use Rattle.ipnetwork_family.specs.Network.{Network, HostBitsAreZero, Member, Subnet, IsNetworkBefore, block_of, network_cmp}
+use Rattle.ipnetwork_table.specs.Table.{HasBlocksAlone, HasNoHostBits, Answers}
+use Rattle.ipnetwork_table.specs.Computed.Longest.{longest_of}
 
 -- two blocks of one prefix length that share an address are the same, whatever the number of bits
 abbrev pub BlocksOfAnyWidthThatMeet : Type 0
-BlocksOfAnyWidthThatMeet = (w : ℕ) (m n : Network) (x : ℕ) → IsBlock w m → IsBlock w n → m.prefix ≡ n.prefix → Member w m x → Member w n x → m ≡ n
-
--- this is the longest block that holds x and its value, or it is nothing and no stored block holds x
-abbrev pub Answers : {V : Type 0} → ℕ → FinMap network_cmp V → ℕ → Option (Network × V) → Type 0
-Answers w t x answer = MatchOption answer (NoneHolds w t x) (λ found. IsLongest w t x found.0 found.1)
-
--- of an entry and another, if there is one, the one of the longer prefix
-abbrev pub longer : {V : Type 0} → Network × V → Option (Network × V) → Option (Network × V)
-longer entry None = Some entry
-longer entry (Some other) = if nat_le other.0.prefix entry.0.prefix then Some entry else Some other
-
--- of the entries whose block holds the address, the one of the longest prefix
-abbrev pub longest_of : {V : Type 0} → ℕ → ℕ → List (Network × V) → Option (Network × V)
-longest_of w address [] = None
-longest_of w address (entry ∷ others) =
-    if is_member w entry.0 address then longer entry (longest_of w address others) else longest_of w address others
+BlocksOfAnyWidthThatMeet = (w : ℕ) (m n : Network) (x : ℕ) → HostBitsAreZero w m → HostBitsAreZero w n → m.prefix ≡ n.prefix → Member w m x → Member w n x → m ≡ n
 
 module _ (V : Type 0) where
   -- the longest of the entries is an answer, whatever the keys are: it can be computed
@@ -67,7 +53,7 @@ module _ (V : Type 0) where
   -- the entries stand in the order of networks,
   abbrev pub EntriesAscend : Type 0
   EntriesAscend = (t : FinMap network_cmp V) (i j : ℕ) (d e : Network × V) → slice_get (entries t) i ≡ Some d → slice_get (entries t) j ≡ Some e → i < j
-      → IsBefore d.0 e.0
+      → IsNetworkBefore d.0 e.0
 
   -- and no block lies in one that stands after it
   abbrev pub WiderBlocksFirst : Type 0

@@ -1,3 +1,4 @@
+pub mod Computed
 pub mod Laws
 pub mod Private
 pub mod Table

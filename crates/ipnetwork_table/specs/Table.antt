@@ -1,9 +1,9 @@
 -- Tables: finite maps from blocks of addresses of w bits to values, and the longest block that holds an address
 -- (RFC 4632, section 5.1).
-use Rattle.std.specs.Prelude.{◌≡◌, ℕ, ◌≤◌, List, map, Option, None, Some, IsSome, refl}
+use Rattle.std.specs.Prelude.{◌≡◌, ℕ, ◌≤◌, List, map, Option, None, Some, MatchOption, IsSome, refl}
 use Rattle.std.specs.Coded.{Coded, code_by, coded×, coded_ℕ}
 use Rattle.std.specs.FinMap.{FinMap, get}
-use Rattle.ipnetwork_family.specs.Network.{Network, IsNetwork, IsBlock, Member, network_cmp}
+use Rattle.ipnetwork_family.specs.Network.{Network, HostBitsAreZero, IsCidrBlock, Member, network_cmp}
 
 -- a network as its two numbers, so that a finite map can have it for a key
 abbrev pub network_code : Coded Network
@@ -20,11 +20,11 @@ found_by_pair pair (Some found) = Some (pair found.0, found.1)
 
 -- each key is a network without host bits
 abbrev pub HasBlocksAlone : {V : Type 0} → ℕ → FinMap network_cmp V → Type 0
-HasBlocksAlone w t = (n : Network) → IsSome (get t n) → IsNetwork w n × IsBlock w n
+HasBlocksAlone w t = (n : Network) → IsSome (get t n) → IsCidrBlock w n
 
 -- no key has host bits
 abbrev pub HasNoHostBits : {V : Type 0} → ℕ → FinMap network_cmp V → Type 0
-HasNoHostBits w t = (n : Network) → IsSome (get t n) → IsBlock w n
+HasNoHostBits w t = (n : Network) → IsSome (get t n) → HostBitsAreZero w n
 
 -- the block n is stored with the value v and holds x, and no stored block that holds x has a greater prefix length
 pub record IsLongest {V : Type 0} (w : ℕ) (t : FinMap network_cmp V) (x : ℕ) (n : Network) (v : V) : Type 0 where
@@ -35,3 +35,12 @@ pub record IsLongest {V : Type 0} (w : ℕ) (t : FinMap network_cmp V) (x : ℕ)
 -- no stored block holds x
 abbrev pub NoneHolds : {V : Type 0} → ℕ → FinMap network_cmp V → ℕ → Type 0
 NoneHolds w t x = (n : Network) → IsSome (get t n) → ¬ (Member w n x)
+
+-- what a look-up finds: the longest block that holds x and its value, or nothing where no stored block holds x. The
+-- block is of some type, and means a network
+abbrev pub Finds : {N V : Type 0} → (N → Network) → ℕ → FinMap network_cmp V → ℕ → Option (N × V) → Type 0
+Finds pair w t x found = MatchOption found (NoneHolds w t x) (λ f. IsLongest w t x (pair f.0) f.1)
+
+-- the same, of a network itself
+abbrev pub Answers : {V : Type 0} → ℕ → FinMap network_cmp V → ℕ → Option (Network × V) → Type 0
+Answers w t x answer = Finds (λ n. n) w t x answer

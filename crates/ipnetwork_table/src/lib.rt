@@ -4,14 +4,14 @@
 //! Only `insert` allocates.
 #![tactic(auto)]
 
-mod blocks;
+mod common_bits;
 mod entries;
 pub mod laws;
-mod shared;
-mod store;
+mod ordered_keys;
 mod table;
 #[cfg(test)]
 mod tests;
+mod values;
 
 pub use entries::Entries;
 pub use table::PrefixTable;

@@ -1,14 +1,14 @@
 //! A table of values by block.
 ghost use Rattle.std.specs.Prelude.{◌≡◌, ℕ, ◌+◌, ◌≤◌, OnOk, OnErr, IfOk, None, MatchOption, ◌↔◌, IsTrue, IsSome};
 ghost use Rattle.std.specs.FinMap as map;
-ghost use Rattle.ipnetwork_family.specs.Network.{IsBlock, block_of};
-ghost use Rattle.ipnetwork_table.specs.Table.{HasBlocksAlone, IsLongest, NoneHolds, by_pair};
+ghost use Rattle.ipnetwork_family.specs.Network.{HostBitsAreZero, block_of};
+ghost use Rattle.ipnetwork_table.specs.Table.{HasBlocksAlone, NoneHolds, Finds, by_pair};
 ghost use Rattle.ipnetwork_table.specs.Private.Nearest.{NoneAbove};
 
-use crate::blocks::Blocks;
+use crate::common_bits::shared_length;
 use crate::entries::Entries;
-use crate::shared::shared_length;
-use crate::store::Store;
+use crate::ordered_keys::OrderedKeys;
+use crate::values::Values;
 use ipnetwork_family::{CidrNetwork, laws};
 use std::alloc::{AllocError, Global};
 use std::fmt;
@@ -21,11 +21,11 @@ use std::marker::Model;
 /// A network given as a key stands for its block: its host bits are cleared. Only `insert` allocates.
 #[derive(Drop)]
 pub struct PrefixTable<N: CidrNetwork, V: Copy> {
-    store: Store<N, V>,
+    values: Values<N, V>,
     // `used[p]` is true where some stored block has the prefix length p, and may be true of others.
     used: [bool; 256],
-    // The blocks of the store, and no others.
-    blocks: Blocks<N>,
+    // The blocks that have a value, and no others.
+    keys: OrderedKeys<N>,
 }
 
 // A contract sees the finite map from networks, as pairs of numbers, to values.
@@ -40,15 +40,15 @@ impl<N: CidrNetwork, V: Copy> Model for PrefixTable<N, V> {
 
     ghost coded = { map.code network_code V.code };
 
-    ghost view = { λ t. t.store };
+    ghost view = { λ t. t.values };
 
-    ghost invariant = { λ t. HasBlocksAlone N.WIDTH t.store × MarksLengths t.store t.used × HaveTheSame t.store t.blocks };
+    ghost invariant = { λ t. HasBlocksAlone N.WIDTH t.values × MarksLengths t.values t.used × HaveTheSame t.values t.keys };
 }
 
 // The block of a network.
 fn key_of<N: CidrNetwork>(net: N) -> N
     ensures block { N.pair result ≡ block_of N.WIDTH (N.pair net) }
-    ensures no_host_bits { IsBlock N.WIDTH (N.pair result) }
+    ensures no_host_bits { HostBitsAreZero N.WIDTH (N.pair result) }
 {
     laws::blocks();
     let Some(block) = N::block(net.ip(), net.prefix()) else {
@@ -65,9 +65,9 @@ impl<N: CidrNetwork, V: Copy> PrefixTable<N, V> {
         ensures { result ≡ map.empty }
     {
         PrefixTable {
-            store: Store::new(alloc),
+            values: Values::new(alloc),
             used: [false; 256],
-            blocks: Blocks::new(alloc),
+            keys: OrderedKeys::new(alloc),
         }
     }
 
@@ -76,7 +76,7 @@ impl<N: CidrNetwork, V: Copy> PrefixTable<N, V> {
         ensures count { result ≡ map.len self.now }
         ensures blocks { HasBlocksAlone N.WIDTH self.now }
     {
-        self.store.len()
+        self.values.len()
     }
 
     /// Whether no block has a value.
@@ -92,7 +92,7 @@ impl<N: CidrNetwork, V: Copy> PrefixTable<N, V> {
         ensures blocks { HasBlocksAlone N.WIDTH self.now }
     {
         let mut steps = 0;
-        self.store.probe(&mut steps, key_of(net))
+        self.values.probe(&mut steps, key_of(net))
     }
 
     /// Whether the block of `net` has a value.
@@ -108,16 +108,16 @@ impl<N: CidrNetwork, V: Copy> PrefixTable<N, V> {
         ensures entries { by_pair N.pair result ≡ map.entries self.now }
         ensures blocks { HasBlocksAlone N.WIDTH self.now }
     {
-        self.store.entries()
+        self.values.entries()
     }
 
     /// Takes every block out, and frees the memory.
     pub fn clear(&mut self)
         ensures { self.new ≡ map.empty }
     {
-        self.store.clear();
+        self.values.clear();
         self.used = [false; 256];
-        self.blocks.clear();
+        self.keys.clear();
     }
 
     /// Sets the value of the block of `net`, and answers the value that it had.
@@ -136,18 +136,18 @@ impl<N: CidrNetwork, V: Copy> PrefixTable<N, V> {
     // A new block is kept in order too, and its prefix length is marked. Where there is no memory to keep it in order,
     // it is taken out again.
     fn insert_block(&mut self, block: N, value: V) -> Result<Option<V>, AllocError>
-        requires { IsBlock N.WIDTH (N.pair block) }
+        requires { HostBitsAreZero N.WIDTH (N.pair block) }
         ensures old { IfOk result (λ old. old ≡ map.get self.old (N.pair block)) }
         ensures set { OnOk result (self.new ≡ map.insert self.old (N.pair block) value) }
         ensures absent { OnErr result (map.get self.old (N.pair block) ≡ None) }
         ensures unchanged { OnErr result (self.new ≡ self.old) }
     {
-        let old = self.store.insert(block, value)?;
+        let old = self.values.insert(block, value)?;
         if old.is_some() {
             return Ok(old);
         }
-        if let Err(refused) = self.blocks.insert(block) {
-            self.store.remove(block);
+        if let Err(refused) = self.keys.insert(block) {
+            self.values.remove(block);
             return Err(refused);
         }
         self.used[block.prefix() as usize] = true;
@@ -166,8 +166,8 @@ impl<N: CidrNetwork, V: Copy> PrefixTable<N, V> {
         ensures old { result ≡ map.get self.old (N.pair block) }
         ensures removed { self.new ≡ map.remove self.old (N.pair block) }
     {
-        self.blocks.remove(block);
-        self.store.remove(block)
+        self.keys.remove(block);
+        self.values.remove(block)
     }
 
     // A prefix length that no stored block that holds the address is longer than; `None` where no stored block
@@ -181,7 +181,7 @@ impl<N: CidrNetwork, V: Copy> PrefixTable<N, V> {
         let Some(end) = N::block(addr, N::WIDTH) else {
             unreachable!()
         };
-        let near = self.blocks.last_up_to(end)?;
+        let near = self.keys.last_up_to(end)?;
         if near.contains(addr) {
             return Some(near.prefix());
         }
@@ -191,8 +191,7 @@ impl<N: CidrNetwork, V: Copy> PrefixTable<N, V> {
     /// The stored block of greatest prefix length whose set holds the address, with its value; `None` where
     /// no stored block holds it.
     pub fn lookup(&self, addr: N::Addr) -> Option<(N, V)>
-        ensures answer { MatchOption result (NoneHolds N.WIDTH self.now (N.number addr))
-            (λ found. IsLongest N.WIDTH self.now (N.number addr) (N.pair found.0) found.1) }
+        ensures answer { Finds N.pair N.WIDTH self.now (N.number addr) result }
         ensures blocks { HasBlocksAlone N.WIDTH self.now }
     {
         let mut steps = 0;
@@ -202,7 +201,7 @@ impl<N: CidrNetwork, V: Copy> PrefixTable<N, V> {
                 let Some(block) = N::block(addr, length) else {
                     unreachable!()
                 };
-                if let Some(value) = self.store.probe(&mut steps, block) {
+                if let Some(value) = self.values.probe(&mut steps, block) {
                     return Some((block, value));
                 }
             }
@@ -217,8 +216,7 @@ impl<N: CidrNetwork, V: Copy> PrefixTable<N, V> {
     /// each prefix length in turn, from `WIDTH` down: `WIDTH + 1` less the prefix length of the block
     /// that is found, `WIDTH + 1` where none is.
     pub fn lookup_steps(&self, addr: N::Addr) -> (Option<(N, V)>, u32)
-        ensures answer { MatchOption result.0 (NoneHolds N.WIDTH self.now (N.number addr))
-            (λ found. IsLongest N.WIDTH self.now (N.number addr) (N.pair found.0) found.1) }
+        ensures answer { Finds N.pair N.WIDTH self.now (N.number addr) result.0 }
         ensures steps { MatchOption result.0 (result.1 ≡ N.WIDTH + 1)
             (λ found. result.1 + (N.pair found.0).prefix ≡ N.WIDTH + 1) }
     {
@@ -228,7 +226,7 @@ impl<N: CidrNetwork, V: Copy> PrefixTable<N, V> {
             let Some(block) = N::block(addr, prefix) else {
                 unreachable!()
             };
-            if let Some(value) = self.store.probe(&mut steps, block) {
+            if let Some(value) = self.values.probe(&mut steps, block) {
                 return (Some((block, value)), steps);
             }
             if prefix == 0 {

@@ -1,6 +1,5 @@
-//! Rows over the public calls.
+//! Rows over the public calls. A helper says of a row whether the code answers it, and the test tells the row.
 
-mod against_a_list;
-mod laws;
-mod many;
-mod rows;
+mod inserts_and_removes;
+mod large_tables;
+mod worked_tables;

@@ -7,7 +7,7 @@ use Rattle.std.specs.Net.Addr.{segments_of}
 use Rattle.std.specs.Net.Grammar.{IsGroupsAfter, IsGroups}
 use Rattle.std.specs.Net.Grammar as std
 use Rattle.ipnetwork_addr.specs.Ipv4Text.{NamesV4}
-use Rattle.ipnetwork_addr.specs.Ipv6Text.{IsGroup, IsPlain, IsEnded, halves}
+use Rattle.ipnetwork_addr.specs.Ipv6Text.{IsGroup, IsPlain, IsEnded, two_groups}
 use Rattle.ipnetwork_witness.proofs.Dotted.{v4_bridge}
 
 to_std : (text : List ℕ) (group : ℕ) → IsGroup text group → std.IsGroup text group
@@ -17,10 +17,10 @@ from_std : (text : List ℕ) (group : ℕ) → std.IsGroup text group → IsGrou
 from_std text group h = record { digits = h.0.0; short = h.1; value = sym h.0.1 }
 
 -- four octets as two groups
-halves-segments : (text octets : List ℕ) → std.IsDotted text octets → halves (number_from_digits 256 octets) ≡ segments_of octets
+halves-segments : (text octets : List ℕ) → std.IsDotted text octets → two_groups (number_from_digits 256 octets) ≡ segments_of octets
 halves-segments text octets h = rw h.value (two h.a h.b h.c h.d h.fit)
   where
-    two : (a b c d : ℕ) → (a < 256) × (b < 256) × (c < 256) × (d < 256) → halves (number_from_digits 256 (a ∷ b ∷ c ∷ d ∷ [])) ≡ (a * 256 + b) ∷ (c * 256 + d) ∷ []
+    two : (a b c d : ℕ) → (a < 256) × (b < 256) × (c < 256) × (d < 256) → two_groups (number_from_digits 256 (a ∷ b ∷ c ∷ d ∷ [])) ≡ (a * 256 + b) ∷ (c * 256 + d) ∷ []
     two a b c d fit =
         let n : ℕ = number_from_digits 256 (a ∷ b ∷ c ∷ d ∷ []) in
         let high : n / 2 ^ 16 ≡ a * 256 + b = omega (arith, fit.0, fit.1, fit.2, fit.3) in
@@ -60,10 +60,10 @@ plain_to_std s ipv4 text (p ∷ parts) [] e named = absurd named
 plain_to_std s ipv4 text (p ∷ parts) (g ∷ groups) e named =
     inl (p, after_colons parts, e ∙ s.more p parts, to_std p g named.0, plain_to_std before_each ipv4 (after_colons parts) parts groups refl named.1)
 
-dotted_to_std : (s : Spelling) (text : List ℕ) (parts : List (List ℕ)) (front last : List ℕ) (address : ℕ) → text ≡ s.spell (parts ++ last ∷ []) → AllZip IsGroup parts front → NamesV4 last address → IsGroupsAfter true s.lead text (front ++ halves address)
+dotted_to_std : (s : Spelling) (text : List ℕ) (parts : List (List ℕ)) (front last : List ℕ) (address : ℕ) → text ≡ s.spell (parts ++ last ∷ []) → AllZip IsGroup parts front → NamesV4 last address → IsGroupsAfter true s.lead text (front ++ two_groups address)
 dotted_to_std s text [] [] last address e named dotted =
     let (octets, spelled, value) = v4_bridge.to_spelled last address dotted in
-    inr (last, octets, refl, e ∙ one_part s last, spelled, ap halves value ∙ halves-segments last octets spelled)
+    inr (last, octets, refl, e ∙ one_part s last, spelled, ap two_groups value ∙ halves-segments last octets spelled)
 dotted_to_std s text [] (g ∷ front) last address e named dotted = absurd named
 dotted_to_std s text (p ∷ parts) [] last address e named dotted = absurd named
 dotted_to_std s text (p ∷ parts) (g ∷ front) last address e named dotted =
@@ -82,7 +82,7 @@ ended_groups text groups (inr h) =
 
 data Parts (ipv4 : Bool) (spell : List (List ℕ) → List ℕ) (text groups : List ℕ) : Type 0 where
   Plain : (parts : List (List ℕ)) → text ≡ spell parts → AllZip IsGroup parts groups → Parts ipv4 spell text groups
-  Dotted : IsTrue ipv4 → (parts : List (List ℕ)) (front last : List ℕ) (address : ℕ) → text ≡ spell (parts ++ last ∷ []) → AllZip IsGroup parts front → NamesV4 last address → groups ≡ front ++ halves address → Parts ipv4 spell text groups
+  Dotted : IsTrue ipv4 → (parts : List (List ℕ)) (front last : List ℕ) (address : ℕ) → text ≡ spell (parts ++ last ∷ []) → AllZip IsGroup parts front → NamesV4 last address → groups ≡ front ++ two_groups address → Parts ipv4 spell text groups
 
 one_more : (s : Spelling) (ipv4 : Bool) (text part rest : List ℕ) (g : ℕ) (groups : List ℕ) → text ≡ s.lead ++ part ++ rest → IsGroup part g → Parts ipv4 after_colons rest groups → Parts ipv4 s.spell text (g ∷ groups)
 one_more s ipv4 text part rest g groups split named (Plain parts e later) =

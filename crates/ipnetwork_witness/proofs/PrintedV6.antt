@@ -10,7 +10,8 @@ use Rattle.std.specs.Int.Digits.{number_from_digits, AllBelowBase}
 use Rattle.std.specs.Net.Addr as std_addresses
 use Rattle.std.specs.Net.Text.{ipv4_text, ipv6_text, hex_groups_text, longest_zero_run}
 use Rattle.ipnetwork_addr.specs.Digits.{octets_of, segments_of}
-use Rattle.ipnetwork_addr.specs.Ipv6Canonical.{IsMapped, IsZeroRun, IsGap, IsCanonicalV6, Mapped, Gap, Whole, canonical_v6}
+use Rattle.ipnetwork_addr.specs.Ipv6Canonical.{IsMapped, IsZeroRun, IsGap, IsCanonicalV6, Mapped, Gap, Whole}
+use Rattle.ipnetwork_addr.specs.Computed.Ipv6Canonical.{canonical_v6}
 use Rattle.ipnetwork_witness.proofs.Dotted.{v4_prints}
 use Rattle.ipnetwork_witness.proofs.HexText.{same_groups}
 

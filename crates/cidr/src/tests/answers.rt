@@ -1,11 +1,13 @@
-use crate::answer::answer;
-use crate::replies::Replies;
+use crate::dispatch::answer;
+use crate::replies::ANSWER_MAX;
 use crate::route_tables::RouteTables;
+use line_engine::buffer::Buffer;
 use std::alloc::Global;
 
 /// Whether a line is answered by this text and a line feed.
 fn is_answered(alloc: Global, line: &[u8], text: &str) -> bool {
-    let mut replies = Replies::new();
+    let mut bytes = [0; ANSWER_MAX];
+    let mut replies = Buffer::new(&mut bytes);
     let mut routes = RouteTables::new(alloc);
     answer(line, &mut routes, &mut replies);
     match replies.as_slice().split_last() {

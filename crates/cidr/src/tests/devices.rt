@@ -5,52 +5,6 @@ use std::alloc::Global;
 use std::io;
 use std::io::{ErrorKind, Read, Write};
 
-/// Each kind of error.
-pub(crate) const KINDS: [ErrorKind; 42] = [
-    ErrorKind::NotFound,
-    ErrorKind::PermissionDenied,
-    ErrorKind::ConnectionRefused,
-    ErrorKind::ConnectionReset,
-    ErrorKind::HostUnreachable,
-    ErrorKind::NetworkUnreachable,
-    ErrorKind::ConnectionAborted,
-    ErrorKind::NotConnected,
-    ErrorKind::AddrInUse,
-    ErrorKind::AddrNotAvailable,
-    ErrorKind::NetworkDown,
-    ErrorKind::BrokenPipe,
-    ErrorKind::AlreadyExists,
-    ErrorKind::WouldBlock,
-    ErrorKind::NotADirectory,
-    ErrorKind::IsADirectory,
-    ErrorKind::DirectoryNotEmpty,
-    ErrorKind::ReadOnlyFilesystem,
-    ErrorKind::FilesystemLoop,
-    ErrorKind::StaleNetworkFileHandle,
-    ErrorKind::InvalidInput,
-    ErrorKind::InvalidData,
-    ErrorKind::TimedOut,
-    ErrorKind::WriteZero,
-    ErrorKind::StorageFull,
-    ErrorKind::NotSeekable,
-    ErrorKind::QuotaExceeded,
-    ErrorKind::FileTooLarge,
-    ErrorKind::ResourceBusy,
-    ErrorKind::ExecutableFileBusy,
-    ErrorKind::Deadlock,
-    ErrorKind::CrossesDevices,
-    ErrorKind::TooManyLinks,
-    ErrorKind::InvalidFilename,
-    ErrorKind::ArgumentListTooLong,
-    ErrorKind::Interrupted,
-    ErrorKind::Unsupported,
-    ErrorKind::UnexpectedEof,
-    ErrorKind::OutOfMemory,
-    ErrorKind::InProgress,
-    ErrorKind::Other,
-    ErrorKind::Uncategorized,
-];
-
 /// Gives these bytes, `step` a call at most, and counts its calls.
 ///
 /// The call `fails_at` fails. An endless one gives its bytes again and again.
@@ -60,7 +14,6 @@ pub(crate) struct Source<'a> {
     pub(crate) step: usize,
     pub(crate) endless: bool,
     pub(crate) fails_at: usize,
-    pub(crate) kind: ErrorKind,
     pub(crate) calls: usize,
     ghost moves: { 0 < step },
 }
@@ -74,7 +27,6 @@ impl<'a> Source<'a> {
             step,
             endless: false,
             fails_at: 0,
-            kind: ErrorKind::Interrupted,
             calls: 0,
         }
     }
@@ -86,7 +38,7 @@ impl Read for Source<'_> {
     fn read(&mut self, buf: &mut [u8]) -> io::Result<usize> {
         self.calls = self.calls.saturating_add(1);
         if self.calls == self.fails_at {
-            return Err(io::Error::from(self.kind));
+            return Err(io::Error::from(ErrorKind::Interrupted));
         }
         let count = self.step.min(self.bytes.len()).min(buf.len());
         buf[..count].copy_from_slice(&self.bytes[..count]);
@@ -107,7 +59,6 @@ pub(crate) struct Sink {
     pub(crate) fails_at: usize,
     pub(crate) idles_at: usize,
     pub(crate) flush_fails: bool,
-    pub(crate) kind: ErrorKind,
     pub(crate) writes: usize,
     pub(crate) flushes: usize,
     pub(crate) flushed: usize,
@@ -121,7 +72,6 @@ impl Sink {
             fails_at: 0,
             idles_at: 0,
             flush_fails: false,
-            kind: ErrorKind::Interrupted,
             writes: 0,
             flushes: 0,
             flushed: 0,
@@ -139,7 +89,7 @@ impl Write for Sink {
     fn write(&mut self, buf: &[u8]) -> io::Result<usize> {
         self.writes = self.writes.saturating_add(1);
         if self.writes == self.fails_at {
-            return Err(io::Error::from(self.kind));
+            return Err(io::Error::from(ErrorKind::Interrupted));
         }
         if self.writes == self.idles_at {
             return Ok(0);
@@ -153,7 +103,7 @@ impl Write for Sink {
         self.flushes = self.flushes.saturating_add(1);
         self.flushed = self.taken.len();
         if self.flush_fails {
-            return Err(io::Error::from(self.kind));
+            return Err(io::Error::from(ErrorKind::Interrupted));
         }
         Ok(())
     }

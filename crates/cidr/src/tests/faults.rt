@@ -1,45 +1,39 @@
 //! Devices that fail, at each of their calls.
 
-use crate::fault::RunFault;
-use crate::tests::devices::{KINDS, Sink, Source};
+use crate::tests::devices::{Sink, Source};
 use crate::tests::{REPLIES, REQUESTS, run_over};
-use crate::watched::Watched;
+use line_engine::fault::RunFault;
+use line_engine::watched::Watched;
 
 #[test]
 fn writes_fail(rt: HostRuntime) {
     for call in 1..=REPLIES.len() {
         for idle in [false, true] {
-            for kind in KINDS {
-                let mut sink = Sink::new(rt.alloc(), 1);
-                sink.kind = kind;
-                if idle {
-                    sink.idles_at = call;
-                } else {
-                    sink.fails_at = call;
-                }
-                let reader = Watched::new(Source::new(REQUESTS, 1));
-                let end = run_over(rt.alloc(), u32::MAX, reader, Watched::new(sink));
-                assert_eq!(rt; end.result, Err(RunFault::Write), "at {call}");
-                assert_eq!(rt; end.written.as_slice(), &REPLIES[..call - 1], "at {call}");
-                assert_eq!(rt; [end.writes, end.flushes], [call, 0], "at {call}");
+            let mut sink = Sink::new(rt.alloc(), 1);
+            if idle {
+                sink.idles_at = call;
+            } else {
+                sink.fails_at = call;
             }
+            let reader = Watched::new(Source::new(REQUESTS, 1));
+            let end = run_over(rt.alloc(), u32::MAX, reader, Watched::new(sink));
+            assert_eq!(rt; end.result, Err(RunFault::Write), "at {call}");
+            assert_eq!(rt; end.written.as_slice(), &REPLIES[..call - 1], "at {call}");
+            assert_eq!(rt; [end.writes, end.flushes], [call, 0], "at {call}");
         }
     }
 }
 
 #[test]
 fn flush_fails(rt: HostRuntime) {
-    for kind in KINDS {
-        let mut sink = Sink::new(rt.alloc(), 1);
-        sink.kind = kind;
-        sink.flush_fails = true;
-        let reader = Watched::new(Source::new(REQUESTS, 1));
-        let end = run_over(rt.alloc(), u32::MAX, reader, Watched::new(sink));
-        assert_eq!(rt; end.result, Err(RunFault::Write));
-        assert_eq!(rt; end.written.as_slice(), REPLIES);
-        assert_eq!(rt; [end.reads, end.writes, end.flushes], [76, 38, 1]);
-        assert_eq!(rt; end.flushed, 38);
-    }
+    let mut sink = Sink::new(rt.alloc(), 1);
+    sink.flush_fails = true;
+    let reader = Watched::new(Source::new(REQUESTS, 1));
+    let end = run_over(rt.alloc(), u32::MAX, reader, Watched::new(sink));
+    assert_eq!(rt; end.result, Err(RunFault::Write));
+    assert_eq!(rt; end.written.as_slice(), REPLIES);
+    assert_eq!(rt; [end.reads, end.writes, end.flushes], [76, 38, 1]);
+    assert_eq!(rt; end.flushed, 38);
 }
 
 #[test]
@@ -52,19 +46,16 @@ fn reads_fail(rt: HostRuntime) {
         (76, 76, REPLIES),
     ] {
         for call in first..=last {
-            for kind in KINDS {
-                let mut source = Source::new(REQUESTS, 1);
-                source.kind = kind;
-                source.fails_at = call;
-                let writer = Watched::new(Sink::new(rt.alloc(), 1));
-                let end = run_over(rt.alloc(), u32::MAX, Watched::new(source), writer);
-                assert_eq!(rt; end.result, Err(RunFault::Read), "at {call}");
-                assert_eq!(rt; end.written.as_slice(), output, "at {call}");
-                assert_eq!(rt;
-                    [end.reads, end.writes, end.flushes],
-                    [call, output.len(), 0]
-                );
-            }
+            let mut source = Source::new(REQUESTS, 1);
+            source.fails_at = call;
+            let writer = Watched::new(Sink::new(rt.alloc(), 1));
+            let end = run_over(rt.alloc(), u32::MAX, Watched::new(source), writer);
+            assert_eq!(rt; end.result, Err(RunFault::Read), "at {call}");
+            assert_eq!(rt; end.written.as_slice(), output, "at {call}");
+            assert_eq!(rt;
+                [end.reads, end.writes, end.flushes],
+                [call, output.len(), 0]
+            );
         }
     }
 }
@@ -120,16 +111,5 @@ fn failed_devices_stay_uncalled(rt: HostRuntime) {
         assert_eq!(rt; end.result, Err(fault));
         assert_eq!(rt; [end.reads, end.writes], made);
         assert_eq!(rt; [end.written.len(), end.flushes], [0, 0]);
-    }
-}
-
-#[test]
-fn each_fault_has_its_words(rt: HostRuntime) {
-    for (fault, words) in [
-        (RunFault::Read, "read error"),
-        (RunFault::Write, "write error"),
-        (RunFault::InputTooLong, "input too long"),
-    ] {
-        assert_eq!(rt; fault.text(), words);
     }
 }

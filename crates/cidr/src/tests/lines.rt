@@ -1,10 +1,10 @@
 //! Where a line ends, where it is too long, and where the input is.
 
-use crate::fault::RunFault;
 use crate::run::run;
 use crate::tests::devices::{Sink, Source};
 use crate::tests::{REPLIES, REQUESTS, run_over};
-use crate::watched::Watched;
+use line_engine::fault::RunFault;
+use line_engine::watched::Watched;
 use std::test::Fail;
 
 #[test]

@@ -1,9 +1,9 @@
 //! Routes that are added, dropped and found.
 
-use crate::fault::RunFault;
 use crate::tests::devices::{Sink, Source};
 use crate::tests::run_over;
-use crate::watched::Watched;
+use line_engine::fault::RunFault;
+use line_engine::watched::Watched;
 use std::alloc::{AllocError, Global};
 use std::test::Fail;
 

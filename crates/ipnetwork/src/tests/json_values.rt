@@ -27,18 +27,39 @@ const READ: [(&str, &str); 12] = [
     ("[\"10.1.9.32/16\"]", NOT_A_STRING),
 ];
 
+fn says(error: &IpNetworkError, text: &str) -> bool {
+    let mut printed = ArrayString::<100>::new();
+    write!(printed, "{error}").is_ok() && printed.as_str() == text
+}
+
+/// Whether a value is read as the network of this text, or refused for this reason.
+fn is_read_as(alloc: Global, value: &Value, wanted: &str) -> bool {
+    match IpNetwork::from_value(alloc, value) {
+        Ok(network) => network.canonical().as_str() == wanted,
+        Err(JsonFault::NotAString) => wanted == NOT_A_STRING,
+        Err(JsonFault::Refused(error)) => says(&error, wanted),
+    }
+}
+
 #[test]
 fn values_are_read_as_their_strings_are(rt: HostRuntime) -> Result<(), Fail> {
     for (text, wanted) in READ {
         let value = Value::from_str(rt.alloc(), text)?;
-        let said = match IpNetwork::from_value(rt.alloc(), &value) {
-            Ok(network) => network.to_text(rt.alloc())?,
-            Err(JsonFault::NotAString) => NOT_A_STRING.to_string(rt.alloc())?,
-            Err(JsonFault::Refused(error)) => format!(in rt.alloc(); "{error}")?,
-        };
-        assert_eq!(rt; said.as_str(), wanted, "{text}");
+        assert!(rt; is_read_as(rt.alloc(), &value, wanted), "{text}");
     }
     Ok(())
+}
+
+/// Whether the value of the network that a text names is written as this quoted text, and read back by the law.
+fn is_written_as(alloc: Global, text: &str, quoted: &str) -> Result<bool, Fail> {
+    let Some(network) = network(text) else {
+        return Ok(false);
+    };
+    let written = network.to_value(alloc)?.to_string(alloc)?;
+    Ok(
+        written.as_str() == quoted
+            && laws::ip_network_through_json(alloc, &network)? == (written, Ok(network)),
+    )
 }
 
 #[test]
@@ -47,29 +68,25 @@ fn values_are_written_in_quotes(rt: HostRuntime) -> Result<(), Fail> {
         ("10.1.9.32/16", "\"10.1.9.32/16\""),
         ("::ffff:102:304", "\"::ffff:1.2.3.4/128\""),
     ] {
-        let network = network(text)?;
-        let written = network.to_value(rt.alloc())?.to_string(rt.alloc())?;
-        assert_eq!(rt; written.as_str(), quoted);
-        let answer = laws::ip_network_through_json(rt.alloc(), &network)?;
-        assert_eq!(rt; answer, (written, Ok(network)));
+        assert!(rt; is_written_as(rt.alloc(), text, quoted)?, "{text}");
     }
     Ok(())
 }
 
+// Of the Rust crate: test_ipnetwork_json.
 #[test]
-fn test_ipnetwork_json(rt: HostRuntime) -> Result<(), Fail> {
+fn networks_in_a_list(rt: HostRuntime) -> Result<(), Fail> {
     let text = "{\"ipnetwork\":[\"127.1.0.0/24\",\"::1/0\"]}";
     let value = Value::from_str(rt.alloc(), text)?;
     let list = value.get("ipnetwork").ok_or("a list")?;
     let mut again = Vec::new(rt.alloc());
     for (i, text) in ["127.1.0.0/24", "::1/0"].iter().enumerate() {
         let item = list.get(i).ok_or("an item")?;
-        let read = IpNetwork::from_value(rt.alloc(), item);
-        assert_eq!(rt; read, Ok(network(text)?));
-        again.push(network(text)?.to_value(rt.alloc())?)?;
+        assert!(rt; is_read_as(rt.alloc(), item, text), "item {i}");
+        again.push(network(text).ok_or("a network")?.to_value(rt.alloc())?)?;
     }
     let written = json!(in rt.alloc(); {"ipnetwork": again})?.to_string(rt.alloc())?;
-    assert_eq!(rt; written.as_str(), text);
+    assert!(rt; written.as_str() == text);
     Ok(())
 }
 
@@ -108,40 +125,49 @@ fn value_of(alloc: Global, number: usize) -> Result<Value, AllocError> {
 
 const TEXTS: [&str; 3] = ["1.2.3.4/32", "::1/128", "1.2.3.4/32"];
 
-// No test can refuse an allocation itself: run this with each allocation of the run refused in turn. Then the
+/// Whether a refusal is out of memory; `None` where the answer is another than the refusal that prints this text.
+fn is_refused(read: Result<IpNetwork, JsonFault>, text: &str) -> Option<bool> {
+    match read {
+        Err(JsonFault::Refused(IpNetworkError::OutOfMemory)) => Some(true),
+        Err(JsonFault::Refused(error)) if says(&error, text) => Some(false),
+        _ => None,
+    }
+}
+
+// No test can refuse an allocation itself: run these with each allocation of the run refused in turn. Then the
 // call that was refused says so, and no other does, so none asks for memory a second time.
 #[test]
-fn one_refused_allocation_changes_one_answer(rt: HostRuntime) -> Result<(), Fail> {
+fn one_refused_allocation_changes_one_value(rt: HostRuntime) {
     let mut refused = 0_usize;
     for (i, text) in TEXTS.iter().enumerate() {
         match value_of(rt.alloc(), i) {
             Ok(value) => {
-                assert_eq!(rt; value.as_str(), Some(*text));
-                assert_eq!(rt; read(rt.alloc(), i, &value), Ok(network(text)?));
+                assert!(rt; value.as_str() == Some(*text), "row {i}");
+                assert!(rt;
+                    read(rt.alloc(), i, &value).ok() == network(text),
+                    "row {i}"
+                );
             }
             Err(AllocError) => refused = refused.saturating_add(1),
         }
     }
-    for (number, text, printed) in REFUSED {
+    assert!(rt; refused <= 1, "{refused} refused");
+}
+
+#[test]
+fn one_refused_allocation_changes_one_refusal(rt: HostRuntime) {
+    let mut refused = 0_usize;
+    for (i, (number, text, printed)) in REFUSED.iter().enumerate() {
         let Ok(value) = Value::try_from_str(rt.alloc(), text) else {
             refused = refused.saturating_add(1);
             continue;
         };
-        let mut said = ArrayString::<100>::new();
-        match read(rt.alloc(), number, &value) {
-            Err(JsonFault::Refused(IpNetworkError::OutOfMemory)) => {
-                refused = refused.saturating_add(1);
-                said.push_str(printed);
-            }
-            Err(JsonFault::Refused(error)) => write!(said, "{error}")?,
-            _ => {}
+        match is_refused(read(rt.alloc(), *number, &value), printed) {
+            Some(is_refused) => refused = refused.saturating_add(usize::from(is_refused)),
+            None => assert!(rt; false, "row {i}"),
         }
-        assert_eq!(rt; said.as_str(), printed);
     }
-    assert_eq!(rt;
-        read(rt.alloc(), 2, &Value::from(7_u8)),
-        Err(JsonFault::NotAString)
-    );
     assert!(rt; refused <= 1, "{refused} refused");
-    Ok(())
+    let number = read(rt.alloc(), 2, &Value::from(7_u8));
+    assert!(rt; number == Err(JsonFault::NotAString));
 }

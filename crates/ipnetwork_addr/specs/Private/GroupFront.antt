@@ -3,7 +3,7 @@ use Rattle.std.specs.Prelude.{◌≡◌, ℕ, ◌^◌, ◌<◌, ◌≤◌, ◌�
 use Rattle.std.specs.Char.{digit_value}
 use Rattle.std.specs.Int.Digits.{number_from_digits}
 use Rattle.ipnetwork_addr.specs.Ipv4Text.{NamesV4}
-use Rattle.ipnetwork_addr.specs.Ipv6Text.{IsGroup, halves}
+use Rattle.ipnetwork_addr.specs.Ipv6Text.{IsGroup, two_groups}
 use Rattle.ipnetwork_addr.specs.Texts.{colon}
 
 -- the text does not begin with a hex digit
@@ -33,7 +33,7 @@ NoGroup text = (group : ℕ) (rest : List ℕ) → ¬ (BeginsWithGroup text grou
 -- Here: the first group of a part, where More says the rest of the part of the text behind its colon.
 pub data IsPartFrom (More : List ℕ → Type 0) (text : List ℕ) (group : ℕ) (groups : List ℕ) (end : Option (List ℕ)) : Type 0 where
   Last : BeginsWithGroup text group [] → groups ≡ [] → end ≡ None → IsPartFrom More text group groups end
-  Dotted : (address : ℕ) → NamesV4 text address → group ∷ groups ≡ halves address → end ≡ None → IsPartFrom More text group groups end
+  Dotted : (address : ℕ) → NamesV4 text address → group ∷ groups ≡ two_groups address → end ≡ None → IsPartFrom More text group groups end
   Gap : (next : List ℕ) → BeginsWithGroup text group (colon ∷ colon ∷ next) → groups ≡ [] → end ≡ Some next → IsPartFrom More text group groups end
   Next : (next : List ℕ) → BeginsWithGroup text group (colon ∷ next) → More next → IsPartFrom More text group groups end
 

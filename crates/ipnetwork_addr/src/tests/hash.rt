@@ -23,6 +23,7 @@ fn each_group_is_hashed(rt: HostRuntime) {
     let groups = [0x2001, 0xdb8, 0, 1, 2, 3, 4, 5];
     let address = hash_of(&Ipv6Addr::from(groups));
     assert!(rt; hash_of(&Ipv6Addr::new(0x2001, 0xdb8, 0, 1, 2, 3, 4, 5)) == address);
+    assert!(rt; hash_of(&0x2001_0db8_0000_0001_0002_0003_0004_0005_u128) == address);
     for i in 0..8 {
         let mut others = groups;
         others[i] = 0xffff;

@@ -173,6 +173,7 @@ fn addresses_are_numbers(rt: HostRuntime) -> Result<(), Fail> {
     );
     assert!(rt; address < Ipv6Addr::from(number + 1));
     assert!(rt; Ipv6Addr::from(0x1_0000) > Ipv6Addr::from(0xffff));
+    assert!(rt; Ipv6Addr::new(0, 0, 0, 1, 0, 0, 0, 0) > Ipv6Addr::from(0xffff_ffff_ffff_ffff));
     assert!(rt; IpAddr::V4(Ipv4Addr::from(0xffff_ffff)) < IpAddr::V6(Ipv6Addr::from(0)));
     assert_eq!(rt;
         IpAddr::read_bytes(b"1.2.3.4"),

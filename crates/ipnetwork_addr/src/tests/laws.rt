@@ -1,31 +1,6 @@
-//! The laws: those that take nothing are each called once, the others with values.
+//! The laws that take values, each called once.
 use crate::{AddrParseError, IpAddr, Ipv4Addr, Ipv6Addr, laws};
 use std::cmp::Ordering;
-
-#[test]
-fn laws_are_called() {
-    laws::octet_texts();
-    laws::v4_text_names_one();
-    laws::canonical_v4_names_its_address();
-    laws::canonical_v4_is_one_to_one();
-    laws::v4_text_bytes();
-    laws::v4_text_is_computed();
-    laws::v6_text_names_one();
-    laws::no_text_names_both();
-    laws::canonical_v6_names_its_address();
-    laws::canonical_v6_is_one_text();
-    laws::canonical_v6_is_one_to_one();
-    laws::v6_text_bytes();
-    laws::ip_text_names_one();
-    laws::canonical_ip_names_its_address();
-    laws::canonical_ip_is_one_to_one();
-    laws::v6_text_is_computed();
-    laws::v4_reading_is_computed();
-    laws::v6_reading_is_computed();
-    laws::ip_reading_is_computed();
-    laws::v4_text_has_a_dot_first();
-    laws::v6_text_has_a_colon_first();
-}
 
 #[test]
 fn lower_numbers_are_before(rt: HostRuntime) {

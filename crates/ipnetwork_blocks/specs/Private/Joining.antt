@@ -1,8 +1,8 @@
 -- Blocks that are joined as far as they go: what stands in front while a list is aggregated.
 use Rattle.std.specs.Prelude.{◌≡◌, ℕ, ◌+◌, ◌-◌, ◌<◌, List, length, slice_index_or}
 use Rattle.std.specs.List.{All, AllPairs}
-use Rattle.ipnetwork_family.specs.Network.{Network, IsNetwork, IsBlock, Member, high, AtMost, Subnet}
-use Rattle.ipnetwork_blocks.specs.Around.{parent}
+use Rattle.ipnetwork_family.specs.Network.{Network, IsNetwork, HostBitsAreZero, Member, high, IsNetworkAtMost, Subnet}
+use Rattle.ipnetwork_blocks.specs.Supernets.{parent}
 
 -- of two blocks that differ: they are the halves of one block
 abbrev pub AreHalves : ℕ → Network → Network → Type 0
@@ -11,7 +11,7 @@ AreHalves w a b = (a.prefix ≡ b.prefix) × (0 < a.prefix) × Member w (parent 
 -- a network without host bits
 pub record IsBlockNetwork (w : ℕ) (b : Network) : Type 0 where
   pub network : IsNetwork w b
-  pub block : IsBlock w b
+  pub block : HostBitsAreZero w b
 
 -- b begins after a has ended, and they are no halves of one block
 abbrev pub Follows : ℕ → Network → Network → Type 0
@@ -24,7 +24,7 @@ pub record AreJoined (w : ℕ) (list : List Network) : Type 0 where
 
 -- each network is at most the next one in order
 abbrev pub AreInOrder : List Network → Type 0
-AreInOrder networks = (k : ℕ) (d : Network) → k + 1 < length networks → AtMost (slice_index_or networks k d) (slice_index_or networks (k + 1) d)
+AreInOrder networks = (k : ℕ) (d : Network) → k + 1 < length networks → IsNetworkAtMost (slice_index_or networks k d) (slice_index_or networks (k + 1) d)
 
 -- the network lies in the last of the blocks
 abbrev pub LiesInLast : ℕ → List Network → Network → Type 0

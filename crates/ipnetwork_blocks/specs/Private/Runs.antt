@@ -1,6 +1,6 @@
 -- A run of neighbouring blocks of one prefix length, by its first and its last.
 use Rattle.std.specs.Prelude.{◌≡◌, ℕ, ◌+◌, ◌-◌, ◌/◌, ◌≤◌, List, [], map, Option, None, Some}
-use Rattle.ipnetwork_family.specs.Network.{Network, IsNetwork, IsBlock, block_size, count_up}
+use Rattle.ipnetwork_family.specs.Network.{Network, IsNetwork, HostBitsAreZero, block_size, count_up}
 use Rattle.ipnetwork_blocks.specs.Subnets.{block_number}
 
 -- the blocks from a first to a last one, or none
@@ -14,8 +14,8 @@ blocks_left w (Some first) last =
 pub record IsRun (w : ℕ) (first last : Network) : Type 0 where
   pub network : IsNetwork w last
   pub length : first.prefix ≡ last.prefix
-  pub first_begins : IsBlock w first
-  pub last_begins : IsBlock w last
+  pub first_begins : HostBitsAreZero w first
+  pub last_begins : HostBitsAreZero w last
   pub ordered : first.address ≤ last.address
 
 abbrev pub AreEnds : ℕ → Option Network → Network → Type 0

@@ -174,3 +174,18 @@ fn ipv6_subnets(rt: HostRuntime) -> Result<(), Fail> {
     }
     Ok(())
 }
+
+#[test]
+fn refused_prefix_lengths(rt: HostRuntime) -> Result<(), Fail> {
+    let four = "192.0.2.1/24".parse::<Ipv4Network>()?;
+    let six = "2001:db8::1/64".parse::<Ipv6Network>()?;
+    for prefix in [0, 23, 33, 255] {
+        assert!(rt; subnets(four, prefix).is_none(), "{prefix}");
+    }
+    for prefix in [0, 63, 129, 255] {
+        assert!(rt; subnets(six, prefix).is_none(), "{prefix}");
+    }
+    assert_eq!(rt; (supernet(four, 25), supernet(four, 33)), (None, None));
+    assert_eq!(rt; (supernet(six, 65), supernet(six, 129)), (None, None));
+    Ok(())
+}

@@ -1,12 +1,14 @@
+//! Texts that name IPv4 networks, and those that name none.
+
+use super::answers::{first_not_refused, long_text, names};
 use crate::CidrFault::{Addr, Format, Prefix};
 use crate::{CidrFault, Ipv4Network};
-use arrayvec::ArrayString;
 use ipnetwork_addr::Ipv4Addr;
-use std::fmt::Write;
-use std::str::FromStr;
+use std::alloc::Global;
 use std::test::Fail;
 
-// A text, its network's octets and prefix length, and its canonical text.
+// A text, its network's octets and prefix length, and its canonical text. Of the Rust crate: parse_v4_24bit,
+// parse_v4_32bit, parse_v4_noprefix, parse_v4_non_zero_host_bits, parse_netmask.
 const ACCEPTED: [(&str, [u8; 4], u8, &str); 18] = [
     ("10.1.9.32/16", [10, 1, 9, 32], 16, "10.1.9.32/16"),
     ("10.0.0.0/+8", [10, 0, 0, 0], 8, "10.0.0.0/8"),
@@ -48,6 +50,8 @@ const ACCEPTED: [(&str, [u8; 4], u8, &str); 18] = [
     ("1.2.3.4/255.255.255.254", [1, 2, 3, 4], 31, "1.2.3.4/31"),
 ];
 
+// A text, and why it is refused. Of the Rust crate: parse_v4_fail_addr, parse_v4_fail_addr2, parse_v4_fail_addr3,
+// parse_v4_fail_prefix, parse_v4_fail_two_slashes, parse_netmask_broken_v4.
 const REFUSED: [(&str, CidrFault); 32] = [
     ("10.0.0.0/-0", Prefix),
     ("10.0.0.0/256", Prefix),
@@ -83,75 +87,60 @@ const REFUSED: [(&str, CidrFault); 32] = [
     ("1.2.3.4 ", Addr),
 ];
 
-#[test]
-fn accepted_texts(rt: HostRuntime) -> Result<(), Fail> {
-    for (text, octets, prefix, canonical) in ACCEPTED {
-        let network = Ipv4Network::new_checked(Ipv4Addr::from(octets), prefix).ok_or(
-            "a prefix length",
-        )?;
-        let read = (
-            Ipv4Network::read_bytes(text.as_bytes()),
-            Ipv4Network::from_str(text),
-            Ipv4Network::try_from(text),
-        );
-        assert_eq!(rt; read, (Ok(network), Ok(network), Ok(network)), "{text}");
-        assert_eq!(rt; network.canonical().as_str(), canonical);
-        let mut printed = ArrayString::<43>::new();
-        write!(printed, "{network}")?;
-        assert_eq!(rt; printed.as_str(), canonical);
-        assert_eq!(rt; network.to_text(rt.alloc())?.as_str(), canonical);
-        assert_eq!(rt; Ipv4Network::read_bytes(canonical.as_bytes()), Ok(network));
+fn first_not_named(alloc: Global, rows: &[(&str, [u8; 4], u8, &str)]) -> Option<usize> {
+    for (i, (text, address, prefix, canonical)) in rows.iter().enumerate() {
+        if !names(alloc, text, Ipv4Addr::from(*address), *prefix, canonical) {
+            return Some(i);
+        }
     }
-    Ok(())
+    None
+}
+
+#[test]
+fn accepted_texts(rt: HostRuntime) {
+    assert_eq!(rt; first_not_named(rt.alloc(), &ACCEPTED), None);
 }
 
 #[test]
 fn refused_texts_and_their_causes(rt: HostRuntime) {
-    for (text, fault) in REFUSED {
-        let read = (
-            Ipv4Network::read_bytes(text.as_bytes()),
-            Ipv4Network::from_str(text),
-            Ipv4Network::try_from(text),
-        );
-        assert_eq!(rt; read, (Err(fault), Err(fault), Err(fault)), "{text}");
-    }
-    for (text, fault) in [
-        (&b"\xff/\xff/"[..], Format),
-        (&b"\xff"[..], Addr),
-        (&b"10.0.0.0/\xff"[..], Prefix),
-    ] {
-        assert_eq!(rt; Ipv4Network::read_bytes(text), Err(fault));
-    }
+    assert_eq!(rt; first_not_refused::<Ipv4Addr>(&REFUSED), None);
 }
+
+// Texts that are no UTF-8.
+const REFUSED_BYTES: [(&[u8], CidrFault); 3] = [
+    (b"\xff/\xff/", Format),
+    (b"\xff", Addr),
+    (b"10.0.0.0/\xff", Prefix),
+];
+
+fn first_accepted(rows: &[(&[u8], CidrFault)]) -> Option<usize> {
+    for (i, (text, fault)) in rows.iter().enumerate() {
+        if Ipv4Network::read_bytes(text) != Err(*fault) {
+            return Some(i);
+        }
+    }
+    None
+}
+
+#[test]
+fn refused_bytes(rt: HostRuntime) {
+    assert_eq!(rt; first_accepted(&REFUSED_BYTES), None);
+}
+
+// A text as its front, a digit that stands 100,000 times, and its end, and why it is refused.
+const LONG: [(&[u8], u8, &[u8], CidrFault); 3] = [
+    (b"", b'1', b"", Addr),
+    (b"", b'/', b"", Format),
+    (b"10.0.0.0/", b'9', b"9", Prefix),
+];
 
 #[test]
 fn long_texts(rt: HostRuntime) -> Result<(), Fail> {
-    let ones = vec![in rt.alloc(); b'1'; 100_000]?;
-    assert_eq!(rt; Ipv4Network::read_bytes(&ones), Err(Addr));
-    let slashes = vec![in rt.alloc(); b'/'; 100_000]?;
-    assert_eq!(rt; Ipv4Network::read_bytes(&slashes), Err(Format));
-    for (digit, last, answer) in [
-        (b'0', b'8', Ipv4Network::read_bytes(b"10.0.0.0/8")),
-        (b'9', b'9', Err(Prefix)),
-    ] {
-        let mut text = b"10.0.0.0/".to_vec(rt.alloc())?;
-        for _ in 0..100_000 {
-            text.push(digit)?;
-        }
-        text.push(last)?;
-        assert_eq!(rt; Ipv4Network::read_bytes(&text), answer);
+    for (i, (front, digit, end, fault)) in LONG.iter().enumerate() {
+        let text = long_text(rt.alloc(), front, *digit, 100_000, end)?;
+        assert!(rt; Ipv4Network::read_bytes(&text) == Err(*fault), "row {i}");
     }
-    Ok(())
-}
-
-#[test]
-fn display_ignores_width_and_fill(rt: HostRuntime) -> Result<(), Fail> {
-    let mut printed = ArrayString::<43>::new();
-    write!(
-        printed,
-        "{:*>30.3}",
-        Ipv4Network::from(Ipv4Addr::new(1, 2, 3, 4))
-    )?;
-    assert_eq!(rt; printed.as_str(), "1.2.3.4/32");
+    let text = long_text(rt.alloc(), b"10.0.0.0/", b'0', 100_000, b"8")?;
+    assert!(rt; Ipv4Network::read_bytes(&text) == Ipv4Network::read_bytes(b"10.0.0.0/8"));
     Ok(())
 }

@@ -1,12 +1,14 @@
+//! Texts that name IPv6 networks, and those that name none.
+
+use super::answers::{first_not_refused, long_text, names};
 use crate::CidrFault::{Addr, Format, Prefix};
 use crate::{CidrFault, Ipv6Network};
-use arrayvec::ArrayString;
 use ipnetwork_addr::Ipv6Addr;
-use std::fmt::Write;
-use std::str::FromStr;
+use std::alloc::Global;
 use std::test::Fail;
 
-// A text, its network's address and prefix length, and its canonical text.
+// A text, its network's address and prefix length, and its canonical text. Of the Rust crate: parse_v6, parse_v6_2,
+// parse_v6_noprefix.
 const ACCEPTED: [(&str, u128, u8, &str); 15] = [
     (
         "2001:db8:0:0:1:0:0:1/064",
@@ -65,6 +67,8 @@ const ACCEPTED: [(&str, u128, u8, &str); 15] = [
     ),
 ];
 
+// A text, and why it is refused. Of the Rust crate: parse_v6_fail_addr, parse_v6_fail_prefix,
+// parse_v6_fail_two_slashes, parse_netmask_broken_v6.
 const REFUSED: [(&str, CidrFault); 27] = [
     ("1::2:3:4:5:6:7:8", Addr),
     ("1.2.3.4::", Addr),
@@ -95,67 +99,52 @@ const REFUSED: [(&str, CidrFault); 27] = [
     ("FF01:0:0:17:0:0:0:2/255.255.255.0", Prefix),
 ];
 
-#[test]
-fn accepted_texts(rt: HostRuntime) -> Result<(), Fail> {
-    for (text, number, prefix, canonical) in ACCEPTED {
-        let network = Ipv6Network::new_checked(Ipv6Addr::from(number), prefix).ok_or(
-            "a prefix length",
-        )?;
-        let read = (
-            Ipv6Network::read_bytes(text.as_bytes()),
-            Ipv6Network::from_str(text),
-            Ipv6Network::try_from(text),
-        );
-        assert_eq!(rt; read, (Ok(network), Ok(network), Ok(network)), "{text}");
-        assert_eq!(rt; network.canonical().as_str(), canonical);
-        let mut printed = ArrayString::<43>::new();
-        write!(printed, "{network}")?;
-        assert_eq!(rt; printed.as_str(), canonical);
-        assert_eq!(rt; network.to_text(rt.alloc())?.as_str(), canonical);
-        assert_eq!(rt; Ipv6Network::read_bytes(canonical.as_bytes()), Ok(network));
+fn first_not_named(alloc: Global, rows: &[(&str, u128, u8, &str)]) -> Option<usize> {
+    for (i, (text, address, prefix, canonical)) in rows.iter().enumerate() {
+        if !names(alloc, text, Ipv6Addr::from(*address), *prefix, canonical) {
+            return Some(i);
+        }
     }
-    Ok(())
+    None
+}
+
+#[test]
+fn accepted_texts(rt: HostRuntime) {
+    assert_eq!(rt; first_not_named(rt.alloc(), &ACCEPTED), None);
 }
 
 #[test]
 fn refused_texts_and_their_causes(rt: HostRuntime) {
-    for (text, fault) in REFUSED {
-        let read = (
-            Ipv6Network::read_bytes(text.as_bytes()),
-            Ipv6Network::from_str(text),
-            Ipv6Network::try_from(text),
-        );
-        assert_eq!(rt; read, (Err(fault), Err(fault), Err(fault)), "{text}");
-    }
-    for (text, fault) in [(&b"\xff/\xff/"[..], Format), (&b"::1/64\xff"[..], Prefix)] {
-        assert_eq!(rt; Ipv6Network::read_bytes(text), Err(fault));
-    }
+    assert_eq!(rt; first_not_refused::<Ipv6Addr>(&REFUSED), None);
 }
+
+// Texts that are no UTF-8.
+const REFUSED_BYTES: [(&[u8], CidrFault); 2] = [(b"\xff/\xff/", Format), (b"::1/64\xff", Prefix)];
+
+fn first_accepted(rows: &[(&[u8], CidrFault)]) -> Option<usize> {
+    for (i, (text, fault)) in rows.iter().enumerate() {
+        if Ipv6Network::read_bytes(text) != Err(*fault) {
+            return Some(i);
+        }
+    }
+    None
+}
+
+#[test]
+fn refused_bytes(rt: HostRuntime) {
+    assert_eq!(rt; first_accepted(&REFUSED_BYTES), None);
+}
+
+// A byte that stands 100,000 times, and why such a text is refused.
+const LONG: [(u8, CidrFault); 3] = [(b'1', Addr), (b':', Addr), (b'/', Format)];
 
 #[test]
 fn long_texts(rt: HostRuntime) -> Result<(), Fail> {
-    for byte in [b'1', b':'] {
-        let text = vec![in rt.alloc(); byte; 100_000]?;
-        assert_eq!(rt; Ipv6Network::read_bytes(&text), Err(Addr));
+    for (byte, fault) in LONG {
+        let text = long_text(rt.alloc(), b"", byte, 100_000, b"")?;
+        assert!(rt; Ipv6Network::read_bytes(&text) == Err(fault), "byte {byte}");
     }
-    let slashes = vec![in rt.alloc(); b'/'; 100_000]?;
-    assert_eq!(rt; Ipv6Network::read_bytes(&slashes), Err(Format));
-    let mut text = b"::/".to_vec(rt.alloc())?;
-    for _ in 0..300 {
-        text.push(b'0')?;
-    }
-    text.extend_from_slice(b"64")?;
-    assert_eq!(rt;
-        Ipv6Network::read_bytes(&text),
-        Ipv6Network::read_bytes(b"::/64")
-    );
-    Ok(())
-}
-
-#[test]
-fn display_ignores_width_and_fill(rt: HostRuntime) -> Result<(), Fail> {
-    let mut printed = ArrayString::<43>::new();
-    write!(printed, "{:*>30.3}", Ipv6Network::from(Ipv6Addr::from(1)))?;
-    assert_eq!(rt; printed.as_str(), "::1/128");
+    let text = long_text(rt.alloc(), b"::/", b'0', 300, b"64")?;
+    assert!(rt; Ipv6Network::read_bytes(&text) == Ipv6Network::read_bytes(b"::/64"));
     Ok(())
 }

@@ -1,7 +1,7 @@
 -- The stored block that is nearest to an address from below.
 use Rattle.std.specs.Prelude.{◌↔◌, ℕ, ◌<◌, ◌≤◌, IsSome}
 use Rattle.std.specs.FinMap.{FinMap, get}
-use Rattle.ipnetwork_family.specs.Network.{Network, Member, AtMost, network_cmp}
+use Rattle.ipnetwork_family.specs.Network.{Network, Member, IsNetworkAtMost, network_cmp}
 
 -- a network is in one exactly if it is in the other
 abbrev pub HaveTheSame : {V W : Type 0} → FinMap network_cmp V → FinMap network_cmp W → Type 0
@@ -9,11 +9,11 @@ HaveTheSame t others = (n : Network) → IsSome (get t n) ↔ IsSome (get others
 
 -- each network that is there comes after n
 abbrev pub NoneUpTo : {V : Type 0} → FinMap network_cmp V → Network → Type 0
-NoneUpTo t n = (m : Network) → IsSome (get t m) → ¬ (AtMost m n)
+NoneUpTo t n = (m : Network) → IsSome (get t m) → ¬ (IsNetworkAtMost m n)
 
 -- of the networks up to n, the last is k
 abbrev pub IsLastUpTo : {V : Type 0} → FinMap network_cmp V → Network → Network → Type 0
-IsLastUpTo t n k = IsSome (get t k) × AtMost k n × ((m : Network) → IsSome (get t m) → AtMost m n → AtMost m k)
+IsLastUpTo t n k = IsSome (get t k) × IsNetworkAtMost k n × ((m : Network) → IsSome (get t m) → IsNetworkAtMost m n → IsNetworkAtMost m k)
 
 -- no stored block of a prefix length above p holds x
 abbrev pub NoneAbove : {V : Type 0} → ℕ → FinMap network_cmp V → ℕ → ℕ → Type 0

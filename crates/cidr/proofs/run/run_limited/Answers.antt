@@ -1,12 +1,21 @@
 use Rattle.std.proofs.Common.{◌∙◌, sym}
-use Rattle.cidr.specs.Watched.{has_failed}
-use Rattle.cidr.proofs.Runs.{ran_output, ran_succeeds}
+use Rattle.line_engine.proofs.Runs.{ran_output, ran_succeeds}
+use Rattle.line_engine.specs.Watched.{has_failed}
+use Rattle.cidr.specs.Output.{IsOutput}
+use Rattle.cidr.specs.Run.{BeginsOutput}
+use Rattle.cidr.proofs.Runs.{ran}
 use Rattle.cidr.proofs.run.run_limited.Goals as goal
 
+pub returns-clause-ran : goal.returns-clause-ran
+returns-clause-ran g c = ran c.answer_is_computed.ensures c.new-routes.result c.answer_lines.new.handler c.new-routes.ensures c.from.result c.args.limit c.from.ensures _ _ _ _ c.answer_lines.result c.answer_lines.ensures.ran
+
 pub returns-clause-output : goal.returns-clause-output
-returns-clause-output g c = ran_output c.args.limit _ _ _ _ c.answer_input.result c.answer_input.ensures.ran
+returns-clause-output g c =
+    let run = ran c.answer_is_computed.ensures c.new-routes.result c.answer_lines.new.handler c.new-routes.ensures c.from.result c.args.limit c.from.ensures _ _ _ _ c.answer_lines.result c.answer_lines.ensures.ran in
+    ran_output IsOutput BeginsOutput c.args.limit _ _ _ _ c.answer_lines.result run
 
 pub returns-clause-succeeds : goal.returns-clause-succeeds
 returns-clause-succeeds g c = λ input e fits r w.
-    ran_succeeds c.args.limit _ _ _ _ c.answer_input.result (has_failed c.args.reader.now) (has_failed c.args.writer.now) c.answer_input.ensures.ran input e fits
-    (sym c.answer_input.ensures.reader_failed ∙ r) (sym c.answer_input.ensures.writer_failed ∙ w)
+    let run = ran c.answer_is_computed.ensures c.new-routes.result c.answer_lines.new.handler c.new-routes.ensures c.from.result c.args.limit c.from.ensures _ _ _ _ c.answer_lines.result c.answer_lines.ensures.ran in
+    ran_succeeds IsOutput BeginsOutput c.args.limit _ _ _ _ c.answer_lines.result (has_failed c.args.reader.now) (has_failed c.args.writer.now) run input e fits
+    (sym c.answer_lines.ensures.reader_failed ∙ r) (sym c.answer_lines.ensures.writer_failed ∙ w)

@@ -2,7 +2,7 @@ use Rattle.std.proofs.Common.{◌++◌, ℕ, List, sym, subst}
 use Rattle.std.proofs.lemmas.Bool.{iff_false}
 use Rattle.ipnetwork_family.specs.Network.{Network}
 use Rattle.ipnetwork_blocks.specs.LeastList.{IsLeastList}
-use Rattle.ipnetwork_blocks.specs.Exclusion.{MemberOfFirstAlone}
+use Rattle.ipnetwork_blocks.specs.Exclusion.{InDifference}
 use Rattle.ipnetwork_blocks.proofs.ExcludedCounts.{count_inside, none_left, all_left}
 use Rattle.ipnetwork_blocks.proofs.ExcludedParts.{least_apart, least_around}
 use Rattle.ipnetwork_blocks.proofs.exclusions.exclude.Goals as goal
@@ -13,7 +13,7 @@ returns-then-not-overlaps-clause-blocks g c =
     let n : Network = g.N.CidrNetwork.pair c.args.network in
     let i : Network = g.N.CidrNetwork.pair c.args.inner in
     let above : List Network = c.between_or_none.result in
-    subst (λ (below : List Network). IsLeastList w (MemberOfFirstAlone w n i) (below ++ above)) (sym c.none.ensures.none)
+    subst (λ (below : List Network). IsLeastList w (InDifference w n i) (below ++ above)) (sym c.none.ensures.none)
     (least_apart w _ _ n i above c.ip.ensures.network (iff_false c.overlaps.ensures c.if-not-overlaps.true) c.network-first.ensures c.broadcast-last.ensures c.between_or_none.ensures)
 
 pub returns-then-not-overlaps-clause-none : goal.returns-then-not-overlaps-clause-none

@@ -1,7 +1,7 @@
 use Rattle.std.proofs.Common.{ap, refl, sym, ◌∙◌}
 use Rattle.ipnetwork.specs.declared.ip_network.IpNetwork.TheVariants.{V4, V6}
-use Rattle.ipnetwork_c.specs.Either.AsksMember.{Answered, NoPrefix}
-use Rattle.ipnetwork_c.proofs.Told.{member_of, v4_told, v6_told}
+use Rattle.ipnetwork_c.specs.Either.MemberQuery.{Answered, NoPrefix}
+use Rattle.ipnetwork_c.proofs.Families.{member_of, v4_told, v6_told}
 use Rattle.ipnetwork_c.proofs.Truths.{says}
 use Rattle.ipnetwork_c.proofs.either.ipnetwork_contains.Goals as goal
 use Rattle.ipnetwork_c.proofs.either.ipnetwork_contains.Goals.{then-network-eq-V4+in-Some-network, else-network-eq-V4+then-network-eq-V6+in-Some-network-2}

@@ -1,5 +1,5 @@
 use Rattle.std.proofs.Common.{refl}
-use Rattle.ipnetwork_c.specs.Answers.Asked.{Answered}
+use Rattle.ipnetwork_c.specs.Answers.QueryResult.{Answered}
 use Rattle.ipnetwork_c.proofs.Truths.{says}
 use Rattle.ipnetwork_c.proofs.ipv4.ipnetwork_v4_is_subnet_of.Goals as goal
 

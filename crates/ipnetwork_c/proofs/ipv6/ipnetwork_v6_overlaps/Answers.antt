@@ -1,5 +1,5 @@
 use Rattle.std.proofs.Common.{refl}
-use Rattle.ipnetwork_c.specs.Answers.Asked.{Answered}
+use Rattle.ipnetwork_c.specs.Answers.QueryResult.{Answered}
 use Rattle.ipnetwork_c.proofs.Truths.{says}
 use Rattle.ipnetwork_c.proofs.ipv6.ipnetwork_v6_overlaps.Goals as goal
 

@@ -1,6 +1,7 @@
-use Rattle.std.proofs.Common.{◌∙◌}
-use Rattle.ipnetwork_addr.proofs.ByteDigits.{digits_in-bytes}
+use Rattle.std.proofs.Common.{ap, ◌∙◌}
+use Rattle.ipnetwork_addr.specs.Digits.{octets_of_v6}
+use Rattle.ipnetwork_addr.proofs.EightSegments.{made_of}
 use Rattle.ipnetwork_addr.proofs.ipv6.Ipv6Addr.octets.Goals as goal
 
 pub returns : goal.returns
-returns c = rw (← c.self.view_is) (c.to_be_bytes.ensures ∙ digits_in-bytes 16 c.self.inside.number)
+returns c = c.octets_high_first.ensures ∙ ap octets_of_v6 (made_of _ _ c.segments.ensures.bound c.segments.ensures.segments)

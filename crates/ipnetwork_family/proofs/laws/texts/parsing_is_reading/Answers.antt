@@ -2,13 +2,13 @@ use Rattle.ipnetwork_addr.specs.declared.error.AddrParseError.TheVariants as kin
 use Rattle.ipnetwork_addr.specs.Ipv4Text.{NamesV4}
 use Rattle.ipnetwork_addr.specs.Ipv6Text.{NamesV6}
 use Rattle.ipnetwork_family.specs.NetworkText.{IsCause}
-use Rattle.ipnetwork_family.specs.Ipv4NetworkText.{NamesV4Network}
-use Rattle.ipnetwork_family.specs.Ipv6NetworkText.{NamesV6Network}
+use Rattle.ipnetwork_family.specs.Ipv4NetworkText.{IsV4Suffix, NamesV4Network}
+use Rattle.ipnetwork_family.specs.Ipv6NetworkText.{IsV6Suffix, NamesV6Network}
 use Rattle.ipnetwork_family.proofs.Parsed.{parses_as_it_reads}
 use Rattle.ipnetwork_family.proofs.laws.texts.parsing_is_reading.Goals as goal
 
 pub returns : goal.returns
 returns c = record {
-  v4 = parses_as_it_reads NamesV4Network (IsCause NamesV4) kinds.Ipv4;
-  v6 = parses_as_it_reads NamesV6Network (IsCause NamesV6) kinds.Ipv6;
+  v4 = parses_as_it_reads NamesV4Network (IsCause NamesV4 IsV4Suffix) kinds.Ipv4;
+  v6 = parses_as_it_reads NamesV6Network (IsCause NamesV6 IsV6Suffix) kinds.Ipv6;
 }

@@ -6,7 +6,7 @@ abbrev pub invariant-shorter : goal.invariant-shorter
 invariant-shorter g l = record {
   within : l.length ≤ g.N.CidrNetwork.WIDTH;
   few_steps : l.steps + l.length ≤ 255;
-  none_above : NoneAbove g.N.CidrNetwork.WIDTH l.self-inside.store (g.N.CidrNetwork.number l.addr) l.length;
+  none_above : NoneAbove g.N.CidrNetwork.WIDTH l.self-inside.values (g.N.CidrNetwork.number l.addr) l.length;
 }
 
 abbrev pub decreases-shorter : goal.decreases-shorter

@@ -6,7 +6,7 @@ abbrev pub invariant-shorter : goal.invariant-shorter
 invariant-shorter g l = record {
   within : l.prefix ≤ g.N.CidrNetwork.WIDTH;
   counted : l.steps + l.prefix ≡ g.N.CidrNetwork.WIDTH;
-  none_above : NoneAbove g.N.CidrNetwork.WIDTH l.self-inside.store (g.N.CidrNetwork.number l.addr) l.prefix;
+  none_above : NoneAbove g.N.CidrNetwork.WIDTH l.self-inside.values (g.N.CidrNetwork.number l.addr) l.prefix;
 }
 
 abbrev pub decreases-shorter : goal.decreases-shorter

@@ -1,0 +1,4 @@
+pub mod EngineTold
+pub mod Gained
+pub mod MergedParts
+pub mod Taken

@@ -1,0 +1,7 @@
+-- What the contracts of this crate cite.
+pub mod Faults
+pub mod Lists
+pub mod Merges
+pub mod Private
+pub mod ReadBy
+pub mod Refusals

@@ -1,0 +1,29 @@
+//! Why a line is refused.
+ghost use Rattle.std.specs.Prelude.{◌≡◌};
+ghost use Rattle.address_lists.specs.Faults.{line_fault_text};
+
+use list_entries::EntryFault;
+
+/// Why a line of a list is refused.
+#[derive(Clone, Copy, Debug, PartialEq, Eq)]
+pub enum LineFault {
+    /// The line names no addresses.
+    Entry(EntryFault),
+    /// The line has more than 1,024 bytes, its end not counted.
+    Length,
+}
+
+impl LineFault {
+    /// The fault in one word: `format`, `address`, `prefix`, `range` or `length`. Does not allocate.
+    pub fn text(self) -> &'static str
+        ensures { result.now ≡ line_fault_text self }
+    {
+        match self {
+            LineFault::Entry(EntryFault::Format) => "format",
+            LineFault::Entry(EntryFault::Address) => "address",
+            LineFault::Entry(EntryFault::Prefix) => "prefix",
+            LineFault::Entry(EntryFault::Range) => "range",
+            LineFault::Length => "length",
+        }
+    }
+}

@@ -1,0 +1,40 @@
+//! A reader of lists takes their lines.
+ghost use Rattle.address_lists.specs.Private.Taking.{MayTake};
+
+use crate::fault::LineFault;
+use crate::list_reader::ListReader;
+use line_engine::buffer::Buffer;
+use line_engine::handler::LineHandler;
+use list_entries::read_entry;
+
+impl LineHandler for ListReader {
+    ghost LINE_MAX = { 1024 };
+
+    ghost REPLY_MAX = { 0 };
+
+    const LINE_MAX: usize = 1024;
+
+    const REPLY_MAX: usize = 0;
+
+    ghost may_get = { MayTake };
+
+    fn answer(&mut self, line: &[u8], _replies: &mut Buffer<'_>) {
+        if self.is_out_of_memory() {
+            return;
+        }
+        self.next_line();
+        match read_entry(line) {
+            Ok(None) => {}
+            Ok(Some(entry)) => self.take(entry),
+            Err(fault) => self.refuse(LineFault::Entry(fault)),
+        }
+    }
+
+    fn answer_too_long(&mut self, _replies: &mut Buffer<'_>) {
+        if self.is_out_of_memory() {
+            return;
+        }
+        self.next_line();
+        self.refuse(LineFault::Length);
+    }
+}

@@ -1,0 +1,147 @@
+//! What was read of lists.
+ghost use Rattle.std.specs.Prelude.{◌≡◌, OnOk};
+ghost use Rattle.ipnetwork_blocks.specs.Aggregate.{IsAggregate};
+ghost use Rattle.list_entries.specs.Entries.{IsRange};
+ghost use Rattle.address_lists.specs.Lists.{nothing_read, at_list, at_next_line, refusing, TakesEntry};
+ghost use Rattle.address_lists.specs.ReadBy.{read_by};
+ghost use Rattle.address_lists.specs.Private.Taking.{IsGoodEntry, PushesEntry, PushesNetwork, PushesRange};
+
+use crate::fault::LineFault;
+use crate::networks::Networks;
+use crate::refusals::{Refusal, Refusals};
+use ipnetwork::{IpAddr, IpNetwork, Ipv4Network, Ipv6Network};
+use ipnetwork_sets::AddressSet;
+use list_entries::Entry;
+use std::alloc::{AllocError, Global};
+
+/// The networks that the lines of lists name, by family, and the lines that are refused.
+///
+/// It reads any number of lists, one after the other, as a handler of lines (`read_list`). Networks are kept as they
+/// come, and a range as its blocks. If there is no memory for a network, nothing further is read.
+#[derive(Debug, Drop)]
+pub struct ListReader {
+    v4: Networks<Ipv4Network>,
+    v6: Networks<Ipv6Network>,
+    refusals: Refusals,
+    list: usize,
+    line: u64,
+    is_out_of_memory: bool,
+}
+
+impl ListReader {
+    /// No list was read yet. These lines were refused before. Does not allocate.
+    pub fn new(alloc: Global, refusals: Refusals) -> ListReader
+        ensures { read_by result ≡ nothing_read refusals }
+    {
+        ListReader {
+            v4: Networks::new(alloc),
+            v6: Networks::new(alloc),
+            refusals,
+            list: 0,
+            line: 0,
+            is_out_of_memory: false,
+        }
+    }
+
+    /// Begins a list, to which the caller gives this number.
+    pub(crate) fn begin(&mut self, list: usize)
+        ensures { read_by self.new ≡ at_list (read_by self.old) list }
+    {
+        self.list = list;
+        self.line = 0;
+    }
+
+    /// Whether there was no memory for a network.
+    pub fn is_out_of_memory(&self) -> bool
+        ensures { result ≡ (read_by self.now).is_out_of_memory }
+    {
+        self.is_out_of_memory
+    }
+
+    /// The addresses of the networks of each family, and the refused lines. Does not allocate.
+    pub fn into_sets(self) -> (AddressSet<Ipv4Network>, AddressSet<Ipv6Network>, Refusals)
+        ensures v4 { IsAggregate 32 (read_by self).v4 result.0 }
+        ensures v6 { IsAggregate 128 (read_by self).v6 result.1 }
+        ensures refused { result.2 ≡ (read_by self).refused }
+    {
+        (self.v4.into_set(), self.v6.into_set(), self.refusals)
+    }
+
+    /// Goes on to the next line of the list.
+    pub(crate) fn next_line(&mut self)
+        ensures { read_by self.new ≡ at_next_line (read_by self.old) }
+    {
+        self.line = self.line.saturating_add(1);
+    }
+
+    /// Notes that the line is refused.
+    pub(crate) fn refuse(&mut self, fault: LineFault)
+        ensures { read_by self.new ≡ refusing (read_by self.old) fault }
+    {
+        self.refusals.add(Refusal {
+            list: self.list,
+            line: self.line,
+            fault,
+        });
+    }
+
+    /// Takes what an entry names.
+    pub(crate) fn take(&mut self, entry: Entry)
+        requires { IsGoodEntry entry }
+        ensures { TakesEntry (read_by self.old) entry (read_by self.new) }
+    {
+        let pushed = push_entry(&mut self.v4, &mut self.v6, entry);
+        self.is_out_of_memory = pushed.is_err();
+    }
+}
+
+// Adds the network, or the blocks of the range, to those of its family.
+fn push_entry(
+    v4: &mut Networks<Ipv4Network>,
+    v6: &mut Networks<Ipv6Network>,
+    entry: Entry,
+) -> Result<(), AllocError>
+    requires { IsGoodEntry entry }
+    ensures { OnOk result (PushesEntry v4.old v6.old entry v4.new v6.new) }
+{
+    match entry {
+        Entry::Network(network) => push_network(v4, v6, network),
+        Entry::Range { first, last } => push_range(v4, v6, first, last),
+    }
+}
+
+// Adds the network to those of its family.
+fn push_network(
+    v4: &mut Networks<Ipv4Network>,
+    v6: &mut Networks<Ipv6Network>,
+    network: IpNetwork,
+) -> Result<(), AllocError>
+    ensures { OnOk result (PushesNetwork v4.old v6.old network v4.new v6.new) }
+{
+    match network {
+        IpNetwork::V4(network) => v4.push(network),
+        IpNetwork::V6(network) => v6.push(network),
+    }
+}
+
+// Adds the blocks of the range to those of its family.
+fn push_range(
+    v4: &mut Networks<Ipv4Network>,
+    v6: &mut Networks<Ipv6Network>,
+    first: IpAddr,
+    last: IpAddr,
+) -> Result<(), AllocError>
+    requires { IsRange first last }
+    ensures { OnOk result (PushesRange v4.old v6.old first last v4.new v6.new) }
+{
+    match first {
+        IpAddr::V4(first) => match last {
+            IpAddr::V4(last) => v4.push_range(first, last),
+            IpAddr::V6(_) => Ok(()),
+        },
+        IpAddr::V6(first) => match last {
+            IpAddr::V4(_) => Ok(()),
+            IpAddr::V6(last) => v6.push_range(first, last),
+        },
+    }
+}

@@ -1,0 +1,51 @@
+//! Lists are read.
+ghost use Rattle.std.specs.Prelude.{◌≡◌, ◌||◌, ℕ, List, Some, OnOk, IsFalse};
+ghost use Rattle.std.specs.Str.Lines.{lines};
+ghost use Rattle.line_engine.specs.Run.{ended_by_read};
+ghost use Rattle.line_engine.specs.Watched.{device_of, has_failed};
+ghost use Rattle.address_lists.specs.Lists.{at_list, TakesLines};
+ghost use Rattle.address_lists.specs.ReadBy.{read_by};
+
+use crate::list_reader::ListReader;
+use line_engine::fault::RunFault;
+use line_engine::run::answer_lines;
+use line_engine::watched::Watched;
+use std::io;
+use std::io::Read;
+
+/// The most bytes of a line, its end not counted.
+pub const LINE_MAX: usize = 1024;
+
+/// The most bytes that are asked for at a time.
+const PIECE_MAX: usize = 65536;
+
+/// A line of so many bytes is too long, with its carriage return or without.
+const REST_MAX: usize = 1026;
+
+/// Reads a list to its end. The caller gives it the number `list`, by which refused lines tell it.
+///
+/// `RunFault::Read` if a read failed: every line that was completed before was read, and no other.
+/// `RunFault::InputTooLong` if there are more than 18,446,744,073,709,551,615 bytes. Only what the lists name
+/// allocates, unless the device does.
+pub fn read_list<R: Read>(
+    lists: &mut ListReader,
+    list: usize,
+    reader: &mut Watched<R>,
+) -> Result<(), RunFault>
+    ensures taken { OnOk result ((input : List ℕ) → R.remaining (device_of reader.old) ≡ Some input → TakesLines (at_list (read_by lists.old) list) (lines input) (read_by lists.new)) }
+    ensures failed { has_failed reader.new ≡ (has_failed reader.old || ended_by_read result) }
+{
+    let mut nowhere = Watched::new(io::sink());
+    let mut piece = [0u8; PIECE_MAX];
+    let mut rest = [0u8; REST_MAX];
+    lists.begin(list);
+    answer_lines(
+        lists,
+        u64::MAX,
+        &mut piece,
+        &mut rest,
+        &mut [],
+        reader,
+        &mut nowhere,
+    )
+}

@@ -1,5 +1,0 @@
-use Rattle.cidr.proofs.Concluded.{after_write_fault}
-use Rattle.cidr.proofs.laws.after_a_write_fault.Goals as goal
-
-pub returns : goal.returns
-returns c = after_write_fault

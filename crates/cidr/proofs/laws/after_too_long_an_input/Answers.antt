@@ -1,5 +1,0 @@
-use Rattle.cidr.proofs.Concluded.{after_too_long}
-use Rattle.cidr.proofs.laws.after_too_long_an_input.Goals as goal
-
-pub returns : goal.returns
-returns c = after_too_long

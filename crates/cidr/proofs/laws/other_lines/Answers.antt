@@ -1,8 +1,0 @@
-use Rattle.cidr.proofs.CommandLines.{unknown_lines, long_lines}
-use Rattle.cidr.proofs.laws.other_lines.Goals as goal
-
-pub returns-clause-unknown : goal.returns-clause-unknown
-returns-clause-unknown c = unknown_lines
-
-pub returns-clause-long : goal.returns-clause-long
-returns-clause-long c = long_lines

@@ -1,0 +1,5 @@
+use Rattle.cidr.proofs.Concluded.{after_ok}
+use Rattle.cidr.proofs.laws.runs.after_ok.Goals as goal
+
+pub returns : goal.returns
+returns c = after_ok

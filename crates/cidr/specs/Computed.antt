@@ -1,0 +1,2 @@
+-- Functions that compute what relations say.
+pub mod Output

@@ -1,0 +1,85 @@
+-- The laws of outputs.
+use Rattle.std.specs.Prelude.{◌≡◌, ◌≢◌, ◌↔◌, ℕ, List, [], ◌∷◌, ◌++◌, Contains, codes}
+use Rattle.std.specs.List.{flat_map, AllByRecursion}
+use Rattle.std.specs.Str.Lines.{lines}
+use Rattle.cidr.specs.Computed.Output.{output_of, answer_of}
+use Rattle.cidr.specs.Output.{out_of_memory, Gets, MayGet, InTurn, MayAnswer, reply, replies, IsOutputFrom, IsOutput}
+use Rattle.cidr.specs.Requests.{request_of}
+use Rattle.cidr.specs.Routes.{Routes, no_routes}
+use Rattle.cidr.specs.Words.{words}
+
+-- ---- the output where no `add` is out of memory
+
+-- what is written for an input where no `add` is out of memory
+abbrev pub IsFullOutput : List ℕ → List ℕ → Type 0
+IsFullOutput input output = (answers : List (List ℕ)) × (after : Routes) × InTurn Gets no_routes (lines input) answers after × (output ≡ replies answers)
+
+-- is the computed output, and no other;
+abbrev pub FullIsComputed : Type 0
+FullIsComputed = (input output : List ℕ) → IsFullOutput input output ↔ (output ≡ output_of input)
+
+-- it may be written;
+abbrev pub ComputedIsAllowed : Type 0
+ComputedIsAllowed = (input : List ℕ) → IsOutput input (output_of input)
+
+-- and an output that may be written, of which no answer is `out of memory`,
+abbrev pub IsUnrefusedOutput : List ℕ → List ℕ → Type 0
+IsUnrefusedOutput input output = (answers : List (List ℕ)) × (after : Routes) × MayAnswer no_routes (lines input) answers after
+    × (output ≡ replies answers) × AllByRecursion (λ answer. answer ≢ out_of_memory) answers
+
+-- is no other
+abbrev pub UnrefusedIsComputed : Type 0
+UnrefusedIsComputed = (input output : List ℕ) → IsUnrefusedOutput input output → output ≡ output_of input
+
+-- nor is one of which no line is `out of memory`
+abbrev pub UnrefusedLinesAreComputed : Type 0
+UnrefusedLinesAreComputed = (input output : List ℕ) → IsOutput input output → AllByRecursion (λ line. line ≢ out_of_memory) (lines output) → output ≡ output_of input
+
+-- ---- the commands that ask nothing of the routes
+
+-- the line's first word is none of `add`, `drop` and `find`
+pub record IsPlainLine (line : List ℕ) : Type 0 where
+  pub command : List ℕ
+  pub others : List (List ℕ)
+  pub cut : words line ≡ command ∷ others
+  pub no_add : command ≢ codes "add"
+  pub no_drop : command ≢ codes "drop"
+  pub no_find : command ≢ codes "find"
+
+-- each other line begins with one of the three
+abbrev pub OthersAreRouting : Type 0
+OthersAreRouting = (line : List ℕ) → ¬ (IsPlainLine line)
+    → (command : List ℕ) × (others : List (List ℕ)) × (words line ≡ command ∷ others) × Contains (codes "add" ∷ codes "drop" ∷ codes "find" ∷ []) command
+
+-- such a line has one answer, whatever the routes are, and leaves them
+abbrev pub PlainLinesAskNothing : Type 0
+PlainLinesAskNothing = (line answer : List ℕ) (before after : Routes) → IsPlainLine line
+    → MayGet before (request_of line) answer after ↔ ((answer ≡ answer_of line) × (after ≡ before))
+
+-- so an input of such lines alone has one output: for each line its answer and a line feed
+abbrev pub plain_output : List ℕ → List ℕ
+plain_output input = flat_map (λ line. reply (answer_of line)) (lines input)
+
+abbrev pub PlainInputsHaveOneOutput : Type 0
+PlainInputsHaveOneOutput = (input output : List ℕ) → AllByRecursion IsPlainLine (lines input) → IsOutput input output ↔ (output ≡ plain_output input)
+
+-- ---- an input in two parts
+
+-- the input is cut directly behind a line feed
+abbrev pub EndsALine : List ℕ → Type 0
+EndsALine front = (text : List ℕ) × (front ≡ text ++ 10 ∷ [])
+
+-- what may be written for both parts is what may be written for the first, and then what may be written for the
+-- second from the routes on that the first leaves
+abbrev pub IsOutputInParts : Routes → List ℕ → List ℕ → List ℕ → Routes → Type 0
+IsOutputInParts before front back output after = (between : Routes) × (one : List ℕ) × (two : List ℕ)
+    × IsOutputFrom before front one between × IsOutputFrom between back two after × (output ≡ one ++ two)
+
+abbrev pub SplitsAtLineEnds : Type 0
+SplitsAtLineEnds = (front back output : List ℕ) (before after : Routes) → EndsALine front
+    → IsOutputFrom before (front ++ back) output after ↔ IsOutputInParts before front back output after
+
+-- where the first part has none of the three commands, each part may be run by itself
+abbrev pub PlainPartsRunAlone : Type 0
+PlainPartsRunAlone = (front back output : List ℕ) → EndsALine front → AllByRecursion IsPlainLine (lines front)
+    → IsOutput (front ++ back) output ↔ ((one : List ℕ) × (two : List ℕ) × IsOutput front one × IsOutput back two × (output ≡ one ++ two))

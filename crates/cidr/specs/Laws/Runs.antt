@@ -1,0 +1,34 @@
+-- The laws of runs: what a caller may conclude from how one ended.
+use Rattle.std.specs.Prelude.{◌≡◌, ℕ, ◌<◌, ◌≤◌, List, ◌++◌, length, take, Option, Some, Ok, Err}
+use Rattle.line_engine.specs.Answers.{complete_part}
+use Rattle.line_engine.specs.declared.fault.RunFault.TheVariants.{Read, Write, InputTooLong}
+use Rattle.cidr.specs.Output.{IsOutput}
+use Rattle.cidr.specs.Run.{Ran, BeginsOutput}
+
+-- The reader had `read` and then `rest`, and the writer held `held` and holds `holds`.
+
+-- after Ok the input was within the limit, and an output of it was written
+abbrev pub AfterOk : Type 0
+AfterOk = (limit : ℕ) (input held holds : List ℕ) (left : Option (List ℕ)) (done : Unit {0})
+    → Ran limit (Some input) left (Some held) (Some holds) (Ok done)
+    → (length input ≤ limit) × (output : List ℕ) × IsOutput input output × (holds ≡ held ++ output)
+
+-- after a read fault what was read is within the limit, and exactly the lines that it completes were answered
+abbrev pub AfterReadFault : Type 0
+AfterReadFault = (limit : ℕ) (read rest held holds : List ℕ)
+    → Ran limit (Some (read ++ rest)) (Some rest) (Some held) (Some holds) (Err Read)
+    → (length read ≤ limit) × (output : List ℕ) × IsOutput (complete_part read) output × (holds ≡ held ++ output)
+
+-- after a write fault what was read is within the limit, and what was written is a beginning of an output of it
+abbrev pub AfterWriteFault : Type 0
+AfterWriteFault = (limit : ℕ) (read rest held holds : List ℕ)
+    → Ran limit (Some (read ++ rest)) (Some rest) (Some held) (Some holds) (Err Write)
+    → (length read ≤ limit) × (written : List ℕ) × BeginsOutput read written × (holds ≡ held ++ written)
+
+-- where the input is too long, more than the limit was read, and exactly the lines were answered that its first
+-- bytes complete, so many of them, and no more than the limit
+abbrev pub AfterTooLong : Type 0
+AfterTooLong = (limit : ℕ) (read rest held holds : List ℕ)
+    → Ran limit (Some (read ++ rest)) (Some rest) (Some held) (Some holds) (Err InputTooLong)
+    → (limit < length read) × (count : ℕ) × (count ≤ limit) × (output : List ℕ) × IsOutput (complete_part (take count read)) output
+    × (holds ≡ held ++ output)

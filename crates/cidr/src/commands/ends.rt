@@ -1,0 +1,44 @@
+//! `ends`: the ends of a network, its mask and its size.
+ghost use Rattle.std.specs.Prelude.{◌≡◌, ◌<◌, [], length};
+ghost use Rattle.cidr.specs.Commands.{ends_answer, ends_text};
+ghost use Rattle.cidr.specs.Private.Replies.{HasRoom, Adds};
+ghost use Rattle.cidr.specs.declared.replies.TheConstants.{ANSWER_MAX};
+
+use crate::commands::REFUSED;
+use crate::replies::{ANSWER_MAX, Answer, reply};
+use ipnetwork::decimal::push_number;
+use ipnetwork::{IpNetwork, laws};
+use line_engine::buffer::Buffer;
+
+/// `ends`: the ends of a network, its mask and its size.
+pub(crate) fn ends(word: &[u8], replies: &mut Buffer<'_>)
+    requires { HasRoom replies.old }
+    ensures { Adds replies.old replies.new (ends_answer word.now) }
+{
+    // Does nothing: the proof of this body needs the law.
+    laws::ip_network_reading_is_computed();
+    match IpNetwork::read_bytes(word) {
+        Ok(network) => {
+            let mut text = Answer::new();
+            push_ends(network, &mut text);
+            reply(replies, text.as_str());
+        }
+        Err(_) => reply(replies, REFUSED),
+    }
+}
+
+/// Writes the ends of a network, its mask and its size, with blanks between: at most three addresses of
+/// 39 bytes, a number of 39 digits and three blanks.
+fn push_ends(network: IpNetwork, text: &mut Answer)
+    requires { text.old.bytes ≡ [] }
+    ensures text { text.new.bytes ≡ ends_text network }
+    ensures short { length text.new.bytes < ANSWER_MAX }
+{
+    text.push_str(network.network().canonical().as_str());
+    text.push(' ');
+    text.push_str(network.broadcast().canonical().as_str());
+    text.push(' ');
+    text.push_str(network.mask().canonical().as_str());
+    text.push(' ');
+    push_number(text, u128::from(network.size()));
+}

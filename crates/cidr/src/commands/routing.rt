@@ -1,0 +1,117 @@
+//! `add`, `drop` and `find`: the routes that a run keeps.
+ghost use Rattle.std.specs.Prelude.{◌≡◌, ◌≤◌, ◌∷◌, ◌++◌, length, decimal};
+ghost use Rattle.ipnetwork_addr.specs.Computed.Either.{ip_of};
+ghost use Rattle.ipnetwork.specs.Computed.IpNetworkText.{ip_network_of};
+ghost use Rattle.cidr.specs.Output.{MayGet};
+ghost use Rattle.cidr.specs.Private.Replies.{HasRoom, Adds, RepliesTo};
+ghost use Rattle.cidr.specs.Private.Routes.{routes_of};
+ghost use Rattle.cidr.specs.Requests.{Add, Drop, adding, dropping, finding, route_number_of};
+ghost use Rattle.cidr.specs.Words.{blank};
+
+use crate::commands::REFUSED;
+use crate::replies::{Answer, reply};
+use crate::route_tables::RouteTables;
+use ipnetwork::decimal::push_number;
+use ipnetwork::parse::read_number;
+use ipnetwork::{IpAddr, IpNetwork, laws};
+use line_engine::buffer::Buffer;
+
+/// The answer where no block holds an address.
+const NONE: &str = "none";
+
+// The calls of these three commands stay calls: in place they would make the code around them, which every other
+// command goes through, save more registers.
+
+/// `add`: gives the block of a network a number.
+#[inline(never)]
+pub(crate) fn add(network: &[u8], number: &[u8], routes: &mut RouteTables, replies: &mut Buffer<'_>)
+    requires { HasRoom replies.old }
+    ensures { RepliesTo (routes_of routes.old) (adding (ip_network_of network.now) (route_number_of number.now))
+        replies.old replies.new (routes_of routes.new) }
+{
+    // Does nothing: the proof of this body needs the laws.
+    laws::ip_network_reading_is_computed();
+    laws::prefix_number_is_computed();
+    let Ok(network) = IpNetwork::read_bytes(network) else {
+        reply(replies, REFUSED);
+        return;
+    };
+    let Some(number) = read_number(number, u32::MAX) else {
+        reply(replies, REFUSED);
+        return;
+    };
+    reply(replies, insert(network, number, routes));
+}
+
+/// Gives the block of a network a number, and answers whether it had one.
+fn insert(network: IpNetwork, number: u32, routes: &mut RouteTables) -> &'static str
+    ensures text { MayGet (routes_of routes.old) (Add network number) result.now (routes_of routes.new) }
+    ensures short { length result.now ≤ 15 }
+{
+    match routes.insert(network, number) {
+        Ok(None) => "new",
+        Ok(Some(_)) => "changed",
+        Err(_) => "out of memory",
+    }
+}
+
+/// `drop`: takes the block of a network out.
+#[inline(never)]
+pub(crate) fn drop(network: &[u8], routes: &mut RouteTables, replies: &mut Buffer<'_>)
+    requires { HasRoom replies.old }
+    ensures { RepliesTo (routes_of routes.old) (dropping (ip_network_of network.now)) replies.old replies.new (routes_of routes.new) }
+{
+    // Does nothing: the proof of this body needs the law.
+    laws::ip_network_reading_is_computed();
+    let Ok(network) = IpNetwork::read_bytes(network) else {
+        reply(replies, REFUSED);
+        return;
+    };
+    reply(replies, remove(network, routes));
+}
+
+/// Takes the block of a network out, and answers whether it had a number.
+fn remove(network: IpNetwork, routes: &mut RouteTables) -> &'static str
+    ensures text { MayGet (routes_of routes.old) (Drop network) result.now (routes_of routes.new) }
+    ensures short { length result.now ≤ 15 }
+{
+    match routes.remove(network) {
+        None => "absent",
+        Some(_) => "dropped",
+    }
+}
+
+/// `find`: the longest block that holds an address, and its number.
+#[inline(never)]
+pub(crate) fn find(address: &[u8], routes: &RouteTables, replies: &mut Buffer<'_>)
+    requires { HasRoom replies.old }
+    ensures { RepliesTo (routes_of routes.now) (finding (ip_of address.now)) replies.old replies.new (routes_of routes.now) }
+{
+    // Does nothing: the proof of this body needs the law.
+    laws::ip_reading_is_computed();
+    let Ok(address) = IpAddr::read_bytes(address) else {
+        reply(replies, REFUSED);
+        return;
+    };
+    let Some((block, number)) = routes.find(address) else {
+        reply(replies, NONE);
+        return;
+    };
+    match block {
+        IpNetwork::V4(block) => push_found(block.canonical().as_str(), number, replies),
+        IpNetwork::V6(block) => push_found(block.canonical().as_str(), number, replies),
+    }
+}
+
+/// Adds the answer of a block, of at most 43 bytes, and its number, with a blank between.
+fn push_found(block: &str, number: u32, replies: &mut Buffer<'_>)
+    requires room { HasRoom replies.old }
+    requires short { length block.now ≤ 43 }
+    ensures { Adds replies.old replies.new (block.now ++ blank ∷ decimal number) }
+{
+    let mut text = Answer::new();
+    text.push_str(block);
+    text.push(' ');
+    push_number(&mut text, u128::from(number));
+    reply(replies, text.as_str());
+}

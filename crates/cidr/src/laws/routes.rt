@@ -1,0 +1,32 @@
+//! The laws of routes: what `add`, `drop` and `find` get.
+ghost use Rattle.cidr.specs.Laws.Routes.{AddsGet, DropsGet, FindsGet, FirstFindsNothing, FirstDropsNothing, FirstAddsNew};
+
+use crate::laws::commands::lines_about_routes;
+use ipnetwork::laws;
+use ipnetwork_table::laws as tables;
+
+/// `add` and `drop` answer by the number that the block had, and change the number of the networks with the same set
+/// and of no other. `find` tells the longest block that holds the address. Only an `add` of a block without a number
+/// can be out of memory, and then the routes stay.
+pub fn routes_by_sets()
+    ensures add { AddsGet }
+    ensures drop { DropsGet }
+    ensures find { FindsGet }
+{
+    laws::subnets();
+    laws::blocks();
+    laws::families_are_apart();
+    tables::one_key_changes::<u32>();
+    tables::keys_without_host_bits::<u32>();
+}
+
+/// A run begins with no routes: a `find` in the first line of an input finds nothing, a `drop` there drops nothing, and
+/// an `add` there changes no number.
+pub fn a_run_begins_with_no_routes()
+    ensures find { FirstFindsNothing }
+    ensures drop { FirstDropsNothing }
+    ensures add { FirstAddsNew }
+{
+    lines_about_routes();
+    routes_by_sets();
+}

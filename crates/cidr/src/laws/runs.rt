@@ -1,0 +1,41 @@
+//! The laws of runs and of their faults.
+ghost use Rattle.std.specs.Prelude.{◌≡◌, ◌↔◌, IsTrue, Ok, Result};
+ghost use Rattle.cidr.specs.Laws.Runs.{AfterOk, AfterReadFault, AfterWriteFault, AfterTooLong};
+
+use line_engine::fault::RunFault;
+use std::alloc::AllocError;
+
+/// After Ok the input was within the limit, and an output of it was written.
+pub fn after_ok()
+    ensures { AfterOk }
+{}
+
+/// After a read fault exactly the lines that were read whole, with their line feed, were answered.
+pub fn after_a_read_fault()
+    ensures { AfterReadFault }
+{}
+
+/// After a write fault a beginning of an output of what was read was written.
+pub fn after_a_write_fault()
+    ensures { AfterWriteFault }
+{}
+
+/// Where the input is too long, exactly the lines were answered that some of its first bytes, no more than the limit,
+/// complete.
+pub fn after_too_long_an_input()
+    ensures { AfterTooLong }
+{}
+
+/// Two faults are equal exactly if they are the same fault.
+pub fn fault_equality(a: RunFault, b: RunFault) -> bool
+    ensures { IsTrue result ↔ (a ≡ b) }
+{
+    a == b
+}
+
+/// A clone of a fault is the same fault, and there is always one.
+pub fn fault_clone(fault: RunFault) -> Result<RunFault, AllocError>
+    ensures { result ≡ Ok fault }
+{
+    fault.clone()
+}

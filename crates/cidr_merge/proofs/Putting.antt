@@ -1,0 +1,90 @@
+-- Texts that are written, one after the other.
+use Rattle.std.proofs.Common.{◌≡◌, ℕ, List, [], ◌∷◌, ◌++◌, refl, sym, ap, ◌∙◌, subst, arith, append_assoc, append-nil}
+use Rattle.std.specs.Prelude.{Option, Result, Ok, Err, OnOk}
+use Rattle.std.specs.Io.KnownBytes.{Appends}
+use Rattle.std.proofs.KnownBytes.{Appends-nil, Appends-trans}
+use Rattle.std.specs.List.{flat_map}
+use Rattle.std.proofs.lemmas.Grind.{flat_map-append}
+use Rattle.cidr_merge.specs.Answers.{IfListed}
+use Rattle.cidr_merge.specs.Private.Outputs.{Puts}
+use Rattle.cidr_merge.specs.declared.command_line.Form.{Form}
+
+pub puts_nothing : (held : Option (List ℕ)) (waits : List ℕ) → Puts held waits held waits []
+puts_nothing held waits = ([], Appends-nil held, append-nil waits)
+
+pub puts_waiting : (held : Option (List ℕ)) (waited waits added : List ℕ) → waits ≡ waited ++ added → Puts held waited held waits added
+puts_waiting held waited waits added e = ([], Appends-nil held, sym e)
+
+pub puts_directly : (held holds : Option (List ℕ)) (waits added : List ℕ) → waits ≡ [] → Appends held holds added → Puts held [] holds waits added
+puts_directly held holds waits added e h = (added, h, sym (ap (λ t. added ++ t) e ∙ append-nil added))
+
+pub puts_behind : (held mid holds : Option (List ℕ)) (waited waits added : List ℕ) → Appends held mid waited → Puts mid [] holds waits added → Puts held waited holds waits added
+puts_behind held mid holds waited waits added h p =
+    (waited ++ p.0, Appends-trans held mid holds waited p.0 h p.1, ap (λ t. waited ++ t) p.2 ∙ sym (append_assoc waited p.0 waits))
+
+pub puts_more : (held mid holds : Option (List ℕ)) (waited between waits first second : List ℕ) → Puts held waited mid between first → Puts mid between holds waits second
+    → Puts held waited holds waits (first ++ second)
+puts_more held mid holds waited between waits first second p q = (
+  p.0 ++ q.0,
+  Appends-trans held mid holds p.0 q.0 p.1 q.1,
+  sym (append_assoc waited first second) ∙ ap (λ t. t ++ second) p.2 ∙ append_assoc p.0 between second ∙ ap (λ t. p.0 ++ t) q.2 ∙ sym (append_assoc p.0 q.0 waits),
+)
+
+-- a line more
+pub puts_line : {X : Type 0} (line : X → List ℕ) (held mid holds : Option (List ℕ)) (waited between waits : List ℕ) (done left after all : List X) (x : X)
+    → done ++ left ≡ all → left ≡ x ∷ after → Puts held waited mid between (flat_map line done) → Puts mid between holds waits (line x)
+    → (more : List X) × (more ++ after ≡ all) × Puts held waited holds waits (flat_map line more)
+puts_line line held mid holds waited between waits done left after all x e f p q = (
+  done ++ x ∷ [],
+  append_assoc done (x ∷ []) after ∙ ap (λ t. done ++ t) (sym f) ∙ e,
+  subst (Puts held waited holds waits) (sym (flat_map-append line done (x ∷ []) ∙ ap (λ t. flat_map line done ++ t) (append-nil (line x))))
+      (puts_more held mid holds waited between waits (flat_map line done) (line x) p q),
+)
+
+-- the last line was written
+pub puts_all : {X : Type 0} (line : X → List ℕ) (held holds : Option (List ℕ)) (waited waits : List ℕ) (done left all : List X)
+    → done ++ left ≡ all → left ≡ [] → Puts held waited holds waits (flat_map line done) → Puts held waited holds waits (flat_map line all)
+puts_all line held holds waited waits done left all e f p =
+    subst (λ t. Puts held waited holds waits (flat_map line t)) (sym (append-nil done) ∙ ap (λ t. done ++ t) (sym f) ∙ e) p
+
+pub put_behind_ok : {T E : Type 0} (result : Result T E) (held mid holds : Option (List ℕ)) (waited waits added : List ℕ) → Appends held mid waited
+    → OnOk result (Puts mid [] holds waits added) → OnOk result (Puts held waited holds waits added)
+put_behind_ok (Ok x) held mid holds waited waits added h p = puts_behind held mid holds waited waits added h p
+put_behind_ok (Err e) held mid holds waited waits added h p = tt
+
+pub put_three_ok : {T E : Type 0} (result : Result T E) (held first second holds : Option (List ℕ)) (waited after_first after_second waits x y z front middle : List ℕ) → x ≡ front → y ≡ middle
+    → Puts held waited first after_first x → Puts first after_first second after_second y → OnOk result (Puts second after_second holds waits z)
+    → OnOk result (Puts held waited holds waits (front ++ middle ++ z))
+put_three_ok (Ok done) held first second holds waited after_first after_second waits x y z front middle e f p q r =
+    subst (λ t. Puts held waited holds waits (t ++ z)) (ap (λ t. t ++ y) e ∙ ap (λ t. front ++ t) f)
+    (puts_more held second holds waited after_second waits (x ++ y) z (puts_more held first second waited after_first after_second x y p q) r)
+put_three_ok (Err fault) held first second holds waited after_first after_second waits x y z front middle e f p q r = tt
+
+pub put_five_ok : {T E : Type 0} (result : Result T E) (held first second third fourth holds : Option (List ℕ))
+    (waited after_first after_second after_third after_fourth waits x y z u v front from to : List ℕ) → x ≡ front → y ≡ from → u ≡ to
+    → Puts held waited first after_first x → Puts first after_first second after_second y → Puts second after_second third after_third z
+    → Puts third after_third fourth after_fourth u → OnOk result (Puts fourth after_fourth holds waits v)
+    → OnOk result (Puts held waited holds waits (front ++ from ++ z ++ to ++ v))
+put_five_ok (Ok done) held first second third fourth holds waited after_first after_second after_third after_fourth waits x y z u v front from to e f g p q r s t =
+    subst (Puts held waited holds waits) (ap (λ l. l ++ y ++ z ++ u ++ v) e ∙ ap (λ l. front ++ l ++ z ++ u ++ v) f ∙ ap (λ l. front ++ from ++ z ++ l ++ v) g)
+    (subst (Puts held waited holds waits) (grind (arith, append_assoc))
+    (puts_more held fourth holds waited after_fourth waits (((x ++ y) ++ z) ++ u) v
+    (puts_more held third fourth waited after_third after_fourth ((x ++ y) ++ z) u
+    (puts_more held second third waited after_second after_third (x ++ y) z (puts_more held first second waited after_first after_second x y p q) r) s) t))
+put_five_ok (Err fault) held first second third fourth holds waited after_first after_second after_third after_fourth waits x y z u v front from to e f g p q r s t = tt
+
+-- the text of IPv4 was written, and then that of IPv6
+pub both_ok : {T E : Type 0} (result : Result T E) (P Q : List ℕ → Type 0) (held mid holds : Option (List ℕ)) (waited between waits : List ℕ)
+    → ((text : List ℕ) × P text × Puts held waited mid between text) → OnOk result ((text : List ℕ) × Q text × Puts mid between holds waits text)
+    → OnOk result ((text : List ℕ) × ((v4 v6 : List ℕ) × P v4 × Q v6 × (text ≡ v4 ++ v6)) × Puts held waited holds waits text)
+both_ok (Ok done) P Q held mid holds waited between waits p q = (p.0 ++ q.0, (p.0, q.0, p.1, q.1, refl), puts_more held mid holds waited between waits p.0 q.0 p.2 q.2)
+both_ok (Err fault) P Q held mid holds waited between waits p q = tt
+
+pub any_ok : {T E : Type 0} (result : Result T E) → OnOk result (Unit {0})
+any_ok (Ok done) = tt
+any_ok (Err fault) = tt
+
+-- a form that is known
+pub by_form : {T E : Type 0} (result : Result T E) (form other : Form) (holds : Form → Type 0) → form ≡ other → OnOk result (IfListed other (holds other))
+    → OnOk result (IfListed form (holds form))
+by_form result form other holds e h = subst (λ f. OnOk result (IfListed f (holds f))) (sym e) h

@@ -1,0 +1,90 @@
+-- What an operation leaves, and how it is printed.
+use Rattle.std.specs.Prelude.{ℕ, List, [], ◌∷◌, ◌++◌, map, nat_lt, if◌then◌else◌, codes, ◌≡◌}
+use Rattle.std.specs.List.{flat_map}
+use Rattle.ipnetwork_family.specs.Network.{Network}
+use Rattle.ipnetwork_family.specs.Family.{Family, text_of, v4_family, v6_family}
+use Rattle.ipnetwork_blocks.specs.Aggregate.{InUnion}
+use Rattle.ipnetwork_blocks.specs.LeastList.{IsLeastList}
+use Rattle.ipnetwork_sets.specs.RangeLists.{IsRangeList}
+use Rattle.ipnetwork_sets.specs.Sets.{InBoth, InFirstAlone}
+use Rattle.cidr_merge.specs.declared.command_line.Operation.{Operation}
+use Rattle.cidr_merge.specs.declared.command_line.Operation.TheVariants.{Union, Common, Minus, Differ}
+use Rattle.cidr_merge.specs.declared.command_line.Form.{Form}
+use Rattle.cidr_merge.specs.declared.command_line.Form.TheVariants.{Blocks, Ranges, Counts}
+use Rattle.cidr_merge.specs.declared.reading.Sets.{Sets}
+use Rattle.cidr_merge.specs.declared.sides.Side.{Side}
+use Rattle.cidr_merge.specs.declared.sides.Side.TheVariants.{First, Second}
+
+-- x is an address that the operation leaves of the first side
+abbrev pub IsLeft : Operation → ℕ → List Network → List Network → ℕ → Type 0
+IsLeft Union w first second x = InUnion w first x
+IsLeft Common w first second x = InBoth w first second x
+IsLeft Minus w first second x = InFirstAlone w first second x
+IsLeft Differ w first second x = InFirstAlone w first second x
+
+-- x is an address that it leaves of the second side: only `differ` leaves any
+abbrev pub IsLeftOfSecond : Operation → ℕ → List Network → List Network → ℕ → Type 0
+IsLeftOfSecond Union w first second x = ⊥
+IsLeftOfSecond Common w first second x = ⊥
+IsLeftOfSecond Minus w first second x = ⊥
+IsLeftOfSecond Differ w first second x = InFirstAlone w second first x
+
+-- a block or a range, and the side that has it
+pub record Sided (X : Type 0) : Type 0 where
+  pub side : Side
+  pub part : X
+
+-- the parts of the first side among those of the second, in ascending order of where they begin if each of the two is
+abbrev pub before : {X : Type 0} → (X → ℕ) → X → (List X → List (Sided X)) → List X → List (Sided X)
+before begin part rest [] = record { side = First; part = part } ∷ rest []
+before begin part rest (other ∷ others) =
+    if nat_lt (begin part) (begin other) then record { side = First; part = part } ∷ rest (other ∷ others)
+    else record { side = Second; part = other } ∷ before begin part rest others
+
+abbrev pub merged_by : {X : Type 0} → (X → ℕ) → List X → List X → List (Sided X)
+merged_by begin [] others = map (λ other. record { side = Second; part = other }) others
+merged_by begin (part ∷ parts) others = before begin part (merged_by begin parts) others
+
+-- blocks begin with their address, and ranges with their first
+abbrev pub merged : List Network → List Network → List (Sided Network)
+merged = merged_by (λ block. block.address)
+
+abbrev pub merged_ranges : List (ℕ × ℕ) → List (ℕ × ℕ) → List (Sided (ℕ × ℕ))
+merged_ranges = merged_by (λ range. range.0)
+
+-- what stands before a block or a range: nothing, or for `differ` which side has it
+abbrev pub sign_of : Operation → Side → List ℕ
+sign_of Union side = []
+sign_of Common side = []
+sign_of Minus side = []
+sign_of Differ First = codes "< "
+sign_of Differ Second = codes "> "
+
+-- the line of a block: its canonical text
+abbrev pub block_line : {w : ℕ} → Operation → Family w → Sided Network → List ℕ
+block_line operation family sided = sign_of operation sided.side ++ text_of family sided.part ++ 10 ∷ []
+
+-- the line of a range: the canonical texts of its first and its last address
+abbrev pub range_line : {w : ℕ} → Operation → Family w → Sided (ℕ × ℕ) → List ℕ
+range_line operation family sided =
+    sign_of operation sided.side ++ family.canonical sided.part.0 ++ codes " - " ++ family.canonical sided.part.1 ++ 10 ∷ []
+
+-- the text is the lines of the blocks that the operation leaves of two sets of a family, or of their ranges; counts are
+-- not described
+abbrev pub IsAnswerOf : {w : ℕ} → Operation → Form → Family w → List Network → List Network → List ℕ → Type 0
+IsAnswerOf {w} operation Blocks family first second text = (firsts seconds : List Network) × IsLeastList w (IsLeft operation w first second) firsts
+    × IsLeastList w (IsLeftOfSecond operation w first second) seconds × (text ≡ flat_map (block_line operation family) (merged firsts seconds))
+IsAnswerOf {w} operation Ranges family first second text = (firsts seconds : List (ℕ × ℕ)) × IsRangeList (IsLeft operation w first second) firsts
+    × IsRangeList (IsLeftOfSecond operation w first second) seconds × (text ≡ flat_map (range_line operation family) (merged_ranges firsts seconds))
+IsAnswerOf operation Counts family first second text = Unit {0}
+
+-- the text is that of IPv4, and then that of IPv6
+abbrev pub IsAnswer : Operation → Form → Sets → Sets → List ℕ → Type 0
+IsAnswer operation form first second text = (v4 v6 : List ℕ) × IsAnswerOf operation form v4_family first.v4 second.v4 v4
+    × IsAnswerOf operation form v6_family first.v6 second.v6 v6 × (text ≡ v4 ++ v6)
+
+-- this holds, unless the form is that of counts
+abbrev pub IfListed : Form → Type 0 → Type 0
+IfListed Blocks holds = holds
+IfListed Ranges holds = holds
+IfListed Counts holds = Unit {0}

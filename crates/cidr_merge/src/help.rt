@@ -1,0 +1,37 @@
+//! What the program tells of itself.
+
+/// What `--help` prints.
+pub(crate) const HELP: &str = "\
+Merges lists of IP networks, and prints the shortest list with exactly the addresses that are left.
+
+    cidr_merge union  [OPTION..] FILE..             the addresses of any of the files
+    cidr_merge common [OPTION..] FILE.. -- FILE..   of both sides
+    cidr_merge minus  [OPTION..] FILE.. -- FILE..   of the first side and not of the second
+    cidr_merge differ [OPTION..] FILE.. -- FILE..   what one side has and the other has not
+
+    --ranges     print FIRST - LAST for each run of addresses
+    --count      print v4 BLOCKS ADDRESSES and v6 BLOCKS ADDRESSES
+    --skip-bad   tell refused lines, and answer for the others
+    --help       print this text
+    --version    print the version
+
+A FILE is - for standard input. A line holds a network (10.0.0.0/8, 10.0.0.1, 2001:db8::/32), a range (A - B) or
+nothing; # and ; begin a comment. Host bits are dropped. A line has at most 1,024 bytes.
+The answer is in ascending order, IPv4 first. differ puts < before what the first side has alone, and > before what
+the second has. A refused line is told as FILE:LINE: refused format, address, prefix, range or length.
+
+Status: 0; 1 if the sides of differ are not equal; 2 on wrong usage, a refused line, a file that cannot be read, a
+failed write or out of memory; 3 if lines were skipped.
+
+Examples:
+    cidr_merge union office.txt vpn.txt
+    cidr_merge minus --ranges all.txt -- reserved.txt
+    sort -u today.txt | cidr_merge differ --count yesterday.txt -- -
+";
+
+/// What `--version` prints.
+pub(crate) const VERSION: &str = "cidr_merge 0.1.0\n";
+
+/// What is told of arguments that are no command.
+pub(crate) const USAGE: &str =
+    "usage: cidr_merge union|common|minus|differ [OPTION..] FILE.. [-- FILE..]; try --help\n";

@@ -1,0 +1,163 @@
+//! The answer is printed.
+ghost use Rattle.std.specs.Prelude.{◌≡◌, ℕ, List, OnOk};
+ghost use Rattle.cidr_merge.specs.Answers.{sign_of, block_line, range_line, IsAnswerOf, IsAnswer, IfListed};
+ghost use Rattle.cidr_merge.specs.Private.Outputs.{Puts};
+
+use crate::command_line::{Form, Operation};
+use crate::counts::Counts;
+use crate::output::Output;
+use crate::range_sides::RangeSides;
+use crate::reading::Sets;
+use crate::sides::{Side, Sides};
+use crate::sweep::Sweep;
+use ipnetwork::{Address, Network};
+use ipnetwork_sets::AddressSet;
+use std::io;
+use std::io::Write;
+
+/// Prints what the operation leaves of the sides.
+pub(crate) fn print<W: Write>(
+    operation: Operation,
+    form: Form,
+    first: &Sets,
+    second: &Sets,
+    output: &mut Output<'_, W>,
+) -> io::Result<()>
+    ensures { OnOk result (IfListed form ((text : List ℕ) × IsAnswer operation form first.now second.now text
+        × Puts (W.contents output.old.writer) output.old.waiting.items (W.contents output.new.writer) output.new.waiting.items text)) }
+{
+    match form {
+        Form::Blocks => {
+            print_blocks(operation, &first.v4, &second.v4, output)?;
+            print_blocks(operation, &first.v6, &second.v6, output)
+        }
+        Form::Ranges => {
+            print_ranges(operation, &first.v4, &second.v4, output)?;
+            print_ranges(operation, &first.v6, &second.v6, output)
+        }
+        Form::Counts => print_all_counts(operation, first, second, output),
+    }
+}
+
+// Prints the blocks that the operation leaves of two sets of one family.
+fn print_blocks<A: Address, W: Write>(
+    operation: Operation,
+    first: &AddressSet<Network<A>>,
+    second: &AddressSet<Network<A>>,
+    output: &mut Output<'_, W>,
+) -> io::Result<()>
+    ensures { OnOk result ((text : List ℕ) × IsAnswerOf operation Form.Blocks A.family first.now second.now text
+        × Puts (W.contents output.old.writer) output.old.waiting.items (W.contents output.new.writer) output.new.waiting.items text) }
+{
+    let mut blocks = Sides::left(operation, first, second);
+    while let Some(next) = blocks.next() {
+        put_block(operation, next.0, next.1, output)?;
+    }
+    Ok(())
+}
+
+// Prints a block.
+fn put_block<A: Address, W: Write>(
+    operation: Operation,
+    side: Side,
+    block: Network<A>,
+    output: &mut Output<'_, W>,
+) -> io::Result<()>
+    ensures { OnOk result (Puts (W.contents output.old.writer) output.old.waiting.items (W.contents output.new.writer) output.new.waiting.items
+        (block_line operation A.family (record { side = side; part = block }))) }
+{
+    output.put(sign_of(operation, side))?;
+    output.put(block.canonical().as_str())?;
+    output.put("\n")
+}
+
+// What stands before a block or a run of a side.
+fn sign_of(operation: Operation, side: Side) -> &'static str
+    ensures { result.now ≡ sign_of operation side }
+{
+    match operation {
+        Operation::Differ => match side {
+            Side::First => "< ",
+            Side::Second => "> ",
+        },
+        _ => "",
+    }
+}
+
+// Prints the ranges that the operation leaves of two sets of one family.
+fn print_ranges<A: Address, W: Write>(
+    operation: Operation,
+    first: &AddressSet<Network<A>>,
+    second: &AddressSet<Network<A>>,
+    output: &mut Output<'_, W>,
+) -> io::Result<()>
+    ensures { OnOk result ((text : List ℕ) × IsAnswerOf operation Form.Ranges A.family first.now second.now text
+        × Puts (W.contents output.old.writer) output.old.waiting.items (W.contents output.new.writer) output.new.waiting.items text) }
+{
+    let mut ranges = RangeSides::left(operation, first, second);
+    while let Some(next) = ranges.next() {
+        put_range(operation, next.0, next.1, output)?;
+    }
+    Ok(())
+}
+
+// Prints a range: its first and its last address.
+fn put_range<A: Address, W: Write>(
+    operation: Operation,
+    side: Side,
+    range: (A, A),
+    output: &mut Output<'_, W>,
+) -> io::Result<()>
+    ensures { OnOk result (Puts (W.contents output.old.writer) output.old.waiting.items (W.contents output.new.writer) output.new.waiting.items
+        (range_line operation A.family (record { side = side; part = (A.number range.0, A.number range.1) }))) }
+{
+    output.put(sign_of(operation, side))?;
+    output.put(range.0.canonical().as_str())?;
+    output.put(" - ")?;
+    output.put(range.1.canonical().as_str())?;
+    output.put("\n")
+}
+
+// Prints the counts of both families; of `differ` for each side.
+fn print_all_counts<W: Write>(
+    operation: Operation,
+    first: &Sets,
+    second: &Sets,
+    output: &mut Output<'_, W>,
+) -> io::Result<()> {
+    print_counts(operation, Side::First, first, second, output)?;
+    match operation {
+        Operation::Differ => print_counts(operation, Side::Second, second, first, output),
+        _ => Ok(()),
+    }
+}
+
+// Prints the counts of both families for a side.
+fn print_counts<W: Write>(
+    operation: Operation,
+    side: Side,
+    first: &Sets,
+    second: &Sets,
+    output: &mut Output<'_, W>,
+) -> io::Result<()> {
+    let v4 = Counts::of(Sweep::of(operation, &first.v4, &second.v4));
+    let v6 = Counts::of(Sweep::of(operation, &first.v6, &second.v6));
+    let sign = sign_of(operation, side);
+    put_counts(sign, "v4 ", v4, output)?;
+    put_counts(sign, "v6 ", v6, output)
+}
+
+// Prints the counts of a family.
+fn put_counts<W: Write>(
+    sign: &str,
+    family: &str,
+    counts: Counts,
+    output: &mut Output<'_, W>,
+) -> io::Result<()> {
+    output.put(sign)?;
+    output.put(family)?;
+    output.put(counts.blocks().as_str())?;
+    output.put(" ")?;
+    output.put(counts.addresses().as_str())?;
+    output.put("\n")
+}

@@ -1,0 +1,83 @@
+//! The lists of a side are read.
+ghost use Rattle.std.specs.Prelude.{◌≤◌, length};
+
+use crate::lists::OpenLists;
+use address_lists::{ListReader, Refusals, read_list};
+use ipnetwork::{Ipv4Network, Ipv6Network};
+use ipnetwork_sets::AddressSet;
+use line_engine::watched::Watched;
+use std::alloc::Global;
+
+/// The addresses of a side, by family.
+#[derive(Debug, Drop)]
+pub(crate) struct Sets {
+    pub(crate) v4: AddressSet<Ipv4Network>,
+    pub(crate) v6: AddressSet<Ipv6Network>,
+}
+
+/// Why the lists were not read to the end.
+#[derive(Clone, Copy, Debug, PartialEq, Eq)]
+pub(crate) enum ReadFault {
+    /// The list at this place cannot be opened.
+    Open(usize),
+    /// The list at this place cannot be read.
+    Read(usize),
+    /// There is no memory for what the lists name.
+    OutOfMemory,
+}
+
+/// Reads the lists at the places from `from` up to `to` among the words, in that order.
+///
+/// The refused lines are added to those of before, also where the reading ends with a fault.
+pub(crate) fn read_side<L: OpenLists>(
+    alloc: Global,
+    lists: &L,
+    words: &[String],
+    from: usize,
+    to: usize,
+    refusals: Refusals,
+) -> (Sets, Refusals, Result<(), ReadFault>)
+    requires { to ≤ length words.now }
+{
+    let mut reader = ListReader::new(alloc, refusals);
+    let end = read_all(lists, words, from, to, &mut reader);
+    let (v4, v6, refusals) = reader.into_sets();
+    (Sets { v4, v6 }, refusals, end)
+}
+
+// Reads the lists at these places.
+fn read_all<L: OpenLists>(
+    lists: &L,
+    words: &[String],
+    from: usize,
+    to: usize,
+    reader: &mut ListReader,
+) -> Result<(), ReadFault>
+    requires { to ≤ length words.now }
+{
+    for place in from..to {
+        read_one(lists, &words[place], place, reader)?;
+    }
+    Ok(())
+}
+
+// Reads the list at a place.
+fn read_one<L: OpenLists>(
+    lists: &L,
+    name: &String,
+    place: usize,
+    reader: &mut ListReader,
+) -> Result<(), ReadFault> {
+    let Ok(list) = lists.open(name.as_str()) else {
+        return Err(ReadFault::Open(place));
+    };
+    let mut list = Watched::new(list);
+    let end = read_list(reader, place, &mut list);
+    if reader.is_out_of_memory() {
+        return Err(ReadFault::OutOfMemory);
+    }
+    match end {
+        Ok(()) => Ok(()),
+        Err(_) => Err(ReadFault::Read(place)),
+    }
+}

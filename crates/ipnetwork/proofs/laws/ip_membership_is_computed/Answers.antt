@@ -1,5 +1,0 @@
-use Rattle.ipnetwork.proofs.Families.{member_computed}
-use Rattle.ipnetwork.proofs.laws.ip_membership_is_computed.Goals as goal
-
-pub returns : goal.returns
-returns c = member_computed c.membership_is_computed.ensures

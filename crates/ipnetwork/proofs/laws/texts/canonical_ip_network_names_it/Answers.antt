@@ -1,0 +1,12 @@
+use Rattle.ipnetwork.specs.declared.ip_network.IpNetwork.{IpNetwork}
+use Rattle.ipnetwork.specs.declared.ip_network.IpNetwork.TheVariants.{V4, V6}
+use Rattle.ipnetwork.specs.IpNetworks.{IsIpNetwork}
+use Rattle.ipnetwork.specs.IpNetworkText.{NamesIpNetwork, ip_network_text}
+use Rattle.ipnetwork.proofs.laws.texts.canonical_ip_network_names_it.Goals as goal
+
+pub returns : goal.returns
+returns c = go
+  where
+    go : (n : IpNetwork) → IsIpNetwork n → NamesIpNetwork (ip_network_text n) n
+    go (V4 n) h = c.canonical_v4_network_names_it.ensures n h
+    go (V6 n) h = c.canonical_v6_network_names_it.ensures n h

@@ -1,0 +1,68 @@
+//! Laws of texts: which network a text names, how it is printed, and which refusal tells of one that names none.
+ghost use Rattle.std.specs.Prelude.{◌≡◌, ◌↔◌, ℕ, List, Result, Ok};
+ghost use Rattle.std.specs.List.{AllByRecursion};
+ghost use Rattle.ipnetwork_family.specs.NetworkText.{IsNetworkByte};
+ghost use Rattle.ipnetwork_family.specs.declared.error.CidrFault.{CidrFault};
+ghost use Rattle.ipnetwork.specs.IpNetworks.{IsIpNetwork};
+ghost use Rattle.ipnetwork.specs.IpNetworkText.{NamesIpNetwork, ReadsIpNetwork, ip_network_text};
+ghost use Rattle.ipnetwork.specs.Computed.IpNetworkText.{ip_network_of};
+
+use crate::IpNetwork;
+use ipnetwork_addr::laws as addresses;
+use ipnetwork_family::laws as families;
+
+/// A text names at most one network, across both families.
+pub fn ip_network_text_names_one()
+    ensures { (text : List ℕ) (a b : IpNetwork) → NamesIpNetwork text a → NamesIpNetwork text b → a ≡ b }
+{
+    addresses::v4_text_is_computed();
+    addresses::v6_text_is_computed();
+    addresses::no_text_names_both();
+    families::v4_network_reading_is_computed();
+    families::v6_network_reading_is_computed();
+}
+
+/// What reading a network of either family answers can be computed from the text, and there is one
+/// answer.
+pub fn ip_network_reading_is_computed()
+    ensures { (text : List ℕ) (result : Result IpNetwork CidrFault) → ReadsIpNetwork text result ↔ (result ≡ ip_network_of text) }
+{
+    ip_network_text_names_one();
+    families::v4_network_reading_is_computed();
+    families::v6_network_reading_is_computed();
+}
+
+/// The canonical text of a network names it, host bits included.
+pub fn canonical_ip_network_names_it()
+    ensures { (n : IpNetwork) → IsIpNetwork n → NamesIpNetwork (ip_network_text n) n }
+{
+    families::canonical_v4_network_names_it();
+    families::canonical_v6_network_names_it();
+}
+
+/// Reading the canonical text of a network answers that network and nothing else, so printing it again
+/// changes nothing.
+pub fn canonical_ip_network_reads_back()
+    ensures { (n : IpNetwork) (result : Result IpNetwork CidrFault) → IsIpNetwork n
+        → ReadsIpNetwork (ip_network_text n) result ↔ (result ≡ Ok n) }
+{
+    ip_network_text_names_one();
+    canonical_ip_network_names_it();
+}
+
+/// Two networks are equal exactly if their canonical texts are, across families too.
+pub fn canonical_ip_network_is_one_to_one()
+    ensures { (a b : IpNetwork) → IsIpNetwork a → IsIpNetwork b
+        → (a ≡ b) ↔ (ip_network_text a ≡ ip_network_text b) }
+{
+    ip_network_text_names_one();
+    canonical_ip_network_names_it();
+}
+
+/// The bytes of a canonical text are hex digits, `.`, `:` and `/`.
+pub fn canonical_ip_network_bytes()
+    ensures { (n : IpNetwork) → IsIpNetwork n → AllByRecursion IsNetworkByte (ip_network_text n) }
+{
+    families::canonical_v4_network_bytes();
+    families::canonical_v6_network_bytes();
+}

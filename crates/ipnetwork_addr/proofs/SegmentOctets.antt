@@ -1,0 +1,89 @@
+-- The octets of segments, by the address that they make up.
+use Rattle.std.proofs.Common.{◌≡◌, ℕ, zero, suc, ◌+◌, ◌*◌, ◌/◌, ◌%◌, ◌^◌, ◌<◌, List, [], ◌∷◌, ◌++◌, length, take, get_or, refl, sym, ap, ◌∙◌, arith, lit<}
+use Rattle.std.specs.Hash.{le_bytes}
+use Rattle.std.specs.Int.{byte_at, bytes_low_first}
+use Rattle.std.proofs.Math.Nat.{div-div-eq-div-mul}
+use Rattle.std.proofs.lemmas.Int.Digits.{number_more}
+use Rattle.std.proofs.lemmas.List.{take_all}
+use Rattle.std.proofs.lemmas.Nat.{div-mul-add, pow-add}
+use Rattle.ipnetwork_addr.specs.Digits.{digits_in, octets_of_v6}
+use Rattle.ipnetwork_addr.specs.Segments.{number_of_segments, AreSegments}
+
+-- the octets past a segment are those of what stands before it
+octet_before : (n d i : ℕ) → d < 65536 → byte_at (suc (suc i)) (n * 65536 + d) ≡ byte_at i n
+octet_before n d zero h = ap (λ q. q % 256) (div-mul-add n 65536 d h)
+octet_before n d (suc i) h =
+    let three : suc (suc (suc i)) ≡ 2 + suc i = omega arith in
+    let power : 256 ^ suc (suc (suc i)) ≡ 65536 * 256 ^ suc i = ap (λ k. 256 ^ k) three ∙ pow-add 256 2 (suc i) in
+    ap (λ p. (n * 65536 + d) / p % 256) power ∙ ap (λ q. q % 256) (sym (div-div-eq-div-mul (n * 65536 + d) 65536 (256 ^ suc i)) ∙ ap (λ q. q / 256 ^ suc i) (div-mul-add n 65536 d h))
+
+octets_before : (n d i count : ℕ) → d < 65536 → bytes_low_first (suc (suc i)) count (n * 65536 + d) ≡ bytes_low_first i count n
+octets_before n d i zero h = refl
+octets_before n d i (suc count) h =
+    ap (λ b. b ∷ bytes_low_first (suc (suc (suc i))) count (n * 65536 + d)) (octet_before n d i h) ∙ ap (λ bs. byte_at i n ∷ bs) (octets_before n d (suc i) count h)
+
+-- the octets of a segment, and those of what stands before it
+segment_octets : (n d count : ℕ) → d < 65536 → bytes_low_first 0 (suc (suc count)) (n * 65536 + d) ≡ d % 256 ∷ d / 256 ∷ bytes_low_first 0 count n
+segment_octets n d count h =
+    let low : (n * 65536 + d) % 256 ≡ d % 256 = omega arith in
+    let high : (n * 65536 + d) / 256 % 256 ≡ d / 256 = omega arith in
+    ap (λ b. b ∷ (n * 65536 + d) / 256 % 256 ∷ bytes_low_first 2 count (n * 65536 + d)) low
+    ∙ ap (λ b. d % 256 ∷ b ∷ bytes_low_first 2 count (n * 65536 + d)) high
+    ∙ ap (λ bs. d % 256 ∷ d / 256 ∷ bs) (octets_before n d 0 count h)
+
+-- the octets of the last of the first segments, and those of the segments before it
+last_octets : (xs : List ℕ) (count bytes : ℕ) → count < length xs → get_or xs count 0 < 65536
+    → bytes_low_first 0 (suc (suc bytes)) (number_of_segments (take (count + 1) xs)) ≡ get_or xs count 0 % 256 ∷ get_or xs count 0 / 256 ∷ bytes_low_first 0 bytes (number_of_segments (take count xs))
+last_octets xs count bytes within fit =
+    ap (bytes_low_first 0 (suc (suc bytes))) (number_more 65536 xs count within) ∙ segment_octets (number_of_segments (take count xs)) (get_or xs count 0) bytes fit
+
+pub segments_octets : (xs : List ℕ) → AreSegments xs
+    → get_or xs 7 0 % 256 ∷ get_or xs 7 0 / 256 ∷ get_or xs 6 0 % 256 ∷ get_or xs 6 0 / 256 ∷ get_or xs 5 0 % 256 ∷ get_or xs 5 0 / 256 ∷ get_or xs 4 0 % 256 ∷ get_or xs 4 0 / 256
+    ∷ get_or xs 3 0 % 256 ∷ get_or xs 3 0 / 256 ∷ get_or xs 2 0 % 256 ∷ get_or xs 2 0 / 256 ∷ get_or xs 1 0 % 256 ∷ get_or xs 1 0 / 256 ∷ get_or xs 0 0 % 256 ∷ get_or xs 0 0 / 256 ∷ []
+    ≡ le_bytes 16 (number_of_segments xs)
+unfolding le_bytes
+segments_octets xs h =
+    let last : (count bytes : ℕ) → count < 8 → bytes_low_first 0 (suc (suc bytes)) (number_of_segments (take (count + 1) xs)) ≡ get_or xs count 0 % 256 ∷ get_or xs count 0 / 256 ∷ bytes_low_first 0 bytes (number_of_segments (take count xs)) =
+    λ count bytes within. last_octets xs count bytes (omega (arith, h.eight)) (h.each count) in
+    let pair : ℕ → List ℕ → List ℕ = λ i bs. get_or xs i 0 % 256 ∷ get_or xs i 0 / 256 ∷ bs in
+    sym (ap (λ l. bytes_low_first 0 16 (number_of_segments l)) (sym (take_all 8 xs (omega (arith, h.eight))))
+    ∙ last 7 14 (lit< tt)
+    ∙ ap (pair 7) (last 6 12 (lit< tt)
+    ∙ ap (pair 6) (last 5 10 (lit< tt)
+    ∙ ap (pair 5) (last 4 8 (lit< tt)
+    ∙ ap (pair 4) (last 3 6 (lit< tt)
+    ∙ ap (pair 3) (last 2 4 (lit< tt)
+    ∙ ap (pair 2) (last 1 2 (lit< tt)
+    ∙ ap (pair 1) (last 0 0 (lit< tt)))))))))
+
+-- ---- the highest first
+
+-- the last two digits are the octets of the last segment
+digits_of_segment : (n d count : ℕ) → d < 65536 → digits_in 256 (suc (suc count)) (n * 65536 + d) ≡ (digits_in 256 count n ++ d / 256 ∷ []) ++ d % 256 ∷ []
+digits_of_segment n d count h =
+    let low : (n * 65536 + d) % 256 ≡ d % 256 = omega arith in
+    let high : (n * 65536 + d) / 256 % 256 ≡ d / 256 = omega arith in
+    let front : (n * 65536 + d) / 256 / 256 ≡ n = omega arith in
+    ap (λ m. (digits_in 256 count m ++ (n * 65536 + d) / 256 % 256 ∷ []) ++ (n * 65536 + d) % 256 ∷ []) front
+    ∙ ap (λ b. (digits_in 256 count n ++ b ∷ []) ++ (n * 65536 + d) % 256 ∷ []) high
+    ∙ ap (λ b. (digits_in 256 count n ++ d / 256 ∷ []) ++ b ∷ []) low
+
+pub segments_octets_high : (xs : List ℕ) → AreSegments xs
+    → get_or xs 0 0 / 256 ∷ get_or xs 0 0 % 256 ∷ get_or xs 1 0 / 256 ∷ get_or xs 1 0 % 256 ∷ get_or xs 2 0 / 256 ∷ get_or xs 2 0 % 256 ∷ get_or xs 3 0 / 256 ∷ get_or xs 3 0 % 256
+    ∷ get_or xs 4 0 / 256 ∷ get_or xs 4 0 % 256 ∷ get_or xs 5 0 / 256 ∷ get_or xs 5 0 % 256 ∷ get_or xs 6 0 / 256 ∷ get_or xs 6 0 % 256 ∷ get_or xs 7 0 / 256 ∷ get_or xs 7 0 % 256 ∷ []
+    ≡ octets_of_v6 (number_of_segments xs)
+segments_octets_high xs h =
+    let pair : ℕ → List ℕ → List ℕ = λ i bs. (bs ++ get_or xs i 0 / 256 ∷ []) ++ get_or xs i 0 % 256 ∷ [] in
+    let last : (count bytes : ℕ) → count < 8 → digits_in 256 (suc (suc bytes)) (number_of_segments (take (count + 1) xs)) ≡ pair count (digits_in 256 bytes (number_of_segments (take count xs))) =
+    λ count bytes within.
+    ap (digits_in 256 (suc (suc bytes))) (number_more 65536 xs count (omega (arith, h.eight)))
+    ∙ digits_of_segment (number_of_segments (take count xs)) (get_or xs count 0) bytes (h.each count) in
+    sym (ap (λ l. digits_in 256 16 (number_of_segments l)) (sym (take_all 8 xs (omega (arith, h.eight))))
+    ∙ last 7 14 (lit< tt)
+    ∙ ap (pair 7) (last 6 12 (lit< tt)
+    ∙ ap (pair 6) (last 5 10 (lit< tt)
+    ∙ ap (pair 5) (last 4 8 (lit< tt)
+    ∙ ap (pair 4) (last 3 6 (lit< tt)
+    ∙ ap (pair 3) (last 2 4 (lit< tt)
+    ∙ ap (pair 2) (last 1 2 (lit< tt)
+    ∙ ap (pair 1) (last 0 0 (lit< tt)))))))))

@@ -1,0 +1,7 @@
+use Rattle.std.proofs.Common.{◌≡◌, drop}
+use Rattle.ipnetwork_addr.specs.Texts.{colon_first}
+use Rattle.ipnetwork_addr.proofs.first_mark.has_colon_first.Given as goal
+
+-- what was read holds neither, so the rest decides
+abbrev pub invariant-loop-byte : goal.invariant-loop-byte
+invariant-loop-byte l = colon_first l.text ≡ colon_first (drop l.byte-index l.text)

@@ -1,5 +1,0 @@
-use Rattle.ipnetwork_addr.proofs.EitherFamily.{canonical_ip_names}
-use Rattle.ipnetwork_addr.proofs.laws.canonical_ip_names_its_address.Goals as goal
-
-pub returns : goal.returns
-returns c = canonical_ip_names

@@ -1,5 +1,0 @@
-use Rattle.ipnetwork_addr.proofs.Ipv4Lemmas.{canonical_v4_names}
-use Rattle.ipnetwork_addr.proofs.laws.canonical_v4_names_its_address.Goals as goal
-
-pub returns : goal.returns
-returns c = canonical_v4_names

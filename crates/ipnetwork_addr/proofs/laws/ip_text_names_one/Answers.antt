@@ -1,5 +1,0 @@
-use Rattle.ipnetwork_addr.proofs.EitherFamily.{ip_unique}
-use Rattle.ipnetwork_addr.proofs.laws.ip_text_names_one.Goals as goal
-
-pub returns : goal.returns
-returns c = ip_unique

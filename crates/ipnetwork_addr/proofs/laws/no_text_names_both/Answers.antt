@@ -1,5 +1,0 @@
-use Rattle.ipnetwork_addr.proofs.EitherFamily.{not_both}
-use Rattle.ipnetwork_addr.proofs.laws.no_text_names_both.Goals as goal
-
-pub returns : goal.returns
-returns c = not_both

@@ -1,0 +1,10 @@
+use Rattle.std.proofs.Common.{ap}
+use Rattle.ipnetwork_addr.specs.Ipv4Text.{canonical_v4}
+use Rattle.ipnetwork_addr.proofs.Ipv4Lemmas.{v4_unique, canonical_v4_names}
+use Rattle.ipnetwork_addr.proofs.laws.texts.canonical_v4_is_one_to_one.Goals as goal
+
+pub returns : goal.returns
+returns c a b fits_a fits_b = (
+  λ e. ap canonical_v4 e,
+  λ e. v4_unique _ a b (canonical_v4_names a fits_a) (rw e (canonical_v4_names b fits_b)),
+)

@@ -1,0 +1,5 @@
+use Rattle.ipnetwork_addr.proofs.Ipv6Bytes.{v6_bytes}
+use Rattle.ipnetwork_addr.proofs.laws.texts.v6_text_bytes.Goals as goal
+
+pub returns : goal.returns
+returns c = v6_bytes

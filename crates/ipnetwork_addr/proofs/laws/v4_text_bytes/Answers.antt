@@ -1,5 +1,0 @@
-use Rattle.ipnetwork_addr.proofs.AddressBytes.{v4_bytes}
-use Rattle.ipnetwork_addr.proofs.laws.v4_text_bytes.Goals as goal
-
-pub returns : goal.returns
-returns c = v4_bytes

@@ -1,5 +1,0 @@
-use Rattle.ipnetwork_addr.proofs.ComputedV4.{v4_of_sound, v4_of_complete}
-use Rattle.ipnetwork_addr.proofs.laws.v4_text_is_computed.Goals as goal
-
-pub returns : goal.returns
-returns c text address = (v4_of_complete text address, v4_of_sound text address)

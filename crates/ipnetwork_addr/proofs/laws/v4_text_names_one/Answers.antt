@@ -1,5 +1,0 @@
-use Rattle.ipnetwork_addr.proofs.Ipv4Lemmas.{v4_unique}
-use Rattle.ipnetwork_addr.proofs.laws.v4_text_names_one.Goals as goal
-
-pub returns : goal.returns
-returns c = v4_unique

@@ -1,5 +1,0 @@
-use Rattle.ipnetwork_addr.proofs.Ipv6Bytes.{v6_bytes}
-use Rattle.ipnetwork_addr.proofs.laws.v6_text_bytes.Goals as goal
-
-pub returns : goal.returns
-returns c = v6_bytes

@@ -1,5 +1,0 @@
-use Rattle.ipnetwork_addr.proofs.FirstMarks.{v6_colon_first}
-use Rattle.ipnetwork_addr.proofs.laws.v6_text_has_a_colon_first.Goals as goal
-
-pub returns : goal.returns
-returns c = v6_colon_first

@@ -1,5 +1,0 @@
-use Rattle.ipnetwork_addr.proofs.ComputedV6.{v6_of_sound, v6_of_complete}
-use Rattle.ipnetwork_addr.proofs.laws.v6_text_is_computed.Goals as goal
-
-pub returns : goal.returns
-returns c text address = (v6_of_complete text address, v6_of_sound text address)

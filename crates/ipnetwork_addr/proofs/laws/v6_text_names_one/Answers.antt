@@ -1,5 +1,0 @@
-use Rattle.ipnetwork_addr.proofs.Ipv6Names.{v6_unique}
-use Rattle.ipnetwork_addr.proofs.laws.v6_text_names_one.Goals as goal
-
-pub returns : goal.returns
-returns c = v6_unique

@@ -1,0 +1,19 @@
+//! The first dot or colon of a text, which tells the family that the text can be of.
+ghost use Rattle.std.specs.Prelude.{◌≡◌};
+ghost use Rattle.ipnetwork_addr.specs.Texts.{colon_first};
+
+/// Whether of the dots and colons of a text the first is a colon, as in each IPv6 text; in an IPv4 text a
+/// dot comes first. So a text has to be read in one family only. Does not allocate.
+pub fn has_colon_first(text: &[u8]) -> bool
+    ensures { result ≡ colon_first text.now }
+{
+    for byte in text {
+        if *byte == b':' {
+            return true;
+        }
+        if *byte == b'.' {
+            return false;
+        }
+    }
+    false
+}

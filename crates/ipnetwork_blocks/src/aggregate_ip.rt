@@ -1,0 +1,52 @@
+//! The least list of blocks with the union of networks of either family.
+ghost use Rattle.std.specs.Prelude.{◌≤◌, length, take, drop};
+ghost use Rattle.std.specs.List.{All};
+ghost use Rattle.std.specs.List.Sorted.{IsPermutation};
+ghost use Rattle.ipnetwork.specs.IpNetworks.{IsV4, IsV6};
+ghost use Rattle.ipnetwork_blocks.specs.AggregateIp.{IsIpAggregate};
+
+use crate::aggregate::aggregate_held;
+use ipnetwork::{IpNetwork, Ipv4Network, Ipv6Network};
+
+/// Puts the aggregate of the IPv4 networks in front, and behind it that of the IPv6 networks, and answers how many
+/// blocks these are: for each family what `aggregate_in_place` makes of its networks. The rest of the slice holds
+/// unspecified networks.
+///
+/// Sorts each family and goes over it once. Does not allocate.
+pub fn aggregate_ip_in_place(networks: &mut [IpNetwork]) -> usize
+    ensures within { result ≤ length networks.old }
+    ensures aggregate { IsIpAggregate networks.old (take result networks.new) }
+{
+    let v4_count = put_v4_first(networks);
+    let (v4, v6) = networks.split_at_mut(v4_count);
+    let v4_blocks = aggregate_held::<Ipv4Network, IpNetwork>(v4);
+    let v6_blocks = aggregate_held::<Ipv6Network, IpNetwork>(v6);
+    networks.copy_within(v4_count..v4_count + v6_blocks, v4_blocks);
+    v4_blocks + v6_blocks
+}
+
+/// Puts the aggregate of the IPv4 networks, and behind it that of the IPv6 networks, in the place of the networks:
+/// what `aggregate_ip_in_place` puts in front, and nothing behind it. Does not allocate, and frees no memory.
+pub fn aggregate_ip_vec(networks: &mut Vec<IpNetwork>)
+    ensures { IsIpAggregate networks.old.items networks.new.items }
+{
+    let count = aggregate_ip_in_place(networks.as_mut_slice());
+    networks.truncate(count);
+}
+
+// Puts the IPv4 networks before the IPv6 networks, and answers how many there are.
+fn put_v4_first(networks: &mut [IpNetwork]) -> usize
+    ensures within { result ≤ length networks.old }
+    ensures same { IsPermutation networks.old networks.new }
+    ensures v4 { All IsV4 (take result networks.new) }
+    ensures v6 { All IsV6 (drop result networks.new) }
+{
+    let mut v4_count = 0;
+    for next in 0..networks.len() {
+        if networks[next].is_ipv4() {
+            networks.swap(v4_count, next);
+            v4_count += 1;
+        }
+    }
+    v4_count
+}

@@ -1,0 +1,13 @@
+//! The laws of blocks and of least lists, for addresses of any number of bits, and of hosts. Each function's contract
+//! is a law; it takes nothing and does nothing, and a proof whose function calls it may use the law.
+
+mod aggregates;
+mod ranges;
+mod subnets;
+
+pub use aggregates::{
+    ip_least, ip_of_the_union, ip_one_block, ip_same_union, least, of_the_union, one_block,
+    same_union,
+};
+pub use ranges::ranges_are_shortest;
+pub use subnets::{around_is_one, hosts, siblings, subnet_listing};

@@ -1,0 +1,165 @@
+//! The blocks of a range of addresses.
+ghost use Rattle.std.specs.Prelude.{◌≡◌, ◌+◌, ◌-◌, ◌*◌, ◌^◌, ◌<◌, ◌≤◌, ◌↔◌, IsTrue, length, MatchOption, IfSome, []};
+ghost use Rattle.std.specs.Iterator.{YieldsFirstBy, item_count};
+ghost use Rattle.ipnetwork_family.specs.Network.{low, high};
+ghost use Rattle.ipnetwork_blocks.specs.LeastList.{IsMaximalIn, IsLeastList};
+ghost use Rattle.ipnetwork_blocks.specs.Ranges.{FromTo};
+
+use crate::following_block::following;
+use ipnetwork_family::CidrNetwork;
+use std::alloc::AllocError;
+use std::marker::Model;
+
+/// The blocks of a range of addresses that are still to come, in ascending order.
+#[derive(Debug, Drop)]
+pub struct RangeBlocks<N: CidrNetwork> {
+    next: N::Addr,
+    last: N::Addr,
+    is_done: bool,
+}
+
+// A contract sees an iterator as the list of the blocks still to come.
+impl<N: CidrNetwork> Model for RangeBlocks<N> {
+    ghost use Rattle.std.specs.Prelude.{List, [], ◌<◌, ◌≤◌, ◌^◌, cond};
+    ghost use Rattle.ipnetwork_family.specs.Network.{Network};
+    ghost use Rattle.ipnetwork_blocks.specs.Private.RangeList.{blocks_from_to};
+
+    ghost Value = { List Network };
+
+    ghost view = { λ r. cond r.is_done [] (blocks_from_to N.WIDTH (N.number r.next) (N.number r.last)) };
+
+    ghost invariant = { λ r. (N.number r.next ≤ N.number r.last) × (N.number r.last < 2 ^ N.WIDTH) };
+}
+
+/// The blocks whose addresses are those from `first` to `last`, both included: the fewest that there are, in
+/// ascending order. `None` where `first` comes after `last`.
+///
+/// For addresses of W bits there are at most 2 W - 2 blocks: 62 for IPv4 and 254 for IPv6. The whole address
+/// space is one block, of prefix length 0. Does not allocate, nor does the iterator.
+pub fn range_to_blocks<N: CidrNetwork>(first: N::Addr, last: N::Addr) -> Option<RangeBlocks<N>>
+    ensures blocks { MatchOption result (N.number last < N.number first)
+        (λ blocks. (N.number first ≤ N.number last)
+        × IsLeastList N.WIDTH (FromTo (N.number first) (N.number last)) blocks) }
+    ensures count { 2 ≤ N.WIDTH → IfSome result (λ blocks. length blocks ≤ 2 * N.WIDTH - 2) }
+{
+    if last < first {
+        return None;
+    }
+    Some(RangeBlocks::between(first, last))
+}
+
+impl<N: CidrNetwork> RangeBlocks<N> {
+    /// The blocks of the addresses from `first` to `last`, both included.
+    pub(crate) fn between(first: N::Addr, last: N::Addr) -> Self
+        requires { N.number first ≤ N.number last }
+        ensures blocks { IsLeastList N.WIDTH (FromTo (N.number first) (N.number last)) result }
+        ensures count { 2 ≤ N.WIDTH → length result ≤ 2 * N.WIDTH - 2 }
+    {
+        // The clause `address` of this call tells that `last` is an address of the family.
+        let _ = N::block(last, N::WIDTH);
+        RangeBlocks {
+            next: first,
+            last,
+            is_done: false,
+        }
+    }
+
+    /// No blocks. Any address serves.
+    pub(crate) fn none(address: N::Addr) -> Self
+        ensures none { result ≡ [] }
+        ensures address { N.number address < 2 ^ N.WIDTH }
+    {
+        let _ = N::block(address, N::WIDTH);
+        RangeBlocks {
+            next: address,
+            last: address,
+            is_done: true,
+        }
+    }
+
+    /// The blocks of the addresses from `first` to `last`, and none where `first` comes after `last`.
+    pub(crate) fn between_or_none(first: N::Addr, last: N::Addr) -> Self
+        ensures { IsLeastList N.WIDTH (FromTo (N.number first) (N.number last)) result }
+    {
+        match range_to_blocks(first, last) {
+            Some(blocks) => blocks,
+            None => RangeBlocks::none(last),
+        }
+    }
+}
+
+impl<N: CidrNetwork> Iterator for RangeBlocks<N> {
+    type Item = N;
+
+    ghost next_gives = { YieldsFirstBy N.pair (λ left. left) };
+
+    ghost remaining = { item_count (λ left. left) };
+
+    fn next(&mut self) -> Option<N> {
+        if self.is_done {
+            return None;
+        }
+        let block = widest_block::<N>(self.next, self.last);
+        if ends_before(block, self.last) {
+            let Some(behind) = following(block) else {
+                unreachable!()
+            };
+            self.next = behind.network();
+        } else {
+            self.is_done = true;
+        }
+        Some(block)
+    }
+}
+
+// Whether the network ends before the address.
+fn ends_before<N: CidrNetwork>(network: N, address: N::Addr) -> bool
+    ensures { IsTrue result ↔ (high N.WIDTH (N.pair network) < N.number address) }
+{
+    network.broadcast() < address
+}
+
+// Whether each member of the network is one of the addresses from `first` to `last`.
+fn lies_between<N: CidrNetwork>(network: N, first: N::Addr, last: N::Addr) -> bool
+    ensures { IsTrue result ↔ ((N.number first ≤ low N.WIDTH (N.pair network))
+        × (high N.WIDTH (N.pair network) ≤ N.number last)) }
+{
+    first <= network.network() && network.broadcast() <= last
+}
+
+// The widest block that begins at `first` and ends at `last` or before.
+fn widest_block<N: CidrNetwork>(first: N::Addr, last: N::Addr) -> N
+    requires { N.number first ≤ N.number last }
+    ensures begins { (N.pair result).address ≡ N.number first }
+    ensures maximal { IsMaximalIn N.WIDTH (FromTo (N.number first) (N.number last)) (N.pair result) }
+{
+    let mut prefix = N::WIDTH;
+    let Some(mut block) = N::block(first, prefix) else {
+        unreachable!()
+    };
+    while prefix > 0 {
+        let Some(wider) = N::block(first, prefix - 1) else {
+            unreachable!()
+        };
+        if !lies_between(wider, first, last) {
+            return block;
+        }
+        block = wider;
+        prefix -= 1;
+    }
+    block
+}
+
+impl<N: CidrNetwork> Clone for RangeBlocks<N> {
+    ghost is_clone = { λ left copy. copy ≡ left };
+
+    ghost is_infallible = { λ _. Unit {0} };
+
+    fn clone(&self) -> Result<Self, AllocError> {
+        Ok(RangeBlocks {
+            next: self.next,
+            last: self.last,
+            is_done: self.is_done,
+        })
+    }
+}

@@ -1,0 +1,50 @@
+//! The block of a network, the blocks around it, and the other half of its parent.
+ghost use Rattle.std.specs.Prelude.{◌≡◌, ◌<◌, ◌≤◌, MatchOption};
+ghost use Rattle.ipnetwork_family.specs.Network.{IsNetwork, HostBitsAreZero, block_of};
+ghost use Rattle.ipnetwork_blocks.specs.Supernets.{IsAround, IsSibling};
+
+use ipnetwork_family::CidrNetwork;
+
+/// The network without host bits that has the same members and the same prefix length. Does not allocate.
+pub fn block<N: CidrNetwork>(network: N) -> N
+    ensures made { N.pair result ≡ block_of N.WIDTH (N.pair network) }
+    ensures no_host_bits { HostBitsAreZero N.WIDTH (N.pair result) }
+    ensures network { IsNetwork N.WIDTH (N.pair result) }
+{
+    let Some(block) = N::block(network.ip(), network.prefix()) else {
+        unreachable!()
+    };
+    block
+}
+
+/// The block of this prefix length around the network: it has no host bits, and holds each member. At the
+/// network's own prefix length that is its `block`; `None` where the prefix length is longer. Does not allocate.
+pub fn supernet<N: CidrNetwork>(network: N, prefix: u8) -> Option<N>
+    ensures { MatchOption result ((N.pair network).prefix < prefix)
+        (λ wide. (prefix ≤ (N.pair network).prefix) × IsAround N.WIDTH (N.pair network) prefix (N.pair wide)) }
+{
+    if prefix > network.prefix() {
+        return None;
+    }
+    N::block(network.ip(), prefix)
+}
+
+/// The other half of the block that is one bit shorter: it has no host bits and the same prefix length. `None`
+/// at prefix length 0, where there is no wider block. Does not allocate.
+pub fn sibling<N: CidrNetwork>(network: N) -> Option<N>
+    ensures { MatchOption result ((N.pair network).prefix ≡ 0)
+        (λ other. (0 < (N.pair network).prefix) × IsSibling N.WIDTH (N.pair network) (N.pair other)) }
+{
+    let prefix = network.prefix();
+    if prefix == 0 {
+        return None;
+    }
+    let Some(parent) = N::block(network.ip(), prefix - 1) else {
+        unreachable!()
+    };
+    let end = parent.broadcast();
+    if network.broadcast() != end {
+        return N::block(end, prefix);
+    }
+    N::block(parent.network(), prefix)
+}

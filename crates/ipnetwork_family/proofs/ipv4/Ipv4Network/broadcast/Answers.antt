@@ -1,7 +1,0 @@
-use Rattle.std.proofs.Common.{◌∙◌}
-use Rattle.ipnetwork_family.proofs.Bits.{set_hosts}
-use Rattle.ipnetwork_family.proofs.ipv4.Ipv4Network.broadcast.Goals as goal
-
-pub returns : goal.returns
-returns c = rw (← c.self.view_is)
-    (c.from.ensures ∙ rw c.host_ones-ones.ensures (set_hosts 32 c.self.inside.prefix c.self.inside.address c.self.invariant.prefix_fits c.self.invariant.address_fits))

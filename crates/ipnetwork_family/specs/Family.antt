@@ -1,0 +1,59 @@
+-- What a family of addresses brings to its networks: how its addresses and its prefix lengths are spelled, and which
+-- error tells of a text that spells none.
+use Rattle.std.specs.Prelude.{ℕ, ◌+◌, List, Result}
+use Rattle.ipnetwork_addr.specs.Ipv4Text.{NamesV4, canonical_v4}
+use Rattle.ipnetwork_addr.specs.Ipv6Text.{NamesV6}
+use Rattle.ipnetwork_addr.specs.Computed.Ipv6Canonical.{canonical_v6}
+use Rattle.ipnetwork_addr.specs.declared.error.AddrParseError.{AddrParseError}
+use Rattle.ipnetwork_addr.specs.declared.error.AddrParseError.TheVariants as kinds
+use Rattle.ipnetwork_family.specs.Network.{Network}
+use Rattle.ipnetwork_family.specs.NetworkText.{NamesNetwork, IsCause, ReadsNetwork, network_text}
+use Rattle.ipnetwork_family.specs.Ipv4NetworkText.{IsV4Suffix}
+use Rattle.ipnetwork_family.specs.Ipv6NetworkText.{IsV6Suffix}
+use Rattle.ipnetwork_family.specs.Parsing.{Parses}
+use Rattle.ipnetwork_family.specs.declared.error.CidrFault.{CidrFault}
+use Rattle.ipnetwork_family.specs.declared.error.IpNetworkError.{IpNetworkError}
+
+-- a family of addresses of w bits
+pub record Family (w : ℕ) : Type 1 where
+  -- the text names the address of this number
+  pub NamesAddress : List ℕ → ℕ → Type 0
+  -- behind a `/`, the text gives this prefix length
+  pub IsSuffix : List ℕ → ℕ → Type 0
+  -- the one text that the address of a number is printed as
+  pub canonical : ℕ → List ℕ
+  -- the error for a text that names no address
+  pub refusal : AddrParseError
+  -- how many bytes a canonical text has at most, and how many digits a prefix length has
+  pub address_length : ℕ
+  pub prefix_digits : ℕ
+
+-- IPv4 and IPv6
+abbrev pub v4_family : Family 32
+v4_family = record { NamesAddress = NamesV4; IsSuffix = IsV4Suffix; canonical = canonical_v4; refusal = kinds.Ipv4; address_length = 15; prefix_digits = 2 }
+
+abbrev pub v6_family : Family 128
+v6_family = record { NamesAddress = NamesV6; IsSuffix = IsV6Suffix; canonical = canonical_v6; refusal = kinds.Ipv6; address_length = 39; prefix_digits = 3 }
+
+-- ---- the words of texts, for the networks of a family. At the two families they are those of Ipv4NetworkText,
+-- Ipv6NetworkText and Parsing
+
+-- the text names the network
+abbrev pub NamesNetworkOf : {w : ℕ} → Family w → List ℕ → Network → Type 0
+NamesNetworkOf {w} family text n = NamesNetwork w family.NamesAddress family.IsSuffix text n
+
+-- what reading answers
+abbrev pub ReadsNetworkOf : {w : ℕ} → Family w → List ℕ → Result Network CidrFault → Type 0
+ReadsNetworkOf {w} family text result = ReadsNetwork w family.NamesAddress family.IsSuffix text result
+
+-- what parsing answers
+abbrev pub ParsesNetworkOf : {w : ℕ} → Family w → List ℕ → Result Network IpNetworkError → Type 0
+ParsesNetworkOf family text result = Parses (NamesNetworkOf family) (IsCause family.NamesAddress family.IsSuffix) family.refusal text result
+
+-- the one text that a network is printed as
+abbrev pub text_of : {w : ℕ} → Family w → Network → List ℕ
+text_of family n = network_text family.canonical n
+
+-- how many bytes it has at most: those of an address, the `/` and the digits
+abbrev pub text_length_of : {w : ℕ} → Family w → ℕ
+text_length_of family = family.address_length + 1 + family.prefix_digits

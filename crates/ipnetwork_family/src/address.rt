@@ -1,0 +1,115 @@
+//! What networks ask of an address.
+ghost use Rattle.std.specs.Prelude.{◌≡◌, ◌↔◌, ℕ, ◌+◌, ◌-◌, ◌/◌, ◌^◌, ◌<◌, ◌≤◌, List, length, IsTrue, MatchOption};
+ghost use Rattle.std.specs.Ordering.{nat_cmp};
+ghost use Rattle.ipnetwork_addr.specs.Reading.{Reads};
+ghost use Rattle.ipnetwork_family.specs.Bits.{SharesBits, EndsInZeros};
+ghost use Rattle.ipnetwork_family.specs.Family.{Family};
+ghost use Rattle.ipnetwork_family.specs.NetworkText.{slashes};
+ghost use Rattle.ipnetwork_family.specs.Network.{mask_of, IsNoMask, low, high, block_size};
+
+use arrayvec::ArrayString;
+use ipnetwork_addr::{ADDRESS_TEXT_CAPACITY, AddrParseError};
+use std::fmt::Debug;
+use std::hash::Hash;
+
+/// The addresses of one family. An address means a number of `WIDTH` bits and is ordered by it; a prefix length says
+/// how many of the first of these bits are looked at. No call allocates.
+pub trait Address: Copy + Ord + Hash + Debug {
+    /// The number of bits of an address, and the greatest prefix length: 32 for IPv4, 128 for IPv6.
+    const WIDTH: u8;
+
+    // The number of bits, as contracts see it.
+    ghost WIDTH: { ℕ };
+
+    // How addresses and prefix lengths are spelled.
+    ghost family: { Family WIDTH };
+
+    // The number that an address means.
+    ghost number: { Self → ℕ };
+
+    // The address that a number means.
+    ghost of_number: { ℕ → Self };
+
+    // So an address is known by its number,
+    ghost back: { (a : Self) → of_number (number a) ≡ a };
+
+    // and each number by its address.
+    ghost forth: { (n : ℕ) → number (of_number n) ≡ n };
+
+    /// The address that a text names, or `refusal` where it names none.
+    fn read_bytes(text: &[u8]) -> Result<Self, AddrParseError>
+        ensures { Reads (λ name address. family.NamesAddress name (number address)) family.refusal text.now result };
+
+    /// The prefix length that a text gives behind the `/` of a network, if it gives one: as a number and, for IPv4,
+    /// also as a mask in the form of an address.
+    fn read_suffix(text: &[u8]) -> Option<u8>
+        ensures { MatchOption result ((p : ℕ) → ¬ (family.IsSuffix text.now p)) (λ p. (p ≤ WIDTH) × family.IsSuffix text.now p) };
+
+    /// The error for a text that names no address of the family.
+    fn refusal() -> AddrParseError
+        ensures { result ≡ family.refusal };
+
+    /// The canonical text.
+    fn canonical(&self) -> ArrayString<ADDRESS_TEXT_CAPACITY>
+        ensures bytes { result.bytes ≡ family.canonical (number self.now) }
+        ensures short { (length result.bytes ≤ family.address_length) × (family.address_length ≤ ADDRESS_TEXT_CAPACITY) };
+
+    /// Does nothing. A proof learns from it that no address and no suffix holds a `/`.
+    #[doc(hidden)]
+    fn texts_hold_no_slash()
+        ensures addresses { (text : List ℕ) (address : ℕ) → family.NamesAddress text address → slashes text ≡ 0 }
+        ensures suffixes { (text : List ℕ) (p : ℕ) → family.IsSuffix text p → slashes text ≡ 0 };
+
+    /// Does nothing. A proof learns from it that the number has `WIDTH` bits.
+    #[doc(hidden)]
+    fn is_of_width(self)
+        ensures { number self < 2 ^ WIDTH };
+
+    /// The mask of a prefix length: as many ones in front, and zeros behind them.
+    fn mask(prefix: u8) -> Self
+        requires { prefix ≤ WIDTH }
+        ensures { number result ≡ mask_of WIDTH prefix };
+
+    /// The prefix length of a mask; `None` where the address is no mask.
+    fn prefix_of_mask(self) -> Option<u8>
+        ensures { MatchOption result (IsNoMask WIDTH (number self)) (λ prefix. (prefix ≤ WIDTH) × (number self ≡ mask_of WIDTH prefix)) };
+
+    /// The address with the bits behind the first `prefix` cleared.
+    fn least(self, prefix: u8) -> Self
+        requires { prefix ≤ WIDTH }
+        ensures { number result ≡ low WIDTH (record { address = number self; prefix = prefix }) };
+
+    /// The address with the bits behind the first `prefix` set.
+    fn greatest(self, prefix: u8) -> Self
+        requires { prefix ≤ WIDTH }
+        ensures { number result ≡ high WIDTH (record { address = number self; prefix = prefix }) };
+
+    /// Whether two addresses agree in their first `prefix` bits.
+    fn agrees(self, other: Self, prefix: u8) -> bool
+        requires { prefix ≤ WIDTH }
+        ensures { IsTrue result ↔ (number self / block_size WIDTH prefix ≡ number other / block_size WIDTH prefix) };
+
+    /// The address after this one, which is not the last.
+    fn next(self) -> Self
+        requires { number self + 1 < 2 ^ WIDTH }
+        ensures { number result ≡ number self + 1 };
+
+    /// The address before this one, which is not the first.
+    fn previous(self) -> Self
+        requires { 0 < number self }
+        ensures { number result ≡ number self - 1 };
+
+    /// How many of their first bits two addresses share: the greatest prefix length with which they lie in one block.
+    fn shared_bits(self, other: Self) -> u8
+        ensures { SharesBits WIDTH (number self) (number other) result };
+
+    /// How many zeros the bits end with; `WIDTH` for the address 0.
+    fn trailing_zeros(self) -> u8
+        ensures { EndsInZeros WIDTH (number self) result };
+
+    // Addresses are ordered by their numbers,
+    ghost address_order: { (x y : Self) → Self.cmp x y ≡ nat_cmp (number x) (number y) };
+
+    // and a prefix length has few digits.
+    ghost few_digits: { (1 ≤ family.prefix_digits) × (family.prefix_digits ≤ 3) × (WIDTH < 10 ^ family.prefix_digits) };
+}

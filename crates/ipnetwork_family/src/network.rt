@@ -1,0 +1,312 @@
+//! Networks of the addresses of one family.
+ghost use Rattle.std.specs.Prelude.{◌≡◌, ◌↔◌, ℕ, ◌+◌, ◌^◌, ◌<◌, ◌≤◌, IsTrue, Some, MatchOption, MatchResult, IfOk, Ok, string_bytes, length, option_copied};
+ghost use Rattle.std.specs.Option.{SomeIff};
+ghost use Rattle.ipnetwork_family.specs.Family.{ReadsNetworkOf, ParsesNetworkOf, text_of, text_length_of};
+ghost use Rattle.ipnetwork_family.specs.Masks.{GivesPrefixOfMask};
+ghost use Rattle.ipnetwork_family.specs.Network.{Network as Pair, IsNetwork, Member, IsNoMask, mask_of, low, high, members, Subnet, Overlap, block_of};
+ghost use Rattle.ipnetwork_family.specs.Private.Suffixes.{GivesPrefix, GivesNoPrefix};
+
+use crate::parse::split;
+use crate::{Address, CidrFault, IpNetworkError, NETWORK_TEXT_CAPACITY, NetworkIterator};
+use arrayvec::ArrayString;
+use ipnetwork_addr::decimal::push_decimal;
+use std::alloc::{AllocError, Global};
+use std::fmt;
+use std::marker::Model;
+use std::str::FromStr;
+
+/// An address, host bits included, and a prefix length of 0 to `A::WIDTH`: 32 for IPv4, 128 for IPv6. It stands for the
+/// set of all addresses that agree with the address in their first bits, as many as the prefix length says.
+/// Ordered by address, then by prefix length.
+#[derive(Copy, Debug, PartialEq, Eq, PartialOrd, Ord, Hash)]
+pub struct Network<A: Address> {
+    address: A,
+    prefix: u8,
+}
+
+// A contract sees a network as the pair of its address and its prefix length.
+impl<A: Address> Model for Network<A> {
+    ghost use Rattle.std.proofs.Common.{ap};
+    ghost use Rattle.ipnetwork_family.specs.Network.{Network as Pair, IsNetwork};
+
+    ghost Value = { Pair };
+
+    ghost view = { λ n. record { address = A.number n.address; prefix = n.prefix } };
+
+    ghost invariant = { λ n. IsNetwork A.WIDTH (record { address = A.number n.address; prefix = n.prefix }) };
+
+    ghost inverse = { λ n. record { address = A.of_number n.address; prefix = n.prefix } };
+
+    ghost inverse_ok = { λ n h. ap (λ a. record { address = a; prefix = n.prefix }) (A.back n.address) };
+}
+
+impl<A: Address> Clone for Network<A> {
+    ghost is_clone = { λ network copy. copy ≡ network };
+
+    ghost is_infallible = { λ _. Unit {0} };
+
+    fn clone(&self) -> Result<Self, AllocError> {
+        Ok(*self)
+    }
+}
+
+// The clause `network` tells a proof in another crate what holds of each network: both fields are private,
+// so nothing else says it. It stands on the calls that such proofs begin with.
+impl<A: Address> Network<A> {
+    /// The network of this address, host bits kept, and this prefix length; `None` where that is
+    /// greater than `A::WIDTH`.
+    pub fn new_checked(addr: A, prefix: u8) -> Option<Self>
+        ensures { SomeIff result (prefix ≤ A.WIDTH) (record { address = A.number addr; prefix = prefix }) }
+    {
+        if prefix > A::WIDTH {
+            return None;
+        }
+        addr.is_of_width();
+        Some(Network {
+            address: addr,
+            prefix,
+        })
+    }
+
+    /// The network without host bits of this prefix length that holds the address; `None` where the
+    /// prefix length is greater than `A::WIDTH`. Does not allocate.
+    pub fn block(addr: A, prefix: u8) -> Option<Self>
+        ensures address { A.number addr < 2 ^ A.WIDTH }
+        ensures cases { MatchOption result (A.WIDTH < prefix)
+            (λ n. (prefix ≤ A.WIDTH) × (n ≡ block_of A.WIDTH (record { address = A.number addr; prefix = prefix }))) }
+    {
+        addr.is_of_width();
+        let network = Network::new_checked(addr, prefix)?;
+        Network::new_checked(network.network(), prefix)
+    }
+
+    /// The network of this address, host bits kept, and this prefix length; `InvalidPrefix` where that is
+    /// greater than `A::WIDTH`. Does not allocate.
+    pub fn new(addr: A, prefix: u8) -> Result<Self, IpNetworkError>
+        ensures { MatchResult result (λ n. (n ≡ record { address = A.number addr; prefix = prefix }) × (prefix ≤ A.WIDTH))
+            (λ fault. (fault ≡ IpNetworkError.InvalidPrefix) × (A.WIDTH < prefix)) }
+    {
+        match Network::new_checked(addr, prefix) {
+            Some(network) => Ok(network),
+            None => Err(IpNetworkError::InvalidPrefix),
+        }
+    }
+
+    /// The network of this address, host bits kept, and the prefix length of this mask; `InvalidPrefix`
+    /// where that is none of the `A::WIDTH` + 1 masks. Does not allocate.
+    pub fn with_netmask(netaddr: A, netmask: A) -> Result<Self, IpNetworkError>
+        ensures { MatchResult result (λ n. (n.address ≡ A.number netaddr) × (n.prefix ≤ A.WIDTH) × (A.number netmask ≡ mask_of A.WIDTH n.prefix))
+            (λ fault. (fault ≡ IpNetworkError.InvalidPrefix) × IsNoMask A.WIDTH (A.number netmask)) }
+    {
+        match netmask.prefix_of_mask() {
+            Some(prefix) => Network::new(netaddr, prefix),
+            None => Err(IpNetworkError::InvalidPrefix),
+        }
+    }
+
+    /// The address as made, host bits included.
+    pub fn ip(&self) -> A
+        ensures made { A.number result ≡ self.now.address }
+        ensures network { IsNetwork A.WIDTH self.now }
+    {
+        self.address
+    }
+
+    /// The prefix length, in bits.
+    pub fn prefix(&self) -> u8
+        ensures made { result ≡ self.now.prefix }
+        ensures network { IsNetwork A.WIDTH self.now }
+    {
+        self.prefix
+    }
+
+    /// The mask: as many ones in front as the prefix length says, and zeros behind them.
+    pub fn mask(&self) -> A
+        ensures { A.number result ≡ mask_of A.WIDTH self.now.prefix }
+    {
+        A::mask(self.prefix)
+    }
+
+    /// The least member: the address with its host bits cleared.
+    pub fn network(&self) -> A
+        ensures least { A.number result ≡ low A.WIDTH self.now }
+        ensures network { IsNetwork A.WIDTH self.now }
+    {
+        self.ip().least(self.prefix())
+    }
+
+    /// The greatest member: the address with its host bits set.
+    pub fn broadcast(&self) -> A
+        ensures { A.number result ≡ high A.WIDTH self.now }
+    {
+        self.ip().greatest(self.prefix())
+    }
+
+    /// Whether an address lies in the network's set.
+    pub fn contains(&self, ip: A) -> bool
+        ensures { IsTrue result ↔ Member A.WIDTH self.now (A.number ip) }
+    {
+        ip.is_of_width();
+        ip.agrees(self.address, self.prefix)
+    }
+
+    /// Whether each member of this network is a member of `other`. Host bits change nothing.
+    pub fn is_subnet_of(self, other: Network<A>) -> bool
+        ensures { IsTrue result ↔ Subnet A.WIDTH self other }
+    {
+        other.prefix() <= self.prefix() && other.contains(self.ip())
+    }
+
+    /// Whether each member of `other` is a member of this network. Host bits change nothing.
+    pub fn is_supernet_of(self, other: Network<A>) -> bool
+        ensures { IsTrue result ↔ Subnet A.WIDTH other self }
+    {
+        other.is_subnet_of(self)
+    }
+
+    /// Whether some address is a member of both.
+    pub fn overlaps(self, other: Network<A>) -> bool
+        ensures { IsTrue result ↔ Overlap A.WIDTH self other }
+    {
+        self.contains(other.ip()) || other.contains(self.ip())
+    }
+
+    /// The members, each once, in ascending order.
+    pub fn iter(&self) -> NetworkIterator<A>
+        ensures { result ≡ members A.WIDTH self.now }
+    {
+        NetworkIterator::between(self.network(), self.broadcast())
+    }
+
+    /// The network that a text names: an address of the family, host bits kept, and after a `/` its suffix: a
+    /// prefix length of at most `A::WIDTH` or, for IPv4 alone, one of the 33 masks as an IPv4 address; without a
+    /// `/` the prefix length is `A::WIDTH`. Any other text is refused with its cause. Does not allocate.
+    pub fn read_bytes(text: &[u8]) -> Result<Self, CidrFault>
+        ensures { ReadsNetworkOf A.family text.now result }
+    {
+        // Does nothing. The proof needs the law: no byte of an address text is a `/`.
+        A::texts_hold_no_slash();
+        let (address, suffix) = split(text)?;
+        let Ok(address) = A::read_bytes(address) else {
+            return Err(CidrFault::Addr);
+        };
+        let Some(prefix) = prefix_length::<A>(suffix) else {
+            return Err(CidrFault::Prefix);
+        };
+        address.is_of_width();
+        Ok(Network { address, prefix })
+    }
+
+    /// The network that a text names, as `read_bytes` reads it; where it names none, the error for its
+    /// cause, as `IpNetworkError::from_fault` of the text and of the family's error gives it, which is
+    /// `AddrParseError::Ipv4` or `Ipv6`. Allocates at most once, for a refusal that carries a text, and
+    /// returns `OutOfMemory` only in place of one.
+    pub fn parse(alloc: Global, text: &str) -> Result<Self, IpNetworkError>
+        ensures { ParsesNetworkOf A.family text.now result }
+    {
+        match Network::<A>::read_bytes(text.as_bytes()) {
+            Ok(network) => Ok(network),
+            Err(fault) => Err(IpNetworkError::from_fault(alloc, fault, A::refusal(), text)),
+        }
+    }
+
+    /// The canonical text, at most 18 bytes for IPv4 and 43 for IPv6: the canonical address, `/` and the
+    /// shortest decimal of the prefix length. Does not allocate.
+    pub fn canonical(&self) -> ArrayString<NETWORK_TEXT_CAPACITY>
+        ensures bytes { result.bytes ≡ text_of A.family self.now }
+        ensures short { length result.bytes ≤ text_length_of A.family }
+        ensures network { IsNetwork A.WIDTH self.now }
+    {
+        let mut text = ArrayString::new();
+        text.push_str(self.ip().canonical().as_str());
+        text.push('/');
+        push_decimal(&mut text, self.prefix());
+        text
+    }
+
+    /// The canonical text as a `String`. Allocates once.
+    pub fn to_text(&self, alloc: Global) -> Result<String, AllocError>
+        ensures { IfOk result (λ text. string_bytes text ≡ text_of A.family self.now) }
+    {
+        String::from_str(alloc, self.canonical().as_str())
+    }
+}
+
+/// The prefix length that stands after the `/`, or that of an address alone.
+fn prefix_length<A: Address>(suffix: Option<&[u8]>) -> Option<u8>
+    ensures { MatchOption result (GivesNoPrefix A.WIDTH A.family.IsSuffix (option_copied suffix.entry))
+        (λ p. (p ≤ A.WIDTH) × GivesPrefix A.WIDTH A.family.IsSuffix (option_copied suffix.entry) p) }
+{
+    match suffix {
+        None => Some(A::WIDTH),
+        Some(suffix) => A::read_suffix(suffix),
+    }
+}
+
+/// The prefix length of a mask, or `InvalidPrefix` where the address is no mask.
+pub(crate) fn mask_to_prefix<A: Address>(mask: A) -> Result<u8, IpNetworkError>
+    ensures { GivesPrefixOfMask A.WIDTH (A.number mask) result }
+{
+    match mask.prefix_of_mask() {
+        Some(prefix) => Ok(prefix),
+        None => Err(IpNetworkError::InvalidPrefix),
+    }
+}
+
+impl<A: Address> From<A> for Network<A> {
+    ghost from_gives = { λ address network. network ≡ record { address = A.number address; prefix = A.WIDTH } };
+
+    /// The network of this address alone, of prefix length `A::WIDTH`. Does not allocate.
+    fn from(addr: A) -> Self {
+        addr.is_of_width();
+        Network {
+            address: addr,
+            prefix: A::WIDTH,
+        }
+    }
+}
+
+impl<A: Address> IntoIterator for &Network<A> {
+    type Item = A;
+
+    type IntoIter = NetworkIterator<A>;
+
+    ghost into_iter_gives = { λ network left. left ≡ members A.WIDTH network.now };
+
+    /// As `iter`.
+    fn into_iter(self) -> NetworkIterator<A> {
+        self.iter()
+    }
+}
+
+impl<A: Address> FromStr for Network<A> {
+    type Err = CidrFault;
+
+    ghost from_str_gives = { ReadsNetworkOf A.family };
+
+    /// As `read_bytes`.
+    fn from_str(text: &str) -> Result<Self, CidrFault> {
+        Network::<A>::read_bytes(text.as_bytes())
+    }
+}
+
+impl<A: Address> TryFrom<&str> for Network<A> {
+    type Error = CidrFault;
+
+    ghost try_from_gives = { λ text result. ReadsNetworkOf A.family text.now result };
+
+    /// As `read_bytes`.
+    fn try_from(text: &str) -> Result<Self, CidrFault> {
+        Network::<A>::from_str(text)
+    }
+}
+
+impl<A: Address> fmt::Display for Network<A> {
+    ghost output = { λ network. Some (text_of A.family network) };
+
+    ghost styled_output = { λ network _. Some (text_of A.family network) };
+
+    fn fmt<W: fmt::Write>(&self, f: &mut fmt::Formatter<W>) -> fmt::Result {
+        f.write_str(self.canonical().as_str())
+    }
+}

@@ -1,0 +1,123 @@
+-- The steps of the common part of two sets.
+use Rattle.std.proofs.Common.{◌≡◌, ℕ, ◌<◌, ◌≤◌, inl, inr, sym, subst, ap, ◌∙◌, arith, ⊎_elim, List, [], ◌∷◌}
+use Rattle.ipnetwork_family.specs.Network.{Network, Member, Subnet, high}
+use Rattle.ipnetwork_family.proofs.Blocks.{within_member}
+use Rattle.ipnetwork_blocks.specs.LeastList.{LiesIn}
+use Rattle.ipnetwork_blocks.specs.Aggregate.{InUnion}
+use Rattle.ipnetwork_blocks.specs.AggregateLaws.{AggregateIsApart}
+use Rattle.ipnetwork_blocks.proofs.LeastLists.{contains_head, least_of_none, least_unique}
+use Rattle.ipnetwork_sets.specs.Sets.{IsAddressSet, InBoth}
+use Rattle.ipnetwork_sets.specs.Private.LeastBlocks.{common_blocks}
+use Rattle.ipnetwork_sets.proofs.LeastBlocks.{common_is_least}
+use Rattle.ipnetwork_sets.proofs.Lists.{set_block}
+use Rattle.ipnetwork_sets.proofs.Steps.{smaller_inside, tail_is_set, first_and_rest, same_list, union_cons, union_nil, union_behind, union_from, first_is_maximal, maximal_in_part}
+
+-- ---- where one of the two is at its end
+
+pub common_none_first : (w : ℕ) (second : List Network) → common_blocks w [] second ≡ []
+common_none_first w second =
+    least_unique w (InBoth w [] second) (common_blocks w [] second) [] (common_is_least w [] second)
+    (least_of_none w (InBoth w [] second) (λ x s. union_nil w x s.0))
+
+pub common_none_second : (w : ℕ) (first : List Network) → common_blocks w first [] ≡ []
+common_none_second w first =
+    least_unique w (InBoth w first []) (common_blocks w first []) [] (common_is_least w first [])
+    (least_of_none w (InBoth w first []) (λ x s. union_nil w x s.1))
+
+module _ (w : ℕ) (a b : Network) (others rest : List Network) (apart : AggregateIsApart) (ha : IsAddressSet w (a ∷ others)) (hb : IsAddressSet w (b ∷ rest)) where
+  -- ---- a block that ends before the other begins
+
+  pub common_past_first : high w a < b.address → common_blocks w (a ∷ others) (b ∷ rest) ≡ common_blocks w others (b ∷ rest)
+  common_past_first l =
+      same_list w (InBoth w (a ∷ others) (b ∷ rest)) (InBoth w others (b ∷ rest)) (common_blocks w (a ∷ others) (b ∷ rest)) (common_blocks w others (b ∷ rest))
+      (common_is_least w (a ∷ others) (b ∷ rest)) (common_is_least w others (b ∷ rest))
+      (λ x. (
+        (λ s. ⊎_elim
+            (λ (m : Member w a x).
+            let i = within_member w a x m in
+            let from = union_from w b rest apart hb x s.1 in
+            let r : InBoth w others (b ∷ rest) x = absurd (omega (arith, i.1)) in r)
+            (λ (c : InUnion w others x). (c, s.1))
+            ((union_cons w a others x).0 s.0)),
+        (λ s. ((union_cons w a others x).1 (inr s.0), s.1)),
+      ))
+
+  pub common_past_second : high w b < a.address → common_blocks w (a ∷ others) (b ∷ rest) ≡ common_blocks w (a ∷ others) rest
+  common_past_second l =
+      same_list w (InBoth w (a ∷ others) (b ∷ rest)) (InBoth w (a ∷ others) rest) (common_blocks w (a ∷ others) (b ∷ rest)) (common_blocks w (a ∷ others) rest)
+      (common_is_least w (a ∷ others) (b ∷ rest)) (common_is_least w (a ∷ others) rest)
+      (λ x. (
+        (λ s. ⊎_elim
+            (λ (m : Member w b x).
+            let i = within_member w b x m in
+            let from = union_from w a others apart ha x s.0 in
+            let r : InBoth w (a ∷ others) rest x = absurd (omega (arith, i.1)) in r)
+            (λ (c : InUnion w rest x). (s.0, c))
+            ((union_cons w b rest x).0 s.1)),
+        (λ s. (s.0, (union_cons w b rest x).1 (inr s.1))),
+      ))
+
+  -- ---- a block that lies in the other
+
+  pub common_gives_first : Subnet w a b → common_blocks w (a ∷ others) (b ∷ rest) ≡ a ∷ common_blocks w others (b ∷ rest)
+  common_gives_first sub =
+      let inside : LiesIn w (InBoth w (a ∷ others) (b ∷ rest)) a = λ x m. ((union_cons w a others x).1 (inl m), (union_cons w b rest x).1 (inl (sub x m))) in
+      first_and_rest w (InBoth w (a ∷ others) (b ∷ rest)) (InBoth w others (b ∷ rest)) a (common_blocks w (a ∷ others) (b ∷ rest)) (common_blocks w others (b ∷ rest))
+      (common_is_least w (a ∷ others) (b ∷ rest))
+      (maximal_in_part w (InUnion w (a ∷ others)) (InBoth w (a ∷ others) (b ∷ rest)) a (first_is_maximal w a others ha) (λ x s. s.0) inside)
+      (λ x. (
+        (λ s. ⊎_elim (λ (m : Member w a x). inl m) (λ (c : InUnion w others x). inr (c, s.1)) ((union_cons w a others x).0 s.0)),
+        (λ o. ⊎_elim (λ (m : Member w a x). inside x m) (λ (s : InBoth w others (b ∷ rest) x). ((union_cons w a others x).1 (inr s.0), s.1)) o),
+      ))
+      (λ x s. union_behind w a others apart ha x s.0)
+      (common_is_least w others (b ∷ rest))
+
+  pub common_gives_second : Subnet w b a → common_blocks w (a ∷ others) (b ∷ rest) ≡ b ∷ common_blocks w (a ∷ others) rest
+  common_gives_second sub =
+      let inside : LiesIn w (InBoth w (a ∷ others) (b ∷ rest)) b = λ x m. ((union_cons w a others x).1 (inl (sub x m)), (union_cons w b rest x).1 (inl m)) in
+      first_and_rest w (InBoth w (a ∷ others) (b ∷ rest)) (InBoth w (a ∷ others) rest) b (common_blocks w (a ∷ others) (b ∷ rest)) (common_blocks w (a ∷ others) rest)
+      (common_is_least w (a ∷ others) (b ∷ rest))
+      (maximal_in_part w (InUnion w (b ∷ rest)) (InBoth w (a ∷ others) (b ∷ rest)) b (first_is_maximal w b rest hb) (λ x s. s.1) inside)
+      (λ x. (
+        (λ s. ⊎_elim (λ (m : Member w b x). inl m) (λ (c : InUnion w rest x). inr (s.0, c)) ((union_cons w b rest x).0 s.1)),
+        (λ o. ⊎_elim (λ (m : Member w b x). inside x m) (λ (s : InBoth w (a ∷ others) rest x). (s.0, (union_cons w b rest x).1 (inr s.1))) o),
+      ))
+      (λ x s. union_behind w b rest apart hb x s.1)
+      (common_is_least w (a ∷ others) rest)
+
+-- ---- the steps, at lists that are a first block and others
+
+module _ (w : ℕ) (a b : Network) (first second others rest : List Network) (apart : AggregateIsApart) (e : first ≡ a ∷ others) (f : second ≡ b ∷ rest)
+    (hf : IsAddressSet w first) (hs : IsAddressSet w second) where
+  ha : IsAddressSet w (a ∷ others)
+  ha = subst (λ (t : List Network). IsAddressSet w t) e hf
+
+  hb : IsAddressSet w (b ∷ rest)
+  hb = subst (λ (t : List Network). IsAddressSet w t) f hs
+
+  both : common_blocks w first second ≡ common_blocks w (a ∷ others) (b ∷ rest)
+  both = ap (λ t. common_blocks w t second) e ∙ ap (λ t. common_blocks w (a ∷ others) t) f
+
+  pub others_are_set : IsAddressSet w others
+  others_are_set = tail_is_set w a others apart ha
+
+  pub rest_is_set : IsAddressSet w rest
+  rest_is_set = tail_is_set w b rest apart hb
+
+  pub past_first : high w a < b.address → common_blocks w first second ≡ common_blocks w others second
+  past_first l = both ∙ common_past_first w a b others rest apart ha hb l ∙ ap (λ t. common_blocks w others t) (sym f)
+
+  pub past_second : high w b < a.address → common_blocks w first second ≡ common_blocks w first rest
+  past_second l = both ∙ common_past_second w a b others rest apart ha hb l ∙ ap (λ t. common_blocks w t rest) (sym e)
+
+  pub gives_first : (high w a < b.address → ⊥) → (high w b < a.address → ⊥) → b.prefix ≤ a.prefix → common_blocks w first second ≡ a ∷ common_blocks w others second
+  gives_first not_before not_behind le =
+      both ∙ common_gives_first w a b others rest apart ha hb
+      (smaller_inside w a b (set_block w (a ∷ others) a ha (contains_head a others)) (set_block w (b ∷ rest) b hb (contains_head b rest)) not_before not_behind le)
+      ∙ ap (λ t. a ∷ common_blocks w others t) (sym f)
+
+  pub gives_second : (high w a < b.address → ⊥) → (high w b < a.address → ⊥) → a.prefix ≤ b.prefix → common_blocks w first second ≡ b ∷ common_blocks w first rest
+  gives_second not_before not_behind le =
+      both ∙ common_gives_second w a b others rest apart ha hb
+      (smaller_inside w b a (set_block w (b ∷ rest) b hb (contains_head b rest)) (set_block w (a ∷ others) a ha (contains_head a others)) not_behind not_before le)
+      ∙ ap (λ t. b ∷ common_blocks w t rest) (sym e)

@@ -1,0 +1,84 @@
+-- Sets made of ranges.
+use Rattle.std.proofs.Common.{◌≡◌, ◌↔◌, ℕ, ◌+◌, ◌^◌, ◌<◌, ◌≤◌, ◌⊎◌, inl, inr, sym, refl, ap, subst, ◌∙◌, arith, ⊎_elim, List, [], ◌∷◌, ◌++◌, length, get_or, take, map, append_assoc}
+use Rattle.std.proofs.lemmas.Bool.{cases_lt}
+use Rattle.std.proofs.lemmas.List.{append-nil, take_more, take_all, length-map, get_or-map}
+use Rattle.std.specs.List.{Contains}
+use Rattle.std.proofs.lemmas.List.Elements.{Contains-append_left, Contains-append_right, Contains-append_cases}
+use Rattle.ipnetwork_family.specs.Network.{Network}
+use Rattle.ipnetwork_blocks.specs.Aggregate.{InUnion, IsAggregate}
+use Rattle.ipnetwork_blocks.specs.LeastList.{IsLeastList}
+use Rattle.ipnetwork_blocks.specs.LeastListLaws.{RangeIsShortest}
+use Rattle.ipnetwork_blocks.specs.Ranges.{FromTo}
+use Rattle.ipnetwork_blocks.proofs.LeastLists.{contains_cons, contains_head, contains_nil, least_of_same, least_of_none}
+use Rattle.ipnetwork_sets.specs.RangeLists.{InRanges}
+use Rattle.ipnetwork_sets.specs.Sets.{AddsLeastList}
+
+abbrev Range : Type 0
+Range = ℕ × ℕ
+
+-- the numbers of the two ends of a range
+abbrev pub numbers : {A : Type 0} → (A → ℕ) → A × A → ℕ × ℕ
+numbers number r = (number r.0, number r.1)
+
+-- no blocks are added for a range without addresses
+pub adds_none : (w first last : ℕ) (items : List Network) → last < first → AddsLeastList w (FromTo first last) items items
+adds_none w first last items l = ([], least_of_none w (FromTo first last) (λ x f. let a = f.0 in let b = f.1 in omega arith), sym (append-nil items))
+
+-- all blocks have been added
+pub adds_all : (w first last : ℕ) (before items left blocks : List Network) → IsLeastList w (FromTo first last) blocks → items ++ left ≡ before ++ blocks → left ≡ []
+    → AddsLeastList w (FromTo first last) before items
+adds_all w first last before items left blocks h e none =
+    (blocks, h, sym (append-nil items) ∙ ap (λ t. items ++ t) (sym none) ∙ e)
+
+union_append : (w : ℕ) (a b : List Network) (x : ℕ) → InUnion w (a ++ b) x ↔ (InUnion w a x ⊎ InUnion w b x)
+union_append w a b x = (
+  (λ c. ⊎_elim (λ (d : Contains a c.0). inl (c.0, d, c.2)) (λ (d : Contains b c.0). inr (c.0, d, c.2)) (Contains-append_cases a b c.0 c.1)),
+  (λ p. ⊎_elim
+      (λ (c : InUnion w a x). (c.0, Contains-append_left a b c.0 c.1, c.2))
+      (λ (c : InUnion w b x). (c.0, Contains-append_right a b c.0 c.1, c.2)) p),
+)
+
+ranges_push : (rs : List Range) (r : Range) (x : ℕ) → InRanges (rs ++ r ∷ []) x ↔ (InRanges rs x ⊎ FromTo r.0 r.1 x)
+ranges_push rs r x = (
+  (λ c. ⊎_elim (λ (d : Contains rs c.0). inl (c.0, d, c.2))
+      (λ (d : Contains (r ∷ []) c.0). ⊎_elim
+      (λ (e : r ≡ c.0). inr (subst (λ (s : Range). FromTo s.0 s.1 x) (sym e) c.2))
+      (λ (n : Contains [] c.0). absurd (contains_nil c.0 n))
+      (contains_cons r [] c.0 d))
+      (Contains-append_cases rs (r ∷ []) c.0 c.1)),
+  (λ p. ⊎_elim
+      (λ (c : InRanges rs x). (c.0, Contains-append_left rs (r ∷ []) c.0 c.1, c.2))
+      (λ (f : FromTo r.0 r.1 x). (r, Contains-append_right rs (r ∷ []) r (contains_head r []), f)) p),
+)
+
+-- the networks have the addresses of the ranges
+abbrev pub HasRanges : ℕ → List Network → List Range → Type 0
+HasRanges w ns rs = (x : ℕ) → InUnion w ns x ↔ InRanges rs x
+
+pub has_none : (w : ℕ) (ns : List Network) → ns ≡ [] → HasRanges w ns []
+has_none w ns e x = (
+  (λ c. absurd (contains_nil c.0 (subst (λ (l : List Network). Contains l c.0) e c.1))),
+  (λ c. absurd (contains_nil c.0 c.1)),
+)
+
+pub has_one_more : (w : ℕ) (ns more : List Network) (rs : List Range) (i : ℕ) (r : Range) → RangeIsShortest → HasRanges w ns (take i rs) → i < length rs → r ≡ get_or rs i r
+    → r.1 < 2 ^ w → AddsLeastList w (FromTo r.0 r.1) ns more → HasRanges w more (take (i + 1) rs)
+has_one_more w ns more rs i r law h l is fits adds x =
+    let bs : List Network = adds.0 in
+    let longer : take (i + 1) rs ≡ take i rs ++ r ∷ [] = take_more rs i r l ∙ ap (λ s. take i rs ++ s ∷ []) (sym is) in
+    let in_blocks = (law w r.0 r.1 bs fits adds.1).addresses x in
+    let split = union_append w ns bs x in
+    let push = ranges_push (take i rs) r x in (
+      (λ c. subst (λ (t : List Range). InRanges t x) (sym longer) (push.1 (⊎_elim
+          (λ (d : InUnion w ns x). inl ((h x).0 d))
+          (λ (d : InUnion w bs x). inr (in_blocks.0 d))
+          (split.0 (subst (λ (t : List Network). InUnion w t x) adds.2 c))))),
+      (λ c. subst (λ (t : List Network). InUnion w t x) (sym adds.2) (split.1 (⊎_elim
+          (λ (d : InRanges (take i rs) x). inl ((h x).1 d))
+          (λ (d : FromTo r.0 r.1 x). inr (in_blocks.1 d))
+          (push.0 (subst (λ (t : List Range). InRanges t x) longer c))))),
+    )
+
+pub set_of_ranges : (w : ℕ) (ns set : List Network) (rs : List Range) (i : ℕ) → HasRanges w ns (take i rs) → length rs ≤ i → IsAggregate w ns set → IsLeastList w (InRanges rs) set
+set_of_ranges w ns set rs i h l k =
+    least_of_same w (InUnion w ns) (InRanges rs) set (subst (λ (t : List Range). HasRanges w ns t) (take_all i rs l) h) k

@@ -1,0 +1,14 @@
+pub mod Checked
+pub mod CommonPart
+pub mod Equal
+pub mod FromRanges
+pub mod LeastBlocks
+pub mod LeftParts
+pub mod LeftSets
+pub mod Lists
+pub mod RunLists
+pub mod Searched
+pub mod SetLaws
+pub mod Steps
+pub mod Together
+pub mod Totals

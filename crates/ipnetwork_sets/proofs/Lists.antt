@@ -1,0 +1,73 @@
+-- What a set's list of blocks tells: it has no two halves, its tail is a set, and a network reads the same mapped.
+use Rattle.std.proofs.Common.{◌≡◌, ℕ, ◌-◌, ◌<◌, ◌≤◌, inl, sym, refl, ap, ◌∙◌, arith, ⊎_elim, List, [], ◌∷◌, length, get_or, map}
+use Rattle.std.proofs.lemmas.Bool.{cases_lt}
+use Rattle.std.proofs.lemmas.List.{get_or-map}
+use Rattle.std.specs.List.{Contains}
+use Rattle.std.proofs.lemmas.List.Elements.{Contains-get_or}
+use Rattle.ipnetwork_family.specs.Network.{Network, IsNetwork, Member, high}
+use Rattle.ipnetwork_family.proofs.BlocksAt.{block_at_network}
+use Rattle.ipnetwork_blocks.specs.Supernets.{parent}
+use Rattle.ipnetwork_blocks.specs.LeastList.{IsMaximalIn}
+use Rattle.ipnetwork_blocks.specs.Aggregate.{InUnion, SameUnion, IsAggregate}
+use Rattle.ipnetwork_blocks.specs.AggregateLaws.{AggregateHasUnion, AggregateIsApart}
+use Rattle.ipnetwork_blocks.specs.Private.Joining.{AreHalves, IsBlockNetwork, AreJoined}
+use Rattle.ipnetwork_blocks.proofs.HalfBlocks.{halves_join}
+use Rattle.ipnetwork_blocks.proofs.AggregateJoined.{joined_is_aggregate}
+use Rattle.ipnetwork_blocks.proofs.LeastLists.{least_of_same}
+use Rattle.ipnetwork_sets.specs.Sets.{IsAddressSet}
+
+-- the network at an index of the list, as the contracts see it
+pub read_pair : {X : Type 0} (pair : X → Network) (xs : List X) (i : ℕ) (x : X) → i < length xs → x ≡ get_or xs i x → pair x ≡ get_or (map pair xs) i (pair x)
+read_pair pair xs i x l is = ap pair is ∙ sym (get_or-map pair xs i x (pair x) l)
+
+-- the same of a list read as any values
+pub read_as : {X Y : Type 0} (f : X → Y) (xs : List X) (i : ℕ) (x : X) → i < length xs → x ≡ get_or xs i x → f x ≡ get_or (map f xs) i (f x)
+read_as f xs i x l is = ap f is ∙ sym (get_or-map f xs i x (f x) l)
+
+pub no_items : {X : Type 0} (pair : X → Network) (xs : List X) → length xs ≡ 0 → map pair xs ≡ []
+no_items pair [] e = refl
+no_items pair (x ∷ xs) e = absurd (omega arith)
+
+pub not_below : (a b : ℕ) → (a ≤ b → ⊥) → b < a
+not_below a b not = ⊎_elim (λ (l : b < a). l) (λ (le : a ≤ b). let r : b < a = absurd (not le) in r) (cases_lt b a)
+
+pub not_before : (a b : ℕ) → (a < b → ⊥) → b ≤ a
+not_before a b not = ⊎_elim (λ (l : a < b). let r : b ≤ a = absurd (not l) in r) (λ (le : b ≤ a). le) (cases_lt a b)
+
+-- an aggregate is a set
+pub set_of_aggregate : (w : ℕ) (ns r : List Network) → AggregateHasUnion → IsAggregate w ns r → IsAddressSet w r
+set_of_aggregate w ns r law h =
+    let same : SameUnion w r ns = law w ns r h in
+    least_of_same w (InUnion w ns) (InUnion w r) r (λ x. ((same x).1, (same x).0)) h
+
+pub set_block : (w : ℕ) (bs : List Network) (b : Network) → IsAddressSet w bs → Contains bs b → IsBlockNetwork w b
+set_block w bs b h c = let m : IsMaximalIn w (InUnion w bs) b = (h.maximal b).0 c in record { network = m.network; block = m.block }
+
+-- a set's blocks are joined as far as they go
+pub set_is_joined : (w : ℕ) (bs : List Network) → AggregateIsApart → IsAddressSet w bs → AreJoined w bs
+set_is_joined w bs law h = record {
+  blocks = λ k d l. set_block w bs (get_or bs k d) h (Contains-get_or bs k d l);
+  pairs = λ i j d l m.
+      let a : Network = get_or bs i d in
+      let b : Network = get_or bs j d in
+      let ca : Contains bs a = Contains-get_or bs i d (omega arith) in
+      let cb : Contains bs b = Contains-get_or bs j d m in
+      let ends : high w a < b.address = law w bs bs h i j d l m in
+      (ends, λ s. no_halves w bs a b h ca cb ends s);
+}
+  where
+    no_halves : (w : ℕ) (bs : List Network) (a b : Network) → IsAddressSet w bs → Contains bs a → Contains bs b → high w a < b.address → AreHalves w a b → ⊥
+    no_halves w bs a b h ca cb ends s =
+        let m : IsMaximalIn w (InUnion w bs) a = (h.maximal a).0 ca in
+        let d : Network = parent w a in
+        let ba : IsBlockNetwork w a = set_block w bs a h ca in
+        let pos = s.1 in
+        let fits = ba.network.prefix_fits in
+        let dn : IsNetwork w d = (block_at_network w a.address (a.prefix - 1) ba.network.address_fits (omega arith)).0 in
+        let whole = (halves_join w a b ba (set_block w bs b h cb) ends s).1 in
+        m.maximal d dn (omega arith) (λ x k. (whole x).1 (inl k))
+        (λ x k. ⊎_elim (λ (ka : Member w a x). (a, ca, ka)) (λ (kb : Member w b x). (b, cb, kb)) ((whole x).0 k))
+
+-- and blocks that are, are those of a set
+pub joined_is_set : (w : ℕ) (bs : List Network) → AreJoined w bs → IsAddressSet w bs
+joined_is_set w bs h = joined_is_aggregate w bs bs h (λ x. ((λ c. c), (λ c. c)))

@@ -1,0 +1,211 @@
+-- The laws of the operations on sets.
+use Rattle.std.proofs.Common.{◌≡◌, ◌↔◌, ℕ, ◌⊎◌, inl, inr, sym, refl, subst, ⊎_elim, List, [], ◌∷◌, ◌++◌, Bool, true, false, not, IsTrue, is_some, MatchOption, Option, None, Some, map, append_assoc, ap, ◌∙◌, arith, true≢false}
+use Rattle.std.proofs.lemmas.List.{append-nil, map-append}
+use Rattle.std.specs.List.{Contains}
+use Rattle.std.proofs.lemmas.List.Elements.{Contains-append_left, Contains-append_right, Contains-append_cases}
+use Rattle.ipnetwork_family.specs.Network.{Network, Member}
+use Rattle.ipnetwork_blocks.specs.Aggregate.{InUnion, IsAggregate}
+use Rattle.ipnetwork_blocks.specs.LeastList.{IsMaximalIn, IsLeastList}
+use Rattle.ipnetwork_blocks.specs.LeastListLaws.{IsShortest}
+use Rattle.ipnetwork_blocks.proofs.LeastLists.{own_address, contains_head, least_of_same, least_unique}
+use Rattle.ipnetwork_blocks.proofs.MaximalBlocks.{is_shortest, member_or_not}
+use Rattle.ipnetwork_sets.specs.Laws.{CommonPartIsShortest, DifferenceIsShortest, FreePartIsShortest, UnionIsShortest, SameAddressesAreOneSet, CommonPartCommutes, UnionCommutes, CommonPartOfOne, UnionOfOne, DifferenceIsDisjoint, PartsMakeTheWhole, FreeOfUnion, FreeOfCommonPart}
+use Rattle.ipnetwork_sets.specs.Sets.{IsAddressSet, InBoth, InFirstAlone, InNetworkAlone, InEither, IsWithin, AreDisjoint}
+use Rattle.ipnetwork_sets.specs.Private.LeastBlocks.{in_union, common_blocks, either_blocks, left_blocks}
+use Rattle.ipnetwork_sets.specs.Private.Left.{InLeft}
+use Rattle.ipnetwork_sets.proofs.LeastBlocks.{union_told, common_is_least, either_is_least, left_is_least, left_or_not, left_fits}
+
+-- ---- an address is in a union, or not
+
+by_test : (b : Bool) {P : Type 0} → (b ≡ true) ↔ P → P ⊎ ¬ P
+by_test true h = inl (h.0 refl)
+by_test false h = inr (λ p. true≢false (sym (h.1 p)))
+
+pub union_or_not : (w : ℕ) (a : List Network) (x : ℕ) → InUnion w a x ⊎ ¬ (InUnion w a x)
+union_or_not w a x = by_test (in_union w a x) (union_told w a x)
+
+both_or_not : (P Q : Type 0) → P ⊎ ¬ P → Q ⊎ ¬ Q → (P × Q) ⊎ ¬ (P × Q)
+both_or_not P Q p q =
+    ⊎_elim
+    (λ (h : P). ⊎_elim (λ (k : Q). inl (h, k)) (λ (k : ¬ Q). inr (λ o. k o.1)) q)
+    (λ (h : ¬ P). inr (λ o. h o.0)) p
+
+either_or_not : (P Q : Type 0) → P ⊎ ¬ P → Q ⊎ ¬ Q → (P ⊎ Q) ⊎ ¬ (P ⊎ Q)
+either_or_not P Q p q =
+    ⊎_elim
+    (λ (h : P). inl (inl h))
+    (λ (h : ¬ P). ⊎_elim (λ (k : Q). inl (inr k)) (λ (k : ¬ Q). inr (λ o. ⊎_elim (λ (m : P). h m) (λ (m : Q). k m) o)) q) p
+
+no_or_not : (P : Type 0) → P ⊎ ¬ P → (¬ P) ⊎ ¬ (¬ P)
+no_or_not P p = ⊎_elim (λ (h : P). inr (λ n. n h)) (λ (h : ¬ P). inl h) p
+
+-- ---- no networks with the same addresses are fewer
+
+pub common_is_shortest : CommonPartIsShortest
+common_is_shortest w a b r h =
+    is_shortest w (InBoth w a b) r (λ x. both_or_not (InUnion w a x) (InUnion w b x) (union_or_not w a x) (union_or_not w b x)) (λ x s. s.0.2.0) h
+
+pub difference_is_shortest : DifferenceIsShortest
+difference_is_shortest w a b r h =
+    is_shortest w (InFirstAlone w a b) r
+    (λ x. both_or_not (InUnion w a x) (¬ (InUnion w b x)) (union_or_not w a x) (no_or_not (InUnion w b x) (union_or_not w b x))) (λ x s. s.0.2.0) h
+
+pub free_is_shortest : FreePartIsShortest
+free_is_shortest w n a r h =
+    is_shortest w (InNetworkAlone w n a) r
+    (λ x. both_or_not (Member w n x) (¬ (InUnion w a x)) (member_or_not w n x) (no_or_not (InUnion w a x) (union_or_not w a x))) (λ x s. s.0.0) h
+
+pub union_is_shortest : UnionIsShortest
+union_is_shortest w a b r h =
+    is_shortest w (InEither w a b) r (λ x. either_or_not (InUnion w a x) (InUnion w b x) (union_or_not w a x) (union_or_not w b x))
+    (λ x s. ⊎_elim (λ (c : InUnion w a x). c.2.0) (λ (c : InUnion w b x). c.2.0) s) h
+
+-- ---- equal sets
+
+-- least lists of sets with the same addresses are equal
+pub one_list : (w : ℕ) (S T : ℕ → Type 0) (r s : List Network) → IsLeastList w S r → IsLeastList w T s → ((x : ℕ) → S x ↔ T x) → r ≡ s
+one_list w S T r s h k same = least_unique w T r s (least_of_same w S T r same h) k
+
+pub same_addresses_are_one_set : SameAddressesAreOneSet
+same_addresses_are_one_set w a b h k = (
+  (λ e x. ((λ c. subst (λ (l : List Network). InUnion w l x) e c), (λ c. subst (λ (l : List Network). InUnion w l x) (sym e) c))),
+  (λ same. one_list w (InUnion w a) (InUnion w b) a b h k same),
+)
+
+pub common_commutes : CommonPartCommutes
+common_commutes w a b r s h k = one_list w (InBoth w a b) (InBoth w b a) r s h k (λ x. ((λ p. (p.1, p.0)), (λ p. (p.1, p.0))))
+
+pub union_commutes : UnionCommutes
+union_commutes w a b r s h k =
+    one_list w (InEither w a b) (InEither w b a) r s h k
+    (λ x. (
+      (λ p. ⊎_elim (λ (c : InUnion w a x). inr c) (λ (c : InUnion w b x). inl c) p),
+      (λ p. ⊎_elim (λ (c : InUnion w b x). inr c) (λ (c : InUnion w a x). inl c) p),
+    ))
+
+pub common_of_one : CommonPartOfOne
+common_of_one w a r h k = one_list w (InBoth w a a) (InUnion w a) r a k h (λ x. ((λ p. p.0), (λ c. (c, c))))
+
+pub union_of_one : UnionOfOne
+union_of_one w a r h k = one_list w (InEither w a a) (InUnion w a) r a k h (λ x. ((λ p. ⊎_elim (λ (c : InUnion w a x). c) (λ (c : InUnion w a x). c) p), (λ c. inl c)))
+
+-- ---- a difference, and the common part
+
+pub difference_is_disjoint : DifferenceIsDisjoint
+difference_is_disjoint w a b r h x s = (((difference_is_shortest w a b r h).addresses x).0 s.0).1 s.1
+
+pub parts_make_the_whole : PartsMakeTheWhole
+parts_make_the_whole w a b c d r h hc hd k =
+    let in_c = (common_is_shortest w a b c hc).addresses in
+    let in_d = (difference_is_shortest w a b d hd).addresses in
+    one_list w (InEither w c d) (InUnion w a) r a k h
+    (λ x. (
+      (λ p. ⊎_elim (λ (m : InUnion w c x). ((in_c x).0 m).0) (λ (m : InUnion w d x). ((in_d x).0 m).0) p),
+      (λ m. ⊎_elim (λ (n : InUnion w b x). inl ((in_c x).1 (m, n))) (λ (n : ¬ (InUnion w b x)). inr ((in_d x).1 (m, n))) (union_or_not w b x)),
+    ))
+
+-- ---- De Morgan's laws
+
+pub free_of_union : FreeOfUnion
+free_of_union w n a b u f fa fb r hu hf ha hb k =
+    let in_u = (union_is_shortest w a b u hu).addresses in
+    let in_a = (free_is_shortest w n a fa ha).addresses in
+    let in_b = (free_is_shortest w n b fb hb).addresses in
+    one_list w (InNetworkAlone w n u) (InBoth w fa fb) f r hf k
+    (λ x. (
+      (λ p. ((in_a x).1 (p.0, λ m. p.1 ((in_u x).1 (inl m))), (in_b x).1 (p.0, λ m. p.1 ((in_u x).1 (inr m))))),
+      (λ p. (((in_a x).0 p.0).0, λ m. ⊎_elim (λ (c : InUnion w a x). ((in_a x).0 p.0).1 c) (λ (c : InUnion w b x). ((in_b x).0 p.1).1 c) ((in_u x).0 m))),
+    ))
+
+pub free_of_common : FreeOfCommonPart
+free_of_common w n a b c f fa fb r hc hf ha hb k =
+    let in_c = (common_is_shortest w a b c hc).addresses in
+    let in_a = (free_is_shortest w n a fa ha).addresses in
+    let in_b = (free_is_shortest w n b fb hb).addresses in
+    one_list w (InNetworkAlone w n c) (InEither w fa fb) f r hf k
+    (λ x. (
+      (λ p. ⊎_elim
+          (λ (m : InUnion w a x). inr ((in_b x).1 (p.0, λ o. p.1 ((in_c x).1 (m, o)))))
+          (λ (m : ¬ (InUnion w a x)). inl ((in_a x).1 (p.0, m)))
+          (union_or_not w a x)),
+      (λ p. ⊎_elim
+          (λ (m : InUnion w fa x). let q = (in_a x).0 m in (q.0, λ o. q.1 ((in_c x).0 o).0))
+          (λ (m : InUnion w fb x). let q = (in_b x).0 m in (q.0, λ o. q.1 ((in_c x).0 o).1))
+          p),
+    ))
+
+-- ---- the questions of two sets
+
+-- a list without blocks is that of a set without addresses,
+pub nothing_in : (w : ℕ) (S : ℕ → Type 0) (r : List Network) → IsShortest w S r → r ≡ [] → (x : ℕ) → ¬ (S x)
+nothing_in w S r h e x s =
+    let c : InUnion w [] x = subst (λ (l : List Network). InUnion w l x) e ((h.addresses x).1 s) in
+    none_in_nil w x c
+  where
+    none_in_nil : (w x : ℕ) → InUnion w [] x → ⊥
+    none_in_nil w x c = let l = c.1.1 in omega arith
+
+-- and one with a block that of a set with an address
+pub something_in : (w : ℕ) (S : ℕ → Type 0) (r : List Network) (b : Network) (s : List Network) → IsLeastList w S r → r ≡ b ∷ s → S b.address
+something_in w S r b s h e =
+    let m : IsMaximalIn w S b = (h.maximal b).0 (subst (λ (l : List Network). Contains l b) (sym e) (contains_head b s)) in
+    m.lies b.address (own_address w b m.network)
+
+pub within_if_none : (w : ℕ) (a b r : List Network) → IsLeastList w (InFirstAlone w a b) r → r ≡ [] → IsWithin w a b
+within_if_none w a b r h e x c =
+    ⊎_elim (λ (m : InUnion w b x). m)
+    (λ (m : ¬ (InUnion w b x)). absurd (nothing_in w (InFirstAlone w a b) r (difference_is_shortest w a b r h) e x (c, m))) (union_or_not w b x)
+
+pub not_within_if_some : (w : ℕ) (a b r : List Network) (n : Network) (s : List Network) → IsLeastList w (InFirstAlone w a b) r → r ≡ n ∷ s → ¬ (IsWithin w a b)
+not_within_if_some w a b r n s h e within = let p = something_in w (InFirstAlone w a b) r n s h e in p.1 (within n.address p.0)
+
+pub disjoint_if_none : (w : ℕ) (a b r : List Network) → IsLeastList w (InBoth w a b) r → r ≡ [] → AreDisjoint w a b
+disjoint_if_none w a b r h e = nothing_in w (InBoth w a b) r (common_is_shortest w a b r h) e
+
+pub not_disjoint_if_some : (w : ℕ) (a b r : List Network) (n : Network) (s : List Network) → IsLeastList w (InBoth w a b) r → r ≡ n ∷ s → ¬ (AreDisjoint w a b)
+not_disjoint_if_some w a b r n s h e apart = apart n.address (something_in w (InBoth w a b) r n s h e)
+
+-- ---- what the first step of an iterator answers
+
+pub within_answer : (w : ℕ) (a b r after : List Network) {X : Type 0} (pair : X → Network) (first : Option X) (answer : Bool) → IsLeastList w (InFirstAlone w a b) r
+    → MatchOption first ((r ≡ []) × (after ≡ [])) (λ x. r ≡ pair x ∷ after) → is_some first ≡ not answer → IsTrue answer ↔ IsWithin w a b
+within_answer w a b r after pair None true h m e = ((λ t. within_if_none w a b r h m.0), (λ k. refl))
+within_answer w a b r after pair None false h m e = absurd (true≢false (sym e))
+within_answer w a b r after pair (Some x) true h m e = absurd (true≢false e)
+within_answer w a b r after pair (Some x) false h m e = ((λ t. absurd (true≢false (sym t))), (λ k. absurd (not_within_if_some w a b r (pair x) after h m k)))
+
+pub disjoint_answer : (w : ℕ) (a b r after : List Network) {X : Type 0} (pair : X → Network) (first : Option X) (answer : Bool) → IsLeastList w (InBoth w a b) r
+    → MatchOption first ((r ≡ []) × (after ≡ [])) (λ x. r ≡ pair x ∷ after) → is_some first ≡ not answer → IsTrue answer ↔ AreDisjoint w a b
+disjoint_answer w a b r after pair None true h m e = ((λ t. disjoint_if_none w a b r h m.0), (λ k. refl))
+disjoint_answer w a b r after pair None false h m e = absurd (true≢false (sym e))
+disjoint_answer w a b r after pair (Some x) true h m e = absurd (true≢false e)
+disjoint_answer w a b r after pair (Some x) false h m e = ((λ t. absurd (true≢false (sym t))), (λ k. absurd (not_disjoint_if_some w a b r (pair x) after h m k)))
+
+-- ---- the blocks of an iterator are those of a set
+
+least_is_set : (w : ℕ) (S : ℕ → Type 0) (r : List Network) → IsLeastList w S r → IsShortest w S r → IsAddressSet w r
+least_is_set w S r h k = least_of_same w S (InUnion w r) r (λ x. ((k.addresses x).1, (k.addresses x).0)) h
+
+pub common_is_set : (w : ℕ) (a b : List Network) → IsAddressSet w (common_blocks w a b)
+common_is_set w a b = least_is_set w (InBoth w a b) (common_blocks w a b) (common_is_least w a b) (common_is_shortest w a b (common_blocks w a b) (common_is_least w a b))
+
+pub either_is_set : (w : ℕ) (a b : List Network) → IsAddressSet w (either_blocks w a b)
+either_is_set w a b = least_is_set w (InEither w a b) (either_blocks w a b) (either_is_least w a b) (union_is_shortest w a b (either_blocks w a b) (either_is_least w a b))
+
+pub left_is_set : (w : ℕ) (at_hand : Option (Network × Network)) (rest cut : List Network) → IsAddressSet w (left_blocks w at_hand rest cut)
+left_is_set w at_hand rest cut =
+    least_is_set w (InLeft w at_hand rest cut) (left_blocks w at_hand rest cut) (left_is_least w at_hand rest cut)
+    (is_shortest w (InLeft w at_hand rest cut) (left_blocks w at_hand rest cut)
+    (λ x. left_or_not w at_hand rest cut x) (λ x s. left_fits w at_hand rest cut x s)
+    (left_is_least w at_hand rest cut))
+
+-- ---- blocks that are collected
+
+pub collect_more : {X : Type 0} (pair : X → Network) (items more : List X) (block : X) (left after all : List Network) → map pair items ++ left ≡ all → left ≡ pair block ∷ after
+    → more ≡ items ++ block ∷ [] → map pair more ++ after ≡ all
+collect_more pair items more block left after all h e f =
+    ap (λ t. map pair t ++ after) f ∙ ap (λ t. t ++ after) (map-append pair items (block ∷ [])) ∙ append_assoc (map pair items) (pair block ∷ []) after
+    ∙ ap (λ t. map pair items ++ t) (sym e) ∙ h
+
+pub collected : {X : Type 0} (pair : X → Network) (items : List X) (left all : List Network) → map pair items ++ left ≡ all → left ≡ [] → map pair items ≡ all
+collected pair items left all h e = sym (append-nil (map pair items)) ∙ ap (λ t. map pair items ++ t) (sym e) ∙ h

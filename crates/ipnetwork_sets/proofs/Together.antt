@@ -1,0 +1,326 @@
+-- The union of two sets, run by run.
+use Rattle.std.proofs.Common.{◌≡◌, ◌↔◌, ℕ, ◌+◌, ◌^◌, ◌<◌, ◌≤◌, ◌⊎◌, inl, inr, sym, refl, ap, subst, ◌∙◌, arith, ⊎_elim, List, [], ◌∷◌, ◌++◌, suc, length, map, Option, None, Some, MatchOption}
+use Rattle.std.proofs.lemmas.Bool.{cases_lt}
+use Rattle.std.proofs.lemmas.List.{length-map}
+use Rattle.std.specs.Iterator.{MakesProgress, item_count}
+use Rattle.ipnetwork_family.specs.Network.{Network, IsNetwork, Member, low, high}
+use Rattle.ipnetwork_family.proofs.Blocks.{size_pos, has_ends, high_fits, within_member, member_within}
+use Rattle.ipnetwork_blocks.specs.LeastList.{LiesIn, IsLeastList}
+use Rattle.ipnetwork_blocks.specs.LeastListLaws.{RangeIsShortest}
+use Rattle.ipnetwork_blocks.specs.Aggregate.{InUnion}
+use Rattle.ipnetwork_blocks.specs.AggregateLaws.{AggregateIsApart}
+use Rattle.ipnetwork_blocks.specs.Ranges.{FromTo}
+use Rattle.ipnetwork_blocks.specs.Private.Joining.{IsBlockNetwork}
+use Rattle.ipnetwork_blocks.proofs.LeastLists.{own_address, contains_head, least_of_none, least_of_two, least_unique}
+use Rattle.ipnetwork_sets.specs.Sets.{IsAddressSet, InEither}
+use Rattle.ipnetwork_sets.specs.Private.LeastBlocks.{in_union, either_blocks}
+use Rattle.ipnetwork_sets.specs.Private.Together.{at_hand, IsFirst, EndsAt, IsLater, IsRun}
+use Rattle.ipnetwork_sets.proofs.LeastBlocks.{either_is_least}
+use Rattle.ipnetwork_sets.proofs.Lists.{set_block}
+use Rattle.ipnetwork_sets.proofs.Steps.{tail_is_set, union_cons, union_nil, union_behind, union_from}
+
+-- ---- a run that grows
+
+-- the addresses from s to l, and then those of a block that goes on with them
+run_grows : (w : ℕ) (S R T : ℕ → Type 0) (s l last : ℕ) (b : Network) → IsBlockNetwork w b → ((x : ℕ) → R x ↔ (Member w b x ⊎ T x)) → s ≤ b.address → b.address ≤ l + 1
+    → IsLater l (high w b) last → ((x : ℕ) → S x ↔ (FromTo s l x ⊎ R x)) → (x : ℕ) → S x ↔ (FromTo s last x ⊎ T x)
+run_grows w S R T s l last b hb split from to later parts x =
+    let block = hb.block in
+    let pos = size_pos w b.prefix in
+    let more = later.first in
+    let ends = later.second in (
+      (λ k. ⊎_elim
+          (λ (f : FromTo s l x). let a = f.0 in let z = f.1 in inl (a, omega arith))
+          (λ (r : R x). ⊎_elim
+          (λ (m : Member w b x). let i = within_member w b x m in let a = i.0 in let z = i.1 in inl (omega arith, omega arith))
+          (λ (t : T x). inr t)
+          ((split x).0 r))
+          ((parts x).0 k)),
+      (λ o. ⊎_elim
+          (λ (f : FromTo s last x).
+          let a = f.0 in
+          let z = f.1 in
+          ⊎_elim
+          (λ (near : x < l + 1). (parts x).1 (inl (a, omega arith)))
+          (λ (far : l + 1 ≤ x).
+          let is : last ≡ high w b = ⊎_elim (λ (e : last ≡ l). let r : last ≡ high w b = absurd (omega arith) in r) (λ (e : last ≡ high w b). e) later.one in
+          (parts x).1 (inr ((split x).1 (inl (member_within w b hb.network x (omega arith) (omega arith))))))
+          (cases_lt x (l + 1)))
+          (λ (t : T x). (parts x).1 (inr ((split x).1 (inr t))))
+          o),
+    )
+
+either_first : (w : ℕ) (b : Network) (others rest : List Network) (x : ℕ) → InEither w (b ∷ others) rest x ↔ (Member w b x ⊎ InEither w others rest x)
+either_first w b others rest x =
+    let split = union_cons w b others x in (
+      (λ o. ⊎_elim
+          (λ (c : InUnion w (b ∷ others) x). ⊎_elim (λ (m : Member w b x). inl m) (λ (d : InUnion w others x). inr (inl d)) (split.0 c))
+          (λ (c : InUnion w rest x). inr (inr c)) o),
+      (λ o. ⊎_elim
+          (λ (m : Member w b x). inl (split.1 (inl m)))
+          (λ (e : InEither w others rest x). ⊎_elim (λ (c : InUnion w others x). inl (split.1 (inr c))) (λ (c : InUnion w rest x). inr c) e) o),
+    )
+
+either_second : (w : ℕ) (b : Network) (others rest : List Network) (x : ℕ) → InEither w others (b ∷ rest) x ↔ (Member w b x ⊎ InEither w others rest x)
+either_second w b others rest x =
+    let split = union_cons w b rest x in (
+      (λ o. ⊎_elim
+          (λ (c : InUnion w others x). inr (inl c))
+          (λ (c : InUnion w (b ∷ rest) x). ⊎_elim (λ (m : Member w b x). inl m) (λ (d : InUnion w rest x). inr (inr d)) (split.0 c)) o),
+      (λ o. ⊎_elim
+          (λ (m : Member w b x). inr (split.1 (inl m)))
+          (λ (e : InEither w others rest x). ⊎_elim (λ (c : InUnion w others x). inl c) (λ (c : InUnion w rest x). inr (split.1 (inr c))) e) o),
+    )
+
+-- the run so far, and what is left of both sets
+pub record IsGrowing (w : ℕ) (first second : List Network) (start last : ℕ) (others rest : List Network) : Type 0 where
+  pub ordered : start ≤ last
+  pub fits : last < 2 ^ w
+  pub others_are_set : IsAddressSet w others
+  pub rest_is_set : IsAddressSet w rest
+  pub parts : (x : ℕ) → InEither w first second x ↔ (FromTo start last x ⊎ InEither w others rest x)
+  pub from : (x : ℕ) → InEither w others rest x → start ≤ x
+
+one_block : (w : ℕ) (b : Network) → IsBlockNetwork w b → (x : ℕ) → Member w b x ↔ FromTo (low w b) (high w b) x
+one_block w b hb x =
+    let pos = size_pos w b.prefix in (
+      (λ m. let i = within_member w b x m in let a = i.0 in let z = i.1 in (a, omega arith)),
+      (λ f. let a = f.0 in let z = f.1 in member_within w b hb.network x a (omega arith)),
+    )
+
+-- no address of a set comes before its first block
+not_before : (w : ℕ) (list : List Network) (at : ℕ) → AggregateIsApart → IsAddressSet w list → ((c : Network) (more : List Network) → list ≡ c ∷ more → at ≤ c.address)
+    → (x : ℕ) → InUnion w list x → at ≤ x
+not_before w [] at apart h low x c = absurd (union_nil w x c)
+not_before w (b ∷ bs) at apart h low x c = let l = low b bs refl in let m = union_from w b bs apart h x c in omega arith
+
+begin : (w : ℕ) (S R : ℕ → Type 0) (b : Network) → IsBlockNetwork w b → ((x : ℕ) → S x ↔ (Member w b x ⊎ R x)) → (x : ℕ) → S x ↔ (FromTo (low w b) (high w b) x ⊎ R x)
+begin w S R b hb split x =
+    let same = one_block w b hb x in (
+      (λ s. ⊎_elim (λ (m : Member w b x). inl (same.0 m)) (λ (r : R x). inr r) ((split x).0 s)),
+      (λ o. (split x).1 (⊎_elim (λ (f : FromTo (low w b) (high w b) x). inl (same.1 f)) (λ (r : R x). inr r) o)),
+    )
+
+module _ (w : ℕ) (apart : AggregateIsApart) where
+  starts : (b : Network) (others rest : List Network) (S : ℕ → Type 0) → IsBlockNetwork w b → IsAddressSet w others → IsAddressSet w rest
+      → ((x : ℕ) → S x ↔ (Member w b x ⊎ InEither w others rest x))
+      → ((x : ℕ) → InUnion w others x → b.address ≤ x) → ((x : ℕ) → InUnion w rest x → b.address ≤ x)
+      → (first second : List Network) → ((x : ℕ) → InEither w first second x ↔ S x) → IsGrowing w first second (low w b) (high w b) others rest
+  starts b others rest S hb ho hr split after_others after_rest first second same =
+      let pos = size_pos w b.prefix in
+      let block = hb.block in
+      let top = high_fits w b hb.network in
+      record {
+        ordered = omega arith;
+        fits = omega (arith, top, pos);
+        others_are_set = ho;
+        rest_is_set = hr;
+        parts = begin w (InEither w first second) (InEither w others rest) b hb
+            (λ x. ((λ e. (split x).0 ((same x).0 e)), (λ o. (same x).1 ((split x).1 o))));
+        from = λ x e. ⊎_elim
+            (λ (c : InUnion w others x). let l = after_others x c in let r : low w b ≤ x = omega arith in r)
+            (λ (c : InUnion w rest x). let l = after_rest x c in let r : low w b ≤ x = omega arith in r) e;
+      }
+
+  pub growing_starts : (first second : List Network) (b : Network) (others rest : List Network) → IsAddressSet w first → IsAddressSet w second → IsFirst first second b others rest
+      → IsGrowing w first second (low w b) (high w b) others rest
+  growing_starts first second b others rest hf hs is =
+      ⊎_elim
+      (λ (p : (first ≡ b ∷ others) × (second ≡ rest)).
+      let set : IsAddressSet w (b ∷ others) = subst (IsAddressSet w) p.0 hf in
+      let hr : IsAddressSet w rest = subst (IsAddressSet w) p.1 hs in
+      let hb : IsBlockNetwork w b = set_block w (b ∷ others) b set (contains_head b others) in
+      starts b others rest (InEither w (b ∷ others) rest) hb (tail_is_set w b others apart set) hr (either_first w b others rest)
+      (λ x c. let l = union_behind w b others apart set x c in let pos = size_pos w b.prefix in omega (arith, l, hb.block, pos))
+      (not_before w rest b.address apart hr (λ c more e. is.lowest c more (inr (p.1 ∙ e))))
+      first second
+      (λ x. (
+        (λ e. subst (λ (l : List Network). InEither w (b ∷ others) l x) p.1 (subst (λ (l : List Network). InEither w l second x) p.0 e)),
+        (λ e. subst (λ (l : List Network). InEither w l second x) (sym p.0) (subst (λ (l : List Network). InEither w (b ∷ others) l x) (sym p.1) e)),
+      )))
+      (λ (p : (first ≡ others) × (second ≡ b ∷ rest)).
+      let set : IsAddressSet w (b ∷ rest) = subst (IsAddressSet w) p.1 hs in
+      let ho : IsAddressSet w others = subst (IsAddressSet w) p.0 hf in
+      let hb : IsBlockNetwork w b = set_block w (b ∷ rest) b set (contains_head b rest) in
+      starts b others rest (InEither w others (b ∷ rest)) hb ho (tail_is_set w b rest apart set) (either_second w b others rest)
+      (not_before w others b.address apart ho (λ c more e. is.lowest c more (inl (p.0 ∙ e))))
+      (λ x c. let l = union_behind w b rest apart set x c in let pos = size_pos w b.prefix in omega (arith, l, hb.block, pos))
+      first second
+      (λ x. (
+        (λ e. subst (λ (l : List Network). InEither w others l x) p.1 (subst (λ (l : List Network). InEither w l second x) p.0 e)),
+        (λ e. subst (λ (l : List Network). InEither w l second x) (sym p.0) (subst (λ (l : List Network). InEither w others l x) (sym p.1) e)),
+      )))
+      is.one
+
+  module _ (first second : List Network) (start last next : ℕ) (b : Network) (others rest : List Network) (h : IsGrowing w first second start last others rest)
+      (near : b.address ≤ last + 1) (later : IsLater last (high w b) next) where
+    pub grows_by_first : (after : List Network) → others ≡ b ∷ after → IsGrowing w first second start next after rest
+    grows_by_first after e =
+        let set : IsAddressSet w (b ∷ after) = subst (IsAddressSet w) e h.others_are_set in
+        let hb : IsBlockNetwork w b = set_block w (b ∷ after) b set (contains_head b after) in
+        let own : Member w b b.address = own_address w b hb.network in
+        let here : InEither w others rest b.address = inl (subst (λ (l : List Network). InUnion w l b.address) (sym e) ((union_cons w b after b.address).1 (inl own))) in
+        let top = high_fits w b hb.network in
+        let pos = size_pos w b.prefix in
+        let begins = h.ordered in
+        let fits = h.fits in
+        let up = later.first in record {
+          ordered = omega arith;
+          fits = ⊎_elim (λ (is : next ≡ last). let r : next < 2 ^ w = omega arith in r) (λ (is : next ≡ high w b). let r : next < 2 ^ w = omega (arith, top, pos) in r) later.one;
+          others_are_set = tail_is_set w b after apart set;
+          rest_is_set = h.rest_is_set;
+          parts = run_grows w (InEither w first second) (InEither w others rest) (InEither w after rest) start last next b hb
+              (λ x. (
+                (λ k. (either_first w b after rest x).0 (subst (λ (l : List Network). InEither w l rest x) e k)),
+                (λ k. subst (λ (l : List Network). InEither w l rest x) (sym e) ((either_first w b after rest x).1 k)),
+              ))
+              (h.from b.address here) near later h.parts;
+          from = λ x k. h.from x (subst (λ (l : List Network). InEither w l rest x) (sym e) ((either_first w b after rest x).1 (inr k)));
+        }
+
+    pub grows_by_second : (after : List Network) → rest ≡ b ∷ after → IsGrowing w first second start next others after
+    grows_by_second after e =
+        let set : IsAddressSet w (b ∷ after) = subst (IsAddressSet w) e h.rest_is_set in
+        let hb : IsBlockNetwork w b = set_block w (b ∷ after) b set (contains_head b after) in
+        let own : Member w b b.address = own_address w b hb.network in
+        let here : InEither w others rest b.address = inr (subst (λ (l : List Network). InUnion w l b.address) (sym e) ((union_cons w b after b.address).1 (inl own))) in
+        let top = high_fits w b hb.network in
+        let pos = size_pos w b.prefix in
+        let begins = h.ordered in
+        let fits = h.fits in
+        let up = later.first in record {
+          ordered = omega arith;
+          fits = ⊎_elim (λ (is : next ≡ last). let r : next < 2 ^ w = omega arith in r) (λ (is : next ≡ high w b). let r : next < 2 ^ w = omega (arith, top, pos) in r) later.one;
+          others_are_set = h.others_are_set;
+          rest_is_set = tail_is_set w b after apart set;
+          parts = run_grows w (InEither w first second) (InEither w others rest) (InEither w others after) start last next b hb
+              (λ x. (
+                (λ k. (either_second w b others after x).0 (subst (λ (l : List Network). InEither w others l x) e k)),
+                (λ k. subst (λ (l : List Network). InEither w others l x) (sym e) ((either_second w b others after x).1 k)),
+              ))
+              (h.from b.address here) near later h.parts;
+          from = λ x k. h.from x (subst (λ (l : List Network). InEither w others l x) (sym e) ((either_second w b others after x).1 (inr k)));
+        }
+
+  behind_end : (last : ℕ) (list : List Network) → IsAddressSet w list → EndsAt w last list → (x : ℕ) → InUnion w list x → last + 1 < x
+  behind_end last [] h e x c = absurd (union_nil w x c)
+  behind_end last (b ∷ bs) h e x c = let l = union_from w b bs apart h x c in omega arith
+
+  pub growing_ends : (first second : List Network) (start last : ℕ) (others rest : List Network) → IsGrowing w first second start last others rest
+      → EndsAt w last others → EndsAt w last rest → IsRun w first second start last others rest
+  growing_ends first second start last others rest h e f = record {
+    ordered = h.ordered;
+    fits = h.fits;
+    others_are_set = h.others_are_set;
+    rest_is_set = h.rest_is_set;
+    parts = h.parts;
+    behind = λ x k. ⊎_elim (λ (c : InUnion w others x). behind_end last others h.others_are_set e x c) (λ (c : InUnion w rest x). behind_end last rest h.rest_is_set f x c) k;
+  }
+
+-- ---- the blocks of the union are those of its first run, and behind them the others
+
+-- a network of the union lies in the run, or behind it
+on_one_side : (w : ℕ) (S Q : ℕ → Type 0) (start last : ℕ) → ((x : ℕ) → S x ↔ (FromTo start last x ⊎ Q x)) → ((x : ℕ) → Q x → last + 1 < x)
+    → (n : Network) → IsNetwork w n → LiesIn w S n → LiesIn w (FromTo start last) n ⊎ LiesIn w Q n
+on_one_side w S Q start last parts behind n nn lies =
+    let ends = has_ends w n nn in
+    let a : ℕ = low w n in
+    let not_at : S (last + 1) → ⊥ = λ s. ⊎_elim
+    (λ (f : FromTo start last (last + 1)). let z = f.1 in let r : ⊥ = omega arith in r)
+    (λ (q : Q (last + 1)). let z = behind (last + 1) q in let r : ⊥ = omega arith in r) ((parts (last + 1)).0 s) in
+    ⊎_elim
+    (λ (f : FromTo start last a). inl (λ x m. ⊎_elim
+    (λ (g : FromTo start last x). g)
+    (λ (q : Q x).
+    let z = behind x q in
+    let i = within_member w n x m in
+    let to = f.1 in
+    let top = i.1 in
+    let inside : Member w n (last + 1) = member_within w n nn (last + 1) (omega arith) (omega arith) in
+    let r : FromTo start last x = absurd (not_at (lies (last + 1) inside)) in r)
+    ((parts x).0 (lies x m))))
+    (λ (q : Q a). inr (λ x m.
+    let z = behind a q in
+    let i = within_member w n x m in
+    let from = i.0 in
+    ⊎_elim
+    (λ (g : FromTo start last x). let to = g.1 in let r : Q x = absurd (omega arith) in r)
+    (λ (k : Q x). k) ((parts x).0 (lies x m))))
+    ((parts a).0 (lies a ends.low_is_member))
+
+pub run_and_rest : (w : ℕ) (first second : List Network) (start last : ℕ) (others rest blocks : List Network) → IsRun w first second start last others rest
+    → IsLeastList w (FromTo start last) blocks → either_blocks w first second ≡ blocks ++ either_blocks w others rest
+run_and_rest w first second start last others rest blocks h k =
+    least_unique w (InEither w first second) (either_blocks w first second) (blocks ++ either_blocks w others rest) (either_is_least w first second)
+    (least_of_two w (InEither w first second) (FromTo start last) (InEither w others rest) blocks (either_blocks w others rest) h.parts
+    (λ x y f q. let to = f.1 in let z = h.behind y q in omega arith)
+    (on_one_side w (InEither w first second) (InEither w others rest) start last h.parts h.behind)
+    k (either_is_least w others rest))
+
+pub either_none : (w : ℕ) (first second : List Network) → first ≡ [] → second ≡ [] → either_blocks w first second ≡ []
+either_none w first second e f =
+    ap (λ l. either_blocks w l second) e ∙ ap (λ l. either_blocks w [] l) f
+    ∙ least_unique w (InEither w [] []) (either_blocks w [] []) [] (either_is_least w [] [])
+    (least_of_none w (InEither w [] []) (λ x o. ⊎_elim (λ (c : InUnion w [] x). union_nil w x c) (λ (c : InUnion w [] x). union_nil w x c) o))
+
+-- a range of addresses has a block
+pub range_has_block : (w start last : ℕ) (blocks : List Network) → RangeIsShortest → start ≤ last → last < 2 ^ w → IsLeastList w (FromTo start last) blocks → blocks ≡ [] → ⊥
+range_has_block w start last blocks law le fits h e =
+    union_nil w start (subst (λ (l : List Network). InUnion w l start) e (((law w start last blocks fits h).addresses start).1 (omega arith, le)))
+
+pub mapped_shorter : {X Y : Type 0} (f : X → Y) (xs ys : List X) (x : X) → map f xs ≡ f x ∷ map f ys → length ys < length xs
+mapped_shorter f xs ys x e =
+    let l : length (map f xs) ≡ suc (length (map f ys)) = ap length e in
+    omega (arith, l, length-map xs f, length-map ys f)
+
+-- ---- the steps of the iterator
+
+pub goes_within : (w : ℕ) (run left rest : List Network) (b : Network) → AggregateIsApart → IsAddressSet w (run ++ rest) → run ≡ b ∷ left → IsAddressSet w (left ++ rest)
+goes_within w run left rest b apart h e = tail_is_set w b (left ++ rest) apart (subst (IsAddressSet w) (ap (λ t. t ++ rest) e) h)
+
+-- the blocks were those of a run that is at its end, and of two sets; one is taken off the next run
+module _ (w : ℕ) {X : Type 0} (pair : X → Network) (first second others rest now run : List Network) (start last : ℕ) (next : Option (List Network)) (after : List Network)
+    (apart : AggregateIsApart) (shortest : RangeIsShortest) (is : run ++ either_blocks w first second ≡ now) (none : run ≡ [])
+    (set : IsAddressSet w (run ++ either_blocks w first second)) (h : IsRun w first second start last others rest)
+    (range : MatchOption next (last < start) (λ blocks. (start ≤ last) × IsLeastList w (FromTo start last) blocks)) where
+  abbrev pub Left : List Network
+  Left = after ++ either_blocks w others rest
+
+  abbrev Taken : Option X → Type 0
+  Taken result = MatchOption result ((at_hand next ≡ []) × (after ≡ [])) (λ b. at_hand next ≡ pair b ∷ after)
+
+  blocks_are : (n : Option (List Network)) → MatchOption n (last < start) (λ blocks. (start ≤ last) × IsLeastList w (FromTo start last) blocks) → IsLeastList w (FromTo start last) (at_hand n)
+  blocks_are None l = let le = h.ordered in absurd (omega arith)
+  blocks_are (Some blocks) m = m.1
+
+  splits : now ≡ at_hand next ++ either_blocks w others rest
+  splits =
+      sym is ∙ ap (λ t. t ++ either_blocks w first second) none ∙ run_and_rest w first second start last others rest (at_hand next) h (blocks_are next range)
+
+  not_empty : at_hand next ≡ [] → ⊥
+  not_empty = range_has_block w start last (at_hand next) shortest h.ordered h.fits (blocks_are next range)
+
+  one_taken : (b : X) → at_hand next ≡ pair b ∷ after → now ≡ pair b ∷ Left
+  one_taken b e = splits ∙ ap (λ t. t ++ either_blocks w others rest) e
+
+  pub next_is_set : (result : Option X) → Taken result → IsAddressSet w Left
+  next_is_set None t = absurd (not_empty t.0)
+  next_is_set (Some b) t = tail_is_set w (pair b) Left apart (subst (IsAddressSet w) (is ∙ one_taken b t) set)
+
+  pub next_steps : (result : Option X) → Taken result → MatchOption result ((now ≡ []) × (Left ≡ [])) (λ b. now ≡ pair b ∷ Left)
+  next_steps None t = absurd (not_empty t.0)
+  next_steps (Some b) t = one_taken b t
+
+  pub next_goes : (result : Option X) → Taken result → MakesProgress {S = List Network} {A = X} (λ _. Unit {0}) (item_count {S = List Network} {A = Network} (λ left. left)) now result Left
+  next_goes None t = absurd (not_empty t.0)
+  next_goes (Some b) t =
+      let l : length now ≡ suc (length Left) = ap length (one_taken b t) in
+      record { on = λ _. (tt, tt, omega (arith, l)); keeps = tt; rests = λ _. tt }
+
+-- the ends of both numbers, as the addresses that were asked for them
+pub range_of : (w a b start last : ℕ) (next : Option (List Network)) → a ≡ start → b ≡ last
+    → MatchOption next (b < a) (λ blocks. (a ≤ b) × IsLeastList w (FromTo a b) blocks)
+    → MatchOption next (last < start) (λ blocks. (start ≤ last) × IsLeastList w (FromTo start last) blocks)
+range_of w a b start last next e f h =
+    subst (λ (k : ℕ). MatchOption next (last < k) (λ blocks. (k ≤ last) × IsLeastList w (FromTo k last) blocks)) e
+    (subst (λ (k : ℕ). MatchOption next (k < a) (λ blocks. (a ≤ k) × IsLeastList w (FromTo a k) blocks)) f h)

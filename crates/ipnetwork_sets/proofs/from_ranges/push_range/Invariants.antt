@@ -1,0 +1,8 @@
+use Rattle.std.proofs.Common.{◌≡◌, ◌++◌, length, map}
+use Rattle.ipnetwork_sets.proofs.from_ranges.push_range.Given as goal
+
+abbrev pub invariant-loop-block : goal.invariant-loop-block
+invariant-loop-block g l = map g.N.CidrNetwork.pair l.networks.items ++ l.blocks ≡ map g.N.CidrNetwork.pair l.initial.networks.items ++ l.initial.blocks
+
+abbrev pub decreases-loop-block : goal.decreases-loop-block
+decreases-loop-block g l = length l.blocks

@@ -1,0 +1,66 @@
+use Rattle.std.proofs.Common.{◌≡◌, ◌++◌, [], ℕ, List, map, sym, ap, ◌∙◌}
+use Rattle.ipnetwork_family.specs.Network.{Network, low, high}
+use Rattle.ipnetwork_sets.specs.Private.LeastBlocks.{either_blocks}
+use Rattle.ipnetwork_sets.specs.Private.Together.{at_hand}
+use Rattle.ipnetwork_sets.proofs.Together.{either_none, goes_within, range_of, next_is_set, next_steps, next_goes}
+use Rattle.ipnetwork_sets.proofs.union.UnionIterator.next.Goals as goal
+
+pub invariant_of-self : goal.invariant_of-self
+invariant_of-self g c =
+    let w : ℕ = g.N.CidrNetwork.WIDTH in
+    let rest : List Network = either_blocks w (map g.N.CidrNetwork.pair c.self.inside.first.now) (map g.N.CidrNetwork.pair c.self.inside.second.now) in (
+      c.self.invariant.0,
+      c.self.invariant.1,
+      goes_within w (at_hand c.self.inside.run) (at_hand c.next_at_hand.new.run) rest (g.N.CidrNetwork.pair c.in-Some.block) c.one_block.ensures.apart c.self.invariant.2 c.in-Some.ensures,
+    )
+
+pub returns-in_default-next_run-clause-steps : goal.returns-in_default-next_run-clause-steps
+returns-in_default-next_run-clause-steps g c =
+    let w : ℕ = g.N.CidrNetwork.WIDTH in
+    let first : List Network = map g.N.CidrNetwork.pair c.self.inside.first.now in
+    let second : List Network = map g.N.CidrNetwork.pair c.self.inside.second.now in
+    let none : either_blocks w first second ≡ [] =
+    either_none w first second (ap (map g.N.CidrNetwork.pair) c.in_default-next_run.ensures.0) (ap (map g.N.CidrNetwork.pair) c.in_default-next_run.ensures.1) in (
+      sym c.self.view_is ∙ ap (λ t. t ++ either_blocks w first second) c.in_default.ensures.0 ∙ none,
+      ap (λ t. t ++ either_blocks w first second) c.in_default.ensures.1 ∙ none,
+    )
+
+pub invariant_of-self-2 : goal.invariant_of-self-2
+invariant_of-self-2 g c =
+    let w : ℕ = g.N.CidrNetwork.WIDTH in
+    let pair = g.N.CidrNetwork.pair in
+    let run = c.in-Some-next_run.found in
+    let h = c.in-Some-next_run.ensures in (
+      h.others_are_set,
+      h.rest_is_set,
+      next_is_set w pair (map pair c.self.inside.first.now) (map pair c.self.inside.second.now) (map pair run.2.now) (map pair run.3.now) c.args.self.now (at_hand c.self.inside.run)
+          (low w (pair run.0)) (high w (pair run.1)) c.range_to_blocks-self-inside.result (at_hand c.next_at_hand-2.new.run) c.one_block.ensures.apart c.ranges_are_shortest.ensures.range
+          c.self.view_is c.in_default.ensures.0 c.self.invariant.2 h
+          (range_of w (g.N.CidrNetwork.number c.network.result) (g.N.CidrNetwork.number c.broadcast.result) (low w (pair run.0)) (high w (pair run.1)) c.range_to_blocks-self-inside.result
+          c.network.ensures c.broadcast.ensures c.range_to_blocks-self-inside.ensures.blocks)
+          c.next_at_hand-2.result c.next_at_hand-2.ensures,
+    )
+
+pub returns-clause-steps : goal.returns-clause-steps
+returns-clause-steps g c =
+    let w : ℕ = g.N.CidrNetwork.WIDTH in
+    let pair = g.N.CidrNetwork.pair in
+    let run = c.in-Some-next_run.found in
+    next_steps w pair (map pair c.self.inside.first.now) (map pair c.self.inside.second.now) (map pair run.2.now) (map pair run.3.now) c.args.self.now (at_hand c.self.inside.run)
+    (low w (pair run.0)) (high w (pair run.1)) c.range_to_blocks-self-inside.result (at_hand c.next_at_hand-2.new.run) c.one_block.ensures.apart c.ranges_are_shortest.ensures.range
+    c.self.view_is c.in_default.ensures.0 c.self.invariant.2 c.in-Some-next_run.ensures
+    (range_of w (g.N.CidrNetwork.number c.network.result) (g.N.CidrNetwork.number c.broadcast.result) (low w (pair run.0)) (high w (pair run.1)) c.range_to_blocks-self-inside.result
+    c.network.ensures c.broadcast.ensures c.range_to_blocks-self-inside.ensures.blocks)
+    c.next_at_hand-2.result c.next_at_hand-2.ensures
+
+pub returns-clause-goes : goal.returns-clause-goes
+returns-clause-goes g c =
+    let w : ℕ = g.N.CidrNetwork.WIDTH in
+    let pair = g.N.CidrNetwork.pair in
+    let run = c.in-Some-next_run.found in
+    next_goes w pair (map pair c.self.inside.first.now) (map pair c.self.inside.second.now) (map pair run.2.now) (map pair run.3.now) c.args.self.now (at_hand c.self.inside.run)
+    (low w (pair run.0)) (high w (pair run.1)) c.range_to_blocks-self-inside.result (at_hand c.next_at_hand-2.new.run) c.one_block.ensures.apart c.ranges_are_shortest.ensures.range
+    c.self.view_is c.in_default.ensures.0 c.self.invariant.2 c.in-Some-next_run.ensures
+    (range_of w (g.N.CidrNetwork.number c.network.result) (g.N.CidrNetwork.number c.broadcast.result) (low w (pair run.0)) (high w (pair run.1)) c.range_to_blocks-self-inside.result
+    c.network.ensures c.broadcast.ensures c.range_to_blocks-self-inside.ensures.blocks)
+    c.next_at_hand-2.result c.next_at_hand-2.ensures

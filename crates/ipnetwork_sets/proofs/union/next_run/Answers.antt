@@ -1,0 +1,44 @@
+use Rattle.std.proofs.Common.{◌<◌, ℕ, length, map, arith}
+use Rattle.ipnetwork_family.specs.Network.{low, high}
+use Rattle.ipnetwork_sets.proofs.Together.{growing_starts, grows_by_first, grows_by_second, growing_ends, mapped_shorter}
+use Rattle.ipnetwork_sets.proofs.union.next_run.Goals as goal
+
+pub loop-next-init : goal.loop-next-init
+loop-next-init g c =
+    growing_starts g.N.CidrNetwork.WIDTH c.one_block.ensures.apart (map g.N.CidrNetwork.pair c.args.first.now) (map g.N.CidrNetwork.pair c.args.second.now)
+    (g.N.CidrNetwork.pair c.in-Some.taken.0) (map g.N.CidrNetwork.pair c.in-Some.taken.1.now) (map g.N.CidrNetwork.pair c.in-Some.taken.2.now)
+    c.requires.first c.requires.second c.in-Some.ensures
+
+pub loop-next-smaller-in-Some-take_next : goal.loop-next-smaller-in-Some-take_next
+loop-next-smaller-in-Some-take_next g c =
+    let less : length c.in-Some-take_next.next.1.now < length c.loop-next.first_left.now = mapped_shorter g.N.CidrNetwork.pair c.loop-next.first_left.now c.in-Some-take_next.next.1.now c.in-Some-take_next.next.0 c.in-Some-take_next.ensures.0 in
+    omega (arith, less)
+
+pub loop-next-preserved-in-Some-take_next : goal.loop-next-preserved-in-Some-take_next
+loop-next-preserved-in-Some-take_next g c =
+    let w : ℕ = g.N.CidrNetwork.WIDTH in
+    grows_by_first w c.one_block.ensures.apart (map g.N.CidrNetwork.pair c.args.first.now) (map g.N.CidrNetwork.pair c.args.second.now)
+    (low w (g.N.CidrNetwork.pair c.in-Some.taken.0)) (high w (g.N.CidrNetwork.pair c.loop-next.last)) (high w (g.N.CidrNetwork.pair c.later-last.result)) (g.N.CidrNetwork.pair c.in-Some-take_next.next.0)
+    (map g.N.CidrNetwork.pair c.loop-next.first_left.now) (map g.N.CidrNetwork.pair c.loop-next.second_left.now) c.loop-next.invariant
+    c.in-Some-take_next.ensures.1 c.later-last.ensures (map g.N.CidrNetwork.pair c.in-Some-take_next.next.1.now) c.in-Some-take_next.ensures.0
+
+pub loop-next-smaller : goal.loop-next-smaller
+loop-next-smaller g c =
+    let less : length c.in-Some-take_next-2.next.1.now < length c.loop-next.second_left.now = mapped_shorter g.N.CidrNetwork.pair c.loop-next.second_left.now c.in-Some-take_next-2.next.1.now c.in-Some-take_next-2.next.0 c.in-Some-take_next-2.ensures.0 in
+    omega (arith, less)
+
+pub loop-next-preserved : goal.loop-next-preserved
+loop-next-preserved g c =
+    let w : ℕ = g.N.CidrNetwork.WIDTH in
+    grows_by_second w c.one_block.ensures.apart (map g.N.CidrNetwork.pair c.args.first.now) (map g.N.CidrNetwork.pair c.args.second.now)
+    (low w (g.N.CidrNetwork.pair c.in-Some.taken.0)) (high w (g.N.CidrNetwork.pair c.loop-next.last)) (high w (g.N.CidrNetwork.pair c.later-last-in-Some-take_next-2.result)) (g.N.CidrNetwork.pair c.in-Some-take_next-2.next.0)
+    (map g.N.CidrNetwork.pair c.loop-next.first_left.now) (map g.N.CidrNetwork.pair c.loop-next.second_left.now) c.loop-next.invariant
+    c.in-Some-take_next-2.ensures.1 c.later-last-in-Some-take_next-2.ensures (map g.N.CidrNetwork.pair c.in-Some-take_next-2.next.1.now) c.in-Some-take_next-2.ensures.0
+
+pub returns-in_default-take_next-2 : goal.returns-in_default-take_next-2
+returns-in_default-take_next-2 g c =
+    let w : ℕ = g.N.CidrNetwork.WIDTH in
+    growing_ends w c.one_block.ensures.apart (map g.N.CidrNetwork.pair c.args.first.now) (map g.N.CidrNetwork.pair c.args.second.now)
+    (low w (g.N.CidrNetwork.pair c.in-Some.taken.0)) (high w (g.N.CidrNetwork.pair c.loop-next.last))
+    (map g.N.CidrNetwork.pair c.loop-next.first_left.now) (map g.N.CidrNetwork.pair c.loop-next.second_left.now) c.loop-next.invariant
+    c.in_default-take_next.ensures c.in_default-take_next-2.ensures

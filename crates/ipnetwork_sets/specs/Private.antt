@@ -1,0 +1,7 @@
+-- What the private functions promise each other, and how contracts see private fields.
+pub mod LeastBlocks
+pub mod Left
+pub mod Runs
+pub mod Search
+pub mod Together
+pub mod Totals

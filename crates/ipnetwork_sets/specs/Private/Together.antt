@@ -1,0 +1,35 @@
+-- The union of two sets, run by run.
+use Rattle.std.specs.Prelude.{◌≡◌, ℕ, ◌+◌, ◌^◌, ◌<◌, ◌≤◌, ◌⊎◌, ◌↔◌, List, [], ◌∷◌, Option, None, Some}
+use Rattle.ipnetwork_family.specs.Network.{Network}
+use Rattle.ipnetwork_blocks.specs.Ranges.{FromTo}
+use Rattle.ipnetwork_sets.specs.Sets.{IsAddressSet, InEither}
+
+-- the blocks of the run at hand, if there is one
+abbrev pub at_hand : Option (List Network) → List Network
+at_hand None = []
+at_hand (Some blocks) = blocks
+
+-- of the first blocks of two lists, this one begins first; with it, these are the others of both
+pub record IsFirst (first second : List Network) (b : Network) (others rest : List Network) : Type 0 where
+  pub one : ((first ≡ b ∷ others) × (second ≡ rest)) ⊎ ((first ≡ others) × (second ≡ b ∷ rest))
+  pub lowest : (c : Network) (more : List Network) → (first ≡ c ∷ more) ⊎ (second ≡ c ∷ more) → b.address ≤ c.address
+
+-- no block of the list begins up to the address behind this one
+abbrev pub EndsAt : ℕ → ℕ → List Network → Type 0
+EndsAt w last [] = Unit {0}
+EndsAt w last (b ∷ bs) = last + 1 < b.address
+
+-- of two numbers the greater
+pub record IsLater (a b last : ℕ) : Type 0 where
+  pub first : a ≤ last
+  pub second : b ≤ last
+  pub one : (last ≡ a) ⊎ (last ≡ b)
+
+-- the addresses of the union are those from the first to the last, and, behind a gap, those of what is left of both sets
+pub record IsRun (w : ℕ) (first second : List Network) (start last : ℕ) (others rest : List Network) : Type 0 where
+  pub ordered : start ≤ last
+  pub fits : last < 2 ^ w
+  pub others_are_set : IsAddressSet w others
+  pub rest_is_set : IsAddressSet w rest
+  pub parts : (x : ℕ) → InEither w first second x ↔ (FromTo start last x ⊎ InEither w others rest x)
+  pub behind : (x : ℕ) → InEither w others rest x → last + 1 < x

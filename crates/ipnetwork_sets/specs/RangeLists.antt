@@ -1,0 +1,16 @@
+-- Sets of addresses as ranges: each a first and a last address.
+use Rattle.std.specs.Prelude.{◌≡◌, ℕ, ◌+◌, ◌<◌, ◌≤◌, ◌↔◌, List}
+use Rattle.std.specs.List.{All, AllPairs, Contains}
+use Rattle.ipnetwork_blocks.specs.Ranges.{FromTo}
+
+-- the address is one of the addresses of some range of the list. A range whose first address comes after its last has
+-- none
+abbrev pub InRanges : List (ℕ × ℕ) → ℕ → Type 0
+InRanges ranges x = (r : ℕ × ℕ) × Contains ranges r × FromTo r.0 r.1 x
+
+-- the ranges have the addresses of the set and no others; they ascend, and between each and the next lies an address
+-- that is not in the set
+pub record IsRangeList (set : ℕ → Type 0) (ranges : List (ℕ × ℕ)) : Type 0 where
+  pub addresses : (x : ℕ) → InRanges ranges x ↔ set x
+  pub ordered : All (λ r. r.0 ≤ r.1) ranges
+  pub apart : AllPairs (λ r s. r.1 + 1 < s.0) ranges

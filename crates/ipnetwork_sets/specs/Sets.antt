@@ -1,0 +1,41 @@
+-- Sets of addresses of w bits, as lists of blocks.
+use Rattle.std.specs.Prelude.{◌≡◌, ℕ, ◌⊎◌, ◌++◌, List}
+use Rattle.ipnetwork_family.specs.Network.{Network, Member}
+use Rattle.ipnetwork_blocks.specs.LeastList.{IsLeastList}
+use Rattle.ipnetwork_blocks.specs.Aggregate.{InUnion, IsAggregate}
+
+-- the blocks are the maximal ones of their own union, in ascending order
+abbrev pub IsAddressSet : ℕ → List Network → Type 0
+IsAddressSet w blocks = IsAggregate w blocks blocks
+
+-- some address of the network lies in the union of the others
+abbrev pub MeetsUnion : ℕ → Network → List Network → Type 0
+MeetsUnion w n networks = (x : ℕ) × Member w n x × InUnion w networks x
+
+-- x is an address of both
+abbrev pub InBoth : ℕ → List Network → List Network → ℕ → Type 0
+InBoth w first second x = InUnion w first x × InUnion w second x
+
+-- x is an address of the first, and not of the second
+abbrev pub InFirstAlone : ℕ → List Network → List Network → ℕ → Type 0
+InFirstAlone w first second x = InUnion w first x × ¬ (InUnion w second x)
+
+-- x is an address of the network, and none of the set
+abbrev pub InNetworkAlone : ℕ → Network → List Network → ℕ → Type 0
+InNetworkAlone w n networks x = Member w n x × ¬ (InUnion w networks x)
+
+-- x is an address of one of the two, or of both
+abbrev pub InEither : ℕ → List Network → List Network → ℕ → Type 0
+InEither w first second x = InUnion w first x ⊎ InUnion w second x
+
+-- each address of the first is one of the second
+abbrev pub IsWithin : ℕ → List Network → List Network → Type 0
+IsWithin w first second = (x : ℕ) → InUnion w first x → InUnion w second x
+
+-- no address is one of both
+abbrev pub AreDisjoint : ℕ → List Network → List Network → Type 0
+AreDisjoint w first second = (x : ℕ) → ¬ (InBoth w first second x)
+
+-- behind those that were in the list come the blocks of the set
+abbrev pub AddsLeastList : ℕ → (ℕ → Type 0) → List Network → List Network → Type 0
+AddsLeastList w set before after = (blocks : List Network) × IsLeastList w set blocks × (after ≡ before ++ blocks)

@@ -1,0 +1,107 @@
+//! The blocks of a set, one after the other.
+ghost use Rattle.std.specs.Prelude.{◌≡◌, List, MatchOption, [], ◌∷◌, map};
+ghost use Rattle.std.specs.Iterator.{YieldsFirstBy, item_count};
+ghost use Rattle.ipnetwork_family.specs.Network.{Network};
+ghost use Rattle.ipnetwork_sets.specs.Sets.{IsAddressSet};
+
+use crate::address_set::AddressSet;
+use crate::common::Intersection;
+use crate::difference::Difference;
+use crate::union::Union;
+use ipnetwork_blocks::laws;
+use ipnetwork_family::CidrNetwork;
+use std::marker::Model;
+
+/// What gives the blocks of a set one after the other, in ascending order.
+pub trait SetBlocks<N: CidrNetwork>: Drop {
+    // The blocks that are still to come.
+    ghost left: { Self → List Network };
+
+    /// The next block; `None` behind the last.
+    fn next_block(&mut self) -> Option<N>
+        ensures step { MatchOption result ((left self.old ≡ []) × (left self.new ≡ [])) (λ block. left self.old ≡ N.pair block ∷ left self.new) }
+        ensures set { IsAddressSet N.WIDTH (left self.old) };
+}
+
+/// The blocks of a set that are still to come, in ascending order.
+#[derive(Debug, Drop)]
+pub struct Blocks<'a, N: CidrNetwork> {
+    rest: &'a [N],
+}
+
+// A contract sees an iterator as the list of the blocks still to come.
+impl<'a, N: CidrNetwork> Model for Blocks<'a, N> {
+    ghost use Rattle.std.specs.Prelude.{List, map};
+    ghost use Rattle.ipnetwork_family.specs.Network.{Network};
+    ghost use Rattle.ipnetwork_sets.specs.Sets.{IsAddressSet};
+
+    ghost Value = { List Network };
+
+    ghost view = { λ b. map N.pair b.rest.now };
+
+    ghost invariant = { λ b. IsAddressSet N.WIDTH (map N.pair b.rest.now) };
+}
+
+impl<N: CidrNetwork> AddressSet<N> {
+    /// The blocks one after the other, in ascending order.
+    pub fn iter(&self) -> Blocks<'_, N>
+        ensures { result ≡ self.now }
+    {
+        Blocks {
+            rest: self.blocks(),
+        }
+    }
+}
+
+impl<'a, N: CidrNetwork> Iterator for Blocks<'a, N> {
+    type Item = N;
+
+    ghost next_gives = { YieldsFirstBy N.pair (λ left. left) };
+
+    ghost remaining = { item_count (λ left. left) };
+
+    fn next(&mut self) -> Option<N> {
+        laws::one_block();
+        let Some((block, rest)) = self.rest.split_first() else {
+            return None;
+        };
+        self.rest = rest;
+        Some(*block)
+    }
+}
+
+impl<'a, N: CidrNetwork> SetBlocks<N> for Blocks<'a, N> {
+    ghost left = { λ left. left };
+
+    fn next_block(&mut self) -> Option<N> {
+        let _ = &self.rest;
+        self.next()
+    }
+}
+
+impl<'a, N: CidrNetwork> SetBlocks<N> for Intersection<'a, N> {
+    ghost left = { λ left. left };
+
+    fn next_block(&mut self) -> Option<N> {
+        self.are_set();
+        self.next()
+    }
+}
+
+impl<'a, N: CidrNetwork> SetBlocks<N> for Difference<'a, N> {
+    ghost left = { λ left. left };
+
+    fn next_block(&mut self) -> Option<N> {
+        self.are_set();
+        self.next()
+    }
+}
+
+impl<'a, N: CidrNetwork> SetBlocks<N> for Union<'a, N> {
+    ghost left = { λ left. left };
+
+    fn next_block(&mut self) -> Option<N> {
+        self.are_set();
+        self.next()
+    }
+}

@@ -1,0 +1,55 @@
+//! Whether a list of networks is the list of a set.
+ghost use Rattle.std.specs.Prelude.{◌↔◌, IsTrue, map};
+ghost use Rattle.ipnetwork_family.specs.Network.{IsNetwork, HostBitsAreZero};
+ghost use Rattle.ipnetwork_blocks.specs.Private.Joining.{AreHalves, Follows};
+ghost use Rattle.ipnetwork_sets.specs.Sets.{IsAddressSet};
+
+use crate::order::ends_before;
+use ipnetwork_blocks::laws;
+use ipnetwork_family::CidrNetwork;
+
+/// Whether the networks are the maximal blocks of their union, in ascending order. Goes over them once.
+pub(crate) fn is_address_set<N: CidrNetwork>(networks: &[N]) -> bool
+    ensures { IsTrue result ↔ IsAddressSet N.WIDTH (map N.pair networks.now) }
+{
+    laws::one_block();
+    for next in 0..networks.len() {
+        let network = networks[next];
+        if !has_no_host_bits(network) {
+            return false;
+        }
+        if next > 0 && !follows(networks[next - 1], network) {
+            return false;
+        }
+    }
+    true
+}
+
+// Whether the network is its own block.
+fn has_no_host_bits<N: CidrNetwork>(network: N) -> bool
+    ensures told { IsTrue result ↔ HostBitsAreZero N.WIDTH (N.pair network) }
+    ensures network { IsNetwork N.WIDTH (N.pair network) }
+{
+    network.ip() == network.network()
+}
+
+// Whether the second begins after the first has ended, and they are no halves of one block.
+fn follows<N: CidrNetwork>(first: N, second: N) -> bool
+    ensures { IsTrue result ↔ Follows N.WIDTH (N.pair first) (N.pair second) }
+{
+    ends_before(first, second) && !are_halves(first, second)
+}
+
+// Whether two blocks that differ are the halves of one block.
+fn are_halves<N: CidrNetwork>(first: N, second: N) -> bool
+    ensures { IsTrue result ↔ AreHalves N.WIDTH (N.pair first) (N.pair second) }
+{
+    let prefix = first.prefix();
+    if prefix == 0 || second.prefix() != prefix {
+        return false;
+    }
+    match N::block(first.ip(), prefix - 1) {
+        Some(whole) => whole.contains(second.ip()),
+        None => false,
+    }
+}

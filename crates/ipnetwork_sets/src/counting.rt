@@ -1,0 +1,31 @@
+//! The number of addresses of a set.
+ghost use Rattle.std.specs.Prelude.{◌≡◌, ◌≤◌, map};
+ghost use Rattle.ipnetwork_blocks.specs.Aggregate.{InUnion};
+ghost use Rattle.ipnetwork_sets.specs.Counts.{count_number, HasCount};
+ghost use Rattle.ipnetwork_sets.specs.Private.Totals.{total, capped};
+
+use crate::address_count::AddressCount;
+use crate::address_set::AddressSet;
+use ipnetwork_blocks::laws;
+use ipnetwork_family::CidrNetwork;
+
+impl<N: CidrNetwork> AddressSet<N> {
+    /// How many addresses there are in the set. Goes over the blocks once, and does not allocate.
+    pub fn address_count(&self) -> AddressCount
+        ensures { N.WIDTH ≤ 128 → HasCount (InUnion N.WIDTH self.now) (count_number result) }
+    {
+        laws::one_block();
+        count_blocks(self.blocks())
+    }
+}
+
+// The numbers of addresses of the networks together.
+fn count_blocks<N: CidrNetwork>(blocks: &[N]) -> AddressCount
+    ensures { count_number result ≡ capped (total N.WIDTH (map N.pair blocks.now)) }
+{
+    let mut count = AddressCount::ZERO;
+    for block in blocks {
+        count = count.add_block(*block);
+    }
+    count
+}

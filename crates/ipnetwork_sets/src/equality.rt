@@ -1,0 +1,22 @@
+//! Equality of sets.
+use crate::address_set::AddressSet;
+use ipnetwork_family::CidrNetwork;
+
+/// Two sets are equal exactly if they have the same addresses (`laws::equality`), and exactly if they have the same
+/// blocks, which are compared.
+impl<N: CidrNetwork> PartialEq for AddressSet<N> {
+    ghost use Rattle.std.proofs.Common.{rules};
+    ghost use Rattle.std.specs.Cmp.Rules.{comparing};
+    ghost use Rattle.std.specs.Cmp.Lexicographic.{lists_per};
+    ghost use Rattle.ipnetwork_sets.specs.Equality.{same_blocks};
+
+    ghost eq = { same_blocks };
+
+    ghost laws = { lists_per (Prim.search (comparing, rules)) };
+
+    fn eq(&self, other: &AddressSet<N>) -> bool {
+        let first = self.blocks();
+        let second = other.blocks();
+        first == second
+    }
+}

@@ -1,0 +1,52 @@
+//! Sets made of ranges of addresses.
+ghost use Rattle.std.specs.Prelude.{◌<◌, ◌^◌, IfOk, map};
+ghost use Rattle.ipnetwork_blocks.specs.LeastList.{IsLeastList};
+ghost use Rattle.ipnetwork_blocks.specs.Ranges.{FromTo};
+ghost use Rattle.ipnetwork_sets.specs.RangeLists.{InRanges};
+ghost use Rattle.ipnetwork_sets.specs.Sets.{AddsLeastList};
+
+use crate::address_set::AddressSet;
+use ipnetwork_blocks::{laws, range_to_blocks};
+use ipnetwork_family::CidrNetwork;
+use std::alloc::AllocError;
+
+impl<N: CidrNetwork> AddressSet<N> {
+    /// The set of the addresses of the ranges, of each its first and its last address, in any order: they may overlap. A
+    /// range whose first address comes after its last has no addresses. The list is put into `memory`, whose content is
+    /// dropped first; an error means that it had to grow, and that there was no memory for that.
+    pub fn from_ranges(
+        ranges: &[(N::Addr, N::Addr)],
+        mut memory: Vec<N>,
+    ) -> Result<Self, AllocError>
+        ensures { IfOk result (λ set. IsLeastList N.WIDTH (InRanges (map (λ r. (N.number r.0, N.number r.1)) ranges.now)) set) }
+    {
+        laws::ranges_are_shortest();
+        memory.clear();
+        for range in ranges {
+            push_range(&mut memory, range.0, range.1)?;
+        }
+        Ok(AddressSet::from_networks(memory))
+    }
+}
+
+/// Adds the blocks whose addresses are those from `first` to `last`, both included, to the networks: the fewest that
+/// there are, and none where `first` comes after `last`. An error means that the list had to grow, and that there was
+/// no memory for that; some of the blocks may have been added.
+pub fn push_range<N: CidrNetwork>(
+    networks: &mut Vec<N>,
+    first: N::Addr,
+    last: N::Addr,
+) -> Result<(), AllocError>
+    ensures address { N.number last < 2 ^ N.WIDTH }
+    ensures added { IfOk result (λ _. AddsLeastList N.WIDTH (FromTo (N.number first) (N.number last)) (map N.pair networks.old.items) (map N.pair networks.new.items)) }
+{
+    // The clause `address` of this call tells that `last` is an address of the family.
+    let _ = N::block(last, N::WIDTH);
+    let Some(mut blocks) = range_to_blocks::<N>(first, last) else {
+        return Ok(());
+    };
+    while let Some(block) = blocks.next() {
+        networks.push(block)?;
+    }
+    Ok(())
+}

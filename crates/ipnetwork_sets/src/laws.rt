@@ -1,0 +1,40 @@
+//! The laws of the operations on sets, for addresses of any number of bits. Each function's contract is laws; it does
+//! nothing, and a proof whose function calls it may use them.
+ghost use Rattle.ipnetwork_sets.specs.Equality.{SameBlocksAreEqual};
+ghost use Rattle.ipnetwork_sets.specs.Laws.{CommonPartIsShortest, DifferenceIsShortest, FreePartIsShortest, UnionIsShortest, SameAddressesAreOneSet, CommonPartCommutes, UnionCommutes, CommonPartOfOne, UnionOfOne, DifferenceIsDisjoint, PartsMakeTheWhole, FreeOfUnion, FreeOfCommonPart};
+
+/// Of each operation the blocks have the addresses of the set and no others, each ends before the next begins, no
+/// networks with the same addresses are fewer, and no other list is the least.
+pub fn shortest()
+    ensures common { CommonPartIsShortest }
+    ensures difference { DifferenceIsShortest }
+    ensures free { FreePartIsShortest }
+    ensures union { UnionIsShortest }
+{}
+
+/// Two sets are equal exactly if they have the same addresses, and `==` tells it.
+pub fn equality()
+    ensures test { SameBlocksAreEqual }
+    ensures addresses { SameAddressesAreOneSet }
+{}
+
+/// The common part and the union are those of the two in either order, and of a set with itself they are the set.
+pub fn order_and_repetition()
+    ensures common { CommonPartCommutes }
+    ensures union { UnionCommutes }
+    ensures common_of_one { CommonPartOfOne }
+    ensures union_of_one { UnionOfOne }
+{}
+
+/// A difference has no address of the set that was taken off, and together with the common part it is the first set.
+pub fn parts()
+    ensures disjoint { DifferenceIsDisjoint }
+    ensures whole { PartsMakeTheWhole }
+{}
+
+/// What is free of a union is free of both sets, and what is free of a common part is free of one or the other (De
+/// Morgan's laws), within any network; and so among all addresses, within the network of prefix length 0.
+pub fn free_of_both()
+    ensures union { FreeOfUnion }
+    ensures common { FreeOfCommonPart }
+{}

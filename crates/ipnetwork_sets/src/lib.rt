@@ -1,0 +1,30 @@
+//! Sets of IP addresses of one family, as lists of blocks, for both families.
+#![tactic(auto)]
+
+mod address_count;
+mod address_set;
+mod blocks;
+mod check;
+mod common;
+mod counting;
+mod difference;
+mod equality;
+mod from_ranges;
+pub mod laws;
+mod operations;
+mod order;
+mod pieces;
+mod ranges;
+mod search;
+#[cfg(test)]
+mod tests;
+mod union;
+
+pub use address_count::AddressCount;
+pub use address_set::AddressSet;
+pub use blocks::{Blocks, SetBlocks};
+pub use common::Intersection;
+pub use difference::Difference;
+pub use from_ranges::push_range;
+pub use ranges::Ranges;
+pub use union::Union;

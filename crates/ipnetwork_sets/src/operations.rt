@@ -1,0 +1,72 @@
+//! The operations on sets.
+ghost use Rattle.std.specs.Prelude.{◌≡◌, ◌↔◌, IsTrue, IfOk};
+ghost use Rattle.ipnetwork_blocks.specs.LeastList.{IsLeastList};
+ghost use Rattle.ipnetwork_sets.specs.Sets.{InBoth, InFirstAlone, InNetworkAlone, InEither, IsWithin, AreDisjoint};
+
+use crate::address_set::AddressSet;
+use crate::common::Intersection;
+use crate::difference::Difference;
+use crate::union::Union;
+use ipnetwork_family::CidrNetwork;
+use std::alloc::AllocError;
+
+impl<N: CidrNetwork> AddressSet<N> {
+    /// The blocks of the addresses that both sets have, in ascending order. Goes over both lists once, as the iterator
+    /// is asked, and does not allocate.
+    pub fn intersection<'a>(&'a self, other: &'a AddressSet<N>) -> Intersection<'a, N>
+        ensures { IsLeastList N.WIDTH (InBoth N.WIDTH self.now other.now) result }
+    {
+        Intersection::of(self.blocks(), other.blocks())
+    }
+
+    /// The blocks of the addresses that this set has and the other has not, in ascending order. Goes over both lists
+    /// once, as the iterator is asked, and does not allocate.
+    pub fn difference<'a>(&'a self, other: &'a AddressSet<N>) -> Difference<'a, N>
+        ensures { IsLeastList N.WIDTH (InFirstAlone N.WIDTH self.now other.now) result }
+    {
+        Difference::of(self.blocks(), other.blocks())
+    }
+
+    /// The blocks of the addresses that the network has and the set has not, in ascending order: what is free in the
+    /// network. Host bits change nothing. Goes over the list once, as the iterator is asked, and does not allocate.
+    ///
+    /// Of the network of prefix length 0, these are the blocks of all addresses that are not in the set.
+    pub fn free_in(&self, network: N) -> Difference<'_, N>
+        ensures { IsLeastList N.WIDTH (InNetworkAlone N.WIDTH (N.pair network) self.now) result }
+    {
+        Difference::within(network, self.blocks())
+    }
+
+    /// The blocks of the addresses that one of the two has, or both, in ascending order. Goes over both lists once, as
+    /// the iterator is asked, and does not allocate.
+    pub fn union_blocks<'a>(&'a self, other: &'a AddressSet<N>) -> Union<'a, N>
+        ensures { IsLeastList N.WIDTH (InEither N.WIDTH self.now other.now) result }
+    {
+        Union::of(self.blocks(), other.blocks())
+    }
+
+    /// The set of the addresses that one of the two has, or both. Goes over both lists once. The list is put into
+    /// `memory`, whose content is dropped first; an error means that it had to grow, and that there was no memory for
+    /// that.
+    pub fn union(&self, other: &AddressSet<N>, memory: Vec<N>) -> Result<Self, AllocError>
+        ensures { IfOk result (λ set. IsLeastList N.WIDTH (InEither N.WIDTH self.now other.now) set) }
+    {
+        self.union_blocks(other).into_set(memory)
+    }
+
+    /// Whether each address of this set is in the other. Goes over both lists once at the most, and does not allocate.
+    pub fn is_subset_of(&self, other: &AddressSet<N>) -> bool
+        ensures { IsTrue result ↔ IsWithin N.WIDTH self.now other.now }
+    {
+        let mut left = self.difference(other);
+        left.next().is_none()
+    }
+
+    /// Whether no address is in both sets. Goes over both lists once at the most, and does not allocate.
+    pub fn is_disjoint_from(&self, other: &AddressSet<N>) -> bool
+        ensures { IsTrue result ↔ AreDisjoint N.WIDTH self.now other.now }
+    {
+        let mut common = self.intersection(other);
+        common.next().is_none()
+    }
+}

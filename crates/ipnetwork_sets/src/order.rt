@@ -1,0 +1,33 @@
+//! Which of two networks comes first.
+ghost use Rattle.std.specs.Prelude.{◌≡◌, ◌↔◌, ◌+◌, ◌<◌, ◌≤◌, IsTrue};
+ghost use Rattle.ipnetwork_family.specs.Network.{high};
+
+use ipnetwork_blocks::following;
+use ipnetwork_family::CidrNetwork;
+
+/// Whether the first ends before the address of the second.
+pub(crate) fn ends_before<N: CidrNetwork>(first: N, second: N) -> bool
+    ensures { IsTrue result ↔ (high N.WIDTH (N.pair first) < (N.pair second).address) }
+{
+    first.broadcast() < second.ip()
+}
+
+/// Whether both have the same address.
+pub(crate) fn begin_alike<N: CidrNetwork>(first: N, second: N) -> bool
+    ensures { IsTrue result ↔ ((N.pair first).address ≡ (N.pair second).address) }
+{
+    first.ip() == second.ip()
+}
+
+/// Whether the second begins within the first, before it, or right behind it: no address lies between them.
+pub(crate) fn goes_on<N: CidrNetwork>(first: N, second: N) -> bool
+    ensures { IsTrue result ↔ ((N.pair second).address ≤ high N.WIDTH (N.pair first) + 1) }
+{
+    if second.ip() <= first.broadcast() {
+        return true;
+    }
+    match following(first) {
+        Some(behind) => behind.ip() == second.ip(),
+        None => false,
+    }
+}

@@ -1,0 +1,85 @@
+//! The pieces of a block that a set leaves: the block halved until a piece shares no address with the set, or lies in
+//! it.
+ghost use Rattle.std.specs.Prelude.{◌≡◌, ◌+◌, ◌<◌, MatchOption, map};
+ghost use Rattle.ipnetwork_family.specs.Network.{block_of, high};
+ghost use Rattle.ipnetwork_sets.specs.Sets.{IsAddressSet};
+ghost use Rattle.ipnetwork_sets.specs.Private.Left.{IsPiece, IsWidest, IsBehind, Skips, IsFree};
+
+use crate::order::{begin_alike, ends_before};
+use ipnetwork_blocks::laws;
+use ipnetwork_family::CidrNetwork;
+
+/// The first piece of the whole, from this piece on, that has no address of the cut set, and what is left of that set;
+/// `None` where there is no such piece. Passes the cut blocks that end before the piece, goes on behind a piece that lies in
+/// a cut block, and to the lower half of one that has such a block in it.
+pub(crate) fn first_free<'a, N: CidrNetwork>(
+    whole: N,
+    from: N,
+    cut: &'a [N],
+) -> (Option<N>, &'a [N])
+    requires part { IsPiece N.WIDTH (N.pair whole) (N.pair from) }
+    requires widest { IsWidest N.WIDTH (N.pair whole) (N.pair from) (map N.pair cut.now) }
+    requires set { IsAddressSet N.WIDTH (map N.pair cut.now) }
+    ensures set { IsAddressSet N.WIDTH (map N.pair result.1.now) }
+    ensures free { MatchOption result.0
+        (Skips N.WIDTH (N.pair whole) (N.pair from).address (map N.pair cut.now) (high N.WIDTH (N.pair whole) + 1) (map N.pair result.1.now))
+        (λ piece. IsFree N.WIDTH (N.pair whole) (N.pair piece) (map N.pair result.1.now)
+        × Skips N.WIDTH (N.pair whole) (N.pair from).address (map N.pair cut.now) (N.pair piece).address (map N.pair result.1.now)) }
+{
+    laws::one_block();
+    let mut piece = from;
+    let mut left = cut;
+    loop {
+        let Some((first, after)) = left.split_first() else {
+            return (Some(piece), left);
+        };
+        if ends_before(*first, piece) {
+            left = after;
+        } else if ends_before(piece, *first) {
+            return (Some(piece), left);
+        } else if first.prefix() <= piece.prefix() {
+            let Some(next) = piece_behind(whole, piece) else {
+                return (None, left);
+            };
+            piece = next;
+        } else {
+            piece = lower_half(piece);
+        }
+    }
+}
+
+/// The widest piece of the whole that begins right behind this one; `None` where the whole ends with it.
+pub(crate) fn piece_behind<N: CidrNetwork>(whole: N, piece: N) -> Option<N>
+    requires { IsPiece N.WIDTH (N.pair whole) (N.pair piece) }
+    ensures { MatchOption result (high N.WIDTH (N.pair piece) ≡ high N.WIDTH (N.pair whole))
+        (λ next. IsBehind N.WIDTH (N.pair whole) (N.pair piece) (N.pair next)) }
+{
+    let widest = whole.prefix();
+    let mut ended = piece;
+    while ended.prefix() > widest {
+        let prefix = ended.prefix();
+        let Some(around) = N::block(ended.ip(), prefix - 1) else {
+            unreachable!()
+        };
+        if begin_alike(around, ended) {
+            let Some(next) = N::block(around.broadcast(), prefix) else {
+                unreachable!()
+            };
+            return Some(next);
+        }
+        ended = around;
+    }
+    None
+}
+
+// The lower half of a block.
+fn lower_half<N: CidrNetwork>(block: N) -> N
+    requires shorter { (N.pair block).prefix < N.WIDTH }
+    requires fits { (N.pair block).prefix < 255 }
+    ensures { N.pair result ≡ block_of N.WIDTH (record { address = (N.pair block).address; prefix = (N.pair block).prefix + 1 }) }
+{
+    let Some(half) = N::block(block.ip(), block.prefix() + 1) else {
+        unreachable!()
+    };
+    half
+}

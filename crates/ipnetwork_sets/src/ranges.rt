@@ -1,0 +1,130 @@
+//! The ranges of addresses that a set is made of.
+ghost use Rattle.std.specs.Prelude.{◌≡◌, ◌↔◌, ◌∷◌, IsTrue, option_map};
+ghost use Rattle.std.specs.Iterator.{YieldsFirstBy, item_count};
+ghost use Rattle.ipnetwork_family.specs.Network.{high, low};
+ghost use Rattle.ipnetwork_blocks.specs.Aggregate.{InUnion};
+ghost use Rattle.ipnetwork_sets.specs.Sets.{IsAddressSet};
+ghost use Rattle.ipnetwork_sets.specs.RangeLists.{IsRangeList};
+ghost use Rattle.ipnetwork_sets.specs.Private.Runs.{runs, runs_left, IsAhead, Touches};
+
+use crate::address_set::AddressSet;
+use crate::blocks::{Blocks, SetBlocks};
+use crate::common::Intersection;
+use crate::difference::Difference;
+use crate::union::Union;
+use ipnetwork_blocks::{following, laws};
+use ipnetwork_family::CidrNetwork;
+use std::marker::Model;
+
+/// The ranges of a set that are still to come, in ascending order: of each its first and its last address. They are the
+/// longest that there are, so at least one address that is not in the set lies between two of them.
+#[derive(Debug, Drop)]
+pub struct Ranges<N: CidrNetwork, B: SetBlocks<N>> {
+    ahead: Option<N>,
+    blocks: B,
+}
+
+// A contract sees an iterator as the list of the ranges still to come.
+impl<N: CidrNetwork, B: SetBlocks<N>> Model for Ranges<N, B> {
+    ghost use Rattle.std.specs.Prelude.{ℕ, List, option_map};
+    ghost use Rattle.ipnetwork_sets.specs.Private.Runs.{runs_left, IsAhead};
+
+    ghost Value = { List (ℕ × ℕ) };
+
+    ghost view = { λ r. runs_left N.WIDTH (option_map N.pair r.ahead) (B.left r.blocks) };
+
+    ghost invariant = { λ r. IsAhead N.WIDTH (option_map N.pair r.ahead) (B.left r.blocks) };
+}
+
+impl<N: CidrNetwork, B: SetBlocks<N>> Ranges<N, B> {
+    // The ranges of the blocks.
+    fn of(mut blocks: B) -> Self
+        ensures { IsRangeList (InUnion N.WIDTH (B.left blocks)) result }
+    {
+        laws::one_block();
+        let ahead = blocks.next_block();
+        Ranges { ahead, blocks }
+    }
+}
+
+impl<N: CidrNetwork, B: SetBlocks<N>> Iterator for Ranges<N, B> {
+    type Item = (N::Addr, N::Addr);
+
+    ghost next_gives = { YieldsFirstBy (λ r. (N.number r.0, N.number r.1)) (λ left. left) };
+
+    ghost remaining = { item_count (λ left. left) };
+
+    fn next(&mut self) -> Option<(N::Addr, N::Addr)> {
+        let first = self.ahead?;
+        let (last, ahead) = last_of_run(first, &mut self.blocks);
+        self.ahead = ahead;
+        Some((first.network(), last.broadcast()))
+    }
+}
+
+// The last block of the run that begins with this one, and the block behind the run.
+fn last_of_run<N: CidrNetwork, B: SetBlocks<N>>(first: N, blocks: &mut B) -> (N, Option<N>)
+    requires { IsAddressSet N.WIDTH (N.pair first ∷ B.left blocks.old) }
+    ensures ahead { IsAhead N.WIDTH (option_map N.pair result.1) (B.left blocks.new) }
+    ensures run { runs N.WIDTH (N.pair first ∷ B.left blocks.old) ≡ (low N.WIDTH (N.pair first), high N.WIDTH (N.pair result.0)) ∷ runs_left N.WIDTH (option_map N.pair result.1) (B.left blocks.new) }
+{
+    laws::one_block();
+    let mut last = first;
+    loop {
+        let Some(block) = blocks.next_block() else {
+            return (last, None);
+        };
+        if !touches(last, block) {
+            return (last, Some(block));
+        }
+        last = block;
+    }
+}
+
+// Whether the second network begins right behind the first.
+fn touches<N: CidrNetwork>(first: N, second: N) -> bool
+    ensures { IsTrue result ↔ Touches N.WIDTH (N.pair first) (N.pair second) }
+{
+    let begin = second.ip();
+    match following(first) {
+        Some(behind) => behind.ip() == begin,
+        None => false,
+    }
+}
+
+impl<N: CidrNetwork> AddressSet<N> {
+    /// The first and the last address of each range of the set, in ascending order: the fewest ranges that there are.
+    /// Goes over the blocks once, as the iterator is asked, and does not allocate.
+    pub fn ranges(&self) -> Ranges<N, Blocks<'_, N>>
+        ensures { IsRangeList (InUnion N.WIDTH self.now) result }
+    {
+        Ranges::of(self.iter())
+    }
+}
+
+impl<'a, N: CidrNetwork> Intersection<'a, N> {
+    /// The ranges of the blocks that are still to come. Does not allocate.
+    pub fn ranges(self) -> Ranges<N, Intersection<'a, N>>
+        ensures { IsRangeList (InUnion N.WIDTH self.entry) result }
+    {
+        Ranges::of(self)
+    }
+}
+
+impl<'a, N: CidrNetwork> Difference<'a, N> {
+    /// The ranges of the blocks that are still to come. Does not allocate.
+    pub fn ranges(self) -> Ranges<N, Difference<'a, N>>
+        ensures { IsRangeList (InUnion N.WIDTH self.entry) result }
+    {
+        Ranges::of(self)
+    }
+}
+
+impl<'a, N: CidrNetwork> Union<'a, N> {
+    /// The ranges of the blocks that are still to come. Does not allocate.
+    pub fn ranges(self) -> Ranges<N, Union<'a, N>>
+        ensures { IsRangeList (InUnion N.WIDTH self.entry) result }
+    {
+        Ranges::of(self)
+    }
+}

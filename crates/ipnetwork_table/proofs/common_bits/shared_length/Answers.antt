@@ -1,0 +1,17 @@
+use Rattle.std.proofs.Common.{arith, ◌-◌, ◌/◌, subst}
+use Rattle.ipnetwork_family.specs.Network.{Member, block_at}
+use Rattle.ipnetwork_table.proofs.Nearest.{share_less}
+use Rattle.ipnetwork_table.proofs.common_bits.shared_length.Goals as goal
+
+pub halves-preserved : goal.halves-preserved
+halves-preserved g c =
+    let w = g.N.CidrNetwork.WIDTH in
+    let x = g.N.CidrNetwork.number c.args.addr in
+    let y = g.N.CidrNetwork.number c.args.other in
+    let middle = c.halves.most - (c.halves.most - c.halves.least) / 2 in
+    let apart : ¬ (Member w (block_at w x middle) y) =
+    subst (λ n. ¬ (Member w n y)) c.in-Some.ensures.cases.1 (λ holds. let yes = c.if-contains.ensures.1 holds in cc) in
+    record {
+      within = omega (arith, c.halves.invariant.within);
+      shared = share_less w x y middle (omega (arith, c.halves-test.true)) apart;
+    }

@@ -1,0 +1,19 @@
+use Rattle.std.proofs.Common.{rules}
+use Rattle.ipnetwork_table.specs.Private.Nearest.{NoneUpTo}
+use Rattle.ipnetwork_table.proofs.Neighbours.{none_up_to, is_last_up_to}
+use Rattle.ipnetwork_table.proofs.ordered_keys.OrderedKeys.last_up_to.Goals as goal
+
+pub returns-in_err-last : goal.returns-in_err-last
+returns-in_err-last g c =
+    let none : NoneUpTo c.args.self.now (g.N.CidrNetwork.pair c.args.end) =
+    rw (← c.self.view_is)
+    (none_up_to g.N.CidrNetwork.pair g.N.Ord.cmp g.met.N.CidrNetwork.network_order c.self.inside.tree c.args.end
+    ((c.range.ensures.in_range tt).5 c.in_err-last.ensures.steps.0)) in
+    search rules
+
+pub returns : goal.returns
+returns g c = rw (← c.self.view_is)
+    (is_last_up_to g.N.CidrNetwork.pair g.N.Ord.cmp g.met.N.CidrNetwork.network_order c.self.inside.tree c.args.end c.in_ok-last.last.now tt
+    ((c.range.ensures.in_range tt).3 _ _ c.in_ok-last.ensures.steps).0
+    ((c.range.ensures.in_range tt).3 _ _ c.in_ok-last.ensures.steps).1
+    ((c.range.ensures.in_range tt).4 _ _ c.in_ok-last.ensures.steps))

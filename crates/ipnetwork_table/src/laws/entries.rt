@@ -1,0 +1,31 @@
+//! Laws of the entries: which keys a table has, what an insert and a removal change, and in which order they are
+//! listed.
+ghost use Rattle.ipnetwork_table.specs.Laws.{EmptyHasNoHostBits, InsertAddsNoHostBits, RemoveAddsNoHostBits, InsertSetsOne, RemoveTakesOne, ListedIsStored, StoredIsListed, EntriesAscend, WiderBlocksFirst};
+
+use ipnetwork_family::laws;
+
+/// No key of a table has host bits: none of the empty table has, and none gets any where the block of a network is
+/// inserted or a network is removed.
+pub fn keys_without_host_bits<V: Copy>()
+    ensures empty { EmptyHasNoHostBits V }
+    ensures insert { InsertAddsNoHostBits V }
+    ensures remove { RemoveAddsNoHostBits V }
+{
+    laws::blocks();
+}
+
+/// An insert changes the value of one network, and a removal takes one network out; every other network keeps what it
+/// has.
+pub fn one_key_changes<V: Copy>()
+    ensures insert { InsertSetsOne V }
+    ensures remove { RemoveTakesOne V }
+{}
+
+/// The entries of a table are its blocks with their values, in the order of networks, and no block lies in
+/// one that stands after it.
+pub fn listing<V: Copy>()
+    ensures stored { ListedIsStored V }
+    ensures listed { StoredIsListed V }
+    ensures ascending { EntriesAscend V }
+    ensures wider_first { WiderBlocksFirst V }
+{}

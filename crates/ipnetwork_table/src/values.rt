@@ -1,0 +1,88 @@
+//! The ordered map in which a table keeps its values.
+ghost use Rattle.std.specs.Prelude.{◌≡◌, ℕ, ◌+◌, ◌<◌, ◌^◌, OnOk, OnErr, IfOk, None};
+ghost use Rattle.std.specs.FinMap as map;
+ghost use Rattle.ipnetwork_table.specs.Table.{by_pair};
+
+use crate::entries::Entries;
+use ipnetwork_family::CidrNetwork;
+use std::alloc::{AllocError, Global};
+use std::collections::BTreeMap;
+use std::marker::Model;
+
+/// Values by network. A value can be looked up in one way alone, which counts itself.
+#[derive(Drop)]
+pub(crate) struct Values<N: CidrNetwork, V: Copy> {
+    tree: BTreeMap<N, V>,
+}
+
+// A contract sees the finite map from networks, as pairs of numbers, to values.
+impl<N: CidrNetwork, V: Copy> Model for Values<N, V> {
+    ghost use Rattle.std.specs.FinMap as map;
+    ghost use Rattle.ipnetwork_family.specs.Network.{network_cmp};
+    ghost use Rattle.ipnetwork_table.specs.Table.{network_code, by_pair};
+
+    ghost Value = { map.FinMap network_cmp V };
+
+    ghost coded = { map.code network_code V.code };
+
+    ghost view = { λ s. map.from_entries (by_pair N.pair s.tree.entries) };
+}
+
+impl<N: CidrNetwork, V: Copy> Values<N, V> {
+    pub(crate) fn new(alloc: Global) -> Self
+        ensures { result ≡ map.empty }
+    {
+        Values {
+            tree: BTreeMap::new(alloc),
+        }
+    }
+
+    pub(crate) fn len(&self) -> usize
+        ensures { result ≡ map.len self.now }
+    {
+        self.tree.len()
+    }
+
+    /// The value of one network, at the price of one step.
+    pub(crate) fn probe(&self, steps: &mut u32, key: N) -> Option<V>
+        requires { steps.old + 1 < 2 ^ 32 }
+        ensures found { result ≡ map.get self.now (N.pair key) }
+        ensures counted { steps.new ≡ steps.old + 1 }
+    {
+        *steps += 1;
+        self.tree.get(&key).copied()
+    }
+
+    /// Sets the value of a network and answers the one that it had. An error means out of memory, which
+    /// can happen to a new network alone.
+    pub(crate) fn insert(&mut self, key: N, value: V) -> Result<Option<V>, AllocError>
+        ensures old { IfOk result (λ old. old ≡ map.get self.old (N.pair key)) }
+        ensures set { OnOk result (self.new ≡ map.insert self.old (N.pair key) value) }
+        ensures absent { OnErr result (map.get self.old (N.pair key) ≡ None) }
+        ensures unchanged { OnErr result (self.new ≡ self.old) }
+    {
+        Ok(self.tree.insert(key, value)?)
+    }
+
+    /// Takes every network out and frees the memory.
+    pub(crate) fn clear(&mut self)
+        ensures { self.new ≡ map.empty }
+    {
+        self.tree.clear();
+    }
+
+    /// The networks and their values, in order.
+    pub(crate) fn entries(&self) -> Entries<'_, N, V>
+        ensures { by_pair N.pair result ≡ map.entries self.now }
+    {
+        Entries::new(self.tree.iter())
+    }
+
+    /// Takes a network out and answers the value that it had.
+    pub(crate) fn remove(&mut self, key: N) -> Option<V>
+        ensures old { result ≡ map.get self.old (N.pair key) }
+        ensures removed { self.new ≡ map.remove self.old (N.pair key) }
+    {
+        self.tree.remove(&key)
+    }
+}

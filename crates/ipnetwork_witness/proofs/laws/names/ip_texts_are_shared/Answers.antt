@@ -1,0 +1,23 @@
+use Rattle.std.proofs.Common.{ℕ, List}
+use Rattle.std.specs.declared.net.ip_addr.IpAddr as std
+use Rattle.std.specs.declared.net.ip_addr.IpAddr.TheVariants as std_family
+use Rattle.std.specs.Net.Grammar.{IsIpText}
+use Rattle.ipnetwork_addr.specs.declared.ip.IpAddr.{IpAddr}
+use Rattle.ipnetwork_addr.specs.declared.ip.IpAddr.TheVariants.{V4, V6}
+use Rattle.ipnetwork_addr.specs.Either.{NamesIp}
+use Rattle.ipnetwork_witness.specs.Agreement.{SameIp}
+use Rattle.ipnetwork_witness.proofs.laws.names.ip_texts_are_shared.Goals as goal
+
+pub returns-clause-ours : goal.returns-clause-ours
+returns-clause-ours c = go
+  where
+    go : (text : List ℕ) (ours : IpAddr) → NamesIp text ours → (theirs : std.IpAddr) × SameIp ours theirs × IsIpText text theirs
+    go text (V4 a) h = let (b, same, spelled) = c.v4_texts_are_shared.ensures.ours text a h in (std_family.V4 b, same, spelled)
+    go text (V6 a) h = let (b, same, spelled) = c.v6_texts_are_shared.ensures.ours text a h in (std_family.V6 b, same, spelled)
+
+pub returns-clause-theirs : goal.returns-clause-theirs
+returns-clause-theirs c = go
+  where
+    go : (text : List ℕ) (theirs : std.IpAddr) → IsIpText text theirs → (ours : IpAddr) × SameIp ours theirs × NamesIp text ours
+    go text (std_family.V4 b) h = let (a, same, named) = c.v4_texts_are_shared.ensures.theirs text b h in (V4 a, same, named)
+    go text (std_family.V6 b) h = let (a, same, named) = c.v6_texts_are_shared.ensures.theirs text b h in (V6 a, same, named)

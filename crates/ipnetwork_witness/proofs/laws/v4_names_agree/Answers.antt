@@ -1,5 +1,0 @@
-use Rattle.ipnetwork_witness.proofs.SameAddresses.{v4_texts}
-use Rattle.ipnetwork_witness.proofs.laws.v4_names_agree.Goals as goal
-
-pub returns : goal.returns
-returns c = v4_texts

@@ -1,5 +1,0 @@
-use Rattle.ipnetwork_witness.proofs.SameAddresses.{v6_texts}
-use Rattle.ipnetwork_witness.proofs.laws.v6_names_agree.Goals as goal
-
-pub returns : goal.returns
-returns c = v6_texts

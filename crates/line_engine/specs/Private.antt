@@ -1,0 +1,4 @@
+-- Words of the private functions, and of how contracts look into private fields.
+pub mod Device
+pub mod Line
+pub mod Progress

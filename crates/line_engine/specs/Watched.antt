@@ -1,0 +1,19 @@
+-- What a clause reads of a `Watched`.
+use Rattle.std.specs.Prelude.{ℕ, Bool, true, ◌&&◌, List, length, nat_lt, ◌==◌, Result, Ok, Err}
+use Rattle.line_engine.specs.declared.watched.Watched.{Watched}
+use Rattle.line_engine.specs.Private.Device.{inner_of, failed_of}
+
+-- the device under the watch
+abbrev pub device_of : {D : Type 0} → Watched D → D
+device_of watched = inner_of watched.device
+
+-- whether a call of the device failed
+abbrev pub has_failed : {D : Type 0} → Watched D → Bool
+has_failed watched = failed_of watched.device
+
+-- whether a write of these bytes failed
+abbrev pub write_fails : {E : Type 0} → Result ℕ E → List ℕ → Bool
+-- one that took none of some bytes did
+write_fails (Ok count) bytes = (count == 0) && nat_lt 0 (length bytes)
+-- one that answered an error did
+write_fails (Err error) bytes = true

@@ -1,0 +1,27 @@
+//! Why a run stops early.
+ghost use Rattle.std.specs.Prelude.{◌≡◌};
+ghost use Rattle.line_engine.specs.Faults.{run_fault_text};
+
+/// Why a run stops before it has answered its whole input.
+#[derive(Clone, Copy, Debug, PartialEq, Eq)]
+pub enum RunFault {
+    /// A read failed.
+    Read,
+    /// A write or the flush failed.
+    Write,
+    /// There are more bytes than the limit.
+    InputTooLong,
+}
+
+impl RunFault {
+    /// The fault in words, as a program may tell it. Does not allocate.
+    pub fn text(self) -> &'static str
+        ensures { result.now ≡ run_fault_text self }
+    {
+        match self {
+            RunFault::Read => "read error",
+            RunFault::Write => "write error",
+            RunFault::InputTooLong => "input too long",
+        }
+    }
+}

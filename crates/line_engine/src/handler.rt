@@ -1,0 +1,35 @@
+//! What answers lines.
+ghost use Rattle.std.specs.Prelude.{ℕ, List, Option, None, Some, ◌≤◌, length};
+ghost use Rattle.line_engine.specs.Buffers.{HasRoom, Adds};
+
+use crate::buffer::Buffer;
+
+/// Answers lines, one after the other, and may keep what they told it.
+///
+/// A reply is bytes, none or some, with the line feeds that are to be in them: nothing else is written for a line.
+pub trait LineHandler {
+    ghost LINE_MAX: { ℕ };
+
+    ghost REPLY_MAX: { ℕ };
+
+    /// The most bytes of a line, its end not counted. A longer one is too long.
+    const LINE_MAX: usize;
+
+    /// The most bytes of a reply.
+    const REPLY_MAX: usize;
+
+    // What may be: over the state before, a line gets these bytes and leaves the state after. Where the line is too
+    // long there is none.
+    ghost may_get: { Self → Option (List ℕ) → List ℕ → Self → Type 0 };
+
+    /// Adds the reply to a line, which is given without its end.
+    fn answer(&mut self, line: &[u8], replies: &mut Buffer<'_>)
+        requires short { length line.now ≤ LINE_MAX }
+        requires room { HasRoom replies.old REPLY_MAX }
+        ensures { (bytes : List ℕ) × may_get self.old (Some line.now) bytes self.new × Adds replies.old replies.new bytes };
+
+    /// Adds the reply to a line that is too long.
+    fn answer_too_long(&mut self, replies: &mut Buffer<'_>)
+        requires room { HasRoom replies.old REPLY_MAX }
+        ensures { (bytes : List ℕ) × may_get self.old None bytes self.new × Adds replies.old replies.new bytes };
+}

@@ -1,0 +1,88 @@
+//! A device that remembers whether a call of it failed.
+ghost use Rattle.std.specs.Prelude.{◌≡◌, ◌||◌, false, is_err};
+ghost use Rattle.std.specs.Io.{ReadsAtMost, WritesAtMost};
+ghost use Rattle.std.specs.Io.KnownBytes.{Keeps, ReadConsumes, WriteAppends};
+
+pub(crate) mod device;
+
+use crate::watched::device::Device;
+use std::io;
+use std::io::{Read, Write};
+
+/// A reader or a writer, and whether a call of it through this has failed.
+///
+/// A read, a write or a flush fails where it answers an error, of whatever kind. A write also fails where it takes no
+/// byte of some. Once a call has failed, `failed` stays true, and the device can still be asked.
+#[derive(Drop)]
+pub struct Watched<D> {
+    pub(crate) device: Device<D>,
+}
+
+impl<D> Watched<D> {
+    ghost use Rattle.line_engine.specs.Watched.{device_of, has_failed};
+
+    /// Takes a device, no call of which has failed yet. Does not allocate.
+    pub fn new(device: D) -> Watched<D>
+        ensures device { device_of result ≡ device }
+        ensures failed { has_failed result ≡ false }
+    {
+        Watched {
+            device: Device::new(device),
+        }
+    }
+
+    /// Whether a call of the device failed.
+    pub fn failed(&self) -> bool
+        ensures { result ≡ has_failed self.now }
+    {
+        self.device.failed()
+    }
+
+    /// Gives the device back.
+    pub fn into_inner(self) -> D
+        ensures { result ≡ device_of self }
+    {
+        self.device.into_inner()
+    }
+}
+
+impl<D: Read> Watched<D> {
+    ghost use Rattle.line_engine.specs.Watched.{device_of, has_failed};
+
+    /// Asks the device for bytes, once, and returns its answer.
+    ///
+    /// Answers how many bytes it put at the front of `buf`, and 0 only at the end of the input or where `buf` is
+    /// empty. The error is the device's. Does not allocate, unless the device does.
+    pub fn read(&mut self, buf: &mut [u8]) -> io::Result<usize>
+        ensures bound { ReadsAtMost result buf.new }
+        ensures bytes { ReadConsumes (D.remaining (device_of self.old)) (D.remaining (device_of self.new)) result buf.new }
+        ensures failed { has_failed self.new ≡ (has_failed self.old || is_err result) }
+    {
+        self.device.try_read(buf)
+    }
+}
+
+impl<D: Write> Watched<D> {
+    ghost use Rattle.line_engine.specs.Watched.{device_of, has_failed, write_fails};
+
+    /// Offers the device these bytes, once, and returns its answer.
+    ///
+    /// Answers how many of the first bytes the device took. The error is the device's. Does not allocate, unless the
+    /// device does.
+    pub fn write(&mut self, buf: &[u8]) -> io::Result<usize>
+        ensures bound { WritesAtMost result buf.now }
+        ensures bytes { WriteAppends (D.contents (device_of self.old)) (D.contents (device_of self.new)) result buf.now }
+        ensures failed { has_failed self.new ≡ (has_failed self.old || write_fails result buf.now) }
+    {
+        self.device.try_write(buf)
+    }
+
+    /// Asks the device to pass on what it took, once, and returns its answer. The error is the device's. Does not
+    /// allocate, unless the device does.
+    pub fn flush(&mut self) -> io::Result<()>
+        ensures bytes { Keeps (D.contents (device_of self.old)) (D.contents (device_of self.new)) }
+        ensures failed { has_failed self.new ≡ (has_failed self.old || is_err result) }
+    {
+        self.device.try_flush()
+    }
+}

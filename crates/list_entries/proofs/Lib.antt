@@ -1,0 +1,4 @@
+mod Parts
+mod PlainTexts
+mod Readings
+mod Trims

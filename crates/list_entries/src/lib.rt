@@ -1,0 +1,13 @@
+//! The entries of lists of networks: what one line of such a list means.
+//!
+//! A line holds a network, a range of addresses, or nothing. A comment begins with `#` or `;`. Nothing here allocates.
+#![tactic(auto)]
+
+mod comment;
+mod entry;
+pub mod laws;
+mod range;
+#[cfg(test)]
+mod tests;
+
+pub use entry::{Entry, EntryFault, read_entry};

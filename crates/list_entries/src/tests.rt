@@ -1,0 +1,2 @@
+//! Lines of lists, as tables.
+mod lines;
