@@ -38,7 +38,7 @@ begins_dashed (byte ∷ bytes) = nat_lt 0 (length bytes) && byte == 45
 abbrev pub is_dashed : {Z : Type 0} → String Z → Bool
 is_dashed word = begins_dashed (string_bytes word)
 
--- behind the operation stand its options: the words before the first that is `-` or begins with none
+-- after the operation stand its options: the words before the first that is `-` or begins with none
 abbrev pub options_of : {Z : Type 0} → List (String Z) → List (String Z)
 options_of words = take (prefix_len is_dashed (drop 1 words)) (drop 1 words)
 
@@ -46,7 +46,7 @@ options_of words = take (prefix_len is_dashed (drop 1 words)) (drop 1 words)
 abbrev pub lists_of : {Z : Type 0} → List (String Z) → List (String Z)
 lists_of words = drop (prefix_len is_dashed (drop 1 words)) (drop 1 words)
 
--- those before the first `--`, and those behind it
+-- those before the first `--`, and those after it
 abbrev pub before_dashes : {Z : Type 0} → List (String Z) → List (String Z)
 before_dashes lists = take (position_or_len (is (codes "--")) lists) lists
 
@@ -68,7 +68,7 @@ is_name word = not (length (string_bytes word) == 0) && (not (is_dashed word) ||
 abbrev pub are_lists : {Z : Type 0} → List (String Z) → Bool
 are_lists lists = list_all is_name lists && nat_le (count (codes "-") lists) 1 && nat_le (count (codes "--") lists) 1
 
--- the union wants a list and no `--`, each other operation a list before a `--` and one behind it
+-- the union wants a list and no `--`, each other operation a list before a `--` and one after it
 abbrev pub are_two_sides : {Z : Type 0} → List (String Z) → Bool
 are_two_sides lists = nat_lt 0 (length (before_dashes lists)) && nat_lt 0 (length (behind_dashes lists))
 
@@ -82,7 +82,7 @@ are_sides Differ lists = are_two_sides lists
 abbrev pub form_of : {Z : Type 0} → List (String Z) → Form
 form_of options = if has (codes "--ranges") options then Ranges else if has (codes "--count") options then Counts else Blocks
 
--- the words behind the first, which names the operation, are options of it and its lists
+-- the words after the first, which names the operation, are options of it and its lists
 abbrev pub AreFor : {Z : Type 0} → List (String Z) → Operation → Type 0
 AreFor [] operation = ⊥
 AreFor (name ∷ others) operation = (operation_named name ≡ Some operation) × (are_options (options_of (name ∷ others)) ≡ true)

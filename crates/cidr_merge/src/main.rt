@@ -7,7 +7,6 @@ mod counts;
 mod help;
 mod lists;
 mod output;
-mod pipe;
 mod printing;
 mod range_sides;
 mod range_sweep;
@@ -19,14 +18,13 @@ mod system;
 mod telling;
 
 use crate::arguments::{ArgumentsFault, arguments};
-use crate::pipe::pipe_of;
 use crate::run::{refuse_arguments, run};
 use crate::system::System;
 use std::process::ExitCode;
 
 fn main(rt: HostRuntime) -> ExitCode {
-    let mut output = pipe_of(&rt.stdout());
-    let mut errors = pipe_of(&rt.stderr());
+    let mut output = rt.stdout();
+    let mut errors = rt.stderr();
     let status = match arguments(&rt) {
         Ok(words) => {
             let system = System::new(&rt);
