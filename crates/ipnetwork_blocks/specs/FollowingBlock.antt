@@ -1,4 +1,4 @@
--- The block behind a block.
+-- The block after a block.
 use Rattle.std.specs.Prelude.{ℕ, ◌+◌}
 use Rattle.ipnetwork_family.specs.Network.{Network, high}
 

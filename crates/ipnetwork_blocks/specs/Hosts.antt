@@ -15,7 +15,7 @@ pub record AreIpv6Hosts (n : Network) (hosts : List ℕ) : Type 0 where
   pub inner : n.prefix ≤ 126 → members 128 n ≡ low 128 n ∷ hosts
   pub whole : 127 ≤ n.prefix → members 128 n ≡ hosts
 
--- the list is ascending and has the numbers with the property alone
+-- the list is ascending and has only the numbers with the property
 pub record ListsThose (Is : ℕ → Type 0) (hosts : List ℕ) : Type 0 where
   pub ascending : IsStrictlyIncreasing hosts
   pub exactly : (x : ℕ) → Contains hosts x ↔ Is x

@@ -6,7 +6,7 @@ use Rattle.ipnetwork_blocks.specs.Supernets.{IsAround, IsSibling}
 use Rattle.ipnetwork_blocks.specs.Subnets.{subnets_of}
 
 -- the list has the blocks of prefix length p within the network and no others, each ends before the next begins, and
--- together they have its addresses; there are 2 ^ (p - n.prefix), and each begins one block's size behind the one
+-- together they have its addresses; there are 2 ^ (p - n.prefix), and each begins one block's size after the one
 -- before
 pub record ListsSubnets (w : ℕ) (n : Network) (p : ℕ) : Type 0 where
   pub exactly : (b : Network) → Contains (subnets_of w n p) b ↔ (IsCidrBlock w b × (b.prefix ≡ p) × Subnet w b n)

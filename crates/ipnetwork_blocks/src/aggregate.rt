@@ -15,6 +15,12 @@ use ipnetwork_family::CidrNetwork;
 /// same union is shorter (`laws::least`). The rest of the slice holds unspecified networks.
 ///
 /// Sorts the slice and goes over it once. Does not allocate.
+///
+/// ```
+/// let mut networks: [Ipv4Network; 2] = ["10.0.0.128/25".parse()?, "10.0.0.0/25".parse()?];
+/// assert_eq!(rt; aggregate_in_place(&mut networks), 1);
+/// assert_eq!(rt; networks[0].canonical().as_str(), "10.0.0.0/24");
+/// ```
 pub fn aggregate_in_place<N: CidrNetwork>(networks: &mut [N]) -> usize
     ensures within { result ≤ length networks.old }
     ensures aggregate { IsAggregate N.WIDTH (map N.pair networks.old) (map N.pair (take result networks.new)) }
@@ -24,6 +30,12 @@ pub fn aggregate_in_place<N: CidrNetwork>(networks: &mut [N]) -> usize
 
 /// Puts the aggregate of the networks in their place: what `aggregate_in_place` puts in front, and nothing
 /// behind it. Does not allocate, and frees no memory.
+///
+/// ```
+/// let mut networks = vec![in rt.alloc(); "10.128.0.0/9".parse::<Ipv4Network>()?, "10.0.0.0/9".parse()?]?;
+/// aggregate_vec(&mut networks);
+/// assert_eq!(rt; networks.as_slice(), ["10.0.0.0/8".parse()?].as_slice());
+/// ```
 pub fn aggregate_vec<N: CidrNetwork>(networks: &mut Vec<N>)
     ensures { IsAggregate N.WIDTH (map N.pair networks.old.items) (map N.pair networks.new.items) }
 {

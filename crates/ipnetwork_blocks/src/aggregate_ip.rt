@@ -13,6 +13,12 @@ use ipnetwork::{IpNetwork, Ipv4Network, Ipv6Network};
 /// unspecified networks.
 ///
 /// Sorts each family and goes over it once. Does not allocate.
+///
+/// ```
+/// let mut networks: [IpNetwork; 3] = ["2001:db8::/32".parse()?, "10.128.0.0/9".parse()?, "10.0.0.0/9".parse()?];
+/// assert_eq!(rt; aggregate_ip_in_place(&mut networks), 2);
+/// assert_eq!(rt; &networks[..2], ["10.0.0.0/8".parse()?, "2001:db8::/32".parse()?].as_slice());
+/// ```
 pub fn aggregate_ip_in_place(networks: &mut [IpNetwork]) -> usize
     ensures within { result ≤ length networks.old }
     ensures aggregate { IsIpAggregate networks.old (take result networks.new) }
@@ -27,6 +33,12 @@ pub fn aggregate_ip_in_place(networks: &mut [IpNetwork]) -> usize
 
 /// Puts the aggregate of the IPv4 networks, and behind it that of the IPv6 networks, in the place of the networks:
 /// what `aggregate_ip_in_place` puts in front, and nothing behind it. Does not allocate, and frees no memory.
+///
+/// ```
+/// let mut networks = vec![in rt.alloc(); "2001:db8::/32".parse::<IpNetwork>()?, "10.0.0.0/8".parse()?]?;
+/// aggregate_ip_vec(&mut networks);
+/// assert_eq!(rt; networks.as_slice(), ["10.0.0.0/8".parse()?, "2001:db8::/32".parse()?].as_slice());
+/// ```
 pub fn aggregate_ip_vec(networks: &mut Vec<IpNetwork>)
     ensures { IsIpAggregate networks.old.items networks.new.items }
 {

@@ -6,14 +6,19 @@ ghost use Rattle.ipnetwork_blocks.specs.LeastList.{IsLeastList};
 ghost use Rattle.ipnetwork_blocks.specs.Exclusion.{InDifference};
 ghost use Rattle.ipnetwork_blocks.specs.Private.Sides.{Before, Behind};
 
-use crate::following_block::following;
-use crate::preceding_address::address_before;
+use crate::address_space::AddressSpace;
 use crate::range_blocks::RangeBlocks;
 use ipnetwork_family::CidrNetwork;
 use std::alloc::AllocError;
 use std::marker::Model;
 
 /// The blocks of what one network has and another has not that are still to come, in ascending order.
+///
+/// ```
+/// let network: Ipv4Network = "192.0.2.0/24".parse()?;
+/// let blocks: Exclusion<Ipv4Network> = exclude(network, "192.0.2.128/26".parse()?);
+/// assert!(rt; blocks.eq(["192.0.2.0/25".parse()?, "192.0.2.192/26".parse()?]));
+/// ```
 #[derive(Drop)]
 #[derive_where(Debug; N, N::Addr)]
 pub struct Exclusion<N: CidrNetwork> {
@@ -37,7 +42,14 @@ impl<N: CidrNetwork> Model for Exclusion<N> {
 /// Where `inner` has all addresses of `network` there is no block, and where it has none of them the only one is
 /// the block of `network`. Else `inner` lies within the network, and there is one block for each bit by which its
 /// prefix length is greater. Does not allocate, nor does the iterator.
-pub fn exclude<N: CidrNetwork>(network: N, inner: N) -> Exclusion<N>
+///
+/// ```
+/// let network: Ipv4Network = "10.0.0.0/30".parse()?;
+/// let mut blocks = exclude(network, "10.0.0.1/32".parse()?);
+/// assert_eq!(rt; blocks.next(), Some("10.0.0.0/32".parse()?));
+/// assert_eq!(rt; blocks.next(), Some("10.0.0.2/31".parse()?));
+/// ```
+pub fn exclude<N: AddressSpace>(network: N, inner: N) -> Exclusion<N>
     ensures blocks { IsLeastList N.WIDTH (InDifference N.WIDTH (N.pair network) (N.pair inner)) result }
     ensures none { Subnet N.WIDTH (N.pair network) (N.pair inner) → result ≡ [] }
     ensures all { ¬ (Overlap N.WIDTH (N.pair network) (N.pair inner))
@@ -63,21 +75,21 @@ pub fn exclude<N: CidrNetwork>(network: N, inner: N) -> Exclusion<N>
 }
 
 // The blocks of the addresses from `first` to the last one before the network.
-fn blocks_before<N: CidrNetwork>(first: N::Addr, network: N) -> RangeBlocks<N>
+fn blocks_before<N: AddressSpace>(first: N::Addr, network: N) -> RangeBlocks<N>
     ensures { IsLeastList N.WIDTH (Before N.WIDTH (N.number first) (N.pair network)) result }
 {
-    match address_before(network) {
+    match N::previous_address(network.network()) {
         Some(last) => RangeBlocks::between_or_none(first, last),
         None => RangeBlocks::none(first),
     }
 }
 
 // The blocks of the addresses from the first one behind the network to `last`.
-fn blocks_behind<N: CidrNetwork>(network: N, last: N::Addr) -> RangeBlocks<N>
+fn blocks_behind<N: AddressSpace>(network: N, last: N::Addr) -> RangeBlocks<N>
     ensures { IsLeastList N.WIDTH (Behind N.WIDTH (N.pair network) (N.number last)) result }
 {
-    match following(network) {
-        Some(next) => RangeBlocks::between_or_none(next.network(), last),
+    match N::next_address(network.broadcast()) {
+        Some(next) => RangeBlocks::between_or_none(next, last),
         None => RangeBlocks::none(last),
     }
 }

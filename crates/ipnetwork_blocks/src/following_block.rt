@@ -10,6 +10,11 @@ use ipnetwork_family::CidrNetwork;
 ///
 /// Climbs to the first block that goes on behind the network: one step for each of the ones that the fixed bits
 /// end with, and one more.
+///
+/// ```
+/// let network: Ipv4Network = "192.0.2.128/25".parse()?;
+/// assert_eq!(rt; following(network), Some("192.0.3.0/25".parse()?));
+/// ```
 pub fn following<N: CidrNetwork>(network: N) -> Option<N>
     ensures { MatchOption result (high N.WIDTH (N.pair network) + 1 ≡ 2 ^ N.WIDTH)
         (λ n. (high N.WIDTH (N.pair network) + 1 < 2 ^ N.WIDTH)

@@ -10,6 +10,12 @@ use std::alloc::AllocError;
 use std::marker::Model;
 
 /// The hosts of an IPv4 network that are still to come, in ascending order.
+///
+/// ```
+/// let mut hosts: Ipv4HostIterator = ipv4_hosts("192.0.2.0/24".parse()?);
+/// assert_eq!(rt; hosts.next(), Some(Ipv4Addr::new(192, 0, 2, 1)));
+/// assert_eq!(rt; hosts.count(), 253);
+/// ```
 #[derive(Debug, Drop)]
 pub struct Ipv4HostIterator {
     last: u32,
@@ -31,6 +37,11 @@ impl Model for Ipv4HostIterator {
 /// The addresses of an IPv4 network that hosts may have, each once, in ascending order: up to prefix length 30
 /// the members less the first and the last, whose host bits are all zeros and all ones (RFC 1122, section
 /// 3.2.1.3); at 31 both members (RFC 3021), and at 32 the one. Does not allocate.
+///
+/// ```
+/// let mut hosts = ipv4_hosts("10.0.0.4/30".parse()?);
+/// assert_eq!(rt; hosts.next(), Some(Ipv4Addr::new(10, 0, 0, 5)));
+/// ```
 pub fn ipv4_hosts(network: Ipv4Network) -> Ipv4HostIterator
     ensures { AreIpv4Hosts network result }
 {
@@ -51,6 +62,11 @@ pub fn ipv4_hosts(network: Ipv4Network) -> Ipv4HostIterator
 /// The addresses of an IPv6 network that hosts may have, each once, in ascending order: up to prefix length 126
 /// the members less the first, the anycast address of its routers (RFC 4291, section 2.6.1); at 127 both members
 /// (RFC 6164), and at 128 the one. Does not allocate.
+///
+/// ```
+/// let mut hosts = ipv6_hosts("2001:db8::/64".parse()?);
+/// assert_eq!(rt; hosts.next(), Some("2001:db8::1".parse()?));
+/// ```
 pub fn ipv6_hosts(network: Ipv6Network) -> Ipv6NetworkIterator
     ensures { AreIpv6Hosts network result }
 {

@@ -4,6 +4,7 @@
 //! Nothing here allocates.
 #![tactic(auto)]
 
+mod address_space;
 mod aggregate;
 mod aggregate_ip;
 mod exclusions;
@@ -18,6 +19,7 @@ mod supernets;
 #[cfg(test)]
 mod tests;
 
+pub use address_space::AddressSpace;
 pub use aggregate::{aggregate_in_place, aggregate_vec};
 pub use aggregate_ip::{aggregate_ip_in_place, aggregate_ip_vec};
 pub use exclusions::{Exclusion, exclude};

@@ -11,6 +11,13 @@ use std::alloc::AllocError;
 use std::marker::Model;
 
 /// The blocks of a range of addresses that are still to come, in ascending order.
+///
+/// ```
+/// let (first, last) = (Ipv4Addr::new(192, 0, 2, 1), Ipv4Addr::new(192, 0, 2, 4));
+/// let mut blocks: RangeBlocks<Ipv4Network> = range_to_blocks(first, last).unwrap();
+/// assert_eq!(rt; blocks.next(), Some("192.0.2.1/32".parse()?));
+/// assert_eq!(rt; blocks.next(), Some("192.0.2.2/31".parse()?));
+/// ```
 #[derive(Debug, Drop)]
 pub struct RangeBlocks<N: CidrNetwork> {
     next: N::Addr,
@@ -36,6 +43,13 @@ impl<N: CidrNetwork> Model for RangeBlocks<N> {
 ///
 /// For addresses of W bits there are at most 2 W - 2 blocks: 62 for IPv4 and 254 for IPv6. The whole address
 /// space is one block, of prefix length 0. Does not allocate, nor does the iterator.
+///
+/// ```
+/// let (first, last) = ("2001:db8::".parse()?, "2001:db8::1:ffff".parse()?);
+/// let blocks = range_to_blocks::<Ipv6Network>(first, last).unwrap();
+/// assert!(rt; blocks.eq(["2001:db8::/111".parse()?]));
+/// assert!(rt; range_to_blocks::<Ipv6Network>(last, first).is_none());
+/// ```
 pub fn range_to_blocks<N: CidrNetwork>(first: N::Addr, last: N::Addr) -> Option<RangeBlocks<N>>
     ensures blocks { MatchOption result (N.number last < N.number first)
         (λ blocks. (N.number first ≤ N.number last)

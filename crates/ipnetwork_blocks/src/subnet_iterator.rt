@@ -9,6 +9,13 @@ use std::alloc::AllocError;
 use std::marker::Model;
 
 /// The blocks of a network that are still to come, in ascending order.
+///
+/// ```
+/// let mut blocks: SubnetIterator<Ipv4Network> = subnets("10.0.0.0/23".parse()?, 24).unwrap();
+/// assert_eq!(rt; blocks.next(), Some("10.0.0.0/24".parse()?));
+/// assert_eq!(rt; blocks.next(), Some("10.0.1.0/24".parse()?));
+/// assert_eq!(rt; blocks.next(), None);
+/// ```
 #[derive(Debug, Drop)]
 pub struct SubnetIterator<N: CidrNetwork> {
     next: Option<N>,
@@ -31,6 +38,12 @@ impl<N: CidrNetwork> Model for SubnetIterator<N> {
 /// The blocks of this prefix length within the network, each once, in ascending order: 2^(`prefix` - n) of them,
 /// where n is the network's own prefix length. At that prefix length it is the network's block alone. `None` for a
 /// prefix length that is shorter than the network's or greater than `WIDTH`. Does not allocate.
+///
+/// ```
+/// let network: Ipv4Network = "10.0.0.0/8".parse()?;
+/// assert_eq!(rt; subnets(network, 16).unwrap().count(), 256);
+/// assert!(rt; subnets(network, 7).is_none());
+/// ```
 pub fn subnets<N: CidrNetwork>(network: N, prefix: u8) -> Option<SubnetIterator<N>>
     ensures { MatchOption result ((prefix < (N.pair network).prefix) ⊎ (N.WIDTH < prefix))
         (λ left. ((N.pair network).prefix ≤ prefix) × (prefix ≤ N.WIDTH)

@@ -6,6 +6,11 @@ ghost use Rattle.ipnetwork_blocks.specs.Supernets.{IsAround, IsSibling};
 use ipnetwork_family::CidrNetwork;
 
 /// The network without host bits that has the same members and the same prefix length. Does not allocate.
+///
+/// ```
+/// let network: Ipv4Network = "192.0.2.129/25".parse()?;
+/// assert_eq!(rt; block(network).canonical().as_str(), "192.0.2.128/25");
+/// ```
 pub fn block<N: CidrNetwork>(network: N) -> N
     ensures made { N.pair result ≡ block_of N.WIDTH (N.pair network) }
     ensures no_host_bits { HostBitsAreZero N.WIDTH (N.pair result) }
@@ -19,6 +24,12 @@ pub fn block<N: CidrNetwork>(network: N) -> N
 
 /// The block of this prefix length around the network: it has no host bits, and holds each member. At the
 /// network's own prefix length that is its `block`; `None` where the prefix length is longer. Does not allocate.
+///
+/// ```
+/// let network: Ipv4Network = "192.0.2.129/25".parse()?;
+/// assert_eq!(rt; supernet(network, 24), Some("192.0.2.0/24".parse()?));
+/// assert_eq!(rt; supernet(network, 26), None);
+/// ```
 pub fn supernet<N: CidrNetwork>(network: N, prefix: u8) -> Option<N>
     ensures { MatchOption result ((N.pair network).prefix < prefix)
         (λ wide. (prefix ≤ (N.pair network).prefix) × IsAround N.WIDTH (N.pair network) prefix (N.pair wide)) }
@@ -31,6 +42,11 @@ pub fn supernet<N: CidrNetwork>(network: N, prefix: u8) -> Option<N>
 
 /// The other half of the block that is one bit shorter: it has no host bits and the same prefix length. `None`
 /// at prefix length 0, where there is no wider block. Does not allocate.
+///
+/// ```
+/// let network: Ipv4Network = "192.0.2.128/25".parse()?;
+/// assert_eq!(rt; sibling(network), Some("192.0.2.0/25".parse()?));
+/// ```
 pub fn sibling<N: CidrNetwork>(network: N) -> Option<N>
     ensures { MatchOption result ((N.pair network).prefix ≡ 0)
         (λ other. (0 < (N.pair network).prefix) × IsSibling N.WIDTH (N.pair network) (N.pair other)) }

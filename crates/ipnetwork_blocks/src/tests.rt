@@ -1,6 +1,7 @@
 //! Rows over the public calls.
 ghost use Rattle.std.specs.Iterator.{IsFinite};
 
+mod address_steps;
 mod aggregate;
 mod exclusions;
 mod host_rows;

@@ -22,7 +22,7 @@ use Rattle.ipnetwork_sets.proofs.Steps.{tail_is_set, union_cons, union_nil, unio
 abbrev Range : Type 0
 Range = ℕ × ℕ
 
-ranges_cons : (r : Range) (rs : List Range) (x : ℕ) → InRanges (r ∷ rs) x ↔ (FromTo r.0 r.1 x ⊎ InRanges rs x)
+pub ranges_cons : (r : Range) (rs : List Range) (x : ℕ) → InRanges (r ∷ rs) x ↔ (FromTo r.0 r.1 x ⊎ InRanges rs x)
 ranges_cons r rs x = (
   (λ c. ⊎_elim
       (λ (e : r ≡ c.0). inl (subst (λ (s : Range). FromTo s.0 s.1 x) (sym e) c.2))
@@ -33,7 +33,7 @@ ranges_cons r rs x = (
       (λ (c : InRanges rs x). (c.0, contains_tail r rs c.0 c.1, c.2)) o),
 )
 
-ranges_nil : (x : ℕ) → InRanges [] x → ⊥
+pub ranges_nil : (x : ℕ) → InRanges [] x → ⊥
 ranges_nil x c = contains_nil c.0 c.1
 
 all_head : {X : Type 0} (P : X → Type 0) (x : X) (xs : List X) → All P (x ∷ xs) → P x

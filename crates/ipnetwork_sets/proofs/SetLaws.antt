@@ -183,7 +183,7 @@ disjoint_answer w a b r after pair (Some x) false h m e = ((λ t. absurd (true�
 
 -- ---- the blocks of an iterator are those of a set
 
-least_is_set : (w : ℕ) (S : ℕ → Type 0) (r : List Network) → IsLeastList w S r → IsShortest w S r → IsAddressSet w r
+pub least_is_set : (w : ℕ) (S : ℕ → Type 0) (r : List Network) → IsLeastList w S r → IsShortest w S r → IsAddressSet w r
 least_is_set w S r h k = least_of_same w S (InUnion w r) r (λ x. ((k.addresses x).1, (k.addresses x).0)) h
 
 pub common_is_set : (w : ℕ) (a b : List Network) → IsAddressSet w (common_blocks w a b)
@@ -198,14 +198,3 @@ left_is_set w at_hand rest cut =
     (is_shortest w (InLeft w at_hand rest cut) (left_blocks w at_hand rest cut)
     (λ x. left_or_not w at_hand rest cut x) (λ x s. left_fits w at_hand rest cut x s)
     (left_is_least w at_hand rest cut))
-
--- ---- blocks that are collected
-
-pub collect_more : {X : Type 0} (pair : X → Network) (items more : List X) (block : X) (left after all : List Network) → map pair items ++ left ≡ all → left ≡ pair block ∷ after
-    → more ≡ items ++ block ∷ [] → map pair more ++ after ≡ all
-collect_more pair items more block left after all h e f =
-    ap (λ t. map pair t ++ after) f ∙ ap (λ t. t ++ after) (map-append pair items (block ∷ [])) ∙ append_assoc (map pair items) (pair block ∷ []) after
-    ∙ ap (λ t. map pair items ++ t) (sym e) ∙ h
-
-pub collected : {X : Type 0} (pair : X → Network) (items : List X) (left all : List Network) → map pair items ++ left ≡ all → left ≡ [] → map pair items ≡ all
-collected pair items left all h e = sym (append-nil (map pair items)) ∙ ap (λ t. map pair items ++ t) (sym e) ∙ h

@@ -14,15 +14,15 @@ use Rattle.ipnetwork_blocks.specs.Aggregate.{InUnion}
 use Rattle.ipnetwork_blocks.specs.AggregateLaws.{AggregateIsApart}
 use Rattle.ipnetwork_blocks.specs.Private.Joining.{IsBlockNetwork}
 use Rattle.ipnetwork_blocks.proofs.LeastLists.{own_address, contains_nil, contains_head, pairs_append}
-use Rattle.ipnetwork_sets.specs.Counts.{HasCount}
+use Rattle.ipnetwork_sets.specs.Counts.{HasCount, total}
 use Rattle.ipnetwork_sets.specs.Sets.{IsAddressSet}
-use Rattle.ipnetwork_sets.specs.Private.Totals.{total, capped}
+use Rattle.ipnetwork_sets.specs.Private.Totals.{capped}
 use Rattle.ipnetwork_sets.proofs.Lists.{set_block}
 use Rattle.ipnetwork_sets.proofs.Steps.{tail_is_set, union_cons, union_nil, union_behind}
 
 -- ---- sums that are kept to a greatest number
 
-kept_sum : (a b m : ℕ) → min (min a m + b) m ≡ min (a + b) m
+pub kept_sum : (a b m : ℕ) → min (min a m + b) m ≡ min (a + b) m
 kept_sum a b m =
     ⊎_elim
     (λ (l : a < m). let le : a ≤ m = omega arith in ap (λ k. min (k + b) m) (min-eq_left le))
@@ -32,7 +32,7 @@ kept_sum a b m =
     ap (λ k. min (k + b) m) (min-eq_right l) ∙ min-eq_right over ∙ sym (min-eq_right more))
     (cases_lt a m)
 
-total_push : (w : ℕ) (ns : List Network) (n : Network) → total w (ns ++ n ∷ []) ≡ total w ns + block_size w n.prefix
+pub total_push : (w : ℕ) (ns : List Network) (n : Network) → total w (ns ++ n ∷ []) ≡ total w ns + block_size w n.prefix
 total_push w [] n = let e : block_size w n.prefix + 0 ≡ 0 + block_size w n.prefix = omega arith in e
 total_push w (m ∷ ns) n =
     let e : total w (ns ++ n ∷ []) ≡ total w ns + block_size w n.prefix = total_push w ns n in
@@ -59,7 +59,7 @@ total_fits w (b ∷ bs) from apart h all fits =
     (λ x c. let l = union_behind w b bs apart h x c in omega (arith, l, block, pos)) (omega (arith, top, block)) in
     omega (arith, rest, own)
 
-counted : (w : ℕ) (bs : List Network) → AggregateIsApart → IsAddressSet w bs → HasCount (InUnion w bs) (total w bs)
+pub counted : (w : ℕ) (bs : List Network) → AggregateIsApart → IsAddressSet w bs → HasCount (InUnion w bs) (total w bs)
 counted w [] apart h = record {
   addresses = [];
   ascending = λ i j d l m. absurd (omega arith);
@@ -91,6 +91,10 @@ counted w (b ∷ bs) apart h =
           let sum : length (members w b ++ rest.addresses) ≡ length (members w b) + length rest.addresses = length-append (members w b) rest.addresses in
           omega (arith, sum, length-count_up (low w b) (block_size w b.prefix), rest.count);
     }
+
+-- it is at most the number of all addresses
+pub total_is_within : (w : ℕ) (bs : List Network) → AggregateIsApart → IsAddressSet w bs → total w bs ≤ 2 ^ w
+total_is_within w bs apart h = let fits = total_fits w bs 0 apart h (λ x c. omega arith) (omega arith) in omega (arith, fits)
 
 -- the count of a set, where the addresses have at most 128 bits
 pub has_count : (w : ℕ) (bs : List Network) (count : ℕ) → AggregateIsApart → IsAddressSet w bs → count ≡ capped (total w bs) → w ≤ 128 → HasCount (InUnion w bs) count

@@ -1,6 +1,7 @@
 -- How many addresses there are in a set.
-use Rattle.std.specs.Prelude.{◌≡◌, ℕ, ◌^◌, ◌<◌, ◌≤◌, ◌↔◌, List, length, Result, MatchResult}
+use Rattle.std.specs.Prelude.{◌≡◌, ℕ, ◌+◌, ◌^◌, ◌<◌, ◌≤◌, ◌↔◌, List, [], ◌∷◌, length, Result, MatchResult}
 use Rattle.std.specs.List.{AllPairs, Contains}
+use Rattle.ipnetwork_family.specs.Network.{Network, block_size}
 use Rattle.ipnetwork_family.specs.declared.error.NetworkSizeError.{NetworkSizeError}
 use Rattle.ipnetwork_sets.specs.declared.address_count.AddressCount.{AddressCount}
 use Rattle.ipnetwork_sets.specs.declared.address_count.AddressCount.TheVariants.{Number, AllOfIpv6}
@@ -10,7 +11,7 @@ abbrev pub count_number : AddressCount → ℕ
 count_number (Number n) = n
 count_number AllOfIpv6 = 2 ^ 128
 
--- the number of a count, where a u128 holds it
+-- the number of a count, if a u128 holds it
 abbrev pub FitsNumber : AddressCount → Result ℕ NetworkSizeError → Type 0
 FitsNumber count result = MatchResult result (λ n. (count_number count < 2 ^ 128) × (n ≡ count_number count)) (λ _. 2 ^ 128 ≤ count_number count)
 
@@ -20,3 +21,8 @@ pub record HasCount (set : ℕ → Type 0) (n : ℕ) : Type 0 where
   pub ascending : AllPairs (λ x y. x < y) addresses
   pub exactly : (x : ℕ) → Contains addresses x ↔ set x
   pub count : length addresses ≡ n
+
+-- the numbers of addresses of the networks, added up
+abbrev pub total : ℕ → List Network → ℕ
+total w [] = 0
+total w (n ∷ ns) = block_size w n.prefix + total w ns

@@ -1,6 +1,9 @@
 -- What the contracts of this crate cite.
+pub mod CountLaws
 pub mod Counts
+pub mod DifferenceLaws
 pub mod Equality
+pub mod FreeBlocks
 pub mod Laws
 pub mod Private
 pub mod RangeLists

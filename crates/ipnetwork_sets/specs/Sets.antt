@@ -1,5 +1,5 @@
 -- Sets of addresses of w bits, as lists of blocks.
-use Rattle.std.specs.Prelude.{◌≡◌, ℕ, ◌⊎◌, ◌++◌, List}
+use Rattle.std.specs.Prelude.{◌≡◌, ℕ, ◌^◌, ◌<◌, ◌⊎◌, ◌++◌, List}
 use Rattle.ipnetwork_family.specs.Network.{Network, Member}
 use Rattle.ipnetwork_blocks.specs.LeastList.{IsLeastList}
 use Rattle.ipnetwork_blocks.specs.Aggregate.{InUnion, IsAggregate}
@@ -24,6 +24,10 @@ InFirstAlone w first second x = InUnion w first x × ¬ (InUnion w second x)
 abbrev pub InNetworkAlone : ℕ → Network → List Network → ℕ → Type 0
 InNetworkAlone w n networks x = Member w n x × ¬ (InUnion w networks x)
 
+-- x is an address, and none of the set
+abbrev pub InComplement : ℕ → List Network → ℕ → Type 0
+InComplement w networks x = (x < 2 ^ w) × ¬ (InUnion w networks x)
+
 -- x is an address of one of the two, or of both
 abbrev pub InEither : ℕ → List Network → List Network → ℕ → Type 0
 InEither w first second x = InUnion w first x ⊎ InUnion w second x
@@ -36,6 +40,6 @@ IsWithin w first second = (x : ℕ) → InUnion w first x → InUnion w second x
 abbrev pub AreDisjoint : ℕ → List Network → List Network → Type 0
 AreDisjoint w first second = (x : ℕ) → ¬ (InBoth w first second x)
 
--- behind those that were in the list come the blocks of the set
+-- after those that were in the list come the blocks of the set
 abbrev pub AddsLeastList : ℕ → (ℕ → Type 0) → List Network → List Network → Type 0
 AddsLeastList w set before after = (blocks : List Network) × IsLeastList w set blocks × (after ≡ before ++ blocks)

@@ -19,6 +19,12 @@ const DECIMAL_MAX: usize = 39;
 /// A number of addresses, exact up to 2^128: that of all IPv6 addresses.
 ///
 /// Counts are compared by their numbers, and printed in decimal. Does not allocate.
+///
+/// ```
+/// let all = AddressCount::ZERO.add_block("::/0".parse::<Ipv6Network>()?);
+/// let half = AddressCount::ZERO.add_block("8000::/1".parse::<Ipv6Network>()?);
+/// assert_eq!(rt; (all, half), (AddressCount::AllOfIpv6, AddressCount::Number(1 << 127)));
+/// ```
 #[derive(Clone, Copy, Debug)]
 pub enum AddressCount {
     /// A number below 2^128.
@@ -29,11 +35,20 @@ pub enum AddressCount {
 
 impl AddressCount {
     /// No addresses.
+    ///
+    /// ```
+    /// assert_eq!(rt; u128::try_from(AddressCount::ZERO), Ok(0));
+    /// ```
     pub const ZERO: AddressCount = AddressCount::Number(0);
 
     /// The count and the number of addresses of the network together; 2^128 if that is more. Host bits change nothing.
     ///
     /// Added up over blocks that share no address, of one family, the count is exact.
+    ///
+    /// ```
+    /// let count = AddressCount::ZERO.add_block("192.0.2.0/24".parse::<Ipv4Network>()?);
+    /// assert_eq!(rt; count, AddressCount::from(256));
+    /// ```
     pub fn add_block<N: CidrNetwork>(self, network: N) -> AddressCount
         ensures { count_number result ≡ min (count_number self + block_size N.WIDTH (N.pair network).prefix) (2 ^ 128) }
     {

@@ -11,6 +11,12 @@ use std::marker::Model;
 
 /// A set of addresses of one family: the maximal blocks of the set, in ascending order. Each set has one such
 /// list, and no list of networks with the same addresses is shorter.
+///
+/// ```
+/// let networks = vec![in rt.alloc(); "2001:db8:8000::/33".parse::<Ipv6Network>()?, "2001:db8::/33".parse()?]?;
+/// let set = AddressSet::from_networks(networks);
+/// assert_eq!(rt; set.blocks(), ["2001:db8::/32".parse()?].as_slice());
+/// ```
 #[derive(Debug, Drop)]
 pub struct AddressSet<N: CidrNetwork> {
     blocks: Vec<N>,
@@ -33,6 +39,11 @@ impl<N: CidrNetwork> AddressSet<N> {
     /// The set of the addresses of the networks, host bits or not, in any order.
     ///
     /// Sorts the networks and goes over them once. Keeps their memory, and does not allocate.
+    ///
+    /// ```
+    /// let set = AddressSet::from_networks(vec![in rt.alloc(); "192.0.2.0/25".parse::<Ipv4Network>()?, "192.0.2.128/25".parse()?]?);
+    /// assert_eq!(rt; set.blocks()[0].canonical().as_str(), "192.0.2.0/24");
+    /// ```
     pub fn from_networks(mut networks: Vec<N>) -> Self
         ensures { IsAggregate N.WIDTH (map N.pair networks.items) result }
     {
@@ -45,6 +56,11 @@ impl<N: CidrNetwork> AddressSet<N> {
     /// given back if they are not, and `from_networks` makes them so.
     ///
     /// Goes over the list once. Keeps its memory, and does not allocate.
+    ///
+    /// ```
+    /// let halves = vec![in rt.alloc(); "192.0.2.0/25".parse::<Ipv4Network>()?, "192.0.2.128/25".parse()?]?;
+    /// assert!(rt; AddressSet::from_blocks(halves).is_err());
+    /// ```
     pub fn from_blocks(blocks: Vec<N>) -> Result<Self, Vec<N>>
         ensures { MatchResult result
             (λ set. IsAddressSet N.WIDTH (map N.pair blocks.items) × (set ≡ map N.pair blocks.items))
@@ -66,6 +82,11 @@ impl<N: CidrNetwork> AddressSet<N> {
     }
 
     /// The blocks, in ascending order.
+    ///
+    /// ```
+    /// let set = AddressSet::from_networks(vec![in rt.alloc(); "192.0.2.0/25".parse::<Ipv4Network>()?, "192.0.2.128/25".parse()?]?);
+    /// assert_eq!(rt; set.blocks().len(), 1);
+    /// ```
     pub fn blocks(&self) -> &[N]
         ensures blocks { map N.pair result.now ≡ self.now }
         ensures set { IsAddressSet N.WIDTH self.now }
@@ -74,6 +95,11 @@ impl<N: CidrNetwork> AddressSet<N> {
     }
 
     /// Whether there is no address in the set.
+    ///
+    /// ```
+    /// let set = AddressSet::<Ipv4Network>::from_networks(Vec::new(rt.alloc()));
+    /// assert!(rt; set.is_empty());
+    /// ```
     pub fn is_empty(&self) -> bool
         ensures { IsTrue result ↔ (self.now ≡ []) }
     {
@@ -81,6 +107,12 @@ impl<N: CidrNetwork> AddressSet<N> {
     }
 
     /// Whether the address is in the set. One binary search over the blocks.
+    ///
+    /// ```
+    /// let set = AddressSet::from_networks(vec![in rt.alloc(); "192.0.2.0/25".parse::<Ipv4Network>()?]?);
+    /// assert!(rt; set.contains(Ipv4Addr::new(192, 0, 2, 127)));
+    /// assert!(rt; !set.contains(Ipv4Addr::new(192, 0, 2, 128)));
+    /// ```
     pub fn contains(&self, addr: N::Addr) -> bool
         ensures { IsTrue result ↔ InUnion N.WIDTH self.now (N.number addr) }
     {
@@ -89,6 +121,12 @@ impl<N: CidrNetwork> AddressSet<N> {
 
     /// Whether each address of the network is in the set. Host bits change nothing. One binary search over the
     /// blocks.
+    ///
+    /// ```
+    /// let set = AddressSet::from_networks(vec![in rt.alloc(); "192.0.2.0/25".parse::<Ipv4Network>()?]?);
+    /// assert!(rt; set.covers("192.0.2.64/26".parse()?));
+    /// assert!(rt; !set.covers("192.0.2.0/24".parse()?));
+    /// ```
     pub fn covers(&self, network: N) -> bool
         ensures { IsTrue result ↔ LiesInUnion N.WIDTH (N.pair network) self.now }
     {
@@ -97,6 +135,12 @@ impl<N: CidrNetwork> AddressSet<N> {
 
     /// Whether some address of the network is in the set. Host bits change nothing. One binary search over the
     /// blocks.
+    ///
+    /// ```
+    /// let set = AddressSet::from_networks(vec![in rt.alloc(); "192.0.2.0/25".parse::<Ipv4Network>()?]?);
+    /// assert!(rt; set.overlaps("192.0.2.0/24".parse()?));
+    /// assert!(rt; !set.overlaps("192.0.2.128/25".parse()?));
+    /// ```
     pub fn overlaps(&self, network: N) -> bool
         ensures { IsTrue result ↔ MeetsUnion N.WIDTH (N.pair network) self.now }
     {

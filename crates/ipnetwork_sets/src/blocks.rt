@@ -13,17 +13,37 @@ use ipnetwork_family::CidrNetwork;
 use std::marker::Model;
 
 /// What gives the blocks of a set one after the other, in ascending order.
+///
+/// ```
+/// let set = AddressSet::from_networks(vec![in rt.alloc(); "192.0.2.0/25".parse::<Ipv4Network>()?]?);
+/// let other = AddressSet::from_networks(vec![in rt.alloc(); "192.0.2.0/26".parse()?]?);
+/// let mut blocks = set.difference(&other);
+/// assert_eq!(rt; SetBlocks::next_block(&mut blocks), Some("192.0.2.64/26".parse()?));
+/// ```
 pub trait SetBlocks<N: CidrNetwork>: Drop {
     // The blocks that are still to come.
     ghost left: { Self → List Network };
 
     /// The next block; `None` behind the last.
+    ///
+    /// ```
+    /// let set = AddressSet::from_networks(vec![in rt.alloc(); "192.0.2.0/25".parse::<Ipv4Network>()?]?);
+    /// let mut blocks = set.iter();
+    /// assert_eq!(rt; blocks.next_block(), Some("192.0.2.0/25".parse()?));
+    /// assert_eq!(rt; blocks.next_block(), None);
+    /// ```
     fn next_block(&mut self) -> Option<N>
         ensures step { MatchOption result ((left self.old ≡ []) × (left self.new ≡ [])) (λ block. left self.old ≡ N.pair block ∷ left self.new) }
         ensures set { IsAddressSet N.WIDTH (left self.old) };
 }
 
 /// The blocks of a set that are still to come, in ascending order.
+///
+/// ```
+/// let set = AddressSet::from_networks(vec![in rt.alloc(); "192.0.2.0/25".parse::<Ipv4Network>()?]?);
+/// let blocks: Blocks<'_, Ipv4Network> = set.iter();
+/// assert!(rt; blocks.eq(["192.0.2.0/25".parse()?]));
+/// ```
 #[derive(Debug, Drop)]
 pub struct Blocks<'a, N: CidrNetwork> {
     rest: &'a [N],
@@ -44,6 +64,12 @@ impl<'a, N: CidrNetwork> Model for Blocks<'a, N> {
 
 impl<N: CidrNetwork> AddressSet<N> {
     /// The blocks one after the other, in ascending order.
+    ///
+    /// ```
+    /// let set = AddressSet::from_networks(vec![in rt.alloc(); "192.0.2.0/25".parse::<Ipv4Network>()?]?);
+    /// let mut blocks = set.iter();
+    /// assert_eq!(rt; blocks.next(), Some("192.0.2.0/25".parse()?));
+    /// ```
     pub fn iter(&self) -> Blocks<'_, N>
         ensures { result ≡ self.now }
     {

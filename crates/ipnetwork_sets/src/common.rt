@@ -1,18 +1,23 @@
 //! The common part of two sets.
-ghost use Rattle.std.specs.Prelude.{◌≡◌, ◌∷◌, [], MatchOption, IfOk, map};
+ghost use Rattle.std.specs.Prelude.{◌≡◌, ◌∷◌, [], MatchOption, map};
 ghost use Rattle.std.specs.Iterator.{YieldsFirstBy, item_count};
 ghost use Rattle.ipnetwork_blocks.specs.LeastList.{IsLeastList};
 ghost use Rattle.ipnetwork_sets.specs.Sets.{IsAddressSet, InBoth};
 ghost use Rattle.ipnetwork_sets.specs.Private.LeastBlocks.{common_blocks};
 
-use crate::address_set::AddressSet;
 use crate::order::ends_before;
 use ipnetwork_blocks::laws;
 use ipnetwork_family::CidrNetwork;
-use std::alloc::AllocError;
 use std::marker::Model;
 
 /// The blocks of the common part of two sets that are still to come, in ascending order.
+///
+/// ```
+/// let set = AddressSet::from_networks(vec![in rt.alloc(); "192.0.2.0/25".parse::<Ipv4Network>()?]?);
+/// let other = AddressSet::from_networks(vec![in rt.alloc(); "192.0.0.0/16".parse()?]?);
+/// let common: Intersection<'_, Ipv4Network> = set.intersection(&other);
+/// assert!(rt; common.eq(["192.0.2.0/25".parse()?]));
+/// ```
 #[derive(Debug, Drop)]
 pub struct Intersection<'a, N: CidrNetwork> {
     first: &'a [N],
@@ -48,19 +53,6 @@ impl<'a, N: CidrNetwork> Intersection<'a, N> {
         ensures { IsAddressSet N.WIDTH self.now }
     {
         let _ = &self.first;
-    }
-
-    /// The set of the blocks that are still to come. The list is put into `memory`, whose content is dropped first; an
-    /// error means that it had to grow, and that there was no memory for that.
-    pub fn into_set(mut self, mut memory: Vec<N>) -> Result<AddressSet<N>, AllocError>
-        ensures { IfOk result (λ set. set ≡ self.entry) }
-    {
-        self.are_set();
-        memory.clear();
-        while let Some(block) = self.next() {
-            memory.push(block)?;
-        }
-        Ok(AddressSet::of_blocks(memory))
     }
 }
 

@@ -1,8 +1,8 @@
 //! The number of addresses of a set.
 ghost use Rattle.std.specs.Prelude.{◌≡◌, ◌≤◌, map};
 ghost use Rattle.ipnetwork_blocks.specs.Aggregate.{InUnion};
-ghost use Rattle.ipnetwork_sets.specs.Counts.{count_number, HasCount};
-ghost use Rattle.ipnetwork_sets.specs.Private.Totals.{total, capped};
+ghost use Rattle.ipnetwork_sets.specs.Counts.{count_number, HasCount, total};
+ghost use Rattle.ipnetwork_sets.specs.Private.Totals.{capped};
 
 use crate::address_count::AddressCount;
 use crate::address_set::AddressSet;
@@ -11,6 +11,11 @@ use ipnetwork_family::CidrNetwork;
 
 impl<N: CidrNetwork> AddressSet<N> {
     /// How many addresses there are in the set. Goes over the blocks once, and does not allocate.
+    ///
+    /// ```
+    /// let set = AddressSet::from_networks(vec![in rt.alloc(); "192.0.2.0/25".parse::<Ipv4Network>()?]?);
+    /// assert_eq!(rt; set.address_count(), AddressCount::from(128));
+    /// ```
     pub fn address_count(&self) -> AddressCount
         ensures { N.WIDTH ≤ 128 → HasCount (InUnion N.WIDTH self.now) (count_number result) }
     {

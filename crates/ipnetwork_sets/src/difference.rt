@@ -1,19 +1,24 @@
 //! What one set has and another has not.
-ghost use Rattle.std.specs.Prelude.{◌≡◌, ◌∷◌, [], MatchOption, IfOk, map, option_map};
+ghost use Rattle.std.specs.Prelude.{◌≡◌, ◌∷◌, [], MatchOption, map, option_map};
 ghost use Rattle.std.specs.Iterator.{YieldsFirstBy, item_count};
 ghost use Rattle.ipnetwork_blocks.specs.LeastList.{IsLeastList};
 ghost use Rattle.ipnetwork_sets.specs.Sets.{IsAddressSet, InFirstAlone, InNetworkAlone};
 ghost use Rattle.ipnetwork_sets.specs.Private.LeastBlocks.{left_blocks};
 ghost use Rattle.ipnetwork_sets.specs.Private.Left.{IsPiece, IsAtHand, TakesPart, HasNoPart, IsNextPart};
 
-use crate::address_set::AddressSet;
 use crate::pieces::{first_free, piece_behind};
 use ipnetwork_blocks::{block, laws};
 use ipnetwork_family::CidrNetwork;
-use std::alloc::AllocError;
 use std::marker::Model;
 
 /// The blocks of a difference of sets that are still to come, in ascending order.
+///
+/// ```
+/// let set = AddressSet::from_networks(vec![in rt.alloc(); "192.0.2.0/25".parse::<Ipv4Network>()?]?);
+/// let other = AddressSet::from_networks(vec![in rt.alloc(); "192.0.2.32/27".parse()?]?);
+/// let left: Difference<'_, Ipv4Network> = set.difference(&other);
+/// assert!(rt; left.eq(["192.0.2.0/27".parse()?, "192.0.2.64/26".parse()?]));
+/// ```
 #[derive(Debug, Drop)]
 pub struct Difference<'a, N: CidrNetwork> {
     at_hand: Option<Part<N>>,
@@ -77,19 +82,6 @@ impl<'a, N: CidrNetwork> Difference<'a, N> {
         ensures { IsAddressSet N.WIDTH self.now }
     {
         let _ = &self.rest;
-    }
-
-    /// The set of the blocks that are still to come. The list is put into `memory`, whose content is dropped first; an
-    /// error means that it had to grow, and that there was no memory for that.
-    pub fn into_set(mut self, mut memory: Vec<N>) -> Result<AddressSet<N>, AllocError>
-        ensures { IfOk result (λ set. set ≡ self.entry) }
-    {
-        self.are_set();
-        memory.clear();
-        while let Some(block) = self.next() {
-            memory.push(block)?;
-        }
-        Ok(AddressSet::of_blocks(memory))
     }
 }
 

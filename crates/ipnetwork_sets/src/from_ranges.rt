@@ -14,6 +14,12 @@ impl<N: CidrNetwork> AddressSet<N> {
     /// The set of the addresses of the ranges, of each its first and its last address, in any order: they may overlap. A
     /// range whose first address comes after its last has no addresses. The list is put into `memory`, whose content is
     /// dropped first; an error means that it had to grow, and that there was no memory for that.
+    ///
+    /// ```
+    /// let ranges = [(Ipv4Addr::new(192, 0, 2, 0), Ipv4Addr::new(192, 0, 2, 127))];
+    /// let set = AddressSet::<Ipv4Network>::from_ranges(&ranges, Vec::new(rt.alloc()))?;
+    /// assert_eq!(rt; set.blocks()[0].canonical().as_str(), "192.0.2.0/25");
+    /// ```
     pub fn from_ranges(
         ranges: &[(N::Addr, N::Addr)],
         mut memory: Vec<N>,
@@ -32,6 +38,12 @@ impl<N: CidrNetwork> AddressSet<N> {
 /// Adds the blocks whose addresses are those from `first` to `last`, both included, to the networks: the fewest that
 /// there are, and none where `first` comes after `last`. An error means that the list had to grow, and that there was
 /// no memory for that; some of the blocks may have been added.
+///
+/// ```
+/// let mut networks = Vec::<Ipv4Network>::new(rt.alloc());
+/// push_range(&mut networks, Ipv4Addr::new(192, 0, 2, 1), Ipv4Addr::new(192, 0, 2, 3))?;
+/// assert_eq!(rt; networks.len(), 2);
+/// ```
 pub fn push_range<N: CidrNetwork>(
     networks: &mut Vec<N>,
     first: N::Addr,

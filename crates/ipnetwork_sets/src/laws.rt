@@ -1,7 +1,11 @@
 //! The laws of the operations on sets, for addresses of any number of bits. Each function's contract is laws; it does
 //! nothing, and a proof whose function calls it may use them.
+ghost use Rattle.ipnetwork_sets.specs.CountLaws.{AscendingIsOneList, UnionHasOneCount, RangesAreOneList, UnionHasOneRangeList, SetAddsUp, CommonPartAddsUp, DifferenceAddsUp, FreePartAddsUp, UnionAddsUp, TotalGoesOn};
+ghost use Rattle.ipnetwork_sets.specs.DifferenceLaws.{CommonPartIsSettled, DifferenceIsSettled, FreePartIsSettled, UnionIsSettled, DifferenceOfOne, DifferenceOfUnion, DifferenceOfCommonPart};
 ghost use Rattle.ipnetwork_sets.specs.Equality.{SameBlocksAreEqual};
 ghost use Rattle.ipnetwork_sets.specs.Laws.{CommonPartIsShortest, DifferenceIsShortest, FreePartIsShortest, UnionIsShortest, SameAddressesAreOneSet, CommonPartCommutes, UnionCommutes, CommonPartOfOne, UnionOfOne, DifferenceIsDisjoint, PartsMakeTheWhole, FreeOfUnion, FreeOfCommonPart};
+
+use ipnetwork_blocks::laws;
 
 /// Of each operation the blocks have the addresses of the set and no others, each ends before the next begins, no
 /// networks with the same addresses are fewer, and no other list is the least.
@@ -37,4 +41,42 @@ pub fn parts()
 pub fn free_of_both()
     ensures union { FreeOfUnion }
     ensures common { FreeOfCommonPart }
+{}
+
+/// A set has one count and one list of ranges: sets with the same addresses have the same. Of any set it follows from
+/// the laws of lists, `ascending` and `ranges`.
+pub fn one_count_and_ranges()
+    ensures ascending { AscendingIsOneList }
+    ensures count { UnionHasOneCount }
+    ensures ranges { RangesAreOneList }
+    ensures union_ranges { UnionHasOneRangeList }
+{}
+
+/// The numbers of addresses of a set's blocks, added up, are the count of the set, and so of what each operation gives;
+/// a sum that is kept to 2^128 goes on with one block more (`AddressCount::add_block`).
+pub fn sums()
+    ensures set { SetAddsUp }
+    ensures common { CommonPartAddsUp }
+    ensures difference { DifferenceAddsUp }
+    ensures free { FreePartAddsUp }
+    ensures union { UnionAddsUp }
+    ensures goes_on { TotalGoesOn }
+{
+    laws::one_block();
+}
+
+/// The addresses of the sets settle the blocks that each operation gives.
+pub fn settled()
+    ensures common { CommonPartIsSettled }
+    ensures difference { DifferenceIsSettled }
+    ensures free { FreePartIsSettled }
+    ensures union { UnionIsSettled }
+{}
+
+/// Of a set less itself nothing is left. Less a union it is the common part of the set less the one and less the other,
+/// and less a common part the union of these two (De Morgan's laws).
+pub fn differences()
+    ensures of_one { DifferenceOfOne }
+    ensures of_union { DifferenceOfUnion }
+    ensures of_common { DifferenceOfCommonPart }
 {}

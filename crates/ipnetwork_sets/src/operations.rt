@@ -13,6 +13,12 @@ use std::alloc::AllocError;
 impl<N: CidrNetwork> AddressSet<N> {
     /// The blocks of the addresses that both sets have, in ascending order. Goes over both lists once, as the iterator
     /// is asked, and does not allocate.
+    ///
+    /// ```
+    /// let set = AddressSet::from_networks(vec![in rt.alloc(); "192.0.2.0/25".parse::<Ipv4Network>()?]?);
+    /// let other = AddressSet::from_networks(vec![in rt.alloc(); "192.0.2.0/26".parse()?]?);
+    /// assert_eq!(rt; set.intersection(&other).next(), Some("192.0.2.0/26".parse()?));
+    /// ```
     pub fn intersection<'a>(&'a self, other: &'a AddressSet<N>) -> Intersection<'a, N>
         ensures { IsLeastList N.WIDTH (InBoth N.WIDTH self.now other.now) result }
     {
@@ -21,6 +27,12 @@ impl<N: CidrNetwork> AddressSet<N> {
 
     /// The blocks of the addresses that this set has and the other has not, in ascending order. Goes over both lists
     /// once, as the iterator is asked, and does not allocate.
+    ///
+    /// ```
+    /// let set = AddressSet::from_networks(vec![in rt.alloc(); "192.0.2.0/25".parse::<Ipv4Network>()?]?);
+    /// let other = AddressSet::from_networks(vec![in rt.alloc(); "192.0.2.0/26".parse()?]?);
+    /// assert_eq!(rt; set.difference(&other).next(), Some("192.0.2.64/26".parse()?));
+    /// ```
     pub fn difference<'a>(&'a self, other: &'a AddressSet<N>) -> Difference<'a, N>
         ensures { IsLeastList N.WIDTH (InFirstAlone N.WIDTH self.now other.now) result }
     {
@@ -31,6 +43,11 @@ impl<N: CidrNetwork> AddressSet<N> {
     /// network. Host bits change nothing. Goes over the list once, as the iterator is asked, and does not allocate.
     ///
     /// Of the network of prefix length 0, these are the blocks of all addresses that are not in the set.
+    ///
+    /// ```
+    /// let set = AddressSet::from_networks(vec![in rt.alloc(); "192.0.2.0/25".parse::<Ipv4Network>()?]?);
+    /// assert_eq!(rt; set.free_in("192.0.2.0/24".parse()?).next(), Some("192.0.2.128/25".parse()?));
+    /// ```
     pub fn free_in(&self, network: N) -> Difference<'_, N>
         ensures { IsLeastList N.WIDTH (InNetworkAlone N.WIDTH (N.pair network) self.now) result }
     {
@@ -39,6 +56,12 @@ impl<N: CidrNetwork> AddressSet<N> {
 
     /// The blocks of the addresses that one of the two has, or both, in ascending order. Goes over both lists once, as
     /// the iterator is asked, and does not allocate.
+    ///
+    /// ```
+    /// let set = AddressSet::from_networks(vec![in rt.alloc(); "192.0.2.0/25".parse::<Ipv4Network>()?]?);
+    /// let other = AddressSet::from_networks(vec![in rt.alloc(); "192.0.2.128/25".parse()?]?);
+    /// assert_eq!(rt; set.union_blocks(&other).next(), Some("192.0.2.0/24".parse()?));
+    /// ```
     pub fn union_blocks<'a>(&'a self, other: &'a AddressSet<N>) -> Union<'a, N>
         ensures { IsLeastList N.WIDTH (InEither N.WIDTH self.now other.now) result }
     {
@@ -48,6 +71,12 @@ impl<N: CidrNetwork> AddressSet<N> {
     /// The set of the addresses that one of the two has, or both. Goes over both lists once. The list is put into
     /// `memory`, whose content is dropped first; an error means that it had to grow, and that there was no memory for
     /// that.
+    ///
+    /// ```
+    /// let set = AddressSet::from_networks(vec![in rt.alloc(); "192.0.2.0/25".parse::<Ipv4Network>()?]?);
+    /// let other = AddressSet::from_networks(vec![in rt.alloc(); "192.0.2.128/25".parse()?]?);
+    /// assert!(rt; set.union(&other, Vec::new(rt.alloc()))?.covers("192.0.2.0/24".parse()?));
+    /// ```
     pub fn union(&self, other: &AddressSet<N>, memory: Vec<N>) -> Result<Self, AllocError>
         ensures { IfOk result (λ set. IsLeastList N.WIDTH (InEither N.WIDTH self.now other.now) set) }
     {
@@ -55,6 +84,13 @@ impl<N: CidrNetwork> AddressSet<N> {
     }
 
     /// Whether each address of this set is in the other. Goes over both lists once at the most, and does not allocate.
+    ///
+    /// ```
+    /// let set = AddressSet::from_networks(vec![in rt.alloc(); "192.0.2.0/25".parse::<Ipv4Network>()?]?);
+    /// let other = AddressSet::from_networks(vec![in rt.alloc(); "192.0.2.0/26".parse()?]?);
+    /// assert!(rt; other.is_subset_of(&set));
+    /// assert!(rt; !set.is_subset_of(&other));
+    /// ```
     pub fn is_subset_of(&self, other: &AddressSet<N>) -> bool
         ensures { IsTrue result ↔ IsWithin N.WIDTH self.now other.now }
     {
@@ -63,6 +99,12 @@ impl<N: CidrNetwork> AddressSet<N> {
     }
 
     /// Whether no address is in both sets. Goes over both lists once at the most, and does not allocate.
+    ///
+    /// ```
+    /// let set = AddressSet::from_networks(vec![in rt.alloc(); "192.0.2.0/25".parse::<Ipv4Network>()?]?);
+    /// let other = AddressSet::from_networks(vec![in rt.alloc(); "192.0.2.128/25".parse()?]?);
+    /// assert!(rt; set.is_disjoint_from(&other));
+    /// ```
     pub fn is_disjoint_from(&self, other: &AddressSet<N>) -> bool
         ensures { IsTrue result ↔ AreDisjoint N.WIDTH self.now other.now }
     {

@@ -18,6 +18,12 @@ use std::marker::Model;
 
 /// The ranges of a set that are still to come, in ascending order: of each its first and its last address. They are the
 /// longest that there are, so at least one address that is not in the set lies between two of them.
+///
+/// ```
+/// let set = AddressSet::from_networks(vec![in rt.alloc(); "10.0.0.0/31".parse::<Ipv4Network>()?, "10.0.0.2/32".parse()?]?);
+/// let ranges: Ranges<Ipv4Network, Blocks<'_, Ipv4Network>> = set.ranges();
+/// assert!(rt; ranges.eq([(Ipv4Addr::new(10, 0, 0, 0), Ipv4Addr::new(10, 0, 0, 2))]));
+/// ```
 #[derive(Debug, Drop)]
 pub struct Ranges<N: CidrNetwork, B: SetBlocks<N>> {
     ahead: Option<N>,
@@ -95,6 +101,12 @@ fn touches<N: CidrNetwork>(first: N, second: N) -> bool
 impl<N: CidrNetwork> AddressSet<N> {
     /// The first and the last address of each range of the set, in ascending order: the fewest ranges that there are.
     /// Goes over the blocks once, as the iterator is asked, and does not allocate.
+    ///
+    /// ```
+    /// let set = AddressSet::from_networks(vec![in rt.alloc(); "192.0.2.0/25".parse::<Ipv4Network>()?, "192.0.2.128/25".parse()?]?);
+    /// let range = (Ipv4Addr::new(192, 0, 2, 0), Ipv4Addr::new(192, 0, 2, 255));
+    /// assert_eq!(rt; set.ranges().next(), Some(range));
+    /// ```
     pub fn ranges(&self) -> Ranges<N, Blocks<'_, N>>
         ensures { IsRangeList (InUnion N.WIDTH self.now) result }
     {
@@ -104,6 +116,13 @@ impl<N: CidrNetwork> AddressSet<N> {
 
 impl<'a, N: CidrNetwork> Intersection<'a, N> {
     /// The ranges of the blocks that are still to come. Does not allocate.
+    ///
+    /// ```
+    /// let set = AddressSet::from_networks(vec![in rt.alloc(); "192.0.2.0/25".parse::<Ipv4Network>()?]?);
+    /// let other = AddressSet::from_networks(vec![in rt.alloc(); "192.0.2.64/26".parse()?]?);
+    /// let range = (Ipv4Addr::new(192, 0, 2, 64), Ipv4Addr::new(192, 0, 2, 127));
+    /// assert_eq!(rt; set.intersection(&other).ranges().next(), Some(range));
+    /// ```
     pub fn ranges(self) -> Ranges<N, Intersection<'a, N>>
         ensures { IsRangeList (InUnion N.WIDTH self.entry) result }
     {
@@ -113,6 +132,13 @@ impl<'a, N: CidrNetwork> Intersection<'a, N> {
 
 impl<'a, N: CidrNetwork> Difference<'a, N> {
     /// The ranges of the blocks that are still to come. Does not allocate.
+    ///
+    /// ```
+    /// let set = AddressSet::from_networks(vec![in rt.alloc(); "192.0.2.0/25".parse::<Ipv4Network>()?]?);
+    /// let other = AddressSet::from_networks(vec![in rt.alloc(); "192.0.2.0/32".parse()?]?);
+    /// let range = (Ipv4Addr::new(192, 0, 2, 1), Ipv4Addr::new(192, 0, 2, 127));
+    /// assert_eq!(rt; set.difference(&other).ranges().next(), Some(range));
+    /// ```
     pub fn ranges(self) -> Ranges<N, Difference<'a, N>>
         ensures { IsRangeList (InUnion N.WIDTH self.entry) result }
     {
@@ -122,6 +148,13 @@ impl<'a, N: CidrNetwork> Difference<'a, N> {
 
 impl<'a, N: CidrNetwork> Union<'a, N> {
     /// The ranges of the blocks that are still to come. Does not allocate.
+    ///
+    /// ```
+    /// let set = AddressSet::from_networks(vec![in rt.alloc(); "192.0.2.0/25".parse::<Ipv4Network>()?]?);
+    /// let other = AddressSet::from_networks(vec![in rt.alloc(); "192.0.2.128/32".parse()?]?);
+    /// let range = (Ipv4Addr::new(192, 0, 2, 0), Ipv4Addr::new(192, 0, 2, 128));
+    /// assert_eq!(rt; set.union_blocks(&other).ranges().next(), Some(range));
+    /// ```
     pub fn ranges(self) -> Ranges<N, Union<'a, N>>
         ensures { IsRangeList (InUnion N.WIDTH self.entry) result }
     {

@@ -1,5 +1,7 @@
 //! Rows over the public calls. Expected values are those of Python's `ipaddress`.
 
+mod complements;
+mod free_blocks;
 mod operations;
 mod questions;
 mod ranges;

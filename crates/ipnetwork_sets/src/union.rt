@@ -1,19 +1,24 @@
 //! The union of two sets.
-ghost use Rattle.std.specs.Prelude.{◌≡◌, ◌+◌, ◌≤◌, ◌∷◌, [], MatchOption, IfOk, map};
+ghost use Rattle.std.specs.Prelude.{◌≡◌, ◌+◌, ◌≤◌, ◌∷◌, [], MatchOption, map};
 ghost use Rattle.std.specs.Iterator.{YieldsFirstBy, item_count};
 ghost use Rattle.ipnetwork_family.specs.Network.{low, high};
 ghost use Rattle.ipnetwork_blocks.specs.LeastList.{IsLeastList};
 ghost use Rattle.ipnetwork_sets.specs.Sets.{IsAddressSet, InEither};
 ghost use Rattle.ipnetwork_sets.specs.Private.Together.{at_hand, IsRun, IsFirst, EndsAt, IsLater};
 
-use crate::address_set::AddressSet;
 use crate::order::goes_on;
 use ipnetwork_blocks::{RangeBlocks, laws, range_to_blocks};
 use ipnetwork_family::CidrNetwork;
-use std::alloc::AllocError;
 use std::marker::Model;
 
 /// The blocks of the union of two sets that are still to come, in ascending order.
+///
+/// ```
+/// let set = AddressSet::from_networks(vec![in rt.alloc(); "192.0.2.0/25".parse::<Ipv4Network>()?]?);
+/// let other = AddressSet::from_networks(vec![in rt.alloc(); "192.0.3.0/24".parse()?]?);
+/// let blocks: Union<'_, Ipv4Network> = set.union_blocks(&other);
+/// assert!(rt; blocks.eq(["192.0.2.0/25".parse()?, "192.0.3.0/24".parse()?]));
+/// ```
 #[derive(Drop)]
 pub struct Union<'a, N: CidrNetwork> {
     run: Option<RangeBlocks<N>>,
@@ -57,19 +62,6 @@ impl<'a, N: CidrNetwork> Union<'a, N> {
         ensures { IsAddressSet N.WIDTH self.now }
     {
         let _ = &self.run;
-    }
-
-    /// The set of the blocks that are still to come. The list is put into `memory`, whose content is dropped first; an
-    /// error means that it had to grow, and that there was no memory for that.
-    pub fn into_set(mut self, mut memory: Vec<N>) -> Result<AddressSet<N>, AllocError>
-        ensures { IfOk result (λ set. set ≡ self.entry) }
-    {
-        self.are_set();
-        memory.clear();
-        while let Some(block) = self.next() {
-            memory.push(block)?;
-        }
-        Ok(AddressSet::of_blocks(memory))
     }
 }
 

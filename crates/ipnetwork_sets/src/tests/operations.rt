@@ -58,6 +58,7 @@ where
             && rest.blocks() == networks::<N>(alloc, alone)?.as_slice()
             && (shared == rest) == (common.is_empty() && alone.is_empty())
             && union == second.union(&first, Vec::new(alloc))?
+            && union == union.copied(networks::<N>(alloc, filled)?)?
             && union.blocks() == networks::<N>(alloc, either)?.as_slice(),
     )
 }

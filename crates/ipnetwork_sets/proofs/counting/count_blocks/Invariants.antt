@@ -1,6 +1,6 @@
 use Rattle.std.proofs.Common.{◌≡◌, map, take}
-use Rattle.ipnetwork_sets.specs.Counts.{count_number}
-use Rattle.ipnetwork_sets.specs.Private.Totals.{total, capped}
+use Rattle.ipnetwork_sets.specs.Counts.{count_number, total}
+use Rattle.ipnetwork_sets.specs.Private.Totals.{capped}
 use Rattle.ipnetwork_sets.proofs.counting.count_blocks.Given as goal
 
 abbrev pub invariant-loop-block : goal.invariant-loop-block

@@ -1,6 +1,6 @@
 use Rattle.std.proofs.Common.{ap, ◌∙◌}
-use Rattle.ipnetwork_sets.specs.Counts.{count_number}
-use Rattle.ipnetwork_sets.specs.Private.Totals.{total, capped}
+use Rattle.ipnetwork_sets.specs.Counts.{count_number, total}
+use Rattle.ipnetwork_sets.specs.Private.Totals.{capped}
 use Rattle.ipnetwork_sets.proofs.Totals.{has_count}
 use Rattle.ipnetwork_sets.proofs.address_set.AddressSet.address_count.Goals as goal
 

@@ -1,0 +1,111 @@
+//! Sets made of what gives blocks, in a list of the caller's.
+ghost use Rattle.std.specs.Prelude.{◌≡◌, IfOk};
+
+use crate::address_set::AddressSet;
+use crate::blocks::{Blocks, SetBlocks};
+use crate::common::Intersection;
+use crate::difference::Difference;
+use crate::union::Union;
+use ipnetwork_family::CidrNetwork;
+use std::alloc::AllocError;
+
+// The set of the blocks that are still to come, with its list in `memory`.
+fn collected<N: CidrNetwork, B: SetBlocks<N>>(
+    mut blocks: B,
+    mut memory: Vec<N>,
+) -> Result<AddressSet<N>, AllocError>
+    ensures { IfOk result (λ set. set ≡ B.left blocks) }
+{
+    memory.clear();
+    let mut ahead = blocks.next_block();
+    while let Some(block) = ahead {
+        memory.push(block)?;
+        ahead = blocks.next_block();
+    }
+    Ok(AddressSet::of_blocks(memory))
+}
+
+impl<N: CidrNetwork> AddressSet<N> {
+    /// A set with the same addresses. The list is put into `memory`, whose content is dropped first; an error means that
+    /// it had to grow, and that there was no memory for that.
+    ///
+    /// ```
+    /// let set = AddressSet::from_networks(vec![in rt.alloc(); "192.0.2.0/25".parse::<Ipv4Network>()?]?);
+    /// assert!(rt; set.copied(Vec::new(rt.alloc()))? == set);
+    /// ```
+    pub fn copied(&self, memory: Vec<N>) -> Result<Self, AllocError>
+        ensures { IfOk result (λ set. set ≡ self.now) }
+    {
+        self.iter().into_set(memory)
+    }
+}
+
+impl<'a, N: CidrNetwork> Blocks<'a, N> {
+    /// The set of the blocks that are still to come. The list is put into `memory`, whose content is dropped first; an
+    /// error means that it had to grow, and that there was no memory for that.
+    ///
+    /// ```
+    /// let networks = vec![in rt.alloc(); "192.0.2.0/25".parse::<Ipv4Network>()?, "198.51.100.0/24".parse()?]?;
+    /// let set = AddressSet::from_networks(networks);
+    /// let mut blocks = set.iter();
+    /// assert_eq!(rt; blocks.next(), Some("192.0.2.0/25".parse()?));
+    /// let rest = blocks.into_set(Vec::new(rt.alloc()))?;
+    /// assert_eq!(rt; rest.blocks(), ["198.51.100.0/24".parse()?].as_slice());
+    /// ```
+    pub fn into_set(self, memory: Vec<N>) -> Result<AddressSet<N>, AllocError>
+        ensures { IfOk result (λ set. set ≡ self.entry) }
+    {
+        collected(self, memory)
+    }
+}
+
+impl<'a, N: CidrNetwork> Intersection<'a, N> {
+    /// The set of the blocks that are still to come. The list is put into `memory`, whose content is dropped first; an
+    /// error means that it had to grow, and that there was no memory for that.
+    ///
+    /// ```
+    /// let set = AddressSet::from_networks(vec![in rt.alloc(); "192.0.2.0/25".parse::<Ipv4Network>()?]?);
+    /// let other = AddressSet::from_networks(vec![in rt.alloc(); "192.0.2.64/26".parse()?]?);
+    /// let common = set.intersection(&other).into_set(Vec::new(rt.alloc()))?;
+    /// assert_eq!(rt; common.blocks(), ["192.0.2.64/26".parse()?].as_slice());
+    /// ```
+    pub fn into_set(self, memory: Vec<N>) -> Result<AddressSet<N>, AllocError>
+        ensures { IfOk result (λ set. set ≡ self.entry) }
+    {
+        collected(self, memory)
+    }
+}
+
+impl<'a, N: CidrNetwork> Difference<'a, N> {
+    /// The set of the blocks that are still to come. The list is put into `memory`, whose content is dropped first; an
+    /// error means that it had to grow, and that there was no memory for that.
+    ///
+    /// ```
+    /// let set = AddressSet::from_networks(vec![in rt.alloc(); "192.0.2.0/25".parse::<Ipv4Network>()?]?);
+    /// let other = AddressSet::from_networks(vec![in rt.alloc(); "192.0.2.64/26".parse()?]?);
+    /// let left = set.difference(&other).into_set(Vec::new(rt.alloc()))?;
+    /// assert_eq!(rt; left.blocks(), ["192.0.2.0/26".parse()?].as_slice());
+    /// ```
+    pub fn into_set(self, memory: Vec<N>) -> Result<AddressSet<N>, AllocError>
+        ensures { IfOk result (λ set. set ≡ self.entry) }
+    {
+        collected(self, memory)
+    }
+}
+
+impl<'a, N: CidrNetwork> Union<'a, N> {
+    /// The set of the blocks that are still to come. The list is put into `memory`, whose content is dropped first; an
+    /// error means that it had to grow, and that there was no memory for that.
+    ///
+    /// ```
+    /// let set = AddressSet::from_networks(vec![in rt.alloc(); "192.0.2.0/25".parse::<Ipv4Network>()?]?);
+    /// let other = AddressSet::from_networks(vec![in rt.alloc(); "192.0.2.128/25".parse()?]?);
+    /// let both = set.union_blocks(&other).into_set(Vec::new(rt.alloc()))?;
+    /// assert_eq!(rt; both.blocks(), ["192.0.2.0/24".parse()?].as_slice());
+    /// ```
+    pub fn into_set(self, memory: Vec<N>) -> Result<AddressSet<N>, AllocError>
+        ensures { IfOk result (λ set. set ≡ self.entry) }
+    {
+        collected(self, memory)
+    }
+}
