@@ -30,11 +30,14 @@ extern "C" {
 
 /* The version of the names, structs and numbers below: it changes with any of them. ipnetwork_abi_version() answers
  * that of the library. */
-#define IPNETWORK_ABI_VERSION 1
+#define IPNETWORK_ABI_VERSION 2
 
 /* Enough for every text of the family and the zero byte behind it. */
 #define IPNETWORK_V4_TEXT 19
 #define IPNETWORK_V6_TEXT 44
+
+/* The same for an address of either family. */
+#define IPNETWORK_ADDRESS_TEXT 40
 
 typedef uint32_t ipnetwork_fault;
 
@@ -51,7 +54,7 @@ enum {
 };
 
 #if defined(__GNUC__)
-#define IPNETWORK_CHECKED __attribute__((warn_unused_result))
+#define IPNETWORK_CHECKED __attribute__((warn_unused_result, nonnull))
 #else
 #define IPNETWORK_CHECKED
 #endif
@@ -74,6 +77,13 @@ typedef struct ipnetwork_ip {
     ipnetwork_v4 v4;
     ipnetwork_v6 v6;
 } ipnetwork_ip;
+
+/* An address of either family: its octets, the highest first, and how many they are, 4 or 16. The calls that write one
+ * put zeros behind those of an IPv4 address; the calls that read one do not look at them. */
+typedef struct ipnetwork_address {
+    uint8_t octets[16];
+    uint8_t length;
+} ipnetwork_address;
 
 uint32_t ipnetwork_abi_version(void);
 
@@ -114,6 +124,33 @@ IPNETWORK_CHECKED ipnetwork_fault ipnetwork_v6_contains(const ipnetwork_v6 *netw
  * an IPv4-mapped IPv6 address of an IPv4 network. IPNETWORK_NO_FAMILY comes before IPNETWORK_PREFIX. */
 IPNETWORK_CHECKED ipnetwork_fault ipnetwork_contains(const ipnetwork_ip *network, const uint8_t *address,
                                                      size_t address_length, uint8_t *answer);
+
+/* The same questions of either family. Each is IPNETWORK_NO_FAMILY if a struct has a family that is neither 4 nor 6,
+ * else IPNETWORK_PREFIX if its prefix length is past the width of that family; of two structs the first is judged
+ * first. Networks of different families share no address, and none is a subnet of the other; each IPv4 network comes
+ * before each IPv6 network. For ipnetwork_canonical IPNETWORK_V6_TEXT bytes are enough. */
+IPNETWORK_CHECKED ipnetwork_fault ipnetwork_canonical(const ipnetwork_ip *network, char *buffer, size_t buffer_length,
+                                                      size_t *text_length);
+IPNETWORK_CHECKED ipnetwork_fault ipnetwork_network(const ipnetwork_ip *network, ipnetwork_address *address);
+IPNETWORK_CHECKED ipnetwork_fault ipnetwork_broadcast(const ipnetwork_ip *network, ipnetwork_address *address);
+IPNETWORK_CHECKED ipnetwork_fault ipnetwork_mask(const ipnetwork_ip *network, ipnetwork_address *mask);
+IPNETWORK_CHECKED ipnetwork_fault ipnetwork_is_subnet_of(const ipnetwork_ip *inner, const ipnetwork_ip *outer,
+                                                         uint8_t *answer);
+IPNETWORK_CHECKED ipnetwork_fault ipnetwork_overlaps(const ipnetwork_ip *one, const ipnetwork_ip *other,
+                                                     uint8_t *answer);
+IPNETWORK_CHECKED ipnetwork_fault ipnetwork_compare(const ipnetwork_ip *one, const ipnetwork_ip *other,
+                                                    int32_t *order);
+
+/* The address of either family that a text names, in the forms that ipnetwork_read takes before a '/'; for any other
+ * text, with a '/' or a zone, IPNETWORK_ADDRESS. */
+IPNETWORK_CHECKED ipnetwork_fault ipnetwork_address_read(const char *text, size_t text_length,
+                                                         ipnetwork_address *address);
+
+/* The canonical text of an address, and a zero byte behind it: as ipnetwork_canonical prints the address of a network,
+ * into a buffer of which IPNETWORK_ADDRESS_TEXT bytes are enough. IPNETWORK_NO_FAMILY if the struct's length is neither
+ * 4 nor 16. */
+IPNETWORK_CHECKED ipnetwork_fault ipnetwork_address_canonical(const ipnetwork_address *address, char *buffer,
+                                                              size_t buffer_length, size_t *text_length);
 
 /* The least member (the address with its host bits cleared), the greatest (with them set), and the mask. */
 IPNETWORK_CHECKED ipnetwork_fault ipnetwork_v4_network(const ipnetwork_v4 *network, uint8_t address[4]);

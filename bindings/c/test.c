@@ -324,6 +324,112 @@ static void either(void) {
     }
 }
 
+/* What is asked of networks of either family is answered as for the family. */
+static void questions_of_either(void) {
+    static const struct {
+        const char *text, *low, *high, *mask;
+    } ends[] = {
+        {"192.0.2.77/26", "192.0.2.64", "192.0.2.127", "255.255.255.192"},
+        {"0.0.0.0/0", "0.0.0.0", "255.255.255.255", "0.0.0.0"},
+        {"10.1.9.32/32", "10.1.9.32", "10.1.9.32", "255.255.255.255"},
+        {"2001:db8::1/32", "2001:db8::", "2001:db8:ffff:ffff:ffff:ffff:ffff:ffff", "ffff:ffff::"},
+        {"::/0", "::", "ffff:ffff:ffff:ffff:ffff:ffff:ffff:ffff", "::"},
+        {"::ffff:192.0.2.9/128", "::ffff:192.0.2.9", "::ffff:192.0.2.9", "ffff:ffff:ffff:ffff:ffff:ffff:ffff:ffff"},
+    };
+    for (size_t i = 0; i < sizeof ends / sizeof *ends; i++) {
+        ipnetwork_ip network;
+        ipnetwork_address told[3], read;
+        const char *wanted[3] = {ends[i].low, ends[i].high, ends[i].mask};
+        CHECK(ends[i].text, read_ip(ends[i].text, &network) == YES);
+        CHECK(ends[i].text, ipnetwork_network(&network, &told[0]) == YES);
+        CHECK(ends[i].text, ipnetwork_broadcast(&network, &told[1]) == YES);
+        CHECK(ends[i].text, ipnetwork_mask(&network, &told[2]) == YES);
+        for (size_t k = 0; k < 3; k++) {
+            char text[IPNETWORK_ADDRESS_TEXT];
+            size_t length = strlen(wanted[k]), room;
+            char *buffer = malloc(length + 1);
+            CHECK(wanted[k], ipnetwork_address_canonical(&told[k], text, sizeof text, &room) == YES);
+            CHECK(wanted[k], strcmp(text, wanted[k]) == 0 && room == length);
+            CHECK(wanted[k], ipnetwork_address_canonical(&told[k], buffer, length + 1, &room) == YES);
+            CHECK(wanted[k], strcmp(buffer, wanted[k]) == 0);
+            CHECK(wanted[k], ipnetwork_address_canonical(&told[k], buffer, length, &room) == IPNETWORK_SHORT_BUFFER);
+            CHECK(wanted[k], ipnetwork_address_read(wanted[k], length, &read) == YES);
+            CHECK(wanted[k], memcmp(&read, &told[k], sizeof read) == 0);
+            CHECK(wanted[k], read.length == network.family / 6 * 12 + 4 && is_blank(read.octets + read.length, 16 - read.length));
+            free(buffer);
+        }
+        char text[IPNETWORK_V6_TEXT];
+        size_t length;
+        CHECK(ends[i].text, ipnetwork_canonical(&network, text, sizeof text, &length) == YES);
+        CHECK(ends[i].text, strcmp(text, ends[i].text) == 0 && length == strlen(text));
+        CHECK(ends[i].text, ipnetwork_canonical(&network, text, length, &length) == IPNETWORK_SHORT_BUFFER);
+    }
+    static const struct {
+        const char *one, *other;
+        uint8_t inside, overlap;
+        int32_t order;
+    } pairs[] = {
+        {"10.0.0.0/30", "10.0.0.0/24", 1, 1, 1}, {"10.0.0.0/24", "10.0.0.0/30", 0, 1, -1},
+        {"10.0.0.0/8", "::/0", 0, 0, -1},        {"::/0", "255.255.255.255/32", 0, 0, 1},
+        {"2000:aaa::/56", "2000:aaa::/48", 1, 1, 1}, {"2000:999::/56", "2000:aaa::/48", 0, 0, -1},
+        {"::1/128", "::1/128", 1, 1, 0},         {"::ffff:0:0/96", "0.0.0.0/0", 0, 0, 1},
+    };
+    for (size_t i = 0; i < sizeof pairs / sizeof *pairs; i++) {
+        ipnetwork_ip one, other;
+        uint8_t inside = 77, overlap = 77;
+        int32_t order = 77;
+        CHECK(pairs[i].one, read_ip(pairs[i].one, &one) == YES && read_ip(pairs[i].other, &other) == YES);
+        CHECK(pairs[i].one, ipnetwork_is_subnet_of(&one, &other, &inside) == YES && inside == pairs[i].inside);
+        CHECK(pairs[i].one, ipnetwork_overlaps(&one, &other, &overlap) == YES && overlap == pairs[i].overlap);
+        CHECK(pairs[i].one, ipnetwork_compare(&one, &other, &order) == YES && order == pairs[i].order);
+    }
+}
+
+/* Families that are neither, prefix lengths past the width, addresses of other lengths: nothing is written. */
+static void refused_of_either(void) {
+    ipnetwork_ip good, bad, past;
+    CHECK("read", read_ip("10.0.0.0/8", &good) == YES && read_ip("::/0", &past) == YES);
+    past.v6.prefix = 129;
+    ipnetwork_address address = {{1}, 77}, read = {{2}, 77};
+    uint8_t answer = 77;
+    int32_t order = 77;
+    char text[IPNETWORK_V6_TEXT] = {77};
+    size_t length = 77;
+    bad = past;
+    for (unsigned family = 0; family <= 255; family++) {
+        if (family == 4)
+            continue;
+        bad.family = (uint8_t)family;
+        ipnetwork_fault wanted = family == 6 ? PREF : IPNETWORK_NO_FAMILY;
+        CHECK("bad", ipnetwork_network(&bad, &address) == wanted);
+        CHECK("bad", ipnetwork_broadcast(&bad, &address) == wanted);
+        CHECK("bad", ipnetwork_mask(&bad, &address) == wanted);
+        CHECK("bad", ipnetwork_canonical(&bad, text, sizeof text, &length) == wanted);
+        CHECK("bad", ipnetwork_is_subnet_of(&bad, &good, &answer) == wanted);
+        CHECK("bad", ipnetwork_is_subnet_of(&good, &bad, &answer) == wanted);
+        CHECK("bad", ipnetwork_is_subnet_of(&past, &bad, &answer) == PREF);
+        CHECK("bad", ipnetwork_overlaps(&bad, &good, &answer) == wanted);
+        CHECK("bad", ipnetwork_overlaps(&good, &bad, &answer) == wanted);
+        CHECK("bad", ipnetwork_compare(&bad, &good, &order) == wanted);
+        CHECK("bad", ipnetwork_compare(&good, &bad, &order) == wanted);
+        CHECK("bad", ipnetwork_compare(&past, &bad, &order) == PREF);
+    }
+    for (unsigned count = 0; count <= 255; count++) {
+        address.length = (uint8_t)count;
+        size_t told = 77;
+        char printed[IPNETWORK_ADDRESS_TEXT] = {77};
+        ipnetwork_fault wanted = count == 4 || count == 16 ? YES : IPNETWORK_NO_FAMILY;
+        CHECK("length", ipnetwork_address_canonical(&address, printed, sizeof printed, &told) == wanted);
+        CHECK("length", wanted == YES || (printed[0] == 77 && told == 77));
+    }
+    static const char *const texts[] = {"", "10.0.0.0/8", "10.0.0", "10.0.0.256", "010.0.0.1", "::1%eth0", "[::1]", " ::1",
+                                        "1.2.3.4.", ":::", "1:2:3:4:5:6:7:8:9"};
+    for (size_t i = 0; i < sizeof texts / sizeof *texts; i++)
+        CHECK(texts[i], ipnetwork_address_read(texts[i], strlen(texts[i]), &read) == ADDR);
+    CHECK("written", read.octets[0] == 2 && read.length == 77 && address.octets[0] == 1);
+    CHECK("written", answer == 77 && order == 77 && text[0] == 77 && length == 77);
+}
+
 /* Structs, addresses and texts at odd places, since none of them is aligned to more than a byte. */
 static void odd_places(void) {
     for (size_t offset = 0; offset < 8; offset++) {
@@ -344,6 +450,7 @@ static void odd_places(void) {
 
 int main(void) {
     CHECK("layout", sizeof(ipnetwork_v4) == 5 && sizeof(ipnetwork_v6) == 17 && sizeof(ipnetwork_ip) == 23);
+    CHECK("layout", sizeof(ipnetwork_address) == 17);
     CHECK("version", ipnetwork_abi_version() == IPNETWORK_ABI_VERSION);
     texts();
     buffers();
@@ -351,6 +458,8 @@ int main(void) {
     questions_v6();
     past_the_width();
     either();
+    questions_of_either();
+    refused_of_either();
     odd_places();
     if (failures == 0)
         printf("C: all rows as expected\n");

@@ -92,7 +92,7 @@ def _load() -> ctypes.CDLL:
     size, word = ctypes.c_size_t, ctypes.c_uint32
     library.ipnetwork_abi_version.restype = word
     library.ipnetwork_abi_version.argtypes = []
-    if library.ipnetwork_abi_version() != 1:
+    if library.ipnetwork_abi_version() != 2:
         raise ImportError("libipnetwork_c is of another version than ipnetwork.py")
     library.ipnetwork_read.argtypes = [text, size, pointer]
     library.ipnetwork_read.restype = word

@@ -12,14 +12,17 @@
 //! assert_eq!(network.to_string(), "10.1.9.32/16");
 //! # Ok::<(), ipnetwork_c::Fault>(())
 //! ```
+#![no_std]
+#![warn(clippy::undocumented_unsafe_blocks)]
 
-use std::cmp::Ordering;
-use std::error::Error;
-use std::fmt;
-use std::net::{IpAddr, Ipv4Addr, Ipv6Addr};
-use std::str::FromStr;
+use core::cmp::Ordering;
+use core::error::Error;
+use core::fmt;
+use core::net::{IpAddr, Ipv4Addr, Ipv6Addr};
+use core::str::FromStr;
 
 /// Why there is no network, or no answer.
+#[non_exhaustive]
 #[derive(Clone, Copy, Debug, PartialEq, Eq, Hash)]
 pub enum Fault {
     /// The text holds two or more `/`.
@@ -31,6 +34,8 @@ pub enum Fault {
     Prefix,
     /// The address is no mask.
     NoMask,
+    /// The network is of the other family.
+    Family,
 }
 
 impl fmt::Display for Fault {
@@ -40,6 +45,7 @@ impl fmt::Display for Fault {
             Fault::Address => "no address before the slash, or no network of either family",
             Fault::Prefix => "no prefix length of the family",
             Fault::NoMask => "no mask",
+            Fault::Family => "a network of the other family",
         })
     }
 }
@@ -115,7 +121,7 @@ mod c {
 }
 
 /// The version of the C side that this crate was written for.
-pub const ABI_VERSION: u32 = 1;
+pub const ABI_VERSION: u32 = 2;
 
 /// The version of the library that is linked.
 pub fn abi_version() -> u32 {
@@ -166,7 +172,7 @@ macro_rules! family {
             /// `Fault::Prefix`, the first that holds.
             pub fn read_bytes(text: &[u8]) -> Result<Self, Fault> {
                 let mut network = Self::BLANK;
-                // A slice is never null, and has this many bytes.
+                // SAFETY: a slice is never null, and has this many bytes.
                 result(unsafe { c::$read(text.as_ptr(), text.len(), &mut network) })?;
                 Ok($name(network))
             }
@@ -231,6 +237,13 @@ macro_rules! family {
             }
         }
 
+        impl From<$address> for $name {
+            /// The network of this address alone, whose prefix length is the full width.
+            fn from(address: $address) -> Self {
+                $name(c::Network { address: address.octets(), prefix: $octets * 8 })
+            }
+        }
+
         impl FromStr for $name {
             type Err = Fault;
 
@@ -243,9 +256,9 @@ macro_rules! family {
             fn fmt(&self, f: &mut fmt::Formatter<'_>) -> fmt::Result {
                 let mut buffer = [0; $text];
                 let mut length = 0;
-                // The buffer has this many bytes.
+                // SAFETY: the buffer has this many bytes.
                 answered(unsafe { c::$canonical(&self.0, buffer.as_mut_ptr(), buffer.len(), &mut length) });
-                f.pad(std::str::from_utf8(&buffer[..length]).map_err(|_| fmt::Error)?)
+                f.pad(core::str::from_utf8(&buffer[..length]).map_err(|_| fmt::Error)?)
             }
         }
 
@@ -342,7 +355,7 @@ impl IpNetwork {
             v4: Ipv4Network::BLANK,
             v6: Ipv6Network::BLANK,
         };
-        // A slice is never null, and has this many bytes.
+        // SAFETY: a slice is never null, and has this many bytes.
         result(unsafe { c::ipnetwork_read(text.as_ptr(), text.len(), &mut either) })?;
         Ok(match either.family {
             4 => IpNetwork::V4(Ipv4Network(either.v4)),
@@ -365,22 +378,129 @@ impl IpNetwork {
             },
         };
         let mut answer = 0;
-        // The octets are as many as the length says.
-        answered(match address {
-            IpAddr::V4(address) => {
-                let octets = address.octets();
-                unsafe {
-                    c::ipnetwork_contains(&either, octets.as_ptr(), octets.len(), &mut answer)
-                }
-            }
-            IpAddr::V6(address) => {
-                let octets = address.octets();
-                unsafe {
-                    c::ipnetwork_contains(&either, octets.as_ptr(), octets.len(), &mut answer)
-                }
-            }
-        });
+        let mut ask = |octets: &[u8]| {
+            // SAFETY: a slice is never null, and has this many bytes.
+            answered(unsafe {
+                c::ipnetwork_contains(&either, octets.as_ptr(), octets.len(), &mut answer)
+            });
+        };
+        match address {
+            IpAddr::V4(address) => ask(&address.octets()),
+            IpAddr::V6(address) => ask(&address.octets()),
+        }
         answer == 1
+    }
+
+    /// The network of this address, host bits kept, and this prefix length; `Fault::Prefix` past the width.
+    pub fn new(address: IpAddr, prefix: u8) -> Result<Self, Fault> {
+        Ok(match address {
+            IpAddr::V4(address) => IpNetwork::V4(Ipv4Network::new(address, prefix)?),
+            IpAddr::V6(address) => IpNetwork::V6(Ipv6Network::new(address, prefix)?),
+        })
+    }
+
+    /// The address, host bits included.
+    pub fn ip(&self) -> IpAddr {
+        match self {
+            IpNetwork::V4(network) => network.ip().into(),
+            IpNetwork::V6(network) => network.ip().into(),
+        }
+    }
+
+    /// The prefix length.
+    pub fn prefix(&self) -> u8 {
+        match self {
+            IpNetwork::V4(network) => network.prefix(),
+            IpNetwork::V6(network) => network.prefix(),
+        }
+    }
+
+    /// The least member: the address with its host bits cleared.
+    pub fn network(&self) -> IpAddr {
+        match self {
+            IpNetwork::V4(network) => network.network().into(),
+            IpNetwork::V6(network) => network.network().into(),
+        }
+    }
+
+    /// The greatest member: the address with its host bits set.
+    pub fn broadcast(&self) -> IpAddr {
+        match self {
+            IpNetwork::V4(network) => network.broadcast().into(),
+            IpNetwork::V6(network) => network.broadcast().into(),
+        }
+    }
+
+    /// The mask of the prefix length, in the network's family.
+    pub fn mask(&self) -> IpAddr {
+        match self {
+            IpNetwork::V4(network) => network.mask().into(),
+            IpNetwork::V6(network) => network.mask().into(),
+        }
+    }
+
+    /// Whether each member of this network is a member of `other`; `false` if they are of different families.
+    pub fn is_subnet_of(&self, other: &Self) -> bool {
+        match (self, other) {
+            (IpNetwork::V4(inner), IpNetwork::V4(outer)) => inner.is_subnet_of(outer),
+            (IpNetwork::V6(inner), IpNetwork::V6(outer)) => inner.is_subnet_of(outer),
+            _ => false,
+        }
+    }
+
+    /// Whether some address is a member of both.
+    pub fn overlaps(&self, other: &Self) -> bool {
+        match (self, other) {
+            (IpNetwork::V4(one), IpNetwork::V4(other)) => one.overlaps(other),
+            (IpNetwork::V6(one), IpNetwork::V6(other)) => one.overlaps(other),
+            _ => false,
+        }
+    }
+}
+
+impl From<Ipv4Network> for IpNetwork {
+    fn from(network: Ipv4Network) -> Self {
+        IpNetwork::V4(network)
+    }
+}
+
+impl From<Ipv6Network> for IpNetwork {
+    fn from(network: Ipv6Network) -> Self {
+        IpNetwork::V6(network)
+    }
+}
+
+impl From<IpAddr> for IpNetwork {
+    /// The network of this address alone.
+    fn from(address: IpAddr) -> Self {
+        match address {
+            IpAddr::V4(address) => IpNetwork::V4(address.into()),
+            IpAddr::V6(address) => IpNetwork::V6(address.into()),
+        }
+    }
+}
+
+impl TryFrom<IpNetwork> for Ipv4Network {
+    type Error = Fault;
+
+    /// The network itself; `Fault::Family` if it is an IPv6 network.
+    fn try_from(network: IpNetwork) -> Result<Self, Fault> {
+        match network {
+            IpNetwork::V4(network) => Ok(network),
+            IpNetwork::V6(_) => Err(Fault::Family),
+        }
+    }
+}
+
+impl TryFrom<IpNetwork> for Ipv6Network {
+    type Error = Fault;
+
+    /// The network itself; `Fault::Family` if it is an IPv4 network.
+    fn try_from(network: IpNetwork) -> Result<Self, Fault> {
+        match network {
+            IpNetwork::V4(_) => Err(Fault::Family),
+            IpNetwork::V6(network) => Ok(network),
+        }
     }
 }
 

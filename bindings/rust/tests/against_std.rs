@@ -302,6 +302,21 @@ macro_rules! questions {
                 let (inside, meet) = (from <= low && high <= to, low <= to && from <= high);
                 assert_eq!(one.is_subnet_of(&other), inside, "{one} {other}");
                 assert_eq!(one.overlaps(&other), meet, "{one} {other}");
+                let (either, second) = (IpNetwork::from(one), IpNetwork::from(other));
+                assert_eq!(
+                    either,
+                    IpNetwork::new(IpAddr::$either(address(a)), p).unwrap()
+                );
+                assert_eq!(
+                    (either.ip(), either.prefix()),
+                    (IpAddr::$either(address(a)), p)
+                );
+                assert_eq!(either.network(), IpAddr::$either(address(low)), "{one}");
+                assert_eq!(either.broadcast(), IpAddr::$either(address(high)), "{one}");
+                assert_eq!(either.mask(), IpAddr::$either(address(ones)), "{one}");
+                assert_eq!(either.is_subnet_of(&second), inside, "{one} {other}");
+                assert_eq!(either.overlaps(&second), meet, "{one} {other}");
+                assert_eq!($network::try_from(either), Ok(one));
                 let same = make(a, q);
                 assert_eq!(one.cmp(&other), (a, p).cmp(&(b, q)), "{one} {other}");
                 assert_eq!(one.cmp(&same), p.cmp(&q), "{one} {same}");
@@ -359,4 +374,23 @@ fn past_the_width_and_other_family() {
     assert_eq!(ipnetwork_c::abi_version(), ipnetwork_c::ABI_VERSION);
     let ip: IpNetwork = "2001:db8::1/64".parse().unwrap();
     assert_eq!(format!("{ip:>18}|"), "    2001:db8::1/64|");
+}
+
+#[test]
+fn families_apart() {
+    let four = IpNetwork::from(IpAddr::V4(Ipv4Addr::LOCALHOST));
+    let six = IpNetwork::from(IpAddr::V6(Ipv6Addr::LOCALHOST));
+    assert_eq!(
+        (four.to_string(), six.to_string()),
+        ("127.0.0.1/32".into(), "::1/128".into())
+    );
+    let all: IpNetwork = "::/0".parse().unwrap();
+    assert!(six.is_subnet_of(&all) && six.overlaps(&all));
+    assert!(!four.is_subnet_of(&all) && !four.overlaps(&all) && !all.is_subnet_of(&four));
+    assert_eq!(Ipv6Network::try_from(four), Err(Fault::Family));
+    assert_eq!(Ipv4Network::try_from(six), Err(Fault::Family));
+    assert_eq!(
+        IpNetwork::new(IpAddr::V4(Ipv4Addr::LOCALHOST), 33),
+        Err(Fault::Prefix)
+    );
 }

@@ -1,6 +1,9 @@
--- A truth as a byte.
-use Rattle.std.proofs.Common.{◌≡◌, ◌↔◌, ℕ, Bool, true, false, IsTrue, arith, refl}
+-- A truth as a byte, and an order as a number of 32 bits.
+use Rattle.std.proofs.Common.{◌≡◌, ◌↔◌, ℕ, ℤ, to_z, of_z, w32, Bool, true, false, IsTrue, arith, refl}
 use Rattle.std.specs.Int.{from_bool}
+use Rattle.std.specs.declared.cmp.Ordering.{Ordering}
+use Rattle.std.specs.declared.cmp.Ordering.TheVariants.{Less, Equal, Greater}
+use Rattle.ipnetwork_c.specs.Numbers.{order_number}
 use Rattle.ipnetwork_c.specs.Answers.{IsFlag}
 
 no_true : IsTrue false → ⊥
@@ -9,3 +12,8 @@ no_true t = cc
 pub says : (P : Type 0) (b : Bool) (byte : ℕ) → byte ≡ from_bool b → (IsTrue b ↔ P) → IsFlag P byte
 says P true byte is iff = (omega (arith, is), ((λ _. iff.0 refl), (λ _. is)))
 says P false byte is iff = (omega (arith, is), ((λ one. absurd (omega (arith, is, one))), (λ p. absurd (no_true (iff.1 p)))))
+
+pub order_kept : (order : Ordering) (z : ℤ) → z ≡ order_number order → to_z w32 (of_z w32 z) ≡ order_number order
+order_kept Less z is = rw is refl
+order_kept Equal z is = rw is refl
+order_kept Greater z is = rw is refl

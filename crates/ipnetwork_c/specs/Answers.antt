@@ -1,4 +1,4 @@
--- What a call of C answers, a number of `Numbers`, and what it leaves where the caller has it write: the answer, or
+-- What a call of C returns, a number of `Numbers`, and what it leaves if the caller has it write: the result, or
 -- what stood there before.
 use Rattle.std.specs.Prelude.{◌≡◌, ◌↔◌, ℕ, ◌+◌, ◌<◌, ◌≤◌, List, ◌∷◌, ◌++◌, drop, length, Result, Ok, Err}
 use Rattle.ipnetwork_family.specs.Network.{Network, IsNoMask, mask_of, size_of, low}
@@ -11,25 +11,25 @@ abbrev pub WritesReading : {N C : Type 0} → (C → N → Type 0) → C → C �
 WritesReading Holds before after code (Ok n) = (code ≡ ok) × Holds after n
 WritesReading Holds before after code (Err fault) = (code ≡ fault_number fault) × (after ≡ before)
 
--- what reading the text answers is told
+-- what reading the text returns is told
 abbrev pub ReadsInto : {N C : Type 0} → (List ℕ → Result N CidrFault → Type 0) → (C → N → Type 0) → List ℕ → C → C → ℕ → Type 0
 ReadsInto {N} Reads Holds text before after code =
     (read : Result N CidrFault) × Reads text read × WritesReading Holds before after code read
 
--- what is asked of networks whose prefix lengths fit is answered; where they do not fit, the number is `prefix`
+-- what is asked of networks whose prefix lengths fit is answered; if they do not fit, the number is `prefix`
 pub data QueryResult {A : Type 0} (AllFit : Type 0) (Answers : A → Type 0) (before after : A) (code : ℕ) : Type 0 where
   Answered : AllFit → code ≡ ok → Answers after → QueryResult AllFit Answers before after code
   Refused : ¬ AllFit → code ≡ prefix → after ≡ before → QueryResult AllFit Answers before after code
 
--- a byte that is 1 where it holds, and 0 where it does not
+-- a byte that is 1 if it is true, and 0 if it is not
 abbrev pub IsFlag : Type 0 → ℕ → Type 0
 IsFlag Holds byte = (byte ≤ 1) × ((byte ≡ 1) ↔ Holds)
 
--- the text stands at the front of the buffer with a zero byte behind it, and nothing else of the buffer has changed
+-- the text stands at the front of the buffer with a zero byte after it, and nothing else of the buffer has changed
 abbrev pub StandsIn : List ℕ → List ℕ → List ℕ → Type 0
 StandsIn text before after = after ≡ text ++ 0 ∷ drop (length text + 1) before
 
--- the text of a network is put into a buffer, and its length is told, even where the buffer is too short
+-- the text of a network is put into a buffer, and its length is told, even if the buffer is too short
 pub data WritesText (w : ℕ) (n : Network) (text before after : List ℕ) (told_before told code : ℕ) : Type 0 where
   Put : PrefixFits w n → length text < length before → code ≡ ok → told ≡ length text → StandsIn text before after → WritesText w n text before after told_before told code
   TooShort : PrefixFits w n → length before ≤ length text → code ≡ short_buffer → told ≡ length text → after ≡ before → WritesText w n text before after told_before told code

@@ -21,7 +21,7 @@ address = 2
 abbrev pub prefix : ℕ
 prefix = 3
 
--- a buffer without room for the text and a zero byte behind it
+-- a buffer without room for the text and a zero byte after it
 abbrev pub short_buffer : ℕ
 short_buffer = 4
 
@@ -43,7 +43,7 @@ fault_number Format = format
 fault_number Addr = address
 fault_number Prefix = prefix
 
--- which of two comes first: less than 0 for the first, 0 where they are equal
+-- which of two comes first: less than 0 for the first, 0 if they are equal
 abbrev pub order_number : Ordering → ℤ
 order_number Less = negsuc 0
 order_number Equal = pos 0

@@ -1,2 +1,3 @@
 -- What the private functions promise each other.
 pub mod Texts
+pub mod Structs

@@ -6,23 +6,26 @@
 
 ghost use Rattle.std.specs.Prelude.{◌≡◌};
 
+mod address;
 mod either;
 mod fault;
 mod ipv4;
 mod ipv6;
 pub mod laws;
 mod order;
+mod questions;
 mod structs;
 #[cfg(test)]
 mod tests;
 mod text;
 
+pub use address::AddressInC;
 pub use structs::{IpInC, Ipv4InC, Ipv6InC};
 
 /// The version of what C relies on: the names, the structs and the numbers. A change of any of them changes it.
 #[unsafe(no_mangle)]
 pub extern "C" fn ipnetwork_abi_version() -> u32
-    ensures { result ≡ 1 }
+    ensures { result ≡ 2 }
 {
-    1
+    2
 }

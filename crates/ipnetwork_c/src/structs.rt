@@ -3,7 +3,9 @@ ghost use Rattle.std.specs.Prelude.{◌≡◌, ◌≤◌};
 ghost use Rattle.std.specs.Option.{SomeIff};
 ghost use Rattle.ipnetwork_c.specs.Held.{v4_in, v6_in, PrefixFits, HoldsV4, HoldsV6, number_of_octets};
 ghost use Rattle.ipnetwork_c.specs.Either.{HoldsIp};
+ghost use Rattle.ipnetwork_c.specs.Private.Structs.{HeldNetwork};
 
+use crate::fault::{NO_FAMILY, PREFIX};
 use ipnetwork::{IpNetwork, Ipv4Addr, Ipv4Network, Ipv6Addr, Ipv6Network};
 
 /// An IPv4 network as C holds it. Nothing is known of its prefix length.
@@ -104,6 +106,26 @@ impl IpInC {
                 },
                 v6: Ipv6InC::of(network),
             },
+        }
+    }
+
+    /// The network of the family that the struct tells. `NO_FAMILY` if that is neither 4 nor 6, else `PREFIX` if the
+    /// prefix length is greater than the family's width.
+    pub(crate) fn network(&self) -> Result<IpNetwork, u32>
+        ensures { HeldNetwork self.now result }
+    {
+        if self.family == V4 {
+            return match self.v4.network() {
+                Some(network) => Ok(IpNetwork::V4(network)),
+                None => Err(PREFIX),
+            };
+        }
+        if self.family != V6 {
+            return Err(NO_FAMILY);
+        }
+        match self.v6.network() {
+            Some(network) => Ok(IpNetwork::V6(network)),
+            None => Err(PREFIX),
         }
     }
 }

@@ -1,10 +1,12 @@
 //! Each call once, with rows whose answers are those of the RFCs' examples and of arithmetic by hand. The tests in C,
 //! `bindings/c`, go further: they call what the linker sees.
 
+use crate::address::*;
 use crate::either::{ipnetwork_contains, ipnetwork_read};
 use crate::ipnetwork_abi_version;
 use crate::ipv4::*;
 use crate::ipv6::*;
+use crate::questions::*;
 use crate::structs::{IpInC, Ipv4InC, Ipv6InC};
 use std::test::Fail;
 
@@ -142,8 +144,75 @@ fn calls_of_either(rt: HostRuntime) -> Result<(), Fail> {
     ];
     assert_eq!(rt; (net.family, net.v6.prefix, has), (6, 32, 1));
     assert_eq!(rt; told, [7, 0, 0, 7]);
-    assert_eq!(rt; ipnetwork_abi_version(), 1);
+    assert_eq!(rt; ipnetwork_abi_version(), 2);
     Ok(())
+}
+
+const NO_ADDRESS: AddressInC = AddressInC {
+    octets: [0xff; 16],
+    length: 0,
+};
+
+#[test]
+fn questions_of_either(rt: HostRuntime) {
+    let mut net = IpInC {
+        family: 0,
+        v4: NO_V4,
+        v6: NO_V6,
+    };
+    let mut wide = net;
+    let mut low = NO_ADDRESS;
+    let mut high = NO_ADDRESS;
+    let mut mask = NO_ADDRESS;
+    let told = [
+        ipnetwork_network(&net, &mut low),
+        ipnetwork_read(b"192.0.2.77/26", &mut net),
+        ipnetwork_read(b"2001:db8::1/32", &mut wide),
+        ipnetwork_network(&net, &mut low),
+        ipnetwork_broadcast(&wide, &mut high),
+        ipnetwork_mask(&net, &mut mask),
+    ];
+    assert_eq!(rt; told, [7, 0, 0, 0, 0, 0]);
+    assert_eq!(rt; (low.length, high.length, mask.length), (4, 16, 4));
+    assert_eq!(rt;
+        low.octets,
+        [192, 0, 2, 64, 0, 0, 0, 0, 0, 0, 0, 0, 0, 0, 0, 0]
+    );
+    assert_eq!(rt; (mask.octets[3], mask.octets[4]), (192, 0));
+    assert_eq!(rt; (high.octets[3], high.octets[15]), (0xb8, 255));
+    let (mut inside, mut meet, mut order) = (9, 9, 9);
+    let asked = [
+        ipnetwork_is_subnet_of(&net, &net, &mut inside),
+        ipnetwork_overlaps(&net, &wide, &mut meet),
+        ipnetwork_compare(&wide, &net, &mut order),
+    ];
+    assert_eq!(rt; asked, [0, 0, 0]);
+    assert_eq!(rt; (inside, meet, order), (1, 0, 1));
+    let mut text = [0xff; 15];
+    let mut length = 0;
+    assert_eq!(rt; ipnetwork_canonical(&net, &mut text, &mut length), 0);
+    assert_eq!(rt; (length, text), (13, *b"192.0.2.77/26\0\xff"));
+}
+
+#[test]
+fn addresses_read_and_printed(rt: HostRuntime) {
+    let mut address = NO_ADDRESS;
+    let mut text = [0xff; 11];
+    let mut length = 0;
+    let told = [
+        ipnetwork_address_canonical(&address, &mut text, &mut length),
+        ipnetwork_address_read(b"2001:db8::1/32", &mut address),
+        ipnetwork_address_read(b"2001:DB8:0::1", &mut address),
+        ipnetwork_address_canonical(&address, &mut text, &mut length),
+    ];
+    assert_eq!(rt; told, [7, 2, 0, 4]);
+    assert_eq!(rt; (length, address.length), (11, 16));
+    let mut room = [0xff; 13];
+    assert_eq!(rt;
+        ipnetwork_address_canonical(&address, &mut room, &mut length),
+        0
+    );
+    assert_eq!(rt; room, *b"2001:db8::1\0\xff");
 }
 
 // The header's numbers: `IPNETWORK_SHORT_BUFFER` and `IPNETWORK_NO_FAMILY`.

@@ -1,8 +1,11 @@
 //! Texts put into a buffer of C.
 ghost use Rattle.std.specs.Prelude.{◌≡◌, length as len};
 ghost use Rattle.ipnetwork_c.specs.Private.Texts.{CopiesText, CopyResult};
+ghost use Rattle.ipnetwork_addr.specs.Either.{canonical_ip};
+ghost use Rattle.ipnetwork.specs.IpNetworkText.{ip_network_text};
 
 use crate::fault::{OK, SHORT_BUFFER};
+use ipnetwork::{IpAddr, IpNetwork};
 
 /// Puts a text into the front of a buffer, with a zero byte behind it. Nothing else changes; `false` where there is
 /// no room, and then nothing changes.
@@ -25,4 +28,20 @@ pub(crate) fn tell(text: &[u8], buffer: &mut [u8], length: &mut usize) -> u32
 {
     *length = text.len();
     if put(text, buffer) { OK } else { SHORT_BUFFER }
+}
+
+/// The canonical text of a network of either family, as `tell` puts it.
+pub(crate) fn tell_network(network: &IpNetwork, buffer: &mut [u8], length: &mut usize) -> u32
+    ensures told { length.new ≡ len (ip_network_text network.now) }
+    ensures put { CopyResult (ip_network_text network.now) buffer.old buffer.new result }
+{
+    tell(network.canonical().as_str().as_bytes(), buffer, length)
+}
+
+/// The canonical text of an address of either family, as `tell` puts it.
+pub(crate) fn tell_address(address: &IpAddr, buffer: &mut [u8], length: &mut usize) -> u32
+    ensures told { length.new ≡ len (canonical_ip address.now) }
+    ensures put { CopyResult (canonical_ip address.now) buffer.old buffer.new result }
+{
+    tell(address.canonical().as_str().as_bytes(), buffer, length)
 }

@@ -1,0 +1,85 @@
+//! Addresses of either family for C.
+ghost use Rattle.std.specs.Prelude.{◌≡◌};
+ghost use Rattle.ipnetwork_c.specs.Either.{HoldsAddress, held_address, ReadsAddress, WritesAddressText};
+
+use crate::fault::{ADDRESS, NO_FAMILY, OK};
+use crate::structs::address_of;
+use crate::text;
+use ipnetwork::{IpAddr, Ipv4Addr};
+
+/// An address of either family as C holds it: its octets in network order, and how many they are.
+#[repr(C)]
+#[derive(Clone, Copy)]
+pub struct AddressInC {
+    /// The octets, the highest first, and zeros behind those of an IPv4 address.
+    pub octets: [u8; 16],
+    /// 4 or 16.
+    pub length: u8,
+}
+
+impl AddressInC {
+    /// The struct that holds an address.
+    pub(crate) fn of(address: IpAddr) -> Self
+        ensures { HoldsAddress result address }
+    {
+        match address {
+            IpAddr::V4(address) => {
+                let [a, b, c, d] = address.octets();
+                AddressInC {
+                    octets: [a, b, c, d, 0, 0, 0, 0, 0, 0, 0, 0, 0, 0, 0, 0],
+                    length: 4,
+                }
+            }
+            IpAddr::V6(address) => AddressInC {
+                octets: address.octets(),
+                length: 16,
+            },
+        }
+    }
+
+    /// The address, if 4 or 16 octets are told.
+    pub(crate) fn address(&self) -> Option<IpAddr>
+        ensures { result ≡ held_address self.now }
+    {
+        if self.length == 4 {
+            let [a, b, c, d, ..] = self.octets;
+            return Some(IpAddr::V4(Ipv4Addr::from([a, b, c, d])));
+        }
+        if self.length == 16 {
+            return Some(IpAddr::V6(address_of(&self.octets)));
+        }
+        None
+    }
+}
+
+/// The address of either family that a text of this many bytes names, as `IpAddr::read_bytes` reads it: `OK`, and the
+/// address is written. Any other text is `ADDRESS`.
+#[unsafe(no_mangle)]
+pub extern "C" fn ipnetwork_address_read(text: &[u8], address: &mut AddressInC) -> u32
+    ensures { ReadsAddress text.now address.old address.new result }
+{
+    match IpAddr::read_bytes(text) {
+        Ok(read) => {
+            *address = AddressInC::of(read);
+            OK
+        }
+        Err(_) => ADDRESS,
+    }
+}
+
+/// The canonical text of an address and a zero byte behind it, in a buffer of this many bytes, of which 40 are enough.
+/// The length of the text, without the zero byte, is told too. `SHORT_BUFFER` if the buffer has no room for both: then
+/// the length is told and nothing else is written. `NO_FAMILY` if the struct tells neither 4 nor 16 octets.
+#[unsafe(no_mangle)]
+pub extern "C" fn ipnetwork_address_canonical(
+    address: &AddressInC,
+    buffer: &mut [u8],
+    length: &mut usize,
+) -> u32
+    ensures { WritesAddressText address.now buffer.old buffer.new length.old length.new result }
+{
+    match address.address() {
+        Some(address) => text::tell_address(&address, buffer, length),
+        None => NO_FAMILY,
+    }
+}

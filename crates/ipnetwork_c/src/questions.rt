@@ -1,0 +1,124 @@
+//! The questions about networks of either family. Each is refused if a struct stands for no network: `NO_FAMILY` if its
+//! family is neither 4 nor 6, else `PREFIX` if its prefix length is greater than the family's width.
+ghost use Rattle.std.specs.Prelude.{◌≡◌};
+ghost use Rattle.ipnetwork.specs.IpNetworks.{ip_low, ip_high, ip_mask_of, IpSubnet, IpOverlap, ip_network_cmp};
+ghost use Rattle.ipnetwork_c.specs.Numbers.{order_number};
+ghost use Rattle.ipnetwork_c.specs.Answers.{IsFlag};
+ghost use Rattle.ipnetwork_c.specs.Either.{IpQuery, IpPairQuery, WritesIpText, HoldsAddress};
+
+use crate::address::AddressInC;
+use crate::fault::OK;
+use crate::order::number_between;
+use crate::structs::IpInC;
+use crate::text;
+
+/// The canonical text and a zero byte behind it, in a buffer of this many bytes, of which 44 are enough. The length of
+/// the text, without the zero byte, is told too. `SHORT_BUFFER` if the buffer has no room for both: then the length is
+/// told and nothing else is written.
+#[unsafe(no_mangle)]
+pub extern "C" fn ipnetwork_canonical(network: &IpInC, buffer: &mut [u8], length: &mut usize) -> u32
+    ensures { WritesIpText network.now buffer.old buffer.new length.old length.new result }
+{
+    match network.network() {
+        Ok(network) => text::tell_network(&network, buffer, length),
+        Err(fault) => fault,
+    }
+}
+
+/// The least member: the address with its host bits cleared.
+#[unsafe(no_mangle)]
+pub extern "C" fn ipnetwork_network(network: &IpInC, address: &mut AddressInC) -> u32
+    ensures { IpQuery network.now (λ n held. HoldsAddress held (ip_low n)) address.old address.new result }
+{
+    match network.network() {
+        Ok(network) => {
+            *address = AddressInC::of(network.network());
+            OK
+        }
+        Err(fault) => fault,
+    }
+}
+
+/// The greatest member: the address with its host bits set.
+#[unsafe(no_mangle)]
+pub extern "C" fn ipnetwork_broadcast(network: &IpInC, address: &mut AddressInC) -> u32
+    ensures { IpQuery network.now (λ n held. HoldsAddress held (ip_high n)) address.old address.new result }
+{
+    match network.network() {
+        Ok(network) => {
+            *address = AddressInC::of(network.broadcast());
+            OK
+        }
+        Err(fault) => fault,
+    }
+}
+
+/// The mask, in the network's family.
+#[unsafe(no_mangle)]
+pub extern "C" fn ipnetwork_mask(network: &IpInC, mask: &mut AddressInC) -> u32
+    ensures { IpQuery network.now (λ n held. HoldsAddress held (ip_mask_of n)) mask.old mask.new result }
+{
+    match network.network() {
+        Ok(network) => {
+            *mask = AddressInC::of(network.mask());
+            OK
+        }
+        Err(fault) => fault,
+    }
+}
+
+/// Whether each member of the first network is a member of the second, as 1 or 0: 0 if they are of different families.
+/// Host bits change nothing. The first struct is judged first.
+#[unsafe(no_mangle)]
+pub extern "C" fn ipnetwork_is_subnet_of(inner: &IpInC, outer: &IpInC, answer: &mut u8) -> u32
+    ensures { IpPairQuery inner.now outer.now (λ a b. IsFlag (IpSubnet a b)) answer.old answer.new result }
+{
+    let inner = match inner.network() {
+        Ok(network) => network,
+        Err(fault) => return fault,
+    };
+    match outer.network() {
+        Ok(outer) => {
+            *answer = u8::from(inner.is_subnet_of(outer));
+            OK
+        }
+        Err(fault) => fault,
+    }
+}
+
+/// Whether some address is a member of both, as 1 or 0. The first struct is judged first.
+#[unsafe(no_mangle)]
+pub extern "C" fn ipnetwork_overlaps(one: &IpInC, other: &IpInC, answer: &mut u8) -> u32
+    ensures { IpPairQuery one.now other.now (λ a b. IsFlag (IpOverlap a b)) answer.old answer.new result }
+{
+    let one = match one.network() {
+        Ok(network) => network,
+        Err(fault) => return fault,
+    };
+    match other.network() {
+        Ok(other) => {
+            *answer = u8::from(one.overlaps(other));
+            OK
+        }
+        Err(fault) => fault,
+    }
+}
+
+/// Which of two networks comes first: -1 the first, 1 the second, 0 if they are equal. Each IPv4 network is before each
+/// IPv6 network; in a family the address decides, then the prefix length. The first struct is judged first.
+#[unsafe(no_mangle)]
+pub extern "C" fn ipnetwork_compare(one: &IpInC, other: &IpInC, order: &mut i32) -> u32
+    ensures { IpPairQuery one.now other.now (λ a b told. told ≡ order_number (ip_network_cmp a b)) order.old order.new result }
+{
+    let one = match one.network() {
+        Ok(network) => network,
+        Err(fault) => return fault,
+    };
+    match other.network() {
+        Ok(other) => {
+            *order = number_between(one, other);
+            OK
+        }
+        Err(fault) => fault,
+    }
+}
