@@ -1,0 +1,32 @@
+use Rattle.std.proofs.Common.{◌+◌, ◌-◌, length, take, drop, arith}
+use Rattle.line_engine.proofs.BytesLemmas.{first_behind}
+use Rattle.cidr_filter.proofs.Filtering.{advances_nowhere, advances_on, line_advances}
+use Rattle.cidr_filter.proofs.LogLines.{next_from, absent_front, further}
+use Rattle.cidr_filter.proofs.Parts.{rest_from}
+use Rattle.cidr_filter.proofs.log.filter_lines.Goals as goal
+
+pub lines-init : goal.lines-init
+lines-init g c = record {
+  before = omega arith;
+  within = c.requires.within;
+  absent = absent_front c.args.piece.now c.args.held c.requires.absent;
+  advances = advances_nowhere c.args.filter.now c.args.counts _ c.args.piece.now;
+}
+
+pub returns-in_default-clause-absent : goal.returns-in_default-clause-absent
+returns-in_default-clause-absent g c = further c.args.piece.now c.lines.start c.lines.from (length c.args.piece.now) c.lines.invariant.absent c.in_default.ensures
+
+pub lines-preserved : goal.lines-preserved
+lines-preserved g c =
+    let piece = c.args.piece.now in
+    let start = c.lines.start in
+    let end = c.in-Some.end in
+    let next = next_from piece start c.lines.from end c.lines.invariant.before c.lines.invariant.absent c.in-Some.ensures in
+    record {
+      before = omega arith;
+      within = omega (arith, next.within);
+      absent = λ place low high. absurd (omega (arith, low, high));
+      advances = advances_on c.args.filter.now c.args.counts _ _ _ piece (drop start piece) (drop (end + 1) piece) c.lines.invariant.advances
+          (line_advances c.args.filter.now c.args.counts _ _ (take (end - start) (drop start piece)) c.without_carriage_return.result.now (drop start piece) (drop (end + 1) piece)
+          (rest_from 10 piece start end next) (first_behind 10 piece start end next).before c.without_carriage_return.ensures c.in_ok-filter_line.ensures);
+    }

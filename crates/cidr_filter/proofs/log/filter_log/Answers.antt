@@ -1,0 +1,43 @@
+use Rattle.std.proofs.Common.{[], ◌+◌, ◌-◌, take, arith}
+use Rattle.std.proofs.KnownBytes.{Consumes-nil}
+use Rattle.std.proofs.lemmas.List.{length-take-le}
+use Rattle.line_engine.specs.Watched.{device_of}
+use Rattle.cidr_filter.specs.Private.Progress.{stand}
+use Rattle.cidr_filter.proofs.Kept.{held_fits, held_absent}
+use Rattle.cidr_filter.proofs.Filtering.{advances_nowhere, ended_ok, piece_more}
+use Rattle.cidr_filter.proofs.log.filter_log.Goals as goal
+
+pub pieces-init : goal.pieces-init
+pieces-init g c = record {
+  fits = omega arith;
+  room = c.requires.room;
+  absent = λ place low high. absurd (omega (arith, low, high));
+  sofar = ([], Consumes-nil _, advances_nowhere c.args.filter.now c.args.counts _ []);
+}
+
+pub returns-then-count-eq0 : goal.returns-then-count-eq0
+returns-then-count-eq0 g c =
+    ended_ok c.finish.result c.args.filter.now c.args.counts _ _ _ _ _ _ c.pieces.buffer c.read_behind.new.buffer c.pieces.invariant.sofar.0 c.pieces.held c.in_ok-count.count
+    c.pieces.invariant.sofar.1 c.pieces.invariant.sofar.2 c.in_ok-count.ensures.read c.if-count-eq0.true c.finish.ensures
+
+pub pieces-preserved : goal.pieces-preserved
+pieces-preserved g c =
+    let held = c.pieces.held in
+    let count = c.in_ok-count.count in
+    let start = c.in_ok-start.start in
+    let contents = g.W.Write.contents in
+    let more = piece_more c.args.filter.now c.args.counts (g.R.Read.remaining (device_of c.args.reader.now)) (g.R.Read.remaining (device_of c.pieces.reader))
+    (g.R.Read.remaining (device_of c.read_behind.new.reader))
+    (stand (contents c.args.output.now.writer) c.args.output.now.waiting.items c.args.tally.now.selected)
+    (stand (contents c.pieces.output.writer) c.pieces.output.waiting.items c.pieces.tally.selected)
+    (stand (contents c.filter_piece.new.output.writer) c.filter_piece.new.output.waiting.items c.filter_piece.new.tally.selected)
+    c.pieces.buffer c.read_behind.new.buffer c.keep.new.buffer c.pieces.invariant.sofar.0 held count start c.in_ok-held.held
+    c.pieces.invariant.sofar.1 c.pieces.invariant.sofar.2 c.in_ok-count.ensures.read c.in_ok-start.ensures.within c.in_ok-start.ensures.absent
+    c.in_ok-start.ensures.advances c.keep.ensures.front c.in_ok-held.ensures in
+    record {
+      fits = held_fits c.args.filter.now (held + count - start) c.in_ok-held.held c.in_ok-held.ensures;
+      room = omega (arith, c.keep.ensures.length, c.read_behind.ensures.length, c.pieces.invariant.room);
+      absent = held_absent c.args.filter.now (take (held + count) c.read_behind.new.buffer) c.keep.new.buffer (held + count) start c.in_ok-held.held
+          (length-take-le (held + count) c.read_behind.new.buffer c.in_ok-count.ensures.read.0) c.keep.ensures.front c.in_ok-start.ensures.absent c.in_ok-held.ensures;
+      sofar = (more.0, more.1, more.2);
+    }

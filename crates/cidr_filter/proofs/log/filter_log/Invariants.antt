@@ -1,0 +1,19 @@
+use Rattle.std.proofs.Common.{◌≤◌, ◌<◌, List, ℕ, length, take}
+use Rattle.std.specs.Io.KnownBytes.{Consumes}
+use Rattle.byte_search.specs.Bytes.{IsAbsent}
+use Rattle.line_engine.specs.Watched.{device_of}
+use Rattle.cidr_filter.specs.Private.Progress.{stand, Advances}
+use Rattle.cidr_filter.proofs.log.filter_log.Given as goal
+
+abbrev pub invariant-pieces : goal.invariant-pieces
+invariant-pieces g l = record {
+  fits : l.held ≤ 1048578;
+  room : 1048578 < length l.buffer;
+  absent : IsAbsent 10 (take l.held l.buffer) 0 l.held;
+  sofar : (read : List ℕ) × Consumes (g.R.Read.remaining (device_of l.initial.reader)) (g.R.Read.remaining (device_of l.reader)) read
+      × Advances l.filter l.counts (stand (g.W.Write.contents l.initial.output.writer) l.initial.output.waiting.items l.initial.tally.selected)
+      (stand (g.W.Write.contents l.output.writer) l.output.waiting.items l.tally.selected) read (take l.held l.buffer);
+}
+
+abbrev pub decreases-pieces : goal.decreases-pieces
+decreases-pieces g l = l.room

@@ -1,0 +1,3 @@
+-- What the private functions promise each other.
+pub mod Judging
+pub mod Progress

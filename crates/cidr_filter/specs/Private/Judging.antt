@@ -1,0 +1,22 @@
+-- What a line is to the list, step by step.
+use Rattle.std.specs.Prelude.{ℕ, List}
+use Rattle.ipnetwork_addr.specs.Either.{NamesIp}
+use Rattle.ipnetwork_addr.specs.declared.ip.IpAddr.{IpAddr}
+use Rattle.cidr_filter.specs.Filters.{IsListed}
+use Rattle.cidr_filter.specs.declared.filter.Filter.{Filter}
+use Rattle.cidr_filter.specs.declared.filter.Verdict.{Verdict}
+use Rattle.cidr_filter.specs.declared.filter.Verdict.TheVariants as verdicts
+
+-- what a line that is not too long is to the list, by its field
+abbrev pub JudgesField : Filter → List ℕ → Verdict → Type 0
+JudgesField filter field verdicts.Inside = (address : IpAddr) × NamesIp field address × IsListed filter address
+JudgesField filter field verdicts.Outside = (address : IpAddr) × NamesIp field address × ¬ (IsListed filter address)
+JudgesField filter field verdicts.Bad = (address : IpAddr) → ¬ (NamesIp field address)
+JudgesField filter field verdicts.TooLong = ⊥
+
+-- and by its address
+abbrev pub JudgesAddress : Filter → IpAddr → Verdict → Type 0
+JudgesAddress filter address verdicts.Inside = IsListed filter address
+JudgesAddress filter address verdicts.Outside = ¬ (IsListed filter address)
+JudgesAddress filter address verdicts.Bad = ⊥
+JudgesAddress filter address verdicts.TooLong = ⊥

@@ -1,0 +1,38 @@
+//! The arguments of the program.
+use std::alloc::Global;
+use std::env;
+use std::io::ErrorKind;
+use std::rt::Env;
+
+/// Why there are no arguments to read.
+#[derive(Clone, Copy, Debug, PartialEq, Eq)]
+pub enum ArgumentsFault {
+    /// One is no UTF-8.
+    NotText,
+    /// There is no memory for them.
+    OutOfMemory,
+}
+
+/// The words behind the program's name.
+pub(crate) fn arguments<R: Env + Alloc<A = Global>>(rt: &R) -> Result<Vec<String>, ArgumentsFault> {
+    let mut words = match env::args(rt) {
+        Ok(words) => words,
+        Err(error) => return Err(arguments_fault(error.kind())),
+    };
+    let _program = words.next();
+    let mut all = Vec::new(rt.alloc());
+    for word in words {
+        if all.push(word).is_err() {
+            return Err(ArgumentsFault::OutOfMemory);
+        }
+    }
+    Ok(all)
+}
+
+// Why they could not be read.
+fn arguments_fault(kind: ErrorKind) -> ArgumentsFault {
+    match kind {
+        ErrorKind::OutOfMemory => ArgumentsFault::OutOfMemory,
+        _ => ArgumentsFault::NotText,
+    }
+}

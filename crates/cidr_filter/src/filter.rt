@@ -1,0 +1,116 @@
+//! What is told of a line, and whether it is selected.
+ghost use Rattle.std.specs.Prelude.{◌≡◌, ◌≤◌, ◌↔◌, IsTrue};
+ghost use Rattle.cidr_filter.specs.Filters.{Judges, IsListed, is_selected, is_refused};
+ghost use Rattle.cidr_filter.specs.Private.Judging.{JudgesField, JudgesAddress};
+
+use crate::field::field_of;
+use ipnetwork::{IpAddr, Ipv4Network, Ipv6Network};
+use ipnetwork_sets::AddressSet;
+
+/// The most bytes of a line, its end not counted.
+pub(crate) const LINE_MAX: usize = 1_048_576;
+
+/// What becomes of a line without an address.
+#[derive(Clone, Copy, Debug, PartialEq, Eq)]
+pub enum Bad {
+    /// It is not selected.
+    Drop,
+    /// It is selected.
+    Keep,
+    /// It ends the run.
+    Stop,
+}
+
+/// What a line is to a list.
+#[derive(Clone, Copy, Debug, PartialEq, Eq)]
+pub enum Verdict {
+    /// Its field holds an address of the list.
+    Inside,
+    /// Its field holds another address.
+    Outside,
+    /// Its field holds no address.
+    Bad,
+    /// It has more than 1,048,576 bytes, its end not counted.
+    TooLong,
+}
+
+/// By what lines are selected.
+#[derive(Debug, Drop)]
+pub struct Filter {
+    pub(crate) v4: AddressSet<Ipv4Network>,
+    pub(crate) v6: AddressSet<Ipv6Network>,
+    pub(crate) field: u32,
+    pub(crate) separator: u8,
+    pub(crate) inverts: bool,
+    pub(crate) bad: Bad,
+}
+
+impl Filter {
+    /// What a line is to the list. It is given without its end. Does not allocate.
+    pub(crate) fn judge(&self, line: &[u8]) -> Verdict
+        ensures { Judges self.now line.now result }
+    {
+        if line.len() > LINE_MAX {
+            return Verdict::TooLong;
+        }
+        match field_of(line, self.field, self.separator) {
+            Some(field) => self.judge_field(field),
+            None => Verdict::Bad,
+        }
+    }
+
+    // What a line with this field is to the list.
+    fn judge_field(&self, field: &[u8]) -> Verdict
+        ensures { JudgesField self.now field.now result }
+    {
+        match IpAddr::read_bytes(field) {
+            Ok(address) => self.judge_address(address),
+            Err(_) => Verdict::Bad,
+        }
+    }
+
+    // What a line with this address is to the list.
+    fn judge_address(&self, address: IpAddr) -> Verdict
+        ensures { JudgesAddress self.now address result }
+    {
+        if self.contains(address) {
+            Verdict::Inside
+        } else {
+            Verdict::Outside
+        }
+    }
+
+    // Whether the address is in the list.
+    fn contains(&self, address: IpAddr) -> bool
+        ensures { IsTrue result ↔ IsListed self.now address }
+    {
+        match address {
+            IpAddr::V4(address) => self.v4.contains(address),
+            IpAddr::V6(address) => self.v6.contains(address),
+        }
+    }
+
+    /// Whether a line of this verdict is selected.
+    pub(crate) fn selects(&self, verdict: Verdict) -> bool
+        ensures { result ≡ is_selected self.now verdict }
+    {
+        match verdict {
+            Verdict::Inside => !self.inverts,
+            Verdict::Outside => self.inverts,
+            Verdict::Bad => self.bad == Bad::Keep,
+            Verdict::TooLong => false,
+        }
+    }
+
+    /// Whether a line of this verdict ends the run.
+    pub(crate) fn refuses(&self, verdict: Verdict) -> bool
+        ensures { result ≡ is_refused self.now verdict }
+    {
+        match verdict {
+            Verdict::Inside => false,
+            Verdict::Outside => false,
+            Verdict::Bad => self.bad == Bad::Stop,
+            Verdict::TooLong => self.bad != Bad::Drop,
+        }
+    }
+}

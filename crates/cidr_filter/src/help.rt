@@ -1,0 +1,40 @@
+//! What the program tells of itself.
+
+/// What `--help` prints.
+pub(crate) const HELP: &str = "\
+Prints the lines of logs whose address is in a list of IP networks.
+
+    cidr_filter [OPTION..] (-f LIST | -e TEXT).. [FILE..]
+
+    -f LIST         the networks of a file: networks (10.0.0.0/8, 10.0.0.1, 2001:db8::/32) and ranges (A - B), one a
+                    line; # and ; begin a comment; - is standard input
+    -e TEXT         a network or a range
+    -k N            the address stands in the Nth field, 1 without this
+    -d CHAR         fields are cut at each single CHAR, a blank without this
+    -v              print the lines whose address is in no network
+    -c              print how many lines there are
+    --bad drop      a line without an address there is not printed, also with -v (this is the default)
+    --bad keep      it is printed
+    --bad stop      it ends the program
+    --help          print this text
+    --version       print the version
+
+A FILE is - for standard input, as is no FILE at all. A line is printed as it was; a last line without a line feed
+gets one. A line has at most 1,048,576 bytes; a longer one has no address, and ends the program unless such lines are
+dropped.
+
+Status: 0 if a line was printed or counted, 1 if none was, 2 on wrong usage, a refused line, a file that cannot be
+read, a failed write or out of memory.
+
+Examples:
+    cidr_filter -f networks.txt access.log
+    tail -f access.log | cidr_filter -v -e 10.0.0.0/8
+    cidr_filter -c -k 3 -d , -f networks.txt table.csv
+";
+
+/// What `--version` prints.
+pub(crate) const VERSION: &str = "cidr_filter 0.1.0\n";
+
+/// What is told of arguments that are no command.
+pub(crate) const USAGE: &str =
+    "usage: cidr_filter [-v] [-c] [-k N] [-d CHAR] [--bad drop|keep|stop] (-f LIST | -e TEXT).. [FILE..]; try --help\n";

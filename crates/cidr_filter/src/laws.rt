@@ -1,0 +1,18 @@
+//! What follows from the clause of a log. Each function's contract is a law: it does nothing, and a proof that calls it
+//! may use the law.
+ghost use Rattle.cidr_filter.specs.Laws.{LinesHaveOneVerdict, LogsHaveOneOutput, OutputsOfPartsFollow};
+
+use ipnetwork_addr::laws::ip_text_names_one;
+
+/// A line is one thing to a list, and only one. So a log has at most one output, and as many lines of it are selected.
+pub fn a_log_has_one_output()
+    ensures line { LinesHaveOneVerdict }
+    ensures log { LogsHaveOneOutput }
+{
+    ip_text_names_one();
+}
+
+/// If a log is cut directly behind a line feed, its output is that of the first part and then that of the second.
+pub fn outputs_of_parts_follow()
+    ensures { OutputsOfPartsFollow }
+{}

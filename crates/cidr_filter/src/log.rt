@@ -1,0 +1,266 @@
+//! The lines of a log are filtered.
+ghost use Rattle.std.specs.Prelude.{◌≡◌, ◌<◌, ◌≤◌, ◌++◌, ◌∷◌, ◌-◌, [], if◌then◌else◌, length, take, drop, OnOk, IfOk};
+ghost use Rattle.std.specs.Str.Lines.{strip_carriage_return};
+ghost use Rattle.byte_search.specs.Bytes.{IsAbsent};
+ghost use Rattle.line_engine.specs.Watched.{device_of};
+ghost use Rattle.cidr_filter.specs.Private.Progress.{stand, Goes, Puts, FiltersLine, FiltersRest, Advances, Ends, ReadsBehind, IsHeld};
+
+use crate::filter::{Bad, Filter, LINE_MAX, Verdict};
+use crate::output::Output;
+use byte_search::find_from;
+use line_engine::watched::Watched;
+use std::io;
+use std::io::{Read, Write};
+
+/// Why a log is not filtered to its end.
+#[derive(Clone, Copy, Debug, PartialEq, Eq)]
+pub enum LogFault {
+    /// A read failed.
+    Read,
+    /// A write failed.
+    Write,
+    /// A line without an address ends the run.
+    Address,
+    /// A line that is too long ends the run.
+    Length,
+    /// The log has more than 18,446,744,073,709,551,615 bytes.
+    Endless,
+}
+
+/// How many lines were selected.
+#[derive(Clone, Copy, Debug, PartialEq, Eq)]
+pub struct Tally {
+    /// How many lines of all logs were selected.
+    pub selected: u64,
+    /// How many lines of this log came before the one that is read.
+    pub lines: u64,
+}
+
+/// Filters the lines of a log: those that are selected are written, or, if `counts`, only counted.
+pub fn filter_log<R: Read, W: Write>(
+    filter: &Filter,
+    counts: bool,
+    buffer: &mut [u8],
+    reader: &mut Watched<R>,
+    output: &mut Output<'_, W>,
+    tally: &mut Tally,
+) -> Result<(), LogFault>
+    requires room { 1048578 < length buffer.old }
+    ensures { OnOk result (Ends filter.now counts (R.remaining (device_of reader.old)) (R.remaining (device_of reader.new))
+        (stand (W.contents output.old.writer) output.old.waiting.items tally.old.selected)
+        (stand (W.contents output.new.writer) output.new.waiting.items tally.new.selected)) }
+{
+    let mut held = 0;
+    let mut room = u64::MAX;
+    'pieces: loop {
+        let count = read_behind(reader, buffer, held)?;
+        if count == 0 {
+            return finish(filter, counts, &buffer[..held], output, tally);
+        }
+        if count as u64 > room {
+            return Err(LogFault::Endless);
+        }
+        room -= count as u64;
+        let end = held + count;
+        let start = filter_piece(filter, counts, &buffer[..end], held, output, tally)?;
+        keep(buffer, start, end);
+        held = held_of(filter, end - start)?;
+    }
+}
+
+// Reads behind the bytes that are held, and returns how many bytes came.
+fn read_behind<R: Read>(
+    reader: &mut Watched<R>,
+    buffer: &mut [u8],
+    held: usize,
+) -> Result<usize, LogFault>
+    requires { held < length buffer.old }
+    ensures length { length buffer.new ≡ length buffer.old }
+    ensures read { IfOk result (ReadsBehind (R.remaining (device_of reader.old)) (R.remaining (device_of reader.new)) buffer.old buffer.new held) }
+{
+    match reader.read(&mut buffer[held..]) {
+        Ok(count) => Ok(count),
+        Err(_) => Err(LogFault::Read),
+    }
+}
+
+// Moves the bytes from `start` up to `end` to the front of the buffer.
+fn keep(buffer: &mut [u8], start: usize, end: usize)
+    requires order { start ≤ end }
+    requires within { end ≤ length buffer.old }
+    ensures length { length buffer.new ≡ length buffer.old }
+    ensures front { take (end - start) buffer.new ≡ drop start (take end buffer.old) }
+{
+    buffer.copy_within(start..end, 0);
+}
+
+// How many bytes are held of so many that no line feed follows. Of a line that is too long no more are needed than
+// tell so.
+fn held_of(filter: &Filter, count: usize) -> Result<usize, LogFault>
+    ensures { IfOk result (IsHeld filter.now count) }
+{
+    if count <= LINE_MAX + 1 {
+        return Ok(count);
+    }
+    if filter.bad != Bad::Drop {
+        return Err(LogFault::Length);
+    }
+    Ok(LINE_MAX + 2)
+}
+
+// Filters the lines that a piece completes, writes, and returns the place behind the last of them.
+fn filter_piece<W: Write>(
+    filter: &Filter,
+    counts: bool,
+    piece: &[u8],
+    held: usize,
+    output: &mut Output<'_, W>,
+    tally: &mut Tally,
+) -> Result<usize, LogFault>
+    requires within { held ≤ length piece.now }
+    requires absent { IsAbsent 10 (take held piece.now) 0 held }
+    ensures within { IfOk result (λ start. start ≤ length piece.now) }
+    ensures absent { IfOk result (λ start. IsAbsent 10 piece.now start (length piece.now)) }
+    ensures advances { IfOk result (λ start. Advances filter.now counts
+        (stand (W.contents output.old.writer) output.old.waiting.items tally.old.selected)
+        (stand (W.contents output.new.writer) output.new.waiting.items tally.new.selected) piece.now (drop start piece.now)) }
+{
+    let start = filter_lines(filter, counts, piece, held, output, tally)?;
+    match output.hand_on() {
+        Ok(()) => Ok(start),
+        Err(_) => Err(LogFault::Write),
+    }
+}
+
+// Filters the lines that a piece completes, and returns the place behind the last of them. No line feed is among the
+// first `held` bytes.
+fn filter_lines<W: Write>(
+    filter: &Filter,
+    counts: bool,
+    piece: &[u8],
+    held: usize,
+    output: &mut Output<'_, W>,
+    tally: &mut Tally,
+) -> Result<usize, LogFault>
+    requires within { held ≤ length piece.now }
+    requires absent { IsAbsent 10 (take held piece.now) 0 held }
+    ensures within { IfOk result (λ start. start ≤ length piece.now) }
+    ensures absent { IfOk result (λ start. IsAbsent 10 piece.now start (length piece.now)) }
+    ensures advances { IfOk result (λ start. Advances filter.now counts
+        (stand (W.contents output.old.writer) output.old.waiting.items tally.old.selected)
+        (stand (W.contents output.new.writer) output.new.waiting.items tally.new.selected) piece.now (drop start piece.now)) }
+{
+    let mut start = 0;
+    let mut from = held;
+    'lines: loop {
+        let Some(end) = find_from(piece, from, b'\n') else {
+            return Ok(start);
+        };
+        let line = &piece[start..end];
+        filter_line(
+            filter,
+            counts,
+            line,
+            without_carriage_return(line),
+            output,
+            tally,
+        )?;
+        start = end + 1;
+        from = start;
+    }
+}
+
+// Filters what follows the last line feed, and writes.
+fn finish<W: Write>(
+    filter: &Filter,
+    counts: bool,
+    line: &[u8],
+    output: &mut Output<'_, W>,
+    tally: &mut Tally,
+) -> Result<(), LogFault>
+    requires absent { IsAbsent 10 line.now 0 (length line.now) }
+    ensures { OnOk result (FiltersRest filter.now counts line.now
+        (stand (W.contents output.old.writer) output.old.waiting.items tally.old.selected)
+        (stand (W.contents output.new.writer) output.new.waiting.items tally.new.selected)) }
+{
+    if line.is_empty() {
+        return Ok(());
+    }
+    filter_line(filter, counts, line, line, output, tally)?;
+    match output.hand_on() {
+        Ok(()) => Ok(()),
+        Err(_) => Err(LogFault::Write),
+    }
+}
+
+// Filters a line. `content` is the line without its end.
+fn filter_line<W: Write>(
+    filter: &Filter,
+    counts: bool,
+    line: &[u8],
+    content: &[u8],
+    output: &mut Output<'_, W>,
+    tally: &mut Tally,
+) -> Result<(), LogFault>
+    ensures { OnOk result (FiltersLine filter.now counts line.now content.now
+        (stand (W.contents output.old.writer) output.old.waiting.items tally.old.selected)
+        (stand (W.contents output.new.writer) output.new.waiting.items tally.new.selected)) }
+{
+    let verdict = filter.judge(content);
+    if filter.refuses(verdict) {
+        return Err(refusal_of(verdict));
+    }
+    tally.lines = tally.lines.saturating_add(1);
+    if !filter.selects(verdict) {
+        return Ok(());
+    }
+    select_line(counts, line, output, tally)
+}
+
+// Counts a line, and writes it unless lines are only counted.
+fn select_line<W: Write>(
+    counts: bool,
+    line: &[u8],
+    output: &mut Output<'_, W>,
+    tally: &mut Tally,
+) -> Result<(), LogFault>
+    ensures { OnOk result (Goes
+        (stand (W.contents output.old.writer) output.old.waiting.items tally.old.selected)
+        (stand (W.contents output.new.writer) output.new.waiting.items tally.new.selected)
+        (if counts then [] else line.now ++ 10 ∷ []) 1) }
+{
+    tally.selected = tally.selected.saturating_add(1);
+    if counts {
+        return Ok(());
+    }
+    match print_line(line, output) {
+        Ok(()) => Ok(()),
+        Err(_) => Err(LogFault::Write),
+    }
+}
+
+// Why a line of this verdict is refused.
+fn refusal_of(verdict: Verdict) -> LogFault {
+    match verdict {
+        Verdict::TooLong => LogFault::Length,
+        _ => LogFault::Address,
+    }
+}
+
+// Writes a line and a line feed.
+fn print_line<W: Write>(line: &[u8], output: &mut Output<'_, W>) -> io::Result<()>
+    ensures { OnOk result (Puts (W.contents output.old.writer) output.old.waiting.items (W.contents output.new.writer) output.new.waiting.items (line.now ++ 10 ∷ [])) }
+{
+    output.put(line)?;
+    output.put(b"\n")
+}
+
+// The line less one carriage return at its end.
+fn without_carriage_return(line: &[u8]) -> &[u8]
+    ensures { result.now ≡ strip_carriage_return line.now }
+{
+    match line.split_last() {
+        Some((last, front)) if *last == b'\r' => front,
+        _ => line,
+    }
+}

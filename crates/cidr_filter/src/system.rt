@@ -1,0 +1,44 @@
+//! The files of the system.
+use crate::lists::OpenLists;
+use std::fs::File;
+use std::io::{Read, Stdin};
+use std::{fs, io};
+
+/// The files of the system, and its standard input under the name `-`.
+#[derive(Drop)]
+pub(crate) struct System<'a> {
+    rt: &'a HostRuntime,
+}
+
+impl<'a> System<'a> {
+    pub(crate) fn new(rt: &'a HostRuntime) -> System<'a> {
+        System { rt }
+    }
+}
+
+/// A file, or standard input.
+#[derive(Drop)]
+pub(crate) enum Device {
+    File(File),
+    Input(Stdin),
+}
+
+impl Read for Device {
+    fn read(&mut self, buf: &mut [u8]) -> io::Result<usize> {
+        match self {
+            Device::File(file) => file.read(buf),
+            Device::Input(input) => input.read(buf),
+        }
+    }
+}
+
+impl OpenLists for System<'_> {
+    type List = Device;
+
+    fn open(&self, name: &str) -> io::Result<Device> {
+        if name == "-" {
+            return Ok(Device::Input(self.rt.stdin()));
+        }
+        Ok(Device::File(fs::open(self.rt, name)?))
+    }
+}
