@@ -82,7 +82,7 @@ abbrev pub TakesLine : ReadLists → Option (List ℕ) → ReadLists → Type 0
 TakesLine before None after = after ≡ refusing (at_next_line before) faults.Length
 TakesLine before (Some line) after = (reading : Result (Option Entry) EntryFault) × ReadsEntry line reading × TakesReading (at_next_line before) reading after
 
--- where there was no memory, nothing further is read
+-- if there was no memory, nothing further is read
 abbrev pub Takes : ReadLists → Option (List ℕ) → ReadLists → Type 0
 Takes before line after = ((before.is_out_of_memory ≡ true) × (after ≡ before)) ⊎ ((before.is_out_of_memory ≡ false) × TakesLine before line after)
 

@@ -5,6 +5,13 @@ ghost use Rattle.address_lists.specs.Faults.{line_fault_text};
 use list_entries::EntryFault;
 
 /// Why a line of a list is refused.
+///
+/// ```
+/// let mut lists = ListReader::new(rt.alloc(), Refusals::new());
+/// read_list(&mut lists, 1, &mut line_engine::watched::Watched::new(b"10.0.0.0/33".as_slice()))?;
+/// let (_, _, refusals) = lists.into_sets();
+/// assert_eq!(rt; refusals.kept()[0].fault, LineFault::Entry(EntryFault::Prefix));
+/// ```
 #[derive(Clone, Copy, Debug, PartialEq, Eq)]
 pub enum LineFault {
     /// The line names no addresses.
@@ -15,6 +22,11 @@ pub enum LineFault {
 
 impl LineFault {
     /// The fault in one word: `format`, `address`, `prefix`, `range` or `length`. Does not allocate.
+    ///
+    /// ```
+    /// assert_eq!(rt; LineFault::Entry(EntryFault::Prefix).text(), "prefix");
+    /// assert_eq!(rt; LineFault::Length.text(), "length");
+    /// ```
     pub fn text(self) -> &'static str
         ensures { result.now ≡ line_fault_text self }
     {

@@ -18,6 +18,15 @@ use std::alloc::{AllocError, Global};
 ///
 /// It reads any number of lists, one after the other, as a handler of lines (`read_list`). Networks are kept as they
 /// come, and a range as its blocks. If there is no memory for a network, nothing further is read.
+///
+/// ```
+/// let mut lists = ListReader::new(rt.alloc(), Refusals::new());
+/// read_list(&mut lists, 1, &mut line_engine::watched::Watched::new(b"10.0.0.0/9\n::1".as_slice()))?;
+/// read_list(&mut lists, 2, &mut line_engine::watched::Watched::new(b"10.128.0.0/9".as_slice()))?;
+/// let (v4, v6, _) = lists.into_sets();
+/// assert_eq!(rt; v4.blocks(), ["10.0.0.0/8".parse()?].as_slice());
+/// assert_eq!(rt; v6.blocks(), ["::1/128".parse()?].as_slice());
+/// ```
 #[derive(Debug, Drop)]
 pub struct ListReader {
     v4: Networks<Ipv4Network>,
@@ -30,6 +39,12 @@ pub struct ListReader {
 
 impl ListReader {
     /// No list was read yet. These lines were refused before. Does not allocate.
+    ///
+    /// ```
+    /// let lists = ListReader::new(rt.alloc(), Refusals::new());
+    /// let (v4, v6, refusals) = lists.into_sets();
+    /// assert!(rt; v4.is_empty() && v6.is_empty() && refusals.is_empty());
+    /// ```
     pub fn new(alloc: Global, refusals: Refusals) -> ListReader
         ensures { read_by result ≡ nothing_read refusals }
     {
@@ -52,6 +67,12 @@ impl ListReader {
     }
 
     /// Whether there was no memory for a network.
+    ///
+    /// ```
+    /// let mut lists = ListReader::new(rt.alloc(), Refusals::new());
+    /// read_list(&mut lists, 1, &mut line_engine::watched::Watched::new(b"10.0.0.0/8".as_slice()))?;
+    /// assert!(rt; !lists.is_out_of_memory());
+    /// ```
     pub fn is_out_of_memory(&self) -> bool
         ensures { result ≡ (read_by self.now).is_out_of_memory }
     {
@@ -59,6 +80,14 @@ impl ListReader {
     }
 
     /// The addresses of the networks of each family, and the refused lines. Does not allocate.
+    ///
+    /// ```
+    /// let mut lists = ListReader::new(rt.alloc(), Refusals::new());
+    /// read_list(&mut lists, 1, &mut line_engine::watched::Watched::new(b"192.0.2.4-192.0.2.7".as_slice()))?;
+    /// let (v4, _, refusals) = lists.into_sets();
+    /// assert_eq!(rt; v4.blocks(), ["192.0.2.4/30".parse()?].as_slice());
+    /// assert!(rt; refusals.is_empty());
+    /// ```
     pub fn into_sets(self) -> (AddressSet<Ipv4Network>, AddressSet<Ipv6Network>, Refusals)
         ensures v4 { IsAggregate 32 (read_by self).v4 result.0 }
         ensures v6 { IsAggregate 128 (read_by self).v6 result.1 }

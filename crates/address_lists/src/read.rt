@@ -14,6 +14,13 @@ use std::io;
 use std::io::Read;
 
 /// The most bytes of a line, its end not counted.
+///
+/// ```
+/// let line = [b'#'].repeat(rt.alloc(), LINE_MAX + 1)?;
+/// let mut lists = ListReader::new(rt.alloc(), Refusals::new());
+/// read_list(&mut lists, 1, &mut line_engine::watched::Watched::new(line.as_slice()))?;
+/// assert_eq!(rt; lists.into_sets().2.kept()[0].fault, LineFault::Length);
+/// ```
 pub const LINE_MAX: usize = 1024;
 
 /// The most bytes that are asked for at a time.
@@ -27,6 +34,15 @@ const REST_MAX: usize = 1026;
 /// `RunFault::Read` if a read failed: every line that was completed before was read, and no other.
 /// `RunFault::InputTooLong` if there are more than 18,446,744,073,709,551,615 bytes. Only what the lists name
 /// allocates, unless the device does.
+///
+/// ```
+/// let mut lists = ListReader::new(rt.alloc(), Refusals::new());
+/// let list = b"# private\n10.0.0.0/8\n10.0.0.0/33\n".as_slice();
+/// read_list(&mut lists, 1, &mut line_engine::watched::Watched::new(list))?;
+/// let (v4, _, refusals) = lists.into_sets();
+/// assert_eq!(rt; v4.blocks(), ["10.0.0.0/8".parse()?].as_slice());
+/// assert_eq!(rt; refusals.kept()[0].line, 3);
+/// ```
 pub fn read_list<R: Read>(
     lists: &mut ListReader,
     list: usize,

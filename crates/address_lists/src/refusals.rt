@@ -6,9 +6,25 @@ use crate::fault::LineFault;
 use std::marker::Model;
 
 /// How many refused lines are kept.
+///
+/// ```
+/// let list = b"x\n".repeat(rt.alloc(), 103)?;
+/// let mut lists = ListReader::new(rt.alloc(), Refusals::new());
+/// read_list(&mut lists, 1, &mut line_engine::watched::Watched::new(list.as_slice()))?;
+/// let (_, _, refusals) = lists.into_sets();
+/// assert_eq!(rt; refusals.kept().len(), REFUSALS_MAX);
+/// ```
 pub const REFUSALS_MAX: usize = 100;
 
 /// A refused line.
+///
+/// ```
+/// let mut lists = ListReader::new(rt.alloc(), Refusals::new());
+/// read_list(&mut lists, 7, &mut line_engine::watched::Watched::new(b"10.0.0.1\n10.0.0.256".as_slice()))?;
+/// let (_, _, refusals) = lists.into_sets();
+/// let fault = LineFault::Entry(EntryFault::Address);
+/// assert_eq!(rt; refusals.kept()[0], Refusal { list: 7, line: 2, fault });
+/// ```
 #[derive(Clone, Copy, Debug, PartialEq, Eq)]
 pub struct Refusal {
     /// The number that the caller gave the list.
@@ -20,6 +36,14 @@ pub struct Refusal {
 }
 
 /// The first hundred refused lines, in the order in which they were read, and how many more there were.
+///
+/// ```
+/// let list = b"x\n".repeat(rt.alloc(), 103)?;
+/// let mut lists = ListReader::new(rt.alloc(), Refusals::new());
+/// read_list(&mut lists, 1, &mut line_engine::watched::Watched::new(list.as_slice()))?;
+/// let (_, _, refusals) = lists.into_sets();
+/// assert_eq!(rt; (refusals.kept().len(), refusals.more()), (100, 3));
+/// ```
 #[derive(Debug, Drop)]
 pub struct Refusals {
     slots: [Refusal; REFUSALS_MAX],
@@ -48,6 +72,11 @@ impl Model for Refusals {
 
 impl Refusals {
     /// No refused lines. Does not allocate.
+    ///
+    /// ```
+    /// let refusals = Refusals::new();
+    /// assert_eq!(rt; (refusals.kept().len(), refusals.more()), (0, 0));
+    /// ```
     pub fn new() -> Refusals
         ensures { result ≡ no_refusals }
     {
@@ -71,6 +100,14 @@ impl Refusals {
     }
 
     /// The first hundred.
+    ///
+    /// ```
+    /// let mut lists = ListReader::new(rt.alloc(), Refusals::new());
+    /// read_list(&mut lists, 1, &mut line_engine::watched::Watched::new(b"1.1.1.1/8/8\nx".as_slice()))?;
+    /// let (_, _, refusals) = lists.into_sets();
+    /// assert_eq!(rt; refusals.kept()[0].fault.text(), "format");
+    /// assert_eq!(rt; refusals.kept()[1].fault.text(), "address");
+    /// ```
     pub fn kept(&self) -> &[Refusal]
         ensures { result.now ≡ self.now.kept }
     {
@@ -78,6 +115,14 @@ impl Refusals {
     }
 
     /// How many more there were, up to 18,446,744,073,709,551,615.
+    ///
+    /// ```
+    /// let list = b"x\n".repeat(rt.alloc(), 103)?;
+    /// let mut lists = ListReader::new(rt.alloc(), Refusals::new());
+    /// read_list(&mut lists, 1, &mut line_engine::watched::Watched::new(list.as_slice()))?;
+    /// let (_, _, refusals) = lists.into_sets();
+    /// assert_eq!(rt; refusals.more(), 3);
+    /// ```
     pub fn more(&self) -> u64
         ensures { result ≡ self.now.more }
     {
@@ -85,6 +130,14 @@ impl Refusals {
     }
 
     /// Whether no refused line is kept.
+    ///
+    /// ```
+    /// let mut lists = ListReader::new(rt.alloc(), Refusals::new());
+    /// read_list(&mut lists, 1, &mut line_engine::watched::Watched::new(b"::/129".as_slice()))?;
+    /// let (_, _, refusals) = lists.into_sets();
+    /// assert!(rt; Refusals::new().is_empty());
+    /// assert!(rt; !refusals.is_empty());
+    /// ```
     pub fn is_empty(&self) -> bool
         ensures { result ≡ (length self.now.kept == 0) }
     {

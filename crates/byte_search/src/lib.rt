@@ -13,7 +13,12 @@ mod tests;
 use std::simd::prelude::*;
 
 /// The index of the first byte equal to `byte` at or after the index `from`, or `None`. `from` must be at
-/// most the length of the text. Does not allocate.
+/// most the length of the text.
+///
+/// ```
+/// let next_dot = find_from(b"10.0.0.0/8", 3, b'.');
+/// assert_eq!(rt; next_dot, Some(4));
+/// ```
 #[inline(always)]
 pub fn find_from(text: &[u8], from: usize, byte: u8) -> Option<usize>
     requires { from ≤ length text.now }
@@ -54,7 +59,7 @@ fn find_by<const N: usize>(text: &[u8], from: usize, byte: u8) -> Option<usize>
     Some(at + marks.trailing_zeros() as usize)
 }
 
-/// A bit for each of the `N` bytes from a place on, which is set where the byte has this value.
+/// A bit for each of the `N` bytes from a place on, which is set if the byte has this value.
 #[inline(always)]
 fn marks_of<const N: usize>(text: &[u8], at: usize, byte: u8) -> u64
     requires few { N ≤ 32 }

@@ -1,4 +1,4 @@
--- What each command answers, computed. A word is the list of its bytes.
+-- What each command replies, computed. A word is the list of its bytes.
 use Rattle.std.specs.Prelude.{ℕ, Bool, if◌then◌else◌, List, ◌∷◌, ◌++◌, Option, None, Some, Result, Ok, Err, codes, decimal}
 use Rattle.ipnetwork_addr.specs.Either.{canonical_ip}
 use Rattle.ipnetwork_addr.specs.Computed.Either.{ip_of}
@@ -20,7 +20,7 @@ use Rattle.ipnetwork.specs.Sizes.{size_number}
 use Rattle.ipnetwork.specs.declared.ip_network.IpNetwork.{IpNetwork}
 use Rattle.cidr.specs.Words.{blank}
 
--- the answer where a text names no network or no address, and no cause is told
+-- the answer if a text names no network or no address, and no cause is told
 abbrev pub refused : List ℕ
 refused = codes "refused"
 

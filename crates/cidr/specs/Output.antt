@@ -20,7 +20,7 @@ dropped (Some number) = codes "dropped"
 abbrev pub out_of_memory : List ℕ
 out_of_memory = codes "out of memory"
 
--- over these routes a request gets this answer and leaves those routes, where it is not out of memory
+-- over these routes a request gets this answer and leaves those routes, if it is not out of memory
 abbrev pub Gets : Routes → Request → List ℕ → Routes → Type 0
 -- the block has the number from now on
 Gets before (Add network number) answer after = (answer ≡ added (number_at before network)) × (after ≡ with_number before network number)
@@ -58,7 +58,7 @@ reply answer = answer ++ 10 ∷ []
 abbrev pub replies : List (List ℕ) → List ℕ
 replies answers = flat_map reply answers
 
--- what may be written for an input from the routes before on, where it leaves the routes after: a reply to each line.
+-- what may be written for an input from the routes before on, if it leaves the routes after: a reply to each line.
 -- `lines` cuts at each line feed, drops one carriage return before it, and takes what follows the last one as a line,
 -- unless it is empty
 abbrev pub IsOutputFrom : Routes → List ℕ → List ℕ → Routes → Type 0

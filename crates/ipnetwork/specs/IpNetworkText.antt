@@ -22,11 +22,11 @@ abbrev pub NamesIpNetwork : List ℕ → IpNetwork → Type 0
 NamesIpNetwork text (V4 n) = NamesV4Network text n
 NamesIpNetwork text (V6 n) = NamesV6Network text n
 
--- what reading answers: the network that the text names, or `Addr` where it names none, whatever is wrong with it
+-- what reading returns: the network that the text names, or `Addr` if it names none, whatever is wrong with it
 abbrev pub ReadsIpNetwork : List ℕ → Result IpNetwork CidrFault → Type 0
 ReadsIpNetwork text result = Reads NamesIpNetwork Addr text result
 
--- what parsing answers: the same, and a refusal carries the whole text or is `OutOfMemory`
+-- what parsing returns: the same, and a refusal carries the whole text or is `OutOfMemory`
 abbrev pub ParsesIpNetwork : List ℕ → Result IpNetwork IpNetworkError → Type 0
 ParsesIpNetwork text result = Parses NamesIpNetwork (λ _ fault. fault ≡ Addr) kinds.Ip text result
 

@@ -1,4 +1,4 @@
--- Networks of either family: a network of one of the two, whose set holds addresses of that family alone.
+-- Networks of either family: a network of one of the two, whose set holds only addresses of that family.
 use Rattle.std.specs.Prelude.{⊤, ◌≡◌, ◌<◌, ◌≤◌, ℕ, pos, List, ◌++◌, map, Result, Ok, IsErr, MatchResult}
 use Rattle.std.specs.Hash.{HashWrites, isize, u8, u32, u128}
 use Rattle.std.specs.declared.cmp.Ordering.{Ordering}
@@ -60,7 +60,7 @@ IpMember (V4 n) (addresses.V6 a) = ⊥
 IpMember (V6 n) (addresses.V4 a) = ⊥
 IpMember (V6 n) (addresses.V6 a) = Member 128 n a
 
--- each member of a is one of b
+-- each member of a is a member of b
 abbrev pub IpSubnet : IpNetwork → IpNetwork → Type 0
 IpSubnet a b = (x : IpAddr) → IpMember a x → IpMember b x
 
@@ -87,7 +87,7 @@ abbrev pub made_of : IpAddr → ℕ → IpNetwork
 made_of (addresses.V4 a) p = V4 (record { address = a; prefix = p })
 made_of (addresses.V6 a) p = V6 (record { address = a; prefix = p })
 
--- what making a network answers: it, where the prefix length is within the width, and else `InvalidPrefix`
+-- what making a network returns: it, if the prefix length is within the width, and else `InvalidPrefix`
 abbrev pub Makes : IpAddr → ℕ → Result IpNetwork IpNetworkError → Type 0
 Makes ip prefix result =
     MatchResult result (λ n. (n ≡ made_of ip prefix) × (prefix ≤ width_of ip)) (λ fault. (fault ≡ InvalidPrefix) × (width_of ip < prefix))
@@ -97,19 +97,19 @@ abbrev pub IsIpMask : IpAddr → ℕ → Type 0
 IsIpMask (addresses.V4 mask) p = (p ≤ 32) × (mask ≡ mask_of 32 p)
 IsIpMask (addresses.V6 mask) p = (p ≤ 128) × (mask ≡ mask_of 128 p)
 
--- what the conversion of a mask answers: its prefix length, or `InvalidPrefix` where it is no mask
+-- what the conversion of a mask returns: its prefix length, or `InvalidPrefix` if it is no mask
 abbrev pub GivesMaskPrefix : IpAddr → Result ℕ IpNetworkError → Type 0
 GivesMaskPrefix mask result =
     MatchResult result (IsIpMask mask) (λ fault. (fault ≡ InvalidPrefix) × ((p : ℕ) → ¬ (IsIpMask mask p)))
 
--- what making a network with a mask answers: the network of the mask's prefix length, or `InvalidPrefix` where there
--- is none or it is greater than the width
+-- what making a network with a mask returns: the network of the mask's prefix length, or `InvalidPrefix` if there is
+-- none or it is greater than the width
 abbrev pub MakesWithMask : IpAddr → IpAddr → Result IpNetwork IpNetworkError → Type 0
 MakesWithMask ip mask result =
     MatchResult result (λ n. (n ≡ made_of ip (prefix_of n)) × (prefix_of n ≤ width_of ip) × IsIpMask mask (prefix_of n))
     (λ fault. (fault ≡ InvalidPrefix) × ((p : ℕ) → IsIpMask mask p → width_of ip < p))
 
--- what converting to a network of one family answers: the network itself, or `WrongFamily` where it is of the other
+-- what converting to a network of one family returns: the network itself, or `WrongFamily` if it is of the other
 abbrev pub TakesV4 : IpNetwork → Result Network WrongFamily → Type 0
 TakesV4 (V4 n) result = result ≡ Ok n
 TakesV4 (V6 n) result = IsErr result
@@ -132,7 +132,7 @@ IsIpAtMost (V4 a) (V6 b) = ⊤
 IsIpAtMost (V6 a) (V4 b) = ⊥
 IsIpAtMost (V6 a) (V6 b) = IsNetworkAtMost a b
 
--- the same order, as an answer of three
+-- the same order, as `Less`, `Equal` or `Greater`
 abbrev pub ip_network_cmp : IpNetwork → IpNetwork → Ordering
 ip_network_cmp (V4 a) (V4 b) = network_cmp a b
 ip_network_cmp (V4 a) (V6 b) = Less

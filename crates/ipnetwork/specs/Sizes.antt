@@ -10,7 +10,7 @@ abbrev pub size_number : NetworkSize → ℕ
 size_number (V4 number) = number
 size_number (V6 number) = number
 
--- what converting a size to a number of 32 bits answers: the number of an IPv4 size, and a refusal of any other
+-- what converting a size to a number of 32 bits returns: the number of an IPv4 size, and a refusal of any other
 abbrev pub FitsV4 : NetworkSize → Result ℕ NetworkSizeError → Type 0
 FitsV4 (V4 number) result = result ≡ Ok number
 FitsV4 (V6 number) result = result ≡ Err NetworkIsTooLarge

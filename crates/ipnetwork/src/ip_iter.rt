@@ -6,6 +6,11 @@ use std::alloc::AllocError;
 use std::marker::Model;
 
 /// The members of a network that are still to come, in ascending order.
+///
+/// ```
+/// let mut members = "192.0.2.7/30".parse::<IpNetwork>()?.iter();
+/// assert_eq!(rt; members.next(), "192.0.2.4".parse().ok());
+/// ```
 #[derive(Debug, Drop)]
 pub struct IpNetworkIterator {
     members: Members,

@@ -4,8 +4,12 @@ ghost use Rattle.ipnetwork.specs.IpNetworks.{GivesMaskPrefix};
 use ipnetwork_addr::IpAddr;
 use ipnetwork_family::{IpNetworkError, ipv4_mask_to_prefix, ipv6_mask_to_prefix};
 
-/// The prefix length of a mask of either family; `InvalidPrefix` where the address is none of its
-/// family's masks. Does not allocate.
+/// The prefix length of a mask of either family; `InvalidPrefix` if the address is none of its family's masks.
+///
+/// ```
+/// assert_eq!(rt; ip_mask_to_prefix("255.255.240.0".parse()?), Ok(20));
+/// assert_eq!(rt; ip_mask_to_prefix("ffff::".parse()?), Ok(16));
+/// ```
 pub fn ip_mask_to_prefix(mask: IpAddr) -> Result<u8, IpNetworkError>
     ensures { GivesMaskPrefix mask result }
 {

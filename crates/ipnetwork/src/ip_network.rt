@@ -15,8 +15,13 @@ use std::alloc::{AllocError, Global};
 use std::fmt;
 use std::str::FromStr;
 
-/// A network of either family. Its set holds addresses of its family alone. Each IPv4 network is before
-/// each IPv6 network.
+/// A network of either family. Its set holds only addresses of its family. Each IPv4 network is before each IPv6
+/// network.
+///
+/// ```
+/// let network: IpNetwork = "10.1.9.32/8".parse()?;
+/// assert_eq!(rt; network, IpNetwork::V4("10.1.9.32/8".parse()?));
+/// ```
 #[derive(Clone, Copy, Debug, PartialEq, Eq, PartialOrd, Ord, Hash)]
 pub enum IpNetwork {
     /// An IPv4 network.
@@ -32,8 +37,13 @@ impl IpNetwork {
     ghost use Rattle.ipnetwork.specs.IpNetworks.{IsIpNetwork, address_of, prefix_of, ip_mask_of, ip_low, ip_high, ip_size, ip_members, IpMember, IpSubnet, IpOverlap, Makes, MakesWithMask, IsV4, IsV6};
     ghost use Rattle.ipnetwork.specs.IpNetworkText.{ReadsIpNetwork, ParsesIpNetwork, ip_network_text};
 
-    /// The network of this address, host bits kept, and this prefix length; `InvalidPrefix` where that is
-    /// greater than the number of bits of the address, 32 or 128. Does not allocate.
+    /// The network of this address, host bits kept, and this prefix length; `InvalidPrefix` if that is greater than
+    /// the number of bits of the address, 32 or 128.
+    ///
+    /// ```
+    /// let network = IpNetwork::new("2001:db8::1".parse()?, 64)?;
+    /// assert_eq!(rt; network.canonical().as_str(), "2001:db8::1/64");
+    /// ```
     pub fn new(ip: IpAddr, prefix: u8) -> Result<Self, IpNetworkError>
         ensures { Makes ip prefix result }
     {
@@ -43,9 +53,14 @@ impl IpNetwork {
         }
     }
 
-    /// The network of this address, host bits kept, and the prefix length of this mask; `InvalidPrefix`
-    /// where the mask is none of its family's, or its prefix length is greater than the number of bits of
-    /// the address. The two need not be of one family: the mask only gives a prefix length. Does not allocate.
+    /// The network of this address, host bits kept, and the prefix length of this mask; `InvalidPrefix` if the mask
+    /// is none of its family's, or its prefix length is greater than the number of bits of the address. The two need
+    /// not be of one family: the mask only gives a prefix length.
+    ///
+    /// ```
+    /// let network = IpNetwork::with_netmask("10.1.9.32".parse()?, "255.0.0.0".parse()?)?;
+    /// assert_eq!(rt; network.prefix(), 8);
+    /// ```
     pub fn with_netmask(netaddr: IpAddr, netmask: IpAddr) -> Result<Self, IpNetworkError>
         ensures { MakesWithMask netaddr netmask result }
     {
@@ -58,6 +73,11 @@ impl IpNetwork {
     }
 
     /// The address as made, host bits included.
+    ///
+    /// ```
+    /// let network: IpNetwork = "2001:db8::7/126".parse()?;
+    /// assert_eq!(rt; network.ip().canonical().as_str(), "2001:db8::7");
+    /// ```
     pub fn ip(&self) -> IpAddr
         ensures made { result ≡ address_of self.now }
         ensures network { IsIpNetwork self.now }
@@ -69,6 +89,11 @@ impl IpNetwork {
     }
 
     /// The prefix length, in bits.
+    ///
+    /// ```
+    /// let network: IpNetwork = "2001:db8::7/126".parse()?;
+    /// assert_eq!(rt; network.prefix(), 126);
+    /// ```
     pub fn prefix(&self) -> u8
         ensures made { result ≡ prefix_of self.now }
         ensures network { IsIpNetwork self.now }
@@ -80,6 +105,11 @@ impl IpNetwork {
     }
 
     /// The mask of the prefix length, in the network's family.
+    ///
+    /// ```
+    /// let network: IpNetwork = "2001:db8::7/126".parse()?;
+    /// assert_eq!(rt; network.mask().canonical().as_str(), "ffff:ffff:ffff:ffff:ffff:ffff:ffff:fffc");
+    /// ```
     pub fn mask(&self) -> IpAddr
         ensures { result ≡ ip_mask_of self.now }
     {
@@ -90,6 +120,11 @@ impl IpNetwork {
     }
 
     /// The least member: the address with its host bits cleared.
+    ///
+    /// ```
+    /// let network: IpNetwork = "2001:db8::7/126".parse()?;
+    /// assert_eq!(rt; network.network().canonical().as_str(), "2001:db8::4");
+    /// ```
     pub fn network(&self) -> IpAddr
         ensures { result ≡ ip_low self.now }
     {
@@ -100,6 +135,11 @@ impl IpNetwork {
     }
 
     /// The greatest member: the address with its host bits set.
+    ///
+    /// ```
+    /// let network: IpNetwork = "2001:db8::7/126".parse()?;
+    /// assert_eq!(rt; network.broadcast().canonical().as_str(), "2001:db8::7");
+    /// ```
     pub fn broadcast(&self) -> IpAddr
         ensures { result ≡ ip_high self.now }
     {
@@ -110,6 +150,10 @@ impl IpNetwork {
     }
 
     /// Whether the network is an IPv4 network.
+    ///
+    /// ```
+    /// assert!(rt; "10.1.9.32/8".parse::<IpNetwork>()?.is_ipv4());
+    /// ```
     pub fn is_ipv4(&self) -> bool
         ensures { IsTrue result ↔ IsV4 self.now }
     {
@@ -120,6 +164,10 @@ impl IpNetwork {
     }
 
     /// Whether the network is an IPv6 network.
+    ///
+    /// ```
+    /// assert!(rt; "::ffff:10.1.9.32/104".parse::<IpNetwork>()?.is_ipv6());
+    /// ```
     pub fn is_ipv6(&self) -> bool
         ensures { IsTrue result ↔ IsV6 self.now }
     {
@@ -129,8 +177,14 @@ impl IpNetwork {
         }
     }
 
-    /// Whether an address lies in the network's set. No address of the other family does, an IPv4-mapped
-    /// IPv6 address in an IPv4 network neither.
+    /// Whether an address lies in the network's set. No address of the other family does, not even an IPv4-mapped
+    /// IPv6 address in an IPv4 network.
+    ///
+    /// ```
+    /// let network: IpNetwork = "10.0.0.0/8".parse()?;
+    /// assert!(rt; network.contains("10.1.9.32".parse()?));
+    /// assert!(rt; !network.contains("::ffff:10.1.9.32".parse()?));
+    /// ```
     pub fn contains(&self, ip: IpAddr) -> bool
         ensures { IsTrue result ↔ IpMember self.now ip }
     {
@@ -142,6 +196,11 @@ impl IpNetwork {
     }
 
     /// The number of members, in the variant of the network's family; at prefix length 0 one less.
+    ///
+    /// ```
+    /// let network: IpNetwork = "192.0.2.77/26".parse()?;
+    /// assert_eq!(rt; network.size(), NetworkSize::V4(64));
+    /// ```
     pub fn size(&self) -> NetworkSize
         ensures { result ≡ ip_size self.now }
     {
@@ -152,6 +211,11 @@ impl IpNetwork {
     }
 
     /// The members, each once, in ascending order.
+    ///
+    /// ```
+    /// let network: IpNetwork = "2001:db8::7/126".parse()?;
+    /// assert_eq!(rt; network.iter().count(), 4);
+    /// ```
     pub fn iter(&self) -> IpNetworkIterator
         ensures { result ≡ ip_members self.now }
     {
@@ -161,8 +225,14 @@ impl IpNetwork {
         }
     }
 
-    /// Whether each member of this network is a member of `other`. Host bits change nothing.
-    /// `false` where the two are of different families.
+    /// Whether each member of this network is a member of `other`. Host bits change nothing. `false` if the two are
+    /// of different families.
+    ///
+    /// ```
+    /// let network: IpNetwork = "2001:db8::7/126".parse()?;
+    /// assert!(rt; network.is_subnet_of("2001:db8::/32".parse()?));
+    /// assert!(rt; !network.is_subnet_of("0.0.0.0/0".parse()?));
+    /// ```
     pub fn is_subnet_of(self, other: IpNetwork) -> bool
         ensures { IsTrue result ↔ IpSubnet self other }
     {
@@ -181,8 +251,13 @@ impl IpNetwork {
         }
     }
 
-    /// Whether each member of `other` is a member of this network. Host bits change nothing.
-    /// `false` where the two are of different families.
+    /// Whether each member of `other` is a member of this network. Host bits change nothing. `false` if the two are
+    /// of different families.
+    ///
+    /// ```
+    /// let network: IpNetwork = "10.0.0.0/8".parse()?;
+    /// assert!(rt; network.is_supernet_of("10.1.9.32/16".parse()?));
+    /// ```
     pub fn is_supernet_of(self, other: IpNetwork) -> bool
         ensures { IsTrue result ↔ IpSubnet other self }
     {
@@ -190,6 +265,12 @@ impl IpNetwork {
     }
 
     /// Whether some address is a member of both.
+    ///
+    /// ```
+    /// let network: IpNetwork = "10.0.0.0/8".parse()?;
+    /// assert!(rt; network.overlaps("8.0.0.0/6".parse()?));
+    /// assert!(rt; !network.overlaps("::/0".parse()?));
+    /// ```
     pub fn overlaps(self, other: IpNetwork) -> bool
         ensures { IsTrue result ↔ IpOverlap self other }
     {
@@ -205,9 +286,14 @@ impl IpNetwork {
         }
     }
 
-    /// The network that a text names, as `Ipv4Network::read_bytes` or `Ipv6Network::read_bytes` reads it: no
-    /// text names one of each family. Any other text is `CidrFault::Addr`, whatever is wrong with it.
-    /// Does not allocate.
+    /// The network that a text names, as `Ipv4Network::read_bytes` or `Ipv6Network::read_bytes` reads it: no text
+    /// names one of each family. Any other text is `CidrFault::Addr`, whatever is wrong with it.
+    ///
+    /// ```
+    /// let network = IpNetwork::read_bytes(b"2001:db8::1/64")?;
+    /// assert!(rt; network.is_ipv6());
+    /// assert_eq!(rt; IpNetwork::read_bytes(b"10.0.0.0/33"), Err(CidrFault::Addr));
+    /// ```
     pub fn read_bytes(text: &[u8]) -> Result<Self, CidrFault>
         ensures { ReadsIpNetwork text.now result }
     {
@@ -229,6 +315,11 @@ impl IpNetwork {
 
     /// The network that a text names, as `read_bytes` reads it; any other text is `InvalidAddr` with the
     /// whole text, or `OutOfMemory`. Allocates at most once, for a refusal.
+    ///
+    /// ```
+    /// let refused = IpNetwork::parse(rt.alloc(), "10.0.0.0/33");
+    /// assert_eq!(rt; refused, Err(IpNetworkError::InvalidAddr("10.0.0.0/33".to_string(rt.alloc())?)));
+    /// ```
     pub fn parse(alloc: Global, text: &str) -> Result<Self, IpNetworkError>
         ensures { ParsesIpNetwork text.now result }
     {
@@ -238,7 +329,12 @@ impl IpNetwork {
         }
     }
 
-    /// The canonical text, at most 43 bytes: that of the network in its family. Does not allocate.
+    /// The canonical text, at most 43 bytes: that of the network in its family.
+    ///
+    /// ```
+    /// let network: IpNetwork = "2001:DB8::1".parse()?;
+    /// assert_eq!(rt; network.canonical().as_str(), "2001:db8::1/128");
+    /// ```
     pub fn canonical(&self) -> ArrayString<NETWORK_TEXT_CAPACITY>
         ensures bytes { result.bytes ≡ ip_network_text self.now }
         ensures network { IsIpNetwork self.now }
@@ -250,6 +346,11 @@ impl IpNetwork {
     }
 
     /// The canonical text as a `String`. Allocates once.
+    ///
+    /// ```
+    /// let network: IpNetwork = "10.1.9.32/255.0.0.0".parse()?;
+    /// assert_eq!(rt; network.to_text(rt.alloc())?.as_str(), "10.1.9.32/8");
+    /// ```
     pub fn to_text(&self, alloc: Global) -> Result<String, AllocError>
         ensures { IfOk result (λ text. string_bytes text ≡ ip_network_text self.now) }
     {
@@ -263,7 +364,7 @@ impl From<Ipv4Network> for IpNetwork {
 
     ghost from_gives = { λ network either. either ≡ networks.V4 network };
 
-    /// The network itself, in the variant `V4`. Does not allocate.
+    /// The network itself, in the variant `V4`.
     fn from(network: Ipv4Network) -> Self {
         IpNetwork::V4(network)
     }
@@ -275,7 +376,7 @@ impl From<Ipv6Network> for IpNetwork {
 
     ghost from_gives = { λ network either. either ≡ networks.V6 network };
 
-    /// The network itself, in the variant `V6`. Does not allocate.
+    /// The network itself, in the variant `V6`.
     fn from(network: Ipv6Network) -> Self {
         IpNetwork::V6(network)
     }
@@ -287,7 +388,7 @@ impl From<IpAddr> for IpNetwork {
 
     ghost from_gives = { λ address network. network ≡ made_of address (width_of address) };
 
-    /// The network of this address alone, of prefix length 32 or 128. Does not allocate.
+    /// The network that has only this address, of prefix length 32 or 128.
     fn from(address: IpAddr) -> Self {
         match address {
             IpAddr::V4(address) => IpNetwork::V4(Ipv4Network::from(address)),
@@ -303,7 +404,7 @@ impl TryFrom<IpNetwork> for Ipv4Network {
 
     ghost try_from_gives = { TakesV4 };
 
-    /// The network itself, or `WrongFamily` where it is an IPv6 network. Does not allocate.
+    /// The network itself, or `WrongFamily` if it is an IPv6 network.
     fn try_from(network: IpNetwork) -> Result<Self, WrongFamily> {
         match network {
             IpNetwork::V4(network) => Ok(network),
@@ -319,7 +420,7 @@ impl TryFrom<IpNetwork> for Ipv6Network {
 
     ghost try_from_gives = { TakesV6 };
 
-    /// The network itself, or `WrongFamily` where it is an IPv4 network. Does not allocate.
+    /// The network itself, or `WrongFamily` if it is an IPv4 network.
     fn try_from(network: IpNetwork) -> Result<Self, WrongFamily> {
         match network {
             IpNetwork::V4(_) => Err(WrongFamily),

@@ -13,16 +13,28 @@ use std::alloc::{AllocError, Global};
 
 impl IpNetwork {
     /// The string value of the canonical text. Allocates once; `AllocError` when out of memory.
+    ///
+    /// ```
+    /// let network: IpNetwork = "10.1.9.32/8".parse()?;
+    /// let text = network.to_value(rt.alloc())?.to_string(rt.alloc())?;
+    /// assert_eq!(rt; text.as_str(), "\"10.1.9.32/8\"");
+    /// ```
     pub fn to_value(&self, alloc: Global) -> Result<Value, AllocError>
         ensures { IfOk result (IsStringOf (ip_network_text self.now)) }
     {
         Value::try_from_str(alloc, self.canonical().as_str())
     }
 
-    /// The network of either family that a string value names. A string is judged as `parse` judges it, and
-    /// what that refuses is `Refused` with its error; any other value is `NotAString`. Allocates at most once, only
-    /// for a refusal whose error carries a text: out of memory, the answer is then
+    /// The network of either family that a string value names. A string is read as `parse` reads it, and one that it
+    /// refuses is `Refused` with its error; any other value is `NotAString`. Allocates at most once, only for a
+    /// refusal whose error carries a text: if that is out of memory, the result is
     /// `Refused(IpNetworkError::OutOfMemory)`.
+    ///
+    /// ```
+    /// let value = serde_json::Value::try_from_str(rt.alloc(), "10.1.9.32/8")?;
+    /// let network = IpNetwork::from_value(rt.alloc(), &value)?;
+    /// assert_eq!(rt; network.prefix(), 8);
+    /// ```
     pub fn from_value(alloc: Global, value: &Value) -> Result<Self, JsonFault>
         ensures { ReadsValue ParsesIpNetwork (as_str (view value.now)) result }
     {

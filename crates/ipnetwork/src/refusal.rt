@@ -9,7 +9,12 @@ use ipnetwork_family::{CidrFault, Ipv4Network, Ipv6Network};
 ///
 /// `Format` if the text has two or more `/`; else `Addr` if what stands before the `/` is an address of neither
 /// family; else `Prefix`. `IpNetwork::read_bytes` returns `Addr` for every text that names none: this call tells
-/// more. Does not allocate.
+/// more.
+///
+/// ```
+/// assert_eq!(rt; cause(b"10.0.0.0/33"), Some(CidrFault::Prefix));
+/// assert_eq!(rt; cause(b"10.0.0.0/8"), None);
+/// ```
 pub fn cause(text: &[u8]) -> Option<CidrFault>
     ensures { TellsIpCause text.now result }
 {

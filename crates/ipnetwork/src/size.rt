@@ -18,7 +18,13 @@ const DECIMAL_MAX: usize = 39;
 
 /// The number of addresses of an IPv4 network or of an IPv6 network.
 ///
-/// Sizes are compared and hashed by their numbers alone: an IPv4 and an IPv6 size of one number are equal.
+/// Sizes are compared and hashed only by their numbers: an IPv4 and an IPv6 size of one number are equal.
+///
+/// ```
+/// let size = "2001:db8::/120".parse::<IpNetwork>()?.size();
+/// assert_eq!(rt; size, NetworkSize::V6(256));
+/// assert_eq!(rt; size, NetworkSize::V4(256));
+/// ```
 #[derive(Clone, Copy, Debug)]
 pub enum NetworkSize {
     /// The size of an IPv4 network.
@@ -33,7 +39,7 @@ impl From<u32> for NetworkSize {
 
     ghost from_gives = { λ number size. size ≡ sizes.V4 number };
 
-    /// The size of this number, in the variant `V4`. Does not allocate.
+    /// The size of this number, in the variant `V4`.
     fn from(number: u32) -> Self {
         NetworkSize::V4(number)
     }
@@ -45,7 +51,7 @@ impl From<u128> for NetworkSize {
 
     ghost from_gives = { λ number size. size ≡ sizes.V6 number };
 
-    /// The size of this number, in the variant `V6`. Does not allocate.
+    /// The size of this number, in the variant `V6`.
     fn from(number: u128) -> Self {
         NetworkSize::V6(number)
     }
@@ -57,7 +63,7 @@ impl From<NetworkSize> for u128 {
 
     ghost from_gives = { λ size number. number ≡ size_number size };
 
-    /// The number of either size. Does not allocate.
+    /// The number of either size.
     fn from(size: NetworkSize) -> Self {
         match size {
             NetworkSize::V4(number) => u128::from(number),
@@ -73,7 +79,7 @@ impl TryFrom<NetworkSize> for u32 {
 
     ghost try_from_gives = { FitsV4 };
 
-    /// The number of an IPv4 size. An IPv6 size is `NetworkIsTooLarge`, however small it is. Does not allocate.
+    /// The number of an IPv4 size. An IPv6 size is `NetworkIsTooLarge`, however small it is.
     fn try_from(size: NetworkSize) -> Result<Self, NetworkSizeError> {
         match size {
             NetworkSize::V4(number) => Ok(number),

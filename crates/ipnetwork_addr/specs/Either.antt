@@ -39,7 +39,7 @@ IsAddrAtMost (V4 a) (V6 b) = ⊤
 IsAddrAtMost (V6 a) (V4 b) = ⊥
 IsAddrAtMost (V6 a) (V6 b) = a ≤ b
 
--- the same order, as an answer of three
+-- the same order, as `Less`, `Equal` or `Greater`
 abbrev pub ip_cmp : IpAddr → IpAddr → Ordering
 ip_cmp (V4 a) (V4 b) = nat_cmp a b
 ip_cmp (V4 a) (V6 b) = Less

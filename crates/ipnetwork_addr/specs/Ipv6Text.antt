@@ -56,6 +56,6 @@ pub record IsCompressed (text : List ℕ) (address : ℕ) : Type 0 where
   pub eight : length high + missing + length low ≡ 8
   pub value : address ≡ number_from_digits (2 ^ 16) (high ++ replicate missing 0 ++ low)
 
--- the text names the address
+-- the text names the address: by all eight groups, or by some of them and a `::`
 abbrev pub NamesV6 : List ℕ → ℕ → Type 0
 NamesV6 text address = IsFull text address ⊎ IsCompressed text address

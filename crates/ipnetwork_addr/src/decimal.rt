@@ -5,8 +5,13 @@ ghost use Rattle.ipnetwork_addr.specs.Private.Decimals.{padded_decimal};
 
 use arrayvec::ArrayString;
 
-/// Writes the shortest decimal of a number at the end of a text: one to three bytes, for which there
-/// must be room. Does not allocate.
+/// Writes the shortest decimal of a number at the end of a text: one to three bytes, for which there must be room.
+///
+/// ```
+/// let mut text = arrayvec::ArrayString::<8>::new();
+/// decimal::push_decimal(&mut text, 207);
+/// assert_eq!(rt; text.as_str(), "207");
+/// ```
 #[tactic(auto, using(crate::proofs::Decimals::decimals))]
 pub fn push_decimal<const N: usize>(text: &mut ArrayString<N>, number: u8)
     requires { array_string_len text.old + 3 ≤ N }
@@ -38,8 +43,13 @@ const CHUNK: u128 = 10_000_000_000_000_000_000;
 /// How many digits of a large number are written at a time.
 const CHUNK_DIGITS: u8 = 19;
 
-/// Writes the shortest decimal of a number at the end of a text: one to 39 bytes, for which there must
-/// be room. Does not allocate.
+/// Writes the shortest decimal of a number at the end of a text: one to 39 bytes, for which there must be room.
+///
+/// ```
+/// let mut text = arrayvec::ArrayString::<39>::new();
+/// decimal::push_number(&mut text, 1 << 64);
+/// assert_eq!(rt; text.as_str(), "18446744073709551616");
+/// ```
 #[inline(always)]
 pub fn push_number<const N: usize>(text: &mut ArrayString<N>, number: u128)
     requires { array_string_len text.old + 39 ≤ N }

@@ -2,8 +2,8 @@
 ghost use Rattle.std.specs.Prelude.{◌≡◌, ◌≤◌, nat_lt, if◌then◌else◌};
 ghost use Rattle.std.specs.Char.{digit_value};
 
-/// The value of a byte as a decimal digit, or 256 where it is none, so that an octet with such a byte is
-/// greater than 255.
+/// The value of a byte as a decimal digit, or 256 if it is none, so that an octet with such a byte is greater than
+/// 255.
 #[inline(always)]
 pub(crate) fn decimal_value(byte: u8) -> u32
     ensures value { result ≡ if nat_lt (digit_value byte) 10 then digit_value byte else 256 }

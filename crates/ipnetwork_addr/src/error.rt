@@ -4,6 +4,12 @@ use std::error::Error;
 use std::fmt;
 
 /// A text was refused, and this is what it was read as. Says nothing of where the text goes wrong.
+///
+/// ```
+/// assert_eq!(rt; Ipv4Addr::read_bytes(b"192.0.2.01"), Err(AddrParseError::Ipv4));
+/// let text = AddrParseError::Ipv4.to_string(rt.alloc())?;
+/// assert_eq!(rt; text.as_str(), "invalid IPv4 address syntax");
+/// ```
 #[derive(Clone, Copy, Debug, PartialEq, Eq)]
 pub enum AddrParseError {
     /// The text names no IPv4 address.

@@ -2,8 +2,13 @@
 ghost use Rattle.std.specs.Prelude.{◌≡◌};
 ghost use Rattle.ipnetwork_addr.specs.Texts.{colon_first};
 
-/// Whether of the dots and colons of a text the first is a colon, as in each IPv6 text; in an IPv4 text a
-/// dot comes first. So a text has to be read in one family only. Does not allocate.
+/// Whether of the dots and colons of a text the first is a colon, as in each IPv6 text; in an IPv4 text a dot comes
+/// first. So a text has to be read in one family only.
+///
+/// ```
+/// assert!(rt; first_mark::has_colon_first(b"::ffff:192.0.2.1"));
+/// assert!(rt; !first_mark::has_colon_first(b"192.0.2.1"));
+/// ```
 pub fn has_colon_first(text: &[u8]) -> bool
     ensures { result ≡ colon_first text.now }
 {

@@ -41,7 +41,7 @@ pub(crate) fn read_part(text: &[u8], room: usize) -> Option<(usize, u128, Option
     None
 }
 
-/// The text without its first byte, where that is this one.
+/// The text without its first byte, if that is this one.
 fn after_byte(text: &[u8], byte: u8) -> Option<&[u8]>
     ensures { MatchOption result ((rest : List ℕ) → text.now ≢ byte ∷ rest) (λ rest. text.now ≡ byte ∷ rest.now) }
 {
@@ -100,7 +100,7 @@ fn read_group(text: &[u8]) -> Option<(u16, &[u8])>
     }
 }
 
-/// The value of the first byte as a hex digit, and the text behind it.
+/// The value of the first byte as a hex digit, and the text after it.
 #[inline(always)]
 fn read_hex(text: &[u8]) -> Option<(u32, &[u8])>
     ensures { MatchOption result (NoHex text.now) (λ found. BeginsWithHex text.now found.0 found.1.now) }

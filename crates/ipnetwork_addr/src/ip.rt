@@ -7,6 +7,12 @@ use std::fmt;
 use std::str::FromStr;
 
 /// An address of either family. Each IPv4 address is before each IPv6 address.
+///
+/// ```
+/// let v4: IpAddr = "255.255.255.255".parse()?;
+/// let v6: IpAddr = "::".parse()?;
+/// assert!(rt; v4 < v6);
+/// ```
 #[derive(Clone, Copy, Debug, PartialEq, Eq, PartialOrd, Ord, Hash)]
 pub enum IpAddr {
     /// An IPv4 address.
@@ -20,8 +26,13 @@ impl IpAddr {
     ghost use Rattle.ipnetwork_addr.specs.Reading.{Reads};
     ghost use Rattle.ipnetwork_addr.specs.Either.{NamesIp, canonical_ip};
 
-    /// The address that a text names, as `Ipv4Addr::read_bytes` or `Ipv6Addr::read_bytes` reads it: no
-    /// text names one of each family. Any other text is `AddrParseError::Ip`. Does not allocate.
+    /// The address that a text names, as `Ipv4Addr::read_bytes` or `Ipv6Addr::read_bytes` reads it: no text names one
+    /// of each family. Any other text is `AddrParseError::Ip`.
+    ///
+    /// ```
+    /// assert_eq!(rt; IpAddr::read_bytes(b"192.0.2.1"), Ok(IpAddr::V4(Ipv4Addr::new(192, 0, 2, 1))));
+    /// assert_eq!(rt; IpAddr::read_bytes(b"192.0.2"), Err(AddrParseError::Ip));
+    /// ```
     pub fn read_bytes(text: &[u8]) -> Result<Self, AddrParseError>
         ensures { Reads NamesIp AddrParseError.Ip text.now result }
     {
@@ -38,7 +49,12 @@ impl IpAddr {
         }
     }
 
-    /// The canonical text of the address, at most 39 bytes. Does not allocate.
+    /// The canonical text of the address, at most 39 bytes.
+    ///
+    /// ```
+    /// let address: IpAddr = "2001:DB8:0:0:1:0:0:1".parse()?;
+    /// assert_eq!(rt; address.canonical().as_str(), "2001:db8::1:0:0:1");
+    /// ```
     pub fn canonical(&self) -> ArrayString<ADDRESS_TEXT_CAPACITY>
         ensures bytes { result.bytes ≡ canonical_ip self.now }
         ensures short { length result.bytes ≤ 39 }

@@ -14,6 +14,11 @@ use std::marker::Model;
 use std::str::FromStr;
 
 /// An IPv4 address of 32 bits, ordered by its number.
+///
+/// ```
+/// let address: Ipv4Addr = "192.0.2.1".parse()?;
+/// assert_eq!(rt; u32::from(address), 3_221_225_985);
+/// ```
 #[derive(Clone, Copy, Debug, PartialEq, Eq, PartialOrd, Ord, Hash)]
 pub struct Ipv4Addr {
     number: u32,
@@ -30,6 +35,11 @@ impl Model for Ipv4Addr {
 
 impl Ipv4Addr {
     /// The address `a.b.c.d`.
+    ///
+    /// ```
+    /// let address = Ipv4Addr::new(192, 0, 2, 1);
+    /// assert_eq!(rt; address, Ipv4Addr::from(0xc000_0201));
+    /// ```
     pub fn new(a: u8, b: u8, c: u8, d: u8) -> Self
         ensures { result ≡ number_from_digits 256 (a ∷ b ∷ c ∷ d ∷ []) }
     {
@@ -39,6 +49,10 @@ impl Ipv4Addr {
     }
 
     /// The four octets, highest first.
+    ///
+    /// ```
+    /// assert_eq!(rt; Ipv4Addr::from(0xc000_0201).octets(), [192, 0, 2, 1]);
+    /// ```
     pub fn octets(&self) -> [u8; 4]
         ensures octets { result ≡ octets_of self.now }
         ensures bound { self.now < 2 ^ 32 }
@@ -46,9 +60,13 @@ impl Ipv4Addr {
         self.number.to_be_bytes()
     }
 
-    /// The address that a text names: four decimal octets joined by `.`, each at most 255 and without
-    /// a leading zero, with nothing before or after. Any other text is `AddrParseError::Ipv4`.
-    /// Does not allocate.
+    /// The address that a text names: four decimal octets joined by `.`, each at most 255 and without a leading zero,
+    /// with nothing before or after. Any other text is `AddrParseError::Ipv4`.
+    ///
+    /// ```
+    /// assert_eq!(rt; Ipv4Addr::read_bytes(b"192.0.2.1"), Ok(Ipv4Addr::new(192, 0, 2, 1)));
+    /// assert_eq!(rt; Ipv4Addr::read_bytes(b"192.0.2.256"), Err(AddrParseError::Ipv4));
+    /// ```
     pub fn read_bytes(text: &[u8]) -> Result<Self, AddrParseError>
         ensures { Reads NamesV4 AddrParseError.Ipv4 text.now result }
     {
@@ -58,7 +76,12 @@ impl Ipv4Addr {
         }
     }
 
-    /// The canonical text, at most 15 bytes: four shortest decimals joined by `.`. Does not allocate.
+    /// The canonical text, at most 15 bytes: four shortest decimals joined by `.`.
+    ///
+    /// ```
+    /// let address = Ipv4Addr::new(192, 0, 2, 1);
+    /// assert_eq!(rt; address.canonical().as_str(), "192.0.2.1");
+    /// ```
     pub fn canonical(&self) -> ArrayString<ADDRESS_TEXT_CAPACITY>
         ensures bytes { result.bytes ≡ canonical_v4 self.now }
         ensures short { length result.bytes ≤ 15 }
@@ -79,7 +102,7 @@ impl Ipv4Addr {
 impl From<u32> for Ipv4Addr {
     ghost from_gives = { λ number address. address ≡ number };
 
-    /// The address of this number. Does not allocate.
+    /// The address of this number.
     fn from(number: u32) -> Self {
         Ipv4Addr { number }
     }
@@ -88,7 +111,7 @@ impl From<u32> for Ipv4Addr {
 impl From<[u8; 4]> for Ipv4Addr {
     ghost from_gives = { λ octets address. address ≡ number_from_digits 256 octets };
 
-    /// The address of these octets, highest first. Does not allocate.
+    /// The address of these octets, highest first.
     fn from(octets: [u8; 4]) -> Self {
         let [a, b, c, d] = octets;
         Ipv4Addr::new(a, b, c, d)
@@ -98,7 +121,7 @@ impl From<[u8; 4]> for Ipv4Addr {
 impl From<Ipv4Addr> for u32 {
     ghost from_gives = { λ address number. number ≡ address };
 
-    /// The number of the address. Does not allocate.
+    /// The number of the address.
     fn from(address: Ipv4Addr) -> Self {
         address.number
     }

@@ -19,10 +19,15 @@ use std::marker::Model;
 use std::str::FromStr;
 
 /// An IPv6 address of 128 bits, ordered by its number.
+///
+/// ```
+/// let address: Ipv6Addr = "::1:2".parse()?;
+/// assert_eq!(rt; u128::from(address), 0x1_0002);
+/// ```
 #[derive(Clone, Copy, Debug)]
 pub struct Ipv6Addr {
-    // The eight segments, the lowest first. Where the low octets of a number are stored first, as on most machines,
-    // each half of the address then lies in memory as one number of 64 bits: `order` compares by these.
+    // The eight segments, the lowest first. If the low octets of a number are stored first, as on most machines, each
+    // half of the address then lies in memory as one number of 64 bits: `order` compares by these.
     low_first: [u16; 8],
 }
 
@@ -47,6 +52,11 @@ impl Model for Ipv6Addr {
 
 impl Ipv6Addr {
     /// The address `a:b:c:d:e:f:g:h`.
+    ///
+    /// ```
+    /// let address = Ipv6Addr::new(0x2001, 0xdb8, 0, 0, 0, 0, 0, 1);
+    /// assert_eq!(rt; address.canonical().as_str(), "2001:db8::1");
+    /// ```
     pub fn new(a: u16, b: u16, c: u16, d: u16, e: u16, f: u16, g: u16, h: u16) -> Self
         ensures { result ≡ number_from_digits (2 ^ 16) (a ∷ b ∷ c ∷ d ∷ e ∷ f ∷ g ∷ h ∷ []) }
     {
@@ -56,6 +66,11 @@ impl Ipv6Addr {
     }
 
     /// The eight groups, highest first.
+    ///
+    /// ```
+    /// let address: Ipv6Addr = "2001:db8::1".parse()?;
+    /// assert_eq!(rt; address.segments(), [0x2001, 0xdb8, 0, 0, 0, 0, 0, 1]);
+    /// ```
     pub fn segments(&self) -> [u16; 8]
         ensures segments { result ≡ segments_of self.now }
         ensures bound { self.now < 2 ^ 128 }
@@ -64,16 +79,26 @@ impl Ipv6Addr {
     }
 
     /// The sixteen octets, highest first.
+    ///
+    /// ```
+    /// let address: Ipv6Addr = "2001:db8::1".parse()?;
+    /// assert_eq!(rt; address.octets(), [32, 1, 13, 184, 0, 0, 0, 0, 0, 0, 0, 0, 0, 0, 0, 1]);
+    /// ```
     pub fn octets(&self) -> [u8; 16]
         ensures { result ≡ octets_of_v6 self.now }
     {
         segments::octets_high_first(&self.segments())
     }
 
-    /// The address that a text names: eight groups of one to four hex digits of either case, joined by
-    /// `:`, of which the last two may be an IPv4 text, and of which `::` may stand once for all the
-    /// zero groups that are missing (RFC 4291, section 2.2), with nothing before or after. Any other
-    /// text is `AddrParseError::Ipv6`. Does not allocate.
+    /// The address that a text names: eight groups of one to four hex digits of either case, joined by `:`, of which
+    /// the last two may be an IPv4 text, and of which `::` may stand once for all the zero groups that are missing
+    /// (RFC 4291, section 2.2), with nothing before or after. Any other text is `AddrParseError::Ipv6`.
+    ///
+    /// ```
+    /// let dotted = Ipv6Addr::read_bytes(b"64:ff9b::192.0.2.33");
+    /// assert_eq!(rt; dotted, Ok(Ipv6Addr::new(0x64, 0xff9b, 0, 0, 0, 0, 0xc000, 0x221)));
+    /// assert_eq!(rt; Ipv6Addr::read_bytes(b"1::2::3"), Err(AddrParseError::Ipv6));
+    /// ```
     pub fn read_bytes(text: &[u8]) -> Result<Self, AddrParseError>
         ensures { Reads NamesV6 AddrParseError.Ipv6 text.now result }
     {
@@ -83,10 +108,14 @@ impl Ipv6Addr {
         }
     }
 
-    /// The canonical text, at most 39 bytes (RFC 5952). An address of `::ffff:0:0/96` is `::ffff:` and
-    /// an IPv4 text (section 5). Any other is its groups in shortest lower-case hex, with `::` for the
-    /// longest run of two or more zero groups, and of two as long for the one on the left (section 4). Does
-    /// not allocate.
+    /// The canonical text, at most 39 bytes (RFC 5952). An address of `::ffff:0:0/96` is `::ffff:` and an IPv4 text
+    /// (section 5). Any other is its groups in shortest lower-case hex, with `::` for the longest run of two or more
+    /// zero groups, and of two as long for the one on the left (section 4).
+    ///
+    /// ```
+    /// let address: Ipv6Addr = "2001:0DB8:0:0:1:0:0:1".parse()?;
+    /// assert_eq!(rt; address.canonical().as_str(), "2001:db8::1:0:0:1");
+    /// ```
     #[inline(always)]
     pub fn canonical(&self) -> ArrayString<ADDRESS_TEXT_CAPACITY>
         ensures canonical { IsCanonicalV6 result.bytes self.now }
@@ -122,7 +151,7 @@ const HALF: u128 = 0x1_0000_0000_0000_0000;
 impl From<u128> for Ipv6Addr {
     ghost from_gives = { λ number address. address ≡ number };
 
-    /// The address of this number. Does not allocate.
+    /// The address of this number.
     fn from(number: u128) -> Self {
         let high = (number / HALF) as u64;
         let low = (number % HALF) as u64;
@@ -135,7 +164,7 @@ impl From<u128> for Ipv6Addr {
 impl From<[u16; 8]> for Ipv6Addr {
     ghost from_gives = { λ segments address. address ≡ number_from_digits (2 ^ 16) segments };
 
-    /// The address of these groups, highest first. Does not allocate.
+    /// The address of these groups, highest first.
     fn from(segments: [u16; 8]) -> Self {
         Ipv6Addr {
             low_first: segments::reversed(&segments),
@@ -146,7 +175,7 @@ impl From<[u16; 8]> for Ipv6Addr {
 impl From<Ipv6Addr> for u128 {
     ghost from_gives = { λ address number. number ≡ address };
 
-    /// The number of the address. Does not allocate.
+    /// The number of the address.
     fn from(address: Ipv6Addr) -> Self {
         let (high, low) = segments::halves(&address.low_first);
         u128::from(high) * HALF + u128::from(low)

@@ -28,4 +28,9 @@ pub use ipv4::Ipv4Addr;
 pub use ipv6::Ipv6Addr;
 
 /// The length in bytes of the longest canonical text of an address: eight groups of four hex digits.
+///
+/// ```
+/// let longest: Ipv6Addr = "ffff:ffff:ffff:ffff:ffff:ffff:ffff:ffff".parse()?;
+/// assert_eq!(rt; longest.canonical().as_str().len(), ADDRESS_TEXT_CAPACITY);
+/// ```
 pub const ADDRESS_TEXT_CAPACITY: usize = 39;

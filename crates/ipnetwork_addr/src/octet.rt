@@ -22,7 +22,7 @@ pub(crate) fn read_octets(text: &[u8]) -> Option<[u8; 4]>
     Some([first, second, third, fourth])
 }
 
-/// The octet before the first dot, and the text behind that dot.
+/// The octet before the first dot, and the text after that dot.
 #[inline(always)]
 fn read_octet_and_dot(text: &[u8]) -> Option<(u8, &[u8])>
     ensures { MatchOption result (NoOctetAndDot text.now) (λ found. BeginsWithOctet text.now found.0 (dot ∷ found.1.now)) }
@@ -32,7 +32,7 @@ fn read_octet_and_dot(text: &[u8]) -> Option<(u8, &[u8])>
     Some((octet, &text[end + 1..]))
 }
 
-/// The place of the first dot that stands behind one, two or three bytes.
+/// The place of the first dot that stands after one, two or three bytes.
 #[inline(always)]
 fn octet_end(text: &[u8]) -> Option<usize>
     ensures { MatchOption result (HasNoOctetEnd text.now) (IsOctetEnd text.now) }

@@ -54,7 +54,7 @@ fault_of Addr Ipv6 input = BadAddress (addr_fault_text Ipv6)
 fault_of Addr Ip input = BadAddress input
 fault_of Prefix kind input = BadPrefix
 
--- the error is this refusal or, where that has a text, `OutOfMemory`
+-- the error is this refusal or, if that has a text, `OutOfMemory`
 abbrev pub IsRefusal : Refusal → IpNetworkError → Type 0
 IsRefusal (BadAddress text) error = (refusal_of error ≡ BadAddress text) ⊎ (refusal_of error ≡ RanOutOfMemory)
 IsRefusal BadPrefix error = refusal_of error ≡ BadPrefix

@@ -18,7 +18,7 @@ use Rattle.ipnetwork_family.specs.declared.error.IpNetworkError.{IpNetworkError}
 pub record Family (w : ℕ) : Type 1 where
   -- the text names the address of this number
   pub NamesAddress : List ℕ → ℕ → Type 0
-  -- behind a `/`, the text gives this prefix length
+  -- after a `/`, the text gives this prefix length
   pub IsSuffix : List ℕ → ℕ → Type 0
   -- the one text that the address of a number is printed as
   pub canonical : ℕ → List ℕ
@@ -42,11 +42,11 @@ v6_family = record { NamesAddress = NamesV6; IsSuffix = IsV6Suffix; canonical = 
 abbrev pub NamesNetworkOf : {w : ℕ} → Family w → List ℕ → Network → Type 0
 NamesNetworkOf {w} family text n = NamesNetwork w family.NamesAddress family.IsSuffix text n
 
--- what reading answers
+-- what reading returns
 abbrev pub ReadsNetworkOf : {w : ℕ} → Family w → List ℕ → Result Network CidrFault → Type 0
 ReadsNetworkOf {w} family text result = ReadsNetwork w family.NamesAddress family.IsSuffix text result
 
--- what parsing answers
+-- what parsing returns
 abbrev pub ParsesNetworkOf : {w : ℕ} → Family w → List ℕ → Result Network IpNetworkError → Type 0
 ParsesNetworkOf family text result = Parses (NamesNetworkOf family) (IsCause family.NamesAddress family.IsSuffix) family.refusal text result
 

@@ -14,6 +14,6 @@ IsV4Suffix text p = (p ≤ 32) × (IsPrefixNumber text p ⊎ NamesV4 text (mask_
 abbrev pub NamesV4Network : List ℕ → Network → Type 0
 NamesV4Network text n = NamesNetwork 32 NamesV4 IsV4Suffix text n
 
--- what reading answers
+-- what reading returns
 abbrev pub ReadsV4Network : List ℕ → Result Network CidrFault → Type 0
 ReadsV4Network text result = ReadsNetwork 32 NamesV4 IsV4Suffix text result

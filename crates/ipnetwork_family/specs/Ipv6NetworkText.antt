@@ -14,6 +14,6 @@ IsV6Suffix text p = (p ≤ 128) × IsPrefixNumber text p
 abbrev pub NamesV6Network : List ℕ → Network → Type 0
 NamesV6Network text n = NamesNetwork 128 NamesV6 IsV6Suffix text n
 
--- what reading answers
+-- what reading returns
 abbrev pub ReadsV6Network : List ℕ → Result Network CidrFault → Type 0
 ReadsV6Network text result = ReadsNetwork 128 NamesV6 IsV6Suffix text result

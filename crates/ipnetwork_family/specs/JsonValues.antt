@@ -11,12 +11,12 @@ use Rattle.ipnetwork_family.specs.declared.json.JsonFault.TheVariants.{NotAStrin
 abbrev pub IsStringOf : List ℕ → Value → Type 0
 IsStringOf text value = view value ≡ string text
 
--- an answer of parsing, its error inside `Refused`
+-- a result of parsing, its error inside `Refused`
 abbrev pub refusing : {N : Type 0} → Result N IpNetworkError → Result N JsonFault
 refusing (Ok network) = Ok network
 refusing (Err error) = Err (Refused error)
 
--- what reading a value answers, of which this is the text if it is a string: what parsing may answer to the text, and
+-- what reading a value returns, of which this is the text if it is a string: what parsing may return for the text, and
 -- `NotAString` for a value that is no string
 abbrev pub ReadsValue : {N : Type 0} → (List ℕ → Result N IpNetworkError → Type 0) → Option (List ℕ) → Result N JsonFault → Type 0
 ReadsValue {N} Parses (Some text) result = (parsed : Result N IpNetworkError) × Parses text parsed × (result ≡ refusing parsed)

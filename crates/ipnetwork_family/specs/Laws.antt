@@ -72,7 +72,7 @@ abbrev pub BetweenIsSubnet : Type 0
 BetweenIsSubnet = (w : ℕ) (a b c : Network) → IsNetwork w a → IsNetwork w b → IsNetwork w c → HostBitsAreZero w a → HostBitsAreZero w b → HostBitsAreZero w c
     → Subnet w c a → IsNetworkAtMost a b → IsNetworkAtMost b c → Subnet w b a
 
--- the list of members is strictly ascending and has the members alone
+-- the list of members is strictly ascending and has only the members
 pub record ListsMembers (w : ℕ) (n : Network) : Type 0 where
   pub ascending : IsStrictlyIncreasing (members w n)
   pub each : (x : ℕ) → Contains (members w n) x → Member w n x
@@ -87,7 +87,7 @@ MembersLaw = (w : ℕ) (n : Network) → IsNetwork w n → ListsMembers w n
 abbrev pub MembershipComputed : Type 0
 MembershipComputed = (w : ℕ) (n : Network) (x : ℕ) → IsTrue (is_member w n x) ↔ Member w n x
 
--- the test of subnets is true exactly where each member of one is a member of the other
+-- the test of subnets is true exactly if each member of one is a member of the other
 abbrev pub SubnetComputed : Type 0
 SubnetComputed = (w : ℕ) (a b : Network) → IsNetwork w a → IsNetwork w b → IsTrue (is_subnet w a b) ↔ Subnet w a b
 

@@ -4,7 +4,7 @@ use Rattle.ipnetwork_family.specs.Network.{mask_of, IsNoMask}
 use Rattle.ipnetwork_family.specs.declared.error.IpNetworkError.{IpNetworkError}
 use Rattle.ipnetwork_family.specs.declared.error.IpNetworkError.TheVariants.{InvalidPrefix}
 
--- the prefix length whose mask the number is, or `InvalidPrefix` where there is none
+-- the prefix length whose mask the number is, or `InvalidPrefix` if there is none
 abbrev pub GivesPrefixOfMask : ℕ → ℕ → Result ℕ IpNetworkError → Type 0
 GivesPrefixOfMask w mask result =
     MatchResult result (λ p. (p ≤ w) × (mask ≡ mask_of w p)) (λ fault. (fault ≡ InvalidPrefix) × IsNoMask w mask)

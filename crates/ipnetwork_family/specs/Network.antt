@@ -30,7 +30,7 @@ mask_of w p = 2 ^ w - block_size w p
 abbrev pub low : ℕ → Network → ℕ
 low w n = n.address / block_size w n.prefix * block_size w n.prefix
 
--- the greatest: the least and as many more as the block has, less one
+-- the greatest address of the set: the least and as many more as the block has, less one
 abbrev pub high : ℕ → Network → ℕ
 high w n = low w n + block_size w n.prefix - 1
 
@@ -59,11 +59,11 @@ count_up start (suc count) = start ∷ count_up (suc start) count
 abbrev pub members : ℕ → Network → List ℕ
 members w n = count_up (low w n) (block_size w n.prefix)
 
--- the number of members, and one less where that needs w + 1 bits
+-- the number of members, and one less if that needs w + 1 bits
 abbrev pub size_of : ℕ → Network → ℕ
 size_of w n = min (block_size w n.prefix) (2 ^ w - 1)
 
--- each member of a is one of b
+-- each member of a is a member of b
 abbrev pub Subnet : ℕ → Network → Network → Type 0
 Subnet w a b = (x : ℕ) → Member w a x → Member w b x
 

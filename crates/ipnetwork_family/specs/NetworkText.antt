@@ -15,16 +15,16 @@ slash = 47
 abbrev pub slashes : List ℕ → ℕ
 slashes text = count_by (λ byte. byte == slash) text
 
--- two or more
+-- the text has two or more `/`
 abbrev pub HasSeveralSlashes : List ℕ → Type 0
 HasSeveralSlashes text = 2 ≤ slashes text
 
--- the part before the only `/` and the part after it, or the whole text where there is none
+-- the part before the only `/` and the part after it, or the whole text if there is none
 abbrev pub IsSplit : List ℕ → List ℕ → Option (List ℕ) → Type 0
 IsSplit text address None = (address ≡ text) × (slashes text ≡ 0)
 IsSplit text address (Some suffix) = (text ≡ address ++ slash ∷ suffix) × (slashes address ≡ 0) × (slashes suffix ≡ 0)
 
--- the part before the first `/`, or the whole text where there is none
+-- the part before the first `/`, or the whole text if there is none
 abbrev pub before_slash : List ℕ → List ℕ
 before_slash text = before_first (λ byte. byte == slash) text
 
@@ -46,7 +46,7 @@ IsCause NamesAddress IsSuffix text Addr = (slashes text ≤ 1) × ((a : ℕ) →
 -- else what stands after the `/` is no suffix
 IsCause NamesAddress IsSuffix text Prefix = (slashes text ≤ 1) × ((a : ℕ) × NamesAddress (before_slash text) a) × HasNoSuffix IsSuffix text
 
--- the network that the text names, or the cause where it names none
+-- the network that the text names, or the cause if it names none
 abbrev pub ReadsNetwork : ℕ → (List ℕ → ℕ → Type 0) → (List ℕ → ℕ → Type 0) → List ℕ → Result Network CidrFault → Type 0
 ReadsNetwork w NamesAddress IsSuffix text result =
     MatchResult result (NamesNetwork w NamesAddress IsSuffix text)

@@ -1,4 +1,4 @@
--- What parsing answers: reading with an error that carries a text.
+-- What parsing returns: reading with an error that carries a text.
 use Rattle.std.specs.Prelude.{◌↔◌, List, ℕ, Result, Ok, Err, MatchResult}
 use Rattle.ipnetwork_addr.specs.declared.error.AddrParseError.{AddrParseError}
 use Rattle.ipnetwork_addr.specs.declared.error.AddrParseError.TheVariants as kinds
@@ -12,8 +12,8 @@ use Rattle.ipnetwork_family.specs.ErrorTexts.{fault_of, IsRefusal}
 use Rattle.ipnetwork_family.specs.declared.error.CidrFault.{CidrFault}
 use Rattle.ipnetwork_family.specs.declared.error.IpNetworkError.{IpNetworkError}
 
--- the network that the text names; where it names none, the refusal of the text for its cause or, where that has a
--- text, `OutOfMemory` in its place
+-- the network that the text names; if it names none, the refusal of the text for its cause or, if that has a text,
+-- `OutOfMemory` in its place
 abbrev pub Parses : {N : Type 0} → (List ℕ → N → Type 0) → (List ℕ → CidrFault → Type 0) → AddrParseError → List ℕ → Result N IpNetworkError → Type 0
 Parses {N} Names IsCauseOf kind text result =
     MatchResult result (Names text)
@@ -26,8 +26,8 @@ ParsesV4Network text result = Parses NamesV4Network (IsCause NamesV4 IsV4Suffix)
 abbrev pub ParsesV6Network : List ℕ → Result Network IpNetworkError → Type 0
 ParsesV6Network text result = Parses NamesV6Network (IsCause NamesV6 IsV6Suffix) kinds.Ipv6 text result
 
--- parsing returns what reading does: the same network, or the error for the same cause, where an address of this kind
--- was asked for, or `OutOfMemory` in its place where that has a text
+-- parsing returns what reading does: the same network, or the error for the same cause when an address of this kind was
+-- asked for, or `OutOfMemory` in its place if that has a text
 abbrev pub ParsesAsItReads : {N : Type 0} → (List ℕ → Result N CidrFault → Type 0) → AddrParseError → (List ℕ → Result N IpNetworkError → Type 0) → Type 0
 ParsesAsItReads {N} Reads kind ParsesNetwork = (text : List ℕ) (result : Result N IpNetworkError) → ParsesNetwork text result
     ↔ MatchResult result (λ n. Reads text (Ok n)) (λ error. (fault : CidrFault) × Reads text (Err fault) × IsRefusal (fault_of fault kind text) error)

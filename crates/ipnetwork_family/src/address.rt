@@ -14,6 +14,11 @@ use std::hash::Hash;
 
 /// The addresses of one family. An address means a number of `WIDTH` bits and is ordered by it; a prefix length says
 /// how many of the first of these bits are looked at. No call allocates.
+///
+/// ```
+/// assert_eq!(rt; <Ipv4Addr as Address>::WIDTH, 32);
+/// assert_eq!(rt; <Ipv6Addr as Address>::WIDTH, 128);
+/// ```
 pub trait Address: Copy + Ord + Hash + Debug {
     /// The number of bits of an address, and the greatest prefix length: 32 for IPv4, 128 for IPv6.
     const WIDTH: u8;
@@ -36,20 +41,39 @@ pub trait Address: Copy + Ord + Hash + Debug {
     // and each number by its address.
     ghost forth: { (n : ℕ) → number (of_number n) ≡ n };
 
-    /// The address that a text names, or `refusal` where it names none.
+    /// The address that a text names, or `refusal` if it names none.
+    ///
+    /// ```
+    /// let address = <Ipv4Addr as Address>::read_bytes(b"192.0.2.1")?;
+    /// assert_eq!(rt; address, Ipv4Addr::new(192, 0, 2, 1));
+    /// ```
     fn read_bytes(text: &[u8]) -> Result<Self, AddrParseError>
         ensures { Reads (λ name address. family.NamesAddress name (number address)) family.refusal text.now result };
 
-    /// The prefix length that a text gives behind the `/` of a network, if it gives one: as a number and, for IPv4,
+    /// The prefix length that a text gives after the `/` of a network, if it gives one: as a number and, for IPv4,
     /// also as a mask in the form of an address.
+    ///
+    /// ```
+    /// assert_eq!(rt; Ipv4Addr::read_suffix(b"255.255.240.0"), Some(20));
+    /// assert_eq!(rt; Ipv6Addr::read_suffix(b"129"), None);
+    /// ```
     fn read_suffix(text: &[u8]) -> Option<u8>
         ensures { MatchOption result ((p : ℕ) → ¬ (family.IsSuffix text.now p)) (λ p. (p ≤ WIDTH) × family.IsSuffix text.now p) };
 
     /// The error for a text that names no address of the family.
+    ///
+    /// ```
+    /// assert_eq!(rt; Ipv4Addr::refusal(), AddrParseError::Ipv4);
+    /// ```
     fn refusal() -> AddrParseError
         ensures { result ≡ family.refusal };
 
     /// The canonical text.
+    ///
+    /// ```
+    /// let address = Ipv4Addr::new(192, 0, 2, 1);
+    /// assert_eq!(rt; Address::canonical(&address).as_str(), "192.0.2.1");
+    /// ```
     fn canonical(&self) -> ArrayString<ADDRESS_TEXT_CAPACITY>
         ensures bytes { result.bytes ≡ family.canonical (number self.now) }
         ensures short { (length result.bytes ≤ family.address_length) × (family.address_length ≤ ADDRESS_TEXT_CAPACITY) };
@@ -65,45 +89,85 @@ pub trait Address: Copy + Ord + Hash + Debug {
     fn is_of_width(self)
         ensures { number self < 2 ^ WIDTH };
 
-    /// The mask of a prefix length: as many ones in front, and zeros behind them.
+    /// The mask of a prefix length: as many ones in front, and zeros after them.
+    ///
+    /// ```
+    /// assert_eq!(rt; Ipv4Addr::mask(20), Ipv4Addr::new(255, 255, 240, 0));
+    /// ```
     fn mask(prefix: u8) -> Self
         requires { prefix ≤ WIDTH }
         ensures { number result ≡ mask_of WIDTH prefix };
 
-    /// The prefix length of a mask; `None` where the address is no mask.
+    /// The prefix length of a mask; `None` if the address is no mask.
+    ///
+    /// ```
+    /// assert_eq!(rt; Ipv4Addr::new(255, 255, 240, 0).prefix_of_mask(), Some(20));
+    /// assert_eq!(rt; Ipv4Addr::new(255, 0, 255, 0).prefix_of_mask(), None);
+    /// ```
     fn prefix_of_mask(self) -> Option<u8>
         ensures { MatchOption result (IsNoMask WIDTH (number self)) (λ prefix. (prefix ≤ WIDTH) × (number self ≡ mask_of WIDTH prefix)) };
 
-    /// The address with the bits behind the first `prefix` cleared.
+    /// The address with the bits after the first `prefix` cleared.
+    ///
+    /// ```
+    /// assert_eq!(rt; Ipv4Addr::new(192, 0, 2, 77).least(26), Ipv4Addr::new(192, 0, 2, 64));
+    /// ```
     fn least(self, prefix: u8) -> Self
         requires { prefix ≤ WIDTH }
         ensures { number result ≡ low WIDTH (record { address = number self; prefix = prefix }) };
 
-    /// The address with the bits behind the first `prefix` set.
+    /// The address with the bits after the first `prefix` set.
+    ///
+    /// ```
+    /// assert_eq!(rt; Ipv4Addr::new(192, 0, 2, 77).greatest(26), Ipv4Addr::new(192, 0, 2, 127));
+    /// ```
     fn greatest(self, prefix: u8) -> Self
         requires { prefix ≤ WIDTH }
         ensures { number result ≡ high WIDTH (record { address = number self; prefix = prefix }) };
 
     /// Whether two addresses agree in their first `prefix` bits.
+    ///
+    /// ```
+    /// let address = Ipv4Addr::new(192, 0, 2, 77);
+    /// assert!(rt; address.agrees(Ipv4Addr::new(192, 0, 2, 127), 26));
+    /// assert!(rt; !address.agrees(Ipv4Addr::new(192, 0, 2, 128), 26));
+    /// ```
     fn agrees(self, other: Self, prefix: u8) -> bool
         requires { prefix ≤ WIDTH }
         ensures { IsTrue result ↔ (number self / block_size WIDTH prefix ≡ number other / block_size WIDTH prefix) };
 
     /// The address after this one, which is not the last.
+    ///
+    /// ```
+    /// assert_eq!(rt; Ipv4Addr::new(192, 0, 2, 255).next(), Ipv4Addr::new(192, 0, 3, 0));
+    /// ```
     fn next(self) -> Self
         requires { number self + 1 < 2 ^ WIDTH }
         ensures { number result ≡ number self + 1 };
 
     /// The address before this one, which is not the first.
+    ///
+    /// ```
+    /// assert_eq!(rt; Ipv4Addr::new(192, 0, 3, 0).previous(), Ipv4Addr::new(192, 0, 2, 255));
+    /// ```
     fn previous(self) -> Self
         requires { 0 < number self }
         ensures { number result ≡ number self - 1 };
 
     /// How many of their first bits two addresses share: the greatest prefix length with which they lie in one block.
+    ///
+    /// ```
+    /// let address = Ipv4Addr::new(192, 0, 2, 77);
+    /// assert_eq!(rt; address.shared_bits(Ipv4Addr::new(192, 0, 2, 127)), 26);
+    /// ```
     fn shared_bits(self, other: Self) -> u8
         ensures { SharesBits WIDTH (number self) (number other) result };
 
     /// How many zeros the bits end with; `WIDTH` for the address 0.
+    ///
+    /// ```
+    /// assert_eq!(rt; Ipv4Addr::new(255, 255, 240, 0).trailing_zeros(), 12);
+    /// ```
     fn trailing_zeros(self) -> u8
         ensures { EndsInZeros WIDTH (number self) result };
 

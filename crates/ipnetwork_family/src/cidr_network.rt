@@ -9,6 +9,13 @@ use crate::{Address, Network};
 ///
 /// An address means a number of `WIDTH` bits and is ordered by it. A network means its address, host bits
 /// included, and its prefix length, and is ordered by these two. No call allocates.
+///
+/// ```
+/// fn hosts_hidden<N: CidrNetwork>(network: N) -> bool {
+///     network.ip() == network.network()
+/// }
+/// assert!(rt; hosts_hidden("10.0.0.0/8".parse::<Ipv4Network>()?));
+/// ```
 pub trait CidrNetwork: Copy + Ord {
     /// The addresses of the family.
     type Addr: Copy + Ord;
@@ -26,37 +33,77 @@ pub trait CidrNetwork: Copy + Ord {
     ghost pair: { Self → Pair };
 
     /// The address as made, host bits included.
+    ///
+    /// ```
+    /// let network: Ipv6Network = "2001:db8::7/126".parse()?;
+    /// assert_eq!(rt; CidrNetwork::ip(&network).canonical().as_str(), "2001:db8::7");
+    /// ```
     fn ip(&self) -> Self::Addr
         ensures made { number result ≡ (pair self.now).address }
         ensures network { IsNetwork WIDTH (pair self.now) };
 
     /// The prefix length, in bits.
+    ///
+    /// ```
+    /// let network: Ipv6Network = "2001:db8::7/126".parse()?;
+    /// assert_eq!(rt; CidrNetwork::prefix(&network), 126);
+    /// ```
     fn prefix(&self) -> u8
         ensures made { result ≡ (pair self.now).prefix }
         ensures network { IsNetwork WIDTH (pair self.now) };
 
     /// The least member: the address with its host bits cleared.
+    ///
+    /// ```
+    /// let network: Ipv6Network = "2001:db8::7/126".parse()?;
+    /// assert_eq!(rt; CidrNetwork::network(&network).canonical().as_str(), "2001:db8::4");
+    /// ```
     fn network(&self) -> Self::Addr
         ensures { number result ≡ low WIDTH (pair self.now) };
 
     /// The greatest member: the address with its host bits set.
+    ///
+    /// ```
+    /// let network: Ipv6Network = "2001:db8::7/126".parse()?;
+    /// assert_eq!(rt; CidrNetwork::broadcast(&network).canonical().as_str(), "2001:db8::7");
+    /// ```
     fn broadcast(&self) -> Self::Addr
         ensures { number result ≡ high WIDTH (pair self.now) };
 
     /// Whether an address lies in the network's set.
+    ///
+    /// ```
+    /// let network: Ipv6Network = "2001:db8::7/126".parse()?;
+    /// assert!(rt; CidrNetwork::contains(&network, "2001:db8::5".parse()?));
+    /// ```
     fn contains(&self, ip: Self::Addr) -> bool
         ensures { IsTrue result ↔ Member WIDTH (pair self.now) (number ip) };
 
     /// Whether each member of this network is a member of `other`. Host bits change nothing.
+    ///
+    /// ```
+    /// let network: Ipv6Network = "2001:db8::7/126".parse()?;
+    /// assert!(rt; CidrNetwork::is_subnet_of(network, "2001:db8::/32".parse()?));
+    /// ```
     fn is_subnet_of(self, other: Self) -> bool
         ensures { IsTrue result ↔ Subnet WIDTH (pair self) (pair other) };
 
     /// Whether some address is a member of both.
+    ///
+    /// ```
+    /// let network: Ipv6Network = "2001:db8::7/126".parse()?;
+    /// assert!(rt; !CidrNetwork::overlaps(network, "2001:db8::/126".parse()?));
+    /// ```
     fn overlaps(self, other: Self) -> bool
         ensures { IsTrue result ↔ Overlap WIDTH (pair self) (pair other) };
 
-    /// The network without host bits of this prefix length that holds the address; `None` where the
-    /// prefix length is greater than `WIDTH`.
+    /// The network without host bits of this prefix length that holds the address; `None` if the prefix length is
+    /// greater than `WIDTH`.
+    ///
+    /// ```
+    /// let block = <Ipv6Network as CidrNetwork>::block("2001:db8::7".parse()?, 126);
+    /// assert_eq!(rt; block, "2001:db8::4/126".parse().ok());
+    /// ```
     fn block(addr: Self::Addr, prefix: u8) -> Option<Self>
         ensures address { number addr < 2 ^ WIDTH }
         ensures cases { MatchOption result (WIDTH < prefix)

@@ -110,7 +110,7 @@ impl Address for Ipv4Addr {
     ghost few_digits = { (Prim.search rules, Prim.search rules, Prim.search rules) };
 }
 
-/// The ones behind the first `prefix` bits.
+/// The ones after the first `prefix` bits.
 fn host_ones(prefix: u8) -> u32
     requires { prefix ≤ 32 }
     ensures { result ≡ 2 ^ (32 - prefix) - 1 }
@@ -120,13 +120,24 @@ fn host_ones(prefix: u8) -> u32
 
 impl Network<Ipv4Addr> {
     /// The number of members, and at prefix length 0, where that needs 33 bits, one less: 4,294,967,295.
+    ///
+    /// ```
+    /// let network: Ipv4Network = "192.0.2.77/26".parse()?;
+    /// assert_eq!(rt; network.size(), 64);
+    /// ```
     pub fn size(&self) -> u32
         ensures { result ≡ size_of 32 self.now }
     {
         host_ones(self.prefix()).saturating_add(1)
     }
 
-    /// The member number `n` in order, counted from 0; `None` where `n` is not below `size`.
+    /// The member number `n` in order, counted from 0; `None` if `n` is not below `size`.
+    ///
+    /// ```
+    /// let network: Ipv4Network = "192.0.2.77/26".parse()?;
+    /// assert_eq!(rt; network.nth(1), Some(Ipv4Addr::new(192, 0, 2, 65)));
+    /// assert_eq!(rt; network.nth(64), None);
+    /// ```
     pub fn nth(self, n: u32) -> Option<Ipv4Addr>
         ensures { SomeIff result (n < size_of 32 self) (low 32 self + n) }
     {
@@ -138,7 +149,11 @@ impl Network<Ipv4Addr> {
     }
 }
 
-/// The prefix length of a mask, or `InvalidPrefix` where the address is none of the 33 masks. Does not allocate.
+/// The prefix length of a mask, or `InvalidPrefix` if the address is none of the 33 masks.
+///
+/// ```
+/// assert_eq!(rt; ipv4_mask_to_prefix(Ipv4Addr::new(255, 255, 240, 0)), Ok(20));
+/// ```
 pub fn ipv4_mask_to_prefix(mask: Ipv4Addr) -> Result<u8, IpNetworkError>
     ensures { GivesPrefixOfMask 32 mask result }
 {

@@ -94,7 +94,7 @@ impl Address for Ipv6Addr {
     ghost few_digits = { (Prim.search rules, Prim.search rules, Prim.search rules) };
 }
 
-/// The ones behind the first `prefix` bits.
+/// The ones after the first `prefix` bits.
 fn host_ones(prefix: u8) -> u128
     requires { prefix ≤ 128 }
     ensures { result ≡ 2 ^ (128 - prefix) - 1 }
@@ -104,13 +104,23 @@ fn host_ones(prefix: u8) -> u128
 
 impl Network<Ipv6Addr> {
     /// The number of members, and at prefix length 0, where that needs 129 bits, one less: 2^128 - 1.
+    ///
+    /// ```
+    /// let network: Ipv6Network = "2001:db8::/64".parse()?;
+    /// assert_eq!(rt; network.size(), 1 << 64);
+    /// ```
     pub fn size(&self) -> u128
         ensures { result ≡ size_of 128 self.now }
     {
         host_ones(self.prefix()).saturating_add(1)
     }
 
-    /// The member number `n` in order, counted from 0; `None` where `n` is not below `size`.
+    /// The member number `n` in order, counted from 0; `None` if `n` is not below `size`.
+    ///
+    /// ```
+    /// let network: Ipv6Network = "2001:db8::1/64".parse()?;
+    /// assert_eq!(rt; network.nth(0xffff), Some("2001:db8::ffff".parse::<Ipv6Addr>()?));
+    /// ```
     pub fn nth(self, n: u128) -> Option<Ipv6Addr>
         ensures { SomeIff result (n < size_of 128 self) (low 128 self + n) }
     {
@@ -122,7 +132,12 @@ impl Network<Ipv6Addr> {
     }
 }
 
-/// The prefix length of a mask, or `InvalidPrefix` where the address is none of the 129 masks. Does not allocate.
+/// The prefix length of a mask, or `InvalidPrefix` if the address is none of the 129 masks.
+///
+/// ```
+/// let mask: Ipv6Addr = "ffff:ffff:ffff:ffff::".parse()?;
+/// assert_eq!(rt; ipv6_mask_to_prefix(mask), Ok(64));
+/// ```
 pub fn ipv6_mask_to_prefix(mask: Ipv6Addr) -> Result<u8, IpNetworkError>
     ensures { GivesPrefixOfMask 128 mask result }
 {

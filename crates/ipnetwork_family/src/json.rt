@@ -10,6 +10,11 @@ use serde_json::Value;
 use std::alloc::{AllocError, Global};
 
 /// Why a JSON value is refused as a network.
+///
+/// ```
+/// let value = serde_json::from_str::<serde_json::Value>(rt.alloc(), "8")?;
+/// assert_eq!(rt; Ipv4Network::from_value(rt.alloc(), &value), Err(JsonFault::NotAString));
+/// ```
 #[derive(Debug, PartialEq, Eq, Drop)]
 pub enum JsonFault {
     /// The value is no string: null, a boolean, a number, a list or an object.
@@ -20,16 +25,27 @@ pub enum JsonFault {
 
 impl<A: Address> Network<A> {
     /// The string value of the canonical text. Allocates once; `AllocError` when out of memory.
+    ///
+    /// ```
+    /// let network: Ipv4Network = "10.1.9.32/8".parse()?;
+    /// let text = network.to_value(rt.alloc())?.to_string(rt.alloc())?;
+    /// assert_eq!(rt; text.as_str(), "\"10.1.9.32/8\"");
+    /// ```
     pub fn to_value(&self, alloc: Global) -> Result<Value, AllocError>
         ensures { IfOk result (IsStringOf (text_of A.family self.now)) }
     {
         Value::try_from_str(alloc, self.canonical().as_str())
     }
 
-    /// The network that a string value names. A string is judged as `parse` judges it, and what that
-    /// refuses is `Refused` with its error; any other value is `NotAString`. Allocates at most once, only
-    /// for a refusal whose error carries a text: out of memory, the answer is then
-    /// `Refused(IpNetworkError::OutOfMemory)`.
+    /// The network that a string value names. A string is read as `parse` reads it, and one that it refuses is
+    /// `Refused` with its error; any other value is `NotAString`. Allocates at most once, only for a refusal whose
+    /// error carries a text: if that is out of memory, the result is `Refused(IpNetworkError::OutOfMemory)`.
+    ///
+    /// ```
+    /// let value = serde_json::Value::try_from_str(rt.alloc(), "10.1.9.32/8")?;
+    /// let network = Ipv4Network::from_value(rt.alloc(), &value)?;
+    /// assert_eq!(rt; network.prefix(), 8);
+    /// ```
     pub fn from_value(alloc: Global, value: &Value) -> Result<Self, JsonFault>
         ensures { ReadsValue (ParsesNetworkOf A.family) (as_str (view value.now)) result }
     {

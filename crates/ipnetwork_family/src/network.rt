@@ -18,6 +18,11 @@ use std::str::FromStr;
 /// An address, host bits included, and a prefix length of 0 to `A::WIDTH`: 32 for IPv4, 128 for IPv6. It stands for the
 /// set of all addresses that agree with the address in their first bits, as many as the prefix length says.
 /// Ordered by address, then by prefix length.
+///
+/// ```
+/// let network: Network<Ipv4Addr> = "192.0.2.77/26".parse()?;
+/// assert_eq!(rt; network.network(), Ipv4Addr::new(192, 0, 2, 64));
+/// ```
 #[derive(Copy, Debug, PartialEq, Eq, PartialOrd, Ord, Hash)]
 pub struct Network<A: Address> {
     address: A,
@@ -53,8 +58,14 @@ impl<A: Address> Clone for Network<A> {
 // The clause `network` tells a proof in another crate what holds of each network: both fields are private,
 // so nothing else says it. It stands on the calls that such proofs begin with.
 impl<A: Address> Network<A> {
-    /// The network of this address, host bits kept, and this prefix length; `None` where that is
-    /// greater than `A::WIDTH`.
+    /// The network of this address, host bits kept, and this prefix length; `None` if that is greater than
+    /// `A::WIDTH`.
+    ///
+    /// ```
+    /// let address = Ipv4Addr::new(10, 1, 9, 32);
+    /// assert_eq!(rt; Ipv4Network::new_checked(address, 8), "10.1.9.32/8".parse().ok());
+    /// assert_eq!(rt; Ipv4Network::new_checked(address, 33), None);
+    /// ```
     pub fn new_checked(addr: A, prefix: u8) -> Option<Self>
         ensures { SomeIff result (prefix ≤ A.WIDTH) (record { address = A.number addr; prefix = prefix }) }
     {
@@ -68,8 +79,13 @@ impl<A: Address> Network<A> {
         })
     }
 
-    /// The network without host bits of this prefix length that holds the address; `None` where the
-    /// prefix length is greater than `A::WIDTH`. Does not allocate.
+    /// The network without host bits of this prefix length that holds the address; `None` if the prefix length is
+    /// greater than `A::WIDTH`.
+    ///
+    /// ```
+    /// let block = Ipv4Network::block(Ipv4Addr::new(10, 1, 9, 32), 8);
+    /// assert_eq!(rt; block, "10.0.0.0/8".parse().ok());
+    /// ```
     pub fn block(addr: A, prefix: u8) -> Option<Self>
         ensures address { A.number addr < 2 ^ A.WIDTH }
         ensures cases { MatchOption result (A.WIDTH < prefix)
@@ -80,8 +96,13 @@ impl<A: Address> Network<A> {
         Network::new_checked(network.network(), prefix)
     }
 
-    /// The network of this address, host bits kept, and this prefix length; `InvalidPrefix` where that is
-    /// greater than `A::WIDTH`. Does not allocate.
+    /// The network of this address, host bits kept, and this prefix length; `InvalidPrefix` if that is greater than
+    /// `A::WIDTH`.
+    ///
+    /// ```
+    /// let network = Ipv4Network::new(Ipv4Addr::new(10, 1, 9, 32), 8)?;
+    /// assert_eq!(rt; network.canonical().as_str(), "10.1.9.32/8");
+    /// ```
     pub fn new(addr: A, prefix: u8) -> Result<Self, IpNetworkError>
         ensures { MatchResult result (λ n. (n ≡ record { address = A.number addr; prefix = prefix }) × (prefix ≤ A.WIDTH))
             (λ fault. (fault ≡ IpNetworkError.InvalidPrefix) × (A.WIDTH < prefix)) }
@@ -92,8 +113,14 @@ impl<A: Address> Network<A> {
         }
     }
 
-    /// The network of this address, host bits kept, and the prefix length of this mask; `InvalidPrefix`
-    /// where that is none of the `A::WIDTH` + 1 masks. Does not allocate.
+    /// The network of this address, host bits kept, and the prefix length of this mask; `InvalidPrefix` if that is
+    /// none of the `A::WIDTH` + 1 masks.
+    ///
+    /// ```
+    /// let mask = Ipv4Addr::new(255, 255, 240, 0);
+    /// let network = Ipv4Network::with_netmask(Ipv4Addr::new(10, 1, 9, 32), mask)?;
+    /// assert_eq!(rt; network.prefix(), 20);
+    /// ```
     pub fn with_netmask(netaddr: A, netmask: A) -> Result<Self, IpNetworkError>
         ensures { MatchResult result (λ n. (n.address ≡ A.number netaddr) × (n.prefix ≤ A.WIDTH) × (A.number netmask ≡ mask_of A.WIDTH n.prefix))
             (λ fault. (fault ≡ IpNetworkError.InvalidPrefix) × IsNoMask A.WIDTH (A.number netmask)) }
@@ -105,6 +132,11 @@ impl<A: Address> Network<A> {
     }
 
     /// The address as made, host bits included.
+    ///
+    /// ```
+    /// let network: Ipv4Network = "192.0.2.77/26".parse()?;
+    /// assert_eq!(rt; network.ip(), Ipv4Addr::new(192, 0, 2, 77));
+    /// ```
     pub fn ip(&self) -> A
         ensures made { A.number result ≡ self.now.address }
         ensures network { IsNetwork A.WIDTH self.now }
@@ -113,6 +145,11 @@ impl<A: Address> Network<A> {
     }
 
     /// The prefix length, in bits.
+    ///
+    /// ```
+    /// let network: Ipv4Network = "192.0.2.77/26".parse()?;
+    /// assert_eq!(rt; network.prefix(), 26);
+    /// ```
     pub fn prefix(&self) -> u8
         ensures made { result ≡ self.now.prefix }
         ensures network { IsNetwork A.WIDTH self.now }
@@ -120,7 +157,12 @@ impl<A: Address> Network<A> {
         self.prefix
     }
 
-    /// The mask: as many ones in front as the prefix length says, and zeros behind them.
+    /// The mask: as many ones in front as the prefix length says, and zeros after them.
+    ///
+    /// ```
+    /// let network: Ipv4Network = "192.0.2.77/26".parse()?;
+    /// assert_eq!(rt; network.mask(), Ipv4Addr::new(255, 255, 255, 192));
+    /// ```
     pub fn mask(&self) -> A
         ensures { A.number result ≡ mask_of A.WIDTH self.now.prefix }
     {
@@ -128,6 +170,11 @@ impl<A: Address> Network<A> {
     }
 
     /// The least member: the address with its host bits cleared.
+    ///
+    /// ```
+    /// let network: Ipv4Network = "192.0.2.77/26".parse()?;
+    /// assert_eq!(rt; network.network(), Ipv4Addr::new(192, 0, 2, 64));
+    /// ```
     pub fn network(&self) -> A
         ensures least { A.number result ≡ low A.WIDTH self.now }
         ensures network { IsNetwork A.WIDTH self.now }
@@ -136,6 +183,11 @@ impl<A: Address> Network<A> {
     }
 
     /// The greatest member: the address with its host bits set.
+    ///
+    /// ```
+    /// let network: Ipv4Network = "192.0.2.77/26".parse()?;
+    /// assert_eq!(rt; network.broadcast(), Ipv4Addr::new(192, 0, 2, 127));
+    /// ```
     pub fn broadcast(&self) -> A
         ensures { A.number result ≡ high A.WIDTH self.now }
     {
@@ -143,6 +195,12 @@ impl<A: Address> Network<A> {
     }
 
     /// Whether an address lies in the network's set.
+    ///
+    /// ```
+    /// let network: Ipv4Network = "192.0.2.77/26".parse()?;
+    /// assert!(rt; network.contains(Ipv4Addr::new(192, 0, 2, 127)));
+    /// assert!(rt; !network.contains(Ipv4Addr::new(192, 0, 2, 128)));
+    /// ```
     pub fn contains(&self, ip: A) -> bool
         ensures { IsTrue result ↔ Member A.WIDTH self.now (A.number ip) }
     {
@@ -151,6 +209,11 @@ impl<A: Address> Network<A> {
     }
 
     /// Whether each member of this network is a member of `other`. Host bits change nothing.
+    ///
+    /// ```
+    /// let network: Ipv4Network = "192.0.2.77/26".parse()?;
+    /// assert!(rt; network.is_subnet_of("192.0.2.0/24".parse()?));
+    /// ```
     pub fn is_subnet_of(self, other: Network<A>) -> bool
         ensures { IsTrue result ↔ Subnet A.WIDTH self other }
     {
@@ -158,6 +221,11 @@ impl<A: Address> Network<A> {
     }
 
     /// Whether each member of `other` is a member of this network. Host bits change nothing.
+    ///
+    /// ```
+    /// let network: Ipv4Network = "192.0.2.77/26".parse()?;
+    /// assert!(rt; network.is_supernet_of("192.0.2.127/32".parse()?));
+    /// ```
     pub fn is_supernet_of(self, other: Network<A>) -> bool
         ensures { IsTrue result ↔ Subnet A.WIDTH other self }
     {
@@ -165,6 +233,12 @@ impl<A: Address> Network<A> {
     }
 
     /// Whether some address is a member of both.
+    ///
+    /// ```
+    /// let network: Ipv4Network = "192.0.2.77/26".parse()?;
+    /// assert!(rt; network.overlaps("192.0.0.0/16".parse()?));
+    /// assert!(rt; !network.overlaps("192.0.2.0/26".parse()?));
+    /// ```
     pub fn overlaps(self, other: Network<A>) -> bool
         ensures { IsTrue result ↔ Overlap A.WIDTH self other }
     {
@@ -172,15 +246,27 @@ impl<A: Address> Network<A> {
     }
 
     /// The members, each once, in ascending order.
+    ///
+    /// ```
+    /// let network: Ipv4Network = "192.0.2.77/31".parse()?;
+    /// let mut members = network.iter();
+    /// assert_eq!(rt; members.next(), Some(Ipv4Addr::new(192, 0, 2, 76)));
+    /// ```
     pub fn iter(&self) -> NetworkIterator<A>
         ensures { result ≡ members A.WIDTH self.now }
     {
         NetworkIterator::between(self.network(), self.broadcast())
     }
 
-    /// The network that a text names: an address of the family, host bits kept, and after a `/` its suffix: a
-    /// prefix length of at most `A::WIDTH` or, for IPv4 alone, one of the 33 masks as an IPv4 address; without a
-    /// `/` the prefix length is `A::WIDTH`. Any other text is refused with its cause. Does not allocate.
+    /// The network that a text names: an address of the family, host bits kept, and after a `/` its suffix: a prefix
+    /// length of at most `A::WIDTH` or, for IPv4 only, one of the 33 masks as an IPv4 address; without a `/` the
+    /// prefix length is `A::WIDTH`. Any other text is refused with its cause.
+    ///
+    /// ```
+    /// let network = Ipv4Network::read_bytes(b"10.1.9.32/255.0.0.0")?;
+    /// assert_eq!(rt; network.prefix(), 8);
+    /// assert_eq!(rt; Ipv4Network::read_bytes(b"10.1.9.32/33"), Err(CidrFault::Prefix));
+    /// ```
     pub fn read_bytes(text: &[u8]) -> Result<Self, CidrFault>
         ensures { ReadsNetworkOf A.family text.now result }
     {
@@ -197,10 +283,15 @@ impl<A: Address> Network<A> {
         Ok(Network { address, prefix })
     }
 
-    /// The network that a text names, as `read_bytes` reads it; where it names none, the error for its
-    /// cause, as `IpNetworkError::from_fault` of the text and of the family's error gives it, which is
-    /// `AddrParseError::Ipv4` or `Ipv6`. Allocates at most once, for a refusal that carries a text, and
-    /// returns `OutOfMemory` only in place of one.
+    /// The network that a text names, as `read_bytes` reads it; if it names none, the error for its cause, as
+    /// `IpNetworkError::from_fault` of the text and of the family's error gives it, which is `AddrParseError::Ipv4`
+    /// or `Ipv6`. Allocates at most once, for a refusal that carries a text, and returns `OutOfMemory` only in place
+    /// of one.
+    ///
+    /// ```
+    /// let network = Ipv6Network::parse(rt.alloc(), "2001:db8::1/64")?;
+    /// assert_eq!(rt; network.prefix(), 64);
+    /// ```
     pub fn parse(alloc: Global, text: &str) -> Result<Self, IpNetworkError>
         ensures { ParsesNetworkOf A.family text.now result }
     {
@@ -210,8 +301,13 @@ impl<A: Address> Network<A> {
         }
     }
 
-    /// The canonical text, at most 18 bytes for IPv4 and 43 for IPv6: the canonical address, `/` and the
-    /// shortest decimal of the prefix length. Does not allocate.
+    /// The canonical text, at most 18 bytes for IPv4 and 43 for IPv6: the canonical address, `/` and the shortest
+    /// decimal of the prefix length.
+    ///
+    /// ```
+    /// let network: Ipv6Network = "2001:DB8:0:0:1:0:0:1/+064".parse()?;
+    /// assert_eq!(rt; network.canonical().as_str(), "2001:db8::1:0:0:1/64");
+    /// ```
     pub fn canonical(&self) -> ArrayString<NETWORK_TEXT_CAPACITY>
         ensures bytes { result.bytes ≡ text_of A.family self.now }
         ensures short { length result.bytes ≤ text_length_of A.family }
@@ -225,6 +321,11 @@ impl<A: Address> Network<A> {
     }
 
     /// The canonical text as a `String`. Allocates once.
+    ///
+    /// ```
+    /// let network: Ipv4Network = "192.0.2.77/26".parse()?;
+    /// assert_eq!(rt; network.to_text(rt.alloc())?.as_str(), "192.0.2.77/26");
+    /// ```
     pub fn to_text(&self, alloc: Global) -> Result<String, AllocError>
         ensures { IfOk result (λ text. string_bytes text ≡ text_of A.family self.now) }
     {
@@ -232,7 +333,7 @@ impl<A: Address> Network<A> {
     }
 }
 
-/// The prefix length that stands after the `/`, or that of an address alone.
+/// The prefix length that stands after the `/`, or that of an address without one.
 fn prefix_length<A: Address>(suffix: Option<&[u8]>) -> Option<u8>
     ensures { MatchOption result (GivesNoPrefix A.WIDTH A.family.IsSuffix (option_copied suffix.entry))
         (λ p. (p ≤ A.WIDTH) × GivesPrefix A.WIDTH A.family.IsSuffix (option_copied suffix.entry) p) }
@@ -243,7 +344,7 @@ fn prefix_length<A: Address>(suffix: Option<&[u8]>) -> Option<u8>
     }
 }
 
-/// The prefix length of a mask, or `InvalidPrefix` where the address is no mask.
+/// The prefix length of a mask, or `InvalidPrefix` if the address is no mask.
 pub(crate) fn mask_to_prefix<A: Address>(mask: A) -> Result<u8, IpNetworkError>
     ensures { GivesPrefixOfMask A.WIDTH (A.number mask) result }
 {
@@ -256,7 +357,7 @@ pub(crate) fn mask_to_prefix<A: Address>(mask: A) -> Result<u8, IpNetworkError>
 impl<A: Address> From<A> for Network<A> {
     ghost from_gives = { λ address network. network ≡ record { address = A.number address; prefix = A.WIDTH } };
 
-    /// The network of this address alone, of prefix length `A::WIDTH`. Does not allocate.
+    /// The network that has only this address, of prefix length `A::WIDTH`.
     fn from(addr: A) -> Self {
         addr.is_of_width();
         Network {

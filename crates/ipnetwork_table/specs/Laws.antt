@@ -10,15 +10,15 @@ abbrev pub BlocksOfAnyWidthThatMeet : Type 0
 BlocksOfAnyWidthThatMeet = (w : ℕ) (m n : Network) (x : ℕ) → HostBitsAreZero w m → HostBitsAreZero w n → m.prefix ≡ n.prefix → Member w m x → Member w n x → m ≡ n
 
 module _ (V : Type 0) where
-  -- the longest of the entries is an answer, whatever the keys are: it can be computed
+  -- the longest of the entries is a result, whatever the keys are: it can be computed
   abbrev pub AnswerIsComputed : Type 0
   AnswerIsComputed = (w : ℕ) (t : FinMap network_cmp V) (x : ℕ) → Answers w t x (longest_of w x (entries t))
 
-  -- each content has an answer for each address,
+  -- each content has a result for each address,
   abbrev pub AnswerExists : Type 0
   AnswerExists = (w : ℕ) (t : FinMap network_cmp V) (x : ℕ) → HasBlocksAlone w t → (answer : Option (Network × V)) × Answers w t x answer
 
-  -- and one alone
+  -- and only one
   abbrev pub AnswerIsOne : Type 0
   AnswerIsOne = (w : ℕ) (t : FinMap network_cmp V) (x : ℕ) (a b : Option (Network × V)) → HasNoHostBits w t → Answers w t x a → Answers w t x b → a ≡ b
 
@@ -26,7 +26,7 @@ module _ (V : Type 0) where
   abbrev pub EmptyHasNoHostBits : Type 0
   EmptyHasNoHostBits = (w : ℕ) → HasNoHostBits w (empty {X = V} {R = network_cmp})
 
-  -- and where none has, none has after the block of a network is inserted,
+  -- and if none has, none has after the block of a network is inserted,
   abbrev pub InsertAddsNoHostBits : Type 0
   InsertAddsNoHostBits = (w : ℕ) (t : FinMap network_cmp V) (n : Network) (v : V) → HasNoHostBits w t → HasNoHostBits w (insert t (block_of w n) v)
 

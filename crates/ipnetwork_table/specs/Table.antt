@@ -36,8 +36,8 @@ pub record IsLongest {V : Type 0} (w : ℕ) (t : FinMap network_cmp V) (x : ℕ)
 abbrev pub NoneHolds : {V : Type 0} → ℕ → FinMap network_cmp V → ℕ → Type 0
 NoneHolds w t x = (n : Network) → IsSome (get t n) → ¬ (Member w n x)
 
--- what a look-up finds: the longest block that holds x and its value, or nothing where no stored block holds x. The
--- block is of some type, and means a network
+-- what a look-up finds: the longest block that holds x and its value, or nothing if no stored block holds x. The block
+-- is of some type, and means a network
 abbrev pub Finds : {N V : Type 0} → (N → Network) → ℕ → FinMap network_cmp V → ℕ → Option (N × V) → Type 0
 Finds pair w t x found = MatchOption found (NoneHolds w t x) (λ f. IsLongest w t x (pair f.0) f.1)
 

@@ -8,6 +8,15 @@ use std::collections::btree_map::Iter;
 use std::marker::Model;
 
 /// The blocks of a table that are still to come, each with its value, in the order of networks.
+///
+/// ```
+/// let mut table = PrefixTable::new(rt.alloc());
+/// table.insert("10.1.0.0/16".parse::<Ipv4Network>()?, 3)?;
+/// table.insert("10.0.0.0/8".parse()?, 2)?;
+/// let mut entries = table.iter();
+/// assert_eq!(rt; entries.next(), Some(("10.0.0.0/8".parse()?, 2)));
+/// assert_eq!(rt; entries.next(), Some(("10.1.0.0/16".parse()?, 3)));
+/// ```
 #[derive(Drop)]
 pub struct Entries<'a, N: CidrNetwork, V: Copy> {
     left: Iter<'a, N, V>,

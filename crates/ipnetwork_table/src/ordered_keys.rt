@@ -38,7 +38,7 @@ impl<N: CidrNetwork> OrderedKeys<N> {
         }
     }
 
-    /// Puts a network in. An error means out of memory, which can happen to a new network alone.
+    /// Puts a network in. An error means out of memory, which can happen only to a new network.
     pub(crate) fn insert(&mut self, block: N) -> Result<(), AllocError>
         ensures put { OnOk result (self.new ≡ map.insert self.old (N.pair block) tt) }
         ensures absent { OnErr result (map.get self.old (N.pair block) ≡ None) }

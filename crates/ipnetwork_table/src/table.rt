@@ -19,10 +19,17 @@ use std::marker::Model;
 /// networks of one family.
 ///
 /// A network given as a key stands for its block: its host bits are cleared. Only `insert` allocates.
+///
+/// ```
+/// let mut table = PrefixTable::new(rt.alloc());
+/// table.insert("10.0.0.0/8".parse::<Ipv4Network>()?, 2)?;
+/// table.insert("10.1.0.0/16".parse()?, 3)?;
+/// assert_eq!(rt; table.lookup(Ipv4Addr::new(10, 1, 9, 32)), Some(("10.1.0.0/16".parse()?, 3)));
+/// ```
 #[derive(Drop)]
 pub struct PrefixTable<N: CidrNetwork, V: Copy> {
     values: Values<N, V>,
-    // `used[p]` is true where some stored block has the prefix length p, and may be true of others.
+    // `used[p]` is true if some stored block has the prefix length p, and may be true of others.
     used: [bool; 256],
     // The blocks that have a value, and no others.
     keys: OrderedKeys<N>,
@@ -60,7 +67,12 @@ fn key_of<N: CidrNetwork>(net: N) -> N
 // The clause `blocks` tells a proof in another crate that each key is a network without host bits: the fields are
 // private, so what holds of them is seen by no clause that does not say it.
 impl<N: CidrNetwork, V: Copy> PrefixTable<N, V> {
-    /// The empty table. Does not allocate.
+    /// The empty table.
+    ///
+    /// ```
+    /// let table = PrefixTable::<Ipv4Network, u32>::new(rt.alloc());
+    /// assert!(rt; table.is_empty());
+    /// ```
     pub fn new(alloc: Global) -> Self
         ensures { result ≡ map.empty }
     {
@@ -72,6 +84,12 @@ impl<N: CidrNetwork, V: Copy> PrefixTable<N, V> {
     }
 
     /// The number of blocks that have a value.
+    ///
+    /// ```
+    /// let mut table = PrefixTable::new(rt.alloc());
+    /// table.insert("10.0.0.0/8".parse::<Ipv4Network>()?, 2)?;
+    /// assert_eq!(rt; table.len(), 1);
+    /// ```
     pub fn len(&self) -> usize
         ensures count { result ≡ map.len self.now }
         ensures blocks { HasBlocksAlone N.WIDTH self.now }
@@ -80,13 +98,26 @@ impl<N: CidrNetwork, V: Copy> PrefixTable<N, V> {
     }
 
     /// Whether no block has a value.
+    ///
+    /// ```
+    /// let mut table = PrefixTable::new(rt.alloc());
+    /// table.insert("10.0.0.0/8".parse::<Ipv4Network>()?, 2)?;
+    /// assert!(rt; !table.is_empty());
+    /// ```
     pub fn is_empty(&self) -> bool
         ensures { IsTrue result ↔ (map.len self.now ≡ 0) }
     {
         self.len() == 0
     }
 
-    /// The value of the block of `net`; `None` where it has none.
+    /// The value of the block of `net`; `None` if it has none.
+    ///
+    /// ```
+    /// let mut table = PrefixTable::new(rt.alloc());
+    /// table.insert("10.0.0.0/8".parse::<Ipv4Network>()?, 2)?;
+    /// assert_eq!(rt; table.get("10.1.9.32/8".parse()?), Some(2));
+    /// assert_eq!(rt; table.get("10.0.0.0/9".parse()?), None);
+    /// ```
     pub fn get(&self, net: N) -> Option<V>
         ensures value { result ≡ map.get self.now (block_of N.WIDTH (N.pair net)) }
         ensures blocks { HasBlocksAlone N.WIDTH self.now }
@@ -96,6 +127,12 @@ impl<N: CidrNetwork, V: Copy> PrefixTable<N, V> {
     }
 
     /// Whether the block of `net` has a value.
+    ///
+    /// ```
+    /// let mut table = PrefixTable::new(rt.alloc());
+    /// table.insert("10.0.0.0/8".parse::<Ipv4Network>()?, 2)?;
+    /// assert!(rt; table.contains_key("10.1.9.32/8".parse()?));
+    /// ```
     pub fn contains_key(&self, net: N) -> bool
         ensures { IsTrue result ↔ IsSome (map.get self.now (block_of N.WIDTH (N.pair net))) }
     {
@@ -104,6 +141,12 @@ impl<N: CidrNetwork, V: Copy> PrefixTable<N, V> {
 
     /// The blocks and their values, in the order of networks: a block comes before the smaller ones that lie in
     /// it.
+    ///
+    /// ```
+    /// let mut table = PrefixTable::new(rt.alloc());
+    /// table.insert("10.0.0.0/8".parse::<Ipv4Network>()?, 2)?;
+    /// assert_eq!(rt; table.iter().next(), Some(("10.0.0.0/8".parse()?, 2)));
+    /// ```
     pub fn iter(&self) -> Entries<'_, N, V>
         ensures entries { by_pair N.pair result ≡ map.entries self.now }
         ensures blocks { HasBlocksAlone N.WIDTH self.now }
@@ -112,6 +155,13 @@ impl<N: CidrNetwork, V: Copy> PrefixTable<N, V> {
     }
 
     /// Takes every block out, and frees the memory.
+    ///
+    /// ```
+    /// let mut table = PrefixTable::new(rt.alloc());
+    /// table.insert("10.0.0.0/8".parse::<Ipv4Network>()?, 2)?;
+    /// table.clear();
+    /// assert_eq!(rt; table.len(), 0);
+    /// ```
     pub fn clear(&mut self)
         ensures { self.new ≡ map.empty }
     {
@@ -120,10 +170,16 @@ impl<N: CidrNetwork, V: Copy> PrefixTable<N, V> {
         self.keys.clear();
     }
 
-    /// Sets the value of the block of `net`, and answers the value that it had.
+    /// Sets the value of the block of `net`, and returns the value that it had.
     ///
     /// Allocates only for a new block. If that is out of memory, the result is an error and the table is as it was:
     /// nothing of the block is kept.
+    ///
+    /// ```
+    /// let mut table = PrefixTable::new(rt.alloc());
+    /// table.insert("10.0.0.0/8".parse::<Ipv4Network>()?, 2)?;
+    /// assert_eq!(rt; table.insert("10.1.9.32/8".parse()?, 7)?, Some(2));
+    /// ```
     pub fn insert(&mut self, net: N, value: V) -> Result<Option<V>, AllocError>
         ensures old { IfOk result (λ old. old ≡ map.get self.old (block_of N.WIDTH (N.pair net))) }
         ensures set { OnOk result (self.new ≡ map.insert self.old (block_of N.WIDTH (N.pair net)) value) }
@@ -133,7 +189,7 @@ impl<N: CidrNetwork, V: Copy> PrefixTable<N, V> {
         self.insert_block(key_of(net), value)
     }
 
-    // A new block is kept in order too, and its prefix length is marked. Where there is no memory to keep it in order,
+    // A new block is kept in order too, and its prefix length is marked. If there is no memory to keep it in order,
     // it is taken out again.
     fn insert_block(&mut self, block: N, value: V) -> Result<Option<V>, AllocError>
         requires { HostBitsAreZero N.WIDTH (N.pair block) }
@@ -154,7 +210,14 @@ impl<N: CidrNetwork, V: Copy> PrefixTable<N, V> {
         Ok(None)
     }
 
-    /// Takes the block of `net` out, and answers the value that it had, or `None`.
+    /// Takes the block of `net` out, and returns the value that it had, or `None`.
+    ///
+    /// ```
+    /// let mut table = PrefixTable::new(rt.alloc());
+    /// table.insert("10.0.0.0/8".parse::<Ipv4Network>()?, 2)?;
+    /// assert_eq!(rt; table.remove("10.1.9.32/8".parse()?), Some(2));
+    /// assert_eq!(rt; table.remove("10.1.9.32/8".parse()?), None);
+    /// ```
     pub fn remove(&mut self, net: N) -> Option<V>
         ensures old { result ≡ map.get self.old (block_of N.WIDTH (N.pair net)) }
         ensures removed { self.new ≡ map.remove self.old (block_of N.WIDTH (N.pair net)) }
@@ -170,9 +233,9 @@ impl<N: CidrNetwork, V: Copy> PrefixTable<N, V> {
         self.values.remove(block)
     }
 
-    // A prefix length that no stored block that holds the address is longer than; `None` where no stored block
-    // holds it. A block that does holds the stored block nearest below the address too, so it is no longer than
-    // what the two share.
+    // A prefix length that no stored block that holds the address is longer than; `None` if no stored block holds it.
+    // A block that does holds the stored block nearest below the address too, so it is no longer than what the two
+    // share.
     fn greatest_length(&self, addr: N::Addr) -> Option<u8>
         ensures bound { MatchOption result (NoneHolds N.WIDTH self.now (N.number addr))
             (λ length. (length ≤ N.WIDTH) × NoneAbove N.WIDTH self.now (N.number addr) length) }
@@ -188,8 +251,15 @@ impl<N: CidrNetwork, V: Copy> PrefixTable<N, V> {
         Some(shared_length::<N>(addr, near.ip()))
     }
 
-    /// The stored block of greatest prefix length whose set holds the address, with its value; `None` where
-    /// no stored block holds it.
+    /// The stored block of greatest prefix length whose set holds the address, with its value; `None` if no stored
+    /// block holds it.
+    ///
+    /// ```
+    /// let mut table = PrefixTable::new(rt.alloc());
+    /// table.insert("10.0.0.0/8".parse::<Ipv4Network>()?, 2)?;
+    /// assert_eq!(rt; table.lookup(Ipv4Addr::new(10, 1, 9, 32)), Some(("10.0.0.0/8".parse()?, 2)));
+    /// assert_eq!(rt; table.lookup(Ipv4Addr::new(11, 0, 0, 0)), None);
+    /// ```
     pub fn lookup(&self, addr: N::Addr) -> Option<(N, V)>
         ensures answer { Finds N.pair N.WIDTH self.now (N.number addr) result }
         ensures blocks { HasBlocksAlone N.WIDTH self.now }
@@ -212,9 +282,17 @@ impl<N: CidrNetwork, V: Copy> PrefixTable<N, V> {
         }
     }
 
-    /// What `lookup` answers, and the number of look-ups in the map that it takes to ask for the block of
-    /// each prefix length in turn, from `WIDTH` down: `WIDTH + 1` less the prefix length of the block
-    /// that is found, `WIDTH + 1` where none is.
+    /// What `lookup` returns, and the number of look-ups in the map that it takes to ask for the block of each prefix
+    /// length in turn, from `WIDTH` down: `WIDTH + 1` less the prefix length of the block that is found, `WIDTH + 1`
+    /// if none is.
+    ///
+    /// ```
+    /// let mut table = PrefixTable::new(rt.alloc());
+    /// table.insert("10.0.0.0/8".parse::<Ipv4Network>()?, 2)?;
+    /// let (found, steps) = table.lookup_steps(Ipv4Addr::new(10, 1, 9, 32));
+    /// assert_eq!(rt; found, Some(("10.0.0.0/8".parse()?, 2)));
+    /// assert_eq!(rt; steps, 25);
+    /// ```
     pub fn lookup_steps(&self, addr: N::Addr) -> (Option<(N, V)>, u32)
         ensures answer { Finds N.pair N.WIDTH self.now (N.number addr) result.0 }
         ensures steps { MatchOption result.0 (result.1 ≡ N.WIDTH + 1)

@@ -9,7 +9,7 @@ use std::alloc::{AllocError, Global};
 use std::collections::BTreeMap;
 use std::marker::Model;
 
-/// Values by network. A value can be looked up in one way alone, which counts itself.
+/// Values by network. A value can be looked up in only one way, which counts itself.
 #[derive(Drop)]
 pub(crate) struct Values<N: CidrNetwork, V: Copy> {
     tree: BTreeMap<N, V>,
@@ -53,8 +53,8 @@ impl<N: CidrNetwork, V: Copy> Values<N, V> {
         self.tree.get(&key).copied()
     }
 
-    /// Sets the value of a network and answers the one that it had. An error means out of memory, which
-    /// can happen to a new network alone.
+    /// Sets the value of a network and returns the one that it had. An error means out of memory, which can happen
+    /// only to a new network.
     pub(crate) fn insert(&mut self, key: N, value: V) -> Result<Option<V>, AllocError>
         ensures old { IfOk result (λ old. old ≡ map.get self.old (N.pair key)) }
         ensures set { OnOk result (self.new ≡ map.insert self.old (N.pair key) value) }
@@ -78,7 +78,7 @@ impl<N: CidrNetwork, V: Copy> Values<N, V> {
         Entries::new(self.tree.iter())
     }
 
-    /// Takes a network out and answers the value that it had.
+    /// Takes a network out and returns the value that it had.
     pub(crate) fn remove(&mut self, key: N) -> Option<V>
         ensures old { result ≡ map.get self.old (N.pair key) }
         ensures removed { self.new ≡ map.remove self.old (N.pair key) }

@@ -23,7 +23,7 @@ SameIp (V4 ours) (std_family.V6 theirs) = ⊥
 SameIp (V6 ours) (std_family.V4 theirs) = ⊥
 SameIp (V6 ours) (std_family.V6 theirs) = SameV6 ours theirs
 
--- two readers agree: both answer an address, and it is the same, or both answer an error
+-- two readers agree: both return an address, and it is the same, or both return an error
 abbrev pub Agree : {A B E F : Type 0} → (A → B → Type 0) → Result A E → Result B F → Type 0
 Agree Same (Ok ours) (Ok theirs) = Same ours theirs
 Agree Same (Ok ours) (Err error) = ⊥

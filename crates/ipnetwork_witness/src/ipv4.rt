@@ -9,8 +9,12 @@ use crate::laws;
 use ipnetwork_addr::{AddrParseError, Ipv4Addr, laws as addresses};
 use std::net;
 
-/// What the two readers of IPv4 addresses answer to a text, this library's and std's, which agree. Does
-/// not allocate.
+/// What the two readers of IPv4 addresses return for a text, this library's and std's, which agree.
+///
+/// ```
+/// let (ours, theirs) = read_v4(b"192.0.2.1");
+/// assert_eq!(rt; ours?.octets(), theirs?.octets());
+/// ```
 pub fn read_v4(
     text: &[u8],
 ) -> (
@@ -26,7 +30,13 @@ pub fn read_v4(
     (Ipv4Addr::read_bytes(text), net::Ipv4Addr::parse_ascii(text))
 }
 
-/// Whether two answers agree: addresses of the same four octets, or two errors. Does not allocate.
+/// Whether two results agree: addresses of the same four octets, or two errors.
+///
+/// ```
+/// let (ours, _) = read_v4(b"192.0.2.1");
+/// let (_, theirs) = read_v4(b"192.0.2.01");
+/// assert!(rt; !agree_v4(&ours, &theirs));
+/// ```
 pub fn agree_v4(
     ours: &Result<Ipv4Addr, AddrParseError>,
     theirs: &Result<net::Ipv4Addr, net::AddrParseError>,
@@ -42,8 +52,13 @@ pub fn agree_v4(
     }
 }
 
-/// Whether the two readers agree on a text as an IPv4 address: both answer the same octets, or both
-/// refuse it. They do, on every text. Does not allocate.
+/// Whether the two readers agree on a text as an IPv4 address: both return the same octets, or both refuse it. They
+/// do, on every text.
+///
+/// ```
+/// assert!(rt; same_v4(b"192.0.2.1"));
+/// assert!(rt; same_v4(b"192.0.2.01"));
+/// ```
 pub fn same_v4(text: &[u8]) -> bool
     ensures { IsTrue result }
 {

@@ -9,8 +9,12 @@ use crate::laws;
 use ipnetwork_addr::{AddrParseError, Ipv6Addr, laws as addresses};
 use std::net;
 
-/// What the two readers of IPv6 addresses answer to a text, this library's and std's, which agree. Does
-/// not allocate.
+/// What the two readers of IPv6 addresses return for a text, this library's and std's, which agree.
+///
+/// ```
+/// let (ours, theirs) = read_v6(b"2001:db8::1");
+/// assert_eq!(rt; ours?.segments(), theirs?.segments());
+/// ```
 pub fn read_v6(
     text: &[u8],
 ) -> (
@@ -26,7 +30,13 @@ pub fn read_v6(
     (Ipv6Addr::read_bytes(text), net::Ipv6Addr::parse_ascii(text))
 }
 
-/// Whether two answers agree: addresses of the same eight groups, or two errors. Does not allocate.
+/// Whether two results agree: addresses of the same eight groups, or two errors.
+///
+/// ```
+/// let (ours, _) = read_v6(b"2001:db8::1");
+/// let (_, theirs) = read_v6(b"1::2::3");
+/// assert!(rt; !agree_v6(&ours, &theirs));
+/// ```
 pub fn agree_v6(
     ours: &Result<Ipv6Addr, AddrParseError>,
     theirs: &Result<net::Ipv6Addr, net::AddrParseError>,
@@ -42,8 +52,13 @@ pub fn agree_v6(
     }
 }
 
-/// Whether the two readers agree on a text as an IPv6 address: both answer the same groups, or both
-/// refuse it. They do, on every text. Does not allocate.
+/// Whether the two readers agree on a text as an IPv6 address: both return the same groups, or both refuse it. They
+/// do, on every text.
+///
+/// ```
+/// assert!(rt; same_v6(b"2001:db8::1"));
+/// assert!(rt; same_v6(b"1::2::3"));
+/// ```
 pub fn same_v6(text: &[u8]) -> bool
     ensures { IsTrue result }
 {

@@ -22,7 +22,7 @@ FirstInTurn Gets before (question ∷ questions) (answer ∷ answers) = (between
 -- no answer comes without a question
 FirstInTurn Gets before [] (answer ∷ answers) = ⊥
 
--- what is asked of a handler: a line, or, where it has more than so many bytes, that one is too long
+-- what is asked of a handler: a line, or, if it has more than so many bytes, that one is too long
 abbrev pub asked : ℕ → List ℕ → Option (List ℕ)
 asked max line = if nat_lt max (length line) then None else Some line
 
@@ -30,7 +30,7 @@ asked max line = if nat_lt max (length line) then None else Some line
 abbrev pub LineGets : {S : Type 0} → (S → Option (List ℕ) → List ℕ → S → Type 0) → ℕ → S → List ℕ → List ℕ → S → Type 0
 LineGets MayGet max before line reply after = MayGet before (asked max line) reply after
 
--- what may be written for an input from the state before on, where it leaves the state after: a reply to each line.
+-- what may be written for an input from the state before on, if it leaves the state after: a reply to each line.
 -- `lines` cuts at each line feed, drops one carriage return before it, and takes what follows the last one as a line,
 -- unless it is empty
 abbrev pub WritesAll : {S : Type 0} → (S → List ℕ → List ℕ → S → Type 0) → S → S → List ℕ → List ℕ → Type 0
@@ -40,7 +40,7 @@ WritesAll Gets before after input output = (replies : List (List ℕ)) × InTurn
 abbrev pub IsBeginning : List ℕ → List ℕ → Type 0
 IsBeginning written whole = (rest : List ℕ) × (whole ≡ written ++ rest)
 
--- what may be written for an input where the writer fails: a beginning of replies to the first lines
+-- what may be written for an input if the writer fails: a beginning of replies to the first lines
 abbrev pub WritesFirst : {S : Type 0} → (S → List ℕ → List ℕ → S → Type 0) → S → List ℕ → List ℕ → Type 0
 WritesFirst Gets before input written = (replies : List (List ℕ)) × FirstInTurn Gets before (lines input) replies × IsBeginning written (concat replies)
 
@@ -48,5 +48,5 @@ WritesFirst Gets before input written = (replies : List (List ℕ)) × FirstInTu
 unfoldable pub complete_part : List ℕ → List ℕ
 -- of no bytes, none
 complete_part [] = []
--- a byte belongs to them where it is a line feed or one comes later
+-- a byte belongs to them if it is a line feed or one comes later
 complete_part (byte ∷ bytes) = if list_any (λ b. b == 10) (byte ∷ bytes) then byte ∷ complete_part bytes else []

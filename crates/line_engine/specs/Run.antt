@@ -21,7 +21,7 @@ EndsAs IsOutput BeginsOutput limit rest (Err InputTooLong) read written = (limit
 -- no more than an output of what was read
 EndsAs IsOutput BeginsOutput limit rest (Err Write) read written = (length read ≤ limit) × BeginsOutput read written
 
--- how a run went, where the reader and the writer tell their bytes
+-- how a run went, if the reader and the writer tell their bytes
 pub record Ran (IsOutput BeginsOutput : List ℕ → List ℕ → Type 0) (limit : ℕ) (left rest held holds : Option (List ℕ)) (result : Result (Unit {0}) RunFault) : Type 0 where
   -- the bytes that were read
   pub read : List ℕ

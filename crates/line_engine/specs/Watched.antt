@@ -15,5 +15,5 @@ has_failed watched = failed_of watched.device
 abbrev pub write_fails : {E : Type 0} → Result ℕ E → List ℕ → Bool
 -- one that took none of some bytes did
 write_fails (Ok count) bytes = (count == 0) && nat_lt 0 (length bytes)
--- one that answered an error did
+-- one that returned an error did
 write_fails (Err error) bytes = true

@@ -6,6 +6,14 @@ use std::marker::Model;
 /// Bytes that are gathered at the front of a lent slice: none at first, and at most as many as the slice has.
 ///
 /// No call allocates.
+///
+/// ```
+/// let mut slice = [0; 9];
+/// let mut buffer = line_engine::buffer::Buffer::new(&mut slice);
+/// buffer.push_bytes(b"too long");
+/// buffer.push(b'\n');
+/// assert_eq!(rt; buffer.as_slice(), b"too long\n".as_slice());
+/// ```
 #[derive(Drop)]
 pub struct Buffer<'a> {
     slice: &'a mut [u8],
@@ -27,6 +35,12 @@ impl<'a> Buffer<'a> {
     ghost use Rattle.line_engine.specs.Buffers.{HasRoom, Adds, IsCleared};
 
     /// A buffer in the slice, which holds no byte yet.
+    ///
+    /// ```
+    /// let mut slice = [0; 9];
+    /// let mut buffer = line_engine::buffer::Buffer::new(&mut slice);
+    /// assert_eq!(rt; buffer.remaining(), 9);
+    /// ```
     pub fn new(slice: &'a mut [u8]) -> Buffer<'a>
         ensures empty { result.items ≡ [] }
         ensures capacity { result.capacity ≡ length slice.old }
@@ -35,6 +49,14 @@ impl<'a> Buffer<'a> {
     }
 
     /// Whether it holds no byte.
+    ///
+    /// ```
+    /// let mut slice = [0; 9];
+    /// let mut buffer = line_engine::buffer::Buffer::new(&mut slice);
+    /// assert!(rt; buffer.is_empty());
+    /// buffer.push(b'1');
+    /// assert!(rt; !buffer.is_empty());
+    /// ```
     pub fn is_empty(&self) -> bool
         ensures { result ≡ (length self.now.items == 0) }
     {
@@ -42,6 +64,13 @@ impl<'a> Buffer<'a> {
     }
 
     /// How many bytes more it can hold.
+    ///
+    /// ```
+    /// let mut slice = [0; 9];
+    /// let mut buffer = line_engine::buffer::Buffer::new(&mut slice);
+    /// buffer.push_bytes(b"10/8");
+    /// assert_eq!(rt; buffer.remaining(), 5);
+    /// ```
     pub fn remaining(&self) -> usize
         ensures { length self.now.items + result ≡ self.now.capacity }
     {
@@ -49,6 +78,13 @@ impl<'a> Buffer<'a> {
     }
 
     /// The bytes that it holds.
+    ///
+    /// ```
+    /// let mut slice = [0; 9];
+    /// let mut buffer = line_engine::buffer::Buffer::new(&mut slice);
+    /// buffer.push_bytes(b"10/8");
+    /// assert_eq!(rt; buffer.as_slice(), b"10/8".as_slice());
+    /// ```
     pub fn as_slice(&self) -> &[u8]
         ensures { result.now ≡ self.now.items }
     {
@@ -56,6 +92,14 @@ impl<'a> Buffer<'a> {
     }
 
     /// Drops all bytes.
+    ///
+    /// ```
+    /// let mut slice = [0; 9];
+    /// let mut buffer = line_engine::buffer::Buffer::new(&mut slice);
+    /// buffer.push_bytes(b"10/8");
+    /// buffer.clear();
+    /// assert_eq!(rt; (buffer.is_empty(), buffer.remaining()), (true, 9));
+    /// ```
     pub fn clear(&mut self)
         ensures { IsCleared self.old self.new }
     {
@@ -63,6 +107,14 @@ impl<'a> Buffer<'a> {
     }
 
     /// Adds these bytes at the end.
+    ///
+    /// ```
+    /// let mut slice = [0; 9];
+    /// let mut buffer = line_engine::buffer::Buffer::new(&mut slice);
+    /// buffer.push_bytes(b"10");
+    /// buffer.push_bytes(b"/8");
+    /// assert_eq!(rt; buffer.as_slice(), b"10/8".as_slice());
+    /// ```
     #[inline(always)]
     pub fn push_bytes(&mut self, bytes: &[u8])
         requires { HasRoom self.old (length bytes.now) }
@@ -74,6 +126,14 @@ impl<'a> Buffer<'a> {
     }
 
     /// Adds this byte at the end.
+    ///
+    /// ```
+    /// let mut slice = [0; 9];
+    /// let mut buffer = line_engine::buffer::Buffer::new(&mut slice);
+    /// buffer.push(b'o');
+    /// buffer.push(b'k');
+    /// assert_eq!(rt; buffer.as_slice(), b"ok".as_slice());
+    /// ```
     #[inline(always)]
     pub fn push(&mut self, byte: u8)
         requires { HasRoom self.old 1 }

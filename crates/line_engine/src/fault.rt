@@ -3,6 +3,11 @@ ghost use Rattle.std.specs.Prelude.{◌≡◌};
 ghost use Rattle.line_engine.specs.Faults.{run_fault_text};
 
 /// Why a run stops before it has answered its whole input.
+///
+/// ```
+/// let fault = line_engine::fault::RunFault::Write;
+/// assert_eq!(rt; fault.text(), "write error");
+/// ```
 #[derive(Clone, Copy, Debug, PartialEq, Eq)]
 pub enum RunFault {
     /// A read failed.
@@ -15,6 +20,11 @@ pub enum RunFault {
 
 impl RunFault {
     /// The fault in words, as a program may tell it. Does not allocate.
+    ///
+    /// ```
+    /// let fault = line_engine::fault::RunFault::InputTooLong;
+    /// assert_eq!(rt; fault.text(), "input too long");
+    /// ```
     pub fn text(self) -> &'static str
         ensures { result.now ≡ run_fault_text self }
     {

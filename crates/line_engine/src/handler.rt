@@ -7,6 +7,39 @@ use crate::buffer::Buffer;
 /// Answers lines, one after the other, and may keep what they told it.
 ///
 /// A reply is bytes, none or some, with the line feeds that are to be in them: nothing else is written for a line.
+///
+/// ```
+/// use line_engine::buffer::Buffer;
+/// use line_engine::handler::LineHandler;
+///
+/// #[derive(Drop)]
+/// struct Echo;
+///
+/// impl LineHandler for Echo {
+///     ghost LINE_MAX = { 80 };
+///     ghost REPLY_MAX = { 81 };
+///     const LINE_MAX: usize = 80;
+///     const REPLY_MAX: usize = 81;
+///
+///     // Nothing is promised of its replies.
+///     ghost may_get = { λ before line reply after. Unit {0} };
+///
+///     fn answer(&mut self, line: &[u8], replies: &mut Buffer<'_>) {
+///         replies.push_bytes(line);
+///         replies.push(b'\n');
+///     }
+///
+///     fn answer_too_long(&mut self, replies: &mut Buffer<'_>) {
+///         replies.push_bytes(b"too long\n");
+///     }
+/// }
+///
+/// let mut slice = [0; 90];
+/// let mut replies = Buffer::new(&mut slice);
+/// Echo.answer(b"a line", &mut replies);
+/// Echo.answer_too_long(&mut replies);
+/// assert_eq!(rt; replies.as_slice(), b"a line\ntoo long\n".as_slice());
+/// ```
 pub trait LineHandler {
     ghost LINE_MAX: { ℕ };
 

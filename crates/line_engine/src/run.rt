@@ -36,6 +36,40 @@ use std::io::{Read, Write};
 ///
 /// What is promised of bytes holds of a reader and a writer whose contracts tell their bytes. Does not allocate, unless
 /// the handler or a device does.
+///
+/// ```
+/// use line_engine::buffer::Buffer;
+/// use line_engine::handler::LineHandler;
+/// use line_engine::watched::Watched;
+///
+/// // Answers a line by a dot, and one that is too long by an exclamation mark.
+/// #[derive(Drop)]
+/// struct Marks;
+///
+/// impl LineHandler for Marks {
+///     ghost LINE_MAX = { 3 };
+///     ghost REPLY_MAX = { 1 };
+///     const LINE_MAX: usize = 3;
+///     const REPLY_MAX: usize = 1;
+///     ghost may_get = { λ before line reply after. Unit {0} };
+///
+///     fn answer(&mut self, _line: &[u8], replies: &mut Buffer<'_>) {
+///         replies.push(b'.');
+///     }
+///
+///     fn answer_too_long(&mut self, replies: &mut Buffer<'_>) {
+///         replies.push(b'!');
+///     }
+/// }
+///
+/// let (piece, rest, waiting) = (&mut [0; 4096], &mut [0; 5], &mut [0; 4096]);
+/// let mut reader = Watched::new(b"one\r\nthree\n\ntwo".as_slice());
+/// let mut writer = Watched::new(Vec::new(rt.alloc()));
+/// let limit = u64::MAX;
+/// let end = line_engine::run::answer_lines(&mut Marks, limit, piece, rest, waiting, &mut reader, &mut writer);
+/// assert_eq!(rt; end, Ok(()));
+/// assert_eq!(rt; writer.into_inner().as_slice(), b".!..".as_slice());
+/// ```
 pub fn answer_lines<H: LineHandler, R: Read, W: Write>(
     handler: &mut H,
     limit: u64,

@@ -13,6 +13,13 @@ use std::io::{Read, Write};
 ///
 /// A read, a write or a flush fails where it answers an error, of whatever kind. A write also fails where it takes no
 /// byte of some. Once a call has failed, `failed` stays true, and the device can still be asked.
+///
+/// ```
+/// let mut room = [0; 1];
+/// let mut writer = line_engine::watched::Watched::new(room.as_mut_slice());
+/// assert_eq!(rt; (writer.write(b"ab")?, writer.failed()), (1, false));
+/// assert_eq!(rt; (writer.write(b"b")?, writer.failed()), (0, true));
+/// ```
 #[derive(Drop)]
 pub struct Watched<D> {
     pub(crate) device: Device<D>,
@@ -22,6 +29,11 @@ impl<D> Watched<D> {
     ghost use Rattle.line_engine.specs.Watched.{device_of, has_failed};
 
     /// Takes a device, no call of which has failed yet. Does not allocate.
+    ///
+    /// ```
+    /// let reader = line_engine::watched::Watched::new(b"10.0.0.0/8".as_slice());
+    /// assert!(rt; !reader.failed());
+    /// ```
     pub fn new(device: D) -> Watched<D>
         ensures device { device_of result ≡ device }
         ensures failed { has_failed result ≡ false }
@@ -32,6 +44,12 @@ impl<D> Watched<D> {
     }
 
     /// Whether a call of the device failed.
+    ///
+    /// ```
+    /// let mut writer = line_engine::watched::Watched::new([].as_mut_slice());
+    /// assert_eq!(rt; writer.write(b"a")?, 0);
+    /// assert!(rt; writer.failed());
+    /// ```
     pub fn failed(&self) -> bool
         ensures { result ≡ has_failed self.now }
     {
@@ -39,6 +57,12 @@ impl<D> Watched<D> {
     }
 
     /// Gives the device back.
+    ///
+    /// ```
+    /// let mut writer = line_engine::watched::Watched::new(Vec::new(rt.alloc()));
+    /// writer.write(b"ok")?;
+    /// assert_eq!(rt; writer.into_inner().as_slice(), b"ok".as_slice());
+    /// ```
     pub fn into_inner(self) -> D
         ensures { result ≡ device_of self }
     {
@@ -53,6 +77,13 @@ impl<D: Read> Watched<D> {
     ///
     /// Answers how many bytes it put at the front of `buf`, and 0 only at the end of the input or where `buf` is
     /// empty. The error is the device's. Does not allocate, unless the device does.
+    ///
+    /// ```
+    /// let mut reader = line_engine::watched::Watched::new(b"abc".as_slice());
+    /// let mut piece = [0; 2];
+    /// assert_eq!(rt; reader.read(&mut piece)?, 2);
+    /// assert_eq!(rt; piece, *b"ab");
+    /// ```
     pub fn read(&mut self, buf: &mut [u8]) -> io::Result<usize>
         ensures bound { ReadsAtMost result buf.new }
         ensures bytes { ReadConsumes (D.remaining (device_of self.old)) (D.remaining (device_of self.new)) result buf.new }
@@ -69,6 +100,12 @@ impl<D: Write> Watched<D> {
     ///
     /// Answers how many of the first bytes the device took. The error is the device's. Does not allocate, unless the
     /// device does.
+    ///
+    /// ```
+    /// let mut room = [0; 2];
+    /// let mut writer = line_engine::watched::Watched::new(room.as_mut_slice());
+    /// assert_eq!(rt; writer.write(b"abc")?, 2);
+    /// ```
     pub fn write(&mut self, buf: &[u8]) -> io::Result<usize>
         ensures bound { WritesAtMost result buf.now }
         ensures bytes { WriteAppends (D.contents (device_of self.old)) (D.contents (device_of self.new)) result buf.now }
@@ -79,6 +116,12 @@ impl<D: Write> Watched<D> {
 
     /// Asks the device to pass on what it took, once, and returns its answer. The error is the device's. Does not
     /// allocate, unless the device does.
+    ///
+    /// ```
+    /// let mut writer = line_engine::watched::Watched::new(std::io::sink());
+    /// assert!(rt; writer.flush().is_ok());
+    /// assert!(rt; !writer.failed());
+    /// ```
     pub fn flush(&mut self) -> io::Result<()>
         ensures bytes { Keeps (D.contents (device_of self.old)) (D.contents (device_of self.new)) }
         ensures failed { has_failed self.new ≡ (has_failed self.old || is_err result) }

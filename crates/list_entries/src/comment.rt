@@ -5,7 +5,7 @@ ghost use Rattle.list_entries.specs.Lines.{before_comment, is_blank, trimmed};
 
 use byte_search::find_from;
 
-/// What stands before the first `#` or `;` of a line. Does not allocate.
+/// What stands before the first `#` or `;` of a line.
 pub(crate) fn without_comment(line: &[u8]) -> &[u8]
     ensures { result.now ≡ before_comment line.now }
 {
@@ -22,7 +22,7 @@ fn before(text: &[u8], byte: u8) -> &[u8]
     }
 }
 
-/// The text without the blanks around it. Does not allocate.
+/// The text without the blanks around it.
 #[tactic(auto, using(crate::proofs::Trims::front_within, crate::proofs::Trims::end_within))]
 pub(crate) fn trim(text: &[u8]) -> &[u8]
     ensures { result.now ≡ trimmed text.now }

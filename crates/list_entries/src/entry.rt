@@ -9,6 +9,11 @@ use ipnetwork::{CidrFault, IpAddr, IpNetwork, cause};
 use ipnetwork_addr::laws;
 
 /// What a list names: addresses of one family.
+///
+/// ```
+/// let entry = read_entry(b"10.0.0.0/8 # private")?;
+/// assert_eq!(rt; entry, Some(Entry::Network("10.0.0.0/8".parse()?)));
+/// ```
 #[derive(Clone, Copy, Debug, PartialEq, Eq)]
 pub enum Entry {
     /// A network, host bits as given. Its addresses are those of its set.
@@ -23,11 +28,16 @@ pub enum Entry {
 }
 
 /// Why a line names no addresses.
+///
+/// ```
+/// assert_eq!(rt; read_entry(b"10.0.0.0/33"), Err(EntryFault::Prefix));
+/// assert_eq!(rt; read_entry(b"10.0.0.9-10.0.0.1"), Err(EntryFault::Range));
+/// ```
 #[derive(Clone, Copy, Debug, PartialEq, Eq)]
 pub enum EntryFault {
     /// A network text with two or more `/`.
     Format,
-    /// What stands before a `/`, or alone, is no address, or an end of a range is none.
+    /// What stands before a `/`, or the whole entry if it has none, is no address, or an end of a range is none.
     Address,
     /// What stands after a `/` is no suffix of that address's family.
     Prefix,
@@ -39,8 +49,14 @@ pub enum EntryFault {
 ///
 /// An entry is what stands before the first `#` or `;`, without the blanks (spaces and tabs) around it. If it holds a
 /// `-` it is a range: what stands before the first `-` and what stands after it, without the blanks around each, are
-/// its first and its last address. Any other entry is a network text, as `IpNetwork::read_bytes` reads it. Every other
-/// byte belongs to the entry. Does not allocate.
+/// its first and its last address. Any other entry is a network text, as `IpNetwork::read_bytes` reads it. Every
+/// other byte belongs to the entry.
+///
+/// ```
+/// let (first, last) = ("10.0.0.1".parse()?, "10.0.0.9".parse()?);
+/// assert_eq!(rt; read_entry(b"10.0.0.1 - 10.0.0.9"), Ok(Some(Entry::Range { first, last })));
+/// assert_eq!(rt; read_entry(b"; nothing"), Ok(None));
+/// ```
 pub fn read_entry(line: &[u8]) -> Result<Option<Entry>, EntryFault>
     ensures { ReadsEntry line.now result }
 {

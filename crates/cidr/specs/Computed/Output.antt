@@ -1,4 +1,4 @@
--- The output where no `add` is out of memory, computed.
+-- The output if no `add` is out of memory, computed.
 use Rattle.std.specs.Prelude.{ℕ, List, [], ◌∷◌}
 use Rattle.std.specs.FinMap.{entries}
 use Rattle.std.specs.Str.Lines.{lines}

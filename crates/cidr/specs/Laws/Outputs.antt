@@ -8,9 +8,9 @@ use Rattle.cidr.specs.Requests.{request_of}
 use Rattle.cidr.specs.Routes.{Routes, no_routes}
 use Rattle.cidr.specs.Words.{words}
 
--- ---- the output where no `add` is out of memory
+-- ---- the output if no `add` is out of memory
 
--- what is written for an input where no `add` is out of memory
+-- what is written for an input if no `add` is out of memory
 abbrev pub IsFullOutput : List ℕ → List ℕ → Type 0
 IsFullOutput input output = (answers : List (List ℕ)) × (after : Routes) × InTurn Gets no_routes (lines input) answers after × (output ≡ replies answers)
 
@@ -56,7 +56,7 @@ abbrev pub PlainLinesAskNothing : Type 0
 PlainLinesAskNothing = (line answer : List ℕ) (before after : Routes) → IsPlainLine line
     → MayGet before (request_of line) answer after ↔ ((answer ≡ answer_of line) × (after ≡ before))
 
--- so an input of such lines alone has one output: for each line its answer and a line feed
+-- so an input of only such lines has one output: for each line its answer and a line feed
 abbrev pub plain_output : List ℕ → List ℕ
 plain_output input = flat_map (λ line. reply (answer_of line)) (lines input)
 
@@ -65,7 +65,7 @@ PlainInputsHaveOneOutput = (input output : List ℕ) → AllByRecursion IsPlainL
 
 -- ---- an input in two parts
 
--- the input is cut directly behind a line feed
+-- the input is cut directly after a line feed
 abbrev pub EndsALine : List ℕ → Type 0
 EndsALine front = (text : List ℕ) × (front ≡ text ++ 10 ∷ [])
 
@@ -79,7 +79,7 @@ abbrev pub SplitsAtLineEnds : Type 0
 SplitsAtLineEnds = (front back output : List ℕ) (before after : Routes) → EndsALine front
     → IsOutputFrom before (front ++ back) output after ↔ IsOutputInParts before front back output after
 
--- where the first part has none of the three commands, each part may be run by itself
+-- if the first part has none of the three commands, each part may be run by itself
 abbrev pub PlainPartsRunAlone : Type 0
 PlainPartsRunAlone = (front back output : List ℕ) → EndsALine front → AllByRecursion IsPlainLine (lines front)
     → IsOutput (front ++ back) output ↔ ((one : List ℕ) × (two : List ℕ) × IsOutput front one × IsOutput back two × (output ≡ one ++ two))

@@ -25,7 +25,7 @@ AfterWriteFault = (limit : ℕ) (read rest held holds : List ℕ)
     → Ran limit (Some (read ++ rest)) (Some rest) (Some held) (Some holds) (Err Write)
     → (length read ≤ limit) × (written : List ℕ) × BeginsOutput read written × (holds ≡ held ++ written)
 
--- where the input is too long, more than the limit was read, and exactly the lines were answered that its first
+-- if the input is too long, more than the limit was read, and exactly the lines were answered that its first
 -- bytes complete, so many of them, and no more than the limit
 abbrev pub AfterTooLong : Type 0
 AfterTooLong = (limit : ℕ) (read rest held holds : List ℕ)

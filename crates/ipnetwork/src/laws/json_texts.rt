@@ -23,7 +23,7 @@ pub fn ip_network_stands_in_quotes()
     families::v6_network_stands_in_quotes();
 }
 
-/// Reading the value of a network answers that network and nothing else.
+/// Reading the value of a network returns that network and nothing else.
 pub fn ip_network_value_reads_back()
     ensures { (n : IpNetwork) (result : Result IpNetwork JsonFault) → IsIpNetwork n
         → ReadsValue ParsesIpNetwork (Some (ip_network_text n)) result ↔ (result ≡ Ok n) }

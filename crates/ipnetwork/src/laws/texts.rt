@@ -22,8 +22,7 @@ pub fn ip_network_text_names_one()
     families::v6_network_reading_is_computed();
 }
 
-/// What reading a network of either family answers can be computed from the text, and there is one
-/// answer.
+/// What reading a network of either family returns can be computed from the text, and the text determines it.
 pub fn ip_network_reading_is_computed()
     ensures { (text : List ℕ) (result : Result IpNetwork CidrFault) → ReadsIpNetwork text result ↔ (result ≡ ip_network_of text) }
 {
@@ -40,8 +39,8 @@ pub fn canonical_ip_network_names_it()
     families::canonical_v6_network_names_it();
 }
 
-/// Reading the canonical text of a network answers that network and nothing else, so printing it again
-/// changes nothing.
+/// Reading the canonical text of a network returns that network and nothing else, so printing it again changes
+/// nothing.
 pub fn canonical_ip_network_reads_back()
     ensures { (n : IpNetwork) (result : Result IpNetwork CidrFault) → IsIpNetwork n
         → ReadsIpNetwork (ip_network_text n) result ↔ (result ≡ Ok n) }

@@ -1,4 +1,4 @@
--- What reading an IPv4 network answers, computed.
+-- What reading an IPv4 network returns, computed.
 use Rattle.std.specs.Prelude.{ℕ, nat_le, if◌then◌else◌, List, Option, None, Some, Result}
 use Rattle.ipnetwork_addr.specs.Computed.Ipv4Text.{v4_of}
 use Rattle.ipnetwork_family.specs.Network.{Network}
@@ -21,6 +21,6 @@ v4_length_from (Some number) mask = if nat_le number 32 then Some number else ma
 abbrev pub v4_length_of : List ℕ → Option ℕ
 v4_length_of text = v4_length_from (prefix_number_of text) (v4_of text)
 
--- what reading answers
+-- what reading returns
 abbrev pub v4_network_of : List ℕ → Result Network CidrFault
 v4_network_of text = network_of 32 v4_of v4_length_of text

@@ -1,4 +1,4 @@
--- What reading an IPv6 network answers, computed.
+-- What reading an IPv6 network returns, computed.
 use Rattle.std.specs.Prelude.{ℕ, nat_le, if◌then◌else◌, List, Option, None, Some, Result}
 use Rattle.ipnetwork_addr.specs.Computed.Ipv6Text.{v6_of}
 use Rattle.ipnetwork_family.specs.Network.{Network}
@@ -15,6 +15,6 @@ v6_length_from (Some number) = if nat_le number 128 then Some number else None
 abbrev pub v6_length_of : List ℕ → Option ℕ
 v6_length_of text = v6_length_from (prefix_number_of text)
 
--- what reading answers
+-- what reading returns
 abbrev pub v6_network_of : List ℕ → Result Network CidrFault
 v6_network_of text = network_of 128 v6_of v6_length_of text

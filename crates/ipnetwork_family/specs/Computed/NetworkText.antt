@@ -1,4 +1,4 @@
--- What reading answers, computed, of either family.
+-- What reading returns, computed, of either family.
 use Rattle.std.specs.Prelude.{ℕ, ◌==◌, nat_le, if◌then◌else◌, List, Option, None, Some, Result, Ok, Err}
 use Rattle.std.specs.List.{after_first}
 use Rattle.ipnetwork_family.specs.Network.{Network}
@@ -21,7 +21,7 @@ network_from None prefix = Err Addr
 network_from (Some a) None = Err Prefix
 network_from (Some a) (Some p) = Ok (record { address = a; prefix = p })
 
--- the network that a text names, or the cause where it names none
+-- the network that a text names, or the cause if it names none
 abbrev pub network_of : ℕ → (List ℕ → Option ℕ) → (List ℕ → Option ℕ) → List ℕ → Result Network CidrFault
 network_of w address_of length_of text =
     if nat_le 2 (slashes text) then Err Format else network_from (address_of (before_slash text)) (prefix_given w length_of (suffix_of text))

@@ -1,4 +1,4 @@
--- The answer to a look-up, computed from the entries of a table.
+-- The result of a look-up, computed from the entries of a table.
 use Rattle.std.specs.Prelude.{ℕ, nat_le, if◌then◌else◌, List, [], ◌∷◌, Option, None, Some}
 use Rattle.ipnetwork_family.specs.Network.{Network}
 use Rattle.ipnetwork_family.specs.Computed.Network.{is_member}

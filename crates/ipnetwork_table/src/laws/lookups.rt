@@ -1,4 +1,4 @@
-//! Laws of look-ups: there is one answer, and it can be computed from the entries.
+//! Laws of look-ups: there is one result, and it can be computed from the entries.
 ghost use Rattle.std.specs.Prelude.{◌≡◌};
 ghost use Rattle.ipnetwork_table.specs.Table.{found_by_pair};
 ghost use Rattle.ipnetwork_table.specs.Laws.{BlocksOfAnyWidthThatMeet, AnswerExists, AnswerIsComputed, AnswerIsOne};
@@ -12,14 +12,14 @@ pub fn blocks_of_any_width_that_meet()
     ensures { BlocksOfAnyWidthThatMeet }
 {}
 
-/// For each content of a table and each address there is a longest block that holds the address, or no stored
-/// block holds it; and the answer is one.
+/// For each content of a table and each address there is a longest block that holds the address, or no stored block
+/// holds it; and there is one result.
 pub fn one_answer<V: Copy>()
     ensures exists { AnswerExists V }
     ensures one { AnswerIsOne V }
 {}
 
-/// The longest of the entries whose block holds an address is the answer to a look-up of it, so an answer can be
+/// The longest of the entries whose block holds an address is the result of a look-up of it, so a result can be
 /// computed from the entries.
 pub fn answer_is_computed<V: Copy>()
     ensures { AnswerIsComputed V }
