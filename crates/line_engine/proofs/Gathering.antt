@@ -11,7 +11,8 @@ use Rattle.std.specs.Str.Lines.{strip_carriage_return}
 use Rattle.line_engine.specs.declared.line.Line.{Line}
 use Rattle.line_engine.specs.Answers.{LineGets, IsBeginning, asked}
 use Rattle.line_engine.specs.Private.Line.{Holds}
-use Rattle.line_engine.specs.Private.Progress.{lines_from, pending_from, last_line, Stand, AppendsBeginning, HandsOn, Gathers, Stops, GathersLine, StopsAtLine, GathersPiece, StopsInPiece}
+use Rattle.line_engine.specs.Outputs.{AppendsBeginning}
+use Rattle.line_engine.specs.Private.Progress.{lines_from, pending_from, last_line, Stand, HandsOn, Gathers, Stops, GathersLine, StopsAtLine, GathersPiece, StopsInPiece}
 use Rattle.line_engine.proofs.BytesLemmas.{HasNo, IsFirst}
 use Rattle.line_engine.proofs.Lines.{pending-append, lines-append, lines_none, pending_none, lines_feed, pending_line, begins_after}
 use Rattle.line_engine.proofs.Turns.{concat-append, turns-append, first_of_all, first_of_more, first-append, same_turn, same_first}

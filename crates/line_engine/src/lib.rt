@@ -9,6 +9,7 @@ pub mod buffer;
 pub mod fault;
 pub mod handler;
 mod line;
+pub mod output;
 mod pieces;
 mod replies;
 pub mod run;

@@ -4,7 +4,8 @@ ghost use Rattle.std.specs.Io.KnownBytes.{Appends};
 ghost use Rattle.line_engine.specs.Answers.{LineGets, asked};
 ghost use Rattle.line_engine.specs.Buffers.{HasRoom, Adds};
 ghost use Rattle.line_engine.specs.Private.Device.{inner_of, failed_of};
-ghost use Rattle.line_engine.specs.Private.Progress.{stand, AppendsBeginning, HandsOn, Gathers, Stops};
+ghost use Rattle.line_engine.specs.Outputs.{AppendsBeginning};
+ghost use Rattle.line_engine.specs.Private.Progress.{stand, HandsOn, Gathers, Stops};
 
 use crate::buffer::Buffer;
 use crate::fault::RunFault;
@@ -90,7 +91,7 @@ pub(crate) fn hand_on<W: Write>(
 }
 
 /// Writes these bytes, however many the device takes at a time.
-fn write_whole<W: Write>(writer: &mut Device<W>, bytes: &[u8]) -> Result<(), RunFault>
+pub(crate) fn write_whole<W: Write>(writer: &mut Device<W>, bytes: &[u8]) -> Result<(), RunFault>
     requires { IsFalse (failed_of writer.old) }
     ensures ok { OnOk result (Appends (W.contents (inner_of writer.old)) (W.contents (inner_of writer.new)) bytes.now) }
     ensures err { OnErr result (AppendsBeginning (W.contents (inner_of writer.old)) (W.contents (inner_of writer.new)) bytes.now) }

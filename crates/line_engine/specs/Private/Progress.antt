@@ -4,8 +4,9 @@ use Rattle.std.specs.Io.KnownBytes.{Appends, Consumes}
 use Rattle.std.specs.List.{concat}
 use Rattle.std.specs.Str.Lines.{strip_carriage_return}
 use Rattle.line_engine.specs.declared.line.Line.{Line}
-use Rattle.line_engine.specs.Answers.{InTurn, FirstInTurn, IsBeginning}
+use Rattle.line_engine.specs.Answers.{InTurn, FirstInTurn}
 use Rattle.line_engine.specs.Buffers.{Filled}
+use Rattle.line_engine.specs.Outputs.{AppendsBeginning}
 use Rattle.line_engine.specs.Private.Line.{Holds}
 
 -- the lines that a piece completes
@@ -41,10 +42,6 @@ pub record Stand (S : Type 0) : Type 0 where
 
 abbrev pub stand : {S : Type 0} → Option (List ℕ) → Filled → S → Stand S
 stand holds replies keeps = record { holds = holds; waits = replies.items; keeps = keeps }
-
--- the writer, which held the first bytes and holds the second, took a beginning of the third
-abbrev pub AppendsBeginning : Option (List ℕ) → Option (List ℕ) → List ℕ → Type 0
-AppendsBeginning held holds bytes = (written : List ℕ) × Appends held holds written × IsBeginning written bytes
 
 -- the writer took a beginning of these bytes, and the others wait
 abbrev pub HandsOn : Option (List ℕ) → Option (List ℕ) → List ℕ → List ℕ → Type 0

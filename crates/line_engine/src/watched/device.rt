@@ -20,7 +20,7 @@ pub(crate) struct Device<D> {
 impl<D> Device<D> {
     ghost use Rattle.line_engine.specs.Private.Device.{inner_of, failed_of};
 
-    pub(super) fn new(inner: D) -> Device<D>
+    pub(crate) fn new(inner: D) -> Device<D>
         ensures inner { inner_of result ≡ inner }
         ensures failed { failed_of result ≡ false }
     {
