@@ -8,46 +8,16 @@ use Rattle.byte_search.specs.Bytes.{IsAbsent}
 use Rattle.std.proofs.lemmas.Bool.{ne_eqb, eqb-true}
 use Rattle.std.proofs.lemmas.Bool.Decides.{eqb_tells}
 use Rattle.std.proofs.lemmas.List.{length-take-le, take-take, nil_from_length}
+use Rattle.line_engine.specs.Outputs.{Puts}
+use Rattle.line_engine.proofs.Putting.{puts_nothing, puts_out, puts_more}
 use Rattle.line_engine.proofs.BytesLemmas.{HasNo, HasNo-push, none_behind}
 use Rattle.cidr_filter.specs.Filters.{Judges, is_refused, is_selected, one_if, output_of, Filters}
 use Rattle.cidr_filter.specs.Lines.{LogLine, log_lines, content}
-use Rattle.cidr_filter.specs.Private.Progress.{Puts, Stand, Goes, FiltersLine, Leaves, Advances, FiltersRest, IsHeld, ReadsBehind, Ends}
+use Rattle.cidr_filter.specs.Private.Progress.{Stand, Goes, FiltersLine, Leaves, Advances, FiltersRest, IsHeld, ReadsBehind, Ends}
 use Rattle.cidr_filter.specs.declared.filter.Filter.{Filter}
 use Rattle.cidr_filter.specs.declared.filter.Verdict.{Verdict}
 use Rattle.cidr_filter.specs.declared.filter.Verdict.TheVariants as verdicts
 use Rattle.cidr_filter.proofs.LogLines.{ended, unended, lines_line, lines_last}
-
--- ---- what is written
-
-pub puts_nothing : (held : Option (List ℕ)) (waits : List ℕ) → Puts held waits held waits []
-puts_nothing held waits = ([], Appends-nil held, append-nil waits)
-
-pub puts_waiting : (held : Option (List ℕ)) (waited waits added : List ℕ) → waits ≡ waited ++ added → Puts held waited held waits added
-puts_waiting held waited waits added e = ([], Appends-nil held, sym e)
-
-pub puts_directly : (held holds : Option (List ℕ)) (waits added : List ℕ) → waits ≡ [] → Appends held holds added → Puts held [] holds waits added
-puts_directly held holds waits added e h = (added, h, sym (ap (λ t. added ++ t) e ∙ append-nil added))
-
--- what waited is handed on, and nothing is added
-pub puts_out : (held holds : Option (List ℕ)) (waited waits : List ℕ) → waits ≡ [] → Appends held holds waited → Puts held waited holds waits []
-puts_out held holds waited waits e h = (waited, h, append-nil waited ∙ sym (ap (λ t. waited ++ t) e ∙ append-nil waited))
-
-pub puts_behind : (held mid holds : Option (List ℕ)) (waited waits added : List ℕ) → Appends held mid waited → Puts mid [] holds waits added → Puts held waited holds waits added
-puts_behind held mid holds waited waits added h p =
-    (waited ++ p.0, Appends-trans held mid holds waited p.0 h p.1, ap (λ t. waited ++ t) p.2 ∙ sym (append_assoc waited p.0 waits))
-
-pub puts_more : (held mid holds : Option (List ℕ)) (waited between waits first second : List ℕ) → Puts held waited mid between first → Puts mid between holds waits second
-    → Puts held waited holds waits (first ++ second)
-puts_more held mid holds waited between waits first second p q = (
-  p.0 ++ q.0,
-  Appends-trans held mid holds p.0 q.0 p.1 q.1,
-  sym (append_assoc waited first second) ∙ ap (λ t. t ++ second) p.2 ∙ append_assoc p.0 between second ∙ ap (λ t. p.0 ++ t) q.2 ∙ sym (append_assoc p.0 q.0 waits),
-)
-
-pub put_behind_ok : {T E : Type 0} (result : Result T E) (held mid holds : Option (List ℕ)) (waited waits added : List ℕ) → Appends held mid waited
-    → OnOk result (Puts mid [] holds waits added) → OnOk result (Puts held waited holds waits added)
-put_behind_ok (Ok x) held mid holds waited waits added h p = puts_behind held mid holds waited waits added h p
-put_behind_ok (Err e) held mid holds waited waits added h p = tt
 
 -- ---- stands
 

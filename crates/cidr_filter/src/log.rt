@@ -2,14 +2,15 @@
 ghost use Rattle.std.specs.Prelude.{◌≡◌, ◌<◌, ◌≤◌, ◌++◌, ◌∷◌, ◌-◌, [], if◌then◌else◌, length, take, drop, OnOk, IfOk};
 ghost use Rattle.std.specs.Str.Lines.{strip_carriage_return};
 ghost use Rattle.byte_search.specs.Bytes.{IsAbsent};
+ghost use Rattle.line_engine.specs.Outputs.{writer_of, waits_in, Puts};
 ghost use Rattle.line_engine.specs.Watched.{device_of};
-ghost use Rattle.cidr_filter.specs.Private.Progress.{stand, Goes, Puts, FiltersLine, FiltersRest, Advances, Ends, ReadsBehind, IsHeld};
+ghost use Rattle.cidr_filter.specs.Private.Progress.{stand, Goes, FiltersLine, FiltersRest, Advances, Ends, ReadsBehind, IsHeld};
 
 use crate::filter::{Bad, Filter, LINE_MAX, Verdict};
-use crate::output::Output;
 use byte_search::find_from;
+use line_engine::fault::RunFault;
+use line_engine::output::Output;
 use line_engine::watched::Watched;
-use std::io;
 use std::io::{Read, Write};
 
 /// Why a log is not filtered to its end.
@@ -47,8 +48,8 @@ pub fn filter_log<R: Read, W: Write>(
 ) -> Result<(), LogFault>
     requires room { 1048578 < length buffer.old }
     ensures { OnOk result (Ends filter.now counts (R.remaining (device_of reader.old)) (R.remaining (device_of reader.new))
-        (stand (W.contents output.old.writer) output.old.waiting.items tally.old.selected)
-        (stand (W.contents output.new.writer) output.new.waiting.items tally.new.selected)) }
+        (stand (W.contents (writer_of output.old)) (waits_in output.old) tally.old.selected)
+        (stand (W.contents (writer_of output.new)) (waits_in output.new) tally.new.selected)) }
 {
     let mut held = 0;
     let mut room = u64::MAX;
@@ -122,8 +123,8 @@ fn filter_piece<W: Write>(
     ensures within { IfOk result (λ start. start ≤ length piece.now) }
     ensures absent { IfOk result (λ start. IsAbsent 10 piece.now start (length piece.now)) }
     ensures advances { IfOk result (λ start. Advances filter.now counts
-        (stand (W.contents output.old.writer) output.old.waiting.items tally.old.selected)
-        (stand (W.contents output.new.writer) output.new.waiting.items tally.new.selected) piece.now (drop start piece.now)) }
+        (stand (W.contents (writer_of output.old)) (waits_in output.old) tally.old.selected)
+        (stand (W.contents (writer_of output.new)) (waits_in output.new) tally.new.selected) piece.now (drop start piece.now)) }
 {
     let start = filter_lines(filter, counts, piece, held, output, tally)?;
     match output.hand_on() {
@@ -147,8 +148,8 @@ fn filter_lines<W: Write>(
     ensures within { IfOk result (λ start. start ≤ length piece.now) }
     ensures absent { IfOk result (λ start. IsAbsent 10 piece.now start (length piece.now)) }
     ensures advances { IfOk result (λ start. Advances filter.now counts
-        (stand (W.contents output.old.writer) output.old.waiting.items tally.old.selected)
-        (stand (W.contents output.new.writer) output.new.waiting.items tally.new.selected) piece.now (drop start piece.now)) }
+        (stand (W.contents (writer_of output.old)) (waits_in output.old) tally.old.selected)
+        (stand (W.contents (writer_of output.new)) (waits_in output.new) tally.new.selected) piece.now (drop start piece.now)) }
 {
     let mut start = 0;
     let mut from = held;
@@ -180,8 +181,8 @@ fn finish<W: Write>(
 ) -> Result<(), LogFault>
     requires absent { IsAbsent 10 line.now 0 (length line.now) }
     ensures { OnOk result (FiltersRest filter.now counts line.now
-        (stand (W.contents output.old.writer) output.old.waiting.items tally.old.selected)
-        (stand (W.contents output.new.writer) output.new.waiting.items tally.new.selected)) }
+        (stand (W.contents (writer_of output.old)) (waits_in output.old) tally.old.selected)
+        (stand (W.contents (writer_of output.new)) (waits_in output.new) tally.new.selected)) }
 {
     if line.is_empty() {
         return Ok(());
@@ -203,8 +204,8 @@ fn filter_line<W: Write>(
     tally: &mut Tally,
 ) -> Result<(), LogFault>
     ensures { OnOk result (FiltersLine filter.now counts line.now content.now
-        (stand (W.contents output.old.writer) output.old.waiting.items tally.old.selected)
-        (stand (W.contents output.new.writer) output.new.waiting.items tally.new.selected)) }
+        (stand (W.contents (writer_of output.old)) (waits_in output.old) tally.old.selected)
+        (stand (W.contents (writer_of output.new)) (waits_in output.new) tally.new.selected)) }
 {
     let verdict = filter.judge(content);
     if filter.refuses(verdict) {
@@ -225,8 +226,8 @@ fn select_line<W: Write>(
     tally: &mut Tally,
 ) -> Result<(), LogFault>
     ensures { OnOk result (Goes
-        (stand (W.contents output.old.writer) output.old.waiting.items tally.old.selected)
-        (stand (W.contents output.new.writer) output.new.waiting.items tally.new.selected)
+        (stand (W.contents (writer_of output.old)) (waits_in output.old) tally.old.selected)
+        (stand (W.contents (writer_of output.new)) (waits_in output.new) tally.new.selected)
         (if counts then [] else line.now ++ 10 ∷ []) 1) }
 {
     tally.selected = tally.selected.saturating_add(1);
@@ -248,8 +249,8 @@ fn refusal_of(verdict: Verdict) -> LogFault {
 }
 
 // Writes a line and a line feed.
-fn print_line<W: Write>(line: &[u8], output: &mut Output<'_, W>) -> io::Result<()>
-    ensures { OnOk result (Puts (W.contents output.old.writer) output.old.waiting.items (W.contents output.new.writer) output.new.waiting.items (line.now ++ 10 ∷ [])) }
+fn print_line<W: Write>(line: &[u8], output: &mut Output<'_, W>) -> Result<(), RunFault>
+    ensures { OnOk result (Puts (W.contents (writer_of output.old)) (waits_in output.old) (W.contents (writer_of output.new)) (waits_in output.new) (line.now ++ 10 ∷ [])) }
 {
     output.put(line)?;
     output.put(b"\n")

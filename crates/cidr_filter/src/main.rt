@@ -1,28 +1,35 @@
 //! The lines of logs whose address is in a list of networks.
 #![tactic(auto)]
 
-mod arguments;
 mod command_line;
 mod field;
 mod filter;
 mod help;
 mod laws;
-mod lists;
 mod log;
-mod output;
 mod reading;
 mod run;
-mod system;
 mod telling;
 
-use crate::arguments::{ArgumentsFault, arguments};
-use crate::run::{refuse_arguments, run};
-use crate::system::System;
+use crate::help::USAGE;
+use crate::run::run;
+use line_engine::output::Output;
+use program_io::arguments::arguments;
+use program_io::ending::refuse_arguments;
+use program_io::system::System;
 use std::process::ExitCode;
 
+/// The most bytes that wait to be written.
+const WAITING_MAX: usize = 65536;
+
+/// The most bytes that wait to be told.
+const TOLD_MAX: usize = 1024;
+
 fn main(rt: HostRuntime) -> ExitCode {
-    let mut output = rt.stdout();
-    let mut errors = rt.stderr();
+    let mut waiting = [0u8; WAITING_MAX];
+    let mut output = Output::new(rt.stdout(), &mut waiting);
+    let mut told = [0u8; TOLD_MAX];
+    let mut errors = Output::new(rt.stderr(), &mut told);
     let status = match arguments(&rt) {
         Ok(words) => {
             let system = System::new(&rt);
@@ -34,7 +41,8 @@ fn main(rt: HostRuntime) -> ExitCode {
                 &mut errors,
             )
         }
-        Err(fault) => refuse_arguments(fault, &mut errors),
+        Err(fault) => refuse_arguments(fault, USAGE, &mut errors),
     };
+    let _ = errors.finish();
     ExitCode::from(status)
 }

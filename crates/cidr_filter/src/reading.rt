@@ -1,8 +1,8 @@
 //! The lists of a run are read.
 use crate::command_line::{Choice, behind, choice_at};
-use crate::lists::OpenLists;
 use address_lists::{ListReader, read_list};
 use line_engine::watched::Watched;
+use program_io::lists::OpenLists;
 
 /// Why the lists were not read to the end.
 #[derive(Clone, Copy, Debug, PartialEq, Eq)]

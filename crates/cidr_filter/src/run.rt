@@ -1,19 +1,20 @@
 //! The run that the program makes.
 ghost use Rattle.std.specs.Prelude.{◌<◌, length};
 
-use crate::arguments::ArgumentsFault;
 use crate::command_line::{Command, Request, command_of};
 use crate::filter::{Filter, LINE_MAX};
 use crate::help::{HELP, USAGE, VERSION};
-use crate::lists::OpenLists;
 use crate::log::{LogFault, Tally, filter_log};
-use crate::output::Output;
 use crate::reading::read_lists;
-use crate::telling::{number, tell, tell_fault, tell_refusals};
+use crate::telling::{tell_fault, tell_refusals};
 use address_lists::{ListReader, Refusals};
+use line_engine::fault::RunFault;
+use line_engine::output::Output;
 use line_engine::watched::Watched;
+use program_io::ending::{FAILED, end, print_text, refuse_usage};
+use program_io::lists::OpenLists;
+use program_io::messages::{number_text, tell, tell_number};
 use std::alloc::Global;
-use std::io;
 use std::io::Write;
 
 /// The exit status if a line was selected.
@@ -21,12 +22,6 @@ const SELECTED: u8 = 0;
 
 /// The exit status if none was.
 const NONE_SELECTED: u8 = 1;
-
-/// The exit status of a run that did not come to its end.
-const FAILED: u8 = 2;
-
-/// The most bytes that wait to be written.
-const WAITING_MAX: usize = 65536;
 
 /// The bytes of the longest line, and those that are read beside it.
 const BUFFER_LEN: usize = LINE_MAX + 2 + 262_144;
@@ -36,52 +31,15 @@ pub(crate) fn run<L: OpenLists, W: Write, E: Write>(
     alloc: Global,
     words: &[String],
     lists: &L,
-    output: &mut W,
-    errors: &mut E,
+    output: &mut Output<'_, W>,
+    errors: &mut Output<'_, E>,
 ) -> u8 {
     match command_of(words) {
         Command::Help => print_text(HELP, output, errors),
         Command::Version => print_text(VERSION, output, errors),
         Command::Filter(request) => filter(alloc, request, words, lists, output, errors),
-        Command::Usage => refuse_usage(errors),
+        Command::Usage => refuse_usage(USAGE, errors),
     }
-}
-
-/// Tells why there are no words, and returns the exit status.
-pub(crate) fn refuse_arguments<E: Write>(fault: ArgumentsFault, errors: &mut E) -> u8 {
-    match fault {
-        ArgumentsFault::NotText => refuse_usage(errors),
-        ArgumentsFault::OutOfMemory => {
-            tell("out of memory\n", errors);
-            FAILED
-        }
-    }
-}
-
-// Tells how the program is used.
-fn refuse_usage<E: Write>(errors: &mut E) -> u8 {
-    tell(USAGE, errors);
-    FAILED
-}
-
-// Prints a text.
-fn print_text<W: Write, E: Write>(text: &str, output: &mut W, errors: &mut E) -> u8 {
-    let written = write_text(text, output);
-    end(written, SELECTED, errors)
-}
-
-fn write_text<W: Write>(text: &str, output: &mut W) -> io::Result<()> {
-    output.write_all(text.as_bytes())?;
-    output.flush()
-}
-
-// The status, if what was written was taken.
-fn end<E: Write>(written: io::Result<()>, status: u8, errors: &mut E) -> u8 {
-    if written.is_err() {
-        tell("write error\n", errors);
-        return FAILED;
-    }
-    status
 }
 
 // Reads the lists, and then filters the logs.
@@ -90,8 +48,8 @@ fn filter<L: OpenLists, W: Write, E: Write>(
     request: Request,
     words: &[String],
     lists: &L,
-    output: &mut W,
-    errors: &mut E,
+    output: &mut Output<'_, W>,
+    errors: &mut Output<'_, E>,
 ) -> u8 {
     let mut reader = ListReader::new(alloc, Refusals::new());
     let read = read_lists(lists, words, request.files, &mut reader);
@@ -134,13 +92,11 @@ fn filter_logs<L: OpenLists, W: Write, E: Write>(
     words: &[String],
     lists: &L,
     buffer: &mut [u8],
-    output: &mut W,
-    errors: &mut E,
+    output: &mut Output<'_, W>,
+    errors: &mut Output<'_, E>,
 ) -> u8
     requires { 1048578 < length buffer.old }
 {
-    let mut waiting = [0u8; WAITING_MAX];
-    let mut output = Output::new(output, &mut waiting);
     let mut tally = Tally {
         selected: 0,
         lines: 0,
@@ -153,7 +109,7 @@ fn filter_logs<L: OpenLists, W: Write, E: Write>(
             input,
             lists,
             buffer,
-            &mut output,
+            output,
             &mut tally,
             errors,
         )
@@ -168,7 +124,7 @@ fn filter_logs<L: OpenLists, W: Write, E: Write>(
             words[at].as_str(),
             lists,
             buffer,
-            &mut output,
+            output,
             &mut tally,
             errors,
         ) {
@@ -176,7 +132,7 @@ fn filter_logs<L: OpenLists, W: Write, E: Write>(
         }
         at += 1;
     }
-    let written = write_end(request.counts, tally.selected, &mut output);
+    let written = write_end(request.counts, tally.selected, output);
     let status = if tally.selected > 0 {
         SELECTED
     } else {
@@ -186,9 +142,9 @@ fn filter_logs<L: OpenLists, W: Write, E: Write>(
 }
 
 // Writes how many lines were selected, if they are counted, and what waits.
-fn write_end<W: Write>(counts: bool, selected: u64, output: &mut Output<'_, W>) -> io::Result<()> {
+fn write_end<W: Write>(counts: bool, selected: u64, output: &mut Output<'_, W>) -> Result<(), RunFault> {
     if counts {
-        output.put(number(selected).as_str().as_bytes())?;
+        output.put(number_text(selected).as_str().as_bytes())?;
         output.put(b"\n")?;
     }
     output.finish()
@@ -203,7 +159,7 @@ fn filter_named<L: OpenLists, W: Write, E: Write>(
     buffer: &mut [u8],
     output: &mut Output<'_, W>,
     tally: &mut Tally,
-    errors: &mut E,
+    errors: &mut Output<'_, E>,
 ) -> bool
     requires { 1048578 < length buffer.old }
 {
@@ -225,7 +181,7 @@ fn filter_named<L: OpenLists, W: Write, E: Write>(
 }
 
 // Tells why a log was not filtered to its end, after so many of its lines.
-fn tell_end<E: Write>(name: &str, fault: LogFault, lines: u64, errors: &mut E) {
+fn tell_end<E: Write>(name: &str, fault: LogFault, lines: u64, errors: &mut Output<'_, E>) {
     match fault {
         LogFault::Read => {
             tell(name, errors);
@@ -242,10 +198,10 @@ fn tell_end<E: Write>(name: &str, fault: LogFault, lines: u64, errors: &mut E) {
 }
 
 // Tells which line is refused.
-fn tell_line<E: Write>(name: &str, lines: u64, cause: &str, errors: &mut E) {
+fn tell_line<E: Write>(name: &str, lines: u64, cause: &str, errors: &mut Output<'_, E>) {
     tell(name, errors);
     tell(":", errors);
-    tell(number(lines.saturating_add(1)).as_str(), errors);
+    tell_number(lines.saturating_add(1), errors);
     tell(": refused ", errors);
     tell(cause, errors);
     tell("\n", errors);

@@ -6,29 +6,9 @@ use Rattle.std.proofs.KnownBytes.{Appends-nil, Appends-trans}
 use Rattle.std.specs.List.{flat_map}
 use Rattle.std.proofs.lemmas.Grind.{flat_map-append}
 use Rattle.cidr_merge.specs.Answers.{IfListed}
-use Rattle.cidr_merge.specs.Private.Outputs.{Puts}
+use Rattle.line_engine.specs.Outputs.{Puts}
+use Rattle.line_engine.proofs.Putting.{puts_more}
 use Rattle.cidr_merge.specs.declared.command_line.Form.{Form}
-
-pub puts_nothing : (held : Option (List ℕ)) (waits : List ℕ) → Puts held waits held waits []
-puts_nothing held waits = ([], Appends-nil held, append-nil waits)
-
-pub puts_waiting : (held : Option (List ℕ)) (waited waits added : List ℕ) → waits ≡ waited ++ added → Puts held waited held waits added
-puts_waiting held waited waits added e = ([], Appends-nil held, sym e)
-
-pub puts_directly : (held holds : Option (List ℕ)) (waits added : List ℕ) → waits ≡ [] → Appends held holds added → Puts held [] holds waits added
-puts_directly held holds waits added e h = (added, h, sym (ap (λ t. added ++ t) e ∙ append-nil added))
-
-pub puts_behind : (held mid holds : Option (List ℕ)) (waited waits added : List ℕ) → Appends held mid waited → Puts mid [] holds waits added → Puts held waited holds waits added
-puts_behind held mid holds waited waits added h p =
-    (waited ++ p.0, Appends-trans held mid holds waited p.0 h p.1, ap (λ t. waited ++ t) p.2 ∙ sym (append_assoc waited p.0 waits))
-
-pub puts_more : (held mid holds : Option (List ℕ)) (waited between waits first second : List ℕ) → Puts held waited mid between first → Puts mid between holds waits second
-    → Puts held waited holds waits (first ++ second)
-puts_more held mid holds waited between waits first second p q = (
-  p.0 ++ q.0,
-  Appends-trans held mid holds p.0 q.0 p.1 q.1,
-  sym (append_assoc waited first second) ∙ ap (λ t. t ++ second) p.2 ∙ append_assoc p.0 between second ∙ ap (λ t. p.0 ++ t) q.2 ∙ sym (append_assoc p.0 q.0 waits),
-)
 
 -- a line more
 pub puts_line : {X : Type 0} (line : X → List ℕ) (held mid holds : Option (List ℕ)) (waited between waits : List ℕ) (done left after all : List X) (x : X)
@@ -46,11 +26,6 @@ pub puts_all : {X : Type 0} (line : X → List ℕ) (held holds : Option (List �
     → done ++ left ≡ all → left ≡ [] → Puts held waited holds waits (flat_map line done) → Puts held waited holds waits (flat_map line all)
 puts_all line held holds waited waits done left all e f p =
     subst (λ t. Puts held waited holds waits (flat_map line t)) (sym (append-nil done) ∙ ap (λ t. done ++ t) (sym f) ∙ e) p
-
-pub put_behind_ok : {T E : Type 0} (result : Result T E) (held mid holds : Option (List ℕ)) (waited waits added : List ℕ) → Appends held mid waited
-    → OnOk result (Puts mid [] holds waits added) → OnOk result (Puts held waited holds waits added)
-put_behind_ok (Ok x) held mid holds waited waits added h p = puts_behind held mid holds waited waits added h p
-put_behind_ok (Err e) held mid holds waited waits added h p = tt
 
 pub put_three_ok : {T E : Type 0} (result : Result T E) (held first second holds : Option (List ℕ)) (waited after_first after_second waits x y z front middle : List ℕ) → x ≡ front → y ≡ middle
     → Puts held waited first after_first x → Puts first after_first second after_second y → OnOk result (Puts second after_second holds waits z)

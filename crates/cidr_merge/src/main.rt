@@ -1,12 +1,9 @@
 //! Merges lists of networks: prints the least list of what an operation leaves of them.
 #![tactic(auto)]
 
-mod arguments;
 mod command_line;
 mod counts;
 mod help;
-mod lists;
-mod output;
 mod printing;
 mod range_sides;
 mod range_sweep;
@@ -14,17 +11,27 @@ mod reading;
 mod run;
 mod sides;
 mod sweep;
-mod system;
 mod telling;
 
-use crate::arguments::{ArgumentsFault, arguments};
-use crate::run::{refuse_arguments, run};
-use crate::system::System;
+use crate::help::USAGE;
+use crate::run::run;
+use line_engine::output::Output;
+use program_io::arguments::arguments;
+use program_io::ending::refuse_arguments;
+use program_io::system::System;
 use std::process::ExitCode;
 
+/// The most bytes that wait to be written.
+const WAITING_MAX: usize = 65536;
+
+/// The most bytes that wait to be told.
+const TOLD_MAX: usize = 1024;
+
 fn main(rt: HostRuntime) -> ExitCode {
-    let mut output = rt.stdout();
-    let mut errors = rt.stderr();
+    let mut waiting = [0u8; WAITING_MAX];
+    let mut output = Output::new(rt.stdout(), &mut waiting);
+    let mut told = [0u8; TOLD_MAX];
+    let mut errors = Output::new(rt.stderr(), &mut told);
     let status = match arguments(&rt) {
         Ok(words) => {
             let system = System::new(&rt);
@@ -36,7 +43,8 @@ fn main(rt: HostRuntime) -> ExitCode {
                 &mut errors,
             )
         }
-        Err(fault) => refuse_arguments(fault, &mut errors),
+        Err(fault) => refuse_arguments(fault, USAGE, &mut errors),
     };
+    let _ = errors.finish();
     ExitCode::from(status)
 }

@@ -1,18 +1,18 @@
 //! The answer is printed.
 ghost use Rattle.std.specs.Prelude.{◌≡◌, ℕ, List, OnOk};
 ghost use Rattle.cidr_merge.specs.Answers.{sign_of, block_line, range_line, IsAnswerOf, IsAnswer, IfListed};
-ghost use Rattle.cidr_merge.specs.Private.Outputs.{Puts};
+ghost use Rattle.line_engine.specs.Outputs.{writer_of, waits_in, Puts};
 
 use crate::command_line::{Form, Operation};
 use crate::counts::Counts;
-use crate::output::Output;
 use crate::range_sides::RangeSides;
 use crate::reading::Sets;
 use crate::sides::{Side, Sides};
 use crate::sweep::Sweep;
 use ipnetwork::{Address, Network};
 use ipnetwork_sets::AddressSet;
-use std::io;
+use line_engine::fault::RunFault;
+use line_engine::output::Output;
 use std::io::Write;
 
 /// Prints what the operation leaves of the sides.
@@ -22,9 +22,9 @@ pub(crate) fn print<W: Write>(
     first: &Sets,
     second: &Sets,
     output: &mut Output<'_, W>,
-) -> io::Result<()>
+) -> Result<(), RunFault>
     ensures { OnOk result (IfListed form ((text : List ℕ) × IsAnswer operation form first.now second.now text
-        × Puts (W.contents output.old.writer) output.old.waiting.items (W.contents output.new.writer) output.new.waiting.items text)) }
+        × Puts (W.contents (writer_of output.old)) (waits_in output.old) (W.contents (writer_of output.new)) (waits_in output.new) text)) }
 {
     match form {
         Form::Blocks => {
@@ -45,9 +45,9 @@ fn print_blocks<A: Address, W: Write>(
     first: &AddressSet<Network<A>>,
     second: &AddressSet<Network<A>>,
     output: &mut Output<'_, W>,
-) -> io::Result<()>
+) -> Result<(), RunFault>
     ensures { OnOk result ((text : List ℕ) × IsAnswerOf operation Form.Blocks A.family first.now second.now text
-        × Puts (W.contents output.old.writer) output.old.waiting.items (W.contents output.new.writer) output.new.waiting.items text) }
+        × Puts (W.contents (writer_of output.old)) (waits_in output.old) (W.contents (writer_of output.new)) (waits_in output.new) text) }
 {
     let mut blocks = Sides::left(operation, first, second);
     while let Some(next) = blocks.next() {
@@ -62,13 +62,13 @@ fn put_block<A: Address, W: Write>(
     side: Side,
     block: Network<A>,
     output: &mut Output<'_, W>,
-) -> io::Result<()>
-    ensures { OnOk result (Puts (W.contents output.old.writer) output.old.waiting.items (W.contents output.new.writer) output.new.waiting.items
+) -> Result<(), RunFault>
+    ensures { OnOk result (Puts (W.contents (writer_of output.old)) (waits_in output.old) (W.contents (writer_of output.new)) (waits_in output.new)
         (block_line operation A.family (record { side = side; part = block }))) }
 {
-    output.put(sign_of(operation, side))?;
-    output.put(block.canonical().as_str())?;
-    output.put("\n")
+    output.put(sign_of(operation, side).as_bytes())?;
+    output.put(block.canonical().as_str().as_bytes())?;
+    output.put(b"\n")
 }
 
 // What stands before a block or a run of a side.
@@ -90,9 +90,9 @@ fn print_ranges<A: Address, W: Write>(
     first: &AddressSet<Network<A>>,
     second: &AddressSet<Network<A>>,
     output: &mut Output<'_, W>,
-) -> io::Result<()>
+) -> Result<(), RunFault>
     ensures { OnOk result ((text : List ℕ) × IsAnswerOf operation Form.Ranges A.family first.now second.now text
-        × Puts (W.contents output.old.writer) output.old.waiting.items (W.contents output.new.writer) output.new.waiting.items text) }
+        × Puts (W.contents (writer_of output.old)) (waits_in output.old) (W.contents (writer_of output.new)) (waits_in output.new) text) }
 {
     let mut ranges = RangeSides::left(operation, first, second);
     while let Some(next) = ranges.next() {
@@ -107,15 +107,15 @@ fn put_range<A: Address, W: Write>(
     side: Side,
     range: (A, A),
     output: &mut Output<'_, W>,
-) -> io::Result<()>
-    ensures { OnOk result (Puts (W.contents output.old.writer) output.old.waiting.items (W.contents output.new.writer) output.new.waiting.items
+) -> Result<(), RunFault>
+    ensures { OnOk result (Puts (W.contents (writer_of output.old)) (waits_in output.old) (W.contents (writer_of output.new)) (waits_in output.new)
         (range_line operation A.family (record { side = side; part = (A.number range.0, A.number range.1) }))) }
 {
-    output.put(sign_of(operation, side))?;
-    output.put(range.0.canonical().as_str())?;
-    output.put(" - ")?;
-    output.put(range.1.canonical().as_str())?;
-    output.put("\n")
+    output.put(sign_of(operation, side).as_bytes())?;
+    output.put(range.0.canonical().as_str().as_bytes())?;
+    output.put(b" - ")?;
+    output.put(range.1.canonical().as_str().as_bytes())?;
+    output.put(b"\n")
 }
 
 // Prints the counts of both families; of `differ` for each side.
@@ -124,7 +124,7 @@ fn print_all_counts<W: Write>(
     first: &Sets,
     second: &Sets,
     output: &mut Output<'_, W>,
-) -> io::Result<()> {
+) -> Result<(), RunFault> {
     print_counts(operation, Side::First, first, second, output)?;
     match operation {
         Operation::Differ => print_counts(operation, Side::Second, second, first, output),
@@ -139,7 +139,7 @@ fn print_counts<W: Write>(
     first: &Sets,
     second: &Sets,
     output: &mut Output<'_, W>,
-) -> io::Result<()> {
+) -> Result<(), RunFault> {
     let v4 = Counts::of(Sweep::of(operation, &first.v4, &second.v4));
     let v6 = Counts::of(Sweep::of(operation, &first.v6, &second.v6));
     let sign = sign_of(operation, side);
@@ -153,11 +153,11 @@ fn put_counts<W: Write>(
     family: &str,
     counts: Counts,
     output: &mut Output<'_, W>,
-) -> io::Result<()> {
-    output.put(sign)?;
-    output.put(family)?;
-    output.put(counts.blocks().as_str())?;
-    output.put(" ")?;
-    output.put(counts.addresses().as_str())?;
-    output.put("\n")
+) -> Result<(), RunFault> {
+    output.put(sign.as_bytes())?;
+    output.put(family.as_bytes())?;
+    output.put(counts.blocks().as_str().as_bytes())?;
+    output.put(b" ")?;
+    output.put(counts.addresses().as_str().as_bytes())?;
+    output.put(b"\n")
 }

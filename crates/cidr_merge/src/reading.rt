@@ -1,11 +1,11 @@
 //! The lists of a side are read.
 ghost use Rattle.std.specs.Prelude.{◌≤◌, length};
 
-use crate::lists::OpenLists;
 use address_lists::{ListReader, Refusals, read_list};
 use ipnetwork::{Ipv4Network, Ipv6Network};
 use ipnetwork_sets::AddressSet;
 use line_engine::watched::Watched;
+use program_io::lists::OpenLists;
 use std::alloc::Global;
 
 /// The addresses of a side, by family.

@@ -2,17 +2,17 @@
 ghost use Rattle.std.specs.Prelude.{length};
 ghost use Rattle.cidr_merge.specs.Private.Words.{IsWithin};
 
-use crate::arguments::ArgumentsFault;
 use crate::command_line::{Command, Operation, Request, command_of};
 use crate::help::{HELP, USAGE, VERSION};
-use crate::lists::OpenLists;
-use crate::output::Output;
 use crate::printing::print;
 use crate::reading::{ReadFault, Sets, read_side};
-use crate::telling::{tell, tell_fault, tell_refusals};
+use crate::telling::{tell_fault, tell_refusals};
 use address_lists::Refusals;
+use line_engine::fault::RunFault;
+use line_engine::output::Output;
+use program_io::ending::{FAILED, end, print_text, refuse_usage};
+use program_io::lists::OpenLists;
 use std::alloc::Global;
-use std::io;
 use std::io::Write;
 
 /// The exit status of an answer.
@@ -21,66 +21,23 @@ const ANSWERED: u8 = 0;
 /// The exit status of `differ` if the sides are not equal.
 const UNEQUAL: u8 = 1;
 
-/// The exit status where there is no answer.
-const FAILED: u8 = 2;
-
 /// The exit status of an answer if lines were skipped.
 const SKIPPED: u8 = 3;
-
-/// The most bytes that wait to be written.
-const WAITING_MAX: usize = 65536;
 
 /// Does what the words behind the program's name ask for, and returns the exit status.
 pub(crate) fn run<L: OpenLists, W: Write, E: Write>(
     alloc: Global,
     words: &[String],
     lists: &L,
-    output: &mut W,
-    errors: &mut E,
+    output: &mut Output<'_, W>,
+    errors: &mut Output<'_, E>,
 ) -> u8 {
     match command_of(words) {
         Command::Help => print_text(HELP, output, errors),
         Command::Version => print_text(VERSION, output, errors),
         Command::Merge(request) => merge(alloc, request, words, lists, output, errors),
-        Command::Usage => refuse_usage(errors),
+        Command::Usage => refuse_usage(USAGE, errors),
     }
-}
-
-/// Tells why there are no words, and returns the exit status.
-pub(crate) fn refuse_arguments<E: Write>(fault: ArgumentsFault, errors: &mut E) -> u8 {
-    match fault {
-        ArgumentsFault::NotText => refuse_usage(errors),
-        ArgumentsFault::OutOfMemory => {
-            tell("out of memory\n", errors);
-            FAILED
-        }
-    }
-}
-
-// Tells how the program is used.
-fn refuse_usage<E: Write>(errors: &mut E) -> u8 {
-    tell(USAGE, errors);
-    FAILED
-}
-
-// Prints a text.
-fn print_text<W: Write, E: Write>(text: &str, output: &mut W, errors: &mut E) -> u8 {
-    let written = write_text(text, output);
-    end(written, ANSWERED, errors)
-}
-
-fn write_text<W: Write>(text: &str, output: &mut W) -> io::Result<()> {
-    output.write_all(text.as_bytes())?;
-    output.flush()
-}
-
-// The status, if what was written was taken.
-fn end<E: Write>(written: io::Result<()>, status: u8, errors: &mut E) -> u8 {
-    if written.is_err() {
-        tell("write error\n", errors);
-        return FAILED;
-    }
-    status
 }
 
 // Reads the lists of both sides, and prints what the operation leaves of them.
@@ -89,8 +46,8 @@ fn merge<L: OpenLists, W: Write, E: Write>(
     request: Request,
     words: &[String],
     lists: &L,
-    output: &mut W,
-    errors: &mut E,
+    output: &mut Output<'_, W>,
+    errors: &mut Output<'_, E>,
 ) -> u8
     requires { IsWithin (length words.now) request }
 {
@@ -151,11 +108,9 @@ fn write_answer<W: Write>(
     request: Request,
     first: &Sets,
     second: &Sets,
-    output: &mut W,
-) -> io::Result<()> {
-    let mut waiting = [0u8; WAITING_MAX];
-    let mut output = Output::new(output, &mut waiting);
-    print(request.operation, request.form, first, second, &mut output)?;
+    output: &mut Output<'_, W>,
+) -> Result<(), RunFault> {
+    print(request.operation, request.form, first, second, output)?;
     output.finish()
 }
 

@@ -1,14 +1,11 @@
 -- How far a log is filtered.
 use Rattle.std.specs.Prelude.{◌≡◌, ℕ, ◌+◌, ◌-◌, ◌^◌, ◌≤◌, ◌<◌, ◌⊎◌, take, true, length, min, Bool, false, List, ◌++◌, Option}
-use Rattle.std.specs.Io.KnownBytes.{Appends, Consumes, IsAtEnd}
+use Rattle.std.specs.Io.KnownBytes.{Consumes, IsAtEnd}
+use Rattle.line_engine.specs.Outputs.{Puts}
 use Rattle.cidr_filter.specs.Filters.{Judges, is_dropped, is_refused, is_selected, one_if, output_of, Filters}
 use Rattle.cidr_filter.specs.Lines.{log_lines}
 use Rattle.cidr_filter.specs.declared.filter.Filter.{Filter}
 use Rattle.cidr_filter.specs.declared.filter.Verdict.{Verdict}
-
--- a writer held the first bytes while the second waited; it holds the third, and the fourth wait: these were added
-abbrev pub Puts : Option (List ℕ) → List ℕ → Option (List ℕ) → List ℕ → List ℕ → Type 0
-Puts held waited holds waits added = (written : List ℕ) × Appends held holds written × (waited ++ added ≡ written ++ waits)
 
 -- where a run stands: what the writer holds, what waits, and how many lines are selected
 pub record Stand : Type 0 where

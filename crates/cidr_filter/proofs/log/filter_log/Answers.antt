@@ -2,6 +2,7 @@ use Rattle.std.proofs.Common.{[], ◌+◌, ◌-◌, take, arith}
 use Rattle.std.proofs.KnownBytes.{Consumes-nil}
 use Rattle.std.proofs.lemmas.List.{length-take-le}
 use Rattle.line_engine.specs.Watched.{device_of}
+use Rattle.line_engine.specs.Outputs.{writer_of, waits_in}
 use Rattle.cidr_filter.specs.Private.Progress.{stand}
 use Rattle.cidr_filter.proofs.Kept.{held_fits, held_absent}
 use Rattle.cidr_filter.proofs.Filtering.{advances_nowhere, ended_ok, piece_more}
@@ -28,9 +29,9 @@ pieces-preserved g c =
     let contents = g.W.Write.contents in
     let more = piece_more c.args.filter.now c.args.counts (g.R.Read.remaining (device_of c.args.reader.now)) (g.R.Read.remaining (device_of c.pieces.reader))
     (g.R.Read.remaining (device_of c.read_behind.new.reader))
-    (stand (contents c.args.output.now.writer) c.args.output.now.waiting.items c.args.tally.now.selected)
-    (stand (contents c.pieces.output.writer) c.pieces.output.waiting.items c.pieces.tally.selected)
-    (stand (contents c.filter_piece.new.output.writer) c.filter_piece.new.output.waiting.items c.filter_piece.new.tally.selected)
+    (stand (contents (writer_of c.args.output.now)) (waits_in c.args.output.now) c.args.tally.now.selected)
+    (stand (contents (writer_of c.pieces.output)) (waits_in c.pieces.output) c.pieces.tally.selected)
+    (stand (contents (writer_of c.filter_piece.new.output)) (waits_in c.filter_piece.new.output) c.filter_piece.new.tally.selected)
     c.pieces.buffer c.read_behind.new.buffer c.keep.new.buffer c.pieces.invariant.sofar.0 held count start c.in_ok-held.held
     c.pieces.invariant.sofar.1 c.pieces.invariant.sofar.2 c.in_ok-count.ensures.read c.in_ok-start.ensures.within c.in_ok-start.ensures.absent
     c.in_ok-start.ensures.advances c.keep.ensures.front c.in_ok-held.ensures in

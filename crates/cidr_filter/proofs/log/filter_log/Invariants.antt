@@ -2,6 +2,7 @@ use Rattle.std.proofs.Common.{◌≤◌, ◌<◌, List, ℕ, length, take}
 use Rattle.std.specs.Io.KnownBytes.{Consumes}
 use Rattle.byte_search.specs.Bytes.{IsAbsent}
 use Rattle.line_engine.specs.Watched.{device_of}
+use Rattle.line_engine.specs.Outputs.{writer_of, waits_in}
 use Rattle.cidr_filter.specs.Private.Progress.{stand, Advances}
 use Rattle.cidr_filter.proofs.log.filter_log.Given as goal
 
@@ -11,8 +12,8 @@ invariant-pieces g l = record {
   room : 1048578 < length l.buffer;
   absent : IsAbsent 10 (take l.held l.buffer) 0 l.held;
   sofar : (read : List ℕ) × Consumes (g.R.Read.remaining (device_of l.initial.reader)) (g.R.Read.remaining (device_of l.reader)) read
-      × Advances l.filter l.counts (stand (g.W.Write.contents l.initial.output.writer) l.initial.output.waiting.items l.initial.tally.selected)
-      (stand (g.W.Write.contents l.output.writer) l.output.waiting.items l.tally.selected) read (take l.held l.buffer);
+      × Advances l.filter l.counts (stand (g.W.Write.contents (writer_of l.initial.output)) (waits_in l.initial.output) l.initial.tally.selected)
+      (stand (g.W.Write.contents (writer_of l.output)) (waits_in l.output) l.tally.selected) read (take l.held l.buffer);
 }
 
 abbrev pub decreases-pieces : goal.decreases-pieces

@@ -9,4 +9,4 @@ returns-then-is_empty g c = rest_of_none c.args.filter.now c.args.counts _ c.arg
 pub returns-in-Ok : goal.returns-in-Ok
 returns-in-Ok g c =
     rest_of_line c.args.filter.now c.args.counts _ _ _ c.args.line.now (none_behind 10 c.args.line.now 0 c.requires.absent) (sym c.is_empty.ensures ∙ c.if-is_empty.false)
-    c.in_ok-filter_line.ensures refl c.in-Ok.ensures.empty c.in-Ok.ensures.written
+    c.in_ok-filter_line.ensures refl c.in-Ok.ensures.emptied c.in-Ok.ensures.ok

@@ -1,8 +1,10 @@
 use Rattle.std.proofs.Common.{[], refl, length}
+use Rattle.line_engine.specs.Outputs.{writer_of, waits_in}
 use Rattle.cidr_merge.specs.Answers.{merged, block_line}
 use Rattle.cidr_merge.specs.Private.Sweeps.{blocks_left, with_head}
 use Rattle.cidr_merge.proofs.Merging.{shorter}
-use Rattle.cidr_merge.proofs.Putting.{puts_nothing, puts_line, puts_all}
+use Rattle.line_engine.proofs.Putting.{puts_nothing}
+use Rattle.cidr_merge.proofs.Putting.{puts_line, puts_all}
 use Rattle.cidr_merge.proofs.printing.print_blocks.Goals as goal
 
 pub loop-next-init : goal.loop-next-init
@@ -14,8 +16,8 @@ loop-next-smaller g c = shorter _ _ _ c.in-Some.ensures
 pub loop-next-preserved : goal.loop-next-preserved
 loop-next-preserved g c =
     let contents = g.W.Write.contents in
-    puts_line (block_line c.args.operation g.A.Address.family) (contents c.args.output.now.writer) (contents c.loop-next.output.writer) (contents c.put_block.new.output.writer)
-    c.args.output.now.waiting.items c.loop-next.output.waiting.items c.put_block.new.output.waiting.items c.loop-next.invariant.0 _ _ _
+    puts_line (block_line c.args.operation g.A.Address.family) (contents (writer_of c.args.output.now)) (contents (writer_of c.loop-next.output)) (contents (writer_of c.put_block.new.output))
+    (waits_in c.args.output.now) (waits_in c.loop-next.output) (waits_in c.put_block.new.output) c.loop-next.invariant.0 _ _ _
     (record { side = c.in-Some.next.0; part = c.in-Some.next.1 }) c.loop-next.invariant.1 c.in-Some.ensures c.loop-next.invariant.2 c.in_ok-put_block.ensures
 
 pub returns : goal.returns
@@ -23,6 +25,6 @@ returns g c =
     let contents = g.W.Write.contents in (
       _,
       (with_head (λ n. n) c.left-blocks.result.first (blocks_left (λ n. n) c.left-blocks.result.firsts), with_head (λ n. n) c.left-blocks.result.second (blocks_left (λ n. n) c.left-blocks.result.seconds), c.left-blocks.ensures.first, c.left-blocks.ensures.second, refl),
-      puts_all (block_line c.args.operation g.A.Address.family) (contents c.args.output.now.writer) (contents c.loop-next.output.writer)
-          c.args.output.now.waiting.items c.loop-next.output.waiting.items c.loop-next.invariant.0 _ _ c.loop-next.invariant.1 c.in_default.ensures c.loop-next.invariant.2,
+      puts_all (block_line c.args.operation g.A.Address.family) (contents (writer_of c.args.output.now)) (contents (writer_of c.loop-next.output))
+          (waits_in c.args.output.now) (waits_in c.loop-next.output) c.loop-next.invariant.0 _ _ c.loop-next.invariant.1 c.in_default.ensures c.loop-next.invariant.2,
     )

@@ -1,9 +1,11 @@
 use Rattle.std.proofs.Common.{[], refl, length}
+use Rattle.line_engine.specs.Outputs.{writer_of, waits_in}
 use Rattle.cidr_merge.specs.Answers.{range_line}
 use Rattle.cidr_merge.specs.Private.Ranges.{ranges_left, numbers}
 use Rattle.cidr_merge.specs.Private.Sweeps.{with_head}
 use Rattle.cidr_merge.proofs.Merging.{shorter}
-use Rattle.cidr_merge.proofs.Putting.{puts_nothing, puts_line, puts_all}
+use Rattle.line_engine.proofs.Putting.{puts_nothing}
+use Rattle.cidr_merge.proofs.Putting.{puts_line, puts_all}
 use Rattle.cidr_merge.proofs.printing.print_ranges.Goals as goal
 
 pub loop-next-init : goal.loop-next-init
@@ -15,8 +17,8 @@ loop-next-smaller g c = shorter _ _ _ c.in-Some.ensures
 pub loop-next-preserved : goal.loop-next-preserved
 loop-next-preserved g c =
     let contents = g.W.Write.contents in
-    puts_line (range_line c.args.operation g.A.Address.family) (contents c.args.output.now.writer) (contents c.loop-next.output.writer) (contents c.put_range.new.output.writer)
-    c.args.output.now.waiting.items c.loop-next.output.waiting.items c.put_range.new.output.waiting.items c.loop-next.invariant.0 _ _ _
+    puts_line (range_line c.args.operation g.A.Address.family) (contents (writer_of c.args.output.now)) (contents (writer_of c.loop-next.output)) (contents (writer_of c.put_range.new.output))
+    (waits_in c.args.output.now) (waits_in c.loop-next.output) (waits_in c.put_range.new.output) c.loop-next.invariant.0 _ _ _
     (record { side = c.in-Some.next.0; part = numbers g.A.Address.number c.in-Some.next.1 }) c.loop-next.invariant.1 c.in-Some.ensures c.loop-next.invariant.2 c.in_ok-put_range.ensures
 
 pub returns : goal.returns
@@ -24,6 +26,6 @@ returns g c =
     let contents = g.W.Write.contents in (
       _,
       (with_head (numbers g.A.Address.number) c.left-ranges.result.first (ranges_left c.left-ranges.result.firsts), with_head (numbers g.A.Address.number) c.left-ranges.result.second (ranges_left c.left-ranges.result.seconds), c.left-ranges.ensures.first, c.left-ranges.ensures.second, refl),
-      puts_all (range_line c.args.operation g.A.Address.family) (contents c.args.output.now.writer) (contents c.loop-next.output.writer)
-          c.args.output.now.waiting.items c.loop-next.output.waiting.items c.loop-next.invariant.0 _ _ c.loop-next.invariant.1 c.in_default.ensures c.loop-next.invariant.2,
+      puts_all (range_line c.args.operation g.A.Address.family) (contents (writer_of c.args.output.now)) (contents (writer_of c.loop-next.output))
+          (waits_in c.args.output.now) (waits_in c.loop-next.output) c.loop-next.invariant.0 _ _ c.loop-next.invariant.1 c.in_default.ensures c.loop-next.invariant.2,
     )

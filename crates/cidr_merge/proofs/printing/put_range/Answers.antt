@@ -1,4 +1,5 @@
 use Rattle.std.proofs.Common.{◌∙◌}
+use Rattle.line_engine.specs.Outputs.{writer_of, waits_in}
 use Rattle.cidr_merge.specs.Answers.{sign_of}
 use Rattle.cidr_merge.proofs.Putting.{put_five_ok}
 use Rattle.cidr_merge.proofs.printing.put_range.Goals as goal
@@ -6,11 +7,11 @@ use Rattle.cidr_merge.proofs.printing.put_range.Goals as goal
 pub returns : goal.returns
 returns g c =
     let contents = g.W.Write.contents in
-    put_five_ok c.put-5.result (contents c.args.output.now.writer) (contents c.put.new.self.writer) (contents c.put-2.new.self.writer) (contents c.put-3.new.self.writer)
-    (contents c.put-4.new.self.writer) (contents c.put-5.new.self.writer)
-    c.args.output.now.waiting.items c.put.new.self.waiting.items c.put-2.new.self.waiting.items c.put-3.new.self.waiting.items
-    c.put-4.new.self.waiting.items c.put-5.new.self.waiting.items
-    c.sign_of.result.now c.as_str.result.now _ c.as_str-2.result.now _ (sign_of c.args.operation c.args.side) (g.A.Address.family.canonical (g.A.Address.number c.args.range.0))
-    (g.A.Address.family.canonical (g.A.Address.number c.args.range.1)) c.sign_of.ensures
-    (c.as_str.ensures.value ∙ c.canonical.ensures.bytes) (c.as_str-2.ensures.value ∙ c.canonical-2.ensures.bytes)
-    c.in_ok-put.ensures c.in_ok-put-2.ensures c.in_ok-put-3.ensures c.in_ok-put-4.ensures c.put-5.ensures
+    put_five_ok c.put-5.result (contents (writer_of c.args.output.now)) (contents (writer_of c.put.new.self)) (contents (writer_of c.put-2.new.self)) (contents (writer_of c.put-3.new.self))
+    (contents (writer_of c.put-4.new.self)) (contents (writer_of c.put-5.new.self))
+    (waits_in c.args.output.now) (waits_in c.put.new.self) (waits_in c.put-2.new.self) (waits_in c.put-3.new.self)
+    (waits_in c.put-4.new.self) (waits_in c.put-5.new.self)
+    c.as_bytes.result.now c.as_bytes-2.result.now _ c.as_bytes-3.result.now _ (sign_of c.args.operation c.args.side) (g.A.Address.family.canonical (g.A.Address.number c.args.range.0))
+    (g.A.Address.family.canonical (g.A.Address.number c.args.range.1)) (c.as_bytes.ensures.value ∙ c.sign_of.ensures)
+    (c.as_bytes-2.ensures.value ∙ c.as_str.ensures.value ∙ c.canonical.ensures.bytes) (c.as_bytes-3.ensures.value ∙ c.as_str-2.ensures.value ∙ c.canonical-2.ensures.bytes)
+    c.in_ok-put.ensures.ok c.in_ok-put-2.ensures.ok c.in_ok-put-3.ensures.ok c.in_ok-put-4.ensures.ok c.put-5.ensures.ok

@@ -13,8 +13,13 @@ pub enum ArgumentsFault {
     OutOfMemory,
 }
 
-/// The words behind the program's name.
-pub(crate) fn arguments<R: Env + Alloc<A = Global>>(rt: &R) -> Result<Vec<String>, ArgumentsFault> {
+/// The words after the program's name, in their order. Each is a `String` of its own, in memory of the program's
+/// allocator.
+///
+/// ```
+/// assert!(rt; program_io::arguments::arguments(&rt).is_ok());
+/// ```
+pub fn arguments<R: Env + Alloc<A = Global>>(rt: &R) -> Result<Vec<String>, ArgumentsFault> {
     let mut words = match env::args(rt) {
         Ok(words) => words,
         Err(error) => return Err(arguments_fault(error.kind())),

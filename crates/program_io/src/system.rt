@@ -6,19 +6,19 @@ use std::{fs, io};
 
 /// The files of the system, and its standard input under the name `-`.
 #[derive(Drop)]
-pub(crate) struct System<'a> {
+pub struct System<'a> {
     rt: &'a HostRuntime,
 }
 
 impl<'a> System<'a> {
-    pub(crate) fn new(rt: &'a HostRuntime) -> System<'a> {
+    pub fn new(rt: &'a HostRuntime) -> System<'a> {
         System { rt }
     }
 }
 
 /// A file, or standard input.
 #[derive(Drop)]
-pub(crate) enum Device {
+pub enum Device {
     File(File),
     Input(Stdin),
 }

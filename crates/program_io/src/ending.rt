@@ -1,0 +1,112 @@
+//! How a program ends: its exit status, and what it tells of that.
+ghost use Rattle.std.specs.Prelude.{◌≡◌, ◌++◌, if◌then◌else◌, OnOk, is_err};
+ghost use Rattle.std.specs.Io.KnownBytes.{Appends};
+ghost use Rattle.line_engine.specs.Outputs.{writer_of, waits_in, output_failed};
+ghost use Rattle.program_io.specs.Endings.{status_of, end_text, arguments_text};
+ghost use Rattle.program_io.specs.Messages.{Tells};
+
+use crate::arguments::ArgumentsFault;
+use crate::messages::tell;
+use line_engine::fault::RunFault;
+use line_engine::output::Output;
+use std::io::Write;
+
+/// The exit status of a program that does not come to its end.
+///
+/// ```
+/// assert_eq!(rt; program_io::ending::FAILED, 2);
+/// ```
+pub const FAILED: u8 = 2;
+
+/// The exit status of a program whose output is written: this one, or 2 if it was not, and then that is told.
+///
+/// ```
+/// let mut slice = [0; 64];
+/// let mut errors = line_engine::output::Output::new(Vec::new(rt.alloc()), &mut slice);
+/// assert_eq!(rt; program_io::ending::end(Ok(()), 1, &mut errors), 1);
+/// assert_eq!(rt; program_io::ending::end(Err(line_engine::fault::RunFault::Write), 1, &mut errors), 2);
+/// ```
+pub fn end<E: Write>(
+    written: Result<(), RunFault>,
+    status: u8,
+    errors: &mut Output<'_, E>,
+) -> u8
+    ensures status { result ≡ status_of written status }
+    ensures told { Tells E.contents errors.old errors.new (end_text written) }
+{
+    if written.is_err() {
+        tell("write error\n", errors);
+        return FAILED;
+    }
+    tell("", errors);
+    status
+}
+
+/// Writes a text and what waits before it, and returns the exit status: 0, or 2 if it was not written.
+///
+/// ```
+/// let (slice, error_slice) = (&mut [0; 64], &mut [0; 64]);
+/// let mut output = line_engine::output::Output::new(Vec::new(rt.alloc()), slice);
+/// let mut errors = line_engine::output::Output::new(Vec::new(rt.alloc()), error_slice);
+/// assert_eq!(rt; program_io::ending::print_text("cidr_merge 1\n", &mut output, &mut errors), 0);
+/// ```
+pub fn print_text<W: Write, E: Write>(
+    text: &str,
+    output: &mut Output<'_, W>,
+    errors: &mut Output<'_, E>,
+) -> u8
+    ensures status { result ≡ (if output_failed output.new then 2 else 0) }
+    ensures written { result ≡ 0 → Appends (W.contents (writer_of output.old)) (W.contents (writer_of output.new)) (waits_in output.old ++ text.now) }
+{
+    let written = write_text(text, output);
+    end(written, 0, errors)
+}
+
+// Writes a text and what waits before it.
+fn write_text<W: Write>(text: &str, output: &mut Output<'_, W>) -> Result<(), RunFault>
+    ensures written { OnOk result (Appends (W.contents (writer_of output.old)) (W.contents (writer_of output.new)) (waits_in output.old ++ text.now)) }
+    ensures failed { output_failed output.new ≡ is_err result }
+{
+    output.put(text.as_bytes())?;
+    output.finish()
+}
+
+/// Tells how the program is used, and returns the exit status of that, 2.
+///
+/// ```
+/// let mut slice = [0; 64];
+/// let mut errors = line_engine::output::Output::new(Vec::new(rt.alloc()), &mut slice);
+/// assert_eq!(rt; program_io::ending::refuse_usage("usage: cidr_merge union FILE..\n", &mut errors), 2);
+/// ```
+pub fn refuse_usage<E: Write>(usage: &str, errors: &mut Output<'_, E>) -> u8
+    ensures status { result ≡ 2 }
+    ensures told { Tells E.contents errors.old errors.new usage.now }
+{
+    tell(usage, errors);
+    FAILED
+}
+
+/// Tells why there are no arguments, and returns the exit status of that, 2.
+///
+/// ```
+/// let mut slice = [0; 64];
+/// let mut errors = line_engine::output::Output::new(Vec::new(rt.alloc()), &mut slice);
+/// let fault = program_io::arguments::ArgumentsFault::OutOfMemory;
+/// assert_eq!(rt; program_io::ending::refuse_arguments(fault, "usage: cidr_merge union FILE..\n", &mut errors), 2);
+/// ```
+pub fn refuse_arguments<E: Write>(
+    fault: ArgumentsFault,
+    usage: &str,
+    errors: &mut Output<'_, E>,
+) -> u8
+    ensures status { result ≡ 2 }
+    ensures told { Tells E.contents errors.old errors.new (arguments_text fault usage.now) }
+{
+    match fault {
+        ArgumentsFault::NotText => refuse_usage(usage, errors),
+        ArgumentsFault::OutOfMemory => {
+            tell("out of memory\n", errors);
+            FAILED
+        }
+    }
+}

@@ -1,0 +1,10 @@
+//! What programs that read lists share: their arguments, the files they open, and what they tell on standard error.
+#![tactic(auto)]
+
+pub mod arguments;
+pub mod ending;
+pub mod lists;
+pub mod messages;
+pub mod system;
+#[cfg(test)]
+mod tests;
