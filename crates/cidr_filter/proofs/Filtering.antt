@@ -229,7 +229,7 @@ pub piece_more : (filter : Filter) (counts : Bool) (remained mid remains : Optio
     → start ≤ length (take (held + count) buffer) → IsAbsent 10 (take (held + count) buffer) start (length (take (held + count) buffer))
     → Advances filter counts now new (take (held + count) buffer) (drop start (take (held + count) buffer))
     → take (held + count - start) kept ≡ drop start (take (held + count) buffer) → IsHeld filter (held + count - start) next
-    → (more : List ℕ) × Consumes remained remains more × Advances filter counts old new more (take next kept)
+    → (more : List ℕ) × Consumes remained remains more × (length more ≡ length read + count) × Advances filter counts old new more (take next kept)
 piece_more filter counts remained mid remains old now new was buffer kept read held count start next took p reads within absent q front is =
     let chunk = reads.1 in
     let piece = take (held + count) buffer in
@@ -237,6 +237,7 @@ piece_more filter counts remained mid remains old now new was buffer kept read h
     let all = subst (λ (l : List ℕ). Advances filter counts old now (read ++ chunk) l) (sym reads.4) (behind filter counts old now read (take held was) chunk p) in (
       read ++ chunk,
       Consumes-trans remained mid remains read chunk took reads.3,
+      length-append read chunk ∙ ap (λ n. length read + n) reads.2,
       held_advances filter counts old new (read ++ chunk) (drop start piece) kept (held + count - start) next
           (length-drop start piece ∙ ap (λ n. n - start) size) (none_behind 10 piece start absent) front is
           (advances_on filter counts old now new (read ++ chunk) piece (drop start piece) all q),

@@ -4,3 +4,4 @@ pub mod Filters
 pub mod Laws
 pub mod Lines
 pub mod Private
+pub mod Stops

@@ -1,9 +1,12 @@
 //! The lines of a log are filtered.
-ghost use Rattle.std.specs.Prelude.{◌≡◌, ◌<◌, ◌≤◌, ◌++◌, ◌∷◌, ◌-◌, [], if◌then◌else◌, length, take, drop, OnOk, IfOk};
+ghost use Rattle.std.specs.Prelude.{◌≡◌, ◌<◌, ◌≤◌, ◌++◌, ◌∷◌, ◌-◌, [], if◌then◌else◌, length, take, drop, false, IsTrue, OnOk, OnErr, IfOk, IfErr, IsOkUnless};
 ghost use Rattle.std.specs.Str.Lines.{strip_carriage_return};
 ghost use Rattle.byte_search.specs.Bytes.{IsAbsent};
-ghost use Rattle.line_engine.specs.Outputs.{writer_of, waits_in, Puts};
-ghost use Rattle.line_engine.specs.Watched.{device_of};
+ghost use Rattle.line_engine.specs.Outputs.{writer_of, output_failed, waits_in, Puts};
+ghost use Rattle.line_engine.specs.Watched.{device_of, has_failed};
+ghost use Rattle.cidr_filter.specs.Filters.{is_dropped};
+ghost use Rattle.cidr_filter.specs.Stops.{Stops};
+ghost use Rattle.cidr_filter.specs.Private.Judging.{fault_of, StopsAtLine};
 ghost use Rattle.cidr_filter.specs.Private.Progress.{stand, Goes, FiltersLine, FiltersRest, Advances, Ends, ReadsBehind, IsHeld};
 
 use crate::filter::{Bad, Filter, LINE_MAX, Verdict};
@@ -47,9 +50,11 @@ pub fn filter_log<R: Read, W: Write>(
     tally: &mut Tally,
 ) -> Result<(), LogFault>
     requires room { 1048578 < length buffer.old }
-    ensures { OnOk result (Ends filter.now counts (R.remaining (device_of reader.old)) (R.remaining (device_of reader.new))
+    ensures ok { OnOk result (Ends filter.now counts (R.remaining (device_of reader.old)) (R.remaining (device_of reader.new))
         (stand (W.contents (writer_of output.old)) (waits_in output.old) tally.old.selected)
         (stand (W.contents (writer_of output.new)) (waits_in output.new) tally.new.selected)) }
+    ensures err { IfErr result (λ fault. Stops filter.now (R.remaining (device_of reader.old)) (R.remaining (device_of reader.new))
+        (has_failed reader.new) (output_failed output.new) fault) }
 {
     let mut held = 0;
     let mut room = u64::MAX;
@@ -78,6 +83,8 @@ fn read_behind<R: Read>(
     requires { held < length buffer.old }
     ensures length { length buffer.new ≡ length buffer.old }
     ensures read { IfOk result (ReadsBehind (R.remaining (device_of reader.old)) (R.remaining (device_of reader.new)) buffer.old buffer.new held) }
+    ensures failed { OnErr result (IsTrue (has_failed reader.new)) }
+    ensures fault { IsOkUnless result LogFault.Read }
 {
     match reader.read(&mut buffer[held..]) {
         Ok(count) => Ok(count),
@@ -98,7 +105,9 @@ fn keep(buffer: &mut [u8], start: usize, end: usize)
 // How many bytes are held of so many that no line feed follows. Of a line that is too long no more are needed than
 // tell so.
 fn held_of(filter: &Filter, count: usize) -> Result<usize, LogFault>
-    ensures { IfOk result (IsHeld filter.now count) }
+    ensures held { IfOk result (IsHeld filter.now count) }
+    ensures dropped { OnErr result (is_dropped filter.now.bad ≡ false) }
+    ensures fault { IsOkUnless result LogFault.Length }
 {
     if count <= LINE_MAX + 1 {
         return Ok(count);
@@ -125,6 +134,7 @@ fn filter_piece<W: Write>(
     ensures advances { IfOk result (λ start. Advances filter.now counts
         (stand (W.contents (writer_of output.old)) (waits_in output.old) tally.old.selected)
         (stand (W.contents (writer_of output.new)) (waits_in output.new) tally.new.selected) piece.now (drop start piece.now)) }
+    ensures err { IfErr result (λ fault. StopsAtLine filter.now (output_failed output.new) fault) }
 {
     let start = filter_lines(filter, counts, piece, held, output, tally)?;
     match output.hand_on() {
@@ -150,6 +160,7 @@ fn filter_lines<W: Write>(
     ensures advances { IfOk result (λ start. Advances filter.now counts
         (stand (W.contents (writer_of output.old)) (waits_in output.old) tally.old.selected)
         (stand (W.contents (writer_of output.new)) (waits_in output.new) tally.new.selected) piece.now (drop start piece.now)) }
+    ensures err { IfErr result (λ fault. StopsAtLine filter.now (output_failed output.new) fault) }
 {
     let mut start = 0;
     let mut from = held;
@@ -180,9 +191,10 @@ fn finish<W: Write>(
     tally: &mut Tally,
 ) -> Result<(), LogFault>
     requires absent { IsAbsent 10 line.now 0 (length line.now) }
-    ensures { OnOk result (FiltersRest filter.now counts line.now
+    ensures ok { OnOk result (FiltersRest filter.now counts line.now
         (stand (W.contents (writer_of output.old)) (waits_in output.old) tally.old.selected)
         (stand (W.contents (writer_of output.new)) (waits_in output.new) tally.new.selected)) }
+    ensures err { IfErr result (λ fault. StopsAtLine filter.now (output_failed output.new) fault) }
 {
     if line.is_empty() {
         return Ok(());
@@ -203,9 +215,10 @@ fn filter_line<W: Write>(
     output: &mut Output<'_, W>,
     tally: &mut Tally,
 ) -> Result<(), LogFault>
-    ensures { OnOk result (FiltersLine filter.now counts line.now content.now
+    ensures ok { OnOk result (FiltersLine filter.now counts line.now content.now
         (stand (W.contents (writer_of output.old)) (waits_in output.old) tally.old.selected)
         (stand (W.contents (writer_of output.new)) (waits_in output.new) tally.new.selected)) }
+    ensures err { IfErr result (λ fault. StopsAtLine filter.now (output_failed output.new) fault) }
 {
     let verdict = filter.judge(content);
     if filter.refuses(verdict) {
@@ -225,10 +238,12 @@ fn select_line<W: Write>(
     output: &mut Output<'_, W>,
     tally: &mut Tally,
 ) -> Result<(), LogFault>
-    ensures { OnOk result (Goes
+    ensures ok { OnOk result (Goes
         (stand (W.contents (writer_of output.old)) (waits_in output.old) tally.old.selected)
         (stand (W.contents (writer_of output.new)) (waits_in output.new) tally.new.selected)
         (if counts then [] else line.now ++ 10 ∷ []) 1) }
+    ensures err { OnErr result (IsTrue (output_failed output.new)) }
+    ensures fault { IsOkUnless result LogFault.Write }
 {
     tally.selected = tally.selected.saturating_add(1);
     if counts {
@@ -241,7 +256,9 @@ fn select_line<W: Write>(
 }
 
 // Why a line of this verdict is refused.
-fn refusal_of(verdict: Verdict) -> LogFault {
+fn refusal_of(verdict: Verdict) -> LogFault
+    ensures { result ≡ fault_of verdict }
+{
     match verdict {
         Verdict::TooLong => LogFault::Length,
         _ => LogFault::Address,
@@ -250,7 +267,8 @@ fn refusal_of(verdict: Verdict) -> LogFault {
 
 // Writes a line and a line feed.
 fn print_line<W: Write>(line: &[u8], output: &mut Output<'_, W>) -> Result<(), RunFault>
-    ensures { OnOk result (Puts (W.contents (writer_of output.old)) (waits_in output.old) (W.contents (writer_of output.new)) (waits_in output.new) (line.now ++ 10 ∷ [])) }
+    ensures ok { OnOk result (Puts (W.contents (writer_of output.old)) (waits_in output.old) (W.contents (writer_of output.new)) (waits_in output.new) (line.now ++ 10 ∷ [])) }
+    ensures err { OnErr result (IsTrue (output_failed output.new)) }
 {
     output.put(line)?;
     output.put(b"\n")

@@ -28,5 +28,5 @@ lines-preserved g c =
       absent = λ place low high. absurd (omega (arith, low, high));
       advances = advances_on c.args.filter.now c.args.counts _ _ _ piece (drop start piece) (drop (end + 1) piece) c.lines.invariant.advances
           (line_advances c.args.filter.now c.args.counts _ _ (take (end - start) (drop start piece)) c.without_carriage_return.result.now (drop start piece) (drop (end + 1) piece)
-          (rest_from 10 piece start end next) (first_behind 10 piece start end next).before c.without_carriage_return.ensures c.in_ok-filter_line.ensures);
+          (rest_from 10 piece start end next) (first_behind 10 piece start end next).before c.without_carriage_return.ensures c.in_ok-filter_line.ensures.ok);
     }

@@ -1,4 +1,4 @@
-use Rattle.std.proofs.Common.{◌≤◌, ◌<◌, List, ℕ, length, take}
+use Rattle.std.proofs.Common.{◌≡◌, ◌+◌, ◌-◌, ◌^◌, ◌≤◌, ◌<◌, List, ℕ, length, take}
 use Rattle.std.specs.Io.KnownBytes.{Consumes}
 use Rattle.byte_search.specs.Bytes.{IsAbsent}
 use Rattle.line_engine.specs.Watched.{device_of}
@@ -12,6 +12,7 @@ invariant-pieces g l = record {
   room : 1048578 < length l.buffer;
   absent : IsAbsent 10 (take l.held l.buffer) 0 l.held;
   sofar : (read : List ℕ) × Consumes (g.R.Read.remaining (device_of l.initial.reader)) (g.R.Read.remaining (device_of l.reader)) read
+      × (length read + l.room ≡ 2 ^ 64 - 1)
       × Advances l.filter l.counts (stand (g.W.Write.contents (writer_of l.initial.output)) (waits_in l.initial.output) l.initial.tally.selected)
       (stand (g.W.Write.contents (writer_of l.output)) (waits_in l.output) l.tally.selected) read (take l.held l.buffer);
 }
