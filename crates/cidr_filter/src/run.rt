@@ -142,7 +142,11 @@ fn filter_logs<L: OpenLists, W: Write, E: Write>(
 }
 
 // Writes how many lines were selected, if they are counted, and what waits.
-fn write_end<W: Write>(counts: bool, selected: u64, output: &mut Output<'_, W>) -> Result<(), RunFault> {
+fn write_end<W: Write>(
+    counts: bool,
+    selected: u64,
+    output: &mut Output<'_, W>,
+) -> Result<(), RunFault> {
     if counts {
         output.put(number_text(selected).as_str().as_bytes())?;
         output.put(b"\n")?;

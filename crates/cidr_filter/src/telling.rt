@@ -7,7 +7,11 @@ use program_io::messages::{tell, tell_number};
 use std::io::Write;
 
 /// Tells the refused lines: the first hundred, and how many more there were.
-pub(crate) fn tell_refusals<E: Write>(words: &[String], refusals: &Refusals, errors: &mut Output<'_, E>) {
+pub(crate) fn tell_refusals<E: Write>(
+    words: &[String],
+    refusals: &Refusals,
+    errors: &mut Output<'_, E>,
+) {
     for refusal in refusals.kept() {
         tell_refusal(words, *refusal, errors);
     }

@@ -26,11 +26,7 @@ pub const FAILED: u8 = 2;
 /// assert_eq!(rt; program_io::ending::end(Ok(()), 1, &mut errors), 1);
 /// assert_eq!(rt; program_io::ending::end(Err(line_engine::fault::RunFault::Write), 1, &mut errors), 2);
 /// ```
-pub fn end<E: Write>(
-    written: Result<(), RunFault>,
-    status: u8,
-    errors: &mut Output<'_, E>,
-) -> u8
+pub fn end<E: Write>(written: Result<(), RunFault>, status: u8, errors: &mut Output<'_, E>) -> u8
     ensures status { result ≡ status_of written status }
     ensures told { Tells E.contents errors.old errors.new (end_text written) }
 {

@@ -31,7 +31,10 @@ fn statuses(rt: HostRuntime) -> Result<(), Fail> {
     assert_eq!(rt; print_text("d", &mut output, &mut errors), FAILED);
     assert_eq!(rt; end(Ok(()), 3, &mut errors), 3);
     assert_eq!(rt; end(Err(RunFault::Write), 3, &mut errors), FAILED);
-    assert_eq!(rt; refuse_arguments(ArgumentsFault::NotText, "usage\n", &mut errors), FAILED);
+    assert_eq!(rt;
+        refuse_arguments(ArgumentsFault::NotText, "usage\n", &mut errors),
+        FAILED
+    );
     Ok(())
 }
 
