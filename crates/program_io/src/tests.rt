@@ -24,9 +24,10 @@ fn what_is_told(rt: HostRuntime) -> Result<(), Fail> {
 // An error writer that takes nothing changes no status.
 #[test]
 fn statuses(rt: HostRuntime) -> Result<(), Fail> {
-    let (mut slice, mut error_slice, mut room) = ([0; 4], [0; 0], [0; 3]);
+    let (mut slice, mut room) = ([0; 4], [0; 3]);
+    let (mut error_slice, mut no_room) = ([0; 2], [0; 0]);
     let mut output = Output::new(room.as_mut_slice(), &mut slice);
-    let mut errors = Output::new([].as_mut_slice(), &mut error_slice);
+    let mut errors = Output::new(no_room.as_mut_slice(), &mut error_slice);
     assert_eq!(rt; print_text("abc", &mut output, &mut errors), 0);
     assert_eq!(rt; print_text("d", &mut output, &mut errors), FAILED);
     assert_eq!(rt; end(Ok(()), 3, &mut errors), 3);
