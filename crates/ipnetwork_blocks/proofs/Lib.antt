@@ -21,6 +21,7 @@ pub mod HostLists
 pub mod LeastLists
 pub mod MaximalBlocks
 pub mod PrecedingAddress
+pub mod PrecedingBlock
 pub mod RangeCounts
 pub mod RangeExamples
 pub mod RangeLists

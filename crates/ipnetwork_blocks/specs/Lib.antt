@@ -7,6 +7,7 @@ pub mod FollowingBlock
 pub mod Hosts
 pub mod LeastList
 pub mod LeastListLaws
+pub mod PrecedingBlock
 pub mod Private
 pub mod Ranges
 pub mod SubnetLaws

@@ -1,7 +1,7 @@
 //! The blocks within a network, around it and beside it, with values computed by Python's `ipaddress`.
 
 use crate::tests::shown;
-use crate::{block, following, sibling, subnets, supernet};
+use crate::{AddressSpace, block, following, preceding, sibling, subnets, supernet};
 use ipnetwork_family::{CidrNetwork, Ipv4Network, Ipv6Network};
 use std::alloc::{AllocError, Global};
 use std::fmt::{Display, Write};
@@ -18,8 +18,8 @@ fn push_found<N: CidrNetwork + Display>(
     }
 }
 
-/// The network's block, the block around it, its sibling and the block that follows.
-fn around<N: CidrNetwork + Display>(
+/// The network's block, the block around it, its sibling, the block that follows and the one that precedes.
+fn around<N: AddressSpace + Display>(
     alloc: Global,
     network: N,
     prefix: u8,
@@ -29,6 +29,7 @@ fn around<N: CidrNetwork + Display>(
     push_found(&mut text, supernet(network, prefix))?;
     push_found(&mut text, sibling(network))?;
     push_found(&mut text, following(network))?;
+    push_found(&mut text, preceding(network))?;
     Ok(text)
 }
 
@@ -38,38 +39,38 @@ fn ipv4_around(rt: HostRuntime) -> Result<(), Fail> {
         (
             "192.0.2.129/25",
             24,
-            "192.0.2.128/25 192.0.2.0/24 192.0.2.0/25 192.0.3.0/25",
+            "192.0.2.128/25 192.0.2.0/24 192.0.2.0/25 192.0.3.0/25 192.0.2.0/25",
         ),
         (
             "10.1.2.3/32",
             0,
-            "10.1.2.3/32 0.0.0.0/0 10.1.2.2/32 10.1.2.4/32",
+            "10.1.2.3/32 0.0.0.0/0 10.1.2.2/32 10.1.2.4/32 10.1.2.2/32",
         ),
         (
             "10.255.255.255/8",
             7,
-            "10.0.0.0/8 10.0.0.0/7 11.0.0.0/8 11.0.0.0/8",
+            "10.0.0.0/8 10.0.0.0/7 11.0.0.0/8 11.0.0.0/8 9.0.0.0/8",
         ),
-        ("0.0.0.0/0", 0, "0.0.0.0/0 0.0.0.0/0 none none"),
+        ("0.0.0.0/0", 0, "0.0.0.0/0 0.0.0.0/0 none none none"),
         (
             "255.255.255.255/32",
             31,
-            "255.255.255.255/32 255.255.255.254/31 255.255.255.254/32 none",
+            "255.255.255.255/32 255.255.255.254/31 255.255.255.254/32 none 255.255.255.254/32",
         ),
         (
             "127.255.255.255/1",
             1,
-            "0.0.0.0/1 0.0.0.0/1 128.0.0.0/1 128.0.0.0/1",
+            "0.0.0.0/1 0.0.0.0/1 128.0.0.0/1 128.0.0.0/1 none",
         ),
         (
             "223.255.255.9/30",
             3,
-            "223.255.255.8/30 192.0.0.0/3 223.255.255.12/30 223.255.255.12/30",
+            "223.255.255.8/30 192.0.0.0/3 223.255.255.12/30 223.255.255.12/30 223.255.255.4/30",
         ),
         (
             "255.255.255.254/31",
             30,
-            "255.255.255.254/31 255.255.255.252/30 255.255.255.252/31 none",
+            "255.255.255.254/31 255.255.255.252/30 255.255.255.252/31 none 255.255.255.252/31",
         ),
     ] {
         let told = around(rt.alloc(), network.parse::<Ipv4Network>()?, prefix)?;
@@ -84,30 +85,30 @@ fn ipv6_around(rt: HostRuntime) -> Result<(), Fail> {
         (
             "2001:db8::1/64",
             32,
-            "2001:db8::/64 2001:db8::/32 2001:db8:0:1::/64 2001:db8:0:1::/64",
+            "2001:db8::/64 2001:db8::/32 2001:db8:0:1::/64 2001:db8:0:1::/64 2001:db7:ffff:ffff::/64",
         ),
         (
             "2001:db8::1/128",
             0,
-            "2001:db8::1/128 ::/0 2001:db8::/128 2001:db8::2/128",
+            "2001:db8::1/128 ::/0 2001:db8::/128 2001:db8::2/128 2001:db8::/128",
         ),
-        ("::/0", 0, "::/0 ::/0 none none"),
+        ("::/0", 0, "::/0 ::/0 none none none"),
         (
             "ffff:ffff:ffff:ffff:ffff:ffff:ffff:ffff/128",
             127,
-            "ffff:ffff:ffff:ffff:ffff:ffff:ffff:ffff/128 ffff:ffff:ffff:ffff:ffff:ffff:ffff:fffe/127 ffff:ffff:ffff:ffff:ffff:ffff:ffff:fffe/128 none",
+            "ffff:ffff:ffff:ffff:ffff:ffff:ffff:ffff/128 ffff:ffff:ffff:ffff:ffff:ffff:ffff:fffe/127 ffff:ffff:ffff:ffff:ffff:ffff:ffff:fffe/128 none ffff:ffff:ffff:ffff:ffff:ffff:ffff:fffe/128",
         ),
         (
             "7fff:ffff:ffff:ffff:ffff:ffff:ffff:ffff/128",
             1,
-            "7fff:ffff:ffff:ffff:ffff:ffff:ffff:ffff/128 ::/1 7fff:ffff:ffff:ffff:ffff:ffff:ffff:fffe/128 8000::/128",
+            "7fff:ffff:ffff:ffff:ffff:ffff:ffff:ffff/128 ::/1 7fff:ffff:ffff:ffff:ffff:ffff:ffff:fffe/128 8000::/128 7fff:ffff:ffff:ffff:ffff:ffff:ffff:fffe/128",
         ),
         (
             "2001:db8:0:ffff::/64",
             63,
-            "2001:db8:0:ffff::/64 2001:db8:0:fffe::/63 2001:db8:0:fffe::/64 2001:db8:1::/64",
+            "2001:db8:0:ffff::/64 2001:db8:0:fffe::/63 2001:db8:0:fffe::/64 2001:db8:1::/64 2001:db8:0:fffe::/64",
         ),
-        ("8000::/1", 0, "8000::/1 ::/0 ::/1 none"),
+        ("8000::/1", 0, "8000::/1 ::/0 ::/1 none ::/1"),
     ] {
         let told = around(rt.alloc(), network.parse::<Ipv6Network>()?, prefix)?;
         assert_eq!(rt; told.as_str(), wanted);

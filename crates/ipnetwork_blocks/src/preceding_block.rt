@@ -1,0 +1,24 @@
+//! The block before a block.
+ghost use Rattle.std.specs.Prelude.{◌≡◌, ◌<◌, MatchOption};
+ghost use Rattle.ipnetwork_family.specs.Network.{HostBitsAreZero, low};
+ghost use Rattle.ipnetwork_blocks.specs.PrecedingBlock.{preceding_block};
+
+use crate::address_space::AddressSpace;
+
+/// The block of the same prefix length that ends right before the least member of the network; `None` where that
+/// member is the first address of the family. Does not allocate.
+///
+/// ```
+/// let network: Ipv4Network = "192.0.3.0/25".parse()?;
+/// assert_eq!(rt; preceding(network), Some("192.0.2.128/25".parse()?));
+/// ```
+pub fn preceding<N: AddressSpace>(network: N) -> Option<N>
+    ensures { MatchOption result (low N.WIDTH (N.pair network) ≡ 0)
+        (λ n. (0 < low N.WIDTH (N.pair network))
+        × (N.pair n ≡ preceding_block N.WIDTH (N.pair network)) × HostBitsAreZero N.WIDTH (N.pair n)) }
+{
+    match N::previous_address(network.network()) {
+        Some(previous) => Some(N::block_at(previous, network.prefix())),
+        None => None,
+    }
+}
