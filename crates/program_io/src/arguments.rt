@@ -5,6 +5,11 @@ use std::io::ErrorKind;
 use std::rt::Env;
 
 /// Why there are no arguments to read.
+///
+/// ```
+/// let fault = program_io::arguments::ArgumentsFault::NotText;
+/// assert!(rt; fault != program_io::arguments::ArgumentsFault::OutOfMemory);
+/// ```
 #[derive(Clone, Copy, Debug, PartialEq, Eq)]
 pub enum ArgumentsFault {
     /// One is no UTF-8.

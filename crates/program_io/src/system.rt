@@ -5,21 +5,43 @@ use std::io::{Read, Stdin};
 use std::{fs, io};
 
 /// The files of the system, and its standard input under the name `-`.
+///
+/// ```
+/// use program_io::lists::OpenLists;
+///
+/// let system = program_io::system::System::new(&rt);
+/// assert!(rt; system.open("-").is_ok());
+/// ```
 #[derive(Drop)]
 pub struct System<'a> {
     rt: &'a HostRuntime,
 }
 
 impl<'a> System<'a> {
+    /// The files that the program can open.
+    ///
+    /// ```
+    /// use program_io::lists::OpenLists;
+    ///
+    /// let system = program_io::system::System::new(&rt);
+    /// assert!(rt; system.open("no such file").is_err());
+    /// ```
     pub fn new(rt: &'a HostRuntime) -> System<'a> {
         System { rt }
     }
 }
 
 /// A file, or standard input.
+///
+/// ```
+/// let device = program_io::system::Device::Input(rt.stdin());
+/// assert!(rt; matches!(device, program_io::system::Device::Input(_)));
+/// ```
 #[derive(Drop)]
 pub enum Device {
+    /// A file.
     File(File),
+    /// Standard input.
     Input(Stdin),
 }
 
