@@ -6,8 +6,8 @@ use Rattle.cidr_filter.specs.declared.filter.Filter.{Filter}
 use Rattle.cidr_filter.specs.declared.log.LogFault.{LogFault}
 use Rattle.cidr_filter.specs.declared.log.LogFault.TheVariants.{Read, Write, Address, Length, Endless}
 
--- the cause is there: a read failed, a write failed, lines without an address or lines that are too long end the run, or
--- more bytes were read than 64 bits count
+-- what holds if a log is not filtered to its end, by the fault: a read failed; a write failed; the filter lets lines
+-- without an address, or lines that are too long, end the run; more bytes were read than 64 bits count
 abbrev pub Stops : Filter → Option (List ℕ) → Option (List ℕ) → Bool → Bool → LogFault → Type 0
 Stops filter remained remains read_failed write_failed Read = IsTrue read_failed
 Stops filter remained remains read_failed write_failed Write = IsTrue write_failed

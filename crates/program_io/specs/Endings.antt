@@ -15,5 +15,5 @@ end_text written = if is_err written then codes "write error\n" else []
 abbrev pub arguments_text : ArgumentsFault → List ℕ → List ℕ
 -- how the program is used
 arguments_text NotText usage = usage
--- the want of memory
+-- that there is no memory for them
 arguments_text OutOfMemory usage = codes "out of memory\n"

@@ -18,7 +18,7 @@ use std::io::Write;
 /// ```
 pub const FAILED: u8 = 2;
 
-/// The exit status of a program whose output is written: this one, or 2 if it was not, and then that is told.
+/// Returns this exit status if the output was written, and else tells `write error` and returns 2.
 ///
 /// ```
 /// let mut slice = [0; 64];
