@@ -1,17 +1,19 @@
 /* IP networks in CIDR notation, IPv4 and IPv6: read from texts, printed, and asked about their sets of addresses.
  *
- * Every call but ipnetwork_abi_version answers an ipnetwork_fault: IPNETWORK_OK, which is 0, or why there is no
+ * Every call but the two that tell a version answers an ipnetwork_fault: IPNETWORK_OK, which is 0, or why there is no
  * answer. Answers go where the last pointers say. After a fault nothing has been written, but for the length that a
- * canonical call tells with IPNETWORK_SHORT_BUFFER. A struct that the caller has filled is checked: a prefix length
- * past the width is IPNETWORK_PREFIX, and never trusted.
+ * call which writes a text tells with IPNETWORK_SHORT_BUFFER. A struct that the caller has filled is checked: a prefix
+ * length past the width is IPNETWORK_PREFIX, and never trusted.
  *
  * No call allocates or keeps anything. Each may be made from any thread, and from several at once, as long as no
  * other thread writes what it reads or touches what it writes.
  *
  * What the caller has to see to, since no call can check it:
- *   - no pointer is NULL, not even with a length of 0;
+ *   - no pointer is NULL, except beside a length of 0: that is an empty text, or a buffer of no bytes;
  *   - behind a pointer lies what its type says, or as many bytes as the length beside it says, at most PTRDIFF_MAX;
- *   - what a call writes does not overlap anything else that the same call is given.
+ *   - what a call writes does not overlap anything else that the same call is given. No object is both input and
+ *     output: the functions are compiled as if no other pointer reached what they write, which is what restrict says.
+ *     Use a second object, and copy it.
  *
  * A text is bytes with a length. It need not end with a zero byte, and a zero byte in it is a byte like any other.
  * An address is its octets in network order, as struct in_addr and struct in6_addr hold them: pass
@@ -29,8 +31,10 @@ extern "C" {
 #endif
 
 /* The version of the names, structs and numbers below: it changes with any of them. ipnetwork_abi_version() answers
- * that of the library. */
+ * that of the library. A call that is added raises the minor version, which ipnetwork_abi_minor_version() answers: a
+ * program needs a library of the version that it was compiled with, and of the same minor version or a later one. */
 #define IPNETWORK_ABI_VERSION 2
+#define IPNETWORK_ABI_MINOR_VERSION 0
 
 /* Enough for every text of the family and the zero byte behind it. */
 #define IPNETWORK_V4_TEXT 19
@@ -38,6 +42,9 @@ extern "C" {
 
 /* The same for an address of either family. */
 #define IPNETWORK_ADDRESS_TEXT 40
+
+/* The same for what a fault says. */
+#define IPNETWORK_FAULT_TEXT 40
 
 typedef uint32_t ipnetwork_fault;
 
@@ -53,10 +60,19 @@ enum {
     IPNETWORK_NO_FAMILY = 7     /* a family that is neither 4 nor 6, or an address of neither 4 nor 16 octets */
 };
 
+/* IPNETWORK_CHECKED: the fault has to be looked at, and no pointer is NULL. IPNETWORK_CHECKED_AT: of these arguments
+ * none is NULL, and the others may be beside a length of 0. IPNETWORK_ALONE: no other pointer reaches it. */
 #if defined(__GNUC__)
 #define IPNETWORK_CHECKED __attribute__((warn_unused_result, nonnull))
+#define IPNETWORK_CHECKED_AT(...) __attribute__((warn_unused_result, nonnull(__VA_ARGS__)))
 #else
 #define IPNETWORK_CHECKED
+#define IPNETWORK_CHECKED_AT(...)
+#endif
+#if defined(__cplusplus)
+#define IPNETWORK_ALONE
+#else
+#define IPNETWORK_ALONE restrict
 #endif
 
 /* An IPv4 network: an address, host bits included, and a prefix length of 0 to 32. */
@@ -86,113 +102,135 @@ typedef struct ipnetwork_address {
 } ipnetwork_address;
 
 uint32_t ipnetwork_abi_version(void);
+uint32_t ipnetwork_abi_minor_version(void);
+
+/* What a fault says in a few words, "unknown fault" for a number that is none, and a zero byte behind it, in the front
+ * of a buffer of buffer_length bytes, of which IPNETWORK_FAULT_TEXT are enough. *text_length and
+ * IPNETWORK_SHORT_BUFFER are as in the canonical calls. */
+IPNETWORK_CHECKED_AT(4) ipnetwork_fault ipnetwork_fault_text(ipnetwork_fault fault, char *IPNETWORK_ALONE buffer,
+                                                              size_t buffer_length,
+                                                              size_t *IPNETWORK_ALONE text_length);
 
 /* The network that a text names: an address, and after a '/' a prefix length (an optional '+' and decimal digits,
  * leading zeros too) or, for IPv4 alone, one of the 33 masks as an address. Without a '/' the prefix length is the
  * full width, 32 or 128. An IPv4 address is four decimals without leading zeros (RFC 3986, section 3.2.2), an IPv6
  * address has the forms of RFC 4291, section 2.2. Host bits are kept. For any other text the fault is
  * IPNETWORK_FORMAT, IPNETWORK_ADDRESS or IPNETWORK_PREFIX, the first that holds. */
-IPNETWORK_CHECKED ipnetwork_fault ipnetwork_v4_read(const char *text, size_t text_length, ipnetwork_v4 *network);
-IPNETWORK_CHECKED ipnetwork_fault ipnetwork_v6_read(const char *text, size_t text_length, ipnetwork_v6 *network);
+IPNETWORK_CHECKED_AT(3) ipnetwork_fault ipnetwork_v4_read(const char *text, size_t text_length,
+                                                           ipnetwork_v4 *IPNETWORK_ALONE network);
+IPNETWORK_CHECKED_AT(3) ipnetwork_fault ipnetwork_v6_read(const char *text, size_t text_length,
+                                                           ipnetwork_v6 *IPNETWORK_ALONE network);
 
 /* The network of either family that a text names; the struct of the other family is all zeros. For any other text the
  * fault is IPNETWORK_ADDRESS, whatever is wrong with it. */
-IPNETWORK_CHECKED ipnetwork_fault ipnetwork_read(const char *text, size_t text_length, ipnetwork_ip *network);
+IPNETWORK_CHECKED_AT(3) ipnetwork_fault ipnetwork_read(const char *text, size_t text_length,
+                                                        ipnetwork_ip *IPNETWORK_ALONE network);
 
 /* The network of this address, host bits kept, and this prefix length. IPNETWORK_PREFIX past the width. */
-IPNETWORK_CHECKED ipnetwork_fault ipnetwork_v4_new(const uint8_t address[4], uint8_t prefix, ipnetwork_v4 *network);
-IPNETWORK_CHECKED ipnetwork_fault ipnetwork_v6_new(const uint8_t address[16], uint8_t prefix, ipnetwork_v6 *network);
+IPNETWORK_CHECKED ipnetwork_fault ipnetwork_v4_new(const uint8_t address[4], uint8_t prefix,
+                                                   ipnetwork_v4 *IPNETWORK_ALONE network);
+IPNETWORK_CHECKED ipnetwork_fault ipnetwork_v6_new(const uint8_t address[16], uint8_t prefix,
+                                                   ipnetwork_v6 *IPNETWORK_ALONE network);
 
 /* The canonical text, host bits kept (an IPv6 address as RFC 5952, section 4, says, and of the addresses of section 5
  * the IPv4-mapped ones dotted), and a zero byte behind it, in the front of a buffer of buffer_length bytes.
  * *text_length is the length of the text, without the zero byte. IPNETWORK_SHORT_BUFFER where buffer_length is not
  * greater than that: then *text_length is told all the same, and the buffer is not written. A buffer of no bytes, at
- * any pointer but NULL, asks for the length alone. */
-IPNETWORK_CHECKED ipnetwork_fault ipnetwork_v4_canonical(const ipnetwork_v4 *network, char *buffer,
-                                                         size_t buffer_length, size_t *text_length);
-IPNETWORK_CHECKED ipnetwork_fault ipnetwork_v6_canonical(const ipnetwork_v6 *network, char *buffer,
-                                                         size_t buffer_length, size_t *text_length);
+ * any pointer or NULL, asks for the length alone. */
+IPNETWORK_CHECKED_AT(1, 4) ipnetwork_fault ipnetwork_v4_canonical(const ipnetwork_v4 *network,
+                                                                   char *IPNETWORK_ALONE buffer, size_t buffer_length,
+                                                                   size_t *IPNETWORK_ALONE text_length);
+IPNETWORK_CHECKED_AT(1, 4) ipnetwork_fault ipnetwork_v6_canonical(const ipnetwork_v6 *network,
+                                                                   char *IPNETWORK_ALONE buffer, size_t buffer_length,
+                                                                   size_t *IPNETWORK_ALONE text_length);
 
 /* Whether an address is a member of the network: whether its first bits, as many as the prefix length says, are those
  * of the network's address. *answer is 1 or 0. */
 IPNETWORK_CHECKED ipnetwork_fault ipnetwork_v4_contains(const ipnetwork_v4 *network, const uint8_t address[4],
-                                                        uint8_t *answer);
+                                                        uint8_t *IPNETWORK_ALONE answer);
 IPNETWORK_CHECKED ipnetwork_fault ipnetwork_v6_contains(const ipnetwork_v6 *network, const uint8_t address[16],
-                                                        uint8_t *answer);
+                                                        uint8_t *IPNETWORK_ALONE answer);
 
 /* The same of either family, for an address of 4 or 16 octets. No address of the other family is a member: not even
  * an IPv4-mapped IPv6 address of an IPv4 network. IPNETWORK_NO_FAMILY comes before IPNETWORK_PREFIX. */
-IPNETWORK_CHECKED ipnetwork_fault ipnetwork_contains(const ipnetwork_ip *network, const uint8_t *address,
-                                                     size_t address_length, uint8_t *answer);
+IPNETWORK_CHECKED_AT(1, 4) ipnetwork_fault ipnetwork_contains(const ipnetwork_ip *network, const uint8_t *address,
+                                                               size_t address_length, uint8_t *IPNETWORK_ALONE answer);
 
 /* The same questions of either family. Each is IPNETWORK_NO_FAMILY if a struct has a family that is neither 4 nor 6,
  * else IPNETWORK_PREFIX if its prefix length is past the width of that family; of two structs the first is judged
  * first. Networks of different families share no address, and none is a subnet of the other; each IPv4 network comes
  * before each IPv6 network. For ipnetwork_canonical IPNETWORK_V6_TEXT bytes are enough. */
-IPNETWORK_CHECKED ipnetwork_fault ipnetwork_canonical(const ipnetwork_ip *network, char *buffer, size_t buffer_length,
-                                                      size_t *text_length);
-IPNETWORK_CHECKED ipnetwork_fault ipnetwork_network(const ipnetwork_ip *network, ipnetwork_address *address);
-IPNETWORK_CHECKED ipnetwork_fault ipnetwork_broadcast(const ipnetwork_ip *network, ipnetwork_address *address);
-IPNETWORK_CHECKED ipnetwork_fault ipnetwork_mask(const ipnetwork_ip *network, ipnetwork_address *mask);
+IPNETWORK_CHECKED_AT(1, 4) ipnetwork_fault ipnetwork_canonical(const ipnetwork_ip *network,
+                                                                char *IPNETWORK_ALONE buffer, size_t buffer_length,
+                                                                size_t *IPNETWORK_ALONE text_length);
+IPNETWORK_CHECKED ipnetwork_fault ipnetwork_network(const ipnetwork_ip *network,
+                                                    ipnetwork_address *IPNETWORK_ALONE address);
+IPNETWORK_CHECKED ipnetwork_fault ipnetwork_broadcast(const ipnetwork_ip *network,
+                                                      ipnetwork_address *IPNETWORK_ALONE address);
+IPNETWORK_CHECKED ipnetwork_fault ipnetwork_mask(const ipnetwork_ip *network, ipnetwork_address *IPNETWORK_ALONE mask);
 IPNETWORK_CHECKED ipnetwork_fault ipnetwork_is_subnet_of(const ipnetwork_ip *inner, const ipnetwork_ip *outer,
-                                                         uint8_t *answer);
+                                                         uint8_t *IPNETWORK_ALONE answer);
 IPNETWORK_CHECKED ipnetwork_fault ipnetwork_overlaps(const ipnetwork_ip *one, const ipnetwork_ip *other,
-                                                     uint8_t *answer);
+                                                     uint8_t *IPNETWORK_ALONE answer);
 IPNETWORK_CHECKED ipnetwork_fault ipnetwork_compare(const ipnetwork_ip *one, const ipnetwork_ip *other,
-                                                    int32_t *order);
+                                                    int32_t *IPNETWORK_ALONE order);
 
 /* The address of either family that a text names, in the forms that ipnetwork_read takes before a '/'; for any other
  * text, with a '/' or a zone, IPNETWORK_ADDRESS. */
-IPNETWORK_CHECKED ipnetwork_fault ipnetwork_address_read(const char *text, size_t text_length,
-                                                         ipnetwork_address *address);
+IPNETWORK_CHECKED_AT(3) ipnetwork_fault ipnetwork_address_read(const char *text, size_t text_length,
+                                                                ipnetwork_address *IPNETWORK_ALONE address);
 
 /* The canonical text of an address, and a zero byte behind it: as ipnetwork_canonical prints the address of a network,
  * into a buffer of which IPNETWORK_ADDRESS_TEXT bytes are enough. IPNETWORK_NO_FAMILY if the struct's length is neither
  * 4 nor 16. */
-IPNETWORK_CHECKED ipnetwork_fault ipnetwork_address_canonical(const ipnetwork_address *address, char *buffer,
-                                                              size_t buffer_length, size_t *text_length);
+IPNETWORK_CHECKED_AT(1, 4) ipnetwork_fault ipnetwork_address_canonical(const ipnetwork_address *address,
+    char *IPNETWORK_ALONE buffer, size_t buffer_length, size_t *IPNETWORK_ALONE text_length);
 
 /* The least member (the address with its host bits cleared), the greatest (with them set), and the mask. */
-IPNETWORK_CHECKED ipnetwork_fault ipnetwork_v4_network(const ipnetwork_v4 *network, uint8_t address[4]);
-IPNETWORK_CHECKED ipnetwork_fault ipnetwork_v6_network(const ipnetwork_v6 *network, uint8_t address[16]);
-IPNETWORK_CHECKED ipnetwork_fault ipnetwork_v4_broadcast(const ipnetwork_v4 *network, uint8_t address[4]);
-IPNETWORK_CHECKED ipnetwork_fault ipnetwork_v6_broadcast(const ipnetwork_v6 *network, uint8_t address[16]);
-IPNETWORK_CHECKED ipnetwork_fault ipnetwork_v4_mask(const ipnetwork_v4 *network, uint8_t mask[4]);
-IPNETWORK_CHECKED ipnetwork_fault ipnetwork_v6_mask(const ipnetwork_v6 *network, uint8_t mask[16]);
+IPNETWORK_CHECKED ipnetwork_fault ipnetwork_v4_network(const ipnetwork_v4 *network, uint8_t address[IPNETWORK_ALONE 4]);
+IPNETWORK_CHECKED ipnetwork_fault ipnetwork_v6_network(const ipnetwork_v6 *network,
+                                                       uint8_t address[IPNETWORK_ALONE 16]);
+IPNETWORK_CHECKED ipnetwork_fault ipnetwork_v4_broadcast(const ipnetwork_v4 *network,
+                                                         uint8_t address[IPNETWORK_ALONE 4]);
+IPNETWORK_CHECKED ipnetwork_fault ipnetwork_v6_broadcast(const ipnetwork_v6 *network,
+                                                         uint8_t address[IPNETWORK_ALONE 16]);
+IPNETWORK_CHECKED ipnetwork_fault ipnetwork_v4_mask(const ipnetwork_v4 *network, uint8_t mask[IPNETWORK_ALONE 4]);
+IPNETWORK_CHECKED ipnetwork_fault ipnetwork_v6_mask(const ipnetwork_v6 *network, uint8_t mask[IPNETWORK_ALONE 16]);
 
 /* The prefix length of a mask. IPNETWORK_NO_MASK where the address is none of the 33, or 129, masks. */
-IPNETWORK_CHECKED ipnetwork_fault ipnetwork_v4_prefix_of_mask(const uint8_t mask[4], uint8_t *prefix);
-IPNETWORK_CHECKED ipnetwork_fault ipnetwork_v6_prefix_of_mask(const uint8_t mask[16], uint8_t *prefix);
+IPNETWORK_CHECKED ipnetwork_fault ipnetwork_v4_prefix_of_mask(const uint8_t mask[4], uint8_t *IPNETWORK_ALONE prefix);
+IPNETWORK_CHECKED ipnetwork_fault ipnetwork_v6_prefix_of_mask(const uint8_t mask[16], uint8_t *IPNETWORK_ALONE prefix);
 
-/* The number of members. At prefix length 0, where that does not fit, it is one less: 2^32 - 1 or 2^128 - 1. That of
- * IPv6 is 16 octets, the highest first. */
-IPNETWORK_CHECKED ipnetwork_fault ipnetwork_v4_size(const ipnetwork_v4 *network, uint32_t *size);
-IPNETWORK_CHECKED ipnetwork_fault ipnetwork_v6_size(const ipnetwork_v6 *network, uint8_t size[16]);
+/* The number of members, two to the power of the host bits: at prefix length 0 it is 2^32 or 2^128. That of IPv6 is 17
+ * octets, the highest first, of which the first is 1 at prefix length 0 and 0 at any other. */
+IPNETWORK_CHECKED ipnetwork_fault ipnetwork_v4_size(const ipnetwork_v4 *network, uint64_t *IPNETWORK_ALONE size);
+IPNETWORK_CHECKED ipnetwork_fault ipnetwork_v6_size(const ipnetwork_v6 *network, uint8_t size[IPNETWORK_ALONE 17]);
 
-/* The member number n in order, counted from 0; for IPv6 n is 16 octets, the highest first. IPNETWORK_NO_MEMBER where
- * n is not below the size. */
-IPNETWORK_CHECKED ipnetwork_fault ipnetwork_v4_nth(const ipnetwork_v4 *network, uint32_t n, uint8_t address[4]);
+/* The member number n in order, counted from 0; for IPv6 n is 16 octets, the highest first. Every member has a number.
+ * IPNETWORK_NO_MEMBER where n is not below the size. */
+IPNETWORK_CHECKED ipnetwork_fault ipnetwork_v4_nth(const ipnetwork_v4 *network, uint32_t n,
+                                                   uint8_t address[IPNETWORK_ALONE 4]);
 IPNETWORK_CHECKED ipnetwork_fault ipnetwork_v6_nth(const ipnetwork_v6 *network, const uint8_t n[16],
-                                                   uint8_t address[16]);
+                                                   uint8_t address[IPNETWORK_ALONE 16]);
 
 /* Whether each member of inner is a member of outer: *answer is 1 or 0. Host bits change nothing. */
 IPNETWORK_CHECKED ipnetwork_fault ipnetwork_v4_is_subnet_of(const ipnetwork_v4 *inner, const ipnetwork_v4 *outer,
-                                                            uint8_t *answer);
+                                                            uint8_t *IPNETWORK_ALONE answer);
 IPNETWORK_CHECKED ipnetwork_fault ipnetwork_v6_is_subnet_of(const ipnetwork_v6 *inner, const ipnetwork_v6 *outer,
-                                                            uint8_t *answer);
+                                                            uint8_t *IPNETWORK_ALONE answer);
 
 /* Whether some address is a member of both: *answer is 1 or 0. */
 IPNETWORK_CHECKED ipnetwork_fault ipnetwork_v4_overlaps(const ipnetwork_v4 *one, const ipnetwork_v4 *other,
-                                                        uint8_t *answer);
+                                                        uint8_t *IPNETWORK_ALONE answer);
 IPNETWORK_CHECKED ipnetwork_fault ipnetwork_v6_overlaps(const ipnetwork_v6 *one, const ipnetwork_v6 *other,
-                                                        uint8_t *answer);
+                                                        uint8_t *IPNETWORK_ALONE answer);
 
 /* Which comes first, by address, host bits included, and then by prefix length: *order is -1 for one, 1 for other, 0
  * where they are equal. */
 IPNETWORK_CHECKED ipnetwork_fault ipnetwork_v4_compare(const ipnetwork_v4 *one, const ipnetwork_v4 *other,
-                                                       int32_t *order);
+                                                       int32_t *IPNETWORK_ALONE order);
 IPNETWORK_CHECKED ipnetwork_fault ipnetwork_v6_compare(const ipnetwork_v6 *one, const ipnetwork_v6 *other,
-                                                       int32_t *order);
+                                                       int32_t *IPNETWORK_ALONE order);
 
 #ifdef __cplusplus
 }

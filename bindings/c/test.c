@@ -27,11 +27,8 @@ static void *block(const void *bytes, size_t length) {
     return copy;
 }
 
-/* A block of no bytes may be NULL, which no call takes. */
-static char *somewhere(char *bytes, size_t length) {
-    static char nothing;
-    return length == 0 ? &nothing : bytes;
-}
+/* Bytes, and NULL if there are none, as malloc may give. */
+static char *somewhere(char *bytes, size_t length) { return length == 0 ? NULL : bytes; }
 
 static ipnetwork_fault read_v4(const char *text, ipnetwork_v4 *network) {
     size_t length = strlen(text);
@@ -122,6 +119,41 @@ static void texts(void) {
     CHECK("300 zeros", ipnetwork_v4_read(zeros, sizeof zeros, &network) == YES && network.prefix == 8);
 }
 
+/* NULL beside a length of 0. */
+static void nothing(void) {
+    ipnetwork_v4 four = v4("10.1.9.32/16");
+    ipnetwork_v6 six = v6("2001:db8::1/64");
+    ipnetwork_ip ip = {6, four, six};
+    ipnetwork_address address = {{10, 1, 9, 32}, 4};
+    uint8_t answer = 77;
+    size_t length = 0;
+    CHECK("NULL", ipnetwork_v4_read(NULL, 0, &four) == ADDR && four.prefix == 16);
+    CHECK("NULL", ipnetwork_v6_read(NULL, 0, &six) == ADDR && six.prefix == 64);
+    CHECK("NULL", ipnetwork_read(NULL, 0, &ip) == ADDR && ip.family == 6);
+    CHECK("NULL", ipnetwork_address_read(NULL, 0, &address) == ADDR && address.length == 4);
+    CHECK("NULL", ipnetwork_contains(&ip, NULL, 0, &answer) == IPNETWORK_NO_FAMILY && answer == 77);
+    CHECK("NULL", ipnetwork_v4_canonical(&four, NULL, 0, &length) == IPNETWORK_SHORT_BUFFER && length == 12);
+    CHECK("NULL", ipnetwork_v6_canonical(&six, NULL, 0, &length) == IPNETWORK_SHORT_BUFFER && length == 14);
+    CHECK("NULL", ipnetwork_canonical(&ip, NULL, 0, &length) == IPNETWORK_SHORT_BUFFER && length == 14);
+    CHECK("NULL", ipnetwork_address_canonical(&address, NULL, 0, &length) == IPNETWORK_SHORT_BUFFER && length == 9);
+    CHECK("NULL", ipnetwork_fault_text(IPNETWORK_OK, NULL, 0, &length) == IPNETWORK_SHORT_BUFFER && length == 8);
+}
+
+/* What each fault says, and what a number that is none does. */
+static void fault_texts(void) {
+    static const char *const wanted[] = {"no fault", "more than one slash", "no address",
+                                         "no prefix length of the family", "no room for the text", "no mask",
+                                         "no member of this number", "no family", "unknown fault"};
+    for (uint32_t fault = 0; fault < 300; fault++) {
+        const char *text = wanted[fault < 8 ? fault : 8];
+        char buffer[IPNETWORK_FAULT_TEXT];
+        size_t length;
+        CHECK(text, ipnetwork_fault_text(fault, buffer, sizeof buffer, &length) == YES);
+        CHECK(text, strcmp(buffer, text) == 0 && length == strlen(text));
+        CHECK(text, ipnetwork_fault_text(fault, buffer, length, &length) == IPNETWORK_SHORT_BUFFER);
+    }
+}
+
 /* Buffers of each length from none to one more than the longest text needs. */
 static void buffers(void) {
     static const char *const fours[] = {"0.0.0.0/0", "10.1.9.32/16", "255.255.255.255/32"};
@@ -159,7 +191,7 @@ static void buffers(void) {
 static void questions_v4(void) {
     ipnetwork_v4 net = v4("10.10.1.97/23"), made;
     uint8_t low[4], high[4], mask[4], prefix = 77, answer = 77;
-    uint32_t size = 77;
+    uint64_t size = 77;
     CHECK("low", ipnetwork_v4_network(&net, low) == YES && memcmp(low, "\x0a\x0a\0\0", 4) == 0);
     CHECK("high", ipnetwork_v4_broadcast(&net, high) == YES && memcmp(high, "\x0a\x0a\x01\xff", 4) == 0);
     CHECK("mask", ipnetwork_v4_mask(&net, mask) == YES && memcmp(mask, "\xff\xff\xfe\0", 4) == 0);
@@ -168,7 +200,11 @@ static void questions_v4(void) {
     CHECK("no mask", ipnetwork_v4_prefix_of_mask(low, &prefix) == IPNETWORK_NO_MASK && prefix == 77);
     CHECK("size", ipnetwork_v4_size(&net, &size) == YES && size == 512);
     net.prefix = 0;
-    CHECK("size of all", ipnetwork_v4_size(&net, &size) == YES && size == 4294967295u);
+    CHECK("size of all", ipnetwork_v4_size(&net, &size) == YES && size == 4294967296u);
+    CHECK("last of all", ipnetwork_v4_nth(&net, 4294967295u, mask) == YES && memcmp(mask, "\xff\xff\xff\xff", 4) == 0);
+    net.prefix = 1;
+    CHECK("size of half", ipnetwork_v4_size(&net, &size) == YES && size == 2147483648u);
+    CHECK("nth past half", ipnetwork_v4_nth(&net, 2147483648u, mask) == IPNETWORK_NO_MEMBER);
     net = v4("127.0.0.0/24");
     CHECK("nth 255", ipnetwork_v4_nth(&net, 255, low) == YES && memcmp(low, "\x7f\0\0\xff", 4) == 0);
     CHECK("nth 256", ipnetwork_v4_nth(&net, 256, high) == IPNETWORK_NO_MEMBER && memcmp(high, "\x0a\x0a\x01\xff", 4) == 0);
@@ -199,12 +235,12 @@ static void questions_v4(void) {
 
 static void questions_v6(void) {
     ipnetwork_v6 net = v6("2001:db8::/96"), made, wanted;
-    uint8_t low[16], high[16], mask[16], size[16], n[16] = {0}, prefix = 77, answer = 77;
+    uint8_t low[16], high[16], mask[16], size[17], n[16] = {0}, prefix = 77, answer = 77;
     wanted = v6("2001:db8::");
     CHECK("low", ipnetwork_v6_network(&net, low) == YES && memcmp(low, wanted.address, 16) == 0);
     wanted = v6("2001:db8::ffff:ffff");
     CHECK("high", ipnetwork_v6_broadcast(&net, high) == YES && memcmp(high, wanted.address, 16) == 0);
-    CHECK("size", ipnetwork_v6_size(&net, size) == YES && memcmp(size, "\0\0\0\0\0\0\0\0\0\0\0\x01\0\0\0\0", 16) == 0);
+    CHECK("size", ipnetwork_v6_size(&net, size) == YES && memcmp(size, "\0\0\0\0\0\0\0\0\0\0\0\0\x01\0\0\0", 17) == 0);
     net = v6("::/40");
     wanted = v6("ffff:ffff:ff00::");
     CHECK("mask", ipnetwork_v6_mask(&net, mask) == YES && memcmp(mask, wanted.address, 16) == 0);
@@ -213,13 +249,20 @@ static void questions_v6(void) {
     CHECK("no mask", ipnetwork_v6_prefix_of_mask(low, &prefix) == IPNETWORK_NO_MASK && prefix == 77);
     net = v6("::/0");
     wanted = v6("ffff:ffff:ffff:ffff:ffff:ffff:ffff:ffff");
-    CHECK("size of all", ipnetwork_v6_size(&net, size) == YES && memcmp(size, wanted.address, 16) == 0);
+    CHECK("size of all", ipnetwork_v6_size(&net, size) == YES && size[0] == 1 && is_blank(size + 1, 16));
+    CHECK("last of all", ipnetwork_v6_nth(&net, wanted.address, low) == YES && memcmp(low, wanted.address, 16) == 0);
+    for (unsigned kept = 1; kept <= 128; kept++) {
+        net.prefix = (uint8_t)kept;
+        uint8_t power[17] = {0};
+        power[16 - (128 - kept) / 8] = (uint8_t)(1u << (128 - kept) % 8);
+        CHECK("size", ipnetwork_v6_size(&net, size) == YES && memcmp(size, power, 17) == 0);
+    }
     net = v6("ff01::/32");
     n[15] = 255;
     wanted = v6("ff01::ff");
     CHECK("nth 255", ipnetwork_v6_nth(&net, n, low) == YES && memcmp(low, wanted.address, 16) == 0);
     CHECK("its size", ipnetwork_v6_size(&net, size) == YES);
-    CHECK("nth past", ipnetwork_v6_nth(&net, size, low) == IPNETWORK_NO_MEMBER && memcmp(low, wanted.address, 16) == 0);
+    CHECK("nth past", ipnetwork_v6_nth(&net, size + 1, low) == IPNETWORK_NO_MEMBER && memcmp(low, wanted.address, 16) == 0);
     CHECK("new", ipnetwork_v6_new(low, 24, &made) == YES && memcmp(made.address, low, 16) == 0 && made.prefix == 24);
     CHECK("new 129", ipnetwork_v6_new(low, 129, &made) == PREF && made.prefix == 24);
     net = v6("2001:db8::/32");
@@ -249,10 +292,10 @@ static void past_the_width(void) {
     const char *row = "past the width";
     ipnetwork_v4 four = v4("10.1.9.32/16"), good_four = four;
     ipnetwork_v6 six = v6("2001:db8::1/64"), good_six = six;
-    uint8_t octets[16] = {0}, answer = 77;
+    uint8_t octets[17] = {0}, answer = 77;
     char buffer[IPNETWORK_V6_TEXT];
     size_t told = 77;
-    uint32_t size = 77;
+    uint64_t size = 77;
     int32_t order = 77;
     memset(buffer, 0xa5, sizeof buffer);
     for (unsigned prefix = 33; prefix <= 255; prefix++) {
@@ -452,7 +495,10 @@ int main(void) {
     CHECK("layout", sizeof(ipnetwork_v4) == 5 && sizeof(ipnetwork_v6) == 17 && sizeof(ipnetwork_ip) == 23);
     CHECK("layout", sizeof(ipnetwork_address) == 17);
     CHECK("version", ipnetwork_abi_version() == IPNETWORK_ABI_VERSION);
+    CHECK("version", ipnetwork_abi_minor_version() == IPNETWORK_ABI_MINOR_VERSION);
     texts();
+    nothing();
+    fault_texts();
     buffers();
     questions_v4();
     questions_v6();

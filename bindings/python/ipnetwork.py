@@ -230,12 +230,14 @@ class _Network(Generic[Address]):
         return self._address(self._octets("mask"))
 
     def _size(self) -> int:
-        return int.from_bytes(self._octets("size"), "big")
+        octets = ctypes.create_string_buffer(17)
+        self._question("size", ctypes.addressof(octets))
+        return int.from_bytes(octets.raw, "big")
 
     @property
     def num_addresses(self) -> int:
-        """The number of members. (At prefix length 0 the library tells one less, as its number has no more bits.)"""
-        return self._size() + (self.prefixlen == 0)
+        """The number of members."""
+        return self._size()
 
     def _index(self, index: int) -> Any:
         return index.to_bytes(16, "big")
@@ -246,8 +248,6 @@ class _Network(Generic[Address]):
         place = index + count if index < 0 else index
         if not 0 <= place < count:
             raise IndexError("no member of this number")
-        if place >= self._size():
-            return self.broadcast_address
         octets = ctypes.create_string_buffer(self.max_prefixlen // 8)
         self._question("nth", self._index(place), ctypes.addressof(octets))
         return self._address(octets.raw)
@@ -330,7 +330,7 @@ class IPv4Network(_Network[IPv4Address]):
     _prefix = "v4"
 
     def _size(self) -> int:
-        size = ctypes.c_uint32()
+        size = ctypes.c_uint64()
         self._question("size", ctypes.addressof(size))
         return size.value
 

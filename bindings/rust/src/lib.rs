@@ -74,6 +74,7 @@ mod c {
 
     unsafe extern "C" {
         pub safe fn ipnetwork_abi_version() -> u32;
+        pub safe fn ipnetwork_abi_minor_version() -> u32;
         pub unsafe fn ipnetwork_read(text: *const u8, length: usize, network: &mut Either) -> u32;
         pub unsafe fn ipnetwork_contains(
             n: &Either,
@@ -107,8 +108,8 @@ mod c {
         pub safe fn ipnetwork_v6_mask(n: &V6, mask: &mut [u8; 16]) -> u32;
         pub safe fn ipnetwork_v4_prefix_of_mask(mask: &[u8; 4], prefix: &mut u8) -> u32;
         pub safe fn ipnetwork_v6_prefix_of_mask(mask: &[u8; 16], prefix: &mut u8) -> u32;
-        pub safe fn ipnetwork_v4_size(n: &V4, size: &mut u32) -> u32;
-        pub safe fn ipnetwork_v6_size(n: &V6, size: &mut [u8; 16]) -> u32;
+        pub safe fn ipnetwork_v4_size(n: &V4, size: &mut u64) -> u32;
+        pub safe fn ipnetwork_v6_size(n: &V6, size: &mut [u8; 17]) -> u32;
         pub safe fn ipnetwork_v4_nth(n: &V4, index: u32, address: &mut [u8; 4]) -> u32;
         pub safe fn ipnetwork_v6_nth(n: &V6, index: &[u8; 16], address: &mut [u8; 16]) -> u32;
         pub safe fn ipnetwork_v4_is_subnet_of(inner: &V4, outer: &V4, answer: &mut u8) -> u32;
@@ -126,6 +127,11 @@ pub const ABI_VERSION: u32 = 2;
 /// The version of the library that is linked.
 pub fn abi_version() -> u32 {
     c::ipnetwork_abi_version()
+}
+
+/// Its minor version, which is that of the calls that it has in addition.
+pub fn abi_minor_version() -> u32 {
+    c::ipnetwork_abi_minor_version()
 }
 
 const OK: u32 = 0;
@@ -297,14 +303,14 @@ family!(
 );
 
 impl Ipv4Network {
-    /// The number of members; at prefix length 0 one less, 2^32 - 1.
-    pub fn size(&self) -> u32 {
+    /// The number of members.
+    pub fn size(&self) -> u64 {
         let mut size = 0;
         answered(c::ipnetwork_v4_size(&self.0, &mut size));
         size
     }
 
-    /// The member number `index` in order, counted from 0; `None` where that is not below the size.
+    /// The member number `index` in order, counted from 0; `None` if there are no more than that.
     pub fn nth(&self, index: u32) -> Option<Ipv4Addr> {
         let mut octets = [0; 4];
         match c::ipnetwork_v4_nth(&self.0, index, &mut octets) {
@@ -318,14 +324,15 @@ impl Ipv4Network {
 }
 
 impl Ipv6Network {
-    /// The number of members; at prefix length 0 one less, 2^128 - 1.
-    pub fn size(&self) -> u128 {
-        let mut octets = [0; 16];
+    /// The number of members; `None` at prefix length 0, where it is 2^128.
+    pub fn size(&self) -> Option<u128> {
+        let mut octets = [0; 17];
         answered(c::ipnetwork_v6_size(&self.0, &mut octets));
-        u128::from_be_bytes(octets)
+        let [carry, number @ ..] = octets;
+        (carry == 0).then(|| u128::from_be_bytes(number))
     }
 
-    /// The member number `index` in order, counted from 0; `None` where that is not below the size.
+    /// The member number `index` in order, counted from 0; `None` if there are no more than that.
     pub fn nth(&self, index: u128) -> Option<Ipv6Addr> {
         let mut octets = [0; 16];
         match c::ipnetwork_v6_nth(&self.0, &index.to_be_bytes(), &mut octets) {

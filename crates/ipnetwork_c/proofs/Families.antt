@@ -13,8 +13,8 @@ use Rattle.ipnetwork_c.specs.declared.address.AddressInC.{AddressInC}
 use Rattle.ipnetwork_c.specs.Either.{ip_in, held_address, StandsForIp, WritesIpText, WritesAddressText}
 use Rattle.ipnetwork_c.specs.Either.WritesIpText.{Put as network_put, TooShort as network_too_long}
 use Rattle.ipnetwork_c.specs.Either.WritesAddressText.{Put as address_put, TooShort as address_too_long}
-use Rattle.ipnetwork_c.specs.Private.Texts.{CopyResult}
-use Rattle.ipnetwork_c.specs.Private.Texts.CopyResult.{Room, NoRoom}
+use Rattle.ipnetwork_c.specs.Answers.{CopyResult}
+use Rattle.ipnetwork_c.specs.Answers.CopyResult.{Room, NoRoom}
 
 pub v4_told : (held : IpInC) → held.family ≡ 4 → ip_in held ≡ Some (V4 (v4_in held.v4))
 v4_told held is = rw is refl

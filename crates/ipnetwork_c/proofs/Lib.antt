@@ -2,4 +2,5 @@ pub mod Buffers
 pub mod Examples
 pub mod Octets
 pub mod Families
+pub mod MemberCounts
 pub mod Truths

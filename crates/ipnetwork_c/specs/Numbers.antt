@@ -1,5 +1,5 @@
 -- The numbers by which C is told of faults and orders. The header has a name for each.
-use Rattle.std.specs.Prelude.{ℕ, ℤ, pos, negsuc}
+use Rattle.std.specs.Prelude.{ℕ, ℤ, pos, negsuc, List, codes, ◌==◌, if◌then◌else◌}
 use Rattle.std.specs.declared.cmp.Ordering.{Ordering}
 use Rattle.std.specs.declared.cmp.Ordering.TheVariants.{Less, Equal, Greater}
 use Rattle.ipnetwork_family.specs.declared.error.CidrFault.{CidrFault}
@@ -42,6 +42,11 @@ abbrev pub fault_number : CidrFault → ℕ
 fault_number Format = format
 fault_number Addr = address
 fault_number Prefix = prefix
+
+-- what a fault says, as bytes
+abbrev pub fault_text : ℕ → List ℕ
+fault_text fault =
+    if fault == ok then codes "no fault" else (if fault == format then codes "more than one slash" else (if fault == address then codes "no address" else (if fault == prefix then codes "no prefix length of the family" else (if fault == short_buffer then codes "no room for the text" else (if fault == no_mask then codes "no mask" else (if fault == no_member then codes "no member of this number" else (if fault == no_family then codes "no family" else codes "unknown fault")))))))
 
 -- which of two comes first: less than 0 for the first, 0 if they are equal
 abbrev pub order_number : Ordering → ℤ

@@ -1,7 +1,9 @@
 //! The numbers of faults, as the header names them.
-ghost use Rattle.std.specs.Prelude.{◌≡◌};
-ghost use Rattle.ipnetwork_c.specs.Numbers.{fault_number};
+ghost use Rattle.std.specs.Prelude.{◌≡◌, length as len};
+ghost use Rattle.ipnetwork_c.specs.Numbers.{fault_number, fault_text};
+ghost use Rattle.ipnetwork_c.specs.Answers.{CopyResult};
 
+use crate::text;
 use ipnetwork::CidrFault;
 
 pub(crate) const OK: u32 = 0;
@@ -29,4 +31,32 @@ pub(crate) fn number_of(fault: CidrFault) -> u32
         CidrFault::Addr => ADDRESS,
         CidrFault::Prefix => PREFIX,
     }
+}
+
+/// What a fault says.
+fn words_of(fault: u32) -> &'static str
+    ensures { result.now ≡ fault_text fault }
+{
+    match fault {
+        OK => "no fault",
+        FORMAT => "more than one slash",
+        ADDRESS => "no address",
+        PREFIX => "no prefix length of the family",
+        SHORT_BUFFER => "no room for the text",
+        NO_MASK => "no mask",
+        NO_MEMBER => "no member of this number",
+        NO_FAMILY => "no family",
+        _ => "unknown fault",
+    }
+}
+
+/// What a fault says, `unknown fault` if no call returns it, and a zero byte behind it, in a buffer of this many bytes,
+/// of which 40 are enough. The length of the text, without the zero byte, is told too. `SHORT_BUFFER` if the buffer has
+/// no room for both: then the length is told and nothing else is written.
+#[unsafe(no_mangle)]
+pub extern "C" fn ipnetwork_fault_text(fault: u32, buffer: &mut [u8], length: &mut usize) -> u32
+    ensures told { length.new ≡ len (fault_text fault) }
+    ensures put { CopyResult (fault_text fault) buffer.old buffer.new result }
+{
+    text::tell(words_of(fault).as_bytes(), buffer, length)
 }

@@ -2,17 +2,17 @@
 ghost use Rattle.std.specs.Prelude.{◌≡◌, ◌≤◌, ℕ};
 ghost use Rattle.ipnetwork_addr.specs.Digits.{octets_of};
 ghost use Rattle.ipnetwork_addr.specs.Ipv4Text.{canonical_v4};
-ghost use Rattle.ipnetwork_family.specs.Network.{Network, Member, low, high, mask_of, size_of, Subnet, Overlap, network_cmp};
+ghost use Rattle.ipnetwork_family.specs.Network.{Network, Member, low, high, mask_of, Subnet, Overlap, network_cmp};
 ghost use Rattle.ipnetwork_family.specs.NetworkText.{network_text};
 ghost use Rattle.ipnetwork_family.specs.Ipv4NetworkText.{ReadsV4Network};
 ghost use Rattle.ipnetwork_c.specs.Numbers.{order_number};
 ghost use Rattle.ipnetwork_c.specs.Held.{v4_in, HoldsV4, PrefixFits, number_of_octets};
-ghost use Rattle.ipnetwork_c.specs.Answers.{ReadsInto, QueryResult, IsFlag, WritesText, WritesPrefix, WritesMember};
+ghost use Rattle.ipnetwork_c.specs.Answers.{ReadsInto, QueryResult, IsFlag, HasSize, WritesText, WritesPrefix, WritesMember};
 
 use crate::fault::{self, NO_MASK, NO_MEMBER, OK, PREFIX};
 use crate::order::number_of_order;
 use crate::structs::Ipv4InC;
-use crate::text;
+use crate::{sizes, text};
 use ipnetwork::{Ipv4Addr, Ipv4Network, ipv4_mask_to_prefix};
 
 /// The network that a text of this many bytes names, as `Ipv4Network::read_bytes` reads it: `OK`, and the network is
@@ -137,29 +137,28 @@ pub extern "C" fn ipnetwork_v4_prefix_of_mask(mask: &[u8; 4], prefix: &mut u8) -
     }
 }
 
-/// The number of members, and at prefix length 0, where that needs 33 bits, one less: 4,294,967,295. `PREFIX` where
-/// the prefix length is greater than 32.
+/// The number of members, 2^32 at prefix length 0. `PREFIX` where the prefix length is greater than 32.
 #[unsafe(no_mangle)]
-pub extern "C" fn ipnetwork_v4_size(network: &Ipv4InC, size: &mut u32) -> u32
-    ensures { QueryResult (PrefixFits 32 (v4_in network.now)) (λ told. told ≡ size_of 32 (v4_in network.now)) size.old size.new result }
+pub extern "C" fn ipnetwork_v4_size(network: &Ipv4InC, size: &mut u64) -> u32
+    ensures { QueryResult (PrefixFits 32 (v4_in network.now)) (HasSize 32 (v4_in network.now)) size.old size.new result }
 {
     match network.network() {
         Some(network) => {
-            *size = network.size();
+            *size = sizes::v4_size(&network);
             OK
         }
         None => PREFIX,
     }
 }
 
-/// The member number `n` in order, counted from 0; `NO_MEMBER` where `n` is not below the size. `PREFIX` where the
+/// The member number `n` in order, counted from 0; `NO_MEMBER` where there are no more than `n`. `PREFIX` where the
 /// prefix length is greater than 32.
 #[unsafe(no_mangle)]
 pub extern "C" fn ipnetwork_v4_nth(network: &Ipv4InC, n: u32, address: &mut [u8; 4]) -> u32
     ensures { WritesMember 32 octets_of (v4_in network.now) n address.old address.new result }
 {
     match network.network() {
-        Some(network) => match network.nth(n) {
+        Some(network) => match sizes::nth(&network, u128::from(n)) {
             Some(member) => {
                 *address = member.octets();
                 OK

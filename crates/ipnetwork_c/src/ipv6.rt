@@ -2,17 +2,17 @@
 ghost use Rattle.std.specs.Prelude.{◌≡◌, ◌≤◌, ℕ};
 ghost use Rattle.ipnetwork_addr.specs.Digits.{octets_of_v6};
 ghost use Rattle.ipnetwork_addr.specs.Computed.Ipv6Canonical.{canonical_v6};
-ghost use Rattle.ipnetwork_family.specs.Network.{Network, Member, low, high, mask_of, size_of, Subnet, Overlap, network_cmp};
+ghost use Rattle.ipnetwork_family.specs.Network.{Network, Member, low, high, mask_of, Subnet, Overlap, network_cmp};
 ghost use Rattle.ipnetwork_family.specs.NetworkText.{network_text};
 ghost use Rattle.ipnetwork_family.specs.Ipv6NetworkText.{ReadsV6Network};
 ghost use Rattle.ipnetwork_c.specs.Numbers.{order_number};
 ghost use Rattle.ipnetwork_c.specs.Held.{v6_in, HoldsV6, PrefixFits, number_of_octets};
-ghost use Rattle.ipnetwork_c.specs.Answers.{ReadsInto, QueryResult, IsFlag, WritesText, WritesPrefix, WritesMember};
+ghost use Rattle.ipnetwork_c.specs.Answers.{ReadsInto, QueryResult, IsFlag, HasSize, WritesText, WritesPrefix, WritesMember};
 
 use crate::fault::{self, NO_MASK, NO_MEMBER, OK, PREFIX};
 use crate::order::number_of_order;
 use crate::structs::{Ipv6InC, address_of};
-use crate::text;
+use crate::{sizes, text};
 use ipnetwork::{Ipv6Addr, Ipv6Network, ipv6_mask_to_prefix};
 
 /// The network that a text of this many bytes names, as `Ipv6Network::read_bytes` reads it: `OK`, and the network is
@@ -137,29 +137,29 @@ pub extern "C" fn ipnetwork_v6_prefix_of_mask(mask: &[u8; 16], prefix: &mut u8) 
     }
 }
 
-/// The number of members, and at prefix length 0, where that needs 129 bits, one less: 2^128 - 1; as 16
-/// octets, the highest first. `PREFIX` where the prefix length is greater than 128.
+/// The number of members, 2^128 at prefix length 0, as 17 octets, the highest first. `PREFIX` where the prefix length
+/// is greater than 128.
 #[unsafe(no_mangle)]
-pub extern "C" fn ipnetwork_v6_size(network: &Ipv6InC, size: &mut [u8; 16]) -> u32
-    ensures { QueryResult (PrefixFits 128 (v6_in network.now)) (λ octets. octets ≡ octets_of_v6 (size_of 128 (v6_in network.now))) size.old size.new result }
+pub extern "C" fn ipnetwork_v6_size(network: &Ipv6InC, size: &mut [u8; 17]) -> u32
+    ensures { QueryResult (PrefixFits 128 (v6_in network.now)) (λ octets. HasSize 128 (v6_in network.now) (number_of_octets octets)) size.old size.new result }
 {
     match network.network() {
         Some(network) => {
-            *size = Ipv6Addr::from(network.size()).octets();
+            *size = sizes::v6_size(&network);
             OK
         }
         None => PREFIX,
     }
 }
 
-/// The member number `n`, 16 octets, the highest first, in order, counted from 0; `NO_MEMBER` where `n` is not below
-/// the size. `PREFIX` where the prefix length is greater than 128.
+/// The member number `n`, 16 octets, the highest first, in order, counted from 0; `NO_MEMBER` where there are no more
+/// than `n`. `PREFIX` where the prefix length is greater than 128.
 #[unsafe(no_mangle)]
 pub extern "C" fn ipnetwork_v6_nth(network: &Ipv6InC, n: &[u8; 16], address: &mut [u8; 16]) -> u32
     ensures { WritesMember 128 octets_of_v6 (v6_in network.now) (number_of_octets n.now) address.old address.new result }
 {
     match network.network() {
-        Some(network) => match network.nth(u128::from(address_of(n))) {
+        Some(network) => match sizes::nth(&network, u128::from(address_of(n))) {
             Some(member) => {
                 *address = member.octets();
                 OK

@@ -14,6 +14,7 @@ mod ipv6;
 pub mod laws;
 mod order;
 mod questions;
+mod sizes;
 mod structs;
 #[cfg(test)]
 mod tests;
@@ -28,4 +29,12 @@ pub extern "C" fn ipnetwork_abi_version() -> u32
     ensures { result ≡ 2 }
 {
     2
+}
+
+/// The minor version: each call that is added raises it, and a change of `ipnetwork_abi_version` begins it again at 0.
+#[unsafe(no_mangle)]
+pub extern "C" fn ipnetwork_abi_minor_version() -> u32
+    ensures { result ≡ 0 }
+{
+    0
 }

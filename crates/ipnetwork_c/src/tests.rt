@@ -3,11 +3,12 @@
 
 use crate::address::*;
 use crate::either::{ipnetwork_contains, ipnetwork_read};
-use crate::ipnetwork_abi_version;
+use crate::fault::ipnetwork_fault_text;
 use crate::ipv4::*;
 use crate::ipv6::*;
 use crate::questions::*;
 use crate::structs::{IpInC, Ipv4InC, Ipv6InC};
+use crate::{ipnetwork_abi_minor_version, ipnetwork_abi_version};
 use std::test::Fail;
 
 const NO_V4: Ipv4InC = Ipv4InC {
@@ -97,7 +98,7 @@ fn v6_calls(rt: HostRuntime) -> Result<(), Fail> {
     assert_eq!(rt; [low, high, mask], [least, greatest, ones]);
     let mut two = [0; 16];
     two[15] = 2;
-    let (mut size, mut member) = ([0; 16], [0; 16]);
+    let (mut size, mut member) = ([0; 17], [0; 16]);
     let (mut prefix, mut order) = (0, 0);
     let counted = [
         ipnetwork_v6_size(&net, &mut size),
@@ -106,8 +107,8 @@ fn v6_calls(rt: HostRuntime) -> Result<(), Fail> {
         ipnetwork_v6_compare(&net, &block, &mut order),
     ];
     assert_eq!(rt; counted, [0, 0, 0, 0]);
-    let mut number = [0; 16];
-    number[14] = 1;
+    let mut number = [0; 17];
+    number[15] = 1;
     let mut third = least;
     third[15] = 2;
     assert_eq!(rt; (size, member, prefix, order), (number, third, 120, 1));
@@ -144,7 +145,10 @@ fn calls_of_either(rt: HostRuntime) -> Result<(), Fail> {
     ];
     assert_eq!(rt; (net.family, net.v6.prefix, has), (6, 32, 1));
     assert_eq!(rt; told, [7, 0, 0, 7]);
-    assert_eq!(rt; ipnetwork_abi_version(), 2);
+    assert_eq!(rt;
+        (ipnetwork_abi_version(), ipnetwork_abi_minor_version()),
+        (2, 0)
+    );
     Ok(())
 }
 
@@ -234,4 +238,34 @@ fn refused_calls_write_nothing(rt: HostRuntime) {
     let mut has = 9;
     assert_eq!(rt; ipnetwork_contains(&unknown, &FIRST, &mut has), 7);
     assert_eq!(rt; has, 9);
+}
+
+// The address space has 2^32 and 2^128 addresses.
+#[test]
+fn every_member_of_all(rt: HostRuntime) {
+    let (mut four, mut six) = (0, [9; 17]);
+    let (mut last_four, mut last_six) = ([0; 4], [0; 16]);
+    let told = [
+        ipnetwork_v4_size(&NO_V4, &mut four),
+        ipnetwork_v6_size(&NO_V6, &mut six),
+        ipnetwork_v4_nth(&NO_V4, u32::MAX, &mut last_four),
+        ipnetwork_v6_nth(&NO_V6, &[255; 16], &mut last_six),
+    ];
+    let mut all = [0; 17];
+    all[0] = 1;
+    assert_eq!(rt; told, [0, 0, 0, 0]);
+    assert_eq!(rt; (four, six), (4_294_967_296, all));
+    assert_eq!(rt; (last_four, last_six), ([255; 4], [255; 16]));
+}
+
+#[test]
+fn what_faults_say(rt: HostRuntime) {
+    let mut text = [0xff; 9];
+    let mut length = 0;
+    let told = [
+        ipnetwork_fault_text(5, &mut text, &mut length),
+        ipnetwork_fault_text(8, &mut text, &mut length),
+    ];
+    assert_eq!(rt; (told, length), ([0, 4], 13));
+    assert_eq!(rt; text, *b"no mask\0\xff");
 }

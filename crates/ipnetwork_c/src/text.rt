@@ -1,6 +1,7 @@
 //! Texts put into a buffer of C.
 ghost use Rattle.std.specs.Prelude.{◌≡◌, length as len};
-ghost use Rattle.ipnetwork_c.specs.Private.Texts.{CopiesText, CopyResult};
+ghost use Rattle.ipnetwork_c.specs.Answers.{CopyResult};
+ghost use Rattle.ipnetwork_c.specs.Private.Texts.{CopiesText};
 ghost use Rattle.ipnetwork_addr.specs.Either.{canonical_ip};
 ghost use Rattle.ipnetwork.specs.IpNetworkText.{ip_network_text};
 

@@ -1,14 +1,8 @@
 -- A text put into a buffer.
 use Rattle.std.specs.Prelude.{Bool, true, false, ◌≡◌, ℕ, ◌<◌, ◌≤◌, List, length}
-use Rattle.ipnetwork_c.specs.Numbers.{ok, short_buffer}
 use Rattle.ipnetwork_c.specs.Answers.{StandsIn}
 
 -- whether a text is put into a buffer: exactly if there is room for it and the zero byte
 abbrev pub CopiesText : List ℕ → List ℕ → List ℕ → Bool → Type 0
 CopiesText text before after true = (length text < length before) × StandsIn text before after
 CopiesText text before after false = (length before ≤ length text) × (after ≡ before)
-
--- the same as a number
-pub data CopyResult (text before after : List ℕ) (code : ℕ) : Type 0 where
-  Room : length text < length before → code ≡ ok → StandsIn text before after → CopyResult text before after code
-  NoRoom : length before ≤ length text → code ≡ short_buffer → after ≡ before → CopyResult text before after code

@@ -1,0 +1,100 @@
+//! How many members a network has, and which of them has a number, also of the network of all addresses.
+ghost use Rattle.std.specs.Prelude.{◌≡◌, ◌+◌, ◌^◌, ◌<◌, ◌≤◌, ◌++◌, ◌∷◌, [], length, MatchOption};
+ghost use Rattle.ipnetwork_family.specs.Network.{low, high, members};
+ghost use Rattle.ipnetwork_c.specs.Answers.{HasSize, IsNth};
+ghost use Rattle.ipnetwork_c.specs.Held.{number_of_octets};
+
+use ipnetwork::{Ipv4Addr, Ipv4Network, Ipv6Addr, Ipv6Network};
+use ipnetwork_family::{Address, Network};
+
+/// An address as a number that every address fits.
+pub(crate) trait Numbered: Address {
+    /// The number that the address means.
+    fn to_number(self) -> u128
+        ensures { result ≡ Self.number self };
+
+    /// The address that a number of `WIDTH` bits means.
+    fn from_number(number: u128) -> Self
+        requires { number < 2 ^ Self.WIDTH }
+        ensures { Self.number result ≡ number };
+}
+
+impl Numbered for Ipv4Addr {
+    fn to_number(self) -> u128 {
+        u128::from(u32::from(self))
+    }
+
+    fn from_number(number: u128) -> Ipv4Addr {
+        Ipv4Addr::from(number as u32)
+    }
+}
+
+impl Numbered for Ipv6Addr {
+    fn to_number(self) -> u128 {
+        u128::from(self)
+    }
+
+    fn from_number(number: u128) -> Ipv6Addr {
+        Ipv6Addr::from(number)
+    }
+}
+
+/// The least and the greatest member as numbers.
+fn ends<A: Numbered>(network: &Network<A>) -> (u128, u128)
+    ensures least { result.0 ≡ low A.WIDTH network.now }
+    ensures greatest { result.1 ≡ high A.WIDTH network.now }
+    ensures width { result.1 < 2 ^ A.WIDTH }
+{
+    let greatest = network.broadcast();
+    greatest.is_of_width();
+    (network.network().to_number(), greatest.to_number())
+}
+
+/// The number of the last member, counted from 0: one less than there are.
+#[tactic(auto, using(crate::proofs::MemberCounts::ends_apart))]
+fn last_index<A: Numbered>(network: &Network<A>) -> u128
+    ensures count { result + 1 ≡ length (members A.WIDTH network.now) }
+    ensures width { result < 2 ^ A.WIDTH }
+{
+    let (least, greatest) = ends(network);
+    greatest - least
+}
+
+/// The member number `n`, counted from 0 in ascending order.
+#[tactic(auto, using(crate::proofs::MemberCounts::ends_apart))]
+pub(crate) fn nth<A: Numbered>(network: &Network<A>, n: u128) -> Option<A>
+    ensures { MatchOption result (length (members A.WIDTH network.now) ≤ n) (λ member. IsNth A.WIDTH network.now n (A.number member)) }
+{
+    let (least, greatest) = ends(network);
+    if n > greatest - least {
+        return None;
+    }
+    Some(A::from_number(least + n))
+}
+
+/// The number of members of an IPv4 network.
+pub(crate) fn v4_size(network: &Ipv4Network) -> u64
+    ensures { HasSize 32 network.now result }
+{
+    last_index(network) as u64 + 1
+}
+
+/// The number of members of an IPv6 network as 17 octets, the highest first.
+pub(crate) fn v6_size(network: &Ipv6Network) -> [u8; 17]
+    ensures { HasSize 128 network.now (number_of_octets result) }
+{
+    let last = last_index(network);
+    // One more than the last octet of that number.
+    let next = last % 256 + 1;
+    let front = Ipv6Addr::from(last / 256 + next / 256);
+    followed_by(front.octets(), (next % 256) as u8)
+}
+
+/// Sixteen octets and one after them.
+fn followed_by(front: [u8; 16], lowest: u8) -> [u8; 17]
+    ensures { result ≡ front ++ lowest ∷ [] }
+{
+    let mut octets = [lowest; 17];
+    octets[..16].copy_from_slice(&front);
+    octets
+}
