@@ -151,6 +151,21 @@ IPNETWORK_CHECKED ipnetwork_fault ipnetwork_v4_contains(const ipnetwork_v4 *netw
 IPNETWORK_CHECKED ipnetwork_fault ipnetwork_v6_contains(const ipnetwork_v6 *network, const uint8_t address[16],
                                                         uint8_t *IPNETWORK_ALONE answer);
 
+/* The same of many addresses in one call: answers[i] is what ipnetwork_v4_contains or ipnetwork_v6_contains answers of
+ * the address number i. There are address_count addresses, of 4 or 16 octets each, one behind the other.
+ * IPNETWORK_SHORT_BUFFER where answer_count, for how many answers there is room, is less than address_count. Answers
+ * past address_count are not written. */
+IPNETWORK_CHECKED_AT(1) ipnetwork_fault ipnetwork_v4_contains_column(const ipnetwork_v4 *network,
+                                                                     const uint8_t *addresses,
+                                                                     size_t address_count,
+                                                                     uint8_t *IPNETWORK_ALONE answers,
+                                                                     size_t answer_count);
+IPNETWORK_CHECKED_AT(1) ipnetwork_fault ipnetwork_v6_contains_column(const ipnetwork_v6 *network,
+                                                                     const uint8_t *addresses,
+                                                                     size_t address_count,
+                                                                     uint8_t *IPNETWORK_ALONE answers,
+                                                                     size_t answer_count);
+
 /* The same of either family, for an address of 4 or 16 octets. No address of the other family is a member: not even
  * an IPv4-mapped IPv6 address of an IPv4 network. IPNETWORK_NO_FAMILY comes before IPNETWORK_PREFIX. */
 IPNETWORK_CHECKED_AT(1, 4) ipnetwork_fault ipnetwork_contains(const ipnetwork_ip *network, const uint8_t *address,

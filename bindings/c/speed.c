@@ -1,5 +1,6 @@
-/* Nanoseconds a call of read and contains, of both families, beside inet_pton and its address alone. The texts are
- * random networks with random prefix lengths; the address asked for lies in the network every other time. */
+/* Nanoseconds a call of read and contains, of both families, beside inet_pton and its address alone, and nanoseconds a
+ * row of a column. The texts are random networks with random prefix lengths; the address asked for lies in the network
+ * every other time. */
 #define _POSIX_C_SOURCE 200809L
 #include "ipnetwork.h"
 
@@ -71,6 +72,14 @@ static uint64_t read_v4(size_t i) { return ipnetwork_v4_read(texts_v4[i], length
 static uint64_t read_v6(size_t i) { return ipnetwork_v6_read(texts_v6[i], lengths_v6[i], &six) + six.prefix; }
 static uint64_t has_v4(size_t i) { return ipnetwork_v4_contains(&networks_v4[i], asked_v4[i], &answer) + answer; }
 static uint64_t has_v6(size_t i) { return ipnetwork_v6_contains(&networks_v6[i], asked_v6[i], &answer) + answer; }
+/* Once for all of them, of one network. */
+static uint8_t answers[COUNT];
+static uint64_t column_v4(size_t i) {
+    return i != 0 ? 0 : ipnetwork_v4_contains_column(networks_v4, asked_v4[0], COUNT, answers, COUNT) + answers[1];
+}
+static uint64_t column_v6(size_t i) {
+    return i != 0 ? 0 : ipnetwork_v6_contains_column(networks_v6, asked_v6[0], COUNT, answers, COUNT) + answers[1];
+}
 static uint64_t pton_v4(size_t i) { return (uint64_t)inet_pton(AF_INET, addresses_v4[i], octets) + octets[0]; }
 static uint64_t pton_v6(size_t i) { return (uint64_t)inet_pton(AF_INET6, addresses_v6[i], octets) + octets[0]; }
 
@@ -99,5 +108,7 @@ int main(void) {
     measure("inet_pton, IPv6 address", pton_v6);
     measure("ipnetwork_v4_contains", has_v4);
     measure("ipnetwork_v6_contains", has_v6);
+    measure("ipnetwork_v4_contains_column", column_v4);
+    measure("ipnetwork_v6_contains_column", column_v6);
     return 0;
 }

@@ -342,6 +342,54 @@ static void past_the_width(void) {
         CHECK(row, (uint8_t)buffer[at] == 0xa5);
 }
 
+/* Columns of each length up to 20, in blocks of exactly their size: each row is answered as by itself. */
+static void columns(void) {
+    ipnetwork_v4 four = v4("10.1.9.32/30");
+    ipnetwork_v6 six = v6("2001:db8::1:2/126");
+    for (size_t rows = 0; rows <= 20; rows++) {
+        for (size_t room = 0; room <= 22; room++) {
+            uint8_t(*fours)[4] = malloc(rows * 4), (*sixes)[16] = malloc(rows * 16), *answers = malloc(room);
+            ipnetwork_fault wanted = room < rows ? IPNETWORK_SHORT_BUFFER : YES;
+            for (size_t row = 0; row < rows; row++) {
+                memcpy(fours[row], four.address, 4);
+                memcpy(sixes[row], six.address, 16);
+                fours[row][3] = (uint8_t)(28 + row);
+                sixes[row][15] = (uint8_t)row;
+            }
+            if (room != 0)
+                memset(answers, 77, room);
+            CHECK("column", ipnetwork_v4_contains_column(&four, (uint8_t *)fours, rows, answers, room) == wanted);
+            for (size_t row = 0; row < room; row++) {
+                uint8_t alone = 77;
+                if (wanted == YES && row < rows)
+                    CHECK("row", ipnetwork_v4_contains(&four, fours[row], &alone) == YES && alone == (row >= 4 && row < 8));
+                CHECK("row", answers[row] == alone);
+            }
+            if (room != 0)
+                memset(answers, 77, room);
+            CHECK("column", ipnetwork_v6_contains_column(&six, (uint8_t *)sixes, rows, answers, room) == wanted);
+            for (size_t row = 0; row < room; row++) {
+                uint8_t alone = 77;
+                if (wanted == YES && row < rows)
+                    CHECK("row", ipnetwork_v6_contains(&six, sixes[row], &alone) == YES && alone == (row < 4));
+                CHECK("row", answers[row] == alone);
+            }
+            free(fours);
+            free(sixes);
+            free(answers);
+        }
+    }
+    uint8_t answer = 77;
+    four.prefix = 33;
+    six.prefix = 129;
+    CHECK("past", ipnetwork_v4_contains_column(&four, four.address, 1, &answer, 1) == PREF && answer == 77);
+    CHECK("past", ipnetwork_v6_contains_column(&six, six.address, 1, &answer, 1) == PREF && answer == 77);
+    CHECK("past", ipnetwork_v4_contains_column(&four, four.address, 1, &answer, 0) == PREF && answer == 77);
+    CHECK("NULL", ipnetwork_v4_contains_column(&four, NULL, 0, NULL, 0) == PREF);
+    four.prefix = 32;
+    CHECK("NULL", ipnetwork_v4_contains_column(&four, NULL, 0, NULL, 0) == YES);
+}
+
 /* Families and addresses of either length. */
 static void either(void) {
     ipnetwork_ip four, six;
@@ -503,6 +551,7 @@ int main(void) {
     questions_v4();
     questions_v6();
     past_the_width();
+    columns();
     either();
     questions_of_either();
     refused_of_either();

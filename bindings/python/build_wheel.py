@@ -1,4 +1,4 @@
-"""Makes the wheel of ipnetwork.py and of the library that it loads, for `pip install ./bindings/python`.
+"""Makes the wheel of the package ipnetwork and of the library that it loads, for `pip install ./bindings/python`.
 
 It needs no other package, and so no network: only cc, and the static library, as `rt lib` in crates/ipnetwork_c makes
 it. The environment variable IPNETWORK_C_LIB names another folder that has libipnetwork_c.a.
@@ -43,8 +43,9 @@ def build_wheel(wheel_directory, config_settings=None, metadata_directory=None):
     about = f"{NAME}-{VERSION}.dist-info"
     wheel = f"Wheel-Version: 1.0\nGenerator: build_wheel\nRoot-Is-Purelib: false\nTag: {tag}\n"
     files = {
-        "ipnetwork.py": (HERE / "ipnetwork.py").read_bytes(),
-        "libipnetwork_c.so": _library(),
+        "ipnetwork/__init__.py": (HERE / "ipnetwork" / "__init__.py").read_bytes(),
+        "ipnetwork/py.typed": b"",
+        "ipnetwork/libipnetwork_c.so": _library(),
         f"{about}/METADATA": METADATA.encode(),
         f"{about}/WHEEL": wheel.encode(),
     }

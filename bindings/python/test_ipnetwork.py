@@ -80,9 +80,14 @@ class Texts(unittest.TestCase):
                 self.assertEqual(ours(text), wanted)
 
     def test_bytes(self):
-        self.assertEqual(ip_network(b"::1/64"), IPv6Network("::1/64"))
+        # Packed addresses, as in ipaddress.
+        self.assertEqual(ip_network(b"\x0a\x01\x09\x20"), IPv4Network("10.1.9.32/32"))
+        self.assertEqual(ip_network(bytes(15) + b"\x01"), IPv6Network("::1/128"))
+        for given in (b"", b"::1/64", b"10.0.0.0/8", bytes(5), bytes(17)):
+            with self.assertRaises(AddressError):
+                ip_network(given)
         with self.assertRaises(AddressError):
-            ip_network(b"\xff::")
+            IPv6Network(bytes(4))
         with self.assertRaises(TypeError):
             ip_network(1)
 
@@ -129,6 +134,29 @@ class Questions(unittest.TestCase):
         with self.assertRaises(MaskError):
             IPv6Network.prefix_of_mask(IPv6Address("0:0:ffff:ffff::"))
 
+    def test_zones_are_refused(self):
+        zoned = IPv6Address("fe80::1%eth0")
+        self.assertNotIn(zoned, IPv6Network("fe80::/10"))
+        self.assertIn(IPv6Address("fe80::1"), IPv6Network("fe80::/10"))
+        for call in (lambda: IPv6Network.of(zoned, 64), lambda: IPv6Network.prefix_of_mask(zoned)):
+            with self.assertRaises(AddressError):
+                call()
+
+    def test_subclasses(self):
+        class Named(IPv4Network):
+            pass
+
+        class Own(IPv4Address):
+            pass
+
+        net = Named("10.0.0.0/8")
+        self.assertEqual(net, IPv4Network("10.0.0.0/8"))
+        self.assertEqual(hash(net), hash(IPv4Network("10.0.0.0/8")))
+        self.assertTrue(IPv4Network("10.1.0.0/16").subnet_of(net) and net.supernet_of(IPv4Network("10.1.0.0/16")))
+        self.assertIn(Own("10.1.2.3"), net)
+        self.assertLess(net, IPv4Network("10.0.0.0/9"))
+        self.assertIs(type(pickle.loads(pickle.dumps(IPv6Network("::/0")))), IPv6Network)
+
     def test_membership(self):
         net = IPv4Network("74.125.227.0/25")
         self.assertIn(IPv4Address("74.125.227.4"), net)
@@ -136,6 +164,24 @@ class Questions(unittest.TestCase):
         self.assertNotIn(IPv6Address("::ffff:74.125.227.4"), net)
         with self.assertRaises(TypeError):
             "74.125.227.4" in net
+
+    def test_columns(self):
+        for kind, address, net in (
+            (IPv4Network, IPv4Address, "10.1.9.32/30"),
+            (IPv6Network, IPv6Address, "2001:db8::1:2/126"),
+        ):
+            network = kind(net)
+            given = [address(int(network.network_address) + offset) for offset in range(-3, 8)]
+            column = b"".join(each.packed for each in given)
+            wanted = [int(each in network) for each in given]
+            self.assertEqual(sum(wanted), 4)
+            for buffer in (column, bytearray(column), memoryview(column), memoryview(bytearray(column))):
+                self.assertEqual(list(network.contains_column(buffer)), wanted)
+            self.assertEqual(network.contains_column(b""), b"")
+            with self.assertRaises(ValueError):
+                network.contains_column(column[1:])
+            with self.assertRaises(TypeError):
+                network.contains_column("10.1.9.32")
 
     def test_sets(self):
         inner, outer = IPv6Network("2000:aaa::/56"), IPv6Network("2000:aaa::/48")
@@ -163,6 +209,9 @@ class Questions(unittest.TestCase):
         self.assertNotEqual(IPv4Network("0.0.0.0/0"), IPv6Network("::/0"))
         self.assertEqual(pickle.loads(pickle.dumps(nets[1])), nets[1])
         self.assertEqual(copy.copy(nets[1]), nets[1])
+        self.assertEqual(f"{nets[1]:>12}|{nets[1]}", "  10.0.0.0/8|10.0.0.0/8")
+        with self.assertRaises(AttributeError):
+            nets[1].hostmask_of_none
         self.assertEqual(eval(repr(nets[1])), nets[1])
         with self.assertRaises(TypeError):
             IPv4Network("0.0.0.0/0") < IPv6Network("::/0")

@@ -99,6 +99,20 @@ mod c {
             length: &mut usize,
         ) -> u32;
         pub safe fn ipnetwork_v4_contains(n: &V4, address: &[u8; 4], answer: &mut u8) -> u32;
+        pub unsafe fn ipnetwork_v4_contains_column(
+            n: &V4,
+            addresses: *const [u8; 4],
+            rows: usize,
+            answers: *mut u8,
+            room: usize,
+        ) -> u32;
+        pub unsafe fn ipnetwork_v6_contains_column(
+            n: &V6,
+            addresses: *const [u8; 16],
+            rows: usize,
+            answers: *mut u8,
+            room: usize,
+        ) -> u32;
         pub safe fn ipnetwork_v6_contains(n: &V6, address: &[u8; 16], answer: &mut u8) -> u32;
         pub safe fn ipnetwork_v4_network(n: &V4, address: &mut [u8; 4]) -> u32;
         pub safe fn ipnetwork_v6_network(n: &V6, address: &mut [u8; 16]) -> u32;
@@ -158,7 +172,7 @@ macro_rules! family {
     (
         $(#[$doc:meta])* $name:ident, $octets:literal, $address:ident, $text:literal,
         $read:ident, $new:ident, $canonical:ident, $contains:ident, $network:ident, $broadcast:ident, $mask:ident,
-        $prefix_of_mask:ident, $is_subnet_of:ident, $overlaps:ident, $compare:ident
+        $prefix_of_mask:ident, $is_subnet_of:ident, $overlaps:ident, $compare:ident, $contains_column:ident
     ) => {
         $(#[$doc])*
         #[derive(Clone, Copy, PartialEq, Eq, Hash, Debug)]
@@ -198,6 +212,16 @@ macro_rules! family {
                 let mut answer = 0;
                 answered(c::$contains(&self.0, &address.octets(), &mut answer));
                 answer == 1
+            }
+
+            /// Whether each of these addresses, as octets, lies in the network's set: 1 or 0 in the answer of the same
+            /// place. Panics if there are not as many answers as addresses.
+            pub fn contains_column(&self, addresses: &[[u8; $octets]], answers: &mut [u8]) {
+                assert_eq!(addresses.len(), answers.len(), "an answer for each address");
+                // SAFETY: slices are never null, and have as many elements.
+                answered(unsafe {
+                    c::$contains_column(&self.0, addresses.as_ptr(), addresses.len(), answers.as_mut_ptr(), answers.len())
+                });
             }
 
             /// The least member: the address with its host bits cleared.
@@ -290,7 +314,7 @@ family!(
     Ipv4Network, 4, Ipv4Addr, 19,
     ipnetwork_v4_read, ipnetwork_v4_new, ipnetwork_v4_canonical, ipnetwork_v4_contains, ipnetwork_v4_network,
     ipnetwork_v4_broadcast, ipnetwork_v4_mask, ipnetwork_v4_prefix_of_mask, ipnetwork_v4_is_subnet_of,
-    ipnetwork_v4_overlaps, ipnetwork_v4_compare
+    ipnetwork_v4_overlaps, ipnetwork_v4_compare, ipnetwork_v4_contains_column
 );
 
 family!(
@@ -299,7 +323,7 @@ family!(
     Ipv6Network, 16, Ipv6Addr, 44,
     ipnetwork_v6_read, ipnetwork_v6_new, ipnetwork_v6_canonical, ipnetwork_v6_contains, ipnetwork_v6_network,
     ipnetwork_v6_broadcast, ipnetwork_v6_mask, ipnetwork_v6_prefix_of_mask, ipnetwork_v6_is_subnet_of,
-    ipnetwork_v6_overlaps, ipnetwork_v6_compare
+    ipnetwork_v6_overlaps, ipnetwork_v6_compare, ipnetwork_v6_contains_column
 );
 
 impl Ipv4Network {

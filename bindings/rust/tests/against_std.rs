@@ -308,6 +308,10 @@ macro_rules! questions {
                 assert_eq!(one.nth(n as $number), member, "{one} {n}");
                 let has = low <= b && b <= high;
                 assert_eq!(one.contains(address(b)), has, "{one} {b:x}");
+                let mut answers = [7; 3];
+                let column = [address(b), address(low), address(b)].map(|each| each.octets());
+                one.contains_column(&column, &mut answers);
+                assert_eq!(answers, [has.into(), 1, has.into()], "{one} {b:x}");
                 assert_eq!(
                     IpNetwork::$either(one).contains(IpAddr::$either(address(b))),
                     has,

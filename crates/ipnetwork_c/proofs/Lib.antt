@@ -4,3 +4,5 @@ pub mod Octets
 pub mod Families
 pub mod MemberCounts
 pub mod Truths
+pub mod DifferingBits
+pub mod Rows

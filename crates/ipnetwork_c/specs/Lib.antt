@@ -2,4 +2,5 @@ pub mod Numbers
 pub mod Held
 pub mod Answers
 pub mod Either
+pub mod Columns
 pub mod Private

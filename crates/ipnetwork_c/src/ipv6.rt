@@ -71,9 +71,9 @@ pub extern "C" fn ipnetwork_v6_contains(
 ) -> u32
     ensures { QueryResult (PrefixFits 128 (v6_in network.now)) (IsFlag (Member 128 (v6_in network.now) (number_of_octets address.now))) answer.old answer.new result }
 {
-    match network.network() {
-        Some(network) => {
-            *answer = u8::from(network.contains(address_of(address)));
+    match network.contains(address) {
+        Some(member) => {
+            *answer = u8::from(member);
             OK
         }
         None => PREFIX,

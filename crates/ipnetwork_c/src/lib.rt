@@ -7,6 +7,7 @@
 ghost use Rattle.std.specs.Prelude.{◌≡◌};
 
 mod address;
+mod columns;
 mod either;
 mod fault;
 mod ipv4;

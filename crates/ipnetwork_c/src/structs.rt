@@ -1,5 +1,6 @@
 //! The structs of the header, and the networks that they stand for.
-ghost use Rattle.std.specs.Prelude.{◌≡◌, ◌≤◌};
+ghost use Rattle.std.specs.Prelude.{◌≡◌, ◌≤◌, ◌-◌, ◌^◌, ◌↔◌, IsTrue, MatchOption};
+ghost use Rattle.ipnetwork_family.specs.Network.{Member};
 ghost use Rattle.std.specs.Option.{SomeIff};
 ghost use Rattle.ipnetwork_c.specs.Held.{v4_in, v6_in, PrefixFits, HoldsV4, HoldsV6, number_of_octets};
 ghost use Rattle.ipnetwork_c.specs.Either.{HoldsIp};
@@ -63,6 +64,27 @@ impl Ipv6InC {
         ensures { SomeIff result (PrefixFits 128 (v6_in self.now)) (v6_in self.now) }
     {
         Ipv6Network::new_checked(address_of(&self.address), self.prefix)
+    }
+
+    /// Whether an address of 16 octets lies in the network's set, if the prefix length is at most 128: whether the two
+    /// numbers differ in host bits alone. `Ipv6Network::contains` goes segment by segment, which takes three times as
+    /// many instructions from octets.
+    pub(crate) fn contains(&self, address: &[u8; 16]) -> Option<bool>
+        ensures { MatchOption result (¬ (PrefixFits 128 (v6_in self.now))) (λ answer. PrefixFits 128 (v6_in self.now) × (IsTrue answer ↔ Member 128 (v6_in self.now) (number_of_octets address.now))) }
+    {
+        if self.prefix > 128 {
+            return None;
+        }
+        Some(self.has(address))
+    }
+
+    /// The same of a struct whose prefix length was looked at.
+    pub(crate) fn has(&self, address: &[u8; 16]) -> bool
+        requires { PrefixFits 128 (v6_in self.now) }
+        ensures { IsTrue result ↔ Member 128 (v6_in self.now) (number_of_octets address.now) }
+    {
+        let difference = number_of(&self.address) ^ number_of(address);
+        difference <= host_ones(self.prefix)
     }
 }
 
@@ -130,10 +152,25 @@ impl IpInC {
     }
 }
 
+/// The ones after the first `prefix` of 128 bits.
+fn host_ones(prefix: u8) -> u128
+    requires { prefix ≤ 128 }
+    ensures { result ≡ 2 ^ (128 - prefix) - 1 }
+{
+    u128::MAX.checked_shr(u32::from(prefix)).unwrap_or(0)
+}
+
 /// The IPv6 address of 16 octets.
 pub(crate) fn address_of(octets: &[u8; 16]) -> Ipv6Addr
     ensures { result ≡ number_of_octets octets.now }
 {
+    Ipv6Addr::from(number_of(octets))
+}
+
+/// The number of 16 octets.
+pub(crate) fn number_of(octets: &[u8; 16]) -> u128
+    ensures { result ≡ number_of_octets octets.now }
+{
     let [a, b, c, d, e, f, g, h, i, j, k, l, m, n, o, p] = *octets;
-    Ipv6Addr::from(u128::from_be_bytes([a, b, c, d, e, f, g, h, i, j, k, l, m, n, o, p]))
+    u128::from_be_bytes([a, b, c, d, e, f, g, h, i, j, k, l, m, n, o, p])
 }

@@ -2,6 +2,7 @@
 //! `bindings/c`, go further: they call what the linker sees.
 
 use crate::address::*;
+use crate::columns::*;
 use crate::either::{ipnetwork_contains, ipnetwork_read};
 use crate::fault::ipnetwork_fault_text;
 use crate::ipv4::*;
@@ -268,4 +269,26 @@ fn what_faults_say(rt: HostRuntime) {
     ];
     assert_eq!(rt; (told, length), ([0, 4], 13));
     assert_eq!(rt; text, *b"no mask\0\xff");
+}
+
+#[test]
+fn columns_of_addresses(rt: HostRuntime) {
+    let four = Ipv4InC {
+        address: [10, 1, 9, 32],
+        prefix: 30,
+    };
+    let six = Ipv6InC {
+        address: FIRST,
+        prefix: 128,
+    };
+    let mut other = FIRST;
+    other[15] = 2;
+    let (mut fours, mut sixes) = ([9; 3], [9; 3]);
+    let told = [
+        ipnetwork_v4_contains_column(&four, &[[10, 1, 9, 35], [10, 1, 9, 36]], &mut fours),
+        ipnetwork_v6_contains_column(&six, &[other, FIRST], &mut sixes),
+        ipnetwork_v4_contains_column(&four, &[[0; 4]; 4], &mut fours),
+    ];
+    assert_eq!(rt; told, [0, 0, 4]);
+    assert_eq!(rt; (fours, sixes), ([1, 0, 9], [0, 1, 9]));
 }

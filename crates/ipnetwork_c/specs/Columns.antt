@@ -1,0 +1,17 @@
+-- What is asked of many rows in one call.
+use Rattle.std.specs.Prelude.{◌≡◌, ℕ, ◌<◌, ◌≤◌, List, ◌++◌, drop, length, map}
+use Rattle.std.specs.Int.{from_bool}
+use Rattle.ipnetwork_family.specs.Network.{Network}
+use Rattle.ipnetwork_family.specs.Computed.Network.{is_member}
+use Rattle.ipnetwork_c.specs.Numbers.{ok, prefix, short_buffer}
+use Rattle.ipnetwork_c.specs.Held.{PrefixFits, number_of_octets}
+
+-- whether the address of these octets is a member of the network, as 1 or 0
+abbrev pub member_flag : ℕ → Network → List ℕ → ℕ
+member_flag w n octets = from_bool (is_member w n (number_of_octets octets))
+
+-- each row is answered as the call for one address answers it, and answers behind the rows stay; or nothing is written
+pub data AnswersRows (w : ℕ) (n : Network) (rows : List (List ℕ)) (before after : List ℕ) (code : ℕ) : Type 0 where
+  Answered : PrefixFits w n → length rows ≤ length before → code ≡ ok → after ≡ map (member_flag w n) rows ++ drop (length rows) before → AnswersRows w n rows before after code
+  NoRoom : PrefixFits w n → length before < length rows → code ≡ short_buffer → after ≡ before → AnswersRows w n rows before after code
+  NoNetwork : ¬ (PrefixFits w n) → code ≡ prefix → after ≡ before → AnswersRows w n rows before after code
