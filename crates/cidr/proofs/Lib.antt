@@ -1,4 +1,5 @@
 pub mod Answers
+pub mod AskingParts
 pub mod CommandAnswers
 pub mod CommandLines
 pub mod CommandRequests

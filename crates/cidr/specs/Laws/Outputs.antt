@@ -1,5 +1,5 @@
 -- The laws of outputs.
-use Rattle.std.specs.Prelude.{◌≡◌, ◌≢◌, ◌↔◌, ℕ, List, [], ◌∷◌, ◌++◌, Contains, codes}
+use Rattle.std.specs.Prelude.{◌≡◌, ◌≢◌, ◌↔◌, ℕ, List, [], ◌∷◌, ◌++◌, length, drop, Contains, codes}
 use Rattle.std.specs.List.{flat_map, AllByRecursion}
 use Rattle.std.specs.Str.Lines.{lines}
 use Rattle.cidr.specs.Computed.Output.{output_of, answer_of}
@@ -83,3 +83,18 @@ SplitsAtLineEnds = (front back output : List ℕ) (before after : Routes) → En
 abbrev pub PlainPartsRunAlone : Type 0
 PlainPartsRunAlone = (front back output : List ℕ) → EndsALine front → AllByRecursion IsPlainLine (lines front)
     → IsOutput (front ++ back) output ↔ ((one : List ℕ) × (two : List ℕ) × IsOutput front one × IsOutput back two × (output ≡ one ++ two))
+
+-- the line's first word is neither `add` nor `drop`
+pub record IsAskingLine (line : List ℕ) : Type 0 where
+  pub command : List ℕ
+  pub others : List (List ℕ)
+  pub cut : words line ≡ command ∷ others
+  pub no_add : command ≢ codes "add"
+  pub no_drop : command ≢ codes "drop"
+
+-- if the routes come first, and the parts after them are cut after lines that leave the routes, each part may be run by
+-- itself after the routes: if no `add` is out of memory, the output of the whole is that of the routes and the first part,
+-- and then what that of the routes and the second part has after that of the routes
+abbrev pub AskingPartsRunAfterRoutes : Type 0
+AskingPartsRunAfterRoutes = (routes front back : List ℕ) → EndsALine routes → EndsALine front → AllByRecursion IsAskingLine (lines front)
+    → output_of (routes ++ (front ++ back)) ≡ output_of (routes ++ front) ++ drop (length (output_of routes)) (output_of (routes ++ back))

@@ -1,5 +1,5 @@
 //! The laws of outputs.
-ghost use Rattle.cidr.specs.Laws.Outputs.{FullIsComputed, ComputedIsAllowed, UnrefusedIsComputed, UnrefusedLinesAreComputed, OthersAreRouting, PlainLinesAskNothing, PlainInputsHaveOneOutput, SplitsAtLineEnds, PlainPartsRunAlone};
+ghost use Rattle.cidr.specs.Laws.Outputs.{FullIsComputed, ComputedIsAllowed, UnrefusedIsComputed, UnrefusedLinesAreComputed, OthersAreRouting, PlainLinesAskNothing, PlainInputsHaveOneOutput, SplitsAtLineEnds, PlainPartsRunAlone, AskingPartsRunAfterRoutes};
 
 use ipnetwork_table::laws as tables;
 
@@ -27,8 +27,10 @@ pub fn plain_lines_ask_nothing()
 
 /// Where an input is cut directly behind a line feed, its outputs are those of the first part, and then those of the
 /// second part from the routes on that the first leaves. Where no line of the first part is `add`, `drop` or `find`,
-/// each part may be run by itself, and the outputs put together.
+/// each part may be run by itself, and the outputs put together. Where the first lines are the routes, and no line of
+/// the parts behind them is `add` or `drop`, each part may be run by itself if it gets the routes first.
 pub fn split_at_line_ends()
     ensures parts { SplitsAtLineEnds }
     ensures alone { PlainPartsRunAlone }
+    ensures asked { AskingPartsRunAfterRoutes }
 {}
