@@ -1,3 +1,4 @@
+pub mod Alike
 pub mod Filtering
 pub mod Judging
 pub mod Kept
@@ -5,3 +6,5 @@ pub mod LogParts
 pub mod LogLines
 pub mod OneOutput
 pub mod Parts
+pub mod Requests
+pub mod Stopping

@@ -5,8 +5,7 @@ use Rattle.cidr_filter.specs.Filters.{is_selected, output_of, Filters}
 use Rattle.cidr_filter.specs.Laws.{OutputsOfPartsFollow}
 use Rattle.cidr_filter.specs.Lines.{LogLine, log_lines}
 use Rattle.cidr_filter.specs.declared.filter.Filter.{Filter}
-use Rattle.cidr_filter.proofs.Filtering.{newline_cases}
-use Rattle.cidr_filter.proofs.LogLines.{ended, lines_line}
+use Rattle.cidr_filter.proofs.LogLines.{ended, lines_line, newline_cases}
 
 -- the lines up to a line feed, and those behind it; `p` is what was read of the line
 lines_two : (p first second : List ℕ) → HasNo 10 p → log_lines (p ++ (first ++ 10 ∷ second)) ≡ log_lines (p ++ (first ++ 10 ∷ [])) ++ log_lines second
@@ -21,7 +20,7 @@ lines_two p (x ∷ first) second none = elim (newline_cases x) [
       ∙ ap (λ b. log_lines b ++ log_lines second) (append_assoc p (x ∷ []) (first ++ 10 ∷ []))
 ]
 
-both : (filter : Filter) (counts : Bool) (lines more : List LogLine) (a b : List ℕ) (m n : ℕ) → Filters filter counts lines a m → Filters filter counts more b n
+pub both : (filter : Filter) (counts : Bool) (lines more : List LogLine) (a b : List ℕ) (m n : ℕ) → Filters filter counts lines a m → Filters filter counts more b n
     → Filters filter counts (lines ++ more) (a ++ b) (m + n)
 both filter counts [] more a b m n p q =
     subst (λ (t : List ℕ). Filters filter counts more t (m + n)) (ap (λ t. t ++ b) (sym p.0)) (subst (λ (k : ℕ). Filters filter counts more b k) (omega (arith, p.1)) q)

@@ -1,7 +1,10 @@
 -- What the contracts of this crate cite.
+pub mod CommandLines
 pub mod Fields
 pub mod Filters
 pub mod Laws
 pub mod Lines
+pub mod Options
 pub mod Private
+pub mod Stands
 pub mod Stops

@@ -1,5 +1,5 @@
 -- The lines of a log.
-use Rattle.std.specs.Prelude.{ℕ, Bool, true, false, List, [], ◌∷◌, ◌++◌, length, ◌==◌, if◌then◌else◌}
+use Rattle.std.specs.Prelude.{ℕ, Bool, true, false, List, [], ◌∷◌, ◌++◌, length, ◌==◌, if◌then◌else◌, filter}
 use Rattle.std.specs.List.{slice_split}
 use Rattle.std.specs.Str.Lines.{strip_carriage_return}
 
@@ -17,6 +17,10 @@ lines_in (part ∷ next ∷ parts) = record { bytes = part; is_ended = true } �
 -- the lines of a log
 abbrev pub log_lines : List ℕ → List LogLine
 log_lines log = lines_in (slice_split (λ b. b == 10) log)
+
+-- those whose line feed is there
+abbrev pub ended_lines : List ℕ → List LogLine
+ended_lines log = filter (λ line. line.is_ended) (log_lines log)
 
 -- a line without its end, which is a line feed, or one carriage return and a line feed
 abbrev pub content : LogLine → List ℕ

@@ -1,3 +1,4 @@
 -- What the private functions promise each other.
 pub mod Judging
 pub mod Progress
+pub mod Requests

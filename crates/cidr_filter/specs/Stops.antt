@@ -1,16 +1,75 @@
--- Why a log is not filtered to its end.
-use Rattle.std.specs.Prelude.{◌≡◌, ℕ, ◌-◌, ◌^◌, ◌<◌, Bool, true, false, IsTrue, List, length, Option}
-use Rattle.std.specs.Io.KnownBytes.{Consumes}
-use Rattle.cidr_filter.specs.Filters.{is_dropped, is_stopped}
+-- How the filtering of a log ends.
+use Rattle.std.specs.Prelude.{◌≡◌, ℕ, ◌-◌, ◌^◌, ◌<◌, ◌⊎◌, Bool, true, IsTrue, List, ◌∷◌, ◌++◌, length, Option}
+use Rattle.std.specs.Io.KnownBytes.{Consumes, IsAtEnd}
+use Rattle.line_engine.specs.Outputs.{AppendsBeginning}
+use Rattle.cidr_filter.specs.Filters.{Judges, is_refused, Filters}
+use Rattle.cidr_filter.specs.Lines.{LogLine, log_lines, ended_lines, content}
+use Rattle.cidr_filter.specs.Stands.{Stand, Goes}
 use Rattle.cidr_filter.specs.declared.filter.Filter.{Filter}
+use Rattle.cidr_filter.specs.declared.filter.Verdict.{Verdict}
+use Rattle.cidr_filter.specs.declared.filter.Verdict.TheVariants as verdicts
 use Rattle.cidr_filter.specs.declared.log.LogFault.{LogFault}
 use Rattle.cidr_filter.specs.declared.log.LogFault.TheVariants.{Read, Write, Address, Length, Endless}
 
--- what holds if a log is not filtered to its end, by the fault: a read failed; a write failed; the filter lets lines
--- without an address, or lines that are too long, end the run; more bytes were read than 64 bits count
-abbrev pub Stops : Filter → Option (List ℕ) → Option (List ℕ) → Bool → Bool → LogFault → Type 0
-Stops filter remained remains read_failed write_failed Read = IsTrue read_failed
-Stops filter remained remains read_failed write_failed Write = IsTrue write_failed
-Stops filter remained remains read_failed write_failed Address = is_stopped filter.bad ≡ true
-Stops filter remained remains read_failed write_failed Length = is_dropped filter.bad ≡ false
-Stops filter remained remains read_failed write_failed Endless = (read : List ℕ) × Consumes remained remains read × (2 ^ 64 - 1 < length read)
+-- what was read was filtered to its end
+pub record Ends (filter : Filter) (counts : Bool) (remained remains : Option (List ℕ)) (old new : Stand) : Type 0 where
+  pub read : List ℕ
+  pub added : List ℕ
+  pub count : ℕ
+  pub reads : Consumes remained remains read
+  pub end : IsAtEnd remains
+  pub filters : Filters filter counts (log_lines read) added count
+  pub goes : Goes old new added count (length (log_lines read))
+
+-- of these bytes the lines were filtered whose line feed is there
+pub record FiltersEnded (filter : Filter) (counts : Bool) (old new : Stand) (bytes : List ℕ) : Type 0 where
+  pub added : List ℕ
+  pub count : ℕ
+  pub filters : Filters filter counts (ended_lines bytes) added count
+  pub goes : Goes old new added count (length (ended_lines bytes))
+
+-- of what was read the first lines were filtered, and the writer, which failed, took a beginning of their output
+pub record WritesBeginning (filter : Filter) (counts : Bool) (remained remains : Option (List ℕ)) (old new : Stand) : Type 0 where
+  pub read : List ℕ
+  pub first : List LogLine
+  pub others : List LogLine
+  pub added : List ℕ
+  pub count : ℕ
+  pub reads : Consumes remained remains read
+  pub lines : log_lines read ≡ first ++ others
+  pub filters : Filters filter counts first added count
+  pub beginning : AppendsBeginning old.holds new.holds (old.waits ++ added)
+
+-- whatever is read behind it, this is a line: it is ended, or the log is, or it is too long without its end
+abbrev pub IsLine : Option (List ℕ) → LogLine → Type 0
+IsLine remains line = (line.is_ended ≡ true) ⊎ (IsAtEnd remains ⊎ (1048577 < length line.bytes))
+
+-- of what was read the first lines were filtered, and the next line, of this verdict, ends the run
+pub record EndsAtLine (filter : Filter) (counts : Bool) (remained remains : Option (List ℕ)) (old new : Stand) (verdict : Verdict) : Type 0 where
+  pub read : List ℕ
+  pub first : List LogLine
+  pub line : LogLine
+  pub others : List LogLine
+  pub added : List ℕ
+  pub count : ℕ
+  pub reads : Consumes remained remains read
+  pub lines : log_lines read ≡ first ++ line ∷ others
+  pub filters : Filters filter counts first added count
+  pub goes : Goes old new added count (length first)
+  pub is_line : IsLine remains line
+  pub judges : Judges filter (content line) verdict
+  pub refused : is_refused filter verdict ≡ true
+
+-- what holds if a log is not filtered to its end, by the fault
+abbrev pub Stops : Filter → Bool → Option (List ℕ) → Option (List ℕ) → Bool → Bool → Stand → Stand → LogFault → Type 0
+-- a read failed, and what was read before was filtered
+Stops filter counts remained remains read_failed write_failed old new Read = IsTrue read_failed × (read : List ℕ) × Consumes remained remains read × FiltersEnded filter counts old new read
+-- a write failed
+Stops filter counts remained remains read_failed write_failed old new Write = IsTrue write_failed × WritesBeginning filter counts remained remains old new
+-- the first line without an address ends the run
+Stops filter counts remained remains read_failed write_failed old new Address = EndsAtLine filter counts remained remains old new verdicts.Bad
+-- the first line that is too long does
+Stops filter counts remained remains read_failed write_failed old new Length = EndsAtLine filter counts remained remains old new verdicts.TooLong
+-- more bytes were read than 64 bits count; all but the last of them were filtered
+Stops filter counts remained remains read_failed write_failed old new Endless =
+    (read : List ℕ) × (last : List ℕ) × Consumes remained remains (read ++ last) × (2 ^ 64 - 1 < length (read ++ last)) × FiltersEnded filter counts old new read

@@ -1,7 +1,12 @@
 //! What the arguments ask for.
-ghost use Rattle.std.specs.Prelude.{◌<◌, ◌≤◌, length};
+ghost use Rattle.std.specs.Prelude.{◌≡◌, ◌+◌, ◌≤◌, ◌||◌, None, Some, drop, length, nat_le, if◌then◌else◌, IfSome, MatchOption};
+ghost use Rattle.std.specs.List.{list_all};
+ghost use Rattle.cidr_filter.specs.CommandLines.{is_only, is_plain, files_among, inputs_among, Says, AsksNothing, Asks};
+ghost use Rattle.cidr_filter.specs.Options.{option_of, behind_option, is_list, is_input, field_said, separator_said, bad_said, inverts_in, counts_in};
+ghost use Rattle.cidr_filter.specs.Private.Requests.{IfFilter};
 
 use crate::filter::Bad;
+use crate::options::{Choice, behind, choice_at, is};
 
 /// What a run is asked for. Its options are the words before `files`, and the FILEs those from there on.
 #[derive(Clone, Copy, Debug, PartialEq, Eq)]
@@ -33,30 +38,11 @@ pub enum Command {
     Usage,
 }
 
-/// An option.
-#[derive(Clone, Copy, Debug, PartialEq, Eq)]
-pub(crate) enum Choice {
-    /// `-v`, `-c`, or letters of both.
-    Letters {
-        /// Whether `v` is among them.
-        inverts: bool,
-        /// Whether `c` is.
-        counts: bool,
-    },
-    /// `-k`.
-    Field(u32),
-    /// `-d`.
-    Separator(u8),
-    /// `--bad`.
-    Bad(Bad),
-    /// `-f`, and the next word.
-    File,
-    /// `-e`, and the next word.
-    Text,
-}
-
 /// What the words behind the program's name ask for. Does not allocate.
-pub fn command_of(words: &[String]) -> Command {
+pub fn command_of(words: &[String]) -> Command
+    ensures within { IfFilter (λ request. request.files ≤ length words.now) result }
+    ensures asked { Asks words.now result }
+{
     if is_only(words, "--help") {
         return Command::Help;
     }
@@ -70,17 +56,17 @@ pub fn command_of(words: &[String]) -> Command {
 }
 
 // Whether there is one word, and it is this text.
-fn is_only(words: &[String], text: &str) -> bool {
+fn is_only(words: &[String], text: &str) -> bool
+    ensures { result ≡ is_only text.now words.now }
+{
     words.len() == 1 && is(&words[0], text)
 }
 
-// Whether a word is this text.
-fn is(word: &String, text: &str) -> bool {
-    word.as_str() == text
-}
-
 // What the options say, and where the FILEs begin.
-fn request_of(words: &[String]) -> Option<Request> {
+fn request_of(words: &[String]) -> Option<Request>
+    ensures within { IfSome result (λ request. request.files ≤ length words.now) }
+    ensures asked { MatchOption result (AsksNothing words.now) (Says words.now) }
+{
     let mut request = Request {
         field: 1,
         separator: b' ',
@@ -89,197 +75,125 @@ fn request_of(words: &[String]) -> Option<Request> {
         bad: Bad::Drop,
         files: 0,
     };
-    let mut lists = 0usize;
-    let mut inputs = 0usize;
+    let mut has_list = false;
+    let mut inputs = 0;
     let mut at = 0;
-    while at < words.len() && begins_dashed(&words[at]) && !is(&words[at], "--") {
-        let choice = choice_at(words, at)?;
-        match choice {
-            Choice::Letters { inverts, counts } => {
-                request.inverts |= inverts;
-                request.counts |= counts;
-            }
-            Choice::Field(number) => request.field = number,
-            Choice::Separator(byte) => request.separator = byte,
-            Choice::Bad(bad) => request.bad = bad,
-            Choice::File => {
-                lists = lists.saturating_add(1);
-                if is_input(words, at + 1) {
-                    inputs = inputs.saturating_add(1);
-                }
-            }
-            Choice::Text => lists = lists.saturating_add(1),
-        }
+    'options: while let Some(choice) = choice_at(words, at) {
+        request = with_choice(request, choice);
+        has_list |= is_list(choice);
+        inputs += inputs_in(choice);
         at = behind(words, at);
     }
-    request.files = at;
-    let is_open = at < words.len() && is(&words[at], "--");
-    if is_open {
-        request.files = at + 1;
-    }
-    let files = &words[request.files..];
-    if files.is_empty() {
-        inputs = inputs.saturating_add(1);
-    }
-    inputs = inputs.saturating_add(inputs_among(files));
-    if lists == 0 || inputs > 1 || !(is_open || are_plain(files)) {
+    let Some(place) = files_from(words, at) else {
         return None;
-    }
-    Some(request)
-}
-
-/// The place behind the option at a place: an option may take the next word too.
-pub(crate) fn behind(words: &[String], at: usize) -> usize
-    ensures within { result ≤ length words.now }
-    ensures behind { at < length words.now → at < result }
-{
-    if at < words.len() && takes_next(&words[at]) {
-        words.len().min(at + 2)
+    };
+    request.files = place;
+    let files = &words[place..];
+    if has_list && at_most_one(inputs, inputs_among(files)) {
+        Some(request)
     } else {
-        words.len().min(at.saturating_add(1))
+        None
     }
 }
 
-// Whether the value of an option is the next word.
-fn takes_next(word: &String) -> bool {
-    is(word, "-f") || is(word, "-e") || is(word, "-k") || is(word, "-d") || is(word, "--bad")
+// What is asked for by an option too.
+fn with_choice(request: Request, choice: Choice) -> Request
+    ensures field { result.field ≡ field_said request.field choice }
+    ensures separator { result.separator ≡ separator_said request.separator choice }
+    ensures bad { result.bad ≡ bad_said request.bad choice }
+    ensures inverts { result.inverts ≡ (request.inverts || inverts_in choice) }
+    ensures counts { result.counts ≡ (request.counts || counts_in choice) }
+{
+    match choice {
+        Choice::Letters { inverts, counts } => Request {
+            inverts: request.inverts || inverts,
+            counts: request.counts || counts,
+            ..request
+        },
+        Choice::Field(field) => Request { field, ..request },
+        Choice::Separator(separator) => Request {
+            separator,
+            ..request
+        },
+        Choice::Bad(bad) => Request { bad, ..request },
+        Choice::File | Choice::Input | Choice::Text => request,
+    }
 }
 
-// Whether there is a word at this place, and it names standard input.
-fn is_input(words: &[String], at: usize) -> bool {
-    at < words.len() && is(&words[at], "-")
+// Whether an option names a list, or is one.
+fn is_list(choice: Choice) -> bool
+    ensures { result ≡ is_list choice }
+{
+    match choice {
+        Choice::File | Choice::Input | Choice::Text => true,
+        _ => false,
+    }
 }
 
-// How many of the words name standard input.
-fn inputs_among(words: &[String]) -> usize {
-    let mut count = 0usize;
-    for word in words {
-        if is(word, "-") {
-            count = count.saturating_add(1);
+// How often an option names standard input.
+fn inputs_in(choice: Choice) -> usize
+    ensures { result ≡ (if is_input choice then 1 else 0) }
+{
+    match choice {
+        Choice::Input => 1,
+        _ => 0,
+    }
+}
+
+// Whether the sum is at most one.
+fn at_most_one(first: usize, second: usize) -> bool
+    ensures { result ≡ nat_le (first + second) 1 }
+{
+    first <= 1 && second <= 1 - first
+}
+
+// How often the FILEs name standard input, which no FILE at all does too.
+fn inputs_among(files: &[String]) -> usize
+    ensures { result ≡ inputs_among files.now }
+{
+    if files.is_empty() {
+        return 1;
+    }
+    let mut count = 0;
+    for file in files {
+        if is(file, "-") {
+            count += 1;
         }
     }
     count
 }
 
+// The place of the first FILE, of words from a place on that begin with no option.
+fn files_from(words: &[String], at: usize) -> Option<usize>
+    requires { at ≤ length words.now }
+    ensures within { IfSome result (λ place. place ≤ length words.now) }
+    ensures files { MatchOption result (files_among (drop at words.now) ≡ None) (λ place. files_among (drop at words.now) ≡ Some (drop place words.now)) }
+{
+    if at < words.len() && is(&words[at], "--") {
+        return Some(at + 1);
+    }
+    if are_plain(&words[at..]) {
+        Some(at)
+    } else {
+        None
+    }
+}
+
 // Whether no word looks like an option.
-fn are_plain(words: &[String]) -> bool {
+fn are_plain(words: &[String]) -> bool
+    ensures { result ≡ list_all is_plain words.now }
+{
     for word in words {
-        if begins_dashed(word) {
+        if !is_plain(word) {
             return false;
         }
     }
     true
 }
 
-// Whether a word begins with a `-`, and is not only that.
-fn begins_dashed(word: &String) -> bool {
-    match word.as_bytes() {
-        [] => false,
-        [byte, bytes @ ..] => !bytes.is_empty() && *byte == b'-',
-    }
-}
-
-/// The option at a place.
-pub(crate) fn choice_at(words: &[String], at: usize) -> Option<Choice> {
-    if at >= words.len() {
-        return None;
-    }
-    let word = &words[at];
-    if takes_next(word) {
-        if at + 1 >= words.len() {
-            return None;
-        }
-        return choice_with(word, words[at + 1].as_bytes());
-    }
-    choice_in(word.as_bytes())
-}
-
-// The option of this name with this value.
-fn choice_with(name: &String, value: &[u8]) -> Option<Choice> {
-    if is(name, "-f") {
-        Some(Choice::File)
-    } else if is(name, "-e") {
-        Some(Choice::Text)
-    } else if is(name, "-k") {
-        field_choice(value)
-    } else if is(name, "-d") {
-        separator_choice(value)
-    } else {
-        bad_choice(value)
-    }
-}
-
-// The option in one word.
-fn choice_in(word: &[u8]) -> Option<Choice> {
-    match word {
-        [b'-', b'k', value @ ..] => field_choice(value),
-        [b'-', b'd', value @ ..] => separator_choice(value),
-        [b'-', b'-', b'b', b'a', b'd', b'=', value @ ..] => bad_choice(value),
-        [b'-', letters @ ..] => letters_choice(letters),
-        _ => None,
-    }
-}
-
-// `-v` and `-c` by their letters.
-fn letters_choice(letters: &[u8]) -> Option<Choice> {
-    let mut inverts = false;
-    let mut counts = false;
-    for letter in letters {
-        match *letter {
-            b'v' => inverts = true,
-            b'c' => counts = true,
-            _ => return None,
-        }
-    }
-    Some(Choice::Letters { inverts, counts })
-}
-
-// `-k` with this value: a number of digits, from 1 to 4,294,967,295.
-fn field_choice(value: &[u8]) -> Option<Choice> {
-    if value.is_empty() {
-        return None;
-    }
-    let mut number = 0u64;
-    for byte in value {
-        if !byte.is_ascii_digit() {
-            return None;
-        }
-        number = number
-            .saturating_mul(10)
-            .saturating_add(u64::from(*byte - b'0'));
-    }
-    if number == 0 {
-        return None;
-    }
-    match u32::try_from(number) {
-        Ok(number) => Some(Choice::Field(number)),
-        Err(_) => None,
-    }
-}
-
-// `-d` with this value: a byte of ASCII, no LF, CR or NUL.
-fn separator_choice(value: &[u8]) -> Option<Choice> {
-    match value {
-        [byte] => {
-            if *byte < 128 && *byte != b'\n' && *byte != b'\r' && *byte != 0 {
-                Some(Choice::Separator(*byte))
-            } else {
-                None
-            }
-        }
-        _ => None,
-    }
-}
-
-// `--bad` with this value.
-fn bad_choice(value: &[u8]) -> Option<Choice> {
-    if value == b"drop".as_slice() {
-        Some(Choice::Bad(Bad::Drop))
-    } else if value == b"keep".as_slice() {
-        Some(Choice::Bad(Bad::Keep))
-    } else if value == b"stop".as_slice() {
-        Some(Choice::Bad(Bad::Stop))
-    } else {
-        None
-    }
+// Whether a word is `-`, or does not begin with a `-`.
+fn is_plain(word: &String) -> bool
+    ensures { result ≡ is_plain word.now }
+{
+    is(word, "-") || !word.as_bytes().starts_with(b"-".as_slice())
 }

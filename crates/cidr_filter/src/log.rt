@@ -2,12 +2,14 @@
 ghost use Rattle.std.specs.Prelude.{◌≡◌, ◌<◌, ◌≤◌, ◌++◌, ◌∷◌, ◌-◌, [], if◌then◌else◌, length, take, drop, false, IsTrue, OnOk, OnErr, IfOk, IfErr, IsOkUnless};
 ghost use Rattle.std.specs.Str.Lines.{strip_carriage_return};
 ghost use Rattle.byte_search.specs.Bytes.{IsAbsent};
-ghost use Rattle.line_engine.specs.Outputs.{writer_of, output_failed, waits_in, Puts};
+ghost use Rattle.std.specs.Io.KnownBytes.{Keeps};
+ghost use Rattle.line_engine.specs.Outputs.{writer_of, output_failed, waits_in, Puts, AppendsBeginning};
 ghost use Rattle.line_engine.specs.Watched.{device_of, has_failed};
 ghost use Rattle.cidr_filter.specs.Filters.{is_dropped};
-ghost use Rattle.cidr_filter.specs.Stops.{Stops};
-ghost use Rattle.cidr_filter.specs.Private.Judging.{fault_of, StopsAtLine};
-ghost use Rattle.cidr_filter.specs.Private.Progress.{stand, Goes, FiltersLine, FiltersRest, Advances, Ends, ReadsBehind, IsHeld};
+ghost use Rattle.cidr_filter.specs.Stands.{stand, Goes};
+ghost use Rattle.cidr_filter.specs.Stops.{Ends, Stops};
+ghost use Rattle.cidr_filter.specs.Private.Judging.{fault_of};
+ghost use Rattle.cidr_filter.specs.Private.Progress.{FiltersLine, FiltersRest, LineStops, Advances, StopsIn, ReadsBehind, IsHeld};
 
 use crate::filter::{Bad, Filter, LINE_MAX, Verdict};
 use byte_search::find_from;
@@ -51,15 +53,20 @@ pub fn filter_log<R: Read, W: Write>(
 ) -> Result<(), LogFault>
     requires room { 1048578 < length buffer.old }
     ensures ok { OnOk result (Ends filter.now counts (R.remaining (device_of reader.old)) (R.remaining (device_of reader.new))
-        (stand (W.contents (writer_of output.old)) (waits_in output.old) tally.old.selected)
-        (stand (W.contents (writer_of output.new)) (waits_in output.new) tally.new.selected)) }
-    ensures err { IfErr result (λ fault. Stops filter.now (R.remaining (device_of reader.old)) (R.remaining (device_of reader.new))
-        (has_failed reader.new) (output_failed output.new) fault) }
+        (stand (W.contents (writer_of output.old)) (waits_in output.old) tally.old)
+        (stand (W.contents (writer_of output.new)) (waits_in output.new) tally.new)) }
+    ensures err { IfErr result (Stops filter.now counts (R.remaining (device_of reader.old)) (R.remaining (device_of reader.new))
+        (has_failed reader.new) (output_failed output.new)
+        (stand (W.contents (writer_of output.old)) (waits_in output.old) tally.old)
+        (stand (W.contents (writer_of output.new)) (waits_in output.new) tally.new)) }
 {
     let mut held = 0;
     let mut room = u64::MAX;
     'pieces: loop {
-        let count = read_behind(reader, buffer, held)?;
+        let count = match read_behind(reader, buffer, held) {
+            Ok(count) => count,
+            Err(_) => return Err(LogFault::Read),
+        };
         if count == 0 {
             return finish(filter, counts, &buffer[..held], output, tally);
         }
@@ -68,9 +75,15 @@ pub fn filter_log<R: Read, W: Write>(
         }
         room -= count as u64;
         let end = held + count;
-        let start = filter_piece(filter, counts, &buffer[..end], held, output, tally)?;
+        let start = match filter_piece(filter, counts, &buffer[..end], held, output, tally) {
+            Ok(start) => start,
+            Err(fault) => return Err(fault),
+        };
         keep(buffer, start, end);
-        held = held_of(filter, end - start)?;
+        held = match held_of(filter, end - start) {
+            Ok(count) => count,
+            Err(_) => return Err(LogFault::Length),
+        };
     }
 }
 
@@ -84,6 +97,7 @@ fn read_behind<R: Read>(
     ensures length { length buffer.new ≡ length buffer.old }
     ensures read { IfOk result (ReadsBehind (R.remaining (device_of reader.old)) (R.remaining (device_of reader.new)) buffer.old buffer.new held) }
     ensures failed { OnErr result (IsTrue (has_failed reader.new)) }
+    ensures kept { OnErr result (Keeps (R.remaining (device_of reader.old)) (R.remaining (device_of reader.new))) }
     ensures fault { IsOkUnless result LogFault.Read }
 {
     match reader.read(&mut buffer[held..]) {
@@ -106,7 +120,7 @@ fn keep(buffer: &mut [u8], start: usize, end: usize)
 // tell so.
 fn held_of(filter: &Filter, count: usize) -> Result<usize, LogFault>
     ensures held { IfOk result (IsHeld filter.now count) }
-    ensures dropped { OnErr result (is_dropped filter.now.bad ≡ false) }
+    ensures stopped { OnErr result ((1048577 < count) × (is_dropped filter.now.bad ≡ false)) }
     ensures fault { IsOkUnless result LogFault.Length }
 {
     if count <= LINE_MAX + 1 {
@@ -132,11 +146,16 @@ fn filter_piece<W: Write>(
     ensures within { IfOk result (λ start. start ≤ length piece.now) }
     ensures absent { IfOk result (λ start. IsAbsent 10 piece.now start (length piece.now)) }
     ensures advances { IfOk result (λ start. Advances filter.now counts
-        (stand (W.contents (writer_of output.old)) (waits_in output.old) tally.old.selected)
-        (stand (W.contents (writer_of output.new)) (waits_in output.new) tally.new.selected) piece.now (drop start piece.now)) }
-    ensures err { IfErr result (λ fault. StopsAtLine filter.now (output_failed output.new) fault) }
+        (stand (W.contents (writer_of output.old)) (waits_in output.old) tally.old)
+        (stand (W.contents (writer_of output.new)) (waits_in output.new) tally.new) piece.now (drop start piece.now)) }
+    ensures err { IfErr result (StopsIn filter.now counts ⊥ piece.now (output_failed output.new)
+        (stand (W.contents (writer_of output.old)) (waits_in output.old) tally.old)
+        (stand (W.contents (writer_of output.new)) (waits_in output.new) tally.new)) }
 {
-    let start = filter_lines(filter, counts, piece, held, output, tally)?;
+    let start = match filter_lines(filter, counts, piece, held, output, tally) {
+        Ok(start) => start,
+        Err(fault) => return Err(fault),
+    };
     match output.hand_on() {
         Ok(()) => Ok(start),
         Err(_) => Err(LogFault::Write),
@@ -158,9 +177,11 @@ fn filter_lines<W: Write>(
     ensures within { IfOk result (λ start. start ≤ length piece.now) }
     ensures absent { IfOk result (λ start. IsAbsent 10 piece.now start (length piece.now)) }
     ensures advances { IfOk result (λ start. Advances filter.now counts
-        (stand (W.contents (writer_of output.old)) (waits_in output.old) tally.old.selected)
-        (stand (W.contents (writer_of output.new)) (waits_in output.new) tally.new.selected) piece.now (drop start piece.now)) }
-    ensures err { IfErr result (λ fault. StopsAtLine filter.now (output_failed output.new) fault) }
+        (stand (W.contents (writer_of output.old)) (waits_in output.old) tally.old)
+        (stand (W.contents (writer_of output.new)) (waits_in output.new) tally.new) piece.now (drop start piece.now)) }
+    ensures err { IfErr result (StopsIn filter.now counts ⊥ piece.now (output_failed output.new)
+        (stand (W.contents (writer_of output.old)) (waits_in output.old) tally.old)
+        (stand (W.contents (writer_of output.new)) (waits_in output.new) tally.new)) }
 {
     let mut start = 0;
     let mut from = held;
@@ -169,14 +190,10 @@ fn filter_lines<W: Write>(
             return Ok(start);
         };
         let line = &piece[start..end];
-        filter_line(
-            filter,
-            counts,
-            line,
-            without_carriage_return(line),
-            output,
-            tally,
-        )?;
+        let content = without_carriage_return(line);
+        if let Err(fault) = filter_line(filter, counts, line, content, output, tally) {
+            return Err(fault);
+        }
         start = end + 1;
         from = start;
     }
@@ -192,14 +209,18 @@ fn finish<W: Write>(
 ) -> Result<(), LogFault>
     requires absent { IsAbsent 10 line.now 0 (length line.now) }
     ensures ok { OnOk result (FiltersRest filter.now counts line.now
-        (stand (W.contents (writer_of output.old)) (waits_in output.old) tally.old.selected)
-        (stand (W.contents (writer_of output.new)) (waits_in output.new) tally.new.selected)) }
-    ensures err { IfErr result (λ fault. StopsAtLine filter.now (output_failed output.new) fault) }
+        (stand (W.contents (writer_of output.old)) (waits_in output.old) tally.old)
+        (stand (W.contents (writer_of output.new)) (waits_in output.new) tally.new)) }
+    ensures err { IfErr result (StopsIn filter.now counts (Unit {0}) line.now (output_failed output.new)
+        (stand (W.contents (writer_of output.old)) (waits_in output.old) tally.old)
+        (stand (W.contents (writer_of output.new)) (waits_in output.new) tally.new)) }
 {
     if line.is_empty() {
         return Ok(());
     }
-    filter_line(filter, counts, line, line, output, tally)?;
+    if let Err(fault) = filter_line(filter, counts, line, line, output, tally) {
+        return Err(fault);
+    }
     match output.hand_on() {
         Ok(()) => Ok(()),
         Err(_) => Err(LogFault::Write),
@@ -216,9 +237,11 @@ fn filter_line<W: Write>(
     tally: &mut Tally,
 ) -> Result<(), LogFault>
     ensures ok { OnOk result (FiltersLine filter.now counts line.now content.now
-        (stand (W.contents (writer_of output.old)) (waits_in output.old) tally.old.selected)
-        (stand (W.contents (writer_of output.new)) (waits_in output.new) tally.new.selected)) }
-    ensures err { IfErr result (λ fault. StopsAtLine filter.now (output_failed output.new) fault) }
+        (stand (W.contents (writer_of output.old)) (waits_in output.old) tally.old)
+        (stand (W.contents (writer_of output.new)) (waits_in output.new) tally.new)) }
+    ensures err { IfErr result (LineStops filter.now counts line.now content.now (output_failed output.new)
+        (stand (W.contents (writer_of output.old)) (waits_in output.old) tally.old)
+        (stand (W.contents (writer_of output.new)) (waits_in output.new) tally.new)) }
 {
     let verdict = filter.judge(content);
     if filter.refuses(verdict) {
@@ -239,10 +262,12 @@ fn select_line<W: Write>(
     tally: &mut Tally,
 ) -> Result<(), LogFault>
     ensures ok { OnOk result (Goes
-        (stand (W.contents (writer_of output.old)) (waits_in output.old) tally.old.selected)
-        (stand (W.contents (writer_of output.new)) (waits_in output.new) tally.new.selected)
-        (if counts then [] else line.now ++ 10 ∷ []) 1) }
+        (stand (W.contents (writer_of output.old)) (waits_in output.old) tally.old)
+        (stand (W.contents (writer_of output.new)) (waits_in output.new) tally.new)
+        (if counts then [] else line.now ++ 10 ∷ []) 1 0) }
     ensures err { OnErr result (IsTrue (output_failed output.new)) }
+    ensures beginning { OnErr result (AppendsBeginning (W.contents (writer_of output.old)) (W.contents (writer_of output.new))
+        (waits_in output.old ++ (if counts then [] else line.now ++ 10 ∷ []))) }
     ensures fault { IsOkUnless result LogFault.Write }
 {
     tally.selected = tally.selected.saturating_add(1);
@@ -269,6 +294,7 @@ fn refusal_of(verdict: Verdict) -> LogFault
 fn print_line<W: Write>(line: &[u8], output: &mut Output<'_, W>) -> Result<(), RunFault>
     ensures ok { OnOk result (Puts (W.contents (writer_of output.old)) (waits_in output.old) (W.contents (writer_of output.new)) (waits_in output.new) (line.now ++ 10 ∷ [])) }
     ensures err { OnErr result (IsTrue (output_failed output.new)) }
+    ensures beginning { OnErr result (AppendsBeginning (W.contents (writer_of output.old)) (W.contents (writer_of output.new)) (waits_in output.old ++ (line.now ++ 10 ∷ []))) }
 {
     output.put(line)?;
     output.put(b"\n")

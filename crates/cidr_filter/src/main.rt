@@ -7,6 +7,7 @@ mod filter;
 mod help;
 mod laws;
 mod log;
+mod options;
 mod reading;
 mod run;
 mod telling;

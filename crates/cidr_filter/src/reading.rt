@@ -1,5 +1,5 @@
 //! The lists of a run are read.
-use crate::command_line::{Choice, behind, choice_at};
+use crate::options::{Choice, behind, choice_at};
 use address_lists::{ListReader, read_list};
 use line_engine::watched::Watched;
 use program_io::lists::OpenLists;
@@ -25,7 +25,7 @@ pub(crate) fn read_lists<L: OpenLists>(
     let mut at = 0;
     while at < end && at < words.len() {
         match choice_at(words, at) {
-            Some(Choice::File) => read_file(lists, words, at + 1, reader)?,
+            Some(Choice::File | Choice::Input) => read_file(lists, words, at + 1, reader)?,
             Some(Choice::Text) => read_text(words, at + 1, reader)?,
             _ => {}
         }

@@ -1,5 +1,5 @@
 //! What is told on the error writer. That a write of it fails changes nothing.
-use crate::command_line::{Choice, behind, choice_at};
+use crate::options::{Choice, behind, choice_at};
 use crate::reading::ReadFault;
 use address_lists::{Refusal, Refusals};
 use line_engine::output::Output;

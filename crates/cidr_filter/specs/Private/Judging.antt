@@ -1,8 +1,8 @@
 -- What a line is to the list, step by step.
-use Rattle.std.specs.Prelude.{◌≡◌, ℕ, Bool, true, false, IsTrue, List}
+use Rattle.std.specs.Prelude.{ℕ, List}
 use Rattle.ipnetwork_addr.specs.Either.{NamesIp}
 use Rattle.ipnetwork_addr.specs.declared.ip.IpAddr.{IpAddr}
-use Rattle.cidr_filter.specs.Filters.{IsListed, is_dropped, is_stopped}
+use Rattle.cidr_filter.specs.Filters.{IsListed}
 use Rattle.cidr_filter.specs.declared.filter.Filter.{Filter}
 use Rattle.cidr_filter.specs.declared.filter.Verdict.{Verdict}
 use Rattle.cidr_filter.specs.declared.filter.Verdict.TheVariants as verdicts
@@ -29,11 +29,3 @@ fault_of verdicts.Inside = faults.Address
 fault_of verdicts.Outside = faults.Address
 fault_of verdicts.Bad = faults.Address
 fault_of verdicts.TooLong = faults.Length
-
--- the cause is there, and is none of a read
-abbrev pub StopsAtLine : Filter → Bool → LogFault → Type 0
-StopsAtLine filter write_failed faults.Read = ⊥
-StopsAtLine filter write_failed faults.Write = IsTrue write_failed
-StopsAtLine filter write_failed faults.Address = is_stopped filter.bad ≡ true
-StopsAtLine filter write_failed faults.Length = is_dropped filter.bad ≡ false
-StopsAtLine filter write_failed faults.Endless = ⊥

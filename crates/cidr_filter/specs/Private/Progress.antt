@@ -1,55 +1,91 @@
 -- How far a log is filtered.
-use Rattle.std.specs.Prelude.{◌≡◌, ℕ, ◌+◌, ◌-◌, ◌^◌, ◌≤◌, ◌<◌, ◌⊎◌, take, true, length, min, Bool, false, List, ◌++◌, Option}
+use Rattle.std.specs.Prelude.{◌≡◌, ℕ, ◌+◌, ◌≤◌, ◌<◌, ◌⊎◌, take, true, length, Bool, false, IsTrue, List, [], ◌∷◌, ◌++◌, Option}
+use Rattle.std.specs.List.{list_all}
 use Rattle.std.specs.Io.KnownBytes.{Consumes, IsAtEnd}
-use Rattle.line_engine.specs.Outputs.{Puts}
+use Rattle.line_engine.specs.Outputs.{AppendsBeginning}
 use Rattle.cidr_filter.specs.Filters.{Judges, is_dropped, is_refused, is_selected, one_if, output_of, Filters}
-use Rattle.cidr_filter.specs.Lines.{log_lines}
+use Rattle.cidr_filter.specs.Lines.{LogLine, log_lines, content}
+use Rattle.cidr_filter.specs.Stands.{Stand, Goes}
 use Rattle.cidr_filter.specs.declared.filter.Filter.{Filter}
 use Rattle.cidr_filter.specs.declared.filter.Verdict.{Verdict}
-
--- where a run stands: what the writer holds, what waits, and how many lines are selected
-pub record Stand : Type 0 where
-  pub holds : Option (List ℕ)
-  pub waits : List ℕ
-  pub selected : ℕ
-
-abbrev pub stand : Option (List ℕ) → List ℕ → ℕ → Stand
-stand holds waits selected = record { holds = holds; waits = waits; selected = selected }
-
--- from one stand to the next these bytes were written and so many lines selected; 64 bits count them
-abbrev pub Goes : Stand → Stand → List ℕ → ℕ → Type 0
-Goes old new added count = Puts old.holds old.waits new.holds new.waits added × (old.selected ≤ 2 ^ 64 - 1 → new.selected ≡ min (old.selected + count) (2 ^ 64 - 1))
+use Rattle.cidr_filter.specs.declared.filter.Verdict.TheVariants as verdicts
+use Rattle.cidr_filter.specs.declared.log.LogFault.{LogFault}
+use Rattle.cidr_filter.specs.declared.log.LogFault.TheVariants as faults
 
 -- a line, given with its end cut off too, was filtered
 abbrev pub FiltersLine : Filter → Bool → List ℕ → List ℕ → Stand → Stand → Type 0
 FiltersLine filter counts bytes content old new = (verdict : Verdict) × Judges filter content verdict × (is_refused filter verdict ≡ false)
-    × Goes old new (output_of counts (is_selected filter verdict) (record { bytes = bytes; is_ended = false })) (one_if (is_selected filter verdict))
+    × Goes old new (output_of counts (is_selected filter verdict) (record { bytes = bytes; is_ended = false })) (one_if (is_selected filter verdict)) 1
 
--- whatever comes behind: with the lines that these bytes leave, those of all bytes are filtered
-abbrev pub Leaves : Filter → Bool → List ℕ → List ℕ → List ℕ → ℕ → Type 0
-Leaves filter counts bytes left added count = (rest output : List ℕ) (more : ℕ) → Filters filter counts (log_lines (left ++ rest)) output more
-    → Filters filter counts (log_lines (bytes ++ rest)) (added ++ output) (count + more)
+-- a line, given with its end cut off too, ends the run
+abbrev pub RefusesLine : Filter → List ℕ → Stand → Stand → Verdict → Type 0
+RefusesLine filter content old new verdict = Judges filter content verdict × (is_refused filter verdict ≡ true) × (new ≡ old)
 
--- these bytes were filtered up to those that are left
+-- or the writer failed, which took a beginning of what waited and of the line's output
+abbrev pub LineStops : Filter → Bool → List ℕ → List ℕ → Bool → Stand → Stand → LogFault → Type 0
+LineStops filter counts bytes content write_failed old new faults.Read = ⊥
+LineStops filter counts bytes content write_failed old new faults.Write =
+    IsTrue write_failed × (verdict : Verdict) × Judges filter content verdict × (is_refused filter verdict ≡ false)
+    × AppendsBeginning old.holds new.holds (old.waits ++ output_of counts (is_selected filter verdict) (record { bytes = bytes; is_ended = false }))
+LineStops filter counts bytes content write_failed old new faults.Address = RefusesLine filter content old new verdicts.Bad
+LineStops filter counts bytes content write_failed old new faults.Length = RefusesLine filter content old new verdicts.TooLong
+LineStops filter counts bytes content write_failed old new faults.Endless = ⊥
+
+-- lines that come to the same: equal ones, or, if such lines are dropped, two that are too long
+abbrev pub AlikeLine : Filter → LogLine → LogLine → Type 0
+AlikeLine filter line other =
+    (line ≡ other) ⊎ ((is_dropped filter.bad ≡ true) × (1048576 < length (content line)) × (1048576 < length (content other)) × (line.is_ended ≡ other.is_ended))
+
+abbrev pub Alike : Filter → List LogLine → List LogLine → Type 0
+Alike filter [] [] = Unit {0}
+Alike filter [] (other ∷ others) = ⊥
+Alike filter (line ∷ lines) [] = ⊥
+Alike filter (line ∷ lines) (other ∷ others) = AlikeLine filter line other × Alike filter lines others
+
+-- these bytes were filtered up to those that are left: whatever comes behind, these lines come before those of what is left
 pub record Advances (filter : Filter) (counts : Bool) (old new : Stand) (bytes left : List ℕ) : Type 0 where
+  pub first : List LogLine
   pub added : List ℕ
   pub count : ℕ
-  pub goes : Goes old new added count
-  pub leaves : Leaves filter counts bytes left added count
+  pub goes : Goes old new added count (length first)
+  pub filters : Filters filter counts first added count
+  pub ended : list_all (λ line. line.is_ended) first ≡ true
+  pub leaves : (rest : List ℕ) → Alike filter (log_lines (bytes ++ rest)) (first ++ log_lines (left ++ rest))
+
+-- of these bytes the first lines were filtered, and the next line ends the run. It is ended, unless the log ends with it
+pub record RefusesIn (filter : Filter) (counts : Bool) (ends : Type 0) (old new : Stand) (bytes : List ℕ) (verdict : Verdict) : Type 0 where
+  pub first : List LogLine
+  pub line : LogLine
+  pub others : List LogLine
+  pub added : List ℕ
+  pub count : ℕ
+  pub lines : Alike filter (log_lines bytes) (first ++ line ∷ others)
+  pub filters : Filters filter counts first added count
+  pub goes : Goes old new added count (length first)
+  pub is_line : (line.is_ended ≡ true) ⊎ ends
+  pub judges : Judges filter (content line) verdict
+  pub refused : is_refused filter verdict ≡ true
+
+-- of these bytes the first lines were filtered, and the writer, which failed, took a beginning of their output
+pub record WritesIn (filter : Filter) (counts : Bool) (old new : Stand) (bytes : List ℕ) : Type 0 where
+  pub first : List LogLine
+  pub others : List LogLine
+  pub added : List ℕ
+  pub count : ℕ
+  pub lines : Alike filter (log_lines bytes) (first ++ others)
+  pub filters : Filters filter counts first added count
+  pub beginning : AppendsBeginning old.holds new.holds (old.waits ++ added)
+
+abbrev pub StopsIn : Filter → Bool → Type 0 → List ℕ → Bool → Stand → Stand → LogFault → Type 0
+StopsIn filter counts ends bytes write_failed old new faults.Read = ⊥
+StopsIn filter counts ends bytes write_failed old new faults.Write = IsTrue write_failed × WritesIn filter counts old new bytes
+StopsIn filter counts ends bytes write_failed old new faults.Address = RefusesIn filter counts ends old new bytes verdicts.Bad
+StopsIn filter counts ends bytes write_failed old new faults.Length = RefusesIn filter counts ends old new bytes verdicts.TooLong
+StopsIn filter counts ends bytes write_failed old new faults.Endless = ⊥
 
 -- the bytes, which no line feed follows, were filtered: as a line, unless there are none
 abbrev pub FiltersRest : Filter → Bool → List ℕ → Stand → Stand → Type 0
-FiltersRest filter counts bytes old new = (added : List ℕ) × (count : ℕ) × Goes old new added count × Filters filter counts (log_lines bytes) added count
-
--- what was read was filtered to its end
-pub record Ends (filter : Filter) (counts : Bool) (remained remains : Option (List ℕ)) (old new : Stand) : Type 0 where
-  pub read : List ℕ
-  pub added : List ℕ
-  pub count : ℕ
-  pub reads : Consumes remained remains read
-  pub end : IsAtEnd remains
-  pub goes : Goes old new added count
-  pub filters : Filters filter counts (log_lines read) added count
+FiltersRest filter counts bytes old new = (added : List ℕ) × (count : ℕ) × Goes old new added count (length (log_lines bytes)) × Filters filter counts (log_lines bytes) added count
 
 -- a read put so many bytes behind those that are held
 abbrev pub ReadsBehind : Option (List ℕ) → Option (List ℕ) → List ℕ → List ℕ → ℕ → ℕ → Type 0

@@ -1,8 +1,22 @@
-use Rattle.std.proofs.Common.{◌≤◌, ◌-◌, length}
+use Rattle.std.proofs.Common.{◌≡◌, ◌-◌, ◌≤◌, List, length, drop}
+use Rattle.std.specs.Prelude.{fold}
+use Rattle.std.specs.List.{count_by, list_any}
+use Rattle.cidr_filter.specs.CommandLines.{Begin}
+use Rattle.cidr_filter.specs.Options.{is_list, is_input, field_said, separator_said, bad_said, inverts_in, counts_in}
+use Rattle.cidr_filter.specs.declared.filter.Bad.TheVariants as bads
+use Rattle.cidr_filter.specs.declared.options.Choice.{Choice}
 use Rattle.cidr_filter.proofs.command_line.request_of.Given as goal
 
-abbrev pub invariant-loop-at : goal.invariant-loop-at
-invariant-loop-at l = l.at ≤ length l.words
+abbrev pub invariant-options : goal.invariant-options
+invariant-options l = record {
+  within : l.at ≤ length l.words;
+  few : l.inputs ≤ l.at;
+  said : (options : List Choice) × Begin l.words options (drop l.at l.words)
+      × (l.has_list ≡ list_any is_list options) × (l.inputs ≡ count_by is_input options)
+      × (l.request.field ≡ fold field_said 1 options) × (l.request.separator ≡ fold separator_said 32 options)
+      × (l.request.bad ≡ fold bad_said bads.Drop options) × (l.request.inverts ≡ list_any inverts_in options)
+      × (l.request.counts ≡ list_any counts_in options);
+}
 
-abbrev pub decreases-loop-at : goal.decreases-loop-at
-decreases-loop-at l = length l.words - l.at
+abbrev pub decreases-options : goal.decreases-options
+decreases-options l = length l.words - l.at

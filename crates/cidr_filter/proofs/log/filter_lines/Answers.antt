@@ -1,8 +1,11 @@
-use Rattle.std.proofs.Common.{◌+◌, ◌-◌, length, take, drop, arith}
+use Rattle.std.proofs.Common.{◌+◌, ◌-◌, ◌∙◌, ap, inl, refl, length, take, drop, arith}
+use Rattle.line_engine.specs.Outputs.{output_failed}
 use Rattle.line_engine.proofs.BytesLemmas.{first_behind}
 use Rattle.cidr_filter.proofs.Filtering.{advances_nowhere, advances_on, line_advances}
-use Rattle.cidr_filter.proofs.LogLines.{next_from, absent_front, further}
+use Rattle.cidr_filter.proofs.LogLines.{ended, lines_line, next_from, absent_front, further}
 use Rattle.cidr_filter.proofs.Parts.{rest_from}
+use Rattle.cidr_filter.proofs.Stopping.{line_stops, stops_behind}
+use Rattle.cidr_filter.specs.Lines.{log_lines}
 use Rattle.cidr_filter.proofs.log.filter_lines.Goals as goal
 
 pub lines-init : goal.lines-init
@@ -27,6 +30,20 @@ lines-preserved g c =
       within = omega (arith, next.within);
       absent = λ place low high. absurd (omega (arith, low, high));
       advances = advances_on c.args.filter.now c.args.counts _ _ _ piece (drop start piece) (drop (end + 1) piece) c.lines.invariant.advances
-          (line_advances c.args.filter.now c.args.counts _ _ (take (end - start) (drop start piece)) c.without_carriage_return.result.now (drop start piece) (drop (end + 1) piece)
-          (rest_from 10 piece start end next) (first_behind 10 piece start end next).before c.without_carriage_return.ensures c.in_ok-filter_line.ensures.ok);
+          (line_advances c.args.filter.now c.args.counts _ _ (take (end - start) (drop start piece)) c.without_carriage_return-content.result.now (drop start piece) (drop (end + 1) piece)
+          (rest_from 10 piece start end next) (first_behind 10 piece start end next).before c.without_carriage_return-content.ensures c.in_default-filter_line.ensures.ok);
     }
+
+pub returns-in-Err-clause-err : goal.returns-in-Err-clause-err
+returns-in-Err-clause-err g c =
+    let filter = c.args.filter.now in
+    let piece = c.args.piece.now in
+    let start = c.lines.start in
+    let end = c.in-Some.end in
+    let line = take (end - start) (drop start piece) in
+    let failed = output_failed c.filter_line.new.output in
+    let next = next_from piece start c.lines.from end c.lines.invariant.before c.lines.invariant.absent c.in-Some.ensures in
+    stops_behind filter c.args.counts ⊥ failed _ _ _ piece (drop start piece) c.in-Err.fault c.lines.invariant.advances
+    (line_stops filter c.args.counts ⊥ failed _ _ (ended line) (log_lines (drop (end + 1) piece)) c.without_carriage_return-content.result.now (drop start piece) c.in-Err.fault
+    (ap log_lines (rest_from 10 piece start end next) ∙ lines_line line (drop (end + 1) piece) (first_behind 10 piece start end next).before) (inl refl) c.without_carriage_return-content.ensures
+    c.in-Err.ensures.err)

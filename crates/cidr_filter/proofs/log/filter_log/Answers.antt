@@ -1,11 +1,12 @@
-use Rattle.std.proofs.Common.{[], ◌++◌, ◌+◌, ◌-◌, take, arith, length-append}
-use Rattle.std.proofs.KnownBytes.{Consumes-nil, Consumes-trans}
+use Rattle.std.proofs.Common.{[], ◌+◌, ◌-◌, take, arith}
+use Rattle.std.proofs.KnownBytes.{Consumes-nil}
 use Rattle.std.proofs.lemmas.List.{length-take-le}
 use Rattle.line_engine.specs.Watched.{device_of}
-use Rattle.line_engine.specs.Outputs.{writer_of, waits_in}
-use Rattle.cidr_filter.specs.Private.Progress.{stand}
+use Rattle.line_engine.specs.Outputs.{writer_of, waits_in, output_failed}
+use Rattle.cidr_filter.specs.Stands.{stand}
 use Rattle.cidr_filter.proofs.Kept.{held_fits, held_absent}
 use Rattle.cidr_filter.proofs.Filtering.{advances_nowhere, ended_ok, piece_more}
+use Rattle.cidr_filter.proofs.Stopping.{read_stops, last_stops, endless_stops, piece_stops, long_stops}
 use Rattle.cidr_filter.proofs.log.filter_log.Goals as goal
 
 pub pieces-init : goal.pieces-init
@@ -18,36 +19,60 @@ pieces-init g c = record {
 
 pub returns-then-count-eq0-clause-ok : goal.returns-then-count-eq0-clause-ok
 returns-then-count-eq0-clause-ok g c =
-    ended_ok c.finish.result c.args.filter.now c.args.counts _ _ _ _ _ _ c.pieces.buffer c.read_behind.new.buffer c.pieces.invariant.sofar.0 c.pieces.held c.in_ok-count.count
-    c.pieces.invariant.sofar.1 c.pieces.invariant.sofar.3 c.in_ok-count.ensures.read c.if-count-eq0.true c.finish.ensures.ok
+    ended_ok c.args.filter.now c.args.counts c.finish.result _ _ _ _ _ _ c.pieces.buffer c.read_behind.new.buffer c.pieces.invariant.sofar.0 c.pieces.held c.in-Ok.count
+    c.pieces.invariant.sofar.1 c.pieces.invariant.sofar.3 c.in-Ok.ensures.read c.if-count-eq0.true c.finish.ensures.ok
+
+pub returns-in-Err-clause-err : goal.returns-in-Err-clause-err
+returns-in-Err-clause-err g c =
+    let sofar = c.pieces.invariant.sofar in
+    let stops =
+    read_stops c.args.filter.now c.args.counts _ _ _ _ _ c.pieces.buffer c.pieces.buffer sofar.0 c.pieces.held 0 sofar.1 sofar.3 (omega (arith, c.pieces.invariant.fits, c.pieces.invariant.room))
+    c.pieces.invariant.absent c.in-Err.ensures.kept in
+    (c.in-Err.ensures.failed, stops.0, stops.1, stops.2)
+
+pub returns-then-count-eq0-clause-err : goal.returns-then-count-eq0-clause-err
+returns-then-count-eq0-clause-err g c =
+    let sofar = c.pieces.invariant.sofar in
+    last_stops c.args.filter.now c.args.counts _ _ _ _ _ c.pieces.buffer c.read_behind.new.buffer sofar.0 c.pieces.held c.in-Ok.count sofar.1 sofar.3 c.in-Ok.ensures.read
+    c.finish.result _ _ (output_failed c.finish.new.output) c.if-count-eq0.true c.finish.ensures.err
 
 pub returns-then-count-room-clause-err : goal.returns-then-count-room-clause-err
 returns-then-count-room-clause-err g c =
-    let read = c.pieces.invariant.sofar.0 in
-    let reads = c.in_ok-count.ensures.read in (
-      read ++ reads.1,
-      Consumes-trans _ _ _ read reads.1 c.pieces.invariant.sofar.1 reads.3,
-      omega (arith, length-append read reads.1, reads.2, c.pieces.invariant.sofar.2, c.if-count-room.true),
-    )
+    let sofar = c.pieces.invariant.sofar in
+    endless_stops c.args.filter.now c.args.counts _ _ _ _ _ c.pieces.buffer c.read_behind.new.buffer sofar.0 c.pieces.held c.in-Ok.count sofar.1 sofar.3 c.in-Ok.ensures.read
+    (omega (arith, c.pieces.invariant.fits, c.pieces.invariant.room)) c.pieces.invariant.absent (omega (arith, sofar.2, c.if-count-room.true))
+
+pub returns-in-Err-filter_piece-clause-err : goal.returns-in-Err-filter_piece-clause-err
+returns-in-Err-filter_piece-clause-err g c =
+    let sofar = c.pieces.invariant.sofar in
+    piece_stops c.args.filter.now c.args.counts _ _ _ _ _ c.pieces.buffer c.read_behind.new.buffer sofar.0 c.pieces.held c.in-Ok.count sofar.1 sofar.3 c.in-Ok.ensures.read
+    _ _ (output_failed c.filter_piece.new.output) c.in-Err-filter_piece.fault c.in-Err-filter_piece.ensures.err
+
+pub returns-in-Err-held_of-clause-err : goal.returns-in-Err-held_of-clause-err
+returns-in-Err-held_of-clause-err g c =
+    let sofar = c.pieces.invariant.sofar in
+    long_stops c.args.filter.now c.args.counts _ _ _ _ _ c.pieces.buffer c.read_behind.new.buffer sofar.0 c.pieces.held c.in-Ok.count sofar.1 sofar.3 c.in-Ok.ensures.read
+    _ c.in-Ok-filter_piece.start c.in-Ok-filter_piece.ensures.within c.in-Ok-filter_piece.ensures.absent c.in-Ok-filter_piece.ensures.advances
+    c.in-Err-held_of.ensures.stopped.0 c.in-Err-held_of.ensures.stopped.1
 
 pub pieces-preserved : goal.pieces-preserved
 pieces-preserved g c =
     let held = c.pieces.held in
-    let count = c.in_ok-count.count in
-    let start = c.in_ok-start.start in
+    let count = c.in-Ok.count in
+    let start = c.in-Ok-filter_piece.start in
     let contents = g.W.Write.contents in
     let more = piece_more c.args.filter.now c.args.counts (g.R.Read.remaining (device_of c.args.reader.now)) (g.R.Read.remaining (device_of c.pieces.reader))
     (g.R.Read.remaining (device_of c.read_behind.new.reader))
-    (stand (contents (writer_of c.args.output.now)) (waits_in c.args.output.now) c.args.tally.now.selected)
-    (stand (contents (writer_of c.pieces.output)) (waits_in c.pieces.output) c.pieces.tally.selected)
-    (stand (contents (writer_of c.filter_piece.new.output)) (waits_in c.filter_piece.new.output) c.filter_piece.new.tally.selected)
-    c.pieces.buffer c.read_behind.new.buffer c.keep.new.buffer c.pieces.invariant.sofar.0 held count start c.in_ok-held.held
-    c.pieces.invariant.sofar.1 c.pieces.invariant.sofar.3 c.in_ok-count.ensures.read c.in_ok-start.ensures.within c.in_ok-start.ensures.absent
-    c.in_ok-start.ensures.advances c.keep.ensures.front c.in_ok-held.ensures.held in
+    (stand (contents (writer_of c.args.output.now)) (waits_in c.args.output.now) c.args.tally.now)
+    (stand (contents (writer_of c.pieces.output)) (waits_in c.pieces.output) c.pieces.tally)
+    (stand (contents (writer_of c.filter_piece.new.output)) (waits_in c.filter_piece.new.output) c.filter_piece.new.tally)
+    c.pieces.buffer c.read_behind.new.buffer c.keep.new.buffer c.pieces.invariant.sofar.0 held count start c.in-Ok-held_of.count
+    c.pieces.invariant.sofar.1 c.pieces.invariant.sofar.3 c.in-Ok.ensures.read c.in-Ok-filter_piece.ensures.within c.in-Ok-filter_piece.ensures.absent
+    c.in-Ok-filter_piece.ensures.advances c.keep.ensures.front c.in-Ok-held_of.ensures.held in
     record {
-      fits = held_fits c.args.filter.now (held + count - start) c.in_ok-held.held c.in_ok-held.ensures.held;
+      fits = held_fits c.args.filter.now (held + count - start) c.in-Ok-held_of.count c.in-Ok-held_of.ensures.held;
       room = omega (arith, c.keep.ensures.length, c.read_behind.ensures.length, c.pieces.invariant.room);
-      absent = held_absent c.args.filter.now (take (held + count) c.read_behind.new.buffer) c.keep.new.buffer (held + count) start c.in_ok-held.held
-          (length-take-le (held + count) c.read_behind.new.buffer c.in_ok-count.ensures.read.0) c.keep.ensures.front c.in_ok-start.ensures.absent c.in_ok-held.ensures.held;
+      absent = held_absent c.args.filter.now (take (held + count) c.read_behind.new.buffer) c.keep.new.buffer (held + count) start c.in-Ok-held_of.count
+          (length-take-le (held + count) c.read_behind.new.buffer c.in-Ok.ensures.read.0) c.keep.ensures.front c.in-Ok-filter_piece.ensures.absent c.in-Ok-held_of.ensures.held;
       sofar = (more.0, more.1, omega (arith, more.2, c.pieces.invariant.sofar.2, c.if-count-room.false), more.3);
     }

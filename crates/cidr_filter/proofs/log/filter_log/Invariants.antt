@@ -3,7 +3,8 @@ use Rattle.std.specs.Io.KnownBytes.{Consumes}
 use Rattle.byte_search.specs.Bytes.{IsAbsent}
 use Rattle.line_engine.specs.Watched.{device_of}
 use Rattle.line_engine.specs.Outputs.{writer_of, waits_in}
-use Rattle.cidr_filter.specs.Private.Progress.{stand, Advances}
+use Rattle.cidr_filter.specs.Stands.{stand}
+use Rattle.cidr_filter.specs.Private.Progress.{Advances}
 use Rattle.cidr_filter.proofs.log.filter_log.Given as goal
 
 abbrev pub invariant-pieces : goal.invariant-pieces
@@ -13,8 +14,8 @@ invariant-pieces g l = record {
   absent : IsAbsent 10 (take l.held l.buffer) 0 l.held;
   sofar : (read : List ℕ) × Consumes (g.R.Read.remaining (device_of l.initial.reader)) (g.R.Read.remaining (device_of l.reader)) read
       × (length read + l.room ≡ 2 ^ 64 - 1)
-      × Advances l.filter l.counts (stand (g.W.Write.contents (writer_of l.initial.output)) (waits_in l.initial.output) l.initial.tally.selected)
-      (stand (g.W.Write.contents (writer_of l.output)) (waits_in l.output) l.tally.selected) read (take l.held l.buffer);
+      × Advances l.filter l.counts (stand (g.W.Write.contents (writer_of l.initial.output)) (waits_in l.initial.output) l.initial.tally)
+      (stand (g.W.Write.contents (writer_of l.output)) (waits_in l.output) l.tally) read (take l.held l.buffer);
 }
 
 abbrev pub decreases-pieces : goal.decreases-pieces

@@ -1,0 +1,63 @@
+-- What the words of a command line ask for.
+use Rattle.std.specs.Prelude.{◌≡◌, ℕ, ◌+◌, ◌==◌, ◌||◌, ◌&&◌, Bool, true, false, not, List, [], ◌∷◌, Option, None, Some, drop, length, nat_le, if◌then◌else◌, codes, fold, String}
+use Rattle.std.specs.List.{count_by, list_all, list_any}
+use Rattle.std.specs.String.{string_bytes}
+use Rattle.cidr_filter.specs.Options.{is, begins, option_of, behind_option, field_said, separator_said, bad_said, inverts_in, counts_in, is_list, is_input}
+use Rattle.cidr_filter.specs.declared.filter.Bad.TheVariants as bads
+use Rattle.cidr_filter.specs.declared.options.Choice.{Choice}
+use Rattle.cidr_filter.specs.declared.command_line.Request.{Request}
+use Rattle.cidr_filter.specs.declared.command_line.Command.{Command}
+use Rattle.cidr_filter.specs.declared.command_line.Command.TheVariants as commands
+
+-- the words begin with these options, which the rest follows
+abbrev pub Begin : {Z : Type 0} → List (String Z) → List Choice → List (String Z) → Type 0
+Begin words [] rest = words ≡ rest
+Begin words (choice ∷ choices) rest = (option_of words ≡ Some choice) × Begin (behind_option words) choices rest
+
+-- a word is `-`, or begins with no `-`
+abbrev pub is_plain : {Z : Type 0} → String Z → Bool
+is_plain word = is (codes "-") word || not (begins (codes "-") (string_bytes word))
+
+-- the FILEs among the words behind the options: all words behind a `--`, and without it all words, which have to be plain
+abbrev pub files_among : {Z : Type 0} → List (String Z) → Option (List (String Z))
+files_among [] = Some []
+files_among (word ∷ words) = if is (codes "--") word then Some words else if list_all is_plain (word ∷ words) then Some (word ∷ words) else None
+
+-- how often the FILEs name standard input, which no FILE at all does too
+abbrev pub inputs_among : {Z : Type 0} → List (String Z) → ℕ
+inputs_among [] = 1
+inputs_among (file ∷ files) = count_by (is (codes "-")) (file ∷ files)
+
+-- the words are options, as many as there are, and FILEs. There is a list, and standard input is named once at most. The
+-- request has the last of each option, and begins its FILEs there
+pub record Says {Z : Type 0} (words : List (String Z)) (request : Request) : Type 0 where
+  pub options : List Choice
+  pub rest : List (String Z)
+  pub files : List (String Z)
+  pub begin : Begin words options rest
+  pub no_more : option_of rest ≡ None
+  pub follow : files_among rest ≡ Some files
+  pub lists : list_any is_list options ≡ true
+  pub inputs : nat_le (count_by is_input options + inputs_among files) 1 ≡ true
+  pub field : request.field ≡ fold field_said 1 options
+  pub separator : request.separator ≡ fold separator_said 32 options
+  pub bad : request.bad ≡ fold bad_said bads.Drop options
+  pub inverts : request.inverts ≡ list_any inverts_in options
+  pub counts : request.counts ≡ list_any counts_in options
+  pub place : drop request.files words ≡ files
+
+-- the words ask for nothing that a request says
+abbrev pub AsksNothing : {Z : Type 0} → List (String Z) → Type 0
+AsksNothing words = (request : Request) → ¬ (Says words request)
+
+-- the only word is this text
+abbrev pub is_only : {Z : Type 0} → List ℕ → List (String Z) → Bool
+is_only text [] = false
+is_only text (word ∷ others) = length others == 0 && is text word
+
+-- the words ask for this
+abbrev pub Asks : {Z : Type 0} → List (String Z) → Command → Type 0
+Asks words commands.Help = is_only (codes "--help") words ≡ true
+Asks words commands.Version = is_only (codes "--version") words ≡ true
+Asks words (commands.Filter request) = Says words request
+Asks words commands.Usage = (is_only (codes "--help") words ≡ false) × (is_only (codes "--version") words ≡ false) × AsksNothing words

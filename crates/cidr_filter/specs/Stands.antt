@@ -1,0 +1,22 @@
+-- Where a run stands.
+use Rattle.std.specs.Prelude.{◌≡◌, ℕ, ◌+◌, ◌-◌, ◌^◌, ◌≤◌, min, List, Option}
+use Rattle.line_engine.specs.Outputs.{Puts}
+use Rattle.cidr_filter.specs.declared.log.Tally.{Tally}
+
+-- what the writer holds, what waits, how many lines of all logs were selected, and how many of this log were filtered
+pub record Stand : Type 0 where
+  pub holds : Option (List ℕ)
+  pub waits : List ℕ
+  pub selected : ℕ
+  pub lines : ℕ
+
+abbrev pub stand : Option (List ℕ) → List ℕ → Tally → Stand
+stand holds waits tally = record { holds = holds; waits = waits; selected = tally.selected; lines = tally.lines }
+
+-- 64 bits count so many more
+abbrev pub Counts : ℕ → ℕ → ℕ → Type 0
+Counts old new more = old ≤ 2 ^ 64 - 1 → new ≡ min (old + more) (2 ^ 64 - 1)
+
+-- from one stand to the next these bytes were added to the output, so many lines were selected, and so many filtered
+abbrev pub Goes : Stand → Stand → List ℕ → ℕ → ℕ → Type 0
+Goes old new added selected lines = Puts old.holds old.waits new.holds new.waits added × Counts old.selected new.selected selected × Counts old.lines new.lines lines

@@ -1,0 +1,222 @@
+//! The options of a command line, one at a time.
+ghost use Rattle.std.specs.Prelude.{◌≡◌, ◌-◌, ◌^◌, ◌<◌, ◌≤◌, drop, length, min};
+ghost use Rattle.std.specs.List.{list_all};
+ghost use Rattle.std.specs.Char.{is_ascii_digit};
+ghost use Rattle.cidr_filter.specs.Options.{is, is_letter, number_of, takes_next, behind_option, option_of, in_one_word, in_two_words, letters_option, file_option, field_option, separator_option, bad_option};
+
+use crate::filter::Bad;
+
+/// An option.
+#[derive(Clone, Copy, Debug, PartialEq, Eq)]
+pub enum Choice {
+    /// `-v`, `-c`, or letters of both.
+    Letters {
+        /// Whether `v` is among them.
+        inverts: bool,
+        /// Whether `c` is.
+        counts: bool,
+    },
+    /// `-k`.
+    Field(u32),
+    /// `-d`.
+    Separator(u8),
+    /// `--bad`.
+    Bad(Bad),
+    /// `-f`, and the name of a list.
+    File,
+    /// `-f -`: the list on standard input.
+    Input,
+    /// `-e`, and a network or a range.
+    Text,
+}
+
+/// The place behind the option at a place: an option may take the next word too.
+pub(crate) fn behind(words: &[String], at: usize) -> usize
+    requires { at ≤ length words.now }
+    ensures within { result ≤ length words.now }
+    ensures behind { at < length words.now → at < result }
+    ensures rest { drop result words.now ≡ behind_option (drop at words.now) }
+{
+    if at < words.len() && takes_next(&words[at]) {
+        words.len().min(at + 2)
+    } else {
+        words.len().min(at.saturating_add(1))
+    }
+}
+
+/// The option at a place, if there is one.
+pub(crate) fn choice_at(words: &[String], at: usize) -> Option<Choice>
+    requires { at ≤ length words.now }
+    ensures { result ≡ option_of (drop at words.now) }
+{
+    if at >= words.len() {
+        return None;
+    }
+    let word = &words[at];
+    if !takes_next(word) {
+        return choice_in(word.as_bytes());
+    }
+    if at + 1 >= words.len() {
+        return None;
+    }
+    choice_with(word, words[at + 1].as_bytes())
+}
+
+// Whether the value of an option is the next word.
+fn takes_next(word: &String) -> bool
+    ensures { result ≡ takes_next word.now }
+{
+    is(word, "-f") || is(word, "-e") || is(word, "-k") || is(word, "-d") || is(word, "--bad")
+}
+
+// The option of this name with this value.
+fn choice_with(name: &String, value: &[u8]) -> Option<Choice>
+    ensures { result ≡ in_two_words name.now value.now }
+{
+    if is(name, "-f") {
+        file_choice(value)
+    } else if is(name, "-e") {
+        Some(Choice::Text)
+    } else if is(name, "-k") {
+        field_choice(value)
+    } else if is(name, "-d") {
+        separator_choice(value)
+    } else {
+        bad_choice(value)
+    }
+}
+
+// The option in one word.
+fn choice_in(word: &[u8]) -> Option<Choice>
+    ensures { result ≡ in_one_word word.now }
+{
+    if let Some(value) = word.strip_prefix(b"-k".as_slice()) {
+        return field_choice(value);
+    }
+    if let Some(value) = word.strip_prefix(b"-d".as_slice()) {
+        return separator_choice(value);
+    }
+    if let Some(value) = word.strip_prefix(b"--bad=".as_slice()) {
+        return bad_choice(value);
+    }
+    match word.strip_prefix(b"-".as_slice()) {
+        Some(letters) => letters_choice(letters),
+        None => None,
+    }
+}
+
+// `-v` and `-c` by their letters.
+fn letters_choice(letters: &[u8]) -> Option<Choice>
+    ensures { result ≡ letters_option letters.now }
+{
+    if letters.is_empty() || !are_letters(letters) {
+        return None;
+    }
+    Some(Choice::Letters {
+        inverts: letters.contains(&b'v'),
+        counts: letters.contains(&b'c'),
+    })
+}
+
+// Whether there are no other letters than `v` and `c`.
+fn are_letters(letters: &[u8]) -> bool
+    ensures { result ≡ list_all is_letter letters.now }
+{
+    for letter in letters {
+        if *letter != b'v' && *letter != b'c' {
+            return false;
+        }
+    }
+    true
+}
+
+// `-f` with this value.
+fn file_choice(value: &[u8]) -> Option<Choice>
+    ensures { result ≡ file_option value.now }
+{
+    if value == b"-".as_slice() {
+        Some(Choice::Input)
+    } else {
+        Some(Choice::File)
+    }
+}
+
+// `-k` with this value.
+fn field_choice(value: &[u8]) -> Option<Choice>
+    ensures { result ≡ field_option value.now }
+{
+    if value.is_empty() || !are_digits(value) {
+        return None;
+    }
+    let number = number_of(value);
+    if number == 0 {
+        return None;
+    }
+    match u32::try_from(number) {
+        Ok(number) => Some(Choice::Field(number)),
+        Err(_) => None,
+    }
+}
+
+// Whether each byte is a digit.
+fn are_digits(text: &[u8]) -> bool
+    ensures { result ≡ list_all is_ascii_digit text.now }
+{
+    for byte in text {
+        if !byte.is_ascii_digit() {
+            return false;
+        }
+    }
+    true
+}
+
+// The number that digits name, or the greatest of 64 bits.
+fn number_of(digits: &[u8]) -> u64
+    ensures { result ≡ min (number_of digits.now) (2 ^ 64 - 1) }
+{
+    let mut number = 0u64;
+    for digit in digits {
+        number = number
+            .saturating_mul(10)
+            .saturating_add(u64::from(digit.saturating_sub(b'0')));
+    }
+    number
+}
+
+// `-d` with this value: a byte of ASCII, no LF, CR or NUL.
+fn separator_choice(value: &[u8]) -> Option<Choice>
+    ensures { result ≡ separator_option value.now }
+{
+    match value {
+        [byte] => {
+            if *byte < 128 && *byte != b'\n' && *byte != b'\r' && *byte != 0 {
+                Some(Choice::Separator(*byte))
+            } else {
+                None
+            }
+        }
+        _ => None,
+    }
+}
+
+// `--bad` with this value.
+fn bad_choice(value: &[u8]) -> Option<Choice>
+    ensures { result ≡ bad_option value.now }
+{
+    if value == b"drop".as_slice() {
+        Some(Choice::Bad(Bad::Drop))
+    } else if value == b"keep".as_slice() {
+        Some(Choice::Bad(Bad::Keep))
+    } else if value == b"stop".as_slice() {
+        Some(Choice::Bad(Bad::Stop))
+    } else {
+        None
+    }
+}
+
+/// Whether a word is this text.
+pub(crate) fn is(word: &String, text: &str) -> bool
+    ensures { result ≡ is text.now word.now }
+{
+    word.as_str() == text
+}
