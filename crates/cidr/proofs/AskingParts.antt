@@ -97,8 +97,8 @@ parts_after_routes routes front back ends front_ends asking =
     let one = output_from after front in
     let two = output_from after back in
     let whole : output_from no_routes (routes ++ (front ++ back)) ≡ first ++ (one ++ two) =
-        output_of_both no_routes routes (front ++ back) ends
-        ∙ ap (λ o. first ++ o) (output_of_both after front back front_ends ∙ ap (λ r. one ++ output_from r back) (asking_after after (lines front) asking)) in
+    output_of_both no_routes routes (front ++ back) ends
+    ∙ ap (λ o. first ++ o) (output_of_both after front back front_ends ∙ ap (λ r. one ++ output_from r back) (asking_after after (lines front) asking)) in
     let rest : drop (length first) (output_from no_routes (routes ++ back)) ≡ two =
-        ap (drop (length first)) (output_of_both no_routes routes back ends) ∙ drop-append_seam first two in
+    ap (drop (length first)) (output_of_both no_routes routes back ends) ∙ drop-append_seam first two in
     whole ∙ sym (append_assoc first one two) ∙ ap₂ (λ a b. a ++ b) (sym (output_of_both no_routes routes front ends)) (sym rest)
