@@ -1,3 +1,5 @@
 pub mod Merging
 pub mod Putting
 pub mod Requests
+pub mod Told
+pub mod Totals

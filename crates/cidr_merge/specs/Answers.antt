@@ -1,10 +1,11 @@
 -- What an operation leaves, and how it is printed.
-use Rattle.std.specs.Prelude.{ℕ, List, [], ◌∷◌, ◌++◌, map, nat_lt, if◌then◌else◌, codes, ◌≡◌}
+use Rattle.std.specs.Prelude.{ℕ, List, [], ◌∷◌, ◌++◌, map, nat_lt, if◌then◌else◌, codes, decimal, length, ◌≡◌}
 use Rattle.std.specs.List.{flat_map}
 use Rattle.ipnetwork_family.specs.Network.{Network}
 use Rattle.ipnetwork_family.specs.Family.{Family, text_of, v4_family, v6_family}
 use Rattle.ipnetwork_blocks.specs.Aggregate.{InUnion}
 use Rattle.ipnetwork_blocks.specs.LeastList.{IsLeastList}
+use Rattle.ipnetwork_sets.specs.Counts.{HasCount}
 use Rattle.ipnetwork_sets.specs.RangeLists.{IsRangeList}
 use Rattle.ipnetwork_sets.specs.Sets.{InBoth, InFirstAlone}
 use Rattle.cidr_merge.specs.declared.command_line.Operation.{Operation}
@@ -69,22 +70,43 @@ abbrev pub range_line : {w : ℕ} → Operation → Family w → Sided (ℕ × �
 range_line operation family sided =
     sign_of operation sided.side ++ family.canonical sided.part.0 ++ codes " - " ++ family.canonical sided.part.1 ++ 10 ∷ []
 
--- the text is the lines of the blocks that the operation leaves of two sets of a family, or of their ranges; counts are
--- not described
-abbrev pub IsAnswerOf : {w : ℕ} → Operation → Form → Family w → List Network → List Network → List ℕ → Type 0
-IsAnswerOf {w} operation Blocks family first second text = (firsts seconds : List Network) × IsLeastList w (IsLeft operation w first second) firsts
+-- the lines of the blocks that the operation leaves of two sets of a family
+abbrev pub AreBlockLines : {w : ℕ} → Operation → Family w → List Network → List Network → List ℕ → Type 0
+AreBlockLines {w} operation family first second text = (firsts seconds : List Network) × IsLeastList w (IsLeft operation w first second) firsts
     × IsLeastList w (IsLeftOfSecond operation w first second) seconds × (text ≡ flat_map (block_line operation family) (merged firsts seconds))
-IsAnswerOf {w} operation Ranges family first second text = (firsts seconds : List (ℕ × ℕ)) × IsRangeList (IsLeft operation w first second) firsts
+
+-- those of the ranges
+abbrev pub AreRangeLines : {w : ℕ} → Operation → Family w → List Network → List Network → List ℕ → Type 0
+AreRangeLines {w} operation family first second text = (firsts seconds : List (ℕ × ℕ)) × IsRangeList (IsLeft operation w first second) firsts
     × IsRangeList (IsLeftOfSecond operation w first second) seconds × (text ≡ flat_map (range_line operation family) (merged_ranges firsts seconds))
-IsAnswerOf operation Counts family first second text = Unit {0}
+
+-- the line of the counts of a set: its name, how many blocks the least list has, and how many addresses there are
+abbrev pub IsCountLine : ℕ → List ℕ → (ℕ → Type 0) → List ℕ → Type 0
+IsCountLine w name set text = (blocks : List Network) × (addresses : ℕ) × IsLeastList w set blocks × HasCount set addresses
+    × (text ≡ name ++ decimal (length blocks) ++ codes " " ++ decimal addresses ++ 10 ∷ [])
 
 -- the text is that of IPv4, and then that of IPv6
-abbrev pub IsAnswer : Operation → Form → Sets → Sets → List ℕ → Type 0
-IsAnswer operation form first second text = (v4 v6 : List ℕ) × IsAnswerOf operation form v4_family first.v4 second.v4 v4
-    × IsAnswerOf operation form v6_family first.v6 second.v6 v6 × (text ≡ v4 ++ v6)
+abbrev pub AreBoth : (List ℕ → Type 0) → (List ℕ → Type 0) → List ℕ → Type 0
+AreBoth IsV4 IsV6 text = (v4 v6 : List ℕ) × IsV4 v4 × IsV6 v6 × (text ≡ v4 ++ v6)
 
--- this holds, unless the form is that of counts
-abbrev pub IfListed : Form → Type 0 → Type 0
-IfListed Blocks holds = holds
-IfListed Ranges holds = holds
-IfListed Counts holds = Unit {0}
+-- the lines of the counts of a set of each family, after a sign
+abbrev pub AreCountLines : List ℕ → (ℕ → Type 0) → (ℕ → Type 0) → List ℕ → Type 0
+AreCountLines sign set4 set6 = AreBoth (IsCountLine 32 (sign ++ codes "v4 ") set4) (IsCountLine 128 (sign ++ codes "v6 ") set6)
+
+-- the counts of what the operation leaves of the first side, after a sign
+abbrev pub AreCountsLeft : Operation → List ℕ → Sets → Sets → List ℕ → Type 0
+AreCountsLeft operation sign first second = AreCountLines sign (IsLeft operation 32 first.v4 second.v4) (IsLeft operation 128 first.v6 second.v6)
+
+-- and of `differ` those of the second side after them
+abbrev pub AreCounts : Operation → Sets → Sets → List ℕ → Type 0
+AreCounts Union first second text = AreCountsLeft Union [] first second text
+AreCounts Common first second text = AreCountsLeft Common [] first second text
+AreCounts Minus first second text = AreCountsLeft Minus [] first second text
+AreCounts Differ first second text = (firsts seconds : List ℕ) × AreCountsLeft Differ (codes "< ") first second firsts
+    × AreCountLines (codes "> ") (IsLeftOfSecond Differ 32 first.v4 second.v4) (IsLeftOfSecond Differ 128 first.v6 second.v6) seconds × (text ≡ firsts ++ seconds)
+
+-- the text is the answer in this form
+abbrev pub IsAnswer : Operation → Form → Sets → Sets → List ℕ → Type 0
+IsAnswer operation Blocks first second text = AreBoth (AreBlockLines operation v4_family first.v4 second.v4) (AreBlockLines operation v6_family first.v6 second.v6) text
+IsAnswer operation Ranges first second text = AreBoth (AreRangeLines operation v4_family first.v4 second.v4) (AreRangeLines operation v6_family first.v6 second.v6) text
+IsAnswer operation Counts first second text = AreCounts operation first second text

@@ -2,3 +2,4 @@
 pub mod Answers
 pub mod CommandLines
 pub mod Private
+pub mod Told

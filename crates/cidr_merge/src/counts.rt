@@ -1,62 +1,59 @@
 //! How many blocks and addresses there are.
-ghost use Rattle.std.specs.Prelude.{◌≤◌};
+ghost use Rattle.std.specs.Prelude.{◌≡◌, ◌≤◌, ◌-◌, ◌^◌, ◌++◌, min, length, codes, decimal};
 ghost use Rattle.arrayvec.specs.ArrayString.{array_string_len};
+ghost use Rattle.ipnetwork_sets.specs.Counts.{count_number, total};
+ghost use Rattle.cidr_merge.specs.Private.Sweeps.{blocks_left};
 
 use crate::sweep::Sweep;
 use arrayvec::ArrayString;
-use ipnetwork::{Address, Network};
+use ipnetwork::CidrNetwork;
 use ipnetwork_addr::decimal::push_number;
+use ipnetwork_sets::AddressCount;
 
 /// How many blocks there are, and how many addresses they have.
 #[derive(Clone, Copy, Debug)]
 pub(crate) struct Counts {
-    blocks: u64,
-    addresses: u128,
-    is_whole: bool,
+    blocks: u128,
+    addresses: AddressCount,
 }
 
 impl Counts {
     /// The counts of these blocks.
-    pub(crate) fn of<A: Address>(mut blocks: Sweep<'_, Network<A>>) -> Counts {
-        let mut counts = Counts {
-            blocks: 0,
-            addresses: 0,
-            is_whole: false,
-        };
+    pub(crate) fn of<N: CidrNetwork>(mut blocks: Sweep<'_, N>) -> Counts
+        ensures blocks { result.blocks ≡ min (length (blocks_left N.pair blocks.entry)) (2 ^ 128 - 1) }
+        ensures addresses { count_number result.addresses ≡ min (total N.WIDTH (blocks_left N.pair blocks.entry)) (2 ^ 128) }
+    {
+        let mut count = 0u128;
+        let mut addresses = AddressCount::ZERO;
         while let Some(block) = blocks.next() {
-            counts.add(block);
+            count = count.saturating_add(1);
+            addresses = addresses.add_block(block);
         }
-        counts
-    }
-
-    // Counts a block.
-    fn add<A: Address>(&mut self, block: Network<A>) {
-        self.blocks = self.blocks.saturating_add(1);
-        let bits = A::WIDTH.saturating_sub(block.prefix());
-        if bits >= 128 {
-            self.is_whole = true;
-        } else {
-            self.addresses = self.addresses.saturating_add(1 << bits);
+        Counts {
+            blocks: count,
+            addresses,
         }
     }
 
-    /// How many blocks there are.
-    pub(crate) fn blocks(self) -> ArrayString<40> {
-        let mut text = ArrayString::new();
-        push_number(&mut text, u128::from(self.blocks));
-        text
-    }
-
-    /// How many addresses they have.
-    pub(crate) fn addresses(self) -> ArrayString<40>
-        ensures { array_string_len result ≤ 40 }
+    /// Both numbers, with a blank between them.
+    pub(crate) fn text(self) -> ArrayString<80>
+        ensures { result.bytes ≡ decimal self.blocks ++ codes " " ++ decimal (count_number self.addresses) }
     {
         let mut text = ArrayString::new();
-        if self.is_whole {
-            text.push_str("340282366920938463463374607431768211456");
-        } else {
-            push_number(&mut text, self.addresses);
-        }
+        push_number(&mut text, self.blocks);
+        text.push(' ');
+        push_count(&mut text, self.addresses);
         text
+    }
+}
+
+// Writes a count of addresses at the end of a text.
+fn push_count(text: &mut ArrayString<80>, count: AddressCount)
+    requires { array_string_len text.old ≤ 40 }
+    ensures { text.new.bytes ≡ text.old.bytes ++ decimal (count_number count) }
+{
+    match count {
+        AddressCount::Number(number) => push_number(text, number),
+        AddressCount::AllOfIpv6 => text.push_str("340282366920938463463374607431768211456"),
     }
 }

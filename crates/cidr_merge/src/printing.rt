@@ -1,7 +1,7 @@
 //! The answer is printed.
-ghost use Rattle.std.specs.Prelude.{◌≡◌, ℕ, List, OnOk};
-ghost use Rattle.cidr_merge.specs.Answers.{sign_of, block_line, range_line, IsAnswerOf, IsAnswer, IfListed};
-ghost use Rattle.line_engine.specs.Outputs.{writer_of, waits_in, Puts};
+ghost use Rattle.std.specs.Prelude.{◌≡◌, ◌≤◌, ◌++◌, ◌∷◌, ◌||◌, [], ℕ, List, OnOk, is_err};
+ghost use Rattle.cidr_merge.specs.Answers.{sign_of, block_line, range_line, AreBlockLines, AreRangeLines, IsCountLine, AreCountsLeft, AreCounts, IsAnswer, IsLeft};
+ghost use Rattle.line_engine.specs.Outputs.{writer_of, waits_in, output_failed, Puts};
 
 use crate::command_line::{Form, Operation};
 use crate::counts::Counts;
@@ -23,8 +23,9 @@ pub(crate) fn print<W: Write>(
     second: &Sets,
     output: &mut Output<'_, W>,
 ) -> Result<(), RunFault>
-    ensures { OnOk result (IfListed form ((text : List ℕ) × IsAnswer operation form first.now second.now text
-        × Puts (W.contents (writer_of output.old)) (waits_in output.old) (W.contents (writer_of output.new)) (waits_in output.new) text)) }
+    ensures text { OnOk result ((text : List ℕ) × IsAnswer operation form first.now second.now text
+        × Puts (W.contents (writer_of output.old)) (waits_in output.old) (W.contents (writer_of output.new)) (waits_in output.new) text) }
+    ensures failed { output_failed output.new ≡ (output_failed output.old || is_err result) }
 {
     match form {
         Form::Blocks => {
@@ -35,7 +36,7 @@ pub(crate) fn print<W: Write>(
             print_ranges(operation, &first.v4, &second.v4, output)?;
             print_ranges(operation, &first.v6, &second.v6, output)
         }
-        Form::Counts => print_all_counts(operation, first, second, output),
+        Form::Counts => print_counts(operation, first, second, output),
     }
 }
 
@@ -46,8 +47,9 @@ fn print_blocks<A: Address, W: Write>(
     second: &AddressSet<Network<A>>,
     output: &mut Output<'_, W>,
 ) -> Result<(), RunFault>
-    ensures { OnOk result ((text : List ℕ) × IsAnswerOf operation Form.Blocks A.family first.now second.now text
+    ensures text { OnOk result ((text : List ℕ) × AreBlockLines operation A.family first.now second.now text
         × Puts (W.contents (writer_of output.old)) (waits_in output.old) (W.contents (writer_of output.new)) (waits_in output.new) text) }
+    ensures failed { output_failed output.new ≡ (output_failed output.old || is_err result) }
 {
     let mut blocks = Sides::left(operation, first, second);
     while let Some(next) = blocks.next() {
@@ -63,8 +65,9 @@ fn put_block<A: Address, W: Write>(
     block: Network<A>,
     output: &mut Output<'_, W>,
 ) -> Result<(), RunFault>
-    ensures { OnOk result (Puts (W.contents (writer_of output.old)) (waits_in output.old) (W.contents (writer_of output.new)) (waits_in output.new)
+    ensures text { OnOk result (Puts (W.contents (writer_of output.old)) (waits_in output.old) (W.contents (writer_of output.new)) (waits_in output.new)
         (block_line operation A.family (record { side = side; part = block }))) }
+    ensures failed { output_failed output.new ≡ (output_failed output.old || is_err result) }
 {
     output.put(sign_of(operation, side).as_bytes())?;
     output.put(block.canonical().as_str().as_bytes())?;
@@ -91,8 +94,9 @@ fn print_ranges<A: Address, W: Write>(
     second: &AddressSet<Network<A>>,
     output: &mut Output<'_, W>,
 ) -> Result<(), RunFault>
-    ensures { OnOk result ((text : List ℕ) × IsAnswerOf operation Form.Ranges A.family first.now second.now text
+    ensures text { OnOk result ((text : List ℕ) × AreRangeLines operation A.family first.now second.now text
         × Puts (W.contents (writer_of output.old)) (waits_in output.old) (W.contents (writer_of output.new)) (waits_in output.new) text) }
+    ensures failed { output_failed output.new ≡ (output_failed output.old || is_err result) }
 {
     let mut ranges = RangeSides::left(operation, first, second);
     while let Some(next) = ranges.next() {
@@ -108,8 +112,9 @@ fn put_range<A: Address, W: Write>(
     range: (A, A),
     output: &mut Output<'_, W>,
 ) -> Result<(), RunFault>
-    ensures { OnOk result (Puts (W.contents (writer_of output.old)) (waits_in output.old) (W.contents (writer_of output.new)) (waits_in output.new)
+    ensures text { OnOk result (Puts (W.contents (writer_of output.old)) (waits_in output.old) (W.contents (writer_of output.new)) (waits_in output.new)
         (range_line operation A.family (record { side = side; part = (A.number range.0, A.number range.1) }))) }
+    ensures failed { output_failed output.new ≡ (output_failed output.old || is_err result) }
 {
     output.put(sign_of(operation, side).as_bytes())?;
     output.put(range.0.canonical().as_str().as_bytes())?;
@@ -119,45 +124,72 @@ fn put_range<A: Address, W: Write>(
 }
 
 // Prints the counts of both families; of `differ` for each side.
-fn print_all_counts<W: Write>(
+fn print_counts<W: Write>(
     operation: Operation,
     first: &Sets,
     second: &Sets,
     output: &mut Output<'_, W>,
-) -> Result<(), RunFault> {
-    print_counts(operation, Side::First, first, second, output)?;
+) -> Result<(), RunFault>
+    ensures text { OnOk result ((text : List ℕ) × AreCounts operation first.now second.now text
+        × Puts (W.contents (writer_of output.old)) (waits_in output.old) (W.contents (writer_of output.new)) (waits_in output.new) text) }
+    ensures failed { output_failed output.new ≡ (output_failed output.old || is_err result) }
+{
+    print_counts_left(operation, Side::First, first, second, output)?;
     match operation {
-        Operation::Differ => print_counts(operation, Side::Second, second, first, output),
+        Operation::Differ => { print_counts_left(operation, Side::Second, second, first, output) }
         _ => Ok(()),
     }
 }
 
-// Prints the counts of both families for a side.
-fn print_counts<W: Write>(
+// Prints the counts of both families of what the operation leaves of the first of two sides.
+fn print_counts_left<W: Write>(
     operation: Operation,
     side: Side,
     first: &Sets,
     second: &Sets,
     output: &mut Output<'_, W>,
-) -> Result<(), RunFault> {
-    let v4 = Counts::of(Sweep::of(operation, &first.v4, &second.v4));
-    let v6 = Counts::of(Sweep::of(operation, &first.v6, &second.v6));
+) -> Result<(), RunFault>
+    ensures text { OnOk result ((text : List ℕ) × AreCountsLeft operation (sign_of operation side) first.now second.now text
+        × Puts (W.contents (writer_of output.old)) (waits_in output.old) (W.contents (writer_of output.new)) (waits_in output.new) text) }
+    ensures failed { output_failed output.new ≡ (output_failed output.old || is_err result) }
+{
     let sign = sign_of(operation, side);
-    put_counts(sign, "v4 ", v4, output)?;
-    put_counts(sign, "v6 ", v6, output)
+    print_count_line(sign, "v4 ", operation, &first.v4, &second.v4, output)?;
+    print_count_line(sign, "v6 ", operation, &first.v6, &second.v6, output)
+}
+
+// Prints the counts of what the operation leaves of the first of two sets of one family.
+fn print_count_line<A: Address, W: Write>(
+    sign: &str,
+    family: &str,
+    operation: Operation,
+    first: &AddressSet<Network<A>>,
+    second: &AddressSet<Network<A>>,
+    output: &mut Output<'_, W>,
+) -> Result<(), RunFault>
+    requires some { 1 ≤ A.WIDTH }
+    requires bits { A.WIDTH ≤ 128 }
+    ensures text { OnOk result ((text : List ℕ) × IsCountLine A.WIDTH (sign.now ++ family.now) (IsLeft operation A.WIDTH first.now second.now) text
+        × Puts (W.contents (writer_of output.old)) (waits_in output.old) (W.contents (writer_of output.new)) (waits_in output.new) text) }
+    ensures failed { output_failed output.new ≡ (output_failed output.old || is_err result) }
+{
+    let counts = Counts::of(Sweep::of(operation, first, second));
+    put_counts(sign, family, counts.text().as_str(), output)
 }
 
 // Prints the counts of a family.
 fn put_counts<W: Write>(
     sign: &str,
     family: &str,
-    counts: Counts,
+    counts: &str,
     output: &mut Output<'_, W>,
-) -> Result<(), RunFault> {
+) -> Result<(), RunFault>
+    ensures text { OnOk result (Puts (W.contents (writer_of output.old)) (waits_in output.old) (W.contents (writer_of output.new)) (waits_in output.new)
+        ((sign.now ++ family.now) ++ counts.now ++ 10 ∷ [])) }
+    ensures failed { output_failed output.new ≡ (output_failed output.old || is_err result) }
+{
     output.put(sign.as_bytes())?;
     output.put(family.as_bytes())?;
-    output.put(counts.blocks().as_str().as_bytes())?;
-    output.put(b" ")?;
-    output.put(counts.addresses().as_str().as_bytes())?;
+    output.put(counts.as_bytes())?;
     output.put(b"\n")
 }

@@ -3,9 +3,11 @@ ghost use Rattle.std.specs.Prelude.{◌≡◌, ◌∷◌, [], MatchOption};
 ghost use Rattle.ipnetwork_blocks.specs.LeastList.{IsLeastList};
 ghost use Rattle.cidr_merge.specs.Answers.{IsLeft};
 ghost use Rattle.cidr_merge.specs.Private.Sweeps.{blocks_left};
+ghost use Rattle.cidr_merge.specs.Private.Totals.{AddUp};
 
 use crate::command_line::Operation;
 use ipnetwork::CidrNetwork;
+use ipnetwork_sets::laws::{fewer_blocks, shortest, sums};
 use ipnetwork_sets::{AddressSet, Difference, Intersection};
 
 /// The blocks that are still to come, in ascending order.
@@ -23,8 +25,12 @@ impl<'a, N: CidrNetwork> Sweep<'a, N> {
         first: &'a AddressSet<N>,
         second: &'a AddressSet<N>,
     ) -> Sweep<'a, N>
-        ensures { IsLeastList N.WIDTH (IsLeft operation N.WIDTH first.now second.now) (blocks_left N.pair result) }
+        ensures left { IsLeastList N.WIDTH (IsLeft operation N.WIDTH first.now second.now) (blocks_left N.pair result) }
+        ensures counted { AddUp N.WIDTH (IsLeft operation N.WIDTH first.now second.now) (blocks_left N.pair result) }
     {
+        shortest();
+        sums();
+        fewer_blocks();
         match operation {
             Operation::Union => {
                 let whole = first.blocks();

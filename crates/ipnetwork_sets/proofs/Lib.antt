@@ -3,6 +3,7 @@ pub mod CommonPart
 pub mod CountLaws
 pub mod DifferenceLaws
 pub mod Equal
+pub mod FewerBlocks
 pub mod FreeBlocks
 pub mod FromRanges
 pub mod LeastBlocks

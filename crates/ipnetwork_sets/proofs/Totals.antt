@@ -4,7 +4,7 @@ use Rattle.std.proofs.Math.Nat.{min-eq_left, min-eq_right}
 use Rattle.std.proofs.Math.Pow.{pow_mono}
 use Rattle.std.proofs.lemmas.Bool.{cases_lt}
 use Rattle.std.proofs.lemmas.List.{length-append}
-use Rattle.std.specs.List.{AllPairs, Contains}
+use Rattle.std.specs.List.{Contains}
 use Rattle.std.proofs.lemmas.List.Elements.{Contains-append_left, Contains-append_right, Contains-append_cases}
 use Rattle.std.proofs.lemmas.List.Kept.{AllPairs-from_increasing}
 use Rattle.ipnetwork_family.specs.Network.{Network, Member, block_size, low, members}
@@ -47,7 +47,7 @@ counts_more w count next ns more n e f g =
 
 -- ---- the addresses of a set
 
-total_fits : (w : ℕ) (bs : List Network) (from : ℕ) → AggregateIsApart → IsAddressSet w bs → ((x : ℕ) → InUnion w bs x → from ≤ x) → from ≤ 2 ^ w → from + total w bs ≤ 2 ^ w
+pub total_fits : (w : ℕ) (bs : List Network) (from : ℕ) → AggregateIsApart → IsAddressSet w bs → ((x : ℕ) → InUnion w bs x → from ≤ x) → from ≤ 2 ^ w → from + total w bs ≤ 2 ^ w
 total_fits w [] from apart h all fits = omega arith
 total_fits w (b ∷ bs) from apart h all fits =
     let hb : IsBlockNetwork w b = set_block w (b ∷ bs) b h (contains_head b bs) in

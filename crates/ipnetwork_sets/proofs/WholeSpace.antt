@@ -1,7 +1,7 @@
 -- The network of all addresses has each of them, so what is free in it is all that the set has not.
 use Rattle.std.proofs.Common.{◌≡◌, ℕ, ◌-◌, ◌/◌, ◌^◌, ◌<◌, ap, sym, subst, ◌∙◌, arith, List}
 use Rattle.ipnetwork_family.specs.Network.{Network, Member, block_size}
-use Rattle.ipnetwork_family.proofs.Blocks.{div_within, size_pos}
+use Rattle.ipnetwork_family.proofs.Blocks.{div_within}
 use Rattle.ipnetwork_blocks.specs.LeastList.{IsLeastList}
 use Rattle.ipnetwork_blocks.proofs.LeastLists.{least_of_same}
 use Rattle.ipnetwork_sets.specs.Sets.{InNetworkAlone, InComplement}
@@ -15,7 +15,7 @@ whole_quotient w x l =
     let size : block_size w 0 ≡ 2 ^ w = ap (λ k. 2 ^ k) bits in
     div_within 0 (block_size w 0) x (omega arith) (omega (arith, l, size))
 
-whole_has_all : (w x : ℕ) → x < 2 ^ w → Member w whole x
+pub whole_has_all : (w x : ℕ) → x < 2 ^ w → Member w whole x
 whole_has_all w x l = (l, whole_quotient w x l ∙ sym (whole_quotient w 0 (omega (arith, l))))
 
 pub complement_is_least : (w : ℕ) (n : Network) (a blocks : List Network) → n ≡ whole → IsLeastList w (InNetworkAlone w n a) blocks → IsLeastList w (InComplement w a) blocks

@@ -1,5 +1,5 @@
 -- The laws of counts and of lists of ranges, for addresses of any number of bits.
-use Rattle.std.specs.Prelude.{◌≡◌, ℕ, ◌+◌, ◌^◌, ◌<◌, ◌≤◌, ◌↔◌, min, List, [], ◌∷◌, ◌++◌}
+use Rattle.std.specs.Prelude.{◌≡◌, ℕ, ◌+◌, ◌^◌, ◌<◌, ◌≤◌, ◌↔◌, min, List, [], ◌∷◌, ◌++◌, length}
 use Rattle.std.specs.List.{AllPairs, Contains}
 use Rattle.ipnetwork_family.specs.Network.{Network, block_size}
 use Rattle.ipnetwork_blocks.specs.Aggregate.{InUnion, SameUnion}
@@ -45,3 +45,7 @@ UnionAddsUp = (w : ℕ) (a b blocks : List Network) → IsLeastList w (InEither 
 -- a total that is kept to 2^128 and goes on with one network more is kept to 2^128
 abbrev pub TotalGoesOn : Type 0
 TotalGoesOn = (w : ℕ) (before : List Network) (n : Network) → min (min (total w before) (2 ^ 128) + block_size w n.prefix) (2 ^ 128) ≡ min (total w (before ++ n ∷ [])) (2 ^ 128)
+
+-- where addresses have one bit or more, a set has fewer blocks than there are addresses
+abbrev pub SetHasFewerBlocks : Type 0
+SetHasFewerBlocks = (w : ℕ) (blocks : List Network) → 1 ≤ w → IsAddressSet w blocks → length blocks < 2 ^ w

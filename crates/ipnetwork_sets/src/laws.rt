@@ -1,6 +1,6 @@
 //! The laws of the operations on sets, for addresses of any number of bits. Each function's contract is laws; it does
 //! nothing, and a proof whose function calls it may use them.
-ghost use Rattle.ipnetwork_sets.specs.CountLaws.{AscendingIsOneList, UnionHasOneCount, RangesAreOneList, UnionHasOneRangeList, SetAddsUp, CommonPartAddsUp, DifferenceAddsUp, FreePartAddsUp, UnionAddsUp, TotalGoesOn};
+ghost use Rattle.ipnetwork_sets.specs.CountLaws.{AscendingIsOneList, UnionHasOneCount, RangesAreOneList, UnionHasOneRangeList, SetAddsUp, CommonPartAddsUp, DifferenceAddsUp, FreePartAddsUp, UnionAddsUp, TotalGoesOn, SetHasFewerBlocks};
 ghost use Rattle.ipnetwork_sets.specs.DifferenceLaws.{CommonPartIsSettled, DifferenceIsSettled, FreePartIsSettled, UnionIsSettled, DifferenceOfOne, DifferenceOfUnion, DifferenceOfCommonPart};
 ghost use Rattle.ipnetwork_sets.specs.Equality.{SameBlocksAreEqual};
 ghost use Rattle.ipnetwork_sets.specs.Laws.{CommonPartIsShortest, DifferenceIsShortest, FreePartIsShortest, UnionIsShortest, SameAddressesAreOneSet, CommonPartCommutes, UnionCommutes, CommonPartOfOne, UnionOfOne, DifferenceIsDisjoint, PartsMakeTheWhole, FreeOfUnion, FreeOfCommonPart};
@@ -61,6 +61,13 @@ pub fn sums()
     ensures free { FreePartAddsUp }
     ensures union { UnionAddsUp }
     ensures goes_on { TotalGoesOn }
+{
+    laws::one_block();
+}
+
+/// A set has fewer blocks than there are addresses, so that a `u128` counts them.
+pub fn fewer_blocks()
+    ensures { SetHasFewerBlocks }
 {
     laws::one_block();
 }

@@ -1,15 +1,15 @@
-use Rattle.std.proofs.Common.{[], refl, length}
+use Rattle.std.proofs.Common.{[], refl}
 use Rattle.line_engine.specs.Outputs.{writer_of, waits_in}
 use Rattle.cidr_merge.specs.Answers.{range_line}
 use Rattle.cidr_merge.specs.Private.Ranges.{ranges_left, numbers}
 use Rattle.cidr_merge.specs.Private.Sweeps.{with_head}
 use Rattle.cidr_merge.proofs.Merging.{shorter}
 use Rattle.line_engine.proofs.Putting.{puts_nothing}
-use Rattle.cidr_merge.proofs.Putting.{puts_line, puts_all}
+use Rattle.cidr_merge.proofs.Putting.{puts_line, puts_all, failed_same}
 use Rattle.cidr_merge.proofs.printing.print_ranges.Goals as goal
 
 pub loop-next-init : goal.loop-next-init
-loop-next-init g c = ([], refl, puts_nothing _ _)
+loop-next-init g c = ([], refl, puts_nothing _ _, refl)
 
 pub loop-next-smaller : goal.loop-next-smaller
 loop-next-smaller g c = shorter _ _ _ c.in-Some.ensures
@@ -17,12 +17,13 @@ loop-next-smaller g c = shorter _ _ _ c.in-Some.ensures
 pub loop-next-preserved : goal.loop-next-preserved
 loop-next-preserved g c =
     let contents = g.W.Write.contents in
-    puts_line (range_line c.args.operation g.A.Address.family) (contents (writer_of c.args.output.now)) (contents (writer_of c.loop-next.output)) (contents (writer_of c.put_range.new.output))
+    let h = puts_line (range_line c.args.operation g.A.Address.family) (contents (writer_of c.args.output.now)) (contents (writer_of c.loop-next.output)) (contents (writer_of c.put_range.new.output))
     (waits_in c.args.output.now) (waits_in c.loop-next.output) (waits_in c.put_range.new.output) c.loop-next.invariant.0 _ _ _
-    (record { side = c.in-Some.next.0; part = numbers g.A.Address.number c.in-Some.next.1 }) c.loop-next.invariant.1 c.in-Some.ensures c.loop-next.invariant.2 c.in_ok-put_range.ensures
+    (record { side = c.in-Some.next.0; part = numbers g.A.Address.number c.in-Some.next.1 }) c.loop-next.invariant.1 c.in-Some.ensures c.loop-next.invariant.2 c.in_ok-put_range.ensures.text in
+    (h.0, h.1, h.2, failed_same _ _ _ c.loop-next.invariant.3 c.in_ok-put_range.ensures.failed)
 
-pub returns : goal.returns
-returns g c =
+pub returns-clause-text : goal.returns-clause-text
+returns-clause-text g c =
     let contents = g.W.Write.contents in (
       _,
       (with_head (numbers g.A.Address.number) c.left-ranges.result.first (ranges_left c.left-ranges.result.firsts), with_head (numbers g.A.Address.number) c.left-ranges.result.second (ranges_left c.left-ranges.result.seconds), c.left-ranges.ensures.first, c.left-ranges.ensures.second, refl),

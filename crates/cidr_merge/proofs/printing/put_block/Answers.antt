@@ -5,8 +5,8 @@ use Rattle.cidr_merge.specs.Answers.{sign_of}
 use Rattle.cidr_merge.proofs.Putting.{put_three_ok}
 use Rattle.cidr_merge.proofs.printing.put_block.Goals as goal
 
-pub returns : goal.returns
-returns g c =
+pub returns-clause-text : goal.returns-clause-text
+returns-clause-text g c =
     let contents = g.W.Write.contents in
     put_three_ok c.put-3.result (contents (writer_of c.args.output.now)) (contents (writer_of c.put.new.self)) (contents (writer_of c.put-2.new.self)) (contents (writer_of c.put-3.new.self))
     (waits_in c.args.output.now) (waits_in c.put.new.self) (waits_in c.put-2.new.self) (waits_in c.put-3.new.self)

@@ -11,11 +11,11 @@ returns-clause-first g c =
     let w = g.N.CidrNetwork.WIDTH in
     let pair = g.N.CidrNetwork.pair in
     subst (λ (l : List Network). IsLeastList w (IsLeft c.args.operation w c.args.first.now c.args.second.now) l)
-    (sym (headed pair c.next-first.result (blocks_left pair c.of-firsts.result) (blocks_left pair c.next-first.new.self) c.next-first.ensures)) c.of-firsts.ensures
+    (sym (headed pair c.next-first.result (blocks_left pair c.of-firsts.result) (blocks_left pair c.next-first.new.self) c.next-first.ensures)) c.of-firsts.ensures.left
 
 pub returns-clause-second : goal.returns-clause-second
 returns-clause-second g c =
     let w = g.N.CidrNetwork.WIDTH in
     let pair = g.N.CidrNetwork.pair in
     subst (λ (l : List Network). IsLeastList w (IsLeftOfSecond c.args.operation w c.args.first.now c.args.second.now) l) (sym c.first_of_second-second.ensures)
-    (least_of_second c.args.operation w c.args.first.now c.args.second.now (blocks_left pair c.of-seconds.result) c.of-seconds.ensures)
+    (least_of_second c.args.operation w c.args.first.now c.args.second.now (blocks_left pair c.of-seconds.result) c.of-seconds.ensures.left)

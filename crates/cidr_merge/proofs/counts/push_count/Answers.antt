@@ -1,0 +1,10 @@
+use Rattle.std.proofs.Common.{◌≡◌, ◌++◌, decimal, sym, subst}
+use Rattle.std.specs.Fmt.{digits}
+use Rattle.ipnetwork_sets.specs.Counts.{count_number}
+use Rattle.ipnetwork_sets.specs.declared.address_count.AddressCount.{AddressCount}
+use Rattle.cidr_merge.proofs.counts.push_count.Goals as goal
+
+pub returns-in-AllOfIpv6 : goal.returns-in-AllOfIpv6
+unfolding digits
+returns-in-AllOfIpv6 c =
+    subst (λ (count : AddressCount). c.push_str.new.self.bytes ≡ c.args.text.now.bytes ++ decimal (count_number count)) (sym c.in-AllOfIpv6.is) c.push_str.ensures.bytes
