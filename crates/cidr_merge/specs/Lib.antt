@@ -2,4 +2,6 @@
 pub mod Answers
 pub mod CommandLines
 pub mod Private
+pub mod Reading
+pub mod Runs
 pub mod Told

@@ -1,5 +1,8 @@
 //! The lists of a side are read.
-ghost use Rattle.std.specs.Prelude.{◌≤◌, length};
+ghost use Rattle.std.specs.Prelude.{◌≡◌, ◌≤◌, false, length, slice_range, OnOk};
+ghost use Rattle.address_lists.specs.ReadBy.{read_by};
+ghost use Rattle.cidr_merge.specs.Reading.{ReadsList, ReadsLists, ReadsSide};
+ghost use Rattle.std.specs.String.{string_bytes};
 
 use address_lists::{ListReader, Refusals, read_list};
 use ipnetwork::{Ipv4Network, Ipv6Network};
@@ -37,7 +40,9 @@ pub(crate) fn read_side<L: OpenLists>(
     to: usize,
     refusals: Refusals,
 ) -> (Sets, Refusals, Result<(), ReadFault>)
-    requires { to ≤ length words.now }
+    requires order { from ≤ to }
+    requires within { to ≤ length words.now }
+    ensures { OnOk result.2 (ReadsSide (L.bytes_of lists.now) from (slice_range words.now from to) refusals result.0 result.1) }
 {
     let mut reader = ListReader::new(alloc, refusals);
     let end = read_all(lists, words, from, to, &mut reader);
@@ -53,7 +58,11 @@ fn read_all<L: OpenLists>(
     to: usize,
     reader: &mut ListReader,
 ) -> Result<(), ReadFault>
-    requires { to ≤ length words.now }
+    requires order { from ≤ to }
+    requires within { to ≤ length words.now }
+    requires memory { (read_by reader.old).is_out_of_memory ≡ false }
+    ensures read { OnOk result (ReadsLists (L.bytes_of lists.now) from (slice_range words.now from to) (read_by reader.old) (read_by reader.new)) }
+    ensures memory { OnOk result ((read_by reader.new).is_out_of_memory ≡ false) }
 {
     for place in from..to {
         read_one(lists, &words[place], place, reader)?;
@@ -67,7 +76,10 @@ fn read_one<L: OpenLists>(
     name: &String,
     place: usize,
     reader: &mut ListReader,
-) -> Result<(), ReadFault> {
+) -> Result<(), ReadFault>
+    ensures read { OnOk result (ReadsList (L.bytes_of lists.now) place (string_bytes name.now) (read_by reader.old) (read_by reader.new)) }
+    ensures memory { OnOk result ((read_by reader.new).is_out_of_memory ≡ false) }
+{
     let Ok(list) = lists.open(name.as_str()) else {
         return Err(ReadFault::Open(place));
     };

@@ -1,6 +1,12 @@
 //! The run that the program makes.
-ghost use Rattle.std.specs.Prelude.{length};
+ghost use Rattle.std.specs.Prelude.{◌≡◌, ◌++◌, ℕ, List, length, OnOk, is_err};
+ghost use Rattle.std.specs.Io.KnownBytes.{Appends};
+ghost use Rattle.line_engine.specs.Outputs.{writer_of, waits_in, output_failed};
+ghost use Rattle.cidr_merge.specs.Answers.{IsAnswer};
+ghost use Rattle.cidr_merge.specs.CommandLines.{Asks};
 ghost use Rattle.cidr_merge.specs.Private.Words.{IsWithin};
+ghost use Rattle.cidr_merge.specs.Reading.{ReadsSides};
+ghost use Rattle.cidr_merge.specs.Runs.{answer_status, EndsAnswering, EndsMerging, EndsAs};
 
 use crate::command_line::{Command, Operation, Request, command_of};
 use crate::help::{HELP, USAGE, VERSION};
@@ -31,7 +37,10 @@ pub(crate) fn run<L: OpenLists, W: Write, E: Write>(
     lists: &L,
     output: &mut Output<'_, W>,
     errors: &mut Output<'_, E>,
-) -> u8 {
+) -> u8
+    ensures { (command : Command) × Asks words.now command × EndsAs HELP.now VERSION.now USAGE.now (L.bytes_of lists.now) words.now command
+        (record { holds = W.contents; output = output.old; output_after = output.new; tells = E.contents; errors = errors.old; errors_after = errors.new; status = result }) }
+{
     match command_of(words) {
         Command::Help => print_text(HELP, output, errors),
         Command::Version => print_text(VERSION, output, errors),
@@ -50,20 +59,25 @@ fn merge<L: OpenLists, W: Write, E: Write>(
     errors: &mut Output<'_, E>,
 ) -> u8
     requires { IsWithin (length words.now) request }
+    ensures { EndsMerging (L.bytes_of lists.now) words.now request
+        (record { holds = W.contents; output = output.old; output_after = output.new; tells = E.contents; errors = errors.old; errors_after = errors.new; status = result }) }
 {
     let (first, second, refusals, read) = read_sides(alloc, request, words, lists);
     tell_refusals(words, &refusals, errors);
-    if let Err(fault) = read {
-        tell_fault(words, fault, errors);
-        return FAILED;
+    match read {
+        Ok(()) => answer(
+            request,
+            !refusals.is_empty(),
+            &first,
+            &second,
+            output,
+            errors,
+        ),
+        Err(fault) => {
+            tell_fault(words, fault, errors);
+            FAILED
+        }
     }
-    let skips = !refusals.is_empty();
-    if skips && !request.skips_bad {
-        return FAILED;
-    }
-    let status = status(request.operation, skips, &first, &second);
-    let written = write_answer(request, &first, &second, output);
-    end(written, status, errors)
 }
 
 // Reads the lists of both sides. The second is only read if the first was read to the end.
@@ -74,6 +88,7 @@ fn read_sides<L: OpenLists>(
     lists: &L,
 ) -> (Sets, Sets, Refusals, Result<(), ReadFault>)
     requires { IsWithin (length words.now) request }
+    ensures { OnOk result.3 (ReadsSides (L.bytes_of lists.now) words.now request result.0 result.1 result.2) }
 {
     let (first, refusals, read) = read_side(
         alloc,
@@ -83,24 +98,50 @@ fn read_sides<L: OpenLists>(
         request.middle,
         Refusals::new(),
     );
-    let to = if read.is_ok() {
-        words.len()
-    } else {
-        request.second
-    };
-    let (second, refusals, read_second) = read_side(
-        alloc,
-        lists,
-        words,
-        request.second,
-        to,
-        refusals,
-    );
-    let end = match read {
-        Ok(()) => read_second,
-        Err(fault) => Err(fault),
-    };
-    (first, second, refusals, end)
+    match read {
+        Ok(()) => {
+            let (second, refusals, end) = read_side(
+                alloc,
+                lists,
+                words,
+                request.second,
+                words.len(),
+                refusals,
+            );
+            (first, second, refusals, end)
+        }
+        Err(fault) => {
+            let (second, refusals, _) = read_side(
+                alloc,
+                lists,
+                words,
+                request.second,
+                request.second,
+                refusals,
+            );
+            (first, second, refusals, Err(fault))
+        }
+    }
+}
+
+// Prints what the operation leaves of the sides, unless lines were refused that are not to be skipped.
+fn answer<W: Write, E: Write>(
+    request: Request,
+    skips: bool,
+    first: &Sets,
+    second: &Sets,
+    output: &mut Output<'_, W>,
+    errors: &mut Output<'_, E>,
+) -> u8
+    ensures { EndsAnswering request skips first.now second.now
+        (record { holds = W.contents; output = output.old; output_after = output.new; tells = E.contents; errors = errors.old; errors_after = errors.new; status = result }) }
+{
+    if skips && !request.skips_bad {
+        return FAILED;
+    }
+    let status = status(request.operation, skips, first, second);
+    let written = write_answer(request, first, second, output);
+    end(written, status, errors)
 }
 
 // Writes what the operation leaves of the sides.
@@ -109,18 +150,24 @@ fn write_answer<W: Write>(
     first: &Sets,
     second: &Sets,
     output: &mut Output<'_, W>,
-) -> Result<(), RunFault> {
+) -> Result<(), RunFault>
+    ensures written { OnOk result ((text : List ℕ) × IsAnswer request.operation request.form first.now second.now text
+        × Appends (W.contents (writer_of output.old)) (W.contents (writer_of output.new)) (waits_in output.old ++ text)) }
+    ensures failed { output_failed output.new ≡ is_err result }
+{
     print(request.operation, request.form, first, second, output)?;
     output.finish()
 }
 
 // The exit status of an answer.
-fn status(operation: Operation, skips: bool, first: &Sets, second: &Sets) -> u8 {
+fn status(operation: Operation, skips: bool, first: &Sets, second: &Sets) -> u8
+    ensures { result ≡ answer_status operation skips first.now second.now }
+{
     if skips {
-        SKIPPED
-    } else if operation == Operation::Differ && !(first.v4 == second.v4 && first.v6 == second.v6) {
-        UNEQUAL
-    } else {
-        ANSWERED
+        return SKIPPED;
+    }
+    match operation {
+        Operation::Differ if !(first.v4 == second.v4 && first.v6 == second.v6) => UNEQUAL,
+        _ => ANSWERED,
     }
 }

@@ -1,4 +1,6 @@
 //! Where lists come from.
+ghost use Rattle.std.specs.Prelude.{◌≡◌, ℕ, List as Bytes, Option, Some, None, IfOk};
+
 use std::io;
 use std::io::Read;
 
@@ -16,6 +18,9 @@ pub trait OpenLists {
     /// A list that was opened.
     type List: Read + Drop;
 
+    // The bytes of the list of a name, where it is known what it has.
+    ghost bytes_of: { Self → Bytes ℕ → Option (Bytes ℕ) } = { λ _ _. None };
+
     /// Opens the list of this name. The error is the system's.
     ///
     /// ```
@@ -25,5 +30,6 @@ pub trait OpenLists {
     /// assert!(rt; system.open("-").is_ok());
     /// assert!(rt; system.open("no such file").is_err());
     /// ```
-    fn open(&self, name: &str) -> io::Result<Self::List>;
+    fn open(&self, name: &str) -> io::Result<Self::List>
+        ensures { IfOk result (λ list. (bytes : Bytes ℕ) → bytes_of self.now name.now ≡ Some bytes → Self.List.remaining list ≡ Some bytes) };
 }

@@ -1,0 +1,35 @@
+-- What is read of lists.
+use Rattle.std.specs.Prelude.{◌≡◌, ℕ, ◌+◌, List, [], ◌∷◌, Option, Some, false, String, slice_range, drop}
+use Rattle.std.specs.Str.Lines.{lines}
+use Rattle.std.specs.String.{string_bytes}
+use Rattle.ipnetwork_blocks.specs.Aggregate.{IsAggregate}
+use Rattle.address_lists.specs.Lists.{ReadLists, nothing_read, at_list, TakesLines}
+use Rattle.address_lists.specs.Refusals.{Refused, no_refusals}
+use Rattle.cidr_merge.specs.declared.command_line.Request.{Request}
+use Rattle.cidr_merge.specs.declared.reading.Sets.{Sets}
+
+-- the lines of the list of this name are taken, where its bytes are told. Refused lines tell the list by the number
+abbrev pub ReadsList : (List ℕ → Option (List ℕ)) → ℕ → List ℕ → ReadLists → ReadLists → Type 0
+ReadsList bytes_of number name before after = (input : List ℕ) → bytes_of name ≡ Some input → TakesLines (at_list before number) (lines input) after
+
+-- so are those of the lists of these names, in turn; the first has the number
+abbrev pub ReadsLists : {Z : Type 0} → (List ℕ → Option (List ℕ)) → ℕ → List (String Z) → ReadLists → ReadLists → Type 0
+ReadsLists bytes_of number [] before after = after ≡ before
+ReadsLists bytes_of number (name ∷ names) before after = (between : ReadLists) × ReadsList bytes_of number (string_bytes name) before between
+    × ReadsLists bytes_of (number + 1) names between after
+
+-- the sets have the addresses of the networks that were read of these lists, after lines that were refused before; these
+-- are the refused lines then
+pub record ReadsSide {Z : Type 0} (bytes_of : List ℕ → Option (List ℕ)) (number : ℕ) (names : List (String Z)) (before : Refused) (sets : Sets) (refused : Refused) : Type 0 where
+  pub read : ReadLists
+  pub lists : ReadsLists bytes_of number names (nothing_read before) read
+  pub memory : read.is_out_of_memory ≡ false
+  pub v4 : IsAggregate 32 read.v4 sets.v4
+  pub v6 : IsAggregate 128 read.v6 sets.v6
+  pub refused_lines : read.refused ≡ refused
+
+-- the lists of both sides were read
+pub record ReadsSides {Z : Type 0} (bytes_of : List ℕ → Option (List ℕ)) (words : List (String Z)) (request : Request) (first second : Sets) (refused : Refused) : Type 0 where
+  pub between : Refused
+  pub firsts : ReadsSide bytes_of request.first (slice_range words request.first request.middle) no_refusals first between
+  pub seconds : ReadsSide bytes_of request.second (drop request.second words) between second refused

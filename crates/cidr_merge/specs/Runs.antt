@@ -1,0 +1,92 @@
+-- How a run ends: its exit status, what was written, and what was told.
+use Rattle.std.specs.Prelude.{◌≡◌, ℕ, List, [], ◌++◌, Bool, true, false, not, ◌&&◌, ◌==◌, ◌⊎◌, if◌then◌else◌, length, codes, Option, String}
+use Rattle.std.specs.Io.KnownBytes.{Appends}
+use Rattle.address_lists.specs.Refusals.{Refused}
+use Rattle.ipnetwork_sets.specs.Equality.{same_blocks}
+use Rattle.line_engine.specs.declared.output.Output.{Output}
+use Rattle.line_engine.specs.Outputs.{writer_of, waits_in, output_failed}
+use Rattle.program_io.specs.Messages.{Tells}
+use Rattle.cidr_merge.specs.Answers.{IsAnswer}
+use Rattle.cidr_merge.specs.Reading.{ReadsSides}
+use Rattle.cidr_merge.specs.Told.{refusals_text, fault_text}
+use Rattle.cidr_merge.specs.declared.command_line.Command.{Command}
+use Rattle.cidr_merge.specs.declared.command_line.Command.TheVariants.{Help, Version, Merge, Usage}
+use Rattle.cidr_merge.specs.declared.command_line.Operation.{Operation}
+use Rattle.cidr_merge.specs.declared.command_line.Operation.TheVariants.{Union, Common, Minus, Differ}
+use Rattle.cidr_merge.specs.declared.command_line.Request.{Request}
+use Rattle.cidr_merge.specs.declared.reading.ReadFault.{ReadFault}
+use Rattle.cidr_merge.specs.declared.reading.Sets.{Sets}
+
+-- whether the sides of `differ` have other blocks
+abbrev pub are_unequal : Operation → Sets → Sets → Bool
+are_unequal Union first second = false
+are_unequal Common first second = false
+are_unequal Minus first second = false
+are_unequal Differ first second = not (same_blocks first.v4 second.v4 && same_blocks first.v6 second.v6)
+
+-- the exit status of an answer: 3 if lines were skipped, 1 if the sides are not equal, else 0
+abbrev pub answer_status : Operation → Bool → Sets → Sets → ℕ
+answer_status operation skips first second = if skips then 3 else if are_unequal operation first second then 1 else 0
+
+-- whether a line was refused
+abbrev pub was_refused : Refused → Bool
+was_refused refused = not (length refused.kept == 0)
+
+-- the writer and the error writer of a run, before it and after it, what each says that it holds, and the exit status
+pub record Ending (W E : Type 0) : Type 0 where
+  pub holds : W → Option (List ℕ)
+  pub output : Output W
+  pub output_after : Output W
+  pub tells : E → Option (List ℕ)
+  pub errors : Output E
+  pub errors_after : Output E
+  pub status : ℕ
+
+-- nothing was written, and the status is 2
+abbrev pub IsSilent : {W E : Type 0} → Ending W E → Type 0
+IsSilent end = (end.output_after ≡ end.output) × (end.status ≡ 2)
+
+-- the text was told
+abbrev pub HasTold : {W E : Type 0} → Ending W E → List ℕ → Type 0
+HasTold end text = Tells end.tells end.errors end.errors_after text
+
+-- the text was written after what waited
+abbrev pub HasWritten : {W E : Type 0} → Ending W E → List ℕ → Type 0
+HasWritten end text = Appends (end.holds (writer_of end.output)) (end.holds (writer_of end.output_after)) (waits_in end.output ++ text)
+
+-- the writer failed
+abbrev pub FailsToWrite : {W E : Type 0} → Ending W E → Type 0
+FailsToWrite end = (output_failed end.output_after ≡ true) × HasTold end (codes "write error\n") × (end.status ≡ 2)
+
+-- the answer was written, and nothing more told
+abbrev pub WritesAnswer : {W E : Type 0} → Request → Bool → Sets → Sets → Ending W E → Type 0
+WritesAnswer request skips first second end = (text : List ℕ) × IsAnswer request.operation request.form first second text × HasWritten end text × HasTold end []
+    × (end.status ≡ answer_status request.operation skips first second)
+
+-- where the lists of both sides were read: if lines were refused and are not to be skipped, nothing is written or told;
+-- else the answer is, unless the writer fails
+abbrev pub EndsAnswering : {W E : Type 0} → Request → Bool → Sets → Sets → Ending W E → Type 0
+EndsAnswering request skips first second end =
+    ((skips && not request.skips_bad ≡ true) × IsSilent end × HasTold end []) ⊎ ((skips && not request.skips_bad ≡ false) × (FailsToWrite end ⊎ WritesAnswer request skips first second end))
+
+-- the lists were not read to their ends: nothing is written, and it is told why
+abbrev pub StopsReading : {Z W E : Type 0} → List (String Z) → Ending W E → Type 0
+StopsReading words end = (fault : ReadFault) × IsSilent end × HasTold end (fault_text words fault)
+
+-- the refused lines were told, and then either the reading stopped or the answer was given
+abbrev pub EndsMerging : {Z W E : Type 0} → (List ℕ → Option (List ℕ)) → List (String Z) → Request → Ending W E → Type 0
+EndsMerging {Z} {W} {E} bytes_of words request end = (refused : Refused) × (told : Output E) × Tells end.tells end.errors told (refusals_text words refused)
+    × (StopsReading words (record end { errors = told })
+    ⊎ ((first second : Sets) × ReadsSides bytes_of words request first second refused × EndsAnswering request (was_refused refused) first second (record end { errors = told })))
+
+-- the text was written, or the writer failed
+abbrev pub EndsPrinting : {W E : Type 0} → List ℕ → Ending W E → Type 0
+EndsPrinting text end = (end.status ≡ (if output_failed end.output_after then 2 else 0)) × (end.status ≡ 0 → HasWritten end text)
+
+-- how a run ends that does what the words ask for. The first three texts are those of `--help`, of `--version` and of
+-- what is told of words that are no command
+abbrev pub EndsAs : {Z W E : Type 0} → List ℕ → List ℕ → List ℕ → (List ℕ → Option (List ℕ)) → List (String Z) → Command → Ending W E → Type 0
+EndsAs help version usage bytes_of words Help end = EndsPrinting help end
+EndsAs help version usage bytes_of words Version end = EndsPrinting version end
+EndsAs help version usage bytes_of words (Merge request) end = EndsMerging bytes_of words request end
+EndsAs help version usage bytes_of words Usage end = IsSilent end × HasTold end usage
