@@ -75,12 +75,13 @@ abbrev pub AreBlockLines : {w : ℕ} → Operation → Family w → List Network
 AreBlockLines {w} operation family first second text = (firsts seconds : List Network) × IsLeastList w (IsLeft operation w first second) firsts
     × IsLeastList w (IsLeftOfSecond operation w first second) seconds × (text ≡ flat_map (block_line operation family) (merged firsts seconds))
 
--- those of the ranges
+-- the lines of the ranges
 abbrev pub AreRangeLines : {w : ℕ} → Operation → Family w → List Network → List Network → List ℕ → Type 0
 AreRangeLines {w} operation family first second text = (firsts seconds : List (ℕ × ℕ)) × IsRangeList (IsLeft operation w first second) firsts
     × IsRangeList (IsLeftOfSecond operation w first second) seconds × (text ≡ flat_map (range_line operation family) (merged_ranges firsts seconds))
 
--- the line of the counts of a set: its name, how many blocks the least list has, and how many addresses there are
+-- the line of the counts of a set, after its name: how many blocks its least list has, and how many addresses there
+-- are in it
 abbrev pub IsCountLine : ℕ → List ℕ → (ℕ → Type 0) → List ℕ → Type 0
 IsCountLine w name set text = (blocks : List Network) × (addresses : ℕ) × IsLeastList w set blocks × HasCount set addresses
     × (text ≡ name ++ decimal (length blocks) ++ codes " " ++ decimal addresses ++ 10 ∷ [])
@@ -89,15 +90,15 @@ IsCountLine w name set text = (blocks : List Network) × (addresses : ℕ) × Is
 abbrev pub AreBoth : (List ℕ → Type 0) → (List ℕ → Type 0) → List ℕ → Type 0
 AreBoth IsV4 IsV6 text = (v4 v6 : List ℕ) × IsV4 v4 × IsV6 v6 × (text ≡ v4 ++ v6)
 
--- the lines of the counts of a set of each family, after a sign
+-- the lines of the counts of a set of each family, each after a sign
 abbrev pub AreCountLines : List ℕ → (ℕ → Type 0) → (ℕ → Type 0) → List ℕ → Type 0
 AreCountLines sign set4 set6 = AreBoth (IsCountLine 32 (sign ++ codes "v4 ") set4) (IsCountLine 128 (sign ++ codes "v6 ") set6)
 
--- the counts of what the operation leaves of the first side, after a sign
+-- those of what the operation leaves of the first side
 abbrev pub AreCountsLeft : Operation → List ℕ → Sets → Sets → List ℕ → Type 0
 AreCountsLeft operation sign first second = AreCountLines sign (IsLeft operation 32 first.v4 second.v4) (IsLeft operation 128 first.v6 second.v6)
 
--- and of `differ` those of the second side after them
+-- the lines of the counts; those of `differ` tell what the first side has alone, and then what the second has
 abbrev pub AreCounts : Operation → Sets → Sets → List ℕ → Type 0
 AreCounts Union first second text = AreCountsLeft Union [] first second text
 AreCounts Common first second text = AreCountsLeft Common [] first second text

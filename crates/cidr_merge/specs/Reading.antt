@@ -8,18 +8,18 @@ use Rattle.address_lists.specs.Refusals.{Refused, no_refusals}
 use Rattle.cidr_merge.specs.declared.command_line.Request.{Request}
 use Rattle.cidr_merge.specs.declared.reading.Sets.{Sets}
 
--- the lines of the list of this name are taken, where its bytes are told. Refused lines tell the list by the number
+-- the lines of the list of this name are taken, if it is known what the list has. Refused lines name it by the number
 abbrev pub ReadsList : (List ℕ → Option (List ℕ)) → ℕ → List ℕ → ReadLists → ReadLists → Type 0
 ReadsList bytes_of number name before after = (input : List ℕ) → bytes_of name ≡ Some input → TakesLines (at_list before number) (lines input) after
 
--- so are those of the lists of these names, in turn; the first has the number
+-- so are those of the lists of these names, in turn; the first has this number, the next the one after it
 abbrev pub ReadsLists : {Z : Type 0} → (List ℕ → Option (List ℕ)) → ℕ → List (String Z) → ReadLists → ReadLists → Type 0
 ReadsLists bytes_of number [] before after = after ≡ before
 ReadsLists bytes_of number (name ∷ names) before after = (between : ReadLists) × ReadsList bytes_of number (string_bytes name) before between
     × ReadsLists bytes_of (number + 1) names between after
 
--- the sets have the addresses of the networks that were read of these lists, after lines that were refused before; these
--- are the refused lines then
+-- the lists of these names were read, after others of which some lines were refused: the sets have the addresses of
+-- their networks, and these are the refused lines now
 pub record ReadsSide {Z : Type 0} (bytes_of : List ℕ → Option (List ℕ)) (number : ℕ) (names : List (String Z)) (before : Refused) (sets : Sets) (refused : Refused) : Type 0 where
   pub read : ReadLists
   pub lists : ReadsLists bytes_of number names (nothing_read before) read

@@ -17,14 +17,14 @@ use Rattle.cidr_merge.specs.declared.command_line.Request.{Request}
 use Rattle.cidr_merge.specs.declared.reading.ReadFault.{ReadFault}
 use Rattle.cidr_merge.specs.declared.reading.Sets.{Sets}
 
--- whether the sides of `differ` have other blocks
+-- whether the operation is `differ`, and the blocks of its sides are not the same
 abbrev pub are_unequal : Operation → Sets → Sets → Bool
 are_unequal Union first second = false
 are_unequal Common first second = false
 are_unequal Minus first second = false
 are_unequal Differ first second = not (same_blocks first.v4 second.v4 && same_blocks first.v6 second.v6)
 
--- the exit status of an answer: 3 if lines were skipped, 1 if the sides are not equal, else 0
+-- the exit status of an answer: 3 if lines were skipped, else 1 if the sides of `differ` are not equal, else 0
 abbrev pub answer_status : Operation → Bool → Sets → Sets → ℕ
 answer_status operation skips first second = if skips then 3 else if are_unequal operation first second then 1 else 0
 
@@ -63,17 +63,17 @@ abbrev pub WritesAnswer : {W E : Type 0} → Request → Bool → Sets → Sets 
 WritesAnswer request skips first second end = (text : List ℕ) × IsAnswer request.operation request.form first second text × HasWritten end text × HasTold end []
     × (end.status ≡ answer_status request.operation skips first second)
 
--- where the lists of both sides were read: if lines were refused and are not to be skipped, nothing is written or told;
--- else the answer is, unless the writer fails
+-- the lists of both sides were read: if lines were refused and are not to be skipped, nothing is written, and else the
+-- answer is, unless the writer fails
 abbrev pub EndsAnswering : {W E : Type 0} → Request → Bool → Sets → Sets → Ending W E → Type 0
 EndsAnswering request skips first second end =
     ((skips && not request.skips_bad ≡ true) × IsSilent end × HasTold end []) ⊎ ((skips && not request.skips_bad ≡ false) × (FailsToWrite end ⊎ WritesAnswer request skips first second end))
 
--- the lists were not read to their ends: nothing is written, and it is told why
+-- the lists were not read to their ends: nothing was written, and it was told why
 abbrev pub StopsReading : {Z W E : Type 0} → List (String Z) → Ending W E → Type 0
 StopsReading words end = (fault : ReadFault) × IsSilent end × HasTold end (fault_text words fault)
 
--- the refused lines were told, and then either the reading stopped or the answer was given
+-- the refused lines were told, and then either why the reading stopped or the answer was given
 abbrev pub EndsMerging : {Z W E : Type 0} → (List ℕ → Option (List ℕ)) → List (String Z) → Request → Ending W E → Type 0
 EndsMerging {Z} {W} {E} bytes_of words request end = (refused : Refused) × (told : Output E) × Tells end.tells end.errors told (refusals_text words refused)
     × (StopsReading words (record end { errors = told })
@@ -83,8 +83,8 @@ EndsMerging {Z} {W} {E} bytes_of words request end = (refused : Refused) × (tol
 abbrev pub EndsPrinting : {W E : Type 0} → List ℕ → Ending W E → Type 0
 EndsPrinting text end = (end.status ≡ (if output_failed end.output_after then 2 else 0)) × (end.status ≡ 0 → HasWritten end text)
 
--- how a run ends that does what the words ask for. The first three texts are those of `--help`, of `--version` and of
--- what is told of words that are no command
+-- how a run ends if the words ask for this. The three texts are those of `--help`, of `--version`, and of what is told of
+-- words that are no command
 abbrev pub EndsAs : {Z W E : Type 0} → List ℕ → List ℕ → List ℕ → (List ℕ → Option (List ℕ)) → List (String Z) → Command → Ending W E → Type 0
 EndsAs help version usage bytes_of words Help end = EndsPrinting help end
 EndsAs help version usage bytes_of words Version end = EndsPrinting version end
