@@ -166,6 +166,15 @@ IPNETWORK_CHECKED_AT(1) ipnetwork_fault ipnetwork_v6_contains_column(const ipnet
                                                                      uint8_t *IPNETWORK_ALONE answers,
                                                                      size_t answer_count);
 
+/* Whether an address is a member of one of network_count networks, in any order, host bits or not: *answer is 1 or 0,
+ * and 0 if there are none. IPNETWORK_PREFIX where the prefix length of one is past the width. */
+IPNETWORK_CHECKED_AT(3, 4) ipnetwork_fault ipnetwork_v4_list_contains(const ipnetwork_v4 *networks,
+                                                                      size_t network_count, const uint8_t address[4],
+                                                                      uint8_t *IPNETWORK_ALONE answer);
+IPNETWORK_CHECKED_AT(3, 4) ipnetwork_fault ipnetwork_v6_list_contains(const ipnetwork_v6 *networks,
+                                                                      size_t network_count, const uint8_t address[16],
+                                                                      uint8_t *IPNETWORK_ALONE answer);
+
 /* The same of either family, for an address of 4 or 16 octets. No address of the other family is a member: not even
  * an IPv4-mapped IPv6 address of an IPv4 network. IPNETWORK_NO_FAMILY comes before IPNETWORK_PREFIX. */
 IPNETWORK_CHECKED_AT(1, 4) ipnetwork_fault ipnetwork_contains(const ipnetwork_ip *network, const uint8_t *address,

@@ -390,6 +390,39 @@ static void columns(void) {
     CHECK("NULL", ipnetwork_v4_contains_column(&four, NULL, 0, NULL, 0) == YES);
 }
 
+/* Lists of each length up to 6, in blocks of exactly their size. */
+static void lists(void) {
+    static const char *const fours[] = {"10.0.0.7/8", "192.0.2.0/25", "10.1.0.0/16", "192.0.2.128/25", "0.0.0.0/0", "8.8.8.8"};
+    static const char *const sixes[] = {"2001:db8::/33", "::1", "fe80::7/10", "2001:db8:8000::/33", "::/0", "::2/127"};
+    static const uint8_t asked[] = {192, 0, 2, 200}, asked_six[] = {0x20, 1, 0x0d, 0xb8, 0x80, 0, 0, 0, 0, 0, 0, 0, 0, 0, 0, 1};
+    for (size_t count = 0; count <= 6; count++) {
+        ipnetwork_v4 *four = malloc(count * sizeof *four);
+        ipnetwork_v6 *six = malloc(count * sizeof *six);
+        for (size_t i = 0; i < count; i++) {
+            four[i] = v4(fours[i]);
+            six[i] = v6(sixes[i]);
+        }
+        uint8_t answer = 77;
+        CHECK("list", ipnetwork_v4_list_contains(four, count, asked, &answer) == YES && answer == (count >= 4));
+        CHECK("list", ipnetwork_v6_list_contains(six, count, asked_six, &answer) == YES && answer == (count >= 4));
+        for (size_t bad = 0; bad < count; bad++) {
+            uint8_t kept = four[bad].prefix;
+            answer = 77;
+            four[bad].prefix = 33;
+            CHECK("list", ipnetwork_v4_list_contains(four, count, asked, &answer) == PREF && answer == 77);
+            four[bad].prefix = kept;
+            kept = six[bad].prefix;
+            six[bad].prefix = 129;
+            CHECK("list", ipnetwork_v6_list_contains(six, count, asked_six, &answer) == PREF && answer == 77);
+            six[bad].prefix = kept;
+        }
+        free(four);
+        free(six);
+    }
+    uint8_t answer = 77;
+    CHECK("NULL", ipnetwork_v4_list_contains(NULL, 0, asked, &answer) == YES && answer == 0);
+}
+
 /* Families and addresses of either length. */
 static void either(void) {
     ipnetwork_ip four, six;
@@ -552,6 +585,7 @@ int main(void) {
     questions_v6();
     past_the_width();
     columns();
+    lists();
     either();
     questions_of_either();
     refused_of_either();

@@ -183,6 +183,24 @@ class Questions(unittest.TestCase):
             with self.assertRaises(TypeError):
                 network.contains_column("10.1.9.32")
 
+    def test_lists(self):
+        texts = ["10.0.0.7/8", "2001:db8::/33", "192.0.2.0/25", "2001:db8:8000::/33"]
+        allowed = ipnetwork.NetworkList(map(ip_network, texts))
+        for text, wanted in (
+            ("10.255.0.0", True),
+            ("192.0.2.127", True),
+            ("192.0.2.128", False),
+            ("2001:db8:8000::1", True),
+            ("2001:db9::", False),
+            ("2001:db8::1%eth0", False),
+        ):
+            self.assertEqual(ipaddress.ip_address(text) in allowed, wanted, text)
+        self.assertNotIn(IPv4Address("0.0.0.0"), ipnetwork.NetworkList([]))
+        with self.assertRaises(TypeError):
+            ipnetwork.NetworkList([ipaddress.ip_network("10.0.0.0/8")])
+        with self.assertRaises(TypeError):
+            "10.0.0.1" in allowed
+
     def test_sets(self):
         inner, outer = IPv6Network("2000:aaa::/56"), IPv6Network("2000:aaa::/48")
         self.assertTrue(inner.subnet_of(outer) and outer.supernet_of(inner) and inner.overlaps(outer))

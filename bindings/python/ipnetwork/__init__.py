@@ -28,7 +28,7 @@ from __future__ import annotations
 import ctypes
 import operator
 import os
-from collections.abc import Iterator
+from collections.abc import Iterable, Iterator
 from functools import cached_property
 from ipaddress import IPv4Address, IPv6Address
 from typing import Any, Callable, ClassVar, Generic, SupportsIndex, TypeVar, Union
@@ -39,6 +39,7 @@ __all__ = [
     "IPv4Network",
     "IPv6Network",
     "MaskError",
+    "NetworkList",
     "NetworkError",
     "PrefixError",
     "ip_network",
@@ -110,6 +111,7 @@ def _load() -> ctypes.CDLL:
             ("new", [octets, ctypes.c_uint8, pointer]),
             ("canonical", [octets, pointer, size, pointer]),
             ("contains_column", [octets, pointer, size, pointer, size]),
+            ("list_contains", [octets, size, octets, pointer]),
             ("network", [octets, pointer]),
             ("broadcast", [octets, pointer]),
             ("mask", [octets, pointer]),
@@ -432,6 +434,37 @@ class IPv6Network(_Network[IPv6Address]):
                 low = self._find()
             return low <= address._ip <= self._high and address.scope_id is None
         return _no_member(address)
+
+
+class NetworkList:
+    """Networks of either family, in any order, host bits or not, of which one call of the library tells whether an address
+    is a member of one.
+
+    >>> allowed = NetworkList([ip_network("10.0.0.0/8"), ip_network("2001:db8::/32")])
+    >>> IPv4Address("10.1.9.32") in allowed, IPv6Address("2001:db9::") in allowed
+    (True, False)
+    """
+
+    __slots__ = ("_fours", "_sixes")
+
+    def __init__(self, networks: Iterable[Union[IPv4Network, IPv6Network]]) -> None:
+        each = list(networks)
+        for network in each:
+            if not isinstance(network, _Network):
+                raise TypeError(f"a network is IPv4Network or IPv6Network of this package, not {type(network).__name__}")
+        self._fours = b"".join(network._key for network in each if network.version == 4)
+        self._sixes = b"".join(network._key for network in each if network.version == 6)
+
+    def __contains__(self, address: object) -> bool:
+        """Whether an address is a member of one of the networks. None with a zone is."""
+        answer = ctypes.c_uint8()
+        if isinstance(address, IPv4Address):
+            _answered(_library.ipnetwork_v4_list_contains(self._fours, len(self._fours) // 5, address.packed, ctypes.byref(answer)))
+        elif not isinstance(address, IPv6Address):
+            return _no_member(address)
+        elif address.scope_id is None:
+            _answered(_library.ipnetwork_v6_list_contains(self._sixes, len(self._sixes) // 17, address.packed, ctypes.byref(answer)))
+        return answer.value == 1
 
 
 def ip_network(text: str | bytes) -> Union[IPv4Network, IPv6Network]:

@@ -114,6 +114,18 @@ mod c {
             room: usize,
         ) -> u32;
         pub safe fn ipnetwork_v6_contains(n: &V6, address: &[u8; 16], answer: &mut u8) -> u32;
+        pub unsafe fn ipnetwork_v4_list_contains(
+            networks: *const V4,
+            count: usize,
+            address: &[u8; 4],
+            answer: &mut u8,
+        ) -> u32;
+        pub unsafe fn ipnetwork_v6_list_contains(
+            networks: *const V6,
+            count: usize,
+            address: &[u8; 16],
+            answer: &mut u8,
+        ) -> u32;
         pub safe fn ipnetwork_v4_network(n: &V4, address: &mut [u8; 4]) -> u32;
         pub safe fn ipnetwork_v6_network(n: &V6, address: &mut [u8; 16]) -> u32;
         pub safe fn ipnetwork_v4_broadcast(n: &V4, address: &mut [u8; 4]) -> u32;
@@ -172,10 +184,12 @@ macro_rules! family {
     (
         $(#[$doc:meta])* $name:ident, $octets:literal, $address:ident, $text:literal,
         $read:ident, $new:ident, $canonical:ident, $contains:ident, $network:ident, $broadcast:ident, $mask:ident,
-        $prefix_of_mask:ident, $is_subnet_of:ident, $overlaps:ident, $compare:ident, $contains_column:ident
+        $prefix_of_mask:ident, $is_subnet_of:ident, $overlaps:ident, $compare:ident, $contains_column:ident,
+        $list_contains:ident
     ) => {
         $(#[$doc])*
         #[derive(Clone, Copy, PartialEq, Eq, Hash, Debug)]
+        #[repr(transparent)]
         pub struct $name(c::Network<$octets>);
 
         impl $name {
@@ -222,6 +236,16 @@ macro_rules! family {
                 answered(unsafe {
                     c::$contains_column(&self.0, addresses.as_ptr(), addresses.len(), answers.as_mut_ptr(), answers.len())
                 });
+            }
+
+            /// Whether an address lies in the set of one of these networks, in any order; `false` if there are none.
+            pub fn any_contains(networks: &[Self], address: $address) -> bool {
+                let mut answer = 0;
+                // SAFETY: a slice is never null, and has as many elements, each of which is the struct that it wraps.
+                answered(unsafe {
+                    c::$list_contains(networks.as_ptr().cast(), networks.len(), &address.octets(), &mut answer)
+                });
+                answer == 1
             }
 
             /// The least member: the address with its host bits cleared.
@@ -314,7 +338,7 @@ family!(
     Ipv4Network, 4, Ipv4Addr, 19,
     ipnetwork_v4_read, ipnetwork_v4_new, ipnetwork_v4_canonical, ipnetwork_v4_contains, ipnetwork_v4_network,
     ipnetwork_v4_broadcast, ipnetwork_v4_mask, ipnetwork_v4_prefix_of_mask, ipnetwork_v4_is_subnet_of,
-    ipnetwork_v4_overlaps, ipnetwork_v4_compare, ipnetwork_v4_contains_column
+    ipnetwork_v4_overlaps, ipnetwork_v4_compare, ipnetwork_v4_contains_column, ipnetwork_v4_list_contains
 );
 
 family!(
@@ -323,7 +347,7 @@ family!(
     Ipv6Network, 16, Ipv6Addr, 44,
     ipnetwork_v6_read, ipnetwork_v6_new, ipnetwork_v6_canonical, ipnetwork_v6_contains, ipnetwork_v6_network,
     ipnetwork_v6_broadcast, ipnetwork_v6_mask, ipnetwork_v6_prefix_of_mask, ipnetwork_v6_is_subnet_of,
-    ipnetwork_v6_overlaps, ipnetwork_v6_compare, ipnetwork_v6_contains_column
+    ipnetwork_v6_overlaps, ipnetwork_v6_compare, ipnetwork_v6_contains_column, ipnetwork_v6_list_contains
 );
 
 impl Ipv4Network {

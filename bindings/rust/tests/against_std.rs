@@ -308,6 +308,13 @@ macro_rules! questions {
                 assert_eq!(one.nth(n as $number), member, "{one} {n}");
                 let has = low <= b && b <= high;
                 assert_eq!(one.contains(address(b)), has, "{one} {b:x}");
+                assert_eq!(
+                    $network::any_contains(&[other, one], address(b)),
+                    has || other.contains(address(b)),
+                    "{one} {other} {b:x}"
+                );
+                assert_eq!($network::any_contains(&[one], address(b)), has);
+                assert!(!$network::any_contains(&[], address(b)));
                 let mut answers = [7; 3];
                 let column = [address(b), address(low), address(b)].map(|each| each.octets());
                 one.contains_column(&column, &mut answers);

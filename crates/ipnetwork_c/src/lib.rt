@@ -13,6 +13,7 @@ mod fault;
 mod ipv4;
 mod ipv6;
 pub mod laws;
+mod lists;
 mod order;
 mod questions;
 mod sizes;

@@ -7,6 +7,7 @@ use crate::either::{ipnetwork_contains, ipnetwork_read};
 use crate::fault::ipnetwork_fault_text;
 use crate::ipv4::*;
 use crate::ipv6::*;
+use crate::lists::*;
 use crate::questions::*;
 use crate::structs::{IpInC, Ipv4InC, Ipv6InC};
 use crate::{ipnetwork_abi_minor_version, ipnetwork_abi_version};
@@ -291,4 +292,29 @@ fn columns_of_addresses(rt: HostRuntime) {
     ];
     assert_eq!(rt; told, [0, 0, 4]);
     assert_eq!(rt; (fours, sixes), ([1, 0, 9], [0, 1, 9]));
+}
+
+#[test]
+fn lists_of_networks(rt: HostRuntime) {
+    let four = Ipv4InC {
+        address: [192, 0, 2, 0],
+        prefix: 25,
+    };
+    let half = Ipv6InC {
+        address: FIRST,
+        prefix: 128,
+    };
+    let past = Ipv4InC {
+        address: [0; 4],
+        prefix: 33,
+    };
+    let (mut inside, mut outside, mut six, mut none) = (9, 9, 9, 9);
+    let told = [
+        ipnetwork_v4_list_contains(&[NO_V4, four], &[192, 0, 2, 1], &mut inside),
+        ipnetwork_v4_list_contains(&[four, four], &[192, 0, 2, 128], &mut outside),
+        ipnetwork_v6_list_contains(&[half], &FIRST, &mut six),
+        ipnetwork_v4_list_contains(&[four, past], &[192, 0, 2, 1], &mut none),
+    ];
+    assert_eq!(rt; told, [0, 0, 0, 3]);
+    assert_eq!(rt; (inside, outside, six, none), (1, 0, 1, 9));
 }
