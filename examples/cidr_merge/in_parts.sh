@@ -4,13 +4,17 @@
 #
 # usage: examples/cidr_merge/in_parts.sh [OPTION ..] < LIST > MERGED      the options are those of GNU parallel
 #
-# With `--sshlogin ONE,TWO` the parts go to these machines, which need the program at the same path. Lines of refused
-# entries are told with their number in their part. Without GNU parallel, the parts are merged one after the other; the
-# options do nothing then.
+# With `--sshlogin ONE,TWO` the parts go to these machines, which need the program at the same path. Without GNU
+# parallel, the parts are merged one after the other; the options do nothing then. If a line is refused, nothing is
+# printed, and the status is 2; it is told with its number in its part, and other parts may go unread. The merges of the
+# parts wait in a file of the folder TMPDIR, or else /tmp.
 set -eu -o pipefail
 program=$(cd "$(dirname "$0")/../.." && pwd)/crates/cidr_merge/out/cidr_merge
+parts=$(mktemp)
+trap 'rm -f "$parts"' EXIT
 if command -v parallel > /dev/null; then
-    parallel --pipe --block 64M "$@" "$program" union -
+    parallel --pipe --block 64M "$@" "$program" union - > "$parts" || exit 2
 else
-    split --line-bytes=64M --filter="'$program' union -"
-fi | "$program" union -
+    split --line-bytes=64M --filter="'$program' union -" > "$parts" || exit 2
+fi
+"$program" union "$parts"
