@@ -256,6 +256,17 @@ IPNETWORK_CHECKED ipnetwork_fault ipnetwork_v4_compare(const ipnetwork_v4 *one, 
 IPNETWORK_CHECKED ipnetwork_fault ipnetwork_v6_compare(const ipnetwork_v6 *one, const ipnetwork_v6 *other,
                                                        int32_t *IPNETWORK_ALONE order);
 
+/* The aggregate of network_count networks, in any order, host bits or not, put into the front of their own array: the
+ * fewest blocks with the same addresses, in ascending order and without host bits. *block_count is how many they are;
+ * behind them stand networks, whichever. The union of lists is the aggregate of one array that has them all.
+ * IPNETWORK_PREFIX where the prefix length of one is past the width. */
+IPNETWORK_CHECKED_AT(3) ipnetwork_fault ipnetwork_v4_aggregate(ipnetwork_v4 *IPNETWORK_ALONE networks,
+                                                                size_t network_count,
+                                                                size_t *IPNETWORK_ALONE block_count);
+IPNETWORK_CHECKED_AT(3) ipnetwork_fault ipnetwork_v6_aggregate(ipnetwork_v6 *IPNETWORK_ALONE networks,
+                                                                size_t network_count,
+                                                                size_t *IPNETWORK_ALONE block_count);
+
 #ifdef __cplusplus
 }
 #endif

@@ -423,6 +423,76 @@ static void lists(void) {
     CHECK("NULL", ipnetwork_v4_list_contains(NULL, 0, asked, &answer) == YES && answer == 0);
 }
 
+/* Numbers that look random, the same each time. */
+static uint32_t number(void) {
+    static uint32_t state = 20;
+    state = state * 1664525 + 1013904223;
+    return state >> 16;
+}
+
+/* Of random lists of networks within one of 256 addresses: the aggregate has the same addresses, its blocks ascend, have
+ * no host bits and stand apart, and no two of them are the halves of one. Each list is in a block of exactly its size. */
+static void aggregates(void) {
+    for (size_t round = 0; round < 4000; round++) {
+        size_t count = round % 9, told[2] = {77, 77};
+        ipnetwork_v4 *four = malloc(count * sizeof *four), *given_four = malloc(count * sizeof *four);
+        ipnetwork_v6 *six = malloc(count * sizeof *six), *given_six = malloc(count * sizeof *six);
+        ipnetwork_v4 base_four = v4("192.0.2.0");
+        ipnetwork_v6 base_six = v6("2001:db8::ffff:0");
+        for (size_t i = 0; i < count; i++) {
+            uint32_t host = number() % 256, bits = number() % 8;
+            four[i] = base_four;
+            six[i] = base_six;
+            four[i].address[3] = six[i].address[15] = (uint8_t)host;
+            four[i].prefix = (uint8_t)(32 - bits);
+            six[i].prefix = (uint8_t)(128 - bits);
+        }
+        if (count != 0) {
+            memcpy(given_four, four, count * sizeof *four);
+            memcpy(given_six, six, count * sizeof *six);
+        }
+        CHECK("aggregate", ipnetwork_v4_aggregate(count == 0 ? NULL : four, count, &told[0]) == YES);
+        CHECK("aggregate", ipnetwork_v6_aggregate(count == 0 ? NULL : six, count, &told[1]) == YES);
+        CHECK("aggregate", told[0] <= count && told[1] == told[0]);
+        for (unsigned host = 0; host < 256; host++) {
+            uint8_t was = 77, is = 77;
+            base_four.address[3] = base_six.address[15] = (uint8_t)host;
+            CHECK("list", ipnetwork_v4_list_contains(given_four, count, base_four.address, &was) == YES);
+            CHECK("list", ipnetwork_v4_list_contains(four, told[0], base_four.address, &is) == YES && is == was);
+            CHECK("list", ipnetwork_v6_list_contains(six, told[1], base_six.address, &is) == YES && is == was);
+        }
+        unsigned next = 0, width = 0;
+        for (size_t i = 0; i < told[0]; i++) {
+            unsigned low = four[i].address[3], bits = 32u - four[i].prefix;
+            CHECK("block", bits < 9 && (low & ((1u << bits) - 1)) == 0 && low >= next);
+            CHECK("halves", !(i > 0 && low == next && bits == width && (low >> bits & 1) == 1));
+            CHECK("block", six[i].address[15] == low && six[i].prefix == 128 - bits);
+            next = low + (1u << bits);
+            width = bits;
+        }
+        if (count != 0) {
+            size_t bad = round / 9 % count;
+            four[bad].prefix = 33;
+            six[bad].prefix = 129;
+            memcpy(given_four, four, count * sizeof *four);
+            memcpy(given_six, six, count * sizeof *six);
+            told[0] = told[1] = 77;
+            CHECK("past", ipnetwork_v4_aggregate(four, count, &told[0]) == PREF && told[0] == 77);
+            CHECK("past", ipnetwork_v6_aggregate(six, count, &told[1]) == PREF && told[1] == 77);
+            CHECK("past", memcmp(four, given_four, count * sizeof *four) == 0);
+            CHECK("past", memcmp(six, given_six, count * sizeof *six) == 0);
+        }
+        free(four);
+        free(six);
+        free(given_four);
+        free(given_six);
+    }
+    ipnetwork_v4 all[3] = {v4("128.0.0.0/1"), v4("10.0.0.0/8"), v4("0.0.0.0/1")};
+    size_t told = 77;
+    CHECK("all", ipnetwork_v4_aggregate(all, 3, &told) == YES && told == 1 && all[0].prefix == 0);
+    CHECK("all", is_blank(all[0].address, 4) && all[1].prefix <= 32 && all[2].prefix <= 32);
+}
+
 /* Families and addresses of either length. */
 static void either(void) {
     ipnetwork_ip four, six;
@@ -586,6 +656,7 @@ int main(void) {
     past_the_width();
     columns();
     lists();
+    aggregates();
     either();
     questions_of_either();
     refused_of_either();

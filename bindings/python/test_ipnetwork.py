@@ -3,6 +3,7 @@
 import copy
 import ipaddress
 import pickle
+import random
 import unittest
 from ipaddress import IPv4Address, IPv6Address
 
@@ -200,6 +201,23 @@ class Questions(unittest.TestCase):
             ipnetwork.NetworkList([ipaddress.ip_network("10.0.0.0/8")])
         with self.assertRaises(TypeError):
             "10.0.0.1" in allowed
+
+    def test_collapse(self):
+        rng = random.Random(20)
+        for kind, theirs, address, width, base in (
+            (IPv4Network, ipaddress.IPv4Network, IPv4Address, 32, int(IPv4Address("192.0.2.0"))),
+            (IPv6Network, ipaddress.IPv6Network, IPv6Address, 128, int(IPv6Address("2001:db8::"))),
+        ):
+            for count in range(200):
+                pairs = [(address(base + rng.randrange(256)), width - rng.randrange(9)) for _ in range(count % 12)]
+                wanted = ipaddress.collapse_addresses([theirs(pair, strict=False) for pair in pairs])
+                given = ipnetwork.collapse_addresses(kind.of(*pair) for pair in pairs)
+                self.assertEqual(list(map(str, given)), list(map(str, wanted)))
+            self.assertEqual(list(ipnetwork.collapse_addresses(iter([kind("::/0" if width == 128 else "0.0.0.0/0")])))[0].prefixlen, 0)
+        with self.assertRaises(TypeError):
+            ipnetwork.collapse_addresses([IPv4Network("0.0.0.0/0"), IPv6Network("::/0")])
+        with self.assertRaises(TypeError):
+            ipnetwork.collapse_addresses([ipaddress.ip_network("10.0.0.0/8")])
 
     def test_sets(self):
         inner, outer = IPv6Network("2000:aaa::/56"), IPv6Network("2000:aaa::/48")

@@ -42,6 +42,7 @@ __all__ = [
     "NetworkList",
     "NetworkError",
     "PrefixError",
+    "collapse_addresses",
     "ip_network",
 ]
 
@@ -112,6 +113,7 @@ def _load() -> ctypes.CDLL:
             ("canonical", [octets, pointer, size, pointer]),
             ("contains_column", [octets, pointer, size, pointer, size]),
             ("list_contains", [octets, size, octets, pointer]),
+            ("aggregate", [pointer, size, pointer]),
             ("network", [octets, pointer]),
             ("broadcast", [octets, pointer]),
             ("mask", [octets, pointer]),
@@ -154,6 +156,7 @@ class _Network(Generic[Address]):
     _greatest: ClassVar[Callable[..., int]]
     _mask: ClassVar[Callable[..., int]]
     _mask_length: ClassVar[Callable[..., int]]
+    _aggregate: ClassVar[Callable[..., int]]
 
     _key: bytes
     prefixlen: int
@@ -397,6 +400,7 @@ class IPv4Network(_Network[IPv4Address]):
     _greatest = _library.ipnetwork_v4_broadcast
     _mask = _library.ipnetwork_v4_mask
     _mask_length = _library.ipnetwork_v4_prefix_of_mask
+    _aggregate = _library.ipnetwork_v4_aggregate
 
     def __contains__(self, address: object) -> bool:
         """Whether an address is a member of the network. No address of the other family is."""
@@ -425,6 +429,7 @@ class IPv6Network(_Network[IPv6Address]):
     _greatest = _library.ipnetwork_v6_broadcast
     _mask = _library.ipnetwork_v6_mask
     _mask_length = _library.ipnetwork_v6_prefix_of_mask
+    _aggregate = _library.ipnetwork_v6_aggregate
 
     def __contains__(self, address: object) -> bool:
         """Whether an address is a member of the network. No address of the other family is, and none with a zone."""
@@ -480,3 +485,46 @@ def ip_network(text: str | bytes) -> Union[IPv4Network, IPv6Network]:
     network = kind.__new__(kind)
     network._keep(bytes(held))
     return network
+
+
+_Net = TypeVar("_Net", IPv4Network, IPv6Network)
+
+
+def collapse_addresses(networks: Iterable[_Net]) -> Iterator[_Net]:
+    """The fewest networks with the same addresses, in ascending order: the aggregate of networks of one family, host bits
+    or not. TypeError if they are of both.
+
+    >>> halves = [IPv4Network("10.128.0.0/9"), IPv4Network("10.0.0.0/9"), IPv4Network("10.1.9.32/16")]
+    >>> list(collapse_addresses(halves))
+    [IPv4Network('10.0.0.0/8')]
+    """
+    each = list(networks)
+    if not each:
+        return iter(())
+    kind = _family(each[0])
+    for network in each:
+        if _family(network) is not kind:
+            raise TypeError(f"{each[0]!r} and {network!r} are not of one family")
+    return _aggregate(kind, b"".join([network._key for network in each]))
+
+
+def _family(network: object) -> type[_Network[Any]]:
+    if isinstance(network, IPv4Network):
+        return IPv4Network
+    if isinstance(network, IPv6Network):
+        return IPv6Network
+    raise TypeError(f"a network is IPv4Network or IPv6Network of this package, not {type(network).__name__}")
+
+
+def _of_key(kind: type[_Self], key: bytes) -> _Self:
+    network = kind.__new__(kind)
+    network._keep(key)
+    return network
+
+
+def _aggregate(kind: type[_Self], keys: bytes) -> Iterator[_Self]:
+    """The aggregate of the networks whose bytes these are."""
+    room, count, step = ctypes.create_string_buffer(keys, len(keys)), ctypes.c_size_t(), kind._width + 1
+    _answered(kind._aggregate(room, len(keys) // step, ctypes.byref(count)))
+    blocks = room.raw[: count.value * step]
+    return (_of_key(kind, blocks[at : at + step]) for at in range(0, len(blocks), step))

@@ -126,6 +126,16 @@ mod c {
             address: &[u8; 16],
             answer: &mut u8,
         ) -> u32;
+        pub unsafe fn ipnetwork_v4_aggregate(
+            networks: *mut V4,
+            count: usize,
+            blocks: &mut usize,
+        ) -> u32;
+        pub unsafe fn ipnetwork_v6_aggregate(
+            networks: *mut V6,
+            count: usize,
+            blocks: &mut usize,
+        ) -> u32;
         pub safe fn ipnetwork_v4_network(n: &V4, address: &mut [u8; 4]) -> u32;
         pub safe fn ipnetwork_v6_network(n: &V6, address: &mut [u8; 16]) -> u32;
         pub safe fn ipnetwork_v4_broadcast(n: &V4, address: &mut [u8; 4]) -> u32;
@@ -185,7 +195,7 @@ macro_rules! family {
         $(#[$doc:meta])* $name:ident, $octets:literal, $address:ident, $text:literal,
         $read:ident, $new:ident, $canonical:ident, $contains:ident, $network:ident, $broadcast:ident, $mask:ident,
         $prefix_of_mask:ident, $is_subnet_of:ident, $overlaps:ident, $compare:ident, $contains_column:ident,
-        $list_contains:ident
+        $list_contains:ident, $aggregate:ident
     ) => {
         $(#[$doc])*
         #[derive(Clone, Copy, PartialEq, Eq, Hash, Debug)]
@@ -246,6 +256,16 @@ macro_rules! family {
                     c::$list_contains(networks.as_ptr().cast(), networks.len(), &address.octets(), &mut answer)
                 });
                 answer == 1
+            }
+
+            /// Puts the aggregate of the networks, in any order, host bits or not, in front, and gives it: the fewest
+            /// blocks with the same addresses, in ascending order. Behind it stand networks, whichever.
+            pub fn aggregate(networks: &mut [Self]) -> &mut [Self] {
+                let mut blocks = 0;
+                // SAFETY: a slice is never null, and has as many elements, each of which is the struct that it wraps; the
+                // call leaves networks in all of them.
+                answered(unsafe { c::$aggregate(networks.as_mut_ptr().cast(), networks.len(), &mut blocks) });
+                &mut networks[..blocks]
             }
 
             /// The least member: the address with its host bits cleared.
@@ -338,7 +358,8 @@ family!(
     Ipv4Network, 4, Ipv4Addr, 19,
     ipnetwork_v4_read, ipnetwork_v4_new, ipnetwork_v4_canonical, ipnetwork_v4_contains, ipnetwork_v4_network,
     ipnetwork_v4_broadcast, ipnetwork_v4_mask, ipnetwork_v4_prefix_of_mask, ipnetwork_v4_is_subnet_of,
-    ipnetwork_v4_overlaps, ipnetwork_v4_compare, ipnetwork_v4_contains_column, ipnetwork_v4_list_contains
+    ipnetwork_v4_overlaps, ipnetwork_v4_compare, ipnetwork_v4_contains_column, ipnetwork_v4_list_contains,
+    ipnetwork_v4_aggregate
 );
 
 family!(
@@ -347,7 +368,8 @@ family!(
     Ipv6Network, 16, Ipv6Addr, 44,
     ipnetwork_v6_read, ipnetwork_v6_new, ipnetwork_v6_canonical, ipnetwork_v6_contains, ipnetwork_v6_network,
     ipnetwork_v6_broadcast, ipnetwork_v6_mask, ipnetwork_v6_prefix_of_mask, ipnetwork_v6_is_subnet_of,
-    ipnetwork_v6_overlaps, ipnetwork_v6_compare, ipnetwork_v6_contains_column, ipnetwork_v6_list_contains
+    ipnetwork_v6_overlaps, ipnetwork_v6_compare, ipnetwork_v6_contains_column, ipnetwork_v6_list_contains,
+    ipnetwork_v6_aggregate
 );
 
 impl Ipv4Network {

@@ -420,3 +420,45 @@ fn families_apart() {
         Err(Fault::Prefix)
     );
 }
+
+macro_rules! aggregates {
+    ($test:ident, $network:ident, $address:ident, $number:ident, $width:literal, $base:literal) => {
+        /// Of lists within 256 addresses: the aggregate has their addresses, ascends, and has no halves of one block.
+        #[test]
+        fn $test() {
+            let mut state = 20_u32;
+            let mut random = |bound: u32| {
+                state = state.wrapping_mul(1_664_525).wrapping_add(1_013_904_223);
+                (state >> 16) % bound
+            };
+            let base = $number::from($base.parse::<$address>().unwrap());
+            for round in 0..2000 {
+                let given: Vec<_> = (0..round % 9)
+                    .map(|_| {
+                        let address = $address::from(base + $number::from(random(256)));
+                        $network::new(address, ($width - random(9)) as u8).unwrap()
+                    })
+                    .collect();
+                let mut memory = given.clone();
+                let blocks = $network::aggregate(&mut memory);
+                for offset in 0..256 {
+                    let address = $address::from(base + $number::from(offset as u8));
+                    let was = given.iter().any(|each| each.contains(address));
+                    assert_eq!($network::any_contains(blocks, address), was, "{given:?}");
+                }
+                assert!(blocks.iter().all(|each| each.ip() == each.network()));
+                for pair in blocks.windows(2) {
+                    assert!(pair[0].broadcast() < pair[1].network(), "{given:?}");
+                    let around = $network::new(pair[0].ip(), pair[0].prefix() - 1).unwrap();
+                    assert!(
+                        pair[0].prefix() != pair[1].prefix() || !around.contains(pair[1].ip()),
+                        "{given:?}"
+                    );
+                }
+            }
+        }
+    };
+}
+
+aggregates!(aggregates_v4, Ipv4Network, Ipv4Addr, u32, 32, "192.0.2.0");
+aggregates!(aggregates_v6, Ipv6Network, Ipv6Addr, u128, 128, "2001:db8::");

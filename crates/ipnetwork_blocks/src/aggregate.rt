@@ -6,7 +6,7 @@ ghost use Rattle.ipnetwork_blocks.specs.Aggregate.{SameUnion, IsAggregate};
 ghost use Rattle.ipnetwork_blocks.specs.Supernets.{parent};
 ghost use Rattle.ipnetwork_blocks.specs.Private.Joining.{IsBlockNetwork, AreJoined, AreHalves, AreInOrder, LiesInLast};
 
-use crate::held_network::Holds;
+use crate::held_network::HoldsNetwork;
 use crate::supernets::block;
 use ipnetwork_family::CidrNetwork;
 
@@ -43,8 +43,18 @@ pub fn aggregate_vec<N: CidrNetwork>(networks: &mut Vec<N>)
     networks.truncate(count);
 }
 
-/// Puts values that hold the aggregate of the networks that the values hold in front, and answers how many.
-pub(crate) fn aggregate_held<N: CidrNetwork, H: Holds<N>>(values: &mut [H]) -> usize
+/// Puts values that hold the aggregate of the networks that the values hold in front, and answers how many: what
+/// `aggregate_in_place` does, for networks that stand in memory in a form of their own. The rest of the slice holds
+/// unspecified networks.
+///
+/// Sorts the slice and goes over it once. Does not allocate.
+///
+/// ```
+/// let mut values: [Ipv6Network; 2] = ["2001:db8:8000::/33".parse()?, "2001:db8::/33".parse()?];
+/// assert_eq!(rt; aggregate_held::<Ipv6Network, Ipv6Network>(&mut values), 1);
+/// assert_eq!(rt; values[0].canonical().as_str(), "2001:db8::/32");
+/// ```
+pub fn aggregate_held<N: CidrNetwork, H: HoldsNetwork<N>>(values: &mut [H]) -> usize
     requires { All H.holds values.old }
     ensures within { result ≤ length values.old }
     ensures aggregate { IsAggregate N.WIDTH (map H.held values.old) (map H.held (take result values.new)) }
@@ -56,7 +66,7 @@ pub(crate) fn aggregate_held<N: CidrNetwork, H: Holds<N>>(values: &mut [H]) -> u
 }
 
 // Each network becomes its block.
-fn clear_host_bits<N: CidrNetwork, H: Holds<N>>(values: &mut [H])
+fn clear_host_bits<N: CidrNetwork, H: HoldsNetwork<N>>(values: &mut [H])
     requires { All H.holds values.old }
     ensures cleared { map H.held values.new ≡ map (block_of N.WIDTH) (map H.held values.old) }
     ensures blocks { All (IsBlockNetwork N.WIDTH) (map H.held values.new) }
@@ -69,7 +79,7 @@ fn clear_host_bits<N: CidrNetwork, H: Holds<N>>(values: &mut [H])
 
 // Aggregates blocks in order. Those that were read and not dropped stand in front, joined as far as they go, and
 // the next one lies in the last of them, or is joined with those at their end.
-fn join_sorted<N: CidrNetwork, H: Holds<N>>(values: &mut [H]) -> usize
+fn join_sorted<N: CidrNetwork, H: HoldsNetwork<N>>(values: &mut [H]) -> usize
     requires held { All H.holds values.old }
     requires blocks { All (IsBlockNetwork N.WIDTH) (map H.held values.old) }
     requires order { AreInOrder (map H.held values.old) }
@@ -91,7 +101,7 @@ fn join_sorted<N: CidrNetwork, H: Holds<N>>(values: &mut [H]) -> usize
 }
 
 // Whether the block lies in the last of the others.
-fn lies_in_last<N: CidrNetwork, H: Holds<N>>(front: &[H], block: N) -> bool
+fn lies_in_last<N: CidrNetwork, H: HoldsNetwork<N>>(front: &[H], block: N) -> bool
     requires { All H.holds front.now }
     ensures { IsTrue result ↔ LiesInLast N.WIDTH (map H.held front.now) (N.pair block) }
 {
@@ -103,7 +113,7 @@ fn lies_in_last<N: CidrNetwork, H: Holds<N>>(front: &[H], block: N) -> bool
 
 // Joins the block with the last of those in front, and what comes of it with the one before, for as long as the two
 // are the halves of one block: how many in front are left, and what to put behind them.
-fn join_back<N: CidrNetwork, H: Holds<N>>(front: &[H], block: N) -> (usize, N)
+fn join_back<N: CidrNetwork, H: HoldsNetwork<N>>(front: &[H], block: N) -> (usize, N)
     requires held { All H.holds front.now }
     requires joined { AreJoined N.WIDTH (map H.held front.now) }
     requires block { IsBlockNetwork N.WIDTH (N.pair block) }

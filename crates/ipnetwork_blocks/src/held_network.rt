@@ -6,8 +6,16 @@ ghost use Rattle.ipnetwork_family.specs.Network.{Network, network_cmp};
 use ipnetwork::{IpNetwork, Ipv4Network, Ipv6Network};
 use ipnetwork_family::CidrNetwork;
 
-/// A value that may hold a network of the family of `N`. Values that do are ordered as their networks are.
-pub(crate) trait Holds<N: CidrNetwork>: Copy + Ord {
+/// A value that may hold a network of the family of `N`, so that lists of such values are aggregated as they stand in
+/// memory. Values that do are ordered as their networks are. A network holds itself, and an `IpNetwork` holds one of
+/// either family.
+///
+/// ```
+/// let network: Ipv4Network = "10.0.0.0/8".parse()?;
+/// let value = <IpNetwork as HoldsNetwork<Ipv4Network>>::holding(network);
+/// assert_eq!(rt; value, "10.0.0.0/8".parse()?);
+/// ```
+pub trait HoldsNetwork<N: CidrNetwork>: Copy + Ord {
     // Whether the value holds such a network.
     ghost holds: { Self → Type 0 };
 
@@ -15,11 +23,21 @@ pub(crate) trait Holds<N: CidrNetwork>: Copy + Ord {
     ghost held: { Self → Network };
 
     /// The network that the value holds.
+    ///
+    /// ```
+    /// let value: Ipv6Network = "2001:db8::/32".parse()?;
+    /// assert_eq!(rt; HoldsNetwork::<Ipv6Network>::network(value), value);
+    /// ```
     fn network(self) -> N
         requires { holds self }
         ensures { N.pair result ≡ held self };
 
     /// The value that holds the network.
+    ///
+    /// ```
+    /// let network: Ipv6Network = "2001:db8::/32".parse()?;
+    /// assert_eq!(rt; <IpNetwork as HoldsNetwork<Ipv6Network>>::holding(network), IpNetwork::V6(network));
+    /// ```
     fn holding(network: N) -> Self
         ensures { holds result × (held result ≡ N.pair network) };
 
@@ -27,7 +45,7 @@ pub(crate) trait Holds<N: CidrNetwork>: Copy + Ord {
     ghost held_order: { (x y : Self) → holds x → holds y → Self.cmp x y ≡ network_cmp (held x) (held y) };
 }
 
-impl<N: CidrNetwork> Holds<N> for N {
+impl<N: CidrNetwork> HoldsNetwork<N> for N {
     ghost use Rattle.std.specs.Prelude.{⊤};
 
     ghost holds = { λ _. ⊤ };
@@ -45,7 +63,7 @@ impl<N: CidrNetwork> Holds<N> for N {
     ghost held_order = { λ x y _ _. N.network_order x y };
 }
 
-impl Holds<Ipv4Network> for IpNetwork {
+impl HoldsNetwork<Ipv4Network> for IpNetwork {
     ghost use Rattle.std.specs.Prelude.{refl};
     ghost use Rattle.ipnetwork.specs.IpNetworks.{IsV4};
     ghost use Rattle.ipnetwork_blocks.specs.Private.Held.{the_network, v4_order};
@@ -68,7 +86,7 @@ impl Holds<Ipv4Network> for IpNetwork {
     ghost held_order = { v4_order _ (λ a b. refl) };
 }
 
-impl Holds<Ipv6Network> for IpNetwork {
+impl HoldsNetwork<Ipv6Network> for IpNetwork {
     ghost use Rattle.std.specs.Prelude.{refl};
     ghost use Rattle.ipnetwork.specs.IpNetworks.{IsV6};
     ghost use Rattle.ipnetwork_blocks.specs.Private.Held.{the_network, v6_order};

@@ -21,10 +21,11 @@ mod supernets;
 mod tests;
 
 pub use address_space::AddressSpace;
-pub use aggregate::{aggregate_in_place, aggregate_vec};
+pub use aggregate::{aggregate_held, aggregate_in_place, aggregate_vec};
 pub use aggregate_ip::{aggregate_ip_in_place, aggregate_ip_vec};
 pub use exclusions::{Exclusion, exclude};
 pub use following_block::following;
+pub use held_network::HoldsNetwork;
 pub use hosts::{Ipv4HostIterator, ipv4_hosts, ipv6_hosts};
 pub use preceding_block::preceding;
 pub use range_blocks::{RangeBlocks, range_to_blocks};

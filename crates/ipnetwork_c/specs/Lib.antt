@@ -3,4 +3,5 @@ pub mod Held
 pub mod Answers
 pub mod Either
 pub mod Columns
+pub mod Lists
 pub mod Private

@@ -7,9 +7,11 @@
 ghost use Rattle.std.specs.Prelude.{◌≡◌};
 
 mod address;
+mod aggregates;
 mod columns;
 mod either;
 mod fault;
+mod holding;
 mod ipv4;
 mod ipv6;
 pub mod laws;

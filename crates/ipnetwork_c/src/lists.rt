@@ -25,7 +25,7 @@ pub extern "C" fn ipnetwork_v4_list_contains(
 }
 
 /// Whether each prefix length is at most 32.
-fn v4_all_fit(networks: &[Ipv4InC]) -> bool
+pub(crate) fn v4_all_fit(networks: &[Ipv4InC]) -> bool
     ensures { IsTrue result ↔ All (λ held. PrefixFits 32 (v4_in held)) networks.now }
 {
     networks.iter().all(|held| held.prefix <= 32)
@@ -61,7 +61,7 @@ pub extern "C" fn ipnetwork_v6_list_contains(
 }
 
 /// Whether each prefix length is at most 128.
-fn v6_all_fit(networks: &[Ipv6InC]) -> bool
+pub(crate) fn v6_all_fit(networks: &[Ipv6InC]) -> bool
     ensures { IsTrue result ↔ All (λ held. PrefixFits 128 (v6_in held)) networks.now }
 {
     networks.iter().all(|held| held.prefix <= 128)

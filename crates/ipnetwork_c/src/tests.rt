@@ -2,6 +2,7 @@
 //! `bindings/c`, go further: they call what the linker sees.
 
 use crate::address::*;
+use crate::aggregates::*;
 use crate::columns::*;
 use crate::either::{ipnetwork_contains, ipnetwork_read};
 use crate::fault::ipnetwork_fault_text;
@@ -317,4 +318,31 @@ fn lists_of_networks(rt: HostRuntime) {
     ];
     assert_eq!(rt; told, [0, 0, 0, 3]);
     assert_eq!(rt; (inside, outside, six, none), (1, 0, 1, 9));
+}
+
+#[test]
+fn aggregates_of_networks(rt: HostRuntime) {
+    let four = |last, prefix| Ipv4InC {
+        address: [192, 0, 2, last],
+        prefix,
+    };
+    let six = |last, prefix| {
+        let mut address = FIRST;
+        address[15] = last;
+        Ipv6InC { address, prefix }
+    };
+    let mut fours = [four(200, 25), four(64, 26), four(1, 32), four(7, 26)];
+    let mut sixes = [six(3, 128), six(0, 128), six(2, 128)];
+    let mut past = [four(0, 24), four(0, 33)];
+    let (mut v4, mut v6, mut none) = (9, 9, 9);
+    let told = [
+        ipnetwork_v4_aggregate(&mut fours, &mut v4),
+        ipnetwork_v6_aggregate(&mut sixes, &mut v6),
+        ipnetwork_v4_aggregate(&mut past, &mut none),
+    ];
+    assert_eq!(rt; (told, v4, v6, none), ([0, 0, 3], 1, 2, 9));
+    assert_eq!(rt; (fours[0].address, fours[0].prefix), ([192, 0, 2, 0], 24));
+    assert_eq!(rt; (sixes[0].address[15], sixes[0].prefix), (0, 128));
+    assert_eq!(rt; (sixes[1].address[15], sixes[1].prefix), (2, 127));
+    assert_eq!(rt; (past[0].prefix, past[1].prefix), (24, 33));
 }

@@ -11,24 +11,24 @@ pub loop-value-preserved : goal.loop-value-preserved
 loop-value-preserved g c =
     let w : ℕ = g.N.CidrNetwork.WIDTH in
     let i : ℕ = c.loop-value.value-index in
-    let xs : List Network = map g.H.Holds.held c.args.values.now in
-    let ys : List Network = map g.H.Holds.held c.loop-value.values in
-    let v : Network = g.H.Holds.held c.holding.result in
-    let size_x = length-map c.args.values.now g.H.Holds.held in
-    let size_y = length-map c.loop-value.values g.H.Holds.held in
-    let is = read_map g.H.Holds.held c.loop-value.values i c.value-item.result (omega arith) c.value-item.is in
+    let xs : List Network = map g.H.HoldsNetwork.held c.args.values.now in
+    let ys : List Network = map g.H.HoldsNetwork.held c.loop-value.values in
+    let v : Network = g.H.HoldsNetwork.held c.holding.result in
+    let size_x = length-map c.args.values.now g.H.HoldsNetwork.held in
+    let size_y = length-map c.loop-value.values g.H.HoldsNetwork.held in
+    let is = read_map g.H.HoldsNetwork.held c.loop-value.values i c.value-item.result (omega arith) c.value-item.is in
     let made : v ≡ block_of w (g.N.CidrNetwork.pair c.network.result) = c.holding.ensures.1 ∙ c.block.ensures.made in
-    let one : v ≡ block_of w (g.H.Holds.held c.value-item.result) = made ∙ ap (block_of w) (c.network.ensures ∙ ap g.H.Holds.held (sym c.value-item.is)) in
+    let one : v ≡ block_of w (g.H.HoldsNetwork.held c.value-item.result) = made ∙ ap (block_of w) (c.network.ensures ∙ ap g.H.HoldsNetwork.held (sym c.value-item.is)) in
     let is_block : IsBlockNetwork w v = subst (λ (n : Network). IsBlockNetwork w n) (sym c.holding.ensures.1)
     (record { network = c.block.ensures.network; block = c.block.ensures.no_host_bits }) in (
-      All-set g.H.Holds.holds c.loop-value.values i c.holding.result c.holding.ensures.0 c.loop-value.invariant.0,
-      subst (λ (t : List Network). IsClearing w xs t (i + 1)) (sym (map-set g.H.Holds.held c.loop-value.values i c.holding.result))
-          (clearing_more w xs ys i (g.H.Holds.held c.value-item.result) v c.loop-value.invariant.1 (omega arith) (omega arith) is one is_block),
+      All-set g.H.HoldsNetwork.holds c.loop-value.values i c.holding.result c.holding.ensures.0 c.loop-value.invariant.0,
+      subst (λ (t : List Network). IsClearing w xs t (i + 1)) (sym (map-set g.H.HoldsNetwork.held c.loop-value.values i c.holding.result))
+          (clearing_more w xs ys i (g.H.HoldsNetwork.held c.value-item.result) v c.loop-value.invariant.1 (omega arith) (omega arith) is one is_block),
     )
 
 pub returns-clause-blocks : goal.returns-clause-blocks
 returns-clause-blocks g c =
-    let size_x = length-map c.args.values.now g.H.Holds.held in
-    let size_y = length-map c.loop-value.values g.H.Holds.held in
-    (cleared g.N.CidrNetwork.WIDTH (map g.H.Holds.held c.args.values.now) (map g.H.Holds.held c.loop-value.values)
+    let size_x = length-map c.args.values.now g.H.HoldsNetwork.held in
+    let size_y = length-map c.loop-value.values g.H.HoldsNetwork.held in
+    (cleared g.N.CidrNetwork.WIDTH (map g.H.HoldsNetwork.held c.args.values.now) (map g.H.HoldsNetwork.held c.loop-value.values)
     c.loop-value.value-index c.loop-value.invariant.1 (omega arith) (omega arith)).1

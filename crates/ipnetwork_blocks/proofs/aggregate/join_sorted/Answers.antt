@@ -13,46 +13,46 @@ use Rattle.ipnetwork_blocks.proofs.aggregate.join_sorted.Goals.{then-not-lies_in
 
 pub join_back-left-requires-clause-joined : goal.join_back-left-requires-clause-joined
 join_back-left-requires-clause-joined g c =
-    subst (λ (t : List Network). AreJoined g.N.CidrNetwork.WIDTH t) (take-map g.H.Holds.held c.loop-next.kept c.loop-next.values) c.loop-next.invariant.1.joined
+    subst (λ (t : List Network). AreJoined g.N.CidrNetwork.WIDTH t) (take-map g.H.HoldsNetwork.held c.loop-next.kept c.loop-next.values) c.loop-next.invariant.1.joined
 
 pub join_back-left-requires-clause-block : goal.join_back-left-requires-clause-block
 join_back-left-requires-clause-block g c =
-    let size_z = length-map c.args.values.now g.H.Holds.held in
-    let size_x = length-map c.loop-next.values g.H.Holds.held in
+    let size_z = length-map c.args.values.now g.H.HoldsNetwork.held in
+    let size_x = length-map c.loop-next.values g.H.HoldsNetwork.held in
     let size = c.loop-next.invariant.1.size in
-    passing_block g.N.CidrNetwork.WIDTH (map g.H.Holds.held c.args.values.now) (map g.H.Holds.held c.loop-next.values) c.loop-next.next c.loop-next.kept
+    passing_block g.N.CidrNetwork.WIDTH (map g.H.HoldsNetwork.held c.args.values.now) (map g.H.HoldsNetwork.held c.loop-next.values) c.loop-next.next c.loop-next.kept
     (g.N.CidrNetwork.pair c.network-block.result) c.requires.blocks c.loop-next.invariant.1 (omega arith)
-    (read_held g.H.Holds.held c.loop-next.values c.loop-next.next c.index-values-next.result (g.N.CidrNetwork.pair c.network-block.result) (omega arith) c.index-values-next.is c.network-block.ensures)
+    (read_held g.H.HoldsNetwork.held c.loop-next.values c.loop-next.next c.index-values-next.result (g.N.CidrNetwork.pair c.network-block.result) (omega arith) c.index-values-next.is c.network-block.ensures)
 
 pub join_back-left-requires-clause-behind : goal.join_back-left-requires-clause-behind
 join_back-left-requires-clause-behind g c =
     let w : ℕ = g.N.CidrNetwork.WIDTH in
     let b : Network = g.N.CidrNetwork.pair c.network-block.result in
-    let size_z = length-map c.args.values.now g.H.Holds.held in
-    let size_x = length-map c.loop-next.values g.H.Holds.held in
+    let size_z = length-map c.args.values.now g.H.HoldsNetwork.held in
+    let size_x = length-map c.loop-next.values g.H.HoldsNetwork.held in
     let size = c.loop-next.invariant.1.size in
-    let front = take-map g.H.Holds.held c.loop-next.kept c.loop-next.values in
+    let front = take-map g.H.HoldsNetwork.held c.loop-next.kept c.loop-next.values in
     subst (λ (t : List Network). All (λ a. high w a < b.address) t) front
-    (passing_after_last w (map g.H.Holds.held c.args.values.now) (map g.H.Holds.held c.loop-next.values) c.loop-next.next c.loop-next.kept
+    (passing_after_last w (map g.H.HoldsNetwork.held c.args.values.now) (map g.H.HoldsNetwork.held c.loop-next.values) c.loop-next.next c.loop-next.kept
     b c.requires.blocks c.loop-next.invariant.1 (omega arith)
-    (read_held g.H.Holds.held c.loop-next.values c.loop-next.next c.index-values-next.result b (omega arith) c.index-values-next.is c.network-block.ensures)
+    (read_held g.H.HoldsNetwork.held c.loop-next.values c.loop-next.next c.index-values-next.result b (omega arith) c.index-values-next.is c.network-block.ensures)
     (λ last. iff_false c.lies_in_last.ensures c.if-not-lies_in_last.true (subst (λ (t : List Network). LiesInLast w t b) front last)))
 
 pub loop-next-preserved : goal.loop-next-preserved
 loop-next-preserved g c =
     let w : ℕ = g.N.CidrNetwork.WIDTH in
     let b : Network = g.N.CidrNetwork.pair c.network-block.result in
-    let z : List Network = map g.H.Holds.held c.args.values.now in
-    let xs : List Network = map g.H.Holds.held c.loop-next.values in
-    let size_z = length-map c.args.values.now g.H.Holds.held in
-    let size_x = length-map c.loop-next.values g.H.Holds.held in
+    let z : List Network = map g.H.HoldsNetwork.held c.args.values.now in
+    let xs : List Network = map g.H.HoldsNetwork.held c.loop-next.values in
+    let size_z = length-map c.args.values.now g.H.HoldsNetwork.held in
+    let size_x = length-map c.loop-next.values g.H.HoldsNetwork.held in
     let size = c.loop-next.invariant.1.size in
-    let front : take c.loop-next.kept xs ≡ map g.H.Holds.held (take c.loop-next.kept c.loop-next.values) = take-map g.H.Holds.held c.loop-next.kept c.loop-next.values in
-    let is = read_held g.H.Holds.held c.loop-next.values c.loop-next.next c.index-values-next.result b (omega arith) c.index-values-next.is c.network-block.ensures in
+    let front : take c.loop-next.kept xs ≡ map g.H.HoldsNetwork.held (take c.loop-next.kept c.loop-next.values) = take-map g.H.HoldsNetwork.held c.loop-next.kept c.loop-next.values in
+    let is = read_held g.H.HoldsNetwork.held c.loop-next.values c.loop-next.next c.index-values-next.result b (omega arith) c.index-values-next.is c.network-block.ensures in
     let branch = λ (ys : List g.row.H.Denot) (kept : ℕ) (e : c.if-not-lies_in_last.values ≡ ys) (f : c.if-not-lies_in_last.kept ≡ kept)
-    (p : All g.H.Holds.holds ys × IsPassing w z (map g.H.Holds.held ys) (c.loop-next.next + 1) kept).
-    subst (λ (us : List g.row.H.Denot). All g.H.Holds.holds us × IsPassing w z (map g.H.Holds.held us) (c.loop-next.next + 1) c.if-not-lies_in_last.kept) (sym e)
-    (subst (λ (k : ℕ). All g.H.Holds.holds ys × IsPassing w z (map g.H.Holds.held ys) (c.loop-next.next + 1) k) (sym f) p) in
+    (p : All g.H.HoldsNetwork.holds ys × IsPassing w z (map g.H.HoldsNetwork.held ys) (c.loop-next.next + 1) kept).
+    subst (λ (us : List g.row.H.Denot). All g.H.HoldsNetwork.holds us × IsPassing w z (map g.H.HoldsNetwork.held us) (c.loop-next.next + 1) c.if-not-lies_in_last.kept) (sym e)
+    (subst (λ (k : ℕ). All g.H.HoldsNetwork.holds ys × IsPassing w z (map g.H.HoldsNetwork.held ys) (c.loop-next.next + 1) k) (sym f) p) in
     elim c.if-not-lies_in_last.branch [
       | then-not-lies_in_last v ↦
           let left : ℕ = v.join_back-left.result.0 in
@@ -60,14 +60,14 @@ loop-next-preserved g c =
           let bound = c.loop-next.invariant.1.bound in
           let kept_is = length-take-le c.loop-next.kept c.loop-next.values (omega arith) in
           let le = v.join_back-left.ensures.left in
-          let placed : IsPassing w z (map g.H.Holds.held (set c.loop-next.values left v.holding.result)) (c.loop-next.next + 1) (left + 1) =
-          subst (λ (t : List Network). IsPassing w z t (c.loop-next.next + 1) (left + 1)) (sym (map-set g.H.Holds.held c.loop-next.values left v.holding.result))
+          let placed : IsPassing w z (map g.H.HoldsNetwork.held (set c.loop-next.values left v.holding.result)) (c.loop-next.next + 1) (left + 1) =
+          subst (λ (t : List Network). IsPassing w z t (c.loop-next.next + 1) (left + 1)) (sym (map-set g.H.HoldsNetwork.held c.loop-next.values left v.holding.result))
           (subst (λ (n : Network). IsPassing w z (set xs left n) (c.loop-next.next + 1) (left + 1)) (sym v.holding.ensures.1)
           (passing_places w z xs c.loop-next.next c.loop-next.kept b left whole c.requires.order c.loop-next.invariant.1 (omega arith) is (omega arith)
           (subst (λ (t : List Network). AreJoined w (take left t ++ whole ∷ [])) (sym front) v.join_back-left.ensures.joined)
           (subst (λ (t : List Network). SameUnion w (take left t ++ whole ∷ []) (t ++ b ∷ [])) (sym front) v.join_back-left.ensures.union)
           v.join_back-left.ensures.order)) in
-          branch _ _ v.values-is v.kept-is (All-set g.H.Holds.holds c.loop-next.values left v.holding.result v.holding.ensures.0 c.loop-next.invariant.0, placed)
+          branch _ _ v.values-is v.kept-is (All-set g.H.HoldsNetwork.holds c.loop-next.values left v.holding.result v.holding.ensures.0 c.loop-next.invariant.0, placed)
       | else-not-lies_in_last v ↦ branch _ _ v.values-is v.kept-is (
         c.loop-next.invariant.0,
         passing_skips_last w z xs c.loop-next.next c.loop-next.kept b c.requires.order c.loop-next.invariant.1 (omega arith) is
@@ -77,5 +77,5 @@ loop-next-preserved g c =
 
 pub returns-clause-union : goal.returns-clause-union
 returns-clause-union g c =
-    let size_z = length-map c.args.values.now g.H.Holds.held in
-    passed_all g.N.CidrNetwork.WIDTH (map g.H.Holds.held c.args.values.now) (map g.H.Holds.held c.loop-next.values) c.loop-next.next c.loop-next.kept c.loop-next.invariant.1 (omega arith)
+    let size_z = length-map c.args.values.now g.H.HoldsNetwork.held in
+    passed_all g.N.CidrNetwork.WIDTH (map g.H.HoldsNetwork.held c.args.values.now) (map g.H.HoldsNetwork.held c.loop-next.values) c.loop-next.next c.loop-next.kept c.loop-next.invariant.1 (omega arith)

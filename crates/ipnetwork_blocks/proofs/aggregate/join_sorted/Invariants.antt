@@ -4,5 +4,5 @@ use Rattle.ipnetwork_blocks.proofs.AggregatePass.{IsPassing}
 use Rattle.ipnetwork_blocks.proofs.aggregate.join_sorted.Given as goal
 
 abbrev pub invariant-loop-next : goal.invariant-loop-next
-invariant-loop-next g l = All g.H.Holds.holds l.values
-    × IsPassing g.N.CidrNetwork.WIDTH (map g.H.Holds.held l.initial.values) (map g.H.Holds.held l.values) l.next l.kept
+invariant-loop-next g l = All g.H.HoldsNetwork.holds l.values
+    × IsPassing g.N.CidrNetwork.WIDTH (map g.H.HoldsNetwork.held l.initial.values) (map g.H.HoldsNetwork.held l.values) l.next l.kept
