@@ -1,3 +1,4 @@
+pub mod Examples
 pub mod Merging
 pub mod Putting
 pub mod ReadInTurn

@@ -1,0 +1,171 @@
+-- Values at which a misreading of the definitions would show. Each of these computes.
+use Rattle.std.proofs.Common.{◌≡◌, ◌∷◌, [], true, false, refl}
+use Rattle.std.specs.Prelude.{codes, String, Some, None}
+use Rattle.std.specs.Fmt.{digits}
+use Rattle.std.specs.String.{string_bytes}
+use Rattle.ipnetwork_family.specs.Network.{Network}
+use Rattle.ipnetwork_family.specs.Family.{v4_family}
+use Rattle.list_entries.specs.declared.entry.EntryFault.TheVariants.{Prefix}
+use Rattle.address_lists.specs.declared.fault.LineFault.TheVariants.{Entry}
+use Rattle.cidr_merge.specs.Answers.{merged, merged_ranges, block_line, range_line}
+use Rattle.cidr_merge.specs.CommandLines.{is, begins_dashed, is_dashed, is_name, operation_named, options_of, lists_of, are_options, are_lists, are_sides, before_dashes, behind_dashes, form_of}
+use Rattle.cidr_merge.specs.Runs.{answer_status}
+use Rattle.cidr_merge.specs.Told.{refusals_text, fault_text, more_text}
+use Rattle.cidr_merge.specs.declared.command_line.Operation.TheVariants.{Union, Common, Minus, Differ}
+use Rattle.cidr_merge.specs.declared.command_line.Form.TheVariants.{Counts}
+use Rattle.cidr_merge.specs.declared.reading.ReadFault.TheVariants.{Open, Read}
+use Rattle.cidr_merge.specs.declared.reading.Sets.{Sets}
+use Rattle.cidr_merge.specs.declared.sides.Side.TheVariants.{First, Second}
+
+-- ---- what is printed
+
+-- 10.0.0.0/8, 10.1.0.0/16 and 11.0.0.0/8
+abbrev pub ten : Network
+ten = record { address = 167772160; prefix = 8 }
+
+abbrev pub part : Network
+part = record { address = 167837696; prefix = 16 }
+
+abbrev pub eleven : Network
+eleven = record { address = 184549376; prefix = 8 }
+
+pub block_of_a_union : block_line Union v4_family (record { side = First; part = ten }) ≡ codes "10.0.0.0/8\n"
+unfolding digits
+block_of_a_union = refl
+
+pub block_of_the_first_alone : block_line Differ v4_family (record { side = First; part = ten }) ≡ codes "< 10.0.0.0/8\n"
+unfolding digits
+block_of_the_first_alone = refl
+
+pub range_of_the_second_alone : range_line Differ v4_family (record { side = Second; part = (167772160, 184549375) }) ≡ codes "> 10.0.0.0 - 10.255.255.255\n"
+unfolding digits
+range_of_the_second_alone = refl
+
+pub range_of_a_difference : range_line Minus v4_family (record { side = First; part = (0, 4294967295) }) ≡ codes "0.0.0.0 - 255.255.255.255\n"
+unfolding digits
+range_of_a_difference = refl
+
+-- in ascending order, whichever side has them
+pub sides_in_order : merged (part ∷ []) (ten ∷ eleven ∷ [])
+    ≡ record { side = Second; part = ten } ∷ record { side = First; part = part } ∷ record { side = Second; part = eleven } ∷ []
+sides_in_order = refl
+
+pub ranges_in_order : merged_ranges ((0, 1) ∷ (4, 5) ∷ []) ((2, 3) ∷ [])
+    ≡ record { side = First; part = (0, 1) } ∷ record { side = Second; part = (2, 3) } ∷ record { side = First; part = (4, 5) } ∷ []
+ranges_in_order = refl
+
+-- ---- the exit status
+
+abbrev pub none : Sets
+none = record { v4 = []; v6 = [] }
+
+abbrev pub one : Sets
+one = record { v4 = ten ∷ []; v6 = [] }
+
+abbrev pub one6 : Sets
+one6 = record { v4 = []; v6 = ten ∷ [] }
+
+pub equal_sides : answer_status Differ false one one ≡ 0
+equal_sides = refl
+
+pub unequal_sides : answer_status Differ false one none ≡ 1
+unequal_sides = refl
+
+pub unequal_ipv6_sides : answer_status Differ false none one6 ≡ 1
+unequal_ipv6_sides = refl
+
+pub sides_of_minus : answer_status Minus false one none ≡ 0
+sides_of_minus = refl
+
+pub skipped_before_unequal : answer_status Differ true one none ≡ 3
+skipped_before_unequal = refl
+
+-- ---- what is told
+
+pub no_more : more_text 0 ≡ []
+no_more = refl
+
+pub some_more : more_text 12 ≡ codes "12 more refused lines\n"
+unfolding digits
+some_more = refl
+
+pub a_refused_line : {Z : Type 0} (union list : String Z) → string_bytes list ≡ codes "a.txt"
+    → refusals_text (union ∷ list ∷ []) (record { kept = record { list = 1; line = 7; fault = Entry Prefix } ∷ []; more = 0 }) ≡ codes "a.txt:7: refused prefix\n"
+unfolding digits
+a_refused_line union list e = rw e
+
+pub a_refused_list : {Z : Type 0} (union list : String Z) → string_bytes list ≡ codes "-" → fault_text (union ∷ list ∷ []) (Read 1) ≡ codes "-: cannot read\n"
+a_refused_list union list e = rw e
+
+pub a_missing_list : {Z : Type 0} (union list : String Z) → string_bytes list ≡ codes "x" → fault_text (union ∷ list ∷ []) (Open 1) ≡ codes "x: cannot open\n"
+a_missing_list union list e = rw e
+
+-- ---- the command line
+
+pub standard_input_begins_with_no_dash : begins_dashed (codes "-") ≡ false
+standard_input_begins_with_no_dash = refl
+
+pub two_dashes_begin_with_one : begins_dashed (codes "--") ≡ true
+two_dashes_begin_with_one = refl
+
+pub a_dash_within : begins_dashed (codes "a-b") ≡ false
+a_dash_within = refl
+
+pub differ_is_an_operation : {Z : Type 0} (word : String Z) → string_bytes word ≡ codes "differ" → operation_named word ≡ Some Differ
+differ_is_an_operation word e = rw e
+
+pub nothing_else_is : {Z : Type 0} (word : String Z) → string_bytes word ≡ codes "Union" → operation_named word ≡ None
+nothing_else_is word e = rw e
+
+pub a_file_behind_a_dot : {Z : Type 0} (word : String Z) → string_bytes word ≡ codes "./-x" → is_name word ≡ true
+a_file_behind_a_dot word e = rw e
+
+pub an_empty_name : {Z : Type 0} (word : String Z) → string_bytes word ≡ [] → is_name word ≡ false
+an_empty_name word e = rw e
+
+pub an_option_is_no_name : {Z : Type 0} (word : String Z) → string_bytes word ≡ codes "--count" → is_name word ≡ false
+an_option_is_no_name word e = rw e
+
+pub two_ways_to_print : {Z : Type 0} (ranges count : String Z) → string_bytes ranges ≡ codes "--ranges" → string_bytes count ≡ codes "--count" → are_options (ranges ∷ count ∷ []) ≡ false
+two_ways_to_print ranges count r c = rw (r, c)
+
+pub one_way_twice : {Z : Type 0} (count again : String Z) → string_bytes count ≡ codes "--count" → string_bytes again ≡ codes "--count" → are_options (count ∷ again ∷ []) ≡ true
+one_way_twice count again c a = rw (c, a)
+
+pub counts_are_printed : {Z : Type 0} (skip count : String Z) → string_bytes skip ≡ codes "--skip-bad" → string_bytes count ≡ codes "--count" → form_of (skip ∷ count ∷ []) ≡ Counts
+counts_are_printed skip count s c = rw (s, c)
+
+pub standard_input_twice : {Z : Type 0} (input dashes again : String Z) → string_bytes input ≡ codes "-" → string_bytes dashes ≡ codes "--" → string_bytes again ≡ codes "-" → are_lists (input ∷ dashes ∷ again ∷ []) ≡ false
+standard_input_twice input dashes again i d a = rw (i, d, a)
+
+pub a_list_twice : {Z : Type 0} (list dashes again : String Z) → string_bytes list ≡ codes "a" → string_bytes dashes ≡ codes "--" → string_bytes again ≡ codes "a" → are_lists (list ∷ dashes ∷ again ∷ []) ≡ true
+a_list_twice list dashes again l d a = rw (l, d, a)
+
+-- options end at the first word that is `-` or begins with none; what comes after it are lists, whatever it is
+pub options_before_a_list : {Z : Type 0} (minus option list other : String Z) → is_dashed option ≡ true → is_dashed list ≡ false → options_of (minus ∷ option ∷ list ∷ other ∷ []) ≡ option ∷ []
+options_before_a_list minus option list other o l = rw (o, l)
+
+pub lists_behind_the_options : {Z : Type 0} (minus option list other : String Z) → is_dashed option ≡ true → is_dashed list ≡ false → lists_of (minus ∷ option ∷ list ∷ other ∷ []) ≡ list ∷ other ∷ []
+lists_behind_the_options minus option list other o l = rw (o, l)
+
+-- the sides are cut at the first `--`, which is of neither
+pub lists_before_the_dashes : {Z : Type 0} (list dashes other : String Z) → is (codes "--") list ≡ false → is (codes "--") dashes ≡ true → before_dashes (list ∷ dashes ∷ other ∷ []) ≡ list ∷ []
+lists_before_the_dashes list dashes other l d = rw (l, d)
+
+pub lists_behind_the_dashes : {Z : Type 0} (list dashes other : String Z) → is (codes "--") list ≡ false → is (codes "--") dashes ≡ true → behind_dashes (list ∷ dashes ∷ other ∷ []) ≡ other ∷ []
+lists_behind_the_dashes list dashes other l d = rw (l, d)
+
+pub a_side_each : {Z : Type 0} (list dashes other : String Z) → is (codes "--") list ≡ false → is (codes "--") dashes ≡ true → are_sides Minus (list ∷ dashes ∷ other ∷ []) ≡ true
+a_side_each list dashes other l d = rw (l, d)
+
+pub no_second_side : {Z : Type 0} (list dashes : String Z) → is (codes "--") list ≡ false → is (codes "--") dashes ≡ true → are_sides Common (list ∷ dashes ∷ []) ≡ false
+no_second_side list dashes l d = rw (l, d)
+
+pub no_dashes : {Z : Type 0} (list other : String Z) → is (codes "--") list ≡ false → is (codes "--") other ≡ false → are_sides Differ (list ∷ other ∷ []) ≡ false
+no_dashes list other l o = rw (l, o)
+
+pub no_first_side : {Z : Type 0} (dashes other : String Z) → is (codes "--") dashes ≡ true → are_sides Differ (dashes ∷ other ∷ []) ≡ false
+no_first_side dashes other d = rw d
+
+pub sides_of_a_union : {Z : Type 0} (list dashes other : String Z) → is (codes "--") list ≡ false → is (codes "--") dashes ≡ true → is (codes "--") other ≡ false → are_sides Union (list ∷ dashes ∷ other ∷ []) ≡ false
+sides_of_a_union list dashes other l d o = rw (l, d, o)
