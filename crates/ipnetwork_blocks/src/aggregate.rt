@@ -73,7 +73,7 @@ fn clear_host_bits<N: CidrNetwork, H: HoldsNetwork<N>>(values: &mut [H])
     ensures held { All H.holds values.new }
 {
     for value in values.iter_mut() {
-        *value = H::holding(block(value.network()));
+        *value = H::holding(block(value.held_network()));
     }
 }
 
@@ -90,7 +90,7 @@ fn join_sorted<N: CidrNetwork, H: HoldsNetwork<N>>(values: &mut [H]) -> usize
 {
     let mut kept = 0;
     for next in 0..values.len() {
-        let block = values[next].network();
+        let block = values[next].held_network();
         if !lies_in_last(&values[..kept], block) {
             let (left, joined) = join_back(&values[..kept], block);
             values[left] = H::holding(joined);
@@ -106,7 +106,7 @@ fn lies_in_last<N: CidrNetwork, H: HoldsNetwork<N>>(front: &[H], block: N) -> bo
     ensures { IsTrue result ↔ LiesInLast N.WIDTH (map H.held front.now) (N.pair block) }
 {
     match front.last() {
-        Some(last) => block.is_subnet_of(last.network()),
+        Some(last) => block.is_subnet_of(last.held_network()),
         None => false,
     }
 }
@@ -126,7 +126,7 @@ fn join_back<N: CidrNetwork, H: HoldsNetwork<N>>(front: &[H], block: N) -> (usiz
     let mut left = front.len();
     let mut joined = block;
     while left > 0 {
-        match join(front[left - 1].network(), joined) {
+        match join(front[left - 1].held_network(), joined) {
             Some(whole) => {
                 joined = whole;
                 left -= 1;

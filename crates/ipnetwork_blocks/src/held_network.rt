@@ -26,9 +26,9 @@ pub trait HoldsNetwork<N: CidrNetwork>: Copy + Ord {
     ///
     /// ```
     /// let value: Ipv6Network = "2001:db8::/32".parse()?;
-    /// assert_eq!(rt; HoldsNetwork::<Ipv6Network>::network(value), value);
+    /// assert_eq!(rt; HoldsNetwork::<Ipv6Network>::held_network(value), value);
     /// ```
-    fn network(self) -> N
+    fn held_network(self) -> N
         requires { holds self }
         ensures { N.pair result ≡ held self };
 
@@ -52,7 +52,7 @@ impl<N: CidrNetwork> HoldsNetwork<N> for N {
 
     ghost held = { N.pair };
 
-    fn network(self) -> N {
+    fn held_network(self) -> N {
         self
     }
 
@@ -72,7 +72,7 @@ impl HoldsNetwork<Ipv4Network> for IpNetwork {
 
     ghost held = { the_network };
 
-    fn network(self) -> Ipv4Network {
+    fn held_network(self) -> Ipv4Network {
         match self {
             IpNetwork::V4(network) => network,
             IpNetwork::V6(_) => unreachable!(),
@@ -95,7 +95,7 @@ impl HoldsNetwork<Ipv6Network> for IpNetwork {
 
     ghost held = { the_network };
 
-    fn network(self) -> Ipv6Network {
+    fn held_network(self) -> Ipv6Network {
         match self {
             IpNetwork::V6(network) => network,
             IpNetwork::V4(_) => unreachable!(),

@@ -58,7 +58,7 @@ impl HoldsNetwork<Ipv4Network> for Ipv4InC {
 
     ghost held = { v4_in };
 
-    fn network(self) -> Ipv4Network {
+    fn held_network(self) -> Ipv4Network {
         match Ipv4InC::network(&self) {
             Some(network) => network,
             None => unreachable!(),
@@ -121,7 +121,7 @@ impl HoldsNetwork<Ipv6Network> for Ipv6InC {
 
     ghost held = { v6_in };
 
-    fn network(self) -> Ipv6Network {
+    fn held_network(self) -> Ipv6Network {
         match Ipv6InC::network(&self) {
             Some(network) => network,
             None => unreachable!(),

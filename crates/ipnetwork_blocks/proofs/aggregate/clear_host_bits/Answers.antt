@@ -17,8 +17,8 @@ loop-value-preserved g c =
     let size_x = length-map c.args.values.now g.H.HoldsNetwork.held in
     let size_y = length-map c.loop-value.values g.H.HoldsNetwork.held in
     let is = read_map g.H.HoldsNetwork.held c.loop-value.values i c.value-item.result (omega arith) c.value-item.is in
-    let made : v ≡ block_of w (g.N.CidrNetwork.pair c.network.result) = c.holding.ensures.1 ∙ c.block.ensures.made in
-    let one : v ≡ block_of w (g.H.HoldsNetwork.held c.value-item.result) = made ∙ ap (block_of w) (c.network.ensures ∙ ap g.H.HoldsNetwork.held (sym c.value-item.is)) in
+    let made : v ≡ block_of w (g.N.CidrNetwork.pair c.held_network.result) = c.holding.ensures.1 ∙ c.block.ensures.made in
+    let one : v ≡ block_of w (g.H.HoldsNetwork.held c.value-item.result) = made ∙ ap (block_of w) (c.held_network.ensures ∙ ap g.H.HoldsNetwork.held (sym c.value-item.is)) in
     let is_block : IsBlockNetwork w v = subst (λ (n : Network). IsBlockNetwork w n) (sym c.holding.ensures.1)
     (record { network = c.block.ensures.network; block = c.block.ensures.no_host_bits }) in (
       All-set g.H.HoldsNetwork.holds c.loop-value.values i c.holding.result c.holding.ensures.0 c.loop-value.invariant.0,

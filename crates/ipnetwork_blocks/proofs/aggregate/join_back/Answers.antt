@@ -11,10 +11,10 @@ loop-left-preserved g c =
     let w : ℕ = g.N.CidrNetwork.WIDTH in
     let s = c.in-Some.ensures in
     let r : List Network = map g.H.HoldsNetwork.held c.args.front.now in
-    let last : Network = g.N.CidrNetwork.pair c.network.result in
+    let last : Network = g.N.CidrNetwork.pair c.held_network.result in
     let len = length-map c.args.front.now g.H.HoldsNetwork.held in
     let fits : c.loop-left.left - 1 < length c.args.front.now = let b = c.loop-left.invariant.bound in omega arith in
-    let is = read_held g.H.HoldsNetwork.held c.args.front.now (c.loop-left.left - 1) c.index-front-left.result last fits c.index-front-left.is c.network.ensures in
+    let is = read_held g.H.HoldsNetwork.held c.args.front.now (c.loop-left.left - 1) c.index-front-left.result last fits c.index-front-left.is c.held_network.ensures in
     subst (λ (n : Network). IsJoining w r (g.N.CidrNetwork.pair c.args.block) (c.loop-left.left - 1) n) (sym s.1)
     (joining_more w r (g.N.CidrNetwork.pair c.args.block) c.loop-left.left (g.N.CidrNetwork.pair c.loop-left.joined) last c.requires.joined c.loop-left.invariant
     (omega arith) is s.0)
@@ -24,9 +24,9 @@ returns-in-None-clause-joined g c =
     let w : ℕ = g.N.CidrNetwork.WIDTH in
     let r : List Network = map g.H.HoldsNetwork.held c.args.front.now in
     let joined : Network = g.N.CidrNetwork.pair c.loop-left.joined in
-    let last : Network = g.N.CidrNetwork.pair c.network.result in
+    let last : Network = g.N.CidrNetwork.pair c.held_network.result in
     let len = length-map c.args.front.now g.H.HoldsNetwork.held in
     let fits : c.loop-left.left - 1 < length c.args.front.now = let b = c.loop-left.invariant.bound in omega arith in
-    let is = read_held g.H.HoldsNetwork.held c.args.front.now (c.loop-left.left - 1) c.index-front-left.result last fits c.index-front-left.is c.network.ensures in
+    let is = read_held g.H.HoldsNetwork.held c.args.front.now (c.loop-left.left - 1) c.index-front-left.result last fits c.index-front-left.is c.held_network.ensures in
     joining_stops w r (g.N.CidrNetwork.pair c.args.block) c.loop-left.left joined c.requires.joined c.loop-left.invariant
     (λ t some at s. c.in-None.ensures (subst (λ (n : Network). AreHalves w n joined) (at ∙ get_or_default r (c.loop-left.left - 1) t last (omega arith) ∙ sym is) s))

@@ -21,13 +21,13 @@ join_back-left-requires-clause-block g c =
     let size_x = length-map c.loop-next.values g.H.HoldsNetwork.held in
     let size = c.loop-next.invariant.1.size in
     passing_block g.N.CidrNetwork.WIDTH (map g.H.HoldsNetwork.held c.args.values.now) (map g.H.HoldsNetwork.held c.loop-next.values) c.loop-next.next c.loop-next.kept
-    (g.N.CidrNetwork.pair c.network-block.result) c.requires.blocks c.loop-next.invariant.1 (omega arith)
-    (read_held g.H.HoldsNetwork.held c.loop-next.values c.loop-next.next c.index-values-next.result (g.N.CidrNetwork.pair c.network-block.result) (omega arith) c.index-values-next.is c.network-block.ensures)
+    (g.N.CidrNetwork.pair c.held_network-block.result) c.requires.blocks c.loop-next.invariant.1 (omega arith)
+    (read_held g.H.HoldsNetwork.held c.loop-next.values c.loop-next.next c.index-values-next.result (g.N.CidrNetwork.pair c.held_network-block.result) (omega arith) c.index-values-next.is c.held_network-block.ensures)
 
 pub join_back-left-requires-clause-behind : goal.join_back-left-requires-clause-behind
 join_back-left-requires-clause-behind g c =
     let w : ℕ = g.N.CidrNetwork.WIDTH in
-    let b : Network = g.N.CidrNetwork.pair c.network-block.result in
+    let b : Network = g.N.CidrNetwork.pair c.held_network-block.result in
     let size_z = length-map c.args.values.now g.H.HoldsNetwork.held in
     let size_x = length-map c.loop-next.values g.H.HoldsNetwork.held in
     let size = c.loop-next.invariant.1.size in
@@ -35,20 +35,20 @@ join_back-left-requires-clause-behind g c =
     subst (λ (t : List Network). All (λ a. high w a < b.address) t) front
     (passing_after_last w (map g.H.HoldsNetwork.held c.args.values.now) (map g.H.HoldsNetwork.held c.loop-next.values) c.loop-next.next c.loop-next.kept
     b c.requires.blocks c.loop-next.invariant.1 (omega arith)
-    (read_held g.H.HoldsNetwork.held c.loop-next.values c.loop-next.next c.index-values-next.result b (omega arith) c.index-values-next.is c.network-block.ensures)
+    (read_held g.H.HoldsNetwork.held c.loop-next.values c.loop-next.next c.index-values-next.result b (omega arith) c.index-values-next.is c.held_network-block.ensures)
     (λ last. iff_false c.lies_in_last.ensures c.if-not-lies_in_last.true (subst (λ (t : List Network). LiesInLast w t b) front last)))
 
 pub loop-next-preserved : goal.loop-next-preserved
 loop-next-preserved g c =
     let w : ℕ = g.N.CidrNetwork.WIDTH in
-    let b : Network = g.N.CidrNetwork.pair c.network-block.result in
+    let b : Network = g.N.CidrNetwork.pair c.held_network-block.result in
     let z : List Network = map g.H.HoldsNetwork.held c.args.values.now in
     let xs : List Network = map g.H.HoldsNetwork.held c.loop-next.values in
     let size_z = length-map c.args.values.now g.H.HoldsNetwork.held in
     let size_x = length-map c.loop-next.values g.H.HoldsNetwork.held in
     let size = c.loop-next.invariant.1.size in
     let front : take c.loop-next.kept xs ≡ map g.H.HoldsNetwork.held (take c.loop-next.kept c.loop-next.values) = take-map g.H.HoldsNetwork.held c.loop-next.kept c.loop-next.values in
-    let is = read_held g.H.HoldsNetwork.held c.loop-next.values c.loop-next.next c.index-values-next.result b (omega arith) c.index-values-next.is c.network-block.ensures in
+    let is = read_held g.H.HoldsNetwork.held c.loop-next.values c.loop-next.next c.index-values-next.result b (omega arith) c.index-values-next.is c.held_network-block.ensures in
     let branch = λ (ys : List g.row.H.Denot) (kept : ℕ) (e : c.if-not-lies_in_last.values ≡ ys) (f : c.if-not-lies_in_last.kept ≡ kept)
     (p : All g.H.HoldsNetwork.holds ys × IsPassing w z (map g.H.HoldsNetwork.held ys) (c.loop-next.next + 1) kept).
     subst (λ (us : List g.row.H.Denot). All g.H.HoldsNetwork.holds us × IsPassing w z (map g.H.HoldsNetwork.held us) (c.loop-next.next + 1) c.if-not-lies_in_last.kept) (sym e)
