@@ -1,13 +1,14 @@
 -- Values at which a misreading of the definitions would show. Each of these computes.
-use Rattle.std.proofs.Common.{◌≡◌, ◌∷◌, [], true, false, refl}
+use Rattle.std.proofs.Common.{◌≡◌, ℕ, List, ◌∷◌, [], true, false, refl}
 use Rattle.std.specs.Prelude.{codes, String, Some, None}
 use Rattle.std.specs.Fmt.{digits}
 use Rattle.std.specs.String.{string_bytes}
 use Rattle.ipnetwork_family.specs.Network.{Network}
 use Rattle.ipnetwork_family.specs.Family.{v4_family}
+use Rattle.ipnetwork_blocks.specs.Aggregate.{InUnion}
 use Rattle.list_entries.specs.declared.entry.EntryFault.TheVariants.{Prefix}
 use Rattle.address_lists.specs.declared.fault.LineFault.TheVariants.{Entry}
-use Rattle.cidr_merge.specs.Answers.{merged, merged_ranges, block_line, range_line}
+use Rattle.cidr_merge.specs.Answers.{IsLeft, IsLeftOfSecond, AreBoth, merged, merged_ranges, block_line, range_line}
 use Rattle.cidr_merge.specs.CommandLines.{is, begins_dashed, is_dashed, is_name, operation_named, options_of, lists_of, are_options, are_lists, are_sides, before_dashes, behind_dashes, form_of}
 use Rattle.cidr_merge.specs.Runs.{answer_status}
 use Rattle.cidr_merge.specs.Told.{refusals_text, fault_text, more_text}
@@ -53,6 +54,27 @@ sides_in_order = refl
 pub ranges_in_order : merged_ranges ((0, 1) ∷ (4, 5) ∷ []) ((2, 3) ∷ [])
     ≡ record { side = First; part = (0, 1) } ∷ record { side = Second; part = (2, 3) } ∷ record { side = First; part = (4, 5) } ∷ []
 ranges_in_order = refl
+
+-- ---- what an operation leaves
+
+pub common_is_of_both : (w x : ℕ) (first second : List Network) → InUnion w first x → InUnion w second x → IsLeft Common w first second x
+common_is_of_both w x first second a b = (a, b)
+
+pub union_is_of_the_first : (w x : ℕ) (first second : List Network) → InUnion w first x → IsLeft Union w first second x
+union_is_of_the_first w x first second a = a
+
+pub minus_is_of_the_first_alone : (w x : ℕ) (first second : List Network) → InUnion w first x → ¬ (InUnion w second x) → IsLeft Minus w first second x
+minus_is_of_the_first_alone w x first second a b = (a, b)
+
+pub differ_is_of_the_first_alone : (w x : ℕ) (first second : List Network) → InUnion w first x → ¬ (InUnion w second x) → IsLeft Differ w first second x
+differ_is_of_the_first_alone w x first second a b = (a, b)
+
+pub differ_is_of_the_second_alone : (w x : ℕ) (first second : List Network) → ¬ (InUnion w first x) → InUnion w second x → IsLeftOfSecond Differ w first second x
+differ_is_of_the_second_alone w x first second a b = (b, a)
+
+-- IPv4 first
+pub ipv4_before_ipv6 : AreBoth (λ v4. v4 ≡ codes "1.2.3.4/32\n") (λ v6. v6 ≡ codes "::/0\n") (codes "1.2.3.4/32\n::/0\n")
+ipv4_before_ipv6 = (codes "1.2.3.4/32\n", codes "::/0\n", refl, refl, refl)
 
 -- ---- the exit status
 

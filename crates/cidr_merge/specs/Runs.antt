@@ -5,6 +5,7 @@ use Rattle.address_lists.specs.Refusals.{Refused}
 use Rattle.ipnetwork_sets.specs.Equality.{same_blocks}
 use Rattle.line_engine.specs.declared.output.Output.{Output}
 use Rattle.line_engine.specs.Outputs.{writer_of, waits_in, output_failed}
+use Rattle.program_io.specs.Endings.{failure_text}
 use Rattle.program_io.specs.Messages.{Tells}
 use Rattle.cidr_merge.specs.Answers.{IsAnswer}
 use Rattle.cidr_merge.specs.Reading.{ReadsSides}
@@ -79,9 +80,10 @@ EndsMerging {Z} {W} {E} bytes_of words request end = (refused : Refused) × (tol
     × (StopsReading words (record end { errors = told })
     ⊎ ((first second : Sets) × ReadsSides bytes_of words request first second refused × EndsAnswering request (was_refused refused) first second (record end { errors = told })))
 
--- the text was written, or the writer failed
+-- the text was written and nothing told, or the writer failed, and that was told
 abbrev pub EndsPrinting : {W E : Type 0} → List ℕ → Ending W E → Type 0
 EndsPrinting text end = (end.status ≡ (if output_failed end.output_after then 2 else 0)) × (end.status ≡ 0 → HasWritten end text)
+    × HasTold end (failure_text (output_failed end.output_after))
 
 -- how a run ends if the words ask for this. The three texts are those of `--help`, of `--version`, and of what is told of
 -- words that are no command

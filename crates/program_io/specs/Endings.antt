@@ -7,9 +7,13 @@ use Rattle.program_io.specs.declared.arguments.ArgumentsFault.TheVariants.{NotTe
 abbrev pub status_of : {T E : Type 0} → Result T E → ℕ → ℕ
 status_of written status = if is_err written then 2 else status
 
--- what is told of that
+-- what is told if a write failed, and else nothing
+abbrev pub failure_text : Bool → List ℕ
+failure_text failed = if failed then codes "write error\n" else []
+
+-- what is told of that output
 abbrev pub end_text : {T E : Type 0} → Result T E → List ℕ
-end_text written = if is_err written then codes "write error\n" else []
+end_text written = failure_text (is_err written)
 
 -- what is told if there are no arguments
 abbrev pub arguments_text : ArgumentsFault → List ℕ → List ℕ

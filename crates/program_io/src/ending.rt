@@ -2,7 +2,7 @@
 ghost use Rattle.std.specs.Prelude.{◌≡◌, ◌++◌, if◌then◌else◌, OnOk, is_err};
 ghost use Rattle.std.specs.Io.KnownBytes.{Appends};
 ghost use Rattle.line_engine.specs.Outputs.{writer_of, waits_in, output_failed};
-ghost use Rattle.program_io.specs.Endings.{status_of, end_text, arguments_text};
+ghost use Rattle.program_io.specs.Endings.{status_of, failure_text, end_text, arguments_text};
 ghost use Rattle.program_io.specs.Messages.{Tells};
 
 use crate::arguments::ArgumentsFault;
@@ -38,7 +38,8 @@ pub fn end<E: Write>(written: Result<(), RunFault>, status: u8, errors: &mut Out
     status
 }
 
-/// Writes a text and what waits before it, and returns the exit status: 0, or 2 if it was not written.
+/// Writes a text and what waits before it, and returns the exit status: 0, or 2 if it was not written, which is told as
+/// `write error`.
 ///
 /// ```
 /// let (slice, error_slice) = (&mut [0; 64], &mut [0; 64]);
@@ -53,6 +54,7 @@ pub fn print_text<W: Write, E: Write>(
 ) -> u8
     ensures status { result ≡ (if output_failed output.new then 2 else 0) }
     ensures written { result ≡ 0 → Appends (W.contents (writer_of output.old)) (W.contents (writer_of output.new)) (waits_in output.old ++ text.now) }
+    ensures told { Tells E.contents errors.old errors.new (failure_text (output_failed output.new)) }
 {
     let written = write_text(text, output);
     end(written, 0, errors)

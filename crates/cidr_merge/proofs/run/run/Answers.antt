@@ -7,13 +7,13 @@ pub returns-in-Help : goal.returns-in-Help
 returns-in-Help g c =
     ends_by _ _ _ (g.L.OpenLists.bytes_of c.args.lists.now) c.args.words.now c.command_of.result Help
     (record { holds = g.W.Write.contents; output = c.args.output.now; output_after = c.print_text.new.output; tells = g.E.Write.contents; errors = c.args.errors.now; errors_after = c.print_text.new.errors; status = c.print_text.result }) c.in-Help.is c.command_of.ensures.asked
-    (c.print_text.ensures.status, c.print_text.ensures.written)
+    (c.print_text.ensures.status, c.print_text.ensures.written, c.print_text.ensures.told)
 
 pub returns-in-Version : goal.returns-in-Version
 returns-in-Version g c =
     ends_by _ _ _ (g.L.OpenLists.bytes_of c.args.lists.now) c.args.words.now c.command_of.result Version
     (record { holds = g.W.Write.contents; output = c.args.output.now; output_after = c.print_text-in-Version.new.output; tells = g.E.Write.contents; errors = c.args.errors.now; errors_after = c.print_text-in-Version.new.errors; status = c.print_text-in-Version.result }) c.in-Version.is c.command_of.ensures.asked
-    (c.print_text-in-Version.ensures.status, c.print_text-in-Version.ensures.written)
+    (c.print_text-in-Version.ensures.status, c.print_text-in-Version.ensures.written, c.print_text-in-Version.ensures.told)
 
 pub returns-in-Merge : goal.returns-in-Merge
 returns-in-Merge g c =
