@@ -14,7 +14,8 @@ use Rattle.ipnetwork_blocks.proofs.MaximalBlocks.{range_is_shortest}
 use Rattle.list_entries.specs.declared.entry.Entry.{Entry}
 use Rattle.list_entries.specs.declared.entry.Entry.TheVariants as entries
 use Rattle.address_lists.specs.Lists.{ReadLists, HasAddress, Names, TakesEntry}
-use Rattle.address_lists.specs.Private.Taking.{AddsBlocks, IsGoodEntry, PushesEntry}
+use Rattle.address_lists.specs.Added.{AddsBlocks, AddsEntry}
+use Rattle.address_lists.specs.Private.Taking.{IsGoodEntry}
 
 pub union_append : (w : ℕ) (a b : List Network) (x : ℕ) → InUnion w (a ++ b) x ↔ (InUnion w a x ⊎ InUnion w b x)
 union_append w a b x = (
@@ -49,7 +50,7 @@ pub same_addresses : (before after : ReadLists) → after.v4 ≡ before.v4 → a
 same_addresses before after e f P none (V4 a) = gains_nothing 32 before.v4 after.v4 e P none a
 same_addresses before after e f P none (V6 a) = gains_nothing 128 before.v6 after.v6 f P none a
 
-pub gains_entry : (before after : ReadLists) (entry : Entry) → IsGoodEntry entry → PushesEntry before.v4 before.v6 entry after.v4 after.v6 → (a : IpAddr)
+pub gains_entry : (before after : ReadLists) (entry : Entry) → IsGoodEntry entry → AddsEntry before.v4 before.v6 entry after.v4 after.v6 → (a : IpAddr)
     → HasAddress after a ↔ (HasAddress before a ⊎ Names entry a)
 gains_entry before after (entries.Network (networks.V4 n)) good h (V4 a) = gains_network 32 before.v4 after.v4 n h.0 a
 gains_entry before after (entries.Network (networks.V4 n)) good h (V6 a) = gains_nothing 128 before.v6 after.v6 h.1 ⊥ (λ x. x) a
@@ -64,8 +65,8 @@ gains_entry before after (entries.Range (V6 first) (V6 last)) good h (V6 a) = ga
 
 -- what is known where the entry was pushed, or could not be
 pub pushed : {A E : Type 0} (before after : ReadLists) (entry : Entry) (result : Result A E) → IsGoodEntry entry
-    → OnOk result (PushesEntry before.v4 before.v6 entry after.v4 after.v6) → after.refused ≡ before.refused → after.list ≡ before.list → after.line ≡ before.line
+    → OnOk result (AddsEntry before.v4 before.v6 entry after.v4 after.v6) → after.refused ≡ before.refused → after.list ≡ before.list → after.line ≡ before.line
     → after.is_out_of_memory ≡ is_err result → TakesEntry before entry after
 pushed before after entry (Ok done) good h refused list line memory =
-    inl (record { addresses = gains_entry before after entry good h; refused = refused; list = list; line = line; memory = memory })
+    inl (record { networks = h; addresses = gains_entry before after entry good h; refused = refused; list = list; line = line; memory = memory })
 pushed before after entry (Err fault) good h refused list line memory = inr (record { refused = refused; memory = memory })

@@ -1,4 +1,5 @@
 -- What the contracts of this crate cite.
+pub mod Added
 pub mod Faults
 pub mod Lists
 pub mod Merges

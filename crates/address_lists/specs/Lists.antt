@@ -11,6 +11,7 @@ use Rattle.list_entries.specs.Entries.{IsRange, ReadsEntry}
 use Rattle.list_entries.specs.declared.entry.Entry.{Entry}
 use Rattle.list_entries.specs.declared.entry.Entry.TheVariants as entries
 use Rattle.list_entries.specs.declared.entry.EntryFault.{EntryFault}
+use Rattle.address_lists.specs.Added.{AddsEntry}
 use Rattle.address_lists.specs.Refusals.{Refused, with_refusal}
 use Rattle.address_lists.specs.declared.fault.LineFault.{LineFault}
 use Rattle.address_lists.specs.declared.fault.LineFault.TheVariants as faults
@@ -50,8 +51,10 @@ Names (entries.Network n) a = IpMember n a
 -- a range names the addresses from the first to the last
 Names (entries.Range first last) a = IsRange first a × IsRange a last
 
--- the second has the addresses of the first and those of the entry, and nothing else has changed
+-- the second has the networks of the first, behind them those of the entry, and so the addresses of both, and nothing
+-- else has changed
 pub record Gains (before : ReadLists) (entry : Entry) (after : ReadLists) : Type 0 where
+  pub networks : AddsEntry before.v4 before.v6 entry after.v4 after.v6
   pub addresses : (a : IpAddr) → HasAddress after a ↔ (HasAddress before a ⊎ Names entry a)
   pub refused : after.refused ≡ before.refused
   pub list : after.list ≡ before.list

@@ -3,8 +3,9 @@ ghost use Rattle.std.specs.Prelude.{◌≡◌, OnOk};
 ghost use Rattle.ipnetwork_blocks.specs.Aggregate.{IsAggregate};
 ghost use Rattle.list_entries.specs.Entries.{IsRange};
 ghost use Rattle.address_lists.specs.Lists.{nothing_read, at_list, at_next_line, refusing, TakesEntry};
+ghost use Rattle.address_lists.specs.Added.{AddsNetwork, AddsRange, AddsEntry};
 ghost use Rattle.address_lists.specs.ReadBy.{read_by};
-ghost use Rattle.address_lists.specs.Private.Taking.{IsGoodEntry, PushesEntry, PushesNetwork, PushesRange};
+ghost use Rattle.address_lists.specs.Private.Taking.{IsGoodEntry};
 
 use crate::fault::LineFault;
 use crate::networks::Networks;
@@ -96,6 +97,26 @@ impl ListReader {
         (self.v4.into_set(), self.v6.into_set(), self.refusals)
     }
 
+    /// The networks of each family in the order in which they were read, and the refused lines. Does not allocate.
+    ///
+    /// A range is the blocks that it was read as, the fewest that have its addresses.
+    ///
+    /// ```
+    /// let mut lists = ListReader::new(rt.alloc(), Refusals::new());
+    /// let list = b"10.0.0.0/8\n192.0.2.7 - 192.0.2.8\n10.1.0.0/16".as_slice();
+    /// read_list(&mut lists, 1, &mut line_engine::watched::Watched::new(list))?;
+    /// let (v4, _, _) = lists.into_networks();
+    /// assert_eq!(rt; v4.len(), 4);
+    /// assert_eq!(rt; v4[1], "192.0.2.7/32".parse()?);
+    /// ```
+    pub fn into_networks(self) -> (Vec<Ipv4Network>, Vec<Ipv6Network>, Refusals)
+        ensures v4 { result.0.items ≡ (read_by self).v4 }
+        ensures v6 { result.1.items ≡ (read_by self).v6 }
+        ensures refused { result.2 ≡ (read_by self).refused }
+    {
+        (self.v4.into_vec(), self.v6.into_vec(), self.refusals)
+    }
+
     /// Goes on to the next line of the list.
     pub(crate) fn next_line(&mut self)
         ensures { read_by self.new ≡ at_next_line (read_by self.old) }
@@ -131,7 +152,7 @@ fn push_entry(
     entry: Entry,
 ) -> Result<(), AllocError>
     requires { IsGoodEntry entry }
-    ensures { OnOk result (PushesEntry v4.old v6.old entry v4.new v6.new) }
+    ensures { OnOk result (AddsEntry v4.old v6.old entry v4.new v6.new) }
 {
     match entry {
         Entry::Network(network) => push_network(v4, v6, network),
@@ -145,7 +166,7 @@ fn push_network(
     v6: &mut Networks<Ipv6Network>,
     network: IpNetwork,
 ) -> Result<(), AllocError>
-    ensures { OnOk result (PushesNetwork v4.old v6.old network v4.new v6.new) }
+    ensures { OnOk result (AddsNetwork v4.old v6.old network v4.new v6.new) }
 {
     match network {
         IpNetwork::V4(network) => v4.push(network),
@@ -161,7 +182,7 @@ fn push_range(
     last: IpAddr,
 ) -> Result<(), AllocError>
     requires { IsRange first last }
-    ensures { OnOk result (PushesRange v4.old v6.old first last v4.new v6.new) }
+    ensures { OnOk result (AddsRange v4.old v6.old first last v4.new v6.new) }
 {
     match first {
         IpAddr::V4(first) => match last {

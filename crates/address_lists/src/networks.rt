@@ -1,7 +1,7 @@
 //! Networks of one family, in the order in which they were read.
-ghost use Rattle.std.specs.Prelude.{◌≡◌, ◌++◌, ◌∷◌, ◌<◌, ◌≤◌, ◌^◌, [], OnOk};
+ghost use Rattle.std.specs.Prelude.{◌≡◌, ◌++◌, ◌∷◌, ◌<◌, ◌≤◌, ◌^◌, [], map, OnOk};
 ghost use Rattle.ipnetwork_blocks.specs.Aggregate.{IsAggregate};
-ghost use Rattle.address_lists.specs.Private.Taking.{AddsBlocks};
+ghost use Rattle.address_lists.specs.Added.{AddsBlocks};
 
 use ipnetwork_blocks::range_to_blocks;
 use ipnetwork_family::CidrNetwork;
@@ -58,6 +58,13 @@ impl<N: CidrNetwork> Networks<N> {
             self.push(block)?;
         }
         Ok(())
+    }
+
+    /// The networks, in their order. Does not allocate.
+    pub(crate) fn into_vec(self) -> Vec<N>
+        ensures { map N.pair result.items ≡ self }
+    {
+        self.networks
     }
 
     /// The set of their addresses. Keeps their memory, and does not allocate.

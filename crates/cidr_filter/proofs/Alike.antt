@@ -53,7 +53,7 @@ module _ (filter_by : Filter) where
 
   too_long : (counts : Bool) (line other : LogLine) (lines : List LogLine) (output : List ℕ) (count : ℕ) → 1048576 < length (content line) → 1048576 < length (content other)
       → Filters filter_by counts (line ∷ lines) output count → Filters filter_by counts (other ∷ lines) output count
-  too_long counts line other lines output count long longer (verdicts.Inside, others, more, judges, passes, f, is, counted) = absurd (omega (arith, long, judges.0))
+  too_long counts line other lines output count long longer ((verdicts.Inside told), others, more, judges, passes, f, is, counted) = absurd (omega (arith, long, judges.0))
   too_long counts line other lines output count long longer (verdicts.Outside, others, more, judges, passes, f, is, counted) = absurd (omega (arith, long, judges.0))
   too_long counts line other lines output count long longer (verdicts.Bad, others, more, judges, passes, f, is, counted) = absurd (omega (arith, long, judges.0))
   too_long counts line other lines output count long longer (verdicts.TooLong, others, more, judges, passes, f, is, counted) = (verdicts.TooLong, others, more, longer, passes, f, is, counted)

@@ -105,7 +105,7 @@ module _ (filter : Filter) (counts : Bool) where
       → FiltersLine filter counts line stripped old new → Advances filter counts old new bytes left
   line_advances old new line stripped bytes left e none strips f =
       let judges = subst (λ (l : List ℕ). Judges filter l f.0) strips f.1 in
-      let added = output_of counts (is_selected filter f.0) (ended line) in
+      let added = output_of filter counts f.0 (ended line) in
       record {
         first = ended line ∷ [];
         added = added;
@@ -128,7 +128,7 @@ module _ (filter : Filter) (counts : Bool) where
   pub rest_of_line : (old mid new : Stand) (bytes : List ℕ) → HasNo 10 bytes → (length bytes == 0) ≡ false → FiltersLine filter counts bytes bytes old mid
       → new.selected ≡ mid.selected → new.lines ≡ mid.lines → new.waits ≡ [] → Appends mid.holds new.holds mid.waits → FiltersRest filter counts bytes old new
   rest_of_line old mid new bytes none some f same lines empty h =
-      let added = output_of counts (is_selected filter f.0) (unended bytes) in
+      let added = output_of filter counts f.0 (unended bytes) in
       let count = one_if (is_selected filter f.0) in
       let one = lines_last bytes none some in (
         added ++ [],
@@ -233,9 +233,3 @@ pub put_two_ok : {T E : Type 0} (result : Result T E) (held mid holds : Option (
     → OnOk result (Puts mid between holds waits second) → OnOk result (Puts held waited holds waits (first ++ second))
 put_two_ok (Ok x) held mid holds waited between waits first second p q = puts_more held mid holds waited between waits first second p q
 put_two_ok (Err e) held mid holds waited between waits first second p q = tt
-
--- ---- one line
-
-selected_goes : (counts : Bool) (bytes : List ℕ) (old new : Stand) → Goes old new (cond counts [] (bytes ++ 10 ∷ [])) 1 1 → Goes old new (output_of counts true (unended bytes)) (one_if true) 1
-selected_goes true bytes old new h = h
-selected_goes false bytes old new h = h

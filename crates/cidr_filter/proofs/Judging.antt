@@ -17,7 +17,7 @@ none_is_none a o e f = cc
 
 pub judged : (filter : Filter) (line field : List ℕ) (verdict : Verdict) → length line ≤ 1048576 → field_of filter.field filter.separator line ≡ Some field
     → JudgesField filter field verdict → Judges filter line verdict
-judged filter line field verdicts.Inside short e h = (short, (h.0, (field, e, h.1), h.2))
+judged filter line field (verdicts.Inside told) short e h = (short, (h.0, (field, e, h.1), h.2, h.3))
 judged filter line field verdicts.Outside short e h = (short, (h.0, (field, e, h.1), h.2))
 judged filter line field verdicts.Bad short e h = (short, λ address holds. h address (subst (λ (f : List ℕ). NamesIp f address) (same_some holds.0 field _ holds.1 e) holds.2))
 judged filter line field verdicts.TooLong short e h = absurd h

@@ -8,3 +8,4 @@ pub mod OneOutput
 pub mod Parts
 pub mod Requests
 pub mod Stopping
+pub mod Tables

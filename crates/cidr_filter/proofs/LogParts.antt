@@ -25,7 +25,7 @@ pub both : (filter : Filter) (counts : Bool) (lines more : List LogLine) (a b : 
 both filter counts [] more a b m n p q =
     subst (λ (t : List ℕ). Filters filter counts more t (m + n)) (ap (λ t. t ++ b) (sym p.0)) (subst (λ (k : ℕ). Filters filter counts more b k) (omega (arith, p.1)) q)
 both filter counts (line ∷ lines) more a b m n p q =
-    let shown = output_of counts (is_selected filter p.0) line in (
+    let shown = output_of filter counts p.0 line in (
       p.0,
       p.1 ++ b,
       p.2 + n,

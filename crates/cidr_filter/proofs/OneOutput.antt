@@ -1,12 +1,20 @@
 -- A log has one output.
-use Rattle.std.proofs.Common.{◌≡◌, ℕ, ◌+◌, Bool, List, [], ◌∷◌, ◌++◌, refl, sym, ap, subst, ◌∙◌, arith}
+use Rattle.std.proofs.Common.{◌≡◌, ℕ, ◌+◌, Bool, List, [], ◌∷◌, ◌++◌, Option, Some, refl, sym, ap, subst, ◌∙◌, arith}
 use Rattle.ipnetwork_addr.specs.Either.{NamesIp}
 use Rattle.ipnetwork_addr.specs.declared.ip.IpAddr.{IpAddr}
-use Rattle.cidr_filter.specs.Filters.{IsListed, Holds, is_selected, output_of, one_if, Filters}
+use Rattle.ipnetwork_addr.specs.declared.ip.IpAddr.TheVariants as addresses
+use Rattle.ipnetwork.specs.declared.ip_network.IpNetwork.{IpNetwork}
+use Rattle.ipnetwork.specs.declared.ip_network.IpNetwork.TheVariants as networks
+use Rattle.ipnetwork_table.specs.Laws.{BlocksOfAnyWidthThatMeet}
+use Rattle.cidr_filter.specs.Filters.{IsListed, TellsBlock, Holds, is_selected, output_of, one_if, Filters}
 use Rattle.cidr_filter.specs.Laws.{LinesHaveOneVerdict, LogsHaveOneOutput}
 use Rattle.cidr_filter.specs.Lines.{LogLine, log_lines}
 use Rattle.cidr_filter.specs.declared.filter.Filter.{Filter}
+use Rattle.cidr_filter.specs.Listed.{IsLongestBlock}
 use Rattle.cidr_filter.specs.declared.filter.Verdict.TheVariants as verdicts
+use Rattle.cidr_filter.specs.declared.listed.Listed.{Listed}
+use Rattle.cidr_filter.specs.declared.listed.Listed.TheVariants.{Addresses, Blocks}
+use Rattle.cidr_filter.specs.declared.listed.Tables.{Tables}
 use Rattle.cidr_filter.proofs.Judging.{same_some}
 
 abbrev NamesOne : Type 0
@@ -19,32 +27,50 @@ holds_one one filter line a b p q = one p.0 a b p.2 (subst (λ (f : List ℕ). N
 apart : NamesOne → (filter : Filter) (line : List ℕ) (a b : IpAddr) → Holds filter line a → IsListed filter a → Holds filter line b → ¬ (IsListed filter b) → ⊥
 apart one filter line a b p listed q other = other (subst (λ (x : IpAddr). IsListed filter x) (holds_one one filter line a b p q) listed)
 
-pub one_verdict : NamesOne → LinesHaveOneVerdict
-one_verdict one filter line verdicts.Inside verdicts.Inside p q = refl
-one_verdict one filter line verdicts.Inside verdicts.Outside p q = absurd (apart one filter line p.1.0 q.1.0 p.1.1 p.1.2 q.1.1 q.1.2)
-one_verdict one filter line verdicts.Inside verdicts.Bad p q = absurd (q.1 p.1.0 p.1.1)
-one_verdict one filter line verdicts.Inside verdicts.TooLong p q = absurd (omega (arith, p.0, q))
-one_verdict one filter line verdicts.Outside verdicts.Inside p q = absurd (apart one filter line q.1.0 p.1.0 q.1.1 q.1.2 p.1.1 p.1.2)
-one_verdict one filter line verdicts.Outside verdicts.Outside p q = refl
-one_verdict one filter line verdicts.Outside verdicts.Bad p q = absurd (q.1 p.1.0 p.1.1)
-one_verdict one filter line verdicts.Outside verdicts.TooLong p q = absurd (omega (arith, p.0, q))
-one_verdict one filter line verdicts.Bad verdicts.Inside p q = absurd (p.1 q.1.0 q.1.1)
-one_verdict one filter line verdicts.Bad verdicts.Outside p q = absurd (p.1 q.1.0 q.1.1)
-one_verdict one filter line verdicts.Bad verdicts.Bad p q = refl
-one_verdict one filter line verdicts.Bad verdicts.TooLong p q = absurd (omega (arith, p.0, q))
-one_verdict one filter line verdicts.TooLong verdicts.Inside p q = absurd (omega (arith, p, q.0))
-one_verdict one filter line verdicts.TooLong verdicts.Outside p q = absurd (omega (arith, p, q.0))
-one_verdict one filter line verdicts.TooLong verdicts.Bad p q = absurd (omega (arith, p, q.0))
-one_verdict one filter line verdicts.TooLong verdicts.TooLong p q = refl
+-- one address has one longest block
+same_block : BlocksOfAnyWidthThatMeet → (tables : Tables) (address : IpAddr) (m n : IpNetwork) → IsLongestBlock tables address m → IsLongestBlock tables address n → m ≡ n
+same_block meet tables (addresses.V4 a) (networks.V4 m) (networks.V4 n) p q =
+    ap networks.V4 (meet 32 m n a p.is_block q.is_block (omega (arith, p.longest (networks.V4 n) q.stored q.holds, q.longest (networks.V4 m) p.stored p.holds)) p.holds q.holds)
+same_block meet tables (addresses.V4 a) (networks.V4 m) (networks.V6 n) p q = absurd q.holds
+same_block meet tables (addresses.V4 a) (networks.V6 m) n p q = absurd p.holds
+same_block meet tables (addresses.V6 a) (networks.V4 m) n p q = absurd p.holds
+same_block meet tables (addresses.V6 a) (networks.V6 m) (networks.V4 n) p q = absurd q.holds
+same_block meet tables (addresses.V6 a) (networks.V6 m) (networks.V6 n) p q =
+    ap networks.V6 (meet 128 m n a p.is_block q.is_block (omega (arith, p.longest (networks.V6 n) q.stored q.holds, q.longest (networks.V6 m) p.stored p.holds)) p.holds q.holds)
 
-one_of_lines : NamesOne → (filter : Filter) (counts : Bool) (lines : List LogLine) (a b : List ℕ) (m n : ℕ) → Filters filter counts lines a m → Filters filter counts lines b n → (a ≡ b) × (m ≡ n)
-one_of_lines one filter counts [] a b m n p q = (p.0 ∙ sym q.0, p.1 ∙ sym q.1)
-one_of_lines one filter counts (line ∷ lines) a b m n p q =
-    let same : p.0 ≡ q.0 = one_verdict one filter _ p.0 q.0 p.3 q.3 in
-    let others = one_of_lines one filter counts lines p.1 q.1 p.2 q.2 p.5 q.5 in (
-      p.6 ∙ ap (λ v. output_of counts (is_selected filter v) line ++ p.1) same ∙ ap (λ t. output_of counts (is_selected filter q.0) line ++ t) others.0 ∙ sym q.6,
+-- and of one address one thing is told
+same_told : BlocksOfAnyWidthThatMeet → (listed : Listed) (address : IpAddr) (a b : Option IpNetwork) → TellsBlock listed address a → TellsBlock listed address b → a ≡ b
+same_told meet (Addresses sets) address a b p q = p ∙ sym q
+same_told meet (Blocks tables) address a b p q = p.1 ∙ ap Some (same_block meet tables address p.0 q.0 p.2 q.2) ∙ sym q.1
+
+pub one_verdict : NamesOne → BlocksOfAnyWidthThatMeet → LinesHaveOneVerdict
+one_verdict one meet filter line (verdicts.Inside told) (verdicts.Inside other) p q =
+    ap verdicts.Inside (same_told meet filter.listed p.1.0 told other p.1.3
+    (subst (λ (x : IpAddr). TellsBlock filter.listed x other) (holds_one one filter line q.1.0 p.1.0 q.1.1 p.1.1) q.1.3))
+one_verdict one meet filter line (verdicts.Inside told) verdicts.Outside p q = absurd (apart one filter line p.1.0 q.1.0 p.1.1 p.1.2 q.1.1 q.1.2)
+one_verdict one meet filter line (verdicts.Inside told) verdicts.Bad p q = absurd (q.1 p.1.0 p.1.1)
+one_verdict one meet filter line (verdicts.Inside told) verdicts.TooLong p q = absurd (omega (arith, p.0, q))
+one_verdict one meet filter line verdicts.Outside (verdicts.Inside told) p q = absurd (apart one filter line q.1.0 p.1.0 q.1.1 q.1.2 p.1.1 p.1.2)
+one_verdict one meet filter line verdicts.Outside verdicts.Outside p q = refl
+one_verdict one meet filter line verdicts.Outside verdicts.Bad p q = absurd (q.1 p.1.0 p.1.1)
+one_verdict one meet filter line verdicts.Outside verdicts.TooLong p q = absurd (omega (arith, p.0, q))
+one_verdict one meet filter line verdicts.Bad (verdicts.Inside told) p q = absurd (p.1 q.1.0 q.1.1)
+one_verdict one meet filter line verdicts.Bad verdicts.Outside p q = absurd (p.1 q.1.0 q.1.1)
+one_verdict one meet filter line verdicts.Bad verdicts.Bad p q = refl
+one_verdict one meet filter line verdicts.Bad verdicts.TooLong p q = absurd (omega (arith, p.0, q))
+one_verdict one meet filter line verdicts.TooLong (verdicts.Inside told) p q = absurd (omega (arith, p, q.0))
+one_verdict one meet filter line verdicts.TooLong verdicts.Outside p q = absurd (omega (arith, p, q.0))
+one_verdict one meet filter line verdicts.TooLong verdicts.Bad p q = absurd (omega (arith, p, q.0))
+one_verdict one meet filter line verdicts.TooLong verdicts.TooLong p q = refl
+
+one_of_lines : NamesOne → BlocksOfAnyWidthThatMeet → (filter : Filter) (counts : Bool) (lines : List LogLine) (a b : List ℕ) (m n : ℕ) → Filters filter counts lines a m → Filters filter counts lines b n → (a ≡ b) × (m ≡ n)
+one_of_lines one meet filter counts [] a b m n p q = (p.0 ∙ sym q.0, p.1 ∙ sym q.1)
+one_of_lines one meet filter counts (line ∷ lines) a b m n p q =
+    let same : p.0 ≡ q.0 = one_verdict one meet filter _ p.0 q.0 p.3 q.3 in
+    let others = one_of_lines one meet filter counts lines p.1 q.1 p.2 q.2 p.5 q.5 in (
+      p.6 ∙ ap (λ v. output_of filter counts v line ++ p.1) same ∙ ap (λ t. output_of filter counts q.0 line ++ t) others.0 ∙ sym q.6,
       p.7 ∙ ap (λ v. one_if (is_selected filter v) + p.2) same ∙ ap (λ k. one_if (is_selected filter q.0) + k) others.1 ∙ sym q.7,
     )
 
-pub one_output : NamesOne → LogsHaveOneOutput
-one_output one filter counts log a b m n p q = one_of_lines one filter counts (log_lines log) a b m n p q
+pub one_output : NamesOne → BlocksOfAnyWidthThatMeet → LogsHaveOneOutput
+one_output one meet filter counts log a b m n p q = one_of_lines one meet filter counts (log_lines log) a b m n p q

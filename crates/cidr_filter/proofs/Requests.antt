@@ -1,5 +1,5 @@
 -- What the words of a command line say.
-use Rattle.std.proofs.Common.{◌≡◌, ℕ, suc, get_or, drop-cons, ◌+◌, ◌<◌, ◌≤◌, Bool, true, false, List, [], ◌∷◌, ◌++◌, length, drop, refl, sym, ap, ◌∙◌, cond, arith, min, ◌||◌, ◌⊎◌, inl, inr, nat_le, true≢false}
+use Rattle.std.proofs.Common.{◌≡◌, ℕ, suc, get_or, drop-cons, ◌+◌, ◌<◌, ◌≤◌, Bool, true, false, List, [], ◌∷◌, ◌++◌, length, drop, refl, sym, ap, ◌∙◌, cond, arith, min, ◌||◌, ◌⊎◌, inl, inr, ◌&&◌, nat_le, true≢false}
 use Rattle.std.specs.Prelude.{Option, None, Some, String, fold}
 use Rattle.std.specs.List.{count_by, list_any}
 use Rattle.std.proofs.lemmas.Bool.{cases_lt}
@@ -8,7 +8,7 @@ use Rattle.std.proofs.lemmas.List.Folds.{list_any-append}
 use Rattle.std.proofs.lemmas.List.Sums.{fold-append}
 use Rattle.std.proofs.lemmas.Option.{none-some}
 use Rattle.cidr_filter.specs.CommandLines.{Begin, files_among, inputs_among, AsksNothing}
-use Rattle.cidr_filter.specs.Options.{option_of, behind_option, takes_next, is_list, is_input}
+use Rattle.cidr_filter.specs.Options.{option_of, behind_option, takes_next, inverts_in, counts_in, is_longest, is_list, is_input}
 use Rattle.cidr_filter.specs.declared.options.Choice.{Choice}
 
 value_or : {X : Type 0} → X → Option X → X
@@ -80,6 +80,15 @@ module _ {Z : Type 0} (words : List (String Z)) (options : List Choice) (rest : 
   no_files not request s =
       let same = one_reading words options s.options rest s.rest begin none s.begin s.no_more in
       none-some s.files (sym not ∙ ap files_among (sym same.1) ∙ s.follow)
+
+  pub longest_beside : (list_any is_longest options && (list_any inverts_in options || list_any counts_in options)) ≡ true → AsksNothing words
+  longest_beside both request s =
+      let same = one_reading words options s.options rest s.rest begin none s.begin s.no_more in
+      let longest : list_any is_longest options ≡ request.longest = ap (list_any is_longest) (sym same.0) ∙ sym s.longest in
+      let inverts : list_any inverts_in options ≡ request.inverts = ap (list_any inverts_in) (sym same.0) ∙ sym s.inverts in
+      let counts : list_any counts_in options ≡ request.counts = ap (list_any counts_in) (sym same.0) ∙ sym s.counts in
+      true≢false (sym both ∙ ap (λ b. b && (list_any inverts_in options || list_any counts_in options)) longest
+      ∙ ap (λ b. request.longest && (b || list_any counts_in options)) inverts ∙ ap (λ b. request.longest && (request.inverts || b)) counts ∙ s.alone)
 
   pub no_list : list_any is_list options ≡ false → AsksNothing words
   no_list not request s =

@@ -39,7 +39,7 @@ long_some bads.Stop e = refl
 
 -- a line ends the run only if such lines are not dropped
 pub refused_kept : (filter : Filter) (verdict : Verdict) → is_refused filter verdict ≡ true → is_dropped filter.bad ≡ false
-refused_kept filter verdicts.Inside e = absurd (true≢false (sym e))
+refused_kept filter (verdicts.Inside told) e = absurd (true≢false (sym e))
 refused_kept filter verdicts.Outside e = absurd (true≢false (sym e))
 refused_kept filter verdicts.Bad e = stops_some filter.bad e
 refused_kept filter verdicts.TooLong e = long_some filter.bad e
@@ -75,7 +75,7 @@ module _ (filter : Filter) (counts : Bool) where
 
   pub refuses_line : (verdict : Verdict) (bytes line : List ℕ) (failed : Bool) (old : Stand) → Judges filter line verdict → is_refused filter verdict ≡ true
       → LineStops filter counts bytes line failed old old (fault_of verdict)
-  refuses_line verdicts.Inside bytes line failed old judges e = absurd (true≢false (sym e))
+  refuses_line (verdicts.Inside told) bytes line failed old judges e = absurd (true≢false (sym e))
   refuses_line verdicts.Outside bytes line failed old judges e = absurd (true≢false (sym e))
   refuses_line verdicts.Bad bytes line failed old judges e = (judges, e, refl)
   refuses_line verdicts.TooLong bytes line failed old judges e = (judges, e, refl)
@@ -107,7 +107,7 @@ module _ (filter : Filter) (counts : Bool) where
   line_stops ends failed old new line others stripped bytes faults.Length e is_line strips s =
       line_refused ends verdicts.TooLong old new line others bytes e is_line (subst (λ (l : List ℕ). RefusesLine filter l old new verdicts.TooLong) strips s)
   line_stops ends failed old new line others stripped bytes faults.Write e is_line strips s =
-      let added = output_of counts (is_selected filter s.1) (unended line.bytes) in (
+      let added = output_of filter counts s.1 (unended line.bytes) in (
         s.0,
         record {
           first = line ∷ [];
@@ -181,7 +181,7 @@ module _ (filter : Filter) (counts : Bool) where
   pub hands_no_line : (old mid new : Stand) (bytes : List ℕ) → HasNo 10 bytes → (length bytes == 0) ≡ false → FiltersLine filter counts bytes bytes old mid
       → AppendsBeginning mid.holds new.holds mid.waits → WritesIn filter counts old new bytes
   hands_no_line old mid new bytes none some f b =
-      let added = output_of counts (is_selected filter f.0) (unended bytes) in
+      let added = output_of filter counts f.0 (unended bytes) in
       let one = lines_last bytes none some in
       record {
         first = unended bytes ∷ [];

@@ -2,7 +2,7 @@
 use Rattle.std.specs.Prelude.{◌≡◌, ℕ, ◌+◌, ◌==◌, ◌||◌, ◌&&◌, Bool, true, false, not, List, [], ◌∷◌, Option, None, Some, drop, length, nat_le, if◌then◌else◌, codes, fold, String}
 use Rattle.std.specs.List.{count_by, list_all, list_any}
 use Rattle.std.specs.String.{string_bytes}
-use Rattle.cidr_filter.specs.Options.{is, begins, option_of, behind_option, field_said, separator_said, bad_said, inverts_in, counts_in, is_list, is_input}
+use Rattle.cidr_filter.specs.Options.{is, begins, option_of, behind_option, field_said, separator_said, bad_said, inverts_in, counts_in, is_longest, is_list, is_input}
 use Rattle.cidr_filter.specs.declared.filter.Bad.TheVariants as bads
 use Rattle.cidr_filter.specs.declared.options.Choice.{Choice}
 use Rattle.cidr_filter.specs.declared.command_line.Request.{Request}
@@ -28,8 +28,8 @@ abbrev pub inputs_among : {Z : Type 0} → List (String Z) → ℕ
 inputs_among [] = 1
 inputs_among (file ∷ files) = count_by (is (codes "-")) (file ∷ files)
 
--- the words are options, as many as there are, and FILEs. There is a list, and standard input is named once at most. The
--- request has the last of each option, and begins its FILEs there
+-- the words are options, as many as there are, and FILEs. There is a list, standard input is named once at most, and
+-- `--longest` stands beside no `-v` and no `-c`. The request has the last of each option, and begins its FILEs there
 pub record Says {Z : Type 0} (words : List (String Z)) (request : Request) : Type 0 where
   pub options : List Choice
   pub rest : List (String Z)
@@ -44,6 +44,8 @@ pub record Says {Z : Type 0} (words : List (String Z)) (request : Request) : Typ
   pub bad : request.bad ≡ fold bad_said bads.Drop options
   pub inverts : request.inverts ≡ list_any inverts_in options
   pub counts : request.counts ≡ list_any counts_in options
+  pub longest : request.longest ≡ list_any is_longest options
+  pub alone : (request.longest && (request.inverts || request.counts)) ≡ false
   pub place : drop request.files words ≡ files
 
 -- the words ask for nothing that a request says

@@ -1,21 +1,28 @@
 -- Which lines of a log are selected.
-use Rattle.std.specs.Prelude.{◌≡◌, ℕ, ◌+◌, ◌<◌, ◌≤◌, Bool, true, false, not, ◌&&◌, List, [], ◌∷◌, ◌++◌, Some, length, if◌then◌else◌}
+use Rattle.std.specs.Prelude.{◌≡◌, ℕ, ◌+◌, ◌<◌, ◌≤◌, Bool, true, false, not, ◌&&◌, List, [], ◌∷◌, ◌++◌, Option, None, Some, length, codes, if◌then◌else◌}
 use Rattle.ipnetwork_addr.specs.Either.{NamesIp}
 use Rattle.ipnetwork_addr.specs.declared.ip.IpAddr.{IpAddr}
-use Rattle.ipnetwork_addr.specs.declared.ip.IpAddr.TheVariants.{V4, V6}
-use Rattle.ipnetwork_blocks.specs.Aggregate.{InUnion}
+use Rattle.ipnetwork.specs.IpNetworkText.{ip_network_text}
+use Rattle.ipnetwork.specs.declared.ip_network.IpNetwork.{IpNetwork}
 use Rattle.cidr_filter.specs.Fields.{field_of}
 use Rattle.cidr_filter.specs.Lines.{LogLine, content, printed}
+use Rattle.cidr_filter.specs.Listed.{IsIn, IsLongestBlock}
 use Rattle.cidr_filter.specs.declared.filter.Bad.{Bad}
 use Rattle.cidr_filter.specs.declared.filter.Bad.TheVariants as bads
 use Rattle.cidr_filter.specs.declared.filter.Filter.{Filter}
 use Rattle.cidr_filter.specs.declared.filter.Verdict.{Verdict}
 use Rattle.cidr_filter.specs.declared.filter.Verdict.TheVariants as verdicts
+use Rattle.cidr_filter.specs.declared.listed.Listed.{Listed}
+use Rattle.cidr_filter.specs.declared.listed.Listed.TheVariants.{Addresses, Blocks}
 
--- an address of the list
+-- an address of the lists
 abbrev pub IsListed : Filter → IpAddr → Type 0
-IsListed filter (V4 address) = InUnion 32 filter.v4 address
-IsListed filter (V6 address) = InUnion 128 filter.v6 address
+IsListed filter address = IsIn filter.listed address
+
+-- what the lists tell of an address of theirs: nothing, or the longest block that holds it
+abbrev pub TellsBlock : Listed → IpAddr → Option IpNetwork → Type 0
+TellsBlock (Addresses sets) address told = told ≡ None
+TellsBlock (Blocks tables) address told = (block : IpNetwork) × (told ≡ Some block) × IsLongestBlock tables address block
 
 -- the field of the line holds the address, and nothing else
 abbrev pub Holds : Filter → List ℕ → IpAddr → Type 0
@@ -23,7 +30,8 @@ Holds filter line address = (field : List ℕ) × (field_of filter.field filter.
 
 -- what a line, without its end, is to the list. One of more than 1,048,576 bytes is too long whatever it holds
 abbrev pub Judges : Filter → List ℕ → Verdict → Type 0
-Judges filter line verdicts.Inside = (length line ≤ 1048576) × ((address : IpAddr) × Holds filter line address × IsListed filter address)
+Judges filter line (verdicts.Inside told) =
+    (length line ≤ 1048576) × ((address : IpAddr) × Holds filter line address × IsListed filter address × TellsBlock filter.listed address told)
 Judges filter line verdicts.Outside = (length line ≤ 1048576) × ((address : IpAddr) × Holds filter line address × ¬ (IsListed filter address))
 Judges filter line verdicts.Bad = (length line ≤ 1048576) × ((address : IpAddr) → ¬ (Holds filter line address))
 Judges filter line verdicts.TooLong = 1048576 < length line
@@ -48,21 +56,38 @@ is_stopped bads.Stop = true
 
 -- the lines inside are selected, or those outside; of the others those that are kept
 abbrev pub is_selected : Filter → Verdict → Bool
-is_selected filter verdicts.Inside = not filter.inverts
+is_selected filter (verdicts.Inside told) = not filter.inverts
 is_selected filter verdicts.Outside = filter.inverts
 is_selected filter verdicts.Bad = is_kept filter.bad
 is_selected filter verdicts.TooLong = false
 
 -- a line without an address ends the run, if it is told to, and so does one that is too long and is not dropped
 abbrev pub is_refused : Filter → Verdict → Bool
-is_refused filter verdicts.Inside = false
+is_refused filter (verdicts.Inside told) = false
 is_refused filter verdicts.Outside = false
 is_refused filter verdicts.Bad = is_stopped filter.bad
 is_refused filter verdicts.TooLong = not (is_dropped filter.bad)
 
--- what is written for a line: the line if it is selected, and nothing if lines are only counted
-abbrev pub output_of : Bool → Bool → LogLine → List ℕ
-output_of counts selected line = if selected && not counts then printed line else []
+-- the block that is told of a line of this verdict
+abbrev pub block_in : Verdict → Option IpNetwork
+block_in (verdicts.Inside told) = told
+block_in verdicts.Outside = None
+block_in verdicts.Bad = None
+block_in verdicts.TooLong = None
+
+-- its canonical text, or a minus sign for none
+abbrev pub block_text : Option IpNetwork → List ℕ
+block_text None = codes "-"
+block_text (Some block) = ip_network_text block
+
+-- what stands before a line of this verdict: that and a tab, if blocks are told
+abbrev pub mark_of : Listed → Verdict → List ℕ
+mark_of (Addresses sets) verdict = []
+mark_of (Blocks tables) verdict = block_text (block_in verdict) ++ 9 ∷ []
+
+-- what is written for a line: its mark and the line if it is selected, and nothing if lines are only counted
+abbrev pub output_of : Filter → Bool → Verdict → LogLine → List ℕ
+output_of filter counts verdict line = if is_selected filter verdict && not counts then mark_of filter.listed verdict ++ printed line else []
 
 -- how many lines that is
 abbrev pub one_if : Bool → ℕ
@@ -73,4 +98,4 @@ abbrev pub Filters : Filter → Bool → List LogLine → List ℕ → ℕ → T
 Filters filter counts [] output count = (output ≡ []) × (count ≡ 0)
 Filters filter counts (line ∷ lines) output count = (verdict : Verdict) × (others : List ℕ) × (more : ℕ) × Judges filter (content line) verdict
     × (is_refused filter verdict ≡ false) × Filters filter counts lines others more
-    × (output ≡ output_of counts (is_selected filter verdict) line ++ others) × (count ≡ one_if (is_selected filter verdict) + more)
+    × (output ≡ output_of filter counts verdict line ++ others) × (count ≡ one_if (is_selected filter verdict) + more)

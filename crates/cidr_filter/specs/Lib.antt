@@ -4,6 +4,7 @@ pub mod Fields
 pub mod Filters
 pub mod Laws
 pub mod Lines
+pub mod Listed
 pub mod Options
 pub mod Private
 pub mod Stands

@@ -76,6 +76,7 @@ in_one_word word =
     if begins (codes "-k") word then field_option (drop 2 word)
     else if begins (codes "-d") word then separator_option (drop 2 word)
     else if begins (codes "--bad=") word then bad_option (drop 6 word)
+    else if bytes_eq word (codes "--longest") then Some choices.Longest
     else if begins (codes "-") word then letters_option (drop 1 word)
     else None
 
@@ -99,6 +100,7 @@ field_said before (choices.Letters inverts counts) = before
 field_said before (choices.Field number) = number
 field_said before (choices.Separator byte) = before
 field_said before (choices.Bad bad) = before
+field_said before choices.Longest = before
 field_said before choices.File = before
 field_said before choices.Input = before
 field_said before choices.Text = before
@@ -108,6 +110,7 @@ separator_said before (choices.Letters inverts counts) = before
 separator_said before (choices.Field number) = before
 separator_said before (choices.Separator byte) = byte
 separator_said before (choices.Bad bad) = before
+separator_said before choices.Longest = before
 separator_said before choices.File = before
 separator_said before choices.Input = before
 separator_said before choices.Text = before
@@ -117,6 +120,7 @@ bad_said before (choices.Letters inverts counts) = before
 bad_said before (choices.Field number) = before
 bad_said before (choices.Separator byte) = before
 bad_said before (choices.Bad bad) = bad
+bad_said before choices.Longest = before
 bad_said before choices.File = before
 bad_said before choices.Input = before
 bad_said before choices.Text = before
@@ -127,6 +131,7 @@ inverts_in (choices.Letters inverts counts) = inverts
 inverts_in (choices.Field number) = false
 inverts_in (choices.Separator byte) = false
 inverts_in (choices.Bad bad) = false
+inverts_in choices.Longest = false
 inverts_in choices.File = false
 inverts_in choices.Input = false
 inverts_in choices.Text = false
@@ -136,9 +141,21 @@ counts_in (choices.Letters inverts counts) = counts
 counts_in (choices.Field number) = false
 counts_in (choices.Separator byte) = false
 counts_in (choices.Bad bad) = false
+counts_in choices.Longest = false
 counts_in choices.File = false
 counts_in choices.Input = false
 counts_in choices.Text = false
+
+-- whether it is `--longest`
+abbrev pub is_longest : Choice → Bool
+is_longest (choices.Letters inverts counts) = false
+is_longest (choices.Field number) = false
+is_longest (choices.Separator byte) = false
+is_longest (choices.Bad bad) = false
+is_longest choices.Longest = true
+is_longest choices.File = false
+is_longest choices.Input = false
+is_longest choices.Text = false
 
 -- whether it is a list, and whether that is standard input
 abbrev pub is_list : Choice → Bool
@@ -146,6 +163,7 @@ is_list (choices.Letters inverts counts) = false
 is_list (choices.Field number) = false
 is_list (choices.Separator byte) = false
 is_list (choices.Bad bad) = false
+is_list choices.Longest = false
 is_list choices.File = true
 is_list choices.Input = true
 is_list choices.Text = true
@@ -155,6 +173,7 @@ is_input (choices.Letters inverts counts) = false
 is_input (choices.Field number) = false
 is_input (choices.Separator byte) = false
 is_input (choices.Bad bad) = false
+is_input choices.Longest = false
 is_input choices.File = false
 is_input choices.Input = true
 is_input choices.Text = false

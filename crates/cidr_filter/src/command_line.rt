@@ -1,8 +1,8 @@
 //! What the arguments ask for.
-ghost use Rattle.std.specs.Prelude.{◌≡◌, ◌+◌, ◌≤◌, ◌||◌, None, Some, drop, length, nat_le, if◌then◌else◌, IfSome, MatchOption};
+ghost use Rattle.std.specs.Prelude.{◌≡◌, ◌+◌, ◌≤◌, ◌||◌, ◌&&◌, None, Some, drop, length, nat_le, if◌then◌else◌, IfSome, MatchOption};
 ghost use Rattle.std.specs.List.{list_all};
 ghost use Rattle.cidr_filter.specs.CommandLines.{is_only, is_plain, files_among, inputs_among, Says, AsksNothing, Asks};
-ghost use Rattle.cidr_filter.specs.Options.{option_of, behind_option, is_list, is_input, field_said, separator_said, bad_said, inverts_in, counts_in};
+ghost use Rattle.cidr_filter.specs.Options.{option_of, behind_option, is_list, is_input, field_said, separator_said, bad_said, inverts_in, counts_in, is_longest};
 ghost use Rattle.cidr_filter.specs.Private.Requests.{IfFilter};
 
 use crate::filter::Bad;
@@ -19,6 +19,8 @@ pub struct Request {
     pub inverts: bool,
     /// Whether lines are counted.
     pub counts: bool,
+    /// Whether the longest block that holds the address stands before a line.
+    pub longest: bool,
     /// What becomes of a line without an address.
     pub bad: Bad,
     /// The place of the first FILE among the words.
@@ -72,6 +74,7 @@ fn request_of(words: &[String]) -> Option<Request>
         separator: b' ',
         inverts: false,
         counts: false,
+        longest: false,
         bad: Bad::Drop,
         files: 0,
     };
@@ -83,6 +86,9 @@ fn request_of(words: &[String]) -> Option<Request>
         has_list |= is_list(choice);
         inputs += inputs_in(choice);
         at = behind(words, at);
+    }
+    if is_crossed(request) {
+        return None;
     }
     let Some(place) = files_from(words, at) else {
         return None;
@@ -96,6 +102,13 @@ fn request_of(words: &[String]) -> Option<Request>
     }
 }
 
+// Whether `--longest` stands beside `-v` or `-c`.
+fn is_crossed(request: Request) -> bool
+    ensures { result ≡ (request.longest && (request.inverts || request.counts)) }
+{
+    request.longest && (request.inverts || request.counts)
+}
+
 // What is asked for by an option too.
 fn with_choice(request: Request, choice: Choice) -> Request
     ensures field { result.field ≡ field_said request.field choice }
@@ -103,6 +116,7 @@ fn with_choice(request: Request, choice: Choice) -> Request
     ensures bad { result.bad ≡ bad_said request.bad choice }
     ensures inverts { result.inverts ≡ (request.inverts || inverts_in choice) }
     ensures counts { result.counts ≡ (request.counts || counts_in choice) }
+    ensures longest { result.longest ≡ (request.longest || is_longest choice) }
 {
     match choice {
         Choice::Letters { inverts, counts } => Request {
@@ -116,6 +130,10 @@ fn with_choice(request: Request, choice: Choice) -> Request
             ..request
         },
         Choice::Bad(bad) => Request { bad, ..request },
+        Choice::Longest => Request {
+            longest: true,
+            ..request
+        },
         Choice::File | Choice::Input | Choice::Text => request,
     }
 }

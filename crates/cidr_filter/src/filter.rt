@@ -1,11 +1,11 @@
 //! What is told of a line, and whether it is selected.
-ghost use Rattle.std.specs.Prelude.{◌≡◌, ◌≤◌, ◌↔◌, IsTrue};
-ghost use Rattle.cidr_filter.specs.Filters.{Judges, IsListed, is_selected, is_refused};
+ghost use Rattle.std.specs.Prelude.{◌≡◌, ◌≤◌};
+ghost use Rattle.cidr_filter.specs.Filters.{Judges, is_selected, is_refused};
 ghost use Rattle.cidr_filter.specs.Private.Judging.{JudgesField, JudgesAddress};
 
 use crate::field::field_of;
-use ipnetwork::{IpAddr, Ipv4Network, Ipv6Network};
-use ipnetwork_sets::AddressSet;
+use crate::listed::Listed;
+use ipnetwork::{IpAddr, IpNetwork};
 
 /// The most bytes of a line, its end not counted.
 pub(crate) const LINE_MAX: usize = 1_048_576;
@@ -24,8 +24,8 @@ pub enum Bad {
 /// What a line is to a list.
 #[derive(Clone, Copy, Debug, PartialEq, Eq)]
 pub enum Verdict {
-    /// Its field holds an address of the list.
-    Inside,
+    /// Its field holds an address of the lists. If they tell blocks, this is the longest that holds it.
+    Inside(Option<IpNetwork>),
     /// Its field holds another address.
     Outside,
     /// Its field holds no address.
@@ -37,8 +37,7 @@ pub enum Verdict {
 /// By what lines are selected.
 #[derive(Debug, Drop)]
 pub struct Filter {
-    pub(crate) v4: AddressSet<Ipv4Network>,
-    pub(crate) v6: AddressSet<Ipv6Network>,
+    pub(crate) listed: Listed,
     pub(crate) field: u32,
     pub(crate) separator: u8,
     pub(crate) inverts: bool,
@@ -73,29 +72,27 @@ impl Filter {
     fn judge_address(&self, address: IpAddr) -> Verdict
         ensures { JudgesAddress self.now address result }
     {
-        if self.contains(address) {
-            Verdict::Inside
-        } else {
-            Verdict::Outside
-        }
-    }
-
-    // Whether the address is in the list.
-    fn contains(&self, address: IpAddr) -> bool
-        ensures { IsTrue result ↔ IsListed self.now address }
-    {
-        match address {
-            IpAddr::V4(address) => self.v4.contains(address),
-            IpAddr::V6(address) => self.v6.contains(address),
+        match &self.listed {
+            Listed::Addresses(sets) => {
+                if sets.contains(address) {
+                    Verdict::Inside(None)
+                } else {
+                    Verdict::Outside
+                }
+            }
+            Listed::Blocks(tables) => match tables.longest(address) {
+                Some(block) => Verdict::Inside(Some(block)),
+                None => Verdict::Outside,
+            },
         }
     }
 
     /// Whether a line of this verdict is selected.
-    pub(crate) fn selects(&self, verdict: Verdict) -> bool
-        ensures { result ≡ is_selected self.now verdict }
+    pub(crate) fn selects(&self, verdict: &Verdict) -> bool
+        ensures { result ≡ is_selected self.now verdict.now }
     {
-        match verdict {
-            Verdict::Inside => !self.inverts,
+        match *verdict {
+            Verdict::Inside(_) => !self.inverts,
             Verdict::Outside => self.inverts,
             Verdict::Bad => self.bad == Bad::Keep,
             Verdict::TooLong => false,
@@ -103,11 +100,11 @@ impl Filter {
     }
 
     /// Whether a line of this verdict ends the run.
-    pub(crate) fn refuses(&self, verdict: Verdict) -> bool
-        ensures { result ≡ is_refused self.now verdict }
+    pub(crate) fn refuses(&self, verdict: &Verdict) -> bool
+        ensures { result ≡ is_refused self.now verdict.now }
     {
-        match verdict {
-            Verdict::Inside => false,
+        match *verdict {
+            Verdict::Inside(_) => false,
             Verdict::Outside => false,
             Verdict::Bad => self.bad == Bad::Stop,
             Verdict::TooLong => self.bad != Bad::Drop,

@@ -13,8 +13,10 @@ Prints the lines of logs whose address is in a list of IP networks.
     -d CHAR         fields are cut at each single CHAR, a blank without this
     -v              print the lines whose address is in no network
     -c              print how many lines there are
+    --longest       before a line print the longest network that holds its address, and a tab; a range counts as the
+                    fewest networks that make it up. Not with -v or -c
     --bad drop      a line without an address there is not printed, also with -v (this is the default)
-    --bad keep      it is printed
+    --bad keep      it is printed, after a minus sign and a tab with --longest
     --bad stop      it ends the program
     --help          print this text
     --version       print the version
@@ -37,4 +39,4 @@ pub(crate) const VERSION: &str = "cidr_filter 0.1.0\n";
 
 /// What is told of arguments that are no command.
 pub(crate) const USAGE: &str =
-    "usage: cidr_filter [-v] [-c] [-k N] [-d CHAR] [--bad drop|keep|stop] (-f LIST | -e TEXT).. [FILE..]; try --help\n";
+    "usage: cidr_filter [-v] [-c] [-k N] [-d CHAR] [--bad drop|keep|stop] [--longest] (-f LIST | -e TEXT).. [FILE..]; try --help\n";

@@ -3,6 +3,7 @@
 ghost use Rattle.cidr_filter.specs.Laws.{LinesHaveOneVerdict, LogsHaveOneOutput, OutputsOfPartsFollow};
 
 use ipnetwork_addr::laws::ip_text_names_one;
+use ipnetwork_table::laws::blocks_of_any_width_that_meet;
 
 /// A line is one thing to a list, and only one. So a log has at most one output, and as many lines of it are selected.
 pub fn a_log_has_one_output()
@@ -10,6 +11,7 @@ pub fn a_log_has_one_output()
     ensures log { LogsHaveOneOutput }
 {
     ip_text_names_one();
+    blocks_of_any_width_that_meet();
 }
 
 /// If a log is cut directly behind a line feed, its output is that of the first part and then that of the second.

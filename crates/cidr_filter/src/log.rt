@@ -3,17 +3,17 @@ ghost use Rattle.std.specs.Prelude.{◌≡◌, ◌<◌, ◌≤◌, ◌++◌, ◌
 ghost use Rattle.std.specs.Str.Lines.{strip_carriage_return};
 ghost use Rattle.byte_search.specs.Bytes.{IsAbsent};
 ghost use Rattle.std.specs.Io.KnownBytes.{Keeps};
-ghost use Rattle.line_engine.specs.Outputs.{writer_of, output_failed, waits_in, Puts, AppendsBeginning};
+ghost use Rattle.line_engine.specs.Outputs.{writer_of, output_failed, waits_in, AppendsBeginning};
 ghost use Rattle.line_engine.specs.Watched.{device_of, has_failed};
-ghost use Rattle.cidr_filter.specs.Filters.{is_dropped};
+ghost use Rattle.cidr_filter.specs.Filters.{is_dropped, mark_of};
 ghost use Rattle.cidr_filter.specs.Stands.{stand, Goes};
 ghost use Rattle.cidr_filter.specs.Stops.{Ends, Stops};
 ghost use Rattle.cidr_filter.specs.Private.Judging.{fault_of};
 ghost use Rattle.cidr_filter.specs.Private.Progress.{FiltersLine, FiltersRest, LineStops, Advances, StopsIn, ReadsBehind, IsHeld};
 
 use crate::filter::{Bad, Filter, LINE_MAX, Verdict};
+use crate::printing::print_line;
 use byte_search::find_from;
-use line_engine::fault::RunFault;
 use line_engine::output::Output;
 use line_engine::watched::Watched;
 use std::io::{Read, Write};
@@ -244,19 +244,21 @@ fn filter_line<W: Write>(
         (stand (W.contents (writer_of output.new)) (waits_in output.new) tally.new)) }
 {
     let verdict = filter.judge(content);
-    if filter.refuses(verdict) {
-        return Err(refusal_of(verdict));
+    if filter.refuses(&verdict) {
+        return Err(refusal_of(&verdict));
     }
     tally.lines = tally.lines.saturating_add(1);
-    if !filter.selects(verdict) {
+    if !filter.selects(&verdict) {
         return Ok(());
     }
-    select_line(counts, line, output, tally)
+    select_line(filter, counts, &verdict, line, output, tally)
 }
 
 // Counts a line, and writes it unless lines are only counted.
 fn select_line<W: Write>(
+    filter: &Filter,
     counts: bool,
+    verdict: &Verdict,
     line: &[u8],
     output: &mut Output<'_, W>,
     tally: &mut Tally,
@@ -264,40 +266,30 @@ fn select_line<W: Write>(
     ensures ok { OnOk result (Goes
         (stand (W.contents (writer_of output.old)) (waits_in output.old) tally.old)
         (stand (W.contents (writer_of output.new)) (waits_in output.new) tally.new)
-        (if counts then [] else line.now ++ 10 ∷ []) 1 0) }
+        (if counts then [] else mark_of filter.now.listed verdict.now ++ (line.now ++ 10 ∷ [])) 1 0) }
     ensures err { OnErr result (IsTrue (output_failed output.new)) }
     ensures beginning { OnErr result (AppendsBeginning (W.contents (writer_of output.old)) (W.contents (writer_of output.new))
-        (waits_in output.old ++ (if counts then [] else line.now ++ 10 ∷ []))) }
+        (waits_in output.old ++ (if counts then [] else mark_of filter.now.listed verdict.now ++ (line.now ++ 10 ∷ [])))) }
     ensures fault { IsOkUnless result LogFault.Write }
 {
     tally.selected = tally.selected.saturating_add(1);
     if counts {
         return Ok(());
     }
-    match print_line(line, output) {
+    match print_line(&filter.listed, verdict, line, output) {
         Ok(()) => Ok(()),
         Err(_) => Err(LogFault::Write),
     }
 }
 
 // Why a line of this verdict is refused.
-fn refusal_of(verdict: Verdict) -> LogFault
-    ensures { result ≡ fault_of verdict }
+fn refusal_of(verdict: &Verdict) -> LogFault
+    ensures { result ≡ fault_of verdict.now }
 {
-    match verdict {
+    match *verdict {
         Verdict::TooLong => LogFault::Length,
         _ => LogFault::Address,
     }
-}
-
-// Writes a line and a line feed.
-fn print_line<W: Write>(line: &[u8], output: &mut Output<'_, W>) -> Result<(), RunFault>
-    ensures ok { OnOk result (Puts (W.contents (writer_of output.old)) (waits_in output.old) (W.contents (writer_of output.new)) (waits_in output.new) (line.now ++ 10 ∷ [])) }
-    ensures err { OnErr result (IsTrue (output_failed output.new)) }
-    ensures beginning { OnErr result (AppendsBeginning (W.contents (writer_of output.old)) (W.contents (writer_of output.new)) (waits_in output.old ++ (line.now ++ 10 ∷ []))) }
-{
-    output.put(line)?;
-    output.put(b"\n")
 }
 
 // The line less one carriage return at its end.

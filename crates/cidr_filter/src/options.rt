@@ -22,6 +22,8 @@ pub enum Choice {
     Separator(u8),
     /// `--bad`.
     Bad(Bad),
+    /// `--longest`.
+    Longest,
     /// `-f`, and the name of a list.
     File,
     /// `-f -`: the list on standard input.
@@ -98,6 +100,9 @@ fn choice_in(word: &[u8]) -> Option<Choice>
     }
     if let Some(value) = word.strip_prefix(b"--bad=".as_slice()) {
         return bad_choice(value);
+    }
+    if word == b"--longest".as_slice() {
+        return Some(Choice::Longest);
     }
     match word.strip_prefix(b"-".as_slice()) {
         Some(letters) => letters_choice(letters),

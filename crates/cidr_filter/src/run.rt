@@ -4,6 +4,7 @@ ghost use Rattle.std.specs.Prelude.{◌<◌, length};
 use crate::command_line::{Command, Request, command_of};
 use crate::filter::{Filter, LINE_MAX};
 use crate::help::{HELP, USAGE, VERSION};
+use crate::listed::{Listed, Sets, Tables};
 use crate::log::{LogFault, Tally, filter_log};
 use crate::reading::read_lists;
 use crate::telling::{tell_fault, tell_refusals};
@@ -14,7 +15,7 @@ use line_engine::watched::Watched;
 use program_io::ending::{FAILED, end, print_text, refuse_usage};
 use program_io::lists::OpenLists;
 use program_io::messages::{number_text, tell, tell_number};
-use std::alloc::Global;
+use std::alloc::{AllocError, Global};
 use std::io::Write;
 
 /// The exit status if a line was selected.
@@ -53,7 +54,7 @@ fn filter<L: OpenLists, W: Write, E: Write>(
 ) -> u8 {
     let mut reader = ListReader::new(alloc, Refusals::new());
     let read = read_lists(lists, words, request.files, &mut reader);
-    let (v4, v6, refusals) = reader.into_sets();
+    let (listed, refusals) = listed_by(alloc, request.longest, reader);
     tell_refusals(words, &refusals, errors);
     if let Err(fault) = read {
         tell_fault(words, fault, errors);
@@ -62,9 +63,12 @@ fn filter<L: OpenLists, W: Write, E: Write>(
     if !refusals.is_empty() {
         return FAILED;
     }
+    let Ok(listed) = listed else {
+        tell("out of memory\n", errors);
+        return FAILED;
+    };
     let filter = Filter {
-        v4,
-        v6,
+        listed,
         field: request.field,
         separator: request.separator,
         inverts: request.inverts,
@@ -83,6 +87,22 @@ fn filter<L: OpenLists, W: Write, E: Write>(
         output,
         errors,
     )
+}
+
+// The networks that were read, and the refused lines: the blocks of the networks if blocks are told, and else their
+// addresses.
+fn listed_by(
+    alloc: Global,
+    longest: bool,
+    reader: ListReader,
+) -> (Result<Listed, AllocError>, Refusals) {
+    if longest {
+        let (v4, v6, refusals) = reader.into_networks();
+        let tables = Tables::of(alloc, v4.as_slice(), v6.as_slice());
+        return (tables.map(Listed::Blocks), refusals);
+    }
+    let (v4, v6, refusals) = reader.into_sets();
+    (Ok(Listed::Addresses(Sets { v4, v6 })), refusals)
 }
 
 // Filters the logs in their order.

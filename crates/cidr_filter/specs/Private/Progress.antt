@@ -15,7 +15,7 @@ use Rattle.cidr_filter.specs.declared.log.LogFault.TheVariants as faults
 -- a line, given with its end cut off too, was filtered
 abbrev pub FiltersLine : Filter → Bool → List ℕ → List ℕ → Stand → Stand → Type 0
 FiltersLine filter counts bytes content old new = (verdict : Verdict) × Judges filter content verdict × (is_refused filter verdict ≡ false)
-    × Goes old new (output_of counts (is_selected filter verdict) (record { bytes = bytes; is_ended = false })) (one_if (is_selected filter verdict)) 1
+    × Goes old new (output_of filter counts verdict (record { bytes = bytes; is_ended = false })) (one_if (is_selected filter verdict)) 1
 
 -- a line, given with its end cut off too, ends the run
 abbrev pub RefusesLine : Filter → List ℕ → Stand → Stand → Verdict → Type 0
@@ -26,7 +26,7 @@ abbrev pub LineStops : Filter → Bool → List ℕ → List ℕ → Bool → St
 LineStops filter counts bytes content write_failed old new faults.Read = ⊥
 LineStops filter counts bytes content write_failed old new faults.Write =
     IsTrue write_failed × (verdict : Verdict) × Judges filter content verdict × (is_refused filter verdict ≡ false)
-    × AppendsBeginning old.holds new.holds (old.waits ++ output_of counts (is_selected filter verdict) (record { bytes = bytes; is_ended = false }))
+    × AppendsBeginning old.holds new.holds (old.waits ++ output_of filter counts verdict (record { bytes = bytes; is_ended = false }))
 LineStops filter counts bytes content write_failed old new faults.Address = RefusesLine filter content old new verdicts.Bad
 LineStops filter counts bytes content write_failed old new faults.Length = RefusesLine filter content old new verdicts.TooLong
 LineStops filter counts bytes content write_failed old new faults.Endless = ⊥

@@ -1,9 +1,10 @@
-use Rattle.std.proofs.Common.{nat_le, ◌||◌, ◌++◌, ◌∷◌, [], ◌+◌, ◌∙◌, drop, sym, ap, subst, arith, cond}
+use Rattle.std.proofs.Common.{nat_le, ◌||◌, ◌&&◌, ◌++◌, ◌∷◌, [], ◌+◌, ◌∙◌, drop, sym, ap, subst, arith, cond}
 use Rattle.std.proofs.lemmas.List.{take_rest}
+use Rattle.std.specs.List.{list_any}
 use Rattle.cidr_filter.specs.CommandLines.{Begin, inputs_among}
-use Rattle.cidr_filter.specs.Options.{is_list, is_input, field_said, separator_said, bad_said, inverts_in, counts_in}
+use Rattle.cidr_filter.specs.Options.{is_list, is_input, field_said, separator_said, bad_said, inverts_in, counts_in, is_longest}
 use Rattle.cidr_filter.specs.declared.filter.Bad.TheVariants as bads
-use Rattle.cidr_filter.proofs.Requests.{begin_more, fold_more, any_more, no_files, no_list, inputs_twice, option_within, at_most_one}
+use Rattle.cidr_filter.proofs.Requests.{begin_more, fold_more, any_more, no_files, longest_beside, no_list, inputs_twice, option_within, at_most_one}
 use Rattle.cidr_filter.proofs.command_line.request_of.Goals as goal
 use Rattle.cidr_filter.proofs.command_line.request_of.Goals.{else-has_list-via-then-has_list+else-at_most_one, else-has_list-via-else-has_list}
 
@@ -28,8 +29,17 @@ options-preserved c =
         c.with_choice-request.ensures.bad ∙ fold_more bad_said bads.Drop c.options.request.bad said.0 choice said.6,
         c.with_choice-request.ensures.inverts ∙ any_more inverts_in c.options.request.inverts said.0 choice said.7,
         c.with_choice-request.ensures.counts ∙ any_more counts_in c.options.request.counts said.0 choice said.8,
+        c.with_choice-request.ensures.longest ∙ any_more is_longest c.options.request.longest said.0 choice said.9,
       );
     }
+
+pub returns-then-is_crossed-clause-asked : goal.returns-then-is_crossed-clause-asked
+returns-then-is_crossed-clause-asked c =
+    let said = c.options.invariant.said in
+    longest_beside c.args.words.now said.0 (drop c.options.at c.args.words.now) said.1 (sym c.choice_at.ensures ∙ c.in_default.is)
+    (ap (λ b. b && (list_any inverts_in said.0 || list_any counts_in said.0)) (sym said.9)
+    ∙ ap (λ b. c.options.request.longest && (b || list_any counts_in said.0)) (sym said.7)
+    ∙ ap (λ b. c.options.request.longest && (c.options.request.inverts || b)) (sym said.8) ∙ sym c.is_crossed.ensures ∙ c.if-is_crossed.true)
 
 pub returns-in_default-files_from-clause-asked : goal.returns-in_default-files_from-clause-asked
 returns-in_default-files_from-clause-asked c =

@@ -2,7 +2,7 @@ use Rattle.std.proofs.Common.{◌≡◌, ◌-◌, ◌≤◌, List, length, drop}
 use Rattle.std.specs.Prelude.{fold}
 use Rattle.std.specs.List.{count_by, list_any}
 use Rattle.cidr_filter.specs.CommandLines.{Begin}
-use Rattle.cidr_filter.specs.Options.{is_list, is_input, field_said, separator_said, bad_said, inverts_in, counts_in}
+use Rattle.cidr_filter.specs.Options.{is_list, is_input, field_said, separator_said, bad_said, inverts_in, counts_in, is_longest}
 use Rattle.cidr_filter.specs.declared.filter.Bad.TheVariants as bads
 use Rattle.cidr_filter.specs.declared.options.Choice.{Choice}
 use Rattle.cidr_filter.proofs.command_line.request_of.Given as goal
@@ -15,7 +15,7 @@ invariant-options l = record {
       × (l.has_list ≡ list_any is_list options) × (l.inputs ≡ count_by is_input options)
       × (l.request.field ≡ fold field_said 1 options) × (l.request.separator ≡ fold separator_said 32 options)
       × (l.request.bad ≡ fold bad_said bads.Drop options) × (l.request.inverts ≡ list_any inverts_in options)
-      × (l.request.counts ≡ list_any counts_in options);
+      × (l.request.counts ≡ list_any counts_in options) × (l.request.longest ≡ list_any is_longest options);
 }
 
 abbrev pub decreases-options : goal.decreases-options

@@ -3,7 +3,7 @@ use Rattle.line_engine.specs.Outputs.{writer_of, waits_in, AppendsBeginning}
 use Rattle.line_engine.proofs.Putting.{begins_within}
 use Rattle.cidr_filter.proofs.Filtering.{put_two_ok}
 use Rattle.cidr_filter.proofs.Stopping.{on_err, begins_after_ok}
-use Rattle.cidr_filter.proofs.log.print_line.Goals as goal
+use Rattle.cidr_filter.proofs.printing.put_line.Goals as goal
 
 pub returns-clause-ok : goal.returns-clause-ok
 returns-clause-ok g c =

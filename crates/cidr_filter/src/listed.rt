@@ -1,0 +1,91 @@
+//! The networks of the lists, and what they tell of an address.
+ghost use Rattle.std.specs.Prelude.{◌↔◌, IsTrue, map, IfOk, MatchOption};
+ghost use Rattle.cidr_filter.specs.Listed.{HasAddress, HasBlocksOf, IsLongestBlock, NoBlockHolds};
+
+use ipnetwork::{IpAddr, IpNetwork, Ipv4Network, Ipv6Network};
+use ipnetwork_family::CidrNetwork;
+use ipnetwork_sets::AddressSet;
+use ipnetwork_table::PrefixTable;
+use std::alloc::{AllocError, Global};
+
+/// The networks of lists.
+#[derive(Debug, Drop)]
+pub enum Listed {
+    /// Their addresses.
+    Addresses(Sets),
+    /// Their blocks.
+    Blocks(Tables),
+}
+
+/// The addresses of networks, by family.
+#[derive(Debug, Drop)]
+pub struct Sets {
+    pub(crate) v4: AddressSet<Ipv4Network>,
+    pub(crate) v6: AddressSet<Ipv6Network>,
+}
+
+/// The blocks of networks, by family.
+#[derive(Debug, Drop)]
+pub struct Tables {
+    pub(crate) v4: PrefixTable<Ipv4Network, ()>,
+    pub(crate) v6: PrefixTable<Ipv6Network, ()>,
+}
+
+impl Sets {
+    /// Whether the address is one of them.
+    pub(crate) fn contains(&self, address: IpAddr) -> bool
+        ensures { IsTrue result ↔ HasAddress self.now address }
+    {
+        match address {
+            IpAddr::V4(address) => self.v4.contains(address),
+            IpAddr::V6(address) => self.v6.contains(address),
+        }
+    }
+}
+
+impl Tables {
+    /// The blocks of these networks.
+    pub(crate) fn of(
+        alloc: Global,
+        v4: &[Ipv4Network],
+        v6: &[Ipv6Network],
+    ) -> Result<Tables, AllocError>
+        ensures v4 { IfOk result (λ tables. HasBlocksOf 32 v4.now tables.v4) }
+        ensures v6 { IfOk result (λ tables. HasBlocksOf 128 v6.now tables.v6) }
+    {
+        Ok(Tables {
+            v4: table_of(alloc, v4)?,
+            v6: table_of(alloc, v6)?,
+        })
+    }
+
+    /// The block of greatest prefix length that holds the address.
+    pub(crate) fn longest(&self, address: IpAddr) -> Option<IpNetwork>
+        ensures { MatchOption result (NoBlockHolds self.now address) (IsLongestBlock self.now address) }
+    {
+        match address {
+            IpAddr::V4(address) => match self.v4.lookup(address) {
+                Some((block, _)) => Some(IpNetwork::V4(block)),
+                None => None,
+            },
+            IpAddr::V6(address) => match self.v6.lookup(address) {
+                Some((block, _)) => Some(IpNetwork::V6(block)),
+                None => None,
+            },
+        }
+    }
+}
+
+// The blocks of networks of one family.
+fn table_of<N: CidrNetwork>(
+    alloc: Global,
+    networks: &[N],
+) -> Result<PrefixTable<N, ()>, AllocError>
+    ensures { IfOk result (λ table. HasBlocksOf N.WIDTH (map N.pair networks.now) table) }
+{
+    let mut table = PrefixTable::new(alloc);
+    for network in networks {
+        table.insert(*network, ())?;
+    }
+    Ok(table)
+}

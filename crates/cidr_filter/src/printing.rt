@@ -1,0 +1,92 @@
+//! A line is printed.
+ghost use Rattle.std.specs.Prelude.{◌≡◌, ◌++◌, ◌∷◌, [], OnOk, OnErr, IsTrue};
+ghost use Rattle.line_engine.specs.Outputs.{writer_of, waits_in, output_failed, Puts, AppendsBeginning};
+ghost use Rattle.cidr_filter.specs.Filters.{mark_of, block_text, block_in};
+
+use crate::filter::Verdict;
+use crate::listed::Listed;
+use ipnetwork::IpNetwork;
+use line_engine::fault::RunFault;
+use line_engine::output::Output;
+use std::io::Write;
+
+/// Writes a line of this verdict and a line feed, and before it the block that holds its address, if the lists tell
+/// blocks.
+pub(crate) fn print_line<W: Write>(
+    listed: &Listed,
+    verdict: &Verdict,
+    line: &[u8],
+    output: &mut Output<'_, W>,
+) -> Result<(), RunFault>
+    ensures ok { OnOk result (Puts (W.contents (writer_of output.old)) (waits_in output.old) (W.contents (writer_of output.new)) (waits_in output.new)
+        (mark_of listed.now verdict.now ++ (line.now ++ 10 ∷ []))) }
+    ensures err { OnErr result (IsTrue (output_failed output.new)) }
+    ensures beginning { OnErr result (AppendsBeginning (W.contents (writer_of output.old)) (W.contents (writer_of output.new))
+        (waits_in output.old ++ (mark_of listed.now verdict.now ++ (line.now ++ 10 ∷ [])))) }
+{
+    put_mark(listed, verdict, output)?;
+    put_line(line, output)
+}
+
+// Writes a line and a line feed.
+fn put_line<W: Write>(line: &[u8], output: &mut Output<'_, W>) -> Result<(), RunFault>
+    ensures ok { OnOk result (Puts (W.contents (writer_of output.old)) (waits_in output.old) (W.contents (writer_of output.new)) (waits_in output.new) (line.now ++ 10 ∷ [])) }
+    ensures err { OnErr result (IsTrue (output_failed output.new)) }
+    ensures beginning { OnErr result (AppendsBeginning (W.contents (writer_of output.old)) (W.contents (writer_of output.new)) (waits_in output.old ++ (line.now ++ 10 ∷ []))) }
+{
+    output.put(line)?;
+    output.put(b"\n")
+}
+
+// Writes what stands before a line of this verdict.
+fn put_mark<W: Write>(
+    listed: &Listed,
+    verdict: &Verdict,
+    output: &mut Output<'_, W>,
+) -> Result<(), RunFault>
+    ensures ok { OnOk result (Puts (W.contents (writer_of output.old)) (waits_in output.old) (W.contents (writer_of output.new)) (waits_in output.new) (mark_of listed.now verdict.now)) }
+    ensures err { OnErr result (IsTrue (output_failed output.new)) }
+    ensures beginning { OnErr result (AppendsBeginning (W.contents (writer_of output.old)) (W.contents (writer_of output.new)) (waits_in output.old ++ mark_of listed.now verdict.now)) }
+{
+    match listed {
+        Listed::Addresses(_) => Ok(()),
+        Listed::Blocks(_) => put_block(block_in(verdict), output),
+    }
+}
+
+// Writes a block and a tab, or a minus sign for none.
+fn put_block<W: Write>(
+    block: Option<IpNetwork>,
+    output: &mut Output<'_, W>,
+) -> Result<(), RunFault>
+    ensures ok { OnOk result (Puts (W.contents (writer_of output.old)) (waits_in output.old) (W.contents (writer_of output.new)) (waits_in output.new) (block_text block ++ 9 ∷ [])) }
+    ensures err { OnErr result (IsTrue (output_failed output.new)) }
+    ensures beginning { OnErr result (AppendsBeginning (W.contents (writer_of output.old)) (W.contents (writer_of output.new)) (waits_in output.old ++ (block_text block ++ 9 ∷ []))) }
+{
+    put_text(block, output)?;
+    output.put(b"\t")
+}
+
+// Writes a block, or a minus sign for none.
+fn put_text<W: Write>(block: Option<IpNetwork>, output: &mut Output<'_, W>) -> Result<(), RunFault>
+    ensures ok { OnOk result (Puts (W.contents (writer_of output.old)) (waits_in output.old) (W.contents (writer_of output.new)) (waits_in output.new) (block_text block)) }
+    ensures err { OnErr result (IsTrue (output_failed output.new)) }
+    ensures beginning { OnErr result (AppendsBeginning (W.contents (writer_of output.old)) (W.contents (writer_of output.new)) (waits_in output.old ++ block_text block)) }
+{
+    match block {
+        Some(block) => output.put(block.canonical().as_str().as_bytes()),
+        None => output.put(b"-"),
+    }
+}
+
+// The block that the lists tell of a line of this verdict.
+fn block_in(verdict: &Verdict) -> Option<IpNetwork>
+    ensures { result ≡ block_in verdict.now }
+{
+    match *verdict {
+        Verdict::Inside(block) => block,
+        Verdict::Outside => None,
+        Verdict::Bad => None,
+        Verdict::TooLong => None,
+    }
+}
