@@ -1,6 +1,6 @@
 -- What the engine says of a list that is read.
 use Rattle.std.proofs.Common.{◌≡◌, ℕ, List, subst}
-use Rattle.std.specs.Prelude.{Option, None, Some, Result, Ok, Err, OnOk, IfSome}
+use Rattle.std.specs.Prelude.{Option, Some, Result, Ok, Err, OnOk, IfSome}
 use Rattle.std.specs.Io.KnownBytes.{Appends}
 use Rattle.std.specs.Str.Lines.{lines}
 use Rattle.line_engine.specs.Answers.{LineGets, WritesAll, WritesFirst}

@@ -1,5 +1,5 @@
 -- Merges of parts.
-use Rattle.std.proofs.Common.{◌↔◌, ◌⊎◌, inl, inr, ⊎_elim, ℕ, List, ◌++◌}
+use Rattle.std.proofs.Common.{inl, inr, ⊎_elim, ℕ, List, ◌++◌}
 use Rattle.ipnetwork_family.specs.Network.{Network}
 use Rattle.ipnetwork_blocks.specs.Aggregate.{InUnion, SameUnion}
 use Rattle.ipnetwork_blocks.specs.AggregateLaws.{AggregateHasUnion, AggregateIsOfUnion}

@@ -11,7 +11,7 @@ use Rattle.list_entries.specs.Entries.{ReadsEntry}
 use Rattle.list_entries.specs.Laws.{OneReading}
 use Rattle.list_entries.specs.declared.entry.Entry.{Entry}
 use Rattle.list_entries.specs.declared.entry.EntryFault.{EntryFault}
-use Rattle.address_lists.specs.Lists.{ReadLists, HasAddress, Names, at_next_line, refusing, Gains, RunsOut, TakesReading, TakesLine, Takes, TakesLines, LineNames, LinesName, LinesAddWhatTheyName}
+use Rattle.address_lists.specs.Lists.{ReadLists, HasAddress, Names, at_next_line, refusing, TakesReading, TakesLine, Takes, TakesLines, LineNames, LinesName, LinesAddWhatTheyName}
 use Rattle.address_lists.specs.Private.Taking.{MayTake}
 use Rattle.address_lists.specs.ReadBy.{read_by}
 use Rattle.address_lists.specs.declared.list_reader.ListReader.{ListReader}

@@ -15,7 +15,6 @@ use Rattle.address_lists.specs.Added.{AddsEntry}
 use Rattle.address_lists.specs.Refusals.{Refused, with_refusal}
 use Rattle.address_lists.specs.declared.fault.LineFault.{LineFault}
 use Rattle.address_lists.specs.declared.fault.LineFault.TheVariants as faults
-use Rattle.address_lists.specs.declared.refusals.Refusal.{Refusal}
 
 -- what was read of lists: the networks of each family, the refused lines, the number of the list and of the line that
 -- was read last, and whether there was no memory for a network

@@ -1,7 +1,7 @@
 -- The parts of a log.
 use Rattle.std.proofs.Common.{◌≡◌, ℕ, ◌+◌, Bool, List, [], ◌∷◌, ◌++◌, inl, inr, sym, ap, subst, ◌∙◌, arith, append_assoc}
 use Rattle.line_engine.proofs.BytesLemmas.{HasNo, HasNo-push}
-use Rattle.cidr_filter.specs.Filters.{is_selected, output_of, Filters}
+use Rattle.cidr_filter.specs.Filters.{output_of, Filters}
 use Rattle.cidr_filter.specs.Laws.{OutputsOfPartsFollow}
 use Rattle.cidr_filter.specs.Lines.{LogLine, log_lines}
 use Rattle.cidr_filter.specs.declared.filter.Filter.{Filter}

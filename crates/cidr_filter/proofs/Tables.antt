@@ -1,5 +1,5 @@
 -- The blocks of networks in a table, and the longest of them.
-use Rattle.std.proofs.Common.{◌≡◌, ◌↔◌, ◌⊎◌, ◌+◌, ◌≤◌, ⊎_elim, ℕ, length, map, take, Bool, true, false, cond, List, [], ◌∷◌, ◌++◌, refl, sym, ap, subst, ◌∙◌, arith, true≢false}
+use Rattle.std.proofs.Common.{◌≡◌, ◌↔◌, ◌+◌, ◌≤◌, ⊎_elim, ℕ, length, map, take, true, false, cond, List, [], ◌∷◌, ◌++◌, refl, sym, ap, subst, ◌∙◌, true≢false}
 use Rattle.std.specs.Prelude.{None, Some, Option, IsSome, is_some}
 use Rattle.std.specs.FinMap.{FinMap, get, insert, empty, get-empty, get-insert}
 use Rattle.std.specs.List.{Contains}
@@ -31,18 +31,18 @@ module _ {V : Type 0} (w : ℕ) (t : FinMap network_cmp V) (networks : List Netw
       elim (eq_by_cmp network_cmp m key) as (λ b. eq_by_cmp network_cmp m key ≡ b → get (insert t key v) m ≡ cond b (Some v) (get t m)
       → IsSome (get (insert t key v) m) ↔ ((k : Network) × Contains (networks ++ n ∷ []) k × (block_of w k ≡ m))) [
         | true ↦ λ at is. (
-            (λ stored. (n, Contains-append_right networks (n ∷ []) n (contains_head n []), sym (one_network m key (tie_of _ at)))),
-            (λ k. subst IsSome (sym is) (some_is v)),
-          )
+          (λ stored. (n, Contains-append_right networks (n ∷ []) n (contains_head n []), sym (one_network m key (tie_of _ at)))),
+          (λ k. subst IsSome (sym is) (some_is v)),
+        )
         | false ↦ λ apart is. (
-            (λ stored. (let p = (has m).0 (subst IsSome is stored) in (p.0, Contains-append_left networks (n ∷ []) p.0 p.1, p.2))),
-            (λ k. subst IsSome (sym is) (⊎_elim
-                (λ (c : Contains networks k.0). (has m).1 (k.0, c, k.2))
-                (λ (c : Contains (n ∷ []) k.0). ⊎_elim
-                (λ (e : n ≡ k.0). absurd (true≢false (sym (subst (λ (x : Network). eq_by_cmp network_cmp m x ≡ true) (sym (ap (block_of w) e ∙ k.2)) ((eq_by_cmp_equiv total).refl m)) ∙ apart)))
-                (λ (d : Contains [] k.0). absurd (contains_nil k.0 d)) (contains_cons n [] k.0 c))
-                (Contains-append_cases networks (n ∷ []) k.0 k.1))),
-          )
+          (λ stored. (let p = (has m).0 (subst IsSome is stored) in (p.0, Contains-append_left networks (n ∷ []) p.0 p.1, p.2))),
+          (λ k. subst IsSome (sym is) (⊎_elim
+              (λ (c : Contains networks k.0). (has m).1 (k.0, c, k.2))
+              (λ (c : Contains (n ∷ []) k.0). ⊎_elim
+              (λ (e : n ≡ k.0). absurd (true≢false (sym (subst (λ (x : Network). eq_by_cmp network_cmp m x ≡ true) (sym (ap (block_of w) e ∙ k.2)) ((eq_by_cmp_equiv total).refl m)) ∙ apart)))
+              (λ (d : Contains [] k.0). absurd (contains_nil k.0 d)) (contains_cons n [] k.0 c))
+              (Contains-append_cases networks (n ∷ []) k.0 k.1))),
+        )
       ] refl (get-insert total t key v m)
 
 -- so is the next of some networks

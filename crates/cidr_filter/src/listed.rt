@@ -77,10 +77,7 @@ impl Tables {
 }
 
 // The blocks of networks of one family.
-fn table_of<N: CidrNetwork>(
-    alloc: Global,
-    networks: &[N],
-) -> Result<PrefixTable<N, ()>, AllocError>
+fn table_of<N: CidrNetwork>(alloc: Global, networks: &[N]) -> Result<PrefixTable<N, ()>, AllocError>
     ensures { IfOk result (λ table. HasBlocksOf N.WIDTH (map N.pair networks.now) table) }
 {
     let mut table = PrefixTable::new(alloc);

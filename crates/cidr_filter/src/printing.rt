@@ -55,10 +55,7 @@ fn put_mark<W: Write>(
 }
 
 // Writes a block and a tab, or a minus sign for none.
-fn put_block<W: Write>(
-    block: Option<IpNetwork>,
-    output: &mut Output<'_, W>,
-) -> Result<(), RunFault>
+fn put_block<W: Write>(block: Option<IpNetwork>, output: &mut Output<'_, W>) -> Result<(), RunFault>
     ensures ok { OnOk result (Puts (W.contents (writer_of output.old)) (waits_in output.old) (W.contents (writer_of output.new)) (waits_in output.new) (block_text block ++ 9 ∷ [])) }
     ensures err { OnErr result (IsTrue (output_failed output.new)) }
     ensures beginning { OnErr result (AppendsBeginning (W.contents (writer_of output.old)) (W.contents (writer_of output.new)) (waits_in output.old ++ (block_text block ++ 9 ∷ []))) }

@@ -1,4 +1,4 @@
-use Rattle.std.proofs.Common.{◌+◌, ◌++◌, ◌∷◌, [], ◌∙◌, ap, sym, take, arith}
+use Rattle.std.proofs.Common.{◌++◌, ◌∷◌, [], ◌∙◌, ap, sym, take, arith}
 use Rattle.std.proofs.lemmas.List.{take_more}
 use Rattle.cidr_filter.proofs.Tables.{no_blocks, one_block_more, all_blocks}
 use Rattle.cidr_filter.proofs.listed.table_of.Goals as goal
