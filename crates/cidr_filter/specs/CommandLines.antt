@@ -28,6 +28,10 @@ abbrev pub inputs_among : {Z : Type 0} → List (String Z) → ℕ
 inputs_among [] = 1
 inputs_among (file ∷ files) = count_by (is (codes "-")) (file ∷ files)
 
+-- `--longest` stands beside `-v` or `-c`
+abbrev pub is_crossed : Request → Bool
+is_crossed request = request.longest && (request.inverts || request.counts)
+
 -- the words are options, as many as there are, and FILEs. There is a list, standard input is named once at most, and
 -- `--longest` stands beside no `-v` and no `-c`. The request has the last of each option, and begins its FILEs there
 pub record Says {Z : Type 0} (words : List (String Z)) (request : Request) : Type 0 where
@@ -45,7 +49,7 @@ pub record Says {Z : Type 0} (words : List (String Z)) (request : Request) : Typ
   pub inverts : request.inverts ≡ list_any inverts_in options
   pub counts : request.counts ≡ list_any counts_in options
   pub longest : request.longest ≡ list_any is_longest options
-  pub alone : (request.longest && (request.inverts || request.counts)) ≡ false
+  pub alone : is_crossed request ≡ false
   pub place : drop request.files words ≡ files
 
 -- the words ask for nothing that a request says

@@ -1,7 +1,7 @@
 //! What the arguments ask for.
-ghost use Rattle.std.specs.Prelude.{◌≡◌, ◌+◌, ◌≤◌, ◌||◌, ◌&&◌, None, Some, drop, length, nat_le, if◌then◌else◌, IfSome, MatchOption};
+ghost use Rattle.std.specs.Prelude.{◌≡◌, ◌+◌, ◌≤◌, ◌||◌, None, Some, drop, length, nat_le, if◌then◌else◌, IfSome, MatchOption};
 ghost use Rattle.std.specs.List.{list_all};
-ghost use Rattle.cidr_filter.specs.CommandLines.{is_only, is_plain, files_among, inputs_among, Says, AsksNothing, Asks};
+ghost use Rattle.cidr_filter.specs.CommandLines.{is_only, is_crossed, is_plain, files_among, inputs_among, Says, AsksNothing, Asks};
 ghost use Rattle.cidr_filter.specs.Options.{option_of, behind_option, is_list, is_input, field_said, separator_said, bad_said, inverts_in, counts_in, is_longest};
 ghost use Rattle.cidr_filter.specs.Private.Requests.{IfFilter};
 
@@ -104,7 +104,7 @@ fn request_of(words: &[String]) -> Option<Request>
 
 // Whether `--longest` stands beside `-v` or `-c`.
 fn is_crossed(request: Request) -> bool
-    ensures { result ≡ (request.longest && (request.inverts || request.counts)) }
+    ensures { result ≡ is_crossed request }
 {
     request.longest && (request.inverts || request.counts)
 }
