@@ -54,20 +54,24 @@ enum {
     IPNETWORK_ADDRESS = 2,      /* what stands before the '/', or the whole text where there is none, is no address of
                                    the family; of ipnetwork_read: the text is no network of either family */
     IPNETWORK_PREFIX = 3,       /* no prefix length of the family, whether a text, an argument or a struct has it */
-    IPNETWORK_SHORT_BUFFER = 4, /* no room for the text and a zero byte */
+    IPNETWORK_SHORT_BUFFER = 4, /* no room for the text and a zero byte, or for as many rows */
     IPNETWORK_NO_MASK = 5,      /* the address is no mask */
     IPNETWORK_NO_MEMBER = 6,    /* the network has no member of that number */
-    IPNETWORK_NO_FAMILY = 7     /* a family that is neither 4 nor 6, or an address of neither 4 nor 16 octets */
+    IPNETWORK_NO_FAMILY = 7,    /* a family that is neither 4 nor 6, or an address of neither 4 nor 16 octets */
+    IPNETWORK_NO_OFFSETS = 8    /* offsets of a column that fall, or pass the end of its texts */
 };
 
 /* IPNETWORK_CHECKED: the fault has to be looked at, and no pointer is NULL. IPNETWORK_CHECKED_AT: of these arguments
- * none is NULL, and the others may be beside a length of 0. IPNETWORK_ALONE: no other pointer reaches it. */
+ * none is NULL, and the others may be beside a length of 0. IPNETWORK_CHECKED_FAULT: each may be beside a length of 0.
+ * IPNETWORK_ALONE: no other pointer reaches it. */
 #if defined(__GNUC__)
 #define IPNETWORK_CHECKED __attribute__((warn_unused_result, nonnull))
 #define IPNETWORK_CHECKED_AT(...) __attribute__((warn_unused_result, nonnull(__VA_ARGS__)))
+#define IPNETWORK_CHECKED_FAULT __attribute__((warn_unused_result))
 #else
 #define IPNETWORK_CHECKED
 #define IPNETWORK_CHECKED_AT(...)
+#define IPNETWORK_CHECKED_FAULT
 #endif
 #if defined(__cplusplus)
 #define IPNETWORK_ALONE
@@ -266,6 +270,26 @@ IPNETWORK_CHECKED_AT(3) ipnetwork_fault ipnetwork_v4_aggregate(ipnetwork_v4 *IPN
 IPNETWORK_CHECKED_AT(3) ipnetwork_fault ipnetwork_v6_aggregate(ipnetwork_v6 *IPNETWORK_ALONE networks,
                                                                 size_t network_count,
                                                                 size_t *IPNETWORK_ALONE block_count);
+
+/* The networks, or the addresses, of a column of texts, in the layout of Arrow: texts_length bytes with all texts, one
+ * behind the other, and offset_count offsets. Text i goes from offsets[i] to offsets[i + 1], so that there is one text
+ * less than offsets, and none if there are none; Arrow's offsets are of 32 bits with a sign, and none is negative.
+ * networks[i] and faults[i] are what the call for one text leaves and returns of text i: a text that names no network
+ * leaves its struct as it was, and stops nothing. What stands behind the last of them is not written.
+ * IPNETWORK_NO_OFFSETS where an offset is less than the one before, or greater than texts_length; else
+ * IPNETWORK_SHORT_BUFFER where there is room for fewer networks, or faults, than texts: then nothing is written. */
+IPNETWORK_CHECKED_FAULT ipnetwork_fault ipnetwork_v4_read_column(const char *texts, size_t texts_length, const uint32_t *offsets,
+    size_t offset_count, ipnetwork_v4 *IPNETWORK_ALONE networks, size_t network_count, uint8_t *IPNETWORK_ALONE faults,
+    size_t fault_count);
+IPNETWORK_CHECKED_FAULT ipnetwork_fault ipnetwork_v6_read_column(const char *texts, size_t texts_length, const uint32_t *offsets,
+    size_t offset_count, ipnetwork_v6 *IPNETWORK_ALONE networks, size_t network_count, uint8_t *IPNETWORK_ALONE faults,
+    size_t fault_count);
+IPNETWORK_CHECKED_FAULT ipnetwork_fault ipnetwork_read_column(const char *texts, size_t texts_length, const uint32_t *offsets,
+    size_t offset_count, ipnetwork_ip *IPNETWORK_ALONE networks, size_t network_count, uint8_t *IPNETWORK_ALONE faults,
+    size_t fault_count);
+IPNETWORK_CHECKED_FAULT ipnetwork_fault ipnetwork_address_read_column(const char *texts, size_t texts_length, const uint32_t *offsets,
+    size_t offset_count, ipnetwork_address *IPNETWORK_ALONE addresses, size_t address_count, uint8_t *IPNETWORK_ALONE faults,
+    size_t fault_count);
 
 #ifdef __cplusplus
 }

@@ -143,9 +143,10 @@ static void nothing(void) {
 static void fault_texts(void) {
     static const char *const wanted[] = {"no fault", "more than one slash", "no address",
                                          "no prefix length of the family", "no room for the text", "no mask",
-                                         "no member of this number", "no family", "unknown fault"};
+                                         "no member of this number", "no family", "no offsets of the column",
+                                         "unknown fault"};
     for (uint32_t fault = 0; fault < 300; fault++) {
-        const char *text = wanted[fault < 8 ? fault : 8];
+        const char *text = wanted[fault < 9 ? fault : 9];
         char buffer[IPNETWORK_FAULT_TEXT];
         size_t length;
         CHECK(text, ipnetwork_fault_text(fault, buffer, sizeof buffer, &length) == YES);
@@ -493,6 +494,76 @@ static void aggregates(void) {
     CHECK("all", is_blank(all[0].address, 4) && all[1].prefix <= 32 && all[2].prefix <= 32);
 }
 
+/* Columns of texts, in blocks of exactly their size: each row as the call for its text answers, whatever the others are. */
+static void columns_of_texts(void) {
+    static const size_t count = sizeof rows / sizeof *rows;
+    for (size_t shift = 0; shift < count; shift++) {
+        char bytes[1 << 14];
+        uint32_t at = 0, *offsets = malloc((count + 1) * sizeof *offsets);
+        ipnetwork_v4 *fours = malloc(count * sizeof *fours);
+        ipnetwork_v6 *sixes = malloc(count * sizeof *sixes);
+        ipnetwork_ip *ips = malloc(count * sizeof *ips);
+        ipnetwork_address *addresses = malloc(count * sizeof *addresses);
+        uint8_t *faults = malloc(4 * count);
+        for (size_t i = 0; i < count; i++) {
+            const char *text = rows[(i + shift) % count].text;
+            if (at + strlen(text) > sizeof bytes)
+                abort();
+            memcpy(bytes + at, text, strlen(text));
+            offsets[i] = at;
+            at += (uint32_t)strlen(text);
+        }
+        offsets[count] = at;
+        char *texts = block(bytes, at);
+        memset(fours, 0xa5, count * sizeof *fours);
+        memset(sixes, 0xa5, count * sizeof *sixes);
+        memset(ips, 0xa5, count * sizeof *ips);
+        memset(addresses, 0xa5, count * sizeof *addresses);
+        memset(faults, 77, 4 * count);
+        CHECK("column", ipnetwork_v4_read_column(texts, at, offsets, count + 1, fours, count - 1, faults, count) == IPNETWORK_SHORT_BUFFER);
+        CHECK("column", ipnetwork_v4_read_column(texts, at, offsets, count + 1, fours, count, faults, count - 1) == IPNETWORK_SHORT_BUFFER);
+        CHECK("column", ipnetwork_v4_read_column(texts, at - 1, offsets, count + 1, fours, count, faults, count) == IPNETWORK_NO_OFFSETS);
+        uint32_t kept = offsets[shift];
+        offsets[shift] = offsets[shift + 1] + 1;
+        CHECK("column", ipnetwork_read_column(texts, at, offsets, count + 1, ips, count, faults, count) == IPNETWORK_NO_OFFSETS);
+        offsets[shift] = kept;
+        for (size_t i = 0; i < 4 * count; i++)
+            CHECK("written", faults[i] == 77);
+        CHECK("column", ipnetwork_v4_read_column(texts, at, offsets, count + 1, fours, count, faults, count) == YES);
+        CHECK("column", ipnetwork_v6_read_column(texts, at, offsets, count + 1, sixes, count, faults + count, count) == YES);
+        CHECK("column", ipnetwork_read_column(texts, at, offsets, count + 1, ips, count, faults + 2 * count, count) == YES);
+        CHECK("column", ipnetwork_address_read_column(texts, at, offsets, count + 1, addresses, count, faults + 3 * count, count) == YES);
+        for (size_t i = 0; i < count; i++) {
+            const char *text = rows[(i + shift) % count].text;
+            ipnetwork_v4 four;
+            ipnetwork_v6 six;
+            ipnetwork_ip ip;
+            ipnetwork_address address;
+            memset(&four, 0xa5, sizeof four);
+            memset(&six, 0xa5, sizeof six);
+            memset(&ip, 0xa5, sizeof ip);
+            memset(&address, 0xa5, sizeof address);
+            CHECK(text, read_v4(text, &four) == faults[i] && memcmp(&four, &fours[i], sizeof four) == 0);
+            CHECK(text, read_v6(text, &six) == faults[count + i] && memcmp(&six, &sixes[i], sizeof six) == 0);
+            CHECK(text, read_ip(text, &ip) == faults[2 * count + i] && memcmp(&ip, &ips[i], sizeof ip) == 0);
+            CHECK(text, ipnetwork_address_read(text, strlen(text), &address) == faults[3 * count + i]);
+            CHECK(text, memcmp(&address, &addresses[i], sizeof address) == 0);
+        }
+        free(offsets);
+        free(fours);
+        free(sixes);
+        free(ips);
+        free(addresses);
+        free(faults);
+        free(texts);
+    }
+    uint32_t none = 0;
+    CHECK("NULL", ipnetwork_v4_read_column(NULL, 0, NULL, 0, NULL, 0, NULL, 0) == YES);
+    CHECK("NULL", ipnetwork_v6_read_column(NULL, 0, &none, 1, NULL, 0, NULL, 0) == YES);
+    none = 1;
+    CHECK("NULL", ipnetwork_read_column(NULL, 0, &none, 1, NULL, 0, NULL, 0) == IPNETWORK_NO_OFFSETS);
+}
+
 /* Families and addresses of either length. */
 static void either(void) {
     ipnetwork_ip four, six;
@@ -657,6 +728,7 @@ int main(void) {
     columns();
     lists();
     aggregates();
+    columns_of_texts();
     either();
     questions_of_either();
     refused_of_either();

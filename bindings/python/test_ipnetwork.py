@@ -1,5 +1,6 @@
 """Rows with known answers, and the differences between this module's grammar and that of ``ipaddress``."""
 
+import array
 import copy
 import ipaddress
 import pickle
@@ -183,6 +184,39 @@ class Questions(unittest.TestCase):
                 network.contains_column(column[1:])
             with self.assertRaises(TypeError):
                 network.contains_column("10.1.9.32")
+
+    def test_columns_of_texts(self):
+        texts = [text for text, _, _ in TEXTS] * 3 + ["2001:db8::1", "192.0.2.9"]
+        encoded = [text.encode("utf-8", "surrogatepass") for text in texts]
+        offsets = array.array("I", [0])
+        for text in encoded:
+            offsets.append(offsets[-1] + len(text))
+        column = b"".join(encoded)
+        faults_of = {FormatError: 1, AddressError: 2, PrefixError: 3}
+        for kind, step in ((IPv4Network, 5), (IPv6Network, 17)):
+            networks, faults = kind.read_column(column, offsets)
+            self.assertEqual((len(networks), len(faults)), (step * len(texts), len(texts)))
+            for row, text in enumerate(texts):
+                held = bytes(networks[row * step : (row + 1) * step])
+                try:
+                    network = kind(text)
+                except ipnetwork.NetworkError as error:
+                    self.assertEqual((faults[row], held), (faults_of[type(error)], bytes(step)), text)
+                else:
+                    self.assertEqual((faults[row], held), (0, network.ip.packed + bytes([network.prefixlen])), text)
+        addresses, faults = ipnetwork.read_address_column(bytearray(column), memoryview(offsets))
+        for row, text in enumerate(texts):
+            held = bytes(addresses[row * 17 : (row + 1) * 17])
+            try:
+                packed = ipaddress.ip_address(text).packed
+                self.assertEqual((faults[row], held), (0, packed.ljust(16, b"\0") + bytes([len(packed)])), text)
+            except ValueError:
+                self.assertEqual((faults[row], held), (2, bytes(17)), text)
+        self.assertEqual(IPv4Network.read_column(b"", array.array("I")), (b"", b""))
+        self.assertEqual(IPv4Network.read_column(b"", array.array("i", [0])), (b"", b""))
+        for wrong in (array.array("I", [0, 3]), array.array("I", [2, 1]), array.array("Q", [0, 1])):
+            with self.assertRaises(ValueError):
+                ipnetwork.read_address_column(b"::", wrong)
 
     def test_lists(self):
         texts = ["10.0.0.7/8", "2001:db8::/33", "192.0.2.0/25", "2001:db8:8000::/33"]

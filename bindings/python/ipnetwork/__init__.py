@@ -44,6 +44,7 @@ __all__ = [
     "PrefixError",
     "collapse_addresses",
     "ip_network",
+    "read_address_column",
 ]
 
 
@@ -106,6 +107,8 @@ def _load() -> ctypes.CDLL:
         raise ImportError(f"{path} is of another version than this module")
     library.ipnetwork_read.argtypes = [octets, size, pointer]
     library.ipnetwork_read.restype = word
+    library.ipnetwork_address_read_column.argtypes = [octets, size, pointer, size, pointer, size, pointer, size]
+    library.ipnetwork_address_read_column.restype = word
     for family in ("v4", "v6"):
         for name, arguments in (
             ("read", [octets, size, pointer]),
@@ -114,6 +117,7 @@ def _load() -> ctypes.CDLL:
             ("contains_column", [octets, pointer, size, pointer, size]),
             ("list_contains", [octets, size, octets, pointer]),
             ("aggregate", [pointer, size, pointer]),
+            ("read_column", [octets, size, pointer, size, pointer, size, pointer, size]),
             ("network", [octets, pointer]),
             ("broadcast", [octets, pointer]),
             ("mask", [octets, pointer]),
@@ -157,6 +161,7 @@ class _Network(Generic[Address]):
     _mask: ClassVar[Callable[..., int]]
     _mask_length: ClassVar[Callable[..., int]]
     _aggregate: ClassVar[Callable[..., int]]
+    _read_rows: ClassVar[Callable[..., int]]
 
     _key: bytes
     prefixlen: int
@@ -303,6 +308,22 @@ class _Network(Generic[Address]):
             _answered(self._column(self._key, given, count, room, count))
         return answers
 
+    @classmethod
+    def read_column(cls, texts: _Buffer, offsets: _Buffer) -> tuple[bytearray, bytearray]:
+        """The networks of a column of texts in Arrow's layout, and for each a byte that is 0 if its text names one.
+
+        ``texts`` has the bytes of all texts, one behind the other, and ``offsets`` 32-bit numbers: text i goes from
+        offset i to the next. Each network is its packed address and its prefix length; where there is none, zeros. A byte
+        other than 0 is 1, 2 or 3, for FormatError, AddressError or PrefixError. A text that names none stops nothing.
+        ValueError if the offsets fall, or pass the end.
+
+        >>> import array
+        >>> networks, faults = IPv4Network.read_column(b"10.0.0.0/8nothing", array.array("I", [0, 10, 17]))
+        >>> list(networks[:5]), list(faults)
+        ([10, 0, 0, 0, 8], [0, 2])
+        """
+        return _read_rows(cls._read_rows, cls._width + 1, texts, offsets)
+
     def _same_family(self, other: _Network[Address]) -> None:
         if not isinstance(other, _Network) or other.version != self.version:
             raise TypeError(f"{self!r} and {other!r} are not of one family")
@@ -401,6 +422,7 @@ class IPv4Network(_Network[IPv4Address]):
     _mask = _library.ipnetwork_v4_mask
     _mask_length = _library.ipnetwork_v4_prefix_of_mask
     _aggregate = _library.ipnetwork_v4_aggregate
+    _read_rows = _library.ipnetwork_v4_read_column
 
     def __contains__(self, address: object) -> bool:
         """Whether an address is a member of the network. No address of the other family is."""
@@ -430,6 +452,7 @@ class IPv6Network(_Network[IPv6Address]):
     _mask = _library.ipnetwork_v6_mask
     _mask_length = _library.ipnetwork_v6_prefix_of_mask
     _aggregate = _library.ipnetwork_v6_aggregate
+    _read_rows = _library.ipnetwork_v6_read_column
 
     def __contains__(self, address: object) -> bool:
         """Whether an address is a member of the network. No address of the other family is, and none with a zone."""
@@ -528,3 +551,35 @@ def _aggregate(kind: type[_Self], keys: bytes) -> Iterator[_Self]:
     _answered(kind._aggregate(room, len(keys) // step, ctypes.byref(count)))
     blocks = room.raw[: count.value * step]
     return (_of_key(kind, blocks[at : at + step]) for at in range(0, len(blocks), step))
+
+
+def read_address_column(texts: _Buffer, offsets: _Buffer) -> tuple[bytearray, bytearray]:
+    """The addresses of either family of a column of texts in Arrow's layout, as ``IPv4Network.read_column`` has it, and for
+    each a byte that is 0 if its text is one. Each address is 17 bytes: its octets, zeros behind those of an IPv4 address,
+    and how many they are, 4 or 16, or 0 where there is none.
+
+    >>> import array
+    >>> addresses, faults = read_address_column(b"8.8.8.8::1x", array.array("I", [0, 7, 10, 11]))
+    >>> [addresses[at + 16] for at in (0, 17, 34)], list(faults)
+    ([4, 16, 0], [0, 0, 2])
+    """
+    return _read_rows(_library.ipnetwork_address_read_column, 17, texts, offsets)
+
+
+def _read_rows(call: Callable[..., int], step: int, texts: _Buffer, offsets: _Buffer) -> tuple[bytearray, bytearray]:
+    given, places = memoryview(texts).cast("B"), memoryview(offsets)
+    if places.itemsize != 4:
+        raise ValueError(f"offsets are numbers of 32 bits, not of {places.itemsize * 8}")
+    places = places.cast("B")
+    starts = places.nbytes // 4
+    count = max(starts - 1, 0)
+    rows, faults = bytearray(count * step), bytearray(count)
+    text = bytes(given)
+    where = (ctypes.c_uint32 * starts).from_buffer_copy(places) if starts else None
+    room = (ctypes.c_ubyte * len(rows)).from_buffer(rows) if count else None
+    told = (ctypes.c_ubyte * count).from_buffer(faults) if count else None
+    fault = call(text, len(text), where, starts, room, count, told, count)
+    if fault == 8:
+        raise ValueError("the offsets fall, or pass the end of the texts")
+    _answered(fault)
+    return rows, faults

@@ -36,6 +36,20 @@ pub enum Fault {
     NoMask,
     /// The network is of the other family.
     Family,
+    /// The offsets of a column fall, or pass the end of its texts.
+    Offsets,
+}
+
+impl Fault {
+    /// The fault of a row of a column, of which 0 is none.
+    pub fn of_row(number: u8) -> Result<(), Fault> {
+        match number {
+            0 => Ok(()),
+            1 => Err(Fault::Format),
+            2 => Err(Fault::Address),
+            _ => Err(Fault::Prefix),
+        }
+    }
 }
 
 impl fmt::Display for Fault {
@@ -46,6 +60,7 @@ impl fmt::Display for Fault {
             Fault::Prefix => "no prefix length of the family",
             Fault::NoMask => "no mask",
             Fault::Family => "a network of the other family",
+            Fault::Offsets => "offsets that fall, or pass the end of the texts",
         })
     }
 }
@@ -136,6 +151,26 @@ mod c {
             count: usize,
             blocks: &mut usize,
         ) -> u32;
+        pub unsafe fn ipnetwork_v4_read_column(
+            texts: *const u8,
+            length: usize,
+            offsets: *const u32,
+            offset_count: usize,
+            networks: *mut V4,
+            rows: usize,
+            faults: *mut u8,
+            fault_rows: usize,
+        ) -> u32;
+        pub unsafe fn ipnetwork_v6_read_column(
+            texts: *const u8,
+            length: usize,
+            offsets: *const u32,
+            offset_count: usize,
+            networks: *mut V6,
+            rows: usize,
+            faults: *mut u8,
+            fault_rows: usize,
+        ) -> u32;
         pub safe fn ipnetwork_v4_network(n: &V4, address: &mut [u8; 4]) -> u32;
         pub safe fn ipnetwork_v6_network(n: &V6, address: &mut [u8; 16]) -> u32;
         pub safe fn ipnetwork_v4_broadcast(n: &V4, address: &mut [u8; 4]) -> u32;
@@ -180,6 +215,7 @@ fn result(number: u32) -> Result<(), Fault> {
         2 => Err(Fault::Address),
         3 => Err(Fault::Prefix),
         5 => Err(Fault::NoMask),
+        8 => Err(Fault::Offsets),
         other => unreachable!("fault {other} of a call that does not answer it"),
     }
 }
@@ -195,7 +231,7 @@ macro_rules! family {
         $(#[$doc:meta])* $name:ident, $octets:literal, $address:ident, $text:literal,
         $read:ident, $new:ident, $canonical:ident, $contains:ident, $network:ident, $broadcast:ident, $mask:ident,
         $prefix_of_mask:ident, $is_subnet_of:ident, $overlaps:ident, $compare:ident, $contains_column:ident,
-        $list_contains:ident, $aggregate:ident
+        $list_contains:ident, $aggregate:ident, $read_column:ident
     ) => {
         $(#[$doc])*
         #[derive(Clone, Copy, PartialEq, Eq, Hash, Debug)]
@@ -266,6 +302,27 @@ macro_rules! family {
                 // call leaves networks in all of them.
                 answered(unsafe { c::$aggregate(networks.as_mut_ptr().cast(), networks.len(), &mut blocks) });
                 &mut networks[..blocks]
+            }
+
+            /// Reads a column of texts in Arrow's layout: text i goes from offset i to the next. Network i is the one that
+            /// text i names, and fault i is 0; where it names none the network stays as it is, and `Fault::of_row` says
+            /// why. `Fault::Offsets` if the offsets fall, or pass the end. Panics if there are fewer networks or faults
+            /// than texts.
+            pub fn read_column(
+                texts: &[u8],
+                offsets: &[u32],
+                networks: &mut [Self],
+                faults: &mut [u8],
+            ) -> Result<(), Fault> {
+                let rows = offsets.len().saturating_sub(1);
+                assert!(networks.len() >= rows && faults.len() >= rows, "room for each text");
+                // SAFETY: slices are never null, and have as many elements, each of which is the struct that it wraps.
+                result(unsafe {
+                    c::$read_column(
+                        texts.as_ptr(), texts.len(), offsets.as_ptr(), offsets.len(),
+                        networks.as_mut_ptr().cast(), networks.len(), faults.as_mut_ptr(), faults.len(),
+                    )
+                })
             }
 
             /// The least member: the address with its host bits cleared.
@@ -359,7 +416,7 @@ family!(
     ipnetwork_v4_read, ipnetwork_v4_new, ipnetwork_v4_canonical, ipnetwork_v4_contains, ipnetwork_v4_network,
     ipnetwork_v4_broadcast, ipnetwork_v4_mask, ipnetwork_v4_prefix_of_mask, ipnetwork_v4_is_subnet_of,
     ipnetwork_v4_overlaps, ipnetwork_v4_compare, ipnetwork_v4_contains_column, ipnetwork_v4_list_contains,
-    ipnetwork_v4_aggregate
+    ipnetwork_v4_aggregate, ipnetwork_v4_read_column
 );
 
 family!(
@@ -369,7 +426,7 @@ family!(
     ipnetwork_v6_read, ipnetwork_v6_new, ipnetwork_v6_canonical, ipnetwork_v6_contains, ipnetwork_v6_network,
     ipnetwork_v6_broadcast, ipnetwork_v6_mask, ipnetwork_v6_prefix_of_mask, ipnetwork_v6_is_subnet_of,
     ipnetwork_v6_overlaps, ipnetwork_v6_compare, ipnetwork_v6_contains_column, ipnetwork_v6_list_contains,
-    ipnetwork_v6_aggregate
+    ipnetwork_v6_aggregate, ipnetwork_v6_read_column
 );
 
 impl Ipv4Network {

@@ -461,4 +461,46 @@ macro_rules! aggregates {
 }
 
 aggregates!(aggregates_v4, Ipv4Network, Ipv4Addr, u32, 32, "192.0.2.0");
-aggregates!(aggregates_v6, Ipv6Network, Ipv6Addr, u128, 128, "2001:db8::");
+aggregates!(
+    aggregates_v6,
+    Ipv6Network,
+    Ipv6Addr,
+    u128,
+    128,
+    "2001:db8::"
+);
+
+#[test]
+fn columns_of_texts() {
+    let texts = [
+        "10.1.9.32/16",
+        "x/y/z",
+        "",
+        "10.0.0.0/33",
+        "192.0.2.9",
+        "::/0",
+    ];
+    let mut offsets = vec![0];
+    for text in texts {
+        offsets.push(offsets[offsets.len() - 1] + text.len() as u32);
+    }
+    let column = texts.concat();
+    let mut networks = [Ipv4Network::new(Ipv4Addr::LOCALHOST, 32).unwrap(); 6];
+    let mut faults = [77; 6];
+    let read = |offsets: &[u32], networks: &mut [Ipv4Network], faults: &mut [u8]| {
+        Ipv4Network::read_column(column.as_bytes(), offsets, networks, faults)
+    };
+    assert_eq!(read(&offsets, &mut networks, &mut faults), Ok(()));
+    for (row, text) in texts.iter().enumerate() {
+        let alone = text.parse::<Ipv4Network>();
+        assert_eq!(Fault::of_row(faults[row]), alone.map(|_| ()), "{text}");
+        let wanted = alone.unwrap_or(Ipv4Network::from(Ipv4Addr::LOCALHOST));
+        assert_eq!(networks[row], wanted, "{text}");
+    }
+    let before = (networks, faults);
+    for wrong in [&[0, 1000][..], &[2, 1], &[1000]] {
+        assert_eq!(read(wrong, &mut networks, &mut faults), Err(Fault::Offsets));
+    }
+    assert_eq!((networks, faults), before);
+    assert_eq!(read(&[], &mut [], &mut []), Ok(()));
+}

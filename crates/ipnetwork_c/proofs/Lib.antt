@@ -1,6 +1,7 @@
 pub mod Buffers
 pub mod Examples
 pub mod Octets
+pub mod Offsets
 pub mod Families
 pub mod MemberCounts
 pub mod Truths

@@ -6,7 +6,7 @@ use Rattle.std.specs.declared.cmp.Ordering.TheVariants.{Less, Equal, Greater}
 use Rattle.ipnetwork_c.specs.Numbers.{order_number}
 use Rattle.ipnetwork_c.specs.Answers.{IsFlag}
 
-no_true : IsTrue false → ⊥
+pub no_true : IsTrue false → ⊥
 no_true t = cc
 
 pub says : (P : Type 0) (b : Bool) (byte : ℕ) → byte ≡ from_bool b → (IsTrue b ↔ P) → IsFlag P byte

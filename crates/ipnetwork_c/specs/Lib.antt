@@ -4,4 +4,5 @@ pub mod Answers
 pub mod Either
 pub mod Columns
 pub mod Lists
+pub mod TextColumns
 pub mod Private

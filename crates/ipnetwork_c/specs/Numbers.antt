@@ -37,6 +37,10 @@ no_member = 6
 abbrev pub no_family : ℕ
 no_family = 7
 
+-- offsets of a column that fall, or pass the end
+abbrev pub no_offsets : ℕ
+no_offsets = 8
+
 -- the cause for which a text is refused
 abbrev pub fault_number : CidrFault → ℕ
 fault_number Format = format
@@ -46,7 +50,7 @@ fault_number Prefix = prefix
 -- what a fault says, as bytes
 abbrev pub fault_text : ℕ → List ℕ
 fault_text fault =
-    if fault == ok then codes "no fault" else (if fault == format then codes "more than one slash" else (if fault == address then codes "no address" else (if fault == prefix then codes "no prefix length of the family" else (if fault == short_buffer then codes "no room for the text" else (if fault == no_mask then codes "no mask" else (if fault == no_member then codes "no member of this number" else (if fault == no_family then codes "no family" else codes "unknown fault")))))))
+    if fault == ok then codes "no fault" else (if fault == format then codes "more than one slash" else (if fault == address then codes "no address" else (if fault == prefix then codes "no prefix length of the family" else (if fault == short_buffer then codes "no room for the text" else (if fault == no_mask then codes "no mask" else (if fault == no_member then codes "no member of this number" else (if fault == no_family then codes "no family" else (if fault == no_offsets then codes "no offsets of the column" else codes "unknown fault"))))))))
 
 -- which of two comes first: less than 0 for the first, 0 if they are equal
 abbrev pub order_number : Ordering → ℤ

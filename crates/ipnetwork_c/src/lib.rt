@@ -23,6 +23,7 @@ mod structs;
 #[cfg(test)]
 mod tests;
 mod text;
+mod text_columns;
 
 pub use address::AddressInC;
 pub use structs::{IpInC, Ipv4InC, Ipv6InC};

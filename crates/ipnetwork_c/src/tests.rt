@@ -11,6 +11,7 @@ use crate::ipv6::*;
 use crate::lists::*;
 use crate::questions::*;
 use crate::structs::{IpInC, Ipv4InC, Ipv6InC};
+use crate::text_columns::*;
 use crate::{ipnetwork_abi_minor_version, ipnetwork_abi_version};
 use std::test::Fail;
 
@@ -267,7 +268,7 @@ fn what_faults_say(rt: HostRuntime) {
     let mut length = 0;
     let told = [
         ipnetwork_fault_text(5, &mut text, &mut length),
-        ipnetwork_fault_text(8, &mut text, &mut length),
+        ipnetwork_fault_text(9, &mut text, &mut length),
     ];
     assert_eq!(rt; (told, length), ([0, 4], 13));
     assert_eq!(rt; text, *b"no mask\0\xff");
@@ -345,4 +346,29 @@ fn aggregates_of_networks(rt: HostRuntime) {
     assert_eq!(rt; (sixes[0].address[15], sixes[0].prefix), (0, 128));
     assert_eq!(rt; (sixes[1].address[15], sixes[1].prefix), (2, 127));
     assert_eq!(rt; (past[0].prefix, past[1].prefix), (24, 33));
+}
+
+#[test]
+fn columns_of_texts(rt: HostRuntime) {
+    let texts = b"10.1.9.32/16x2001:db8::/32";
+    let offsets = [0, 12, 13, 13, 26];
+    let mut fours = [NO_V4; 5];
+    let mut sixes = [NO_V6; 4];
+    let (mut four, mut six, mut past, mut falling) = ([9; 5], [9; 4], [9; 4], [9; 4]);
+    let told = [
+        ipnetwork_v4_read_column(texts, &offsets, &mut fours, &mut four),
+        ipnetwork_v6_read_column(texts, &offsets, &mut sixes, &mut six),
+        ipnetwork_v6_read_column(texts, &[0, 27], &mut sixes, &mut past),
+        ipnetwork_v4_read_column(texts, &[3, 2], &mut fours, &mut falling),
+        ipnetwork_v4_read_column(texts, &offsets, &mut fours, &mut [9; 3]),
+        ipnetwork_v4_read_column(b"", &[], &mut [], &mut []),
+    ];
+    assert_eq!(rt; told, [0, 0, 8, 8, 4, 0]);
+    assert_eq!(rt; (four, six), ([0, 2, 2, 2, 9], [2, 2, 2, 0]));
+    assert_eq!(rt; (past, falling), ([9; 4], [9; 4]));
+    assert_eq!(rt; (fours[0].address, fours[0].prefix), ([10, 1, 9, 32], 16));
+    assert_eq!(rt;
+        (fours[1].address, sixes[2].prefix, sixes[3].prefix),
+        ([0; 4], 0, 32)
+    );
 }

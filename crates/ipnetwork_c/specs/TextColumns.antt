@@ -1,0 +1,49 @@
+-- Columns of texts: the bytes of all texts, one behind the other, and the offsets at which each begins and the last ends.
+use Rattle.std.specs.Prelude.{◌≡◌, ◌⊎◌, ℕ, ◌+◌, ◌-◌, ◌<◌, ◌≤◌, List, length, get_or, slice_get, slice_range, Some}
+use Rattle.ipnetwork_family.specs.Ipv4NetworkText.{ReadsV4Network}
+use Rattle.ipnetwork_family.specs.Ipv6NetworkText.{ReadsV6Network}
+use Rattle.ipnetwork.specs.IpNetworkText.{ReadsIpNetwork}
+use Rattle.ipnetwork_c.specs.declared.structs.Ipv4InC.{Ipv4InC}
+use Rattle.ipnetwork_c.specs.declared.structs.Ipv6InC.{Ipv6InC}
+use Rattle.ipnetwork_c.specs.declared.structs.IpInC.{IpInC}
+use Rattle.ipnetwork_c.specs.Numbers.{ok, short_buffer, no_offsets}
+use Rattle.ipnetwork_c.specs.Held.{HoldsV4, HoldsV6}
+use Rattle.ipnetwork_c.specs.Answers.{ReadsInto}
+use Rattle.ipnetwork_c.specs.Either.{HoldsIp}
+
+-- how many texts there are: one less than offsets
+abbrev pub row_count : List ℕ → ℕ
+row_count offsets = length offsets - 1
+
+-- the bytes of one of them
+abbrev pub row_text : List ℕ → List ℕ → ℕ → List ℕ
+row_text texts offsets row = slice_range texts (get_or offsets row 0) (get_or offsets (row + 1) 0)
+
+-- no offset is past the end, and none is less than the one before
+pub record AreOffsets (texts offsets : List ℕ) : Type 0 where
+  pub within : (i : ℕ) → i < length offsets → get_or offsets i 0 ≤ length texts
+  pub rising : (i : ℕ) → i + 1 < length offsets → get_or offsets i 0 ≤ get_or offsets (i + 1) 0
+
+-- each of the first rows is read as the call for one text reads it, with a fault of its own, and the others stay
+pub record ReadsRows {R : Type 0} (Reads : List ℕ → R → R → ℕ → Type 0) (texts offsets : List ℕ) (count : ℕ) (before after : List R) (faults_before faults : List ℕ) : Type 0 where
+  pub rows : length after ≡ length before
+  pub fault_rows : length faults ≡ length faults_before
+  pub row : (i : ℕ) → i < count → (old new : R) × (fault : ℕ) × (slice_get before i ≡ Some old) × (slice_get after i ≡ Some new) × (slice_get faults i ≡ Some fault) × Reads (row_text texts offsets i) old new fault
+  pub rest : (i : ℕ) → count ≤ i → slice_get after i ≡ slice_get before i
+  pub fault_rest : (i : ℕ) → count ≤ i → slice_get faults i ≡ slice_get faults_before i
+
+-- a column is read, row by row; or nothing is written, since the offsets are none, or there is no room for as many rows
+pub data ReadsColumn {R : Type 0} (Reads : List ℕ → R → R → ℕ → Type 0) (texts offsets : List ℕ) (before after : List R) (faults_before faults : List ℕ) (code : ℕ) : Type 0 where
+  Read : AreOffsets texts offsets → code ≡ ok → row_count offsets ≤ length before → row_count offsets ≤ length faults_before → ReadsRows Reads texts offsets (row_count offsets) before after faults_before faults → ReadsColumn Reads texts offsets before after faults_before faults code
+  NoRoom : AreOffsets texts offsets → code ≡ short_buffer → (length before < row_count offsets) ⊎ (length faults_before < row_count offsets) → after ≡ before → faults ≡ faults_before → ReadsColumn Reads texts offsets before after faults_before faults code
+  NoOffsets : ¬ (AreOffsets texts offsets) → code ≡ no_offsets → after ≡ before → faults ≡ faults_before → ReadsColumn Reads texts offsets before after faults_before faults code
+
+-- what the calls for one text leave and return
+abbrev pub v4_reads : List ℕ → Ipv4InC → Ipv4InC → ℕ → Type 0
+v4_reads = ReadsInto ReadsV4Network HoldsV4
+
+abbrev pub v6_reads : List ℕ → Ipv6InC → Ipv6InC → ℕ → Type 0
+v6_reads = ReadsInto ReadsV6Network HoldsV6
+
+abbrev pub ip_reads : List ℕ → IpInC → IpInC → ℕ → Type 0
+ip_reads = ReadsInto ReadsIpNetwork HoldsIp

@@ -1,0 +1,146 @@
+//! Columns of texts read in one call, in the layout of Arrow: the bytes of all texts, one behind the other, and the
+//! offsets at which each begins and the last ends.
+ghost use Rattle.std.specs.Prelude.{◌↔◌, ◌<◌, IsTrue};
+ghost use Rattle.ipnetwork_c.specs.Either.{ReadsAddress};
+ghost use Rattle.ipnetwork_c.specs.TextColumns.{AreOffsets, ReadsColumn, v4_reads, v6_reads, ip_reads};
+
+use crate::address::{AddressInC, ipnetwork_address_read};
+use crate::either::ipnetwork_read;
+use crate::fault::{NO_OFFSETS, OK, SHORT_BUFFER};
+use crate::ipv4::ipnetwork_v4_read;
+use crate::ipv6::ipnetwork_v6_read;
+use crate::structs::{IpInC, Ipv4InC, Ipv6InC};
+
+/// What a row is read into.
+pub(crate) trait ReadsRow {
+    ghost use Rattle.std.specs.Prelude.{ℕ, List};
+
+    // What the call for one text leaves, and the number of its fault.
+    ghost reads: { List ℕ → Self → Self → ℕ → Type 0 };
+
+    /// Reads a text, and tells the fault.
+    fn read_row(&mut self, text: &[u8]) -> u32
+        ensures read { reads text.now self.old self.new result }
+        ensures byte { result < 256 };
+}
+
+impl ReadsRow for Ipv4InC {
+    ghost reads = { v4_reads };
+
+    fn read_row(&mut self, text: &[u8]) -> u32 {
+        ipnetwork_v4_read(text, self)
+    }
+}
+
+impl ReadsRow for Ipv6InC {
+    ghost reads = { v6_reads };
+
+    fn read_row(&mut self, text: &[u8]) -> u32 {
+        ipnetwork_v6_read(text, self)
+    }
+}
+
+impl ReadsRow for IpInC {
+    ghost reads = { ip_reads };
+
+    fn read_row(&mut self, text: &[u8]) -> u32 {
+        ipnetwork_read(text, self)
+    }
+}
+
+impl ReadsRow for AddressInC {
+    ghost reads = { ReadsAddress };
+
+    fn read_row(&mut self, text: &[u8]) -> u32 {
+        ipnetwork_address_read(text, self)
+    }
+}
+
+/// Whether no offset is past the end of the texts, and none is less than the one before.
+fn are_offsets(texts: &[u8], offsets: &[u32]) -> bool
+    ensures { IsTrue result ↔ AreOffsets texts.now offsets.now }
+{
+    let mut last = 0;
+    for offset in offsets {
+        if *offset < last || *offset as usize > texts.len() {
+            return false;
+        }
+        last = *offset;
+    }
+    true
+}
+
+/// Reads each text into the row of its place, and its fault into the fault of that place.
+fn read_rows<R: ReadsRow>(texts: &[u8], offsets: &[u32], rows: &mut [R], faults: &mut [u8]) -> u32
+    ensures { ReadsColumn R.reads texts.now offsets.now rows.old rows.new faults.old faults.new result }
+{
+    if !are_offsets(texts, offsets) {
+        return NO_OFFSETS;
+    }
+    let count = offsets.len().saturating_sub(1);
+    if rows.len() < count || faults.len() < count {
+        return SHORT_BUFFER;
+    }
+    for row in 0..count {
+        let begin = offsets[row] as usize;
+        let end = offsets[row + 1] as usize;
+        let fault = rows[row].read_row(&texts[begin..end]);
+        faults[row] = fault as u8;
+    }
+    OK
+}
+
+/// The IPv4 network of each text of a column: row i and fault i are what `ipnetwork_v4_read` leaves and returns of text
+/// i, and a text that names none stops nothing. There are as many texts as offsets but one; text i goes from offset i to
+/// the next. `NO_OFFSETS` where an offset is less than the one before, or greater than the length of the texts; else
+/// `SHORT_BUFFER` where there are fewer rows or faults than texts.
+#[unsafe(no_mangle)]
+pub extern "C" fn ipnetwork_v4_read_column(
+    texts: &[u8],
+    offsets: &[u32],
+    networks: &mut [Ipv4InC],
+    faults: &mut [u8],
+) -> u32
+    ensures { ReadsColumn v4_reads texts.now offsets.now networks.old networks.new faults.old faults.new result }
+{
+    read_rows(texts, offsets, networks, faults)
+}
+
+/// The same of IPv6 networks, as `ipnetwork_v6_read` reads them.
+#[unsafe(no_mangle)]
+pub extern "C" fn ipnetwork_v6_read_column(
+    texts: &[u8],
+    offsets: &[u32],
+    networks: &mut [Ipv6InC],
+    faults: &mut [u8],
+) -> u32
+    ensures { ReadsColumn v6_reads texts.now offsets.now networks.old networks.new faults.old faults.new result }
+{
+    read_rows(texts, offsets, networks, faults)
+}
+
+/// The same of networks of either family, as `ipnetwork_read` reads them.
+#[unsafe(no_mangle)]
+pub extern "C" fn ipnetwork_read_column(
+    texts: &[u8],
+    offsets: &[u32],
+    networks: &mut [IpInC],
+    faults: &mut [u8],
+) -> u32
+    ensures { ReadsColumn ip_reads texts.now offsets.now networks.old networks.new faults.old faults.new result }
+{
+    read_rows(texts, offsets, networks, faults)
+}
+
+/// The same of addresses of either family, as `ipnetwork_address_read` reads them.
+#[unsafe(no_mangle)]
+pub extern "C" fn ipnetwork_address_read_column(
+    texts: &[u8],
+    offsets: &[u32],
+    addresses: &mut [AddressInC],
+    faults: &mut [u8],
+) -> u32
+    ensures { ReadsColumn ReadsAddress texts.now offsets.now addresses.old addresses.new faults.old faults.new result }
+{
+    read_rows(texts, offsets, addresses, faults)
+}
