@@ -20,11 +20,13 @@ pub mod HostLaws
 pub mod HostLists
 pub mod LeastLists
 pub mod MaximalBlocks
-pub mod PrecedingAddress
+pub mod NumberedSubnet
 pub mod PrecedingBlock
 pub mod RangeCounts
 pub mod RangeExamples
 pub mod RangeLists
 pub mod Runs
+pub mod SpanningBlock
 pub mod SubnetLaws
 pub mod WiderBlocks
+pub mod WidestBlock

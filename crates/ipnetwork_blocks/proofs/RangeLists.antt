@@ -209,7 +209,7 @@ list_falls s t b x e =
 
 -- ---- the widest block
 
-widest_is_maximal : (w first last p : ℕ) → first < 2 ^ w → p ≤ w → first ≤ low w (block_at w first p) → high w (block_at w first p) ≤ last
+pub widest_is_maximal : (w first last p : ℕ) → first < 2 ^ w → p ≤ w → first ≤ low w (block_at w first p) → high w (block_at w first p) ≤ last
     → ((0 < p) → (first ≤ low w (block_at w first (p - 1))) × (high w (block_at w first (p - 1)) ≤ last) → ⊥)
     → IsMaximalIn w (FromTo first last) (block_at w first p)
 widest_is_maximal w first last p fits h from to wider =
@@ -228,19 +228,3 @@ widest_is_maximal w first last p fits h from to wider =
           let b = lies (high w d) (inside (high w d) ends.high_is_member) in
           wider (omega arith) (a.0, b.1);
     }
-
--- a block that begins at first is maximal, if it has prefix length 0
-pub maximal_of_all : (w first last p : ℕ) (b : Network) → b ≡ block_at w first p → p ≡ 0 → first < 2 ^ w → first ≤ low w b → high w b ≤ last
-    → IsMaximalIn w (FromTo first last) b
-maximal_of_all w first last p b is none fits from to =
-    let P : Network → Type 0 = λ n. first ≤ low w n → high w n ≤ last → IsMaximalIn w (FromTo first last) n in
-    subst P (sym is) (λ l m. widest_is_maximal w first last p fits (omega arith) l m (λ more lies. let r : ⊥ = omega arith in r)) from to
-
--- or if d, the block of one bit less, has an address outside the range
-pub maximal_below : (w first last p : ℕ) (b d : Network) → b ≡ block_at w first p → d ≡ block_at w first (p - 1) → first < 2 ^ w → p ≤ w
-    → first ≤ low w b → high w b ≤ last → ((first ≤ low w d) × (high w d ≤ last) → ⊥)
-    → IsMaximalIn w (FromTo first last) b
-maximal_below w first last p b d is wider fits h from to outside =
-    let P : Network → Type 0 = λ n. first ≤ low w n → high w n ≤ last → IsMaximalIn w (FromTo first last) n in
-    let Lies : Network → Type 0 = λ n. (first ≤ low w n) × (high w n ≤ last) in
-    subst P (sym is) (λ l m. widest_is_maximal w first last p fits h l m (λ more lies. outside (subst Lies (sym wider) lies))) from to

@@ -10,6 +10,7 @@ pub mod LeastListLaws
 pub mod PrecedingBlock
 pub mod Private
 pub mod Ranges
+pub mod Spanning
 pub mod SubnetLaws
 pub mod Subnets
 pub mod Supernets

@@ -1,5 +1,5 @@
 -- The blocks of one prefix length within a network.
-use Rattle.std.specs.Prelude.{ℕ, ◌-◌, ◌*◌, ◌/◌, ◌^◌, List, map}
+use Rattle.std.specs.Prelude.{ℕ, ◌+◌, ◌-◌, ◌*◌, ◌/◌, ◌^◌, List, map}
 use Rattle.ipnetwork_family.specs.Network.{Network, block_size, low, count_up}
 
 -- the blocks of prefix length p are numbered by their first p bits: number i begins at i times their size
@@ -10,3 +10,7 @@ block_number w p i = record { address = i * block_size w p; prefix = p }
 -- network does
 abbrev pub subnets_of : ℕ → Network → ℕ → List Network
 subnets_of w n p = map (block_number w p) (count_up (low w n / block_size w p) (2 ^ (p - n.prefix)))
+
+-- the block number i among them, counted from 0
+abbrev pub subnet_number : ℕ → Network → ℕ → ℕ → Network
+subnet_number w n p i = block_number w p (low w n / block_size w p + i)

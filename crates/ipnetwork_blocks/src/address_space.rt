@@ -52,6 +52,16 @@ pub trait AddressSpace: CidrNetwork {
     fn previous_address(addr: Self::Addr) -> Option<Self::Addr>
         ensures { MatchOption result (Self.number addr ≡ 0) (λ previous. Self.number previous + 1 ≡ Self.number addr) };
 
+    /// The address `offset` addresses after this one, which is not past the last.
+    ///
+    /// ```
+    /// let addr = Ipv4Network::plus(Ipv4Addr::new(10, 0, 0, 255), 257);
+    /// assert_eq!(rt; addr, Ipv4Addr::new(10, 0, 2, 0));
+    /// ```
+    fn plus(addr: Self::Addr, offset: u128) -> Self::Addr
+        requires { Self.number addr + offset < 2 ^ Self.WIDTH }
+        ensures { Self.number result ≡ Self.number addr + offset };
+
     /// How many of their first bits two addresses share: the greatest prefix length with which they lie in one block.
     ///
     /// ```
@@ -68,6 +78,9 @@ pub trait AddressSpace: CidrNetwork {
     /// ```
     fn trailing_zeros(addr: Self::Addr) -> u8
         ensures { EndsInZeros Self.WIDTH (Self.number addr) result };
+
+    // The numbers of addresses have at most 128 bits.
+    ghost few_bits: { Self.WIDTH ≤ 128 };
 }
 
 impl<A: Address> AddressSpace for Network<A> {
@@ -97,6 +110,10 @@ impl<A: Address> AddressSpace for Network<A> {
         None
     }
 
+    fn plus(addr: A, offset: u128) -> A {
+        addr.plus(offset)
+    }
+
     fn shared_bits(addr: A, other: A) -> u8 {
         addr.shared_bits(other)
     }
@@ -104,4 +121,6 @@ impl<A: Address> AddressSpace for Network<A> {
     fn trailing_zeros(addr: A) -> u8 {
         addr.trailing_zeros()
     }
+
+    ghost few_bits = { A.few_bits };
 }

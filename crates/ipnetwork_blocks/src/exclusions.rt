@@ -8,7 +8,6 @@ ghost use Rattle.ipnetwork_blocks.specs.Private.Sides.{Before, Behind};
 
 use crate::address_space::AddressSpace;
 use crate::range_blocks::RangeBlocks;
-use ipnetwork_family::CidrNetwork;
 use std::alloc::AllocError;
 use std::marker::Model;
 
@@ -21,13 +20,13 @@ use std::marker::Model;
 /// ```
 #[derive(Drop)]
 #[derive_where(Debug; N, N::Addr)]
-pub struct Exclusion<N: CidrNetwork> {
+pub struct Exclusion<N: AddressSpace> {
     below: RangeBlocks<N>,
     above: RangeBlocks<N>,
 }
 
 // A contract sees an iterator as the list of the blocks still to come.
-impl<N: CidrNetwork> Model for Exclusion<N> {
+impl<N: AddressSpace> Model for Exclusion<N> {
     ghost use Rattle.std.specs.Prelude.{List, ◌++◌};
     ghost use Rattle.ipnetwork_family.specs.Network.{Network};
 
@@ -94,7 +93,7 @@ fn blocks_behind<N: AddressSpace>(network: N, last: N::Addr) -> RangeBlocks<N>
     }
 }
 
-impl<N: CidrNetwork> Iterator for Exclusion<N> {
+impl<N: AddressSpace> Iterator for Exclusion<N> {
     type Item = N;
 
     ghost next_gives = { YieldsFirstBy N.pair (λ left. left) };
@@ -109,7 +108,7 @@ impl<N: CidrNetwork> Iterator for Exclusion<N> {
     }
 }
 
-impl<N: CidrNetwork> Clone for Exclusion<N> {
+impl<N: AddressSpace> Clone for Exclusion<N> {
     ghost is_clone = { λ left copy. copy ≡ left };
 
     ghost is_infallible = { λ _. Unit {0} };

@@ -5,8 +5,7 @@ ghost use Rattle.ipnetwork_family.specs.Network.{low, high};
 ghost use Rattle.ipnetwork_blocks.specs.LeastList.{IsMaximalIn, IsLeastList};
 ghost use Rattle.ipnetwork_blocks.specs.Ranges.{FromTo};
 
-use crate::following_block::following;
-use ipnetwork_family::CidrNetwork;
+use crate::address_space::AddressSpace;
 use std::alloc::AllocError;
 use std::marker::Model;
 
@@ -19,14 +18,14 @@ use std::marker::Model;
 /// assert_eq!(rt; blocks.next(), Some("192.0.2.2/31".parse()?));
 /// ```
 #[derive(Debug, Drop)]
-pub struct RangeBlocks<N: CidrNetwork> {
+pub struct RangeBlocks<N: AddressSpace> {
     next: N::Addr,
     last: N::Addr,
     is_done: bool,
 }
 
 // A contract sees an iterator as the list of the blocks still to come.
-impl<N: CidrNetwork> Model for RangeBlocks<N> {
+impl<N: AddressSpace> Model for RangeBlocks<N> {
     ghost use Rattle.std.specs.Prelude.{List, [], ◌<◌, ◌≤◌, ◌^◌, cond};
     ghost use Rattle.ipnetwork_family.specs.Network.{Network};
     ghost use Rattle.ipnetwork_blocks.specs.Private.RangeList.{blocks_from_to};
@@ -39,7 +38,7 @@ impl<N: CidrNetwork> Model for RangeBlocks<N> {
 }
 
 /// The blocks whose addresses are those from `first` to `last`, both included: the fewest that there are, in
-/// ascending order. `None` where `first` comes after `last`.
+/// ascending order. `None` if `first` comes after `last`.
 ///
 /// For addresses of W bits there are at most 2 W - 2 blocks: 62 for IPv4 and 254 for IPv6. The whole address
 /// space is one block, of prefix length 0. Does not allocate, nor does the iterator.
@@ -50,7 +49,7 @@ impl<N: CidrNetwork> Model for RangeBlocks<N> {
 /// assert!(rt; blocks.eq(["2001:db8::/111".parse()?]));
 /// assert!(rt; range_to_blocks::<Ipv6Network>(last, first).is_none());
 /// ```
-pub fn range_to_blocks<N: CidrNetwork>(first: N::Addr, last: N::Addr) -> Option<RangeBlocks<N>>
+pub fn range_to_blocks<N: AddressSpace>(first: N::Addr, last: N::Addr) -> Option<RangeBlocks<N>>
     ensures blocks { MatchOption result (N.number last < N.number first)
         (λ blocks. (N.number first ≤ N.number last)
         × IsLeastList N.WIDTH (FromTo (N.number first) (N.number last)) blocks) }
@@ -62,7 +61,7 @@ pub fn range_to_blocks<N: CidrNetwork>(first: N::Addr, last: N::Addr) -> Option<
     Some(RangeBlocks::between(first, last))
 }
 
-impl<N: CidrNetwork> RangeBlocks<N> {
+impl<N: AddressSpace> RangeBlocks<N> {
     /// The blocks of the addresses from `first` to `last`, both included.
     pub(crate) fn between(first: N::Addr, last: N::Addr) -> Self
         requires { N.number first ≤ N.number last }
@@ -70,7 +69,7 @@ impl<N: CidrNetwork> RangeBlocks<N> {
         ensures count { 2 ≤ N.WIDTH → length result ≤ 2 * N.WIDTH - 2 }
     {
         // The clause `address` of this call tells that `last` is an address of the family.
-        let _ = N::block(last, N::WIDTH);
+        let _ = N::block_at(last, N::WIDTH);
         RangeBlocks {
             next: first,
             last,
@@ -83,7 +82,7 @@ impl<N: CidrNetwork> RangeBlocks<N> {
         ensures none { result ≡ [] }
         ensures address { N.number address < 2 ^ N.WIDTH }
     {
-        let _ = N::block(address, N::WIDTH);
+        let _ = N::block_at(address, N::WIDTH);
         RangeBlocks {
             next: address,
             last: address,
@@ -91,7 +90,7 @@ impl<N: CidrNetwork> RangeBlocks<N> {
         }
     }
 
-    /// The blocks of the addresses from `first` to `last`, and none where `first` comes after `last`.
+    /// The blocks of the addresses from `first` to `last`, and none if `first` comes after `last`.
     pub(crate) fn between_or_none(first: N::Addr, last: N::Addr) -> Self
         ensures { IsLeastList N.WIDTH (FromTo (N.number first) (N.number last)) result }
     {
@@ -102,7 +101,7 @@ impl<N: CidrNetwork> RangeBlocks<N> {
     }
 }
 
-impl<N: CidrNetwork> Iterator for RangeBlocks<N> {
+impl<N: AddressSpace> Iterator for RangeBlocks<N> {
     type Item = N;
 
     ghost next_gives = { YieldsFirstBy N.pair (λ left. left) };
@@ -115,10 +114,10 @@ impl<N: CidrNetwork> Iterator for RangeBlocks<N> {
         }
         let block = widest_block::<N>(self.next, self.last);
         if ends_before(block, self.last) {
-            let Some(behind) = following(block) else {
+            let Some(next) = N::next_address(block.broadcast()) else {
                 unreachable!()
             };
-            self.next = behind.network();
+            self.next = next;
         } else {
             self.is_done = true;
         }
@@ -127,44 +126,36 @@ impl<N: CidrNetwork> Iterator for RangeBlocks<N> {
 }
 
 // Whether the network ends before the address.
-fn ends_before<N: CidrNetwork>(network: N, address: N::Addr) -> bool
+fn ends_before<N: AddressSpace>(network: N, address: N::Addr) -> bool
     ensures { IsTrue result ↔ (high N.WIDTH (N.pair network) < N.number address) }
 {
     network.broadcast() < address
 }
 
-// Whether each member of the network is one of the addresses from `first` to `last`.
-fn lies_between<N: CidrNetwork>(network: N, first: N::Addr, last: N::Addr) -> bool
-    ensures { IsTrue result ↔ ((N.number first ≤ low N.WIDTH (N.pair network))
-        × (high N.WIDTH (N.pair network) ≤ N.number last)) }
+// Whether the network ends after the address.
+fn ends_behind<N: AddressSpace>(network: N, address: N::Addr) -> bool
+    ensures { IsTrue result ↔ (N.number address < high N.WIDTH (N.pair network)) }
 {
-    first <= network.network() && network.broadcast() <= last
+    address < network.broadcast()
 }
 
-// The widest block that begins at `first` and ends at `last` or before.
-fn widest_block<N: CidrNetwork>(first: N::Addr, last: N::Addr) -> N
+// The widest block that begins at `first` and ends at `last` or before: that of the zeros that `first` ends with, but
+// within the least block that holds both, which either ends with `last` or is one bit too wide.
+fn widest_block<N: AddressSpace>(first: N::Addr, last: N::Addr) -> N
     requires { N.number first ≤ N.number last }
     ensures begins { (N.pair result).address ≡ N.number first }
     ensures maximal { IsMaximalIn N.WIDTH (FromTo (N.number first) (N.number last)) (N.pair result) }
 {
-    let mut prefix = N::WIDTH;
-    let Some(mut block) = N::block(first, prefix) else {
-        unreachable!()
-    };
-    while prefix > 0 {
-        let Some(wider) = N::block(first, prefix - 1) else {
-            unreachable!()
-        };
-        if !lies_between(wider, first, last) {
-            return block;
-        }
-        block = wider;
-        prefix -= 1;
+    let aligned = N::WIDTH - N::trailing_zeros(first);
+    let prefix = aligned.max(N::shared_bits(first, last));
+    let block = N::block_at(first, prefix);
+    if ends_behind(block, last) {
+        return N::block_at(first, prefix + 1);
     }
     block
 }
 
-impl<N: CidrNetwork> Clone for RangeBlocks<N> {
+impl<N: AddressSpace> Clone for RangeBlocks<N> {
     ghost is_clone = { λ left copy. copy ≡ left };
 
     ghost is_infallible = { λ _. Unit {0} };

@@ -3,8 +3,8 @@ ghost use Rattle.std.specs.Prelude.{◌≡◌, ◌<◌, ◌≤◌, ◌⊎◌, Ma
 ghost use Rattle.std.specs.Iterator.{YieldsFirstBy, item_count};
 ghost use Rattle.ipnetwork_blocks.specs.Subnets.{subnets_of};
 
+use crate::address_space::AddressSpace;
 use crate::following_block::following;
-use ipnetwork_family::CidrNetwork;
 use std::alloc::AllocError;
 use std::marker::Model;
 
@@ -17,13 +17,13 @@ use std::marker::Model;
 /// assert_eq!(rt; blocks.next(), None);
 /// ```
 #[derive(Debug, Drop)]
-pub struct SubnetIterator<N: CidrNetwork> {
+pub struct SubnetIterator<N: AddressSpace> {
     next: Option<N>,
     last: N,
 }
 
 // A contract sees an iterator as the list of the blocks still to come, each as its address and prefix length.
-impl<N: CidrNetwork> Model for SubnetIterator<N> {
+impl<N: AddressSpace> Model for SubnetIterator<N> {
     ghost use Rattle.std.specs.Prelude.{List, option_map};
     ghost use Rattle.ipnetwork_family.specs.Network.{Network};
     ghost use Rattle.ipnetwork_blocks.specs.Private.Runs.{blocks_left, AreEnds};
@@ -44,7 +44,7 @@ impl<N: CidrNetwork> Model for SubnetIterator<N> {
 /// assert_eq!(rt; subnets(network, 16).unwrap().count(), 256);
 /// assert!(rt; subnets(network, 7).is_none());
 /// ```
-pub fn subnets<N: CidrNetwork>(network: N, prefix: u8) -> Option<SubnetIterator<N>>
+pub fn subnets<N: AddressSpace>(network: N, prefix: u8) -> Option<SubnetIterator<N>>
     ensures { MatchOption result ((prefix < (N.pair network).prefix) ⊎ (N.WIDTH < prefix))
         (λ left. ((N.pair network).prefix ≤ prefix) × (prefix ≤ N.WIDTH)
         × (left ≡ subnets_of N.WIDTH (N.pair network) prefix)) }
@@ -60,7 +60,7 @@ pub fn subnets<N: CidrNetwork>(network: N, prefix: u8) -> Option<SubnetIterator<
     })
 }
 
-impl<N: CidrNetwork> Iterator for SubnetIterator<N> {
+impl<N: AddressSpace> Iterator for SubnetIterator<N> {
     type Item = N;
 
     ghost next_gives = { YieldsFirstBy N.pair (λ left. left) };
@@ -78,7 +78,7 @@ impl<N: CidrNetwork> Iterator for SubnetIterator<N> {
     }
 }
 
-impl<N: CidrNetwork> Clone for SubnetIterator<N> {
+impl<N: AddressSpace> Clone for SubnetIterator<N> {
     ghost is_clone = { λ left copy. copy ≡ left };
 
     ghost is_infallible = { λ _. Unit {0} };

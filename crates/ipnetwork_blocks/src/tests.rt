@@ -6,8 +6,10 @@ mod aggregate;
 mod exclusions;
 mod host_rows;
 mod iterators;
+mod numbered_subnets;
 mod random_lists;
 mod ranges;
+mod spanning_rows;
 mod subnet_rows;
 
 use std::alloc::{AllocError, Global};

@@ -154,6 +154,15 @@ pub trait Address: Copy + Ord + Hash + Debug {
         requires { 0 < number self }
         ensures { number result ≡ number self - 1 };
 
+    /// The address `offset` addresses after this one, which is not past the last.
+    ///
+    /// ```
+    /// assert_eq!(rt; Ipv4Addr::new(192, 0, 2, 255).plus(257), Ipv4Addr::new(192, 0, 4, 0));
+    /// ```
+    fn plus(self, offset: u128) -> Self
+        requires { number self + offset < 2 ^ WIDTH }
+        ensures { number result ≡ number self + offset };
+
     /// How many of their first bits two addresses share: the greatest prefix length with which they lie in one block.
     ///
     /// ```
@@ -174,6 +183,9 @@ pub trait Address: Copy + Ord + Hash + Debug {
     // Addresses are ordered by their numbers,
     ghost address_order: { (x y : Self) → Self.cmp x y ≡ nat_cmp (number x) (number y) };
 
-    // and a prefix length has few digits.
+    // a prefix length has few digits,
     ghost few_digits: { (1 ≤ family.prefix_digits) × (family.prefix_digits ≤ 3) × (WIDTH < 10 ^ family.prefix_digits) };
+
+    // and a number has at most 128 bits.
+    ghost few_bits: { WIDTH ≤ 128 };
 }

@@ -97,6 +97,10 @@ impl Address for Ipv4Addr {
         Ipv4Addr::from(u32::from(self) - 1)
     }
 
+    fn plus(self, offset: u128) -> Ipv4Addr {
+        Ipv4Addr::from(u32::from(self) + offset as u32)
+    }
+
     fn shared_bits(self, other: Ipv4Addr) -> u8 {
         (u32::from(self) ^ u32::from(other)).leading_zeros() as u8
     }
@@ -108,6 +112,8 @@ impl Address for Ipv4Addr {
     ghost address_order = { λ x y. refl };
 
     ghost few_digits = { (Prim.search rules, Prim.search rules, Prim.search rules) };
+
+    ghost few_bits = { Prim.search rules };
 }
 
 /// The ones after the first `prefix` bits.

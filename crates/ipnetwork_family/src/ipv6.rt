@@ -81,6 +81,10 @@ impl Address for Ipv6Addr {
         Ipv6Addr::from(u128::from(self) - 1)
     }
 
+    fn plus(self, offset: u128) -> Ipv6Addr {
+        Ipv6Addr::from(u128::from(self) + offset)
+    }
+
     fn shared_bits(self, other: Ipv6Addr) -> u8 {
         (u128::from(self) ^ u128::from(other)).leading_zeros() as u8
     }
@@ -92,6 +96,8 @@ impl Address for Ipv6Addr {
     ghost address_order = { λ x y. refl };
 
     ghost few_digits = { (Prim.search rules, Prim.search rules, Prim.search rules) };
+
+    ghost few_bits = { Prim.search rules };
 }
 
 /// The ones after the first `prefix` bits.

@@ -7,9 +7,10 @@ ghost use Rattle.std.specs.Ordering.{nat_cmp, on, as_partial_cmp};
 ghost use Rattle.ipnetwork_family.specs.Network.{block_size};
 ghost use Rattle.ipnetwork_sets.specs.Counts.{count_number};
 
+use ipnetwork_blocks::AddressSpace;
 use arrayvec::ArrayString;
 use ipnetwork_addr::decimal::push_number;
-use ipnetwork_family::{CidrNetwork, NetworkSizeError};
+use ipnetwork_family::NetworkSizeError;
 use std::cmp::Ordering;
 use std::fmt;
 
@@ -49,7 +50,7 @@ impl AddressCount {
     /// let count = AddressCount::ZERO.add_block("192.0.2.0/24".parse::<Ipv4Network>()?);
     /// assert_eq!(rt; count, AddressCount::from(256));
     /// ```
-    pub fn add_block<N: CidrNetwork>(self, network: N) -> AddressCount
+    pub fn add_block<N: AddressSpace>(self, network: N) -> AddressCount
         ensures { count_number result ≡ min (count_number self + block_size N.WIDTH (N.pair network).prefix) (2 ^ 128) }
     {
         let host_bits = N::WIDTH - network.prefix();

@@ -5,8 +5,7 @@ ghost use Rattle.ipnetwork_sets.specs.Sets.{IsAddressSet, MeetsUnion};
 
 use crate::check::is_address_set;
 use crate::search;
-use ipnetwork_blocks::{aggregate_vec, laws};
-use ipnetwork_family::CidrNetwork;
+use ipnetwork_blocks::{AddressSpace, aggregate_vec, laws};
 use std::marker::Model;
 
 /// A set of addresses of one family: the maximal blocks of the set, in ascending order. Each set has one such
@@ -18,12 +17,12 @@ use std::marker::Model;
 /// assert_eq!(rt; set.blocks(), ["2001:db8::/32".parse()?].as_slice());
 /// ```
 #[derive(Debug, Drop)]
-pub struct AddressSet<N: CidrNetwork> {
+pub struct AddressSet<N: AddressSpace> {
     blocks: Vec<N>,
 }
 
 // A contract sees a set as the list of its blocks.
-impl<N: CidrNetwork> Model for AddressSet<N> {
+impl<N: AddressSpace> Model for AddressSet<N> {
     ghost use Rattle.std.specs.Prelude.{List, map};
     ghost use Rattle.ipnetwork_family.specs.Network.{Network};
     ghost use Rattle.ipnetwork_sets.specs.Sets.{IsAddressSet};
@@ -35,7 +34,7 @@ impl<N: CidrNetwork> Model for AddressSet<N> {
     ghost invariant = { λ s. IsAddressSet N.WIDTH (map N.pair s.blocks.items) };
 }
 
-impl<N: CidrNetwork> AddressSet<N> {
+impl<N: AddressSpace> AddressSet<N> {
     /// The set of the addresses of the networks, host bits or not, in any order.
     ///
     /// Sorts the networks and goes over them once. Keeps their memory, and does not allocate.

@@ -8,8 +8,7 @@ use crate::address_set::AddressSet;
 use crate::common::Intersection;
 use crate::difference::Difference;
 use crate::union::Union;
-use ipnetwork_blocks::laws;
-use ipnetwork_family::CidrNetwork;
+use ipnetwork_blocks::{AddressSpace, laws};
 use std::marker::Model;
 
 /// What gives the blocks of a set one after the other, in ascending order.
@@ -20,7 +19,7 @@ use std::marker::Model;
 /// let mut blocks = set.difference(&other);
 /// assert_eq!(rt; SetBlocks::next_block(&mut blocks), Some("192.0.2.64/26".parse()?));
 /// ```
-pub trait SetBlocks<N: CidrNetwork>: Drop {
+pub trait SetBlocks<N: AddressSpace>: Drop {
     // The blocks that are still to come.
     ghost left: { Self → List Network };
 
@@ -45,12 +44,12 @@ pub trait SetBlocks<N: CidrNetwork>: Drop {
 /// assert!(rt; blocks.eq(["192.0.2.0/25".parse()?]));
 /// ```
 #[derive(Debug, Drop)]
-pub struct Blocks<'a, N: CidrNetwork> {
+pub struct Blocks<'a, N: AddressSpace> {
     rest: &'a [N],
 }
 
 // A contract sees an iterator as the list of the blocks still to come.
-impl<'a, N: CidrNetwork> Model for Blocks<'a, N> {
+impl<'a, N: AddressSpace> Model for Blocks<'a, N> {
     ghost use Rattle.std.specs.Prelude.{List, map};
     ghost use Rattle.ipnetwork_family.specs.Network.{Network};
     ghost use Rattle.ipnetwork_sets.specs.Sets.{IsAddressSet};
@@ -62,7 +61,7 @@ impl<'a, N: CidrNetwork> Model for Blocks<'a, N> {
     ghost invariant = { λ b. IsAddressSet N.WIDTH (map N.pair b.rest.now) };
 }
 
-impl<N: CidrNetwork> AddressSet<N> {
+impl<N: AddressSpace> AddressSet<N> {
     /// The blocks one after the other, in ascending order.
     ///
     /// ```
@@ -79,7 +78,7 @@ impl<N: CidrNetwork> AddressSet<N> {
     }
 }
 
-impl<'a, N: CidrNetwork> Iterator for Blocks<'a, N> {
+impl<'a, N: AddressSpace> Iterator for Blocks<'a, N> {
     type Item = N;
 
     ghost next_gives = { YieldsFirstBy N.pair (λ left. left) };
@@ -96,7 +95,7 @@ impl<'a, N: CidrNetwork> Iterator for Blocks<'a, N> {
     }
 }
 
-impl<'a, N: CidrNetwork> SetBlocks<N> for Blocks<'a, N> {
+impl<'a, N: AddressSpace> SetBlocks<N> for Blocks<'a, N> {
     ghost left = { λ left. left };
 
     fn next_block(&mut self) -> Option<N> {
@@ -105,7 +104,7 @@ impl<'a, N: CidrNetwork> SetBlocks<N> for Blocks<'a, N> {
     }
 }
 
-impl<'a, N: CidrNetwork> SetBlocks<N> for Intersection<'a, N> {
+impl<'a, N: AddressSpace> SetBlocks<N> for Intersection<'a, N> {
     ghost left = { λ left. left };
 
     fn next_block(&mut self) -> Option<N> {
@@ -114,7 +113,7 @@ impl<'a, N: CidrNetwork> SetBlocks<N> for Intersection<'a, N> {
     }
 }
 
-impl<'a, N: CidrNetwork> SetBlocks<N> for Difference<'a, N> {
+impl<'a, N: AddressSpace> SetBlocks<N> for Difference<'a, N> {
     ghost left = { λ left. left };
 
     fn next_block(&mut self) -> Option<N> {
@@ -123,7 +122,7 @@ impl<'a, N: CidrNetwork> SetBlocks<N> for Difference<'a, N> {
     }
 }
 
-impl<'a, N: CidrNetwork> SetBlocks<N> for Union<'a, N> {
+impl<'a, N: AddressSpace> SetBlocks<N> for Union<'a, N> {
     ghost left = { λ left. left };
 
     fn next_block(&mut self) -> Option<N> {

@@ -5,11 +5,10 @@ ghost use Rattle.ipnetwork_blocks.specs.Private.Joining.{AreHalves, Follows};
 ghost use Rattle.ipnetwork_sets.specs.Sets.{IsAddressSet};
 
 use crate::order::ends_before;
-use ipnetwork_blocks::laws;
-use ipnetwork_family::CidrNetwork;
+use ipnetwork_blocks::{AddressSpace, laws};
 
 /// Whether the networks are the maximal blocks of their union, in ascending order. Goes over them once.
-pub(crate) fn is_address_set<N: CidrNetwork>(networks: &[N]) -> bool
+pub(crate) fn is_address_set<N: AddressSpace>(networks: &[N]) -> bool
     ensures { IsTrue result ↔ IsAddressSet N.WIDTH (map N.pair networks.now) }
 {
     laws::one_block();
@@ -26,7 +25,7 @@ pub(crate) fn is_address_set<N: CidrNetwork>(networks: &[N]) -> bool
 }
 
 // Whether the network is its own block.
-fn has_no_host_bits<N: CidrNetwork>(network: N) -> bool
+fn has_no_host_bits<N: AddressSpace>(network: N) -> bool
     ensures told { IsTrue result ↔ HostBitsAreZero N.WIDTH (N.pair network) }
     ensures network { IsNetwork N.WIDTH (N.pair network) }
 {
@@ -34,14 +33,14 @@ fn has_no_host_bits<N: CidrNetwork>(network: N) -> bool
 }
 
 // Whether the second begins after the first has ended, and they are no halves of one block.
-fn follows<N: CidrNetwork>(first: N, second: N) -> bool
+fn follows<N: AddressSpace>(first: N, second: N) -> bool
     ensures { IsTrue result ↔ Follows N.WIDTH (N.pair first) (N.pair second) }
 {
     ends_before(first, second) && !are_halves(first, second)
 }
 
 // Whether two blocks that differ are the halves of one block.
-fn are_halves<N: CidrNetwork>(first: N, second: N) -> bool
+fn are_halves<N: AddressSpace>(first: N, second: N) -> bool
     ensures { IsTrue result ↔ AreHalves N.WIDTH (N.pair first) (N.pair second) }
 {
     let prefix = first.prefix();

@@ -6,11 +6,11 @@ use crate::blocks::{Blocks, SetBlocks};
 use crate::common::Intersection;
 use crate::difference::Difference;
 use crate::union::Union;
-use ipnetwork_family::CidrNetwork;
+use ipnetwork_blocks::AddressSpace;
 use std::alloc::AllocError;
 
 // The set of the blocks that are still to come, with its list in `memory`.
-fn collected<N: CidrNetwork, B: SetBlocks<N>>(
+fn collected<N: AddressSpace, B: SetBlocks<N>>(
     mut blocks: B,
     mut memory: Vec<N>,
 ) -> Result<AddressSet<N>, AllocError>
@@ -25,7 +25,7 @@ fn collected<N: CidrNetwork, B: SetBlocks<N>>(
     Ok(AddressSet::of_blocks(memory))
 }
 
-impl<N: CidrNetwork> AddressSet<N> {
+impl<N: AddressSpace> AddressSet<N> {
     /// A set with the same addresses. The list is put into `memory`, whose content is dropped first; an error means that
     /// it had to grow, and that there was no memory for that.
     ///
@@ -40,7 +40,7 @@ impl<N: CidrNetwork> AddressSet<N> {
     }
 }
 
-impl<'a, N: CidrNetwork> Blocks<'a, N> {
+impl<'a, N: AddressSpace> Blocks<'a, N> {
     /// The set of the blocks that are still to come. The list is put into `memory`, whose content is dropped first; an
     /// error means that it had to grow, and that there was no memory for that.
     ///
@@ -59,7 +59,7 @@ impl<'a, N: CidrNetwork> Blocks<'a, N> {
     }
 }
 
-impl<'a, N: CidrNetwork> Intersection<'a, N> {
+impl<'a, N: AddressSpace> Intersection<'a, N> {
     /// The set of the blocks that are still to come. The list is put into `memory`, whose content is dropped first; an
     /// error means that it had to grow, and that there was no memory for that.
     ///
@@ -76,7 +76,7 @@ impl<'a, N: CidrNetwork> Intersection<'a, N> {
     }
 }
 
-impl<'a, N: CidrNetwork> Difference<'a, N> {
+impl<'a, N: AddressSpace> Difference<'a, N> {
     /// The set of the blocks that are still to come. The list is put into `memory`, whose content is dropped first; an
     /// error means that it had to grow, and that there was no memory for that.
     ///
@@ -93,7 +93,7 @@ impl<'a, N: CidrNetwork> Difference<'a, N> {
     }
 }
 
-impl<'a, N: CidrNetwork> Union<'a, N> {
+impl<'a, N: AddressSpace> Union<'a, N> {
     /// The set of the blocks that are still to come. The list is put into `memory`, whose content is dropped first; an
     /// error means that it had to grow, and that there was no memory for that.
     ///

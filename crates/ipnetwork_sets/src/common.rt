@@ -6,8 +6,7 @@ ghost use Rattle.ipnetwork_sets.specs.Sets.{IsAddressSet, InBoth};
 ghost use Rattle.ipnetwork_sets.specs.Private.LeastBlocks.{common_blocks};
 
 use crate::order::ends_before;
-use ipnetwork_blocks::laws;
-use ipnetwork_family::CidrNetwork;
+use ipnetwork_blocks::{AddressSpace, laws};
 use std::marker::Model;
 
 /// The blocks of the common part of two sets that are still to come, in ascending order.
@@ -19,13 +18,13 @@ use std::marker::Model;
 /// assert!(rt; common.eq(["192.0.2.0/25".parse()?]));
 /// ```
 #[derive(Debug, Drop)]
-pub struct Intersection<'a, N: CidrNetwork> {
+pub struct Intersection<'a, N: AddressSpace> {
     first: &'a [N],
     second: &'a [N],
 }
 
 // A contract sees an iterator as the list of the blocks still to come.
-impl<'a, N: CidrNetwork> Model for Intersection<'a, N> {
+impl<'a, N: AddressSpace> Model for Intersection<'a, N> {
     ghost use Rattle.std.specs.Prelude.{List, map};
     ghost use Rattle.ipnetwork_family.specs.Network.{Network};
     ghost use Rattle.ipnetwork_sets.specs.Sets.{IsAddressSet};
@@ -38,7 +37,7 @@ impl<'a, N: CidrNetwork> Model for Intersection<'a, N> {
     ghost invariant = { λ i. IsAddressSet N.WIDTH (map N.pair i.first.now) × IsAddressSet N.WIDTH (map N.pair i.second.now) };
 }
 
-impl<'a, N: CidrNetwork> Intersection<'a, N> {
+impl<'a, N: AddressSpace> Intersection<'a, N> {
     /// The blocks of the addresses that both sets have.
     pub(crate) fn of(first: &'a [N], second: &'a [N]) -> Self
         requires first { IsAddressSet N.WIDTH (map N.pair first.now) }
@@ -56,7 +55,7 @@ impl<'a, N: CidrNetwork> Intersection<'a, N> {
     }
 }
 
-impl<'a, N: CidrNetwork> Iterator for Intersection<'a, N> {
+impl<'a, N: AddressSpace> Iterator for Intersection<'a, N> {
     type Item = N;
 
     ghost next_gives = { YieldsFirstBy N.pair (λ left. left) };
@@ -73,7 +72,7 @@ impl<'a, N: CidrNetwork> Iterator for Intersection<'a, N> {
 
 // The first block of the common part, and what is left of both sets. Passes the blocks that end before the other's
 // begins; of two that share an address the smaller lies in the other.
-fn next_common<'a, N: CidrNetwork>(
+fn next_common<'a, N: AddressSpace>(
     mut first: &'a [N],
     mut second: &'a [N],
 ) -> Option<(N, &'a [N], &'a [N])>

@@ -6,10 +6,9 @@ ghost use Rattle.ipnetwork_sets.specs.Private.Totals.{capped};
 
 use crate::address_count::AddressCount;
 use crate::address_set::AddressSet;
-use ipnetwork_blocks::laws;
-use ipnetwork_family::CidrNetwork;
+use ipnetwork_blocks::{AddressSpace, laws};
 
-impl<N: CidrNetwork> AddressSet<N> {
+impl<N: AddressSpace> AddressSet<N> {
     /// How many addresses there are in the set. Goes over the blocks once, and does not allocate.
     ///
     /// ```
@@ -25,7 +24,7 @@ impl<N: CidrNetwork> AddressSet<N> {
 }
 
 // The numbers of addresses of the networks together.
-fn count_blocks<N: CidrNetwork>(blocks: &[N]) -> AddressCount
+fn count_blocks<N: AddressSpace>(blocks: &[N]) -> AddressCount
     ensures { count_number result ≡ capped (total N.WIDTH (map N.pair blocks.now)) }
 {
     let mut count = AddressCount::ZERO;

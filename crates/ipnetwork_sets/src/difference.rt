@@ -7,8 +7,7 @@ ghost use Rattle.ipnetwork_sets.specs.Private.LeastBlocks.{left_blocks};
 ghost use Rattle.ipnetwork_sets.specs.Private.Left.{IsPiece, IsAtHand, TakesPart, HasNoPart, IsNextPart};
 
 use crate::pieces::{first_free, piece_behind};
-use ipnetwork_blocks::{block, laws};
-use ipnetwork_family::CidrNetwork;
+use ipnetwork_blocks::{AddressSpace, block, laws};
 use std::marker::Model;
 
 /// The blocks of a difference of sets that are still to come, in ascending order.
@@ -20,7 +19,7 @@ use std::marker::Model;
 /// assert!(rt; left.eq(["192.0.2.0/27".parse()?, "192.0.2.64/26".parse()?]));
 /// ```
 #[derive(Debug, Drop)]
-pub struct Difference<'a, N: CidrNetwork> {
+pub struct Difference<'a, N: AddressSpace> {
     at_hand: Option<Part<N>>,
     rest: &'a [N],
     cut: &'a [N],
@@ -28,13 +27,13 @@ pub struct Difference<'a, N: CidrNetwork> {
 
 /// A block, and a piece of it: what lies before the piece in the block is done.
 #[derive(Clone, Copy, Debug)]
-struct Part<N: CidrNetwork> {
+struct Part<N: AddressSpace> {
     whole: N,
     piece: N,
 }
 
 // A contract sees an iterator as the list of the blocks still to come.
-impl<'a, N: CidrNetwork> Model for Difference<'a, N> {
+impl<'a, N: AddressSpace> Model for Difference<'a, N> {
     ghost use Rattle.std.specs.Prelude.{List, map, option_map};
     ghost use Rattle.ipnetwork_family.specs.Network.{Network};
     ghost use Rattle.ipnetwork_sets.specs.Private.LeastBlocks.{left_blocks};
@@ -47,7 +46,7 @@ impl<'a, N: CidrNetwork> Model for Difference<'a, N> {
     ghost invariant = { λ d. IsAtHand N.WIDTH (option_map (λ p. (N.pair p.whole, N.pair p.piece)) d.at_hand) (map N.pair d.rest.now) (map N.pair d.cut.now) };
 }
 
-impl<'a, N: CidrNetwork> Difference<'a, N> {
+impl<'a, N: AddressSpace> Difference<'a, N> {
     /// The blocks of the addresses that the first set has and the cut one has not.
     pub(crate) fn of(first: &'a [N], cut: &'a [N]) -> Self
         requires first { IsAddressSet N.WIDTH (map N.pair first.now) }
@@ -85,7 +84,7 @@ impl<'a, N: CidrNetwork> Difference<'a, N> {
     }
 }
 
-impl<'a, N: CidrNetwork> Iterator for Difference<'a, N> {
+impl<'a, N: AddressSpace> Iterator for Difference<'a, N> {
     type Item = N;
 
     ghost next_gives = { YieldsFirstBy N.pair (λ left. left) };
@@ -102,7 +101,7 @@ impl<'a, N: CidrNetwork> Iterator for Difference<'a, N> {
 }
 
 // The first block that is left, and the state behind it.
-fn next_left<'a, N: CidrNetwork>(
+fn next_left<'a, N: AddressSpace>(
     mut at_hand: Option<Part<N>>,
     mut rest: &'a [N],
     mut cut: &'a [N],
@@ -131,7 +130,7 @@ fn next_left<'a, N: CidrNetwork>(
 }
 
 // What is at hand, or the first of the others, whole; and the others.
-fn take_part<'a, N: CidrNetwork>(
+fn take_part<'a, N: AddressSpace>(
     at_hand: Option<Part<N>>,
     rest: &'a [N],
 ) -> Option<(Part<N>, &'a [N])>
@@ -154,7 +153,7 @@ fn take_part<'a, N: CidrNetwork>(
 }
 
 // The piece behind this one, if the whole goes on behind it.
-fn part_behind<N: CidrNetwork>(whole: N, piece: N) -> Option<Part<N>>
+fn part_behind<N: AddressSpace>(whole: N, piece: N) -> Option<Part<N>>
     requires { IsPiece N.WIDTH (N.pair whole) (N.pair piece) }
     ensures { IsNextPart N.WIDTH (N.pair whole) (N.pair piece) (option_map (λ p. (N.pair p.whole, N.pair p.piece)) result) }
 {

@@ -1,10 +1,10 @@
 //! Equality of sets.
 use crate::address_set::AddressSet;
-use ipnetwork_family::CidrNetwork;
+use ipnetwork_blocks::AddressSpace;
 
 /// Two sets are equal exactly if they have the same addresses (`laws::equality`), and exactly if they have the same
 /// blocks, which are compared.
-impl<N: CidrNetwork> PartialEq for AddressSet<N> {
+impl<N: AddressSpace> PartialEq for AddressSet<N> {
     ghost use Rattle.std.proofs.Common.{rules};
     ghost use Rattle.std.specs.Cmp.Rules.{comparing};
     ghost use Rattle.std.specs.Cmp.Lexicographic.{lists_per};

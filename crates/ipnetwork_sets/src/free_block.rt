@@ -3,10 +3,9 @@ ghost use Rattle.std.specs.Prelude.{MatchOption};
 ghost use Rattle.ipnetwork_sets.specs.FreeBlocks.{NoBlockIsFree, IsFirstFree};
 
 use crate::address_set::AddressSet;
-use ipnetwork_blocks::laws;
-use ipnetwork_family::CidrNetwork;
+use ipnetwork_blocks::{AddressSpace, laws};
 
-impl<N: CidrNetwork> AddressSet<N> {
+impl<N: AddressSpace> AddressSet<N> {
     /// The first block of this prefix length within the network that has no address of the set; `None` if there is none,
     /// as for a prefix length that is shorter than the network's or greater than `WIDTH`. Host bits of the network change
     /// nothing. Goes over what is free in the network up to that block, and does not allocate.

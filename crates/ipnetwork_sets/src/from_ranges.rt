@@ -6,11 +6,10 @@ ghost use Rattle.ipnetwork_sets.specs.RangeLists.{InRanges};
 ghost use Rattle.ipnetwork_sets.specs.Sets.{AddsLeastList};
 
 use crate::address_set::AddressSet;
-use ipnetwork_blocks::{laws, range_to_blocks};
-use ipnetwork_family::CidrNetwork;
+use ipnetwork_blocks::{AddressSpace, laws, range_to_blocks};
 use std::alloc::AllocError;
 
-impl<N: CidrNetwork> AddressSet<N> {
+impl<N: AddressSpace> AddressSet<N> {
     /// The set of the addresses of the ranges, of each its first and its last address, in any order: they may overlap. A
     /// range whose first address comes after its last has no addresses. The list is put into `memory`, whose content is
     /// dropped first; an error means that it had to grow, and that there was no memory for that.
@@ -44,7 +43,7 @@ impl<N: CidrNetwork> AddressSet<N> {
 /// push_range(&mut networks, Ipv4Addr::new(192, 0, 2, 1), Ipv4Addr::new(192, 0, 2, 3))?;
 /// assert_eq!(rt; networks.len(), 2);
 /// ```
-pub fn push_range<N: CidrNetwork>(
+pub fn push_range<N: AddressSpace>(
     networks: &mut Vec<N>,
     first: N::Addr,
     last: N::Addr,

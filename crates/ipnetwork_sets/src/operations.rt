@@ -7,10 +7,10 @@ use crate::address_set::AddressSet;
 use crate::common::Intersection;
 use crate::difference::Difference;
 use crate::union::Union;
-use ipnetwork_family::CidrNetwork;
+use ipnetwork_blocks::AddressSpace;
 use std::alloc::AllocError;
 
-impl<N: CidrNetwork> AddressSet<N> {
+impl<N: AddressSpace> AddressSet<N> {
     /// The blocks of the addresses that both sets have, in ascending order. Goes over both lists once, as the iterator
     /// is asked, and does not allocate.
     ///

@@ -2,25 +2,24 @@
 ghost use Rattle.std.specs.Prelude.{◌≡◌, ◌↔◌, ◌+◌, ◌<◌, ◌≤◌, IsTrue};
 ghost use Rattle.ipnetwork_family.specs.Network.{high};
 
-use ipnetwork_blocks::following;
-use ipnetwork_family::CidrNetwork;
+use ipnetwork_blocks::{AddressSpace, following};
 
 /// Whether the first ends before the address of the second.
-pub(crate) fn ends_before<N: CidrNetwork>(first: N, second: N) -> bool
+pub(crate) fn ends_before<N: AddressSpace>(first: N, second: N) -> bool
     ensures { IsTrue result ↔ (high N.WIDTH (N.pair first) < (N.pair second).address) }
 {
     first.broadcast() < second.ip()
 }
 
 /// Whether both have the same address.
-pub(crate) fn begin_alike<N: CidrNetwork>(first: N, second: N) -> bool
+pub(crate) fn begin_alike<N: AddressSpace>(first: N, second: N) -> bool
     ensures { IsTrue result ↔ ((N.pair first).address ≡ (N.pair second).address) }
 {
     first.ip() == second.ip()
 }
 
 /// Whether the second begins within the first, before it, or right behind it: no address lies between them.
-pub(crate) fn goes_on<N: CidrNetwork>(first: N, second: N) -> bool
+pub(crate) fn goes_on<N: AddressSpace>(first: N, second: N) -> bool
     ensures { IsTrue result ↔ ((N.pair second).address ≤ high N.WIDTH (N.pair first) + 1) }
 {
     if second.ip() <= first.broadcast() {

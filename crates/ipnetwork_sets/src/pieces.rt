@@ -6,13 +6,12 @@ ghost use Rattle.ipnetwork_sets.specs.Sets.{IsAddressSet};
 ghost use Rattle.ipnetwork_sets.specs.Private.Left.{IsPiece, IsWidest, IsBehind, Skips, IsFree};
 
 use crate::order::{begin_alike, ends_before};
-use ipnetwork_blocks::laws;
-use ipnetwork_family::CidrNetwork;
+use ipnetwork_blocks::{AddressSpace, laws};
 
 /// The first piece of the whole, from this piece on, that has no address of the cut set, and what is left of that set;
 /// `None` where there is no such piece. Passes the cut blocks that end before the piece, goes on behind a piece that lies in
 /// a cut block, and to the lower half of one that has such a block in it.
-pub(crate) fn first_free<'a, N: CidrNetwork>(
+pub(crate) fn first_free<'a, N: AddressSpace>(
     whole: N,
     from: N,
     cut: &'a [N],
@@ -49,7 +48,7 @@ pub(crate) fn first_free<'a, N: CidrNetwork>(
 }
 
 /// The widest piece of the whole that begins right behind this one; `None` where the whole ends with it.
-pub(crate) fn piece_behind<N: CidrNetwork>(whole: N, piece: N) -> Option<N>
+pub(crate) fn piece_behind<N: AddressSpace>(whole: N, piece: N) -> Option<N>
     requires { IsPiece N.WIDTH (N.pair whole) (N.pair piece) }
     ensures { MatchOption result (high N.WIDTH (N.pair piece) ≡ high N.WIDTH (N.pair whole))
         (λ next. IsBehind N.WIDTH (N.pair whole) (N.pair piece) (N.pair next)) }
@@ -73,7 +72,7 @@ pub(crate) fn piece_behind<N: CidrNetwork>(whole: N, piece: N) -> Option<N>
 }
 
 // The lower half of a block.
-fn lower_half<N: CidrNetwork>(block: N) -> N
+fn lower_half<N: AddressSpace>(block: N) -> N
     requires shorter { (N.pair block).prefix < N.WIDTH }
     requires fits { (N.pair block).prefix < 255 }
     ensures { N.pair result ≡ block_of N.WIDTH (record { address = (N.pair block).address; prefix = (N.pair block).prefix + 1 }) }

@@ -12,8 +12,7 @@ use crate::blocks::{Blocks, SetBlocks};
 use crate::common::Intersection;
 use crate::difference::Difference;
 use crate::union::Union;
-use ipnetwork_blocks::{following, laws};
-use ipnetwork_family::CidrNetwork;
+use ipnetwork_blocks::{AddressSpace, following, laws};
 use std::marker::Model;
 
 /// The ranges of a set that are still to come, in ascending order: of each its first and its last address. They are the
@@ -25,13 +24,13 @@ use std::marker::Model;
 /// assert!(rt; ranges.eq([(Ipv4Addr::new(10, 0, 0, 0), Ipv4Addr::new(10, 0, 0, 2))]));
 /// ```
 #[derive(Debug, Drop)]
-pub struct Ranges<N: CidrNetwork, B: SetBlocks<N>> {
+pub struct Ranges<N: AddressSpace, B: SetBlocks<N>> {
     ahead: Option<N>,
     blocks: B,
 }
 
 // A contract sees an iterator as the list of the ranges still to come.
-impl<N: CidrNetwork, B: SetBlocks<N>> Model for Ranges<N, B> {
+impl<N: AddressSpace, B: SetBlocks<N>> Model for Ranges<N, B> {
     ghost use Rattle.std.specs.Prelude.{ℕ, List, option_map};
     ghost use Rattle.ipnetwork_sets.specs.Private.Runs.{runs_left, IsAhead};
 
@@ -42,7 +41,7 @@ impl<N: CidrNetwork, B: SetBlocks<N>> Model for Ranges<N, B> {
     ghost invariant = { λ r. IsAhead N.WIDTH (option_map N.pair r.ahead) (B.left r.blocks) };
 }
 
-impl<N: CidrNetwork, B: SetBlocks<N>> Ranges<N, B> {
+impl<N: AddressSpace, B: SetBlocks<N>> Ranges<N, B> {
     // The ranges of the blocks.
     fn of(mut blocks: B) -> Self
         ensures { IsRangeList (InUnion N.WIDTH (B.left blocks)) result }
@@ -53,7 +52,7 @@ impl<N: CidrNetwork, B: SetBlocks<N>> Ranges<N, B> {
     }
 }
 
-impl<N: CidrNetwork, B: SetBlocks<N>> Iterator for Ranges<N, B> {
+impl<N: AddressSpace, B: SetBlocks<N>> Iterator for Ranges<N, B> {
     type Item = (N::Addr, N::Addr);
 
     ghost next_gives = { YieldsFirstBy (λ r. (N.number r.0, N.number r.1)) (λ left. left) };
@@ -69,7 +68,7 @@ impl<N: CidrNetwork, B: SetBlocks<N>> Iterator for Ranges<N, B> {
 }
 
 // The last block of the run that begins with this one, and the block behind the run.
-fn last_of_run<N: CidrNetwork, B: SetBlocks<N>>(first: N, blocks: &mut B) -> (N, Option<N>)
+fn last_of_run<N: AddressSpace, B: SetBlocks<N>>(first: N, blocks: &mut B) -> (N, Option<N>)
     requires { IsAddressSet N.WIDTH (N.pair first ∷ B.left blocks.old) }
     ensures ahead { IsAhead N.WIDTH (option_map N.pair result.1) (B.left blocks.new) }
     ensures run { runs N.WIDTH (N.pair first ∷ B.left blocks.old) ≡ (low N.WIDTH (N.pair first), high N.WIDTH (N.pair result.0)) ∷ runs_left N.WIDTH (option_map N.pair result.1) (B.left blocks.new) }
@@ -88,7 +87,7 @@ fn last_of_run<N: CidrNetwork, B: SetBlocks<N>>(first: N, blocks: &mut B) -> (N,
 }
 
 // Whether the second network begins right behind the first.
-fn touches<N: CidrNetwork>(first: N, second: N) -> bool
+fn touches<N: AddressSpace>(first: N, second: N) -> bool
     ensures { IsTrue result ↔ Touches N.WIDTH (N.pair first) (N.pair second) }
 {
     let begin = second.ip();
@@ -98,7 +97,7 @@ fn touches<N: CidrNetwork>(first: N, second: N) -> bool
     }
 }
 
-impl<N: CidrNetwork> AddressSet<N> {
+impl<N: AddressSpace> AddressSet<N> {
     /// The first and the last address of each range of the set, in ascending order: the fewest ranges that there are.
     /// Goes over the blocks once, as the iterator is asked, and does not allocate.
     ///
@@ -114,7 +113,7 @@ impl<N: CidrNetwork> AddressSet<N> {
     }
 }
 
-impl<'a, N: CidrNetwork> Intersection<'a, N> {
+impl<'a, N: AddressSpace> Intersection<'a, N> {
     /// The ranges of the blocks that are still to come. Does not allocate.
     ///
     /// ```
@@ -130,7 +129,7 @@ impl<'a, N: CidrNetwork> Intersection<'a, N> {
     }
 }
 
-impl<'a, N: CidrNetwork> Difference<'a, N> {
+impl<'a, N: AddressSpace> Difference<'a, N> {
     /// The ranges of the blocks that are still to come. Does not allocate.
     ///
     /// ```
@@ -146,7 +145,7 @@ impl<'a, N: CidrNetwork> Difference<'a, N> {
     }
 }
 
-impl<'a, N: CidrNetwork> Union<'a, N> {
+impl<'a, N: AddressSpace> Union<'a, N> {
     /// The ranges of the blocks that are still to come. Does not allocate.
     ///
     /// ```

@@ -5,11 +5,10 @@ ghost use Rattle.ipnetwork_blocks.specs.Aggregate.{InUnion, LiesInUnion};
 ghost use Rattle.ipnetwork_sets.specs.Sets.{IsAddressSet, MeetsUnion};
 ghost use Rattle.ipnetwork_sets.specs.Private.Search.{NoneUpTo, IsLastUpTo};
 
-use ipnetwork_blocks::laws;
-use ipnetwork_family::CidrNetwork;
+use ipnetwork_blocks::{AddressSpace, laws};
 
 /// Whether the address is one of the set.
-pub(crate) fn contains<N: CidrNetwork>(blocks: &[N], addr: N::Addr) -> bool
+pub(crate) fn contains<N: AddressSpace>(blocks: &[N], addr: N::Addr) -> bool
     requires { IsAddressSet N.WIDTH (map N.pair blocks.now) }
     ensures { IsTrue result ↔ InUnion N.WIDTH (map N.pair blocks.now) (N.number addr) }
 {
@@ -21,7 +20,7 @@ pub(crate) fn contains<N: CidrNetwork>(blocks: &[N], addr: N::Addr) -> bool
 }
 
 /// Whether each address of the network is one of the set.
-pub(crate) fn covers<N: CidrNetwork>(blocks: &[N], network: N) -> bool
+pub(crate) fn covers<N: AddressSpace>(blocks: &[N], network: N) -> bool
     requires { IsAddressSet N.WIDTH (map N.pair blocks.now) }
     ensures { IsTrue result ↔ LiesInUnion N.WIDTH (N.pair network) (map N.pair blocks.now) }
 {
@@ -35,7 +34,7 @@ pub(crate) fn covers<N: CidrNetwork>(blocks: &[N], network: N) -> bool
 }
 
 /// Whether an address of the network is one of the set.
-pub(crate) fn overlaps<N: CidrNetwork>(blocks: &[N], network: N) -> bool
+pub(crate) fn overlaps<N: AddressSpace>(blocks: &[N], network: N) -> bool
     requires { IsAddressSet N.WIDTH (map N.pair blocks.now) }
     ensures { IsTrue result ↔ MeetsUnion N.WIDTH (N.pair network) (map N.pair blocks.now) }
 {
@@ -49,7 +48,7 @@ pub(crate) fn overlaps<N: CidrNetwork>(blocks: &[N], network: N) -> bool
 }
 
 // The last of the blocks that begins at the address or before it. As many steps as the length has bits.
-fn last_up_to<N: CidrNetwork>(blocks: &[N], addr: N::Addr) -> Option<N>
+fn last_up_to<N: AddressSpace>(blocks: &[N], addr: N::Addr) -> Option<N>
     requires { AllPairs (λ a b. a.address < b.address) (map N.pair blocks.now) }
     ensures { MatchOption result (NoneUpTo (map N.pair blocks.now) (N.number addr))
         (λ last. IsLastUpTo (map N.pair blocks.now) (N.number addr) (N.pair last)) }
@@ -71,7 +70,7 @@ fn last_up_to<N: CidrNetwork>(blocks: &[N], addr: N::Addr) -> Option<N>
 }
 
 // Whether the network's own address is this one, or comes before it.
-fn begins_up_to<N: CidrNetwork>(network: N, addr: N::Addr) -> bool
+fn begins_up_to<N: AddressSpace>(network: N, addr: N::Addr) -> bool
     ensures { IsTrue result ↔ ((N.pair network).address ≤ N.number addr) }
 {
     network.ip() <= addr

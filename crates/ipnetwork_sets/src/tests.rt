@@ -7,7 +7,7 @@ mod questions;
 mod ranges;
 
 use crate::AddressSet;
-use ipnetwork_family::CidrNetwork;
+use ipnetwork_blocks::AddressSpace;
 use std::alloc::Global;
 use std::str::FromStr;
 use std::test::Fail;
@@ -27,7 +27,7 @@ where
 }
 
 /// The set of the networks of these words.
-fn set<N: CidrNetwork + FromStr>(alloc: Global, words: &str) -> Result<AddressSet<N>, Fail>
+fn set<N: AddressSpace + FromStr>(alloc: Global, words: &str) -> Result<AddressSet<N>, Fail>
 where
     <N as FromStr>::Err: Drop,
 {

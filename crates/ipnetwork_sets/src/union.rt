@@ -7,8 +7,7 @@ ghost use Rattle.ipnetwork_sets.specs.Sets.{IsAddressSet, InEither};
 ghost use Rattle.ipnetwork_sets.specs.Private.Together.{at_hand, IsRun, IsFirst, EndsAt, IsLater};
 
 use crate::order::goes_on;
-use ipnetwork_blocks::{RangeBlocks, laws, range_to_blocks};
-use ipnetwork_family::CidrNetwork;
+use ipnetwork_blocks::{AddressSpace, RangeBlocks, laws, range_to_blocks};
 use std::marker::Model;
 
 /// The blocks of the union of two sets that are still to come, in ascending order.
@@ -20,7 +19,7 @@ use std::marker::Model;
 /// assert!(rt; blocks.eq(["192.0.2.0/25".parse()?, "192.0.3.0/24".parse()?]));
 /// ```
 #[derive(Drop)]
-pub struct Union<'a, N: CidrNetwork> {
+pub struct Union<'a, N: AddressSpace> {
     run: Option<RangeBlocks<N>>,
     first: &'a [N],
     second: &'a [N],
@@ -28,7 +27,7 @@ pub struct Union<'a, N: CidrNetwork> {
 
 // A contract sees an iterator as the list of the blocks still to come: those of the run at hand, and those of what both
 // sets have behind it.
-impl<'a, N: CidrNetwork> Model for Union<'a, N> {
+impl<'a, N: AddressSpace> Model for Union<'a, N> {
     ghost use Rattle.std.specs.Prelude.{List, ◌++◌, map};
     ghost use Rattle.ipnetwork_family.specs.Network.{Network};
     ghost use Rattle.ipnetwork_sets.specs.Sets.{IsAddressSet};
@@ -43,7 +42,7 @@ impl<'a, N: CidrNetwork> Model for Union<'a, N> {
         × IsAddressSet N.WIDTH (at_hand u.run ++ either_blocks N.WIDTH (map N.pair u.first.now) (map N.pair u.second.now)) };
 }
 
-impl<'a, N: CidrNetwork> Union<'a, N> {
+impl<'a, N: AddressSpace> Union<'a, N> {
     /// The blocks of the addresses that one of the sets has, or both.
     pub(crate) fn of(first: &'a [N], second: &'a [N]) -> Self
         requires first { IsAddressSet N.WIDTH (map N.pair first.now) }
@@ -65,7 +64,7 @@ impl<'a, N: CidrNetwork> Union<'a, N> {
     }
 }
 
-impl<'a, N: CidrNetwork> Iterator for Union<'a, N> {
+impl<'a, N: AddressSpace> Iterator for Union<'a, N> {
     type Item = N;
 
     ghost next_gives = { YieldsFirstBy N.pair (λ left. left) };
@@ -89,7 +88,7 @@ impl<'a, N: CidrNetwork> Iterator for Union<'a, N> {
 }
 
 // The next block of the run at hand, if it has one.
-fn next_at_hand<N: CidrNetwork>(run: &mut Option<RangeBlocks<N>>) -> Option<N>
+fn next_at_hand<N: AddressSpace>(run: &mut Option<RangeBlocks<N>>) -> Option<N>
     ensures { MatchOption result ((at_hand run.old ≡ []) × (at_hand run.new ≡ [])) (λ block. at_hand run.old ≡ N.pair block ∷ at_hand run.new) }
 {
     match run {
@@ -100,7 +99,7 @@ fn next_at_hand<N: CidrNetwork>(run: &mut Option<RangeBlocks<N>>) -> Option<N>
 
 // The first run of the union without a gap, by a block that begins with it and one that ends with it, and what is left
 // of both sets behind it.
-fn next_run<'a, N: CidrNetwork>(first: &'a [N], second: &'a [N]) -> Option<(N, N, &'a [N], &'a [N])>
+fn next_run<'a, N: AddressSpace>(first: &'a [N], second: &'a [N]) -> Option<(N, N, &'a [N], &'a [N])>
     requires first { IsAddressSet N.WIDTH (map N.pair first.now) }
     requires second { IsAddressSet N.WIDTH (map N.pair second.now) }
     ensures { MatchOption result ((first.now ≡ []) × (second.now ≡ []))
@@ -128,7 +127,7 @@ fn next_run<'a, N: CidrNetwork>(first: &'a [N], second: &'a [N]) -> Option<(N, N
 }
 
 // The first of the blocks and the others, if no address lies between the last one and it.
-fn take_next<'a, N: CidrNetwork>(last: N, blocks: &'a [N]) -> Option<(N, &'a [N])>
+fn take_next<'a, N: AddressSpace>(last: N, blocks: &'a [N]) -> Option<(N, &'a [N])>
     ensures { MatchOption result (EndsAt N.WIDTH (high N.WIDTH (N.pair last)) (map N.pair blocks.now))
         (λ r. (map N.pair blocks.now ≡ N.pair r.0 ∷ map N.pair r.1.now) × ((N.pair r.0).address ≤ high N.WIDTH (N.pair last) + 1)) }
 {
@@ -143,7 +142,7 @@ fn take_next<'a, N: CidrNetwork>(last: N, blocks: &'a [N]) -> Option<(N, &'a [N]
 }
 
 // Of the first blocks of both sets the one that begins first, and the others of both.
-fn take_first<'a, N: CidrNetwork>(first: &'a [N], second: &'a [N]) -> Option<(N, &'a [N], &'a [N])>
+fn take_first<'a, N: AddressSpace>(first: &'a [N], second: &'a [N]) -> Option<(N, &'a [N], &'a [N])>
     ensures { MatchOption result ((first.now ≡ []) × (second.now ≡ []))
         (λ r. IsFirst (map N.pair first.now) (map N.pair second.now) (N.pair r.0) (map N.pair r.1.now) (map N.pair r.2.now)) }
 {
@@ -164,7 +163,7 @@ fn take_first<'a, N: CidrNetwork>(first: &'a [N], second: &'a [N]) -> Option<(N,
 }
 
 // Of two networks the one that ends last.
-fn later<N: CidrNetwork>(first: N, second: N) -> N
+fn later<N: AddressSpace>(first: N, second: N) -> N
     ensures { IsLater (high N.WIDTH (N.pair first)) (high N.WIDTH (N.pair second)) (high N.WIDTH (N.pair result)) }
 {
     if first.broadcast() < second.broadcast() {

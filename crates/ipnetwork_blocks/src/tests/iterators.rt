@@ -1,12 +1,12 @@
 //! Long lists, copies of iterators, and how Debug prints them.
 
-use crate::{exclude, ipv4_hosts, ipv6_hosts, subnets};
+use crate::{AddressSpace, exclude, ipv4_hosts, ipv6_hosts, subnets};
 use ipnetwork_addr::{Ipv4Addr, Ipv6Addr};
-use ipnetwork_family::{CidrNetwork, Ipv4Network, Ipv6Network};
+use ipnetwork_family::{Ipv4Network, Ipv6Network};
 use std::test::Fail;
 
 /// How many blocks there are, and the last one.
-fn counted<N: CidrNetwork>(network: N, prefix: u8) -> Option<(u32, N)> {
+fn counted<N: AddressSpace>(network: N, prefix: u8) -> Option<(u32, N)> {
     let mut count = 0u32;
     let mut last = network;
     for block in subnets(network, prefix)? {

@@ -1,8 +1,8 @@
 //! Random lists of networks within 256 addresses, against a plain reference: an array with a mark for each address.
 
-use crate::aggregate_vec;
+use crate::{AddressSpace, aggregate_vec};
 use ipnetwork_addr::{Ipv4Addr, Ipv6Addr};
-use ipnetwork_family::{CidrNetwork, Ipv4Network, Ipv6Network};
+use ipnetwork_family::{Ipv4Network, Ipv6Network};
 use std::alloc::{AllocError, Global};
 use std::test::Fail;
 
@@ -34,7 +34,7 @@ fn widest(marks: &[bool; 256], start: usize) -> usize {
 }
 
 /// The blocks of the marked addresses: from the front, each time the greatest that begins there.
-fn blocks_of<N: CidrNetwork>(
+fn blocks_of<N: AddressSpace>(
     alloc: Global,
     table: &[N],
     marks: &[bool; 256],
@@ -56,7 +56,7 @@ fn blocks_of<N: CidrNetwork>(
 
 /// How many of so many random lists have an aggregate other than the marked blocks. The table has the network of
 /// address `i / 9` and of `i % 9` host bits at `i`.
-fn faults<N: CidrNetwork>(alloc: Global, table: &[N], lists: u32) -> Result<u32, AllocError> {
+fn faults<N: AddressSpace>(alloc: Global, table: &[N], lists: u32) -> Result<u32, AllocError> {
     let mut state = 1u64;
     let mut faults = 0u32;
     for list in 0..lists {

@@ -30,14 +30,14 @@ fn are_v4_neighbours(address: Ipv4Addr, before: Ipv4Addr) -> bool {
     if u32::from(address) == 0 || u32::from(before) == u32::MAX {
         return false;
     }
-    before.next() == address && address.previous() == before
+    before.next() == address && address.previous() == before && before.plus(1) == address
 }
 
 fn are_v6_neighbours(address: Ipv6Addr, before: Ipv6Addr) -> bool {
     if u128::from(address) == 0 || u128::from(before) == u128::MAX {
         return false;
     }
-    before.next() == address && address.previous() == before
+    before.next() == address && address.previous() == before && before.plus(1) == address
 }
 
 fn first_v4_strangers(rows: &[(&str, &str)]) -> Option<usize> {

@@ -2,14 +2,15 @@
 //! Python's `ipaddress`; those of a block of 64 addresses over a bitmap, with `collapse_addresses`.
 ghost use Rattle.std.specs.Iterator.{IsFinite};
 
+use ipnetwork_blocks::AddressSpace;
 use super::{networks, set};
-use ipnetwork_family::{CidrNetwork, Ipv4Network, Ipv6Network};
+use ipnetwork_family::{Ipv4Network, Ipv6Network};
 use std::alloc::Global;
 use std::str::FromStr;
 use std::test::Fail;
 
 /// Whether the items are these networks, in this order.
-fn lists<N: CidrNetwork + FromStr, I: Iterator<Item = N>>(
+fn lists<N: AddressSpace + FromStr, I: Iterator<Item = N>>(
     alloc: Global,
     items: I,
     wanted: &str,
@@ -27,7 +28,7 @@ where
 }
 
 /// Whether of the first two lists the common part, the difference and the union are the other three.
-fn combines<N: CidrNetwork + FromStr>(
+fn combines<N: AddressSpace + FromStr>(
     alloc: Global,
     first: &str,
     second: &str,

@@ -1,15 +1,16 @@
 //! What a set says of an address and of a network, and which lists are those of sets.
 
+use ipnetwork_blocks::AddressSpace;
 use super::{networks, set};
 use crate::AddressSet;
 use ipnetwork_addr::{Ipv4Addr, Ipv6Addr};
-use ipnetwork_family::{CidrNetwork, Ipv4Network, Ipv6Network};
+use ipnetwork_family::{Ipv4Network, Ipv6Network};
 use std::alloc::Global;
 use std::str::FromStr;
 use std::test::Fail;
 
 /// Whether the set of the first networks holds each of the first addresses, and none of the others.
-fn holds<N: CidrNetwork + FromStr>(
+fn holds<N: AddressSpace + FromStr>(
     alloc: Global,
     given: &str,
     inside: &str,
@@ -86,7 +87,7 @@ fn addresses(rt: HostRuntime) -> Result<(), Fail> {
 
 /// Whether of the set each of the first networks is covered, each of the second met and not covered, and each of the
 /// third not met.
-fn meets<N: CidrNetwork + FromStr>(
+fn meets<N: AddressSpace + FromStr>(
     alloc: Global,
     given: &str,
     covered: &str,
@@ -152,7 +153,7 @@ fn networks_in_sets(rt: HostRuntime) -> Result<(), Fail> {
 }
 
 /// Whether the list is that of a set, as it stands.
-fn is_set<N: CidrNetwork + FromStr>(alloc: Global, given: &str) -> Result<bool, Fail>
+fn is_set<N: AddressSpace + FromStr>(alloc: Global, given: &str) -> Result<bool, Fail>
 where
     <N as FromStr>::Err: Drop,
 {

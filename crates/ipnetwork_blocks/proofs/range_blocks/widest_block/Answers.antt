@@ -1,17 +1,62 @@
-use Rattle.std.proofs.Common.{arith}
+use Rattle.std.proofs.Common.{◌≡◌, ℕ, ◌-◌, ◌<◌, ◌≤◌, max, sym, ap, subst, ◌∙◌, arith}
 use Rattle.std.proofs.lemmas.Bool.{iff_false}
-use Rattle.ipnetwork_blocks.proofs.RangeLists.{maximal_of_all, maximal_below}
+use Rattle.ipnetwork_family.specs.Network.{Network, high}
+use Rattle.ipnetwork_blocks.specs.LeastList.{IsMaximalIn}
+use Rattle.ipnetwork_blocks.specs.Ranges.{FromTo}
+use Rattle.ipnetwork_blocks.proofs.RangeLists.{not_before}
+use Rattle.ipnetwork_blocks.proofs.WidestBlock.{AreEnds, at_first, widest_fits, widest_half}
 use Rattle.ipnetwork_blocks.proofs.range_blocks.widest_block.Goals as goal
+
+pub block_at-requires : goal.block_at-requires
+block_at-requires g c =
+    let w : ℕ = g.N.CidrNetwork.WIDTH in
+    let first : ℕ = g.N.CidrNetwork.number c.args.first in
+    let last : ℕ = g.N.CidrNetwork.number c.args.last in
+    let e : AreEnds w first last c.trailing_zeros.result c.shared_bits.result =
+    record { order = c.requires; first_fits = c.block_at-block.ensures.address; zeros_end = c.trailing_zeros.ensures; bits_shared = c.shared_bits.ensures } in
+    let is : c.max-prefix.result ≡ max (w - c.trailing_zeros.result) c.shared_bits.result = omega (arith, c.max-prefix.ensures, c.WIDTH.ensures) in
+    let late = subst (λ (b : Network). last < high w b) c.block_at-block.ensures.made (c.ends_behind.ensures.0 c.if-ends_behind.true) in
+    (widest_half w first last _ _ _ e is late).0
+
+pub returns-then-ends_behind-clause-begins : goal.returns-then-ends_behind-clause-begins
+returns-then-ends_behind-clause-begins g c =
+    let w : ℕ = g.N.CidrNetwork.WIDTH in
+    let first : ℕ = g.N.CidrNetwork.number c.args.first in
+    let last : ℕ = g.N.CidrNetwork.number c.args.last in
+    let e : AreEnds w first last c.trailing_zeros.result c.shared_bits.result =
+    record { order = c.requires; first_fits = c.block_at-block.ensures.address; zeros_end = c.trailing_zeros.ensures; bits_shared = c.shared_bits.ensures } in
+    let is : c.max-prefix.result ≡ max (w - c.trailing_zeros.result) c.shared_bits.result = omega (arith, c.max-prefix.ensures, c.WIDTH.ensures) in
+    let late = subst (λ (b : Network). last < high w b) c.block_at-block.ensures.made (c.ends_behind.ensures.0 c.if-ends_behind.true) in
+    ap (λ n. n.address) c.block_at.ensures.made ∙ (widest_half w first last _ _ _ e is late).1
+
+pub returns-then-ends_behind-clause-maximal : goal.returns-then-ends_behind-clause-maximal
+returns-then-ends_behind-clause-maximal g c =
+    let w : ℕ = g.N.CidrNetwork.WIDTH in
+    let first : ℕ = g.N.CidrNetwork.number c.args.first in
+    let last : ℕ = g.N.CidrNetwork.number c.args.last in
+    let e : AreEnds w first last c.trailing_zeros.result c.shared_bits.result =
+    record { order = c.requires; first_fits = c.block_at-block.ensures.address; zeros_end = c.trailing_zeros.ensures; bits_shared = c.shared_bits.ensures } in
+    let is : c.max-prefix.result ≡ max (w - c.trailing_zeros.result) c.shared_bits.result = omega (arith, c.max-prefix.ensures, c.WIDTH.ensures) in
+    let late = subst (λ (b : Network). last < high w b) c.block_at-block.ensures.made (c.ends_behind.ensures.0 c.if-ends_behind.true) in
+    subst (λ (b : Network). IsMaximalIn w (FromTo first last) b) (sym c.block_at.ensures.made) (widest_half w first last _ _ _ e is late).2
+
+pub returns-clause-begins : goal.returns-clause-begins
+returns-clause-begins g c =
+    let w : ℕ = g.N.CidrNetwork.WIDTH in
+    let first : ℕ = g.N.CidrNetwork.number c.args.first in
+    let last : ℕ = g.N.CidrNetwork.number c.args.last in
+    let e : AreEnds w first last c.trailing_zeros.result c.shared_bits.result =
+    record { order = c.requires; first_fits = c.block_at-block.ensures.address; zeros_end = c.trailing_zeros.ensures; bits_shared = c.shared_bits.ensures } in
+    let is : c.max-prefix.result ≡ max (w - c.trailing_zeros.result) c.shared_bits.result = omega (arith, c.max-prefix.ensures, c.WIDTH.ensures) in
+    ap (λ n. n.address) c.block_at-block.ensures.made ∙ at_first w first last _ _ _ e is
 
 pub returns-clause-maximal : goal.returns-clause-maximal
 returns-clause-maximal g c =
-    let i = c.loop-prefix.invariant in
-    maximal_of_all g.N.CidrNetwork.WIDTH (g.N.CidrNetwork.number c.args.first) (g.N.CidrNetwork.number c.args.last) c.loop-prefix.prefix (g.N.CidrNetwork.pair c.loop-prefix.block)
-    i.is (omega arith) c.block.ensures.address i.begins i.ends
-
-pub returns-then-not-lies_between-clause-maximal : goal.returns-then-not-lies_between-clause-maximal
-returns-then-not-lies_between-clause-maximal g c =
-    let i = c.loop-prefix.invariant in
-    maximal_below g.N.CidrNetwork.WIDTH (g.N.CidrNetwork.number c.args.first) (g.N.CidrNetwork.number c.args.last) c.loop-prefix.prefix
-    (g.N.CidrNetwork.pair c.loop-prefix.block) (g.N.CidrNetwork.pair c.in-Some-block.wider) i.is c.in-Some-block.ensures.cases.1 c.block.ensures.address i.fits i.begins i.ends
-    (iff_false c.lies_between.ensures c.if-not-lies_between.true)
+    let w : ℕ = g.N.CidrNetwork.WIDTH in
+    let first : ℕ = g.N.CidrNetwork.number c.args.first in
+    let last : ℕ = g.N.CidrNetwork.number c.args.last in
+    let e : AreEnds w first last c.trailing_zeros.result c.shared_bits.result =
+    record { order = c.requires; first_fits = c.block_at-block.ensures.address; zeros_end = c.trailing_zeros.ensures; bits_shared = c.shared_bits.ensures } in
+    let is : c.max-prefix.result ≡ max (w - c.trailing_zeros.result) c.shared_bits.result = omega (arith, c.max-prefix.ensures, c.WIDTH.ensures) in
+    let early = subst (λ (b : Network). high w b ≤ last) c.block_at-block.ensures.made (not_before _ _ (iff_false c.ends_behind.ensures c.if-ends_behind.false)) in
+    subst (λ (b : Network). IsMaximalIn w (FromTo first last) b) (sym c.block_at-block.ensures.made) (widest_fits w first last _ _ _ e is early)

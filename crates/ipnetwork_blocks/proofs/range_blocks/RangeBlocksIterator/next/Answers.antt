@@ -1,4 +1,4 @@
-use Rattle.std.proofs.Common.{◌≤◌, ℕ, ◌∙◌, sym, ap}
+use Rattle.std.proofs.Common.{◌≤◌, ◌+◌, ℕ, ◌∙◌, sym, ap}
 use Rattle.std.proofs.lemmas.Bool.{iff_false}
 use Rattle.ipnetwork_family.specs.Network.{Network, high}
 use Rattle.ipnetwork_blocks.proofs.RangeLists.{not_before, ends_at_last, goes_on, list_falls}
@@ -15,9 +15,9 @@ returns-clause-steps g c =
     let maximal = c.widest_block-block.ensures.maximal in
     elim c.if-ends_before.branch [
       | then-ends_before+in-Some v ↦
-          let next : ℕ = g.N.CidrNetwork.number v.network-self-inside.result in
+          let next : ℕ = g.N.CidrNetwork.number v.in-Some.next in
           sym c.self.view_is ∙ goes_on w first last next c.self.inside.is_done b c.if-ends_before.self c.if-self.false c.self.invariant.1 maximal begins
-          (v.network-self-inside.ensures ∙ sym v.in-Some.ensures.2 ∙ ap (λ n. n.address) v.in-Some.ensures.1) v.self-is
+          (v.in-Some.ensures.1 ∙ ap (λ k. k + 1) v.broadcast.ensures) v.self-is
       | else-ends_before v ↦
           let ends : last ≤ high w b = not_before (high w b) last (iff_false c.ends_before.ensures v.if-ends_before.false) in
           sym c.self.view_is ∙ ends_at_last w first last c.self.inside.is_done b c.if-ends_before.self c.if-self.false c.self.invariant.1 maximal begins ends v.self-is
