@@ -3,20 +3,19 @@ ghost use Rattle.std.specs.Prelude.{◌≡◌, ◌++◌, ◌∷◌, ◌<◌, ◌
 ghost use Rattle.ipnetwork_blocks.specs.Aggregate.{IsAggregate};
 ghost use Rattle.address_lists.specs.Added.{AddsBlocks};
 
-use ipnetwork_blocks::range_to_blocks;
-use ipnetwork_family::CidrNetwork;
+use ipnetwork_blocks::{AddressSpace, range_to_blocks};
 use ipnetwork_sets::AddressSet;
 use std::alloc::{AllocError, Global};
 use std::marker::Model;
 
 /// Networks of one family.
 #[derive(Debug, Drop)]
-pub(crate) struct Networks<N: CidrNetwork> {
+pub(crate) struct Networks<N: AddressSpace> {
     networks: Vec<N>,
 }
 
 // A contract sees the list of the networks.
-impl<N: CidrNetwork> Model for Networks<N> {
+impl<N: AddressSpace> Model for Networks<N> {
     ghost use Rattle.std.specs.Prelude.{List, map};
     ghost use Rattle.ipnetwork_family.specs.Network.{Network};
 
@@ -25,7 +24,7 @@ impl<N: CidrNetwork> Model for Networks<N> {
     ghost view = { λ n. map N.pair n.networks.items };
 }
 
-impl<N: CidrNetwork> Networks<N> {
+impl<N: AddressSpace> Networks<N> {
     /// None. Does not allocate.
     pub(crate) fn new(alloc: Global) -> Networks<N>
         ensures { result ≡ [] }

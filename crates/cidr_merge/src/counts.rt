@@ -5,6 +5,7 @@ ghost use Rattle.ipnetwork_sets.specs.Counts.{count_number, total};
 ghost use Rattle.cidr_merge.specs.Private.Sweeps.{blocks_left};
 
 use crate::sweep::Sweep;
+use ipnetwork_blocks::AddressSpace;
 use arrayvec::ArrayString;
 use ipnetwork::CidrNetwork;
 use ipnetwork_addr::decimal::push_number;
@@ -19,7 +20,7 @@ pub(crate) struct Counts {
 
 impl Counts {
     /// The counts of these blocks.
-    pub(crate) fn of<N: CidrNetwork>(mut blocks: Sweep<'_, N>) -> Counts
+    pub(crate) fn of<N: AddressSpace>(mut blocks: Sweep<'_, N>) -> Counts
         ensures blocks { result.blocks ≡ min (length (blocks_left N.pair blocks.entry)) (2 ^ 128 - 1) }
         ensures addresses { count_number result.addresses ≡ min (total N.WIDTH (blocks_left N.pair blocks.entry)) (2 ^ 128) }
     {

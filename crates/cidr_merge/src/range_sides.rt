@@ -8,19 +8,20 @@ ghost use Rattle.cidr_merge.specs.Private.Sweeps.{with_head, left_of_second};
 use crate::command_line::Operation;
 use crate::range_sweep::RangeSweep;
 use crate::sides::Side;
+use ipnetwork_blocks::AddressSpace;
 use ipnetwork::CidrNetwork;
 use ipnetwork_sets::AddressSet;
 
 /// The ranges of two sides that are still to come.
 #[derive(Drop)]
-pub(crate) struct RangeSides<'a, N: CidrNetwork> {
+pub(crate) struct RangeSides<'a, N: AddressSpace> {
     first: Option<(N::Addr, N::Addr)>,
     firsts: RangeSweep<'a, N>,
     second: Option<(N::Addr, N::Addr)>,
     seconds: RangeSweep<'a, N>,
 }
 
-impl<'a, N: CidrNetwork> RangeSides<'a, N> {
+impl<'a, N: AddressSpace> RangeSides<'a, N> {
     /// What the operation leaves of two sets: only `differ` leaves anything of the second.
     pub(crate) fn left(
         operation: Operation,
@@ -92,7 +93,7 @@ impl<'a, N: CidrNetwork> RangeSides<'a, N> {
 }
 
 // The first range that the operation leaves of the second side.
-fn first_of_second<'a, N: CidrNetwork>(
+fn first_of_second<'a, N: AddressSpace>(
     operation: Operation,
     seconds: &mut RangeSweep<'a, N>,
 ) -> Option<(N::Addr, N::Addr)>
@@ -107,7 +108,7 @@ fn first_of_second<'a, N: CidrNetwork>(
 }
 
 // Whether the first range begins before the second.
-fn begins_before<N: CidrNetwork>(first: (N::Addr, N::Addr), second: (N::Addr, N::Addr)) -> bool
+fn begins_before<N: AddressSpace>(first: (N::Addr, N::Addr), second: (N::Addr, N::Addr)) -> bool
     ensures { IsTrue result ↔ (N.number first.0 < N.number second.0) }
 {
     first.0 < second.0

@@ -5,19 +5,20 @@ ghost use Rattle.cidr_merge.specs.Answers.{IsLeft};
 ghost use Rattle.cidr_merge.specs.Private.Ranges.{ranges_left};
 
 use crate::command_line::Operation;
+use ipnetwork_blocks::AddressSpace;
 use ipnetwork::CidrNetwork;
 use ipnetwork_sets::laws::shortest;
 use ipnetwork_sets::{AddressSet, Blocks, Difference, Intersection, Ranges};
 
 /// The ranges that are still to come, in ascending order: of each its first and its last address.
 #[derive(Drop)]
-pub(crate) enum RangeSweep<'a, N: CidrNetwork> {
+pub(crate) enum RangeSweep<'a, N: AddressSpace> {
     Whole(Ranges<N, Blocks<'a, N>>),
     Common(Ranges<N, Intersection<'a, N>>),
     Alone(Ranges<N, Difference<'a, N>>),
 }
 
-impl<'a, N: CidrNetwork> RangeSweep<'a, N> {
+impl<'a, N: AddressSpace> RangeSweep<'a, N> {
     /// What the operation leaves of the first of two sets. For a union that is all of it.
     pub(crate) fn of(
         operation: Operation,

@@ -6,6 +6,7 @@ ghost use Rattle.cidr_merge.specs.Private.Sweeps.{blocks_left, with_head, left_o
 
 use crate::command_line::Operation;
 use crate::sweep::Sweep;
+use ipnetwork_blocks::AddressSpace;
 use ipnetwork::CidrNetwork;
 use ipnetwork_sets::AddressSet;
 
@@ -18,14 +19,14 @@ pub(crate) enum Side {
 
 /// The blocks of two sides that are still to come.
 #[derive(Drop)]
-pub(crate) struct Sides<'a, N: CidrNetwork> {
+pub(crate) struct Sides<'a, N: AddressSpace> {
     first: Option<N>,
     firsts: Sweep<'a, N>,
     second: Option<N>,
     seconds: Sweep<'a, N>,
 }
 
-impl<'a, N: CidrNetwork> Sides<'a, N> {
+impl<'a, N: AddressSpace> Sides<'a, N> {
     /// What the operation leaves of two sets: only `differ` leaves anything of the second.
     pub(crate) fn left(
         operation: Operation,
@@ -97,7 +98,7 @@ impl<'a, N: CidrNetwork> Sides<'a, N> {
 }
 
 // The first block that the operation leaves of the second side.
-fn first_of_second<'a, N: CidrNetwork>(
+fn first_of_second<'a, N: AddressSpace>(
     operation: Operation,
     seconds: &mut Sweep<'a, N>,
 ) -> Option<N>
@@ -112,7 +113,7 @@ fn first_of_second<'a, N: CidrNetwork>(
 }
 
 // Whether the address of the first comes before that of the second.
-fn begins_before<N: CidrNetwork>(first: N, second: N) -> bool
+fn begins_before<N: AddressSpace>(first: N, second: N) -> bool
     ensures { IsTrue result ↔ ((N.pair first).address < (N.pair second).address) }
 {
     first.ip() < second.ip()

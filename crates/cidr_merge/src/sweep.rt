@@ -6,19 +6,20 @@ ghost use Rattle.cidr_merge.specs.Private.Sweeps.{blocks_left};
 ghost use Rattle.cidr_merge.specs.Private.Totals.{AddUp};
 
 use crate::command_line::Operation;
+use ipnetwork_blocks::AddressSpace;
 use ipnetwork::CidrNetwork;
 use ipnetwork_sets::laws::{fewer_blocks, shortest, sums};
 use ipnetwork_sets::{AddressSet, Difference, Intersection};
 
 /// The blocks that are still to come, in ascending order.
 #[derive(Drop)]
-pub(crate) enum Sweep<'a, N: CidrNetwork> {
+pub(crate) enum Sweep<'a, N: AddressSpace> {
     Whole(&'a [N]),
     Common(Intersection<'a, N>),
     Alone(Difference<'a, N>),
 }
 
-impl<'a, N: CidrNetwork> Sweep<'a, N> {
+impl<'a, N: AddressSpace> Sweep<'a, N> {
     /// What the operation leaves of the first of two sets. For a union that is all of it.
     pub(crate) fn of(
         operation: Operation,
