@@ -5,10 +5,10 @@ ghost use Rattle.ipnetwork_sets.specs.Counts.{count_number, total};
 ghost use Rattle.cidr_merge.specs.Private.Sweeps.{blocks_left};
 
 use crate::sweep::Sweep;
-use ipnetwork_blocks::AddressSpace;
 use arrayvec::ArrayString;
 use ipnetwork::CidrNetwork;
 use ipnetwork_addr::decimal::push_number;
+use ipnetwork_blocks::AddressSpace;
 use ipnetwork_sets::AddressCount;
 
 /// How many blocks there are, and how many addresses they have.

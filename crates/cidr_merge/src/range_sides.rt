@@ -8,8 +8,8 @@ ghost use Rattle.cidr_merge.specs.Private.Sweeps.{with_head, left_of_second};
 use crate::command_line::Operation;
 use crate::range_sweep::RangeSweep;
 use crate::sides::Side;
-use ipnetwork_blocks::AddressSpace;
 use ipnetwork::CidrNetwork;
+use ipnetwork_blocks::AddressSpace;
 use ipnetwork_sets::AddressSet;
 
 /// The ranges of two sides that are still to come.

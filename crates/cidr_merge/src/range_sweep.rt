@@ -5,8 +5,8 @@ ghost use Rattle.cidr_merge.specs.Answers.{IsLeft};
 ghost use Rattle.cidr_merge.specs.Private.Ranges.{ranges_left};
 
 use crate::command_line::Operation;
-use ipnetwork_blocks::AddressSpace;
 use ipnetwork::CidrNetwork;
+use ipnetwork_blocks::AddressSpace;
 use ipnetwork_sets::laws::shortest;
 use ipnetwork_sets::{AddressSet, Blocks, Difference, Intersection, Ranges};
 

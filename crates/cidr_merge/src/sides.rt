@@ -6,8 +6,8 @@ ghost use Rattle.cidr_merge.specs.Private.Sweeps.{blocks_left, with_head, left_o
 
 use crate::command_line::Operation;
 use crate::sweep::Sweep;
-use ipnetwork_blocks::AddressSpace;
 use ipnetwork::CidrNetwork;
+use ipnetwork_blocks::AddressSpace;
 use ipnetwork_sets::AddressSet;
 
 /// A side of an operation.

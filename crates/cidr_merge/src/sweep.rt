@@ -6,8 +6,8 @@ ghost use Rattle.cidr_merge.specs.Private.Sweeps.{blocks_left};
 ghost use Rattle.cidr_merge.specs.Private.Totals.{AddUp};
 
 use crate::command_line::Operation;
-use ipnetwork_blocks::AddressSpace;
 use ipnetwork::CidrNetwork;
+use ipnetwork_blocks::AddressSpace;
 use ipnetwork_sets::laws::{fewer_blocks, shortest, sums};
 use ipnetwork_sets::{AddressSet, Difference, Intersection};
 

@@ -7,9 +7,9 @@ ghost use Rattle.std.specs.Ordering.{nat_cmp, on, as_partial_cmp};
 ghost use Rattle.ipnetwork_family.specs.Network.{block_size};
 ghost use Rattle.ipnetwork_sets.specs.Counts.{count_number};
 
-use ipnetwork_blocks::AddressSpace;
 use arrayvec::ArrayString;
 use ipnetwork_addr::decimal::push_number;
+use ipnetwork_blocks::AddressSpace;
 use ipnetwork_family::NetworkSizeError;
 use std::cmp::Ordering;
 use std::fmt;

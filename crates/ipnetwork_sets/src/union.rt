@@ -99,7 +99,10 @@ fn next_at_hand<N: AddressSpace>(run: &mut Option<RangeBlocks<N>>) -> Option<N>
 
 // The first run of the union without a gap, by a block that begins with it and one that ends with it, and what is left
 // of both sets behind it.
-fn next_run<'a, N: AddressSpace>(first: &'a [N], second: &'a [N]) -> Option<(N, N, &'a [N], &'a [N])>
+fn next_run<'a, N: AddressSpace>(
+    first: &'a [N],
+    second: &'a [N],
+) -> Option<(N, N, &'a [N], &'a [N])>
     requires first { IsAddressSet N.WIDTH (map N.pair first.now) }
     requires second { IsAddressSet N.WIDTH (map N.pair second.now) }
     ensures { MatchOption result ((first.now ≡ []) × (second.now ≡ []))

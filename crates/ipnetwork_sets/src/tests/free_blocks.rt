@@ -1,8 +1,8 @@
 //! The first free block of a prefix length. Expected values: the first of `subnets` of Python's `ipaddress` that
 //! `overlaps` none of the networks.
 
-use ipnetwork_blocks::AddressSpace;
 use super::set;
+use ipnetwork_blocks::AddressSpace;
 use ipnetwork_family::{Ipv4Network, Ipv6Network};
 use std::alloc::Global;
 use std::str::FromStr;
@@ -51,7 +51,10 @@ const V6_ROWS: [Row; 3] = [
 ];
 
 /// The index of the first row that does not hold.
-fn first_wrong<N: AddressSpace + FromStr>(alloc: Global, rows: &[Row]) -> Result<Option<usize>, Fail>
+fn first_wrong<N: AddressSpace + FromStr>(
+    alloc: Global,
+    rows: &[Row],
+) -> Result<Option<usize>, Fail>
 where
     <N as FromStr>::Err: Drop,
 {

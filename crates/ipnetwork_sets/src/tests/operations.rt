@@ -2,8 +2,8 @@
 //! Python's `ipaddress`; those of a block of 64 addresses over a bitmap, with `collapse_addresses`.
 ghost use Rattle.std.specs.Iterator.{IsFinite};
 
-use ipnetwork_blocks::AddressSpace;
 use super::{networks, set};
+use ipnetwork_blocks::AddressSpace;
 use ipnetwork_family::{Ipv4Network, Ipv6Network};
 use std::alloc::Global;
 use std::str::FromStr;

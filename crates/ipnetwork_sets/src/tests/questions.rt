@@ -1,9 +1,9 @@
 //! What a set says of an address and of a network, and which lists are those of sets.
 
-use ipnetwork_blocks::AddressSpace;
 use super::{networks, set};
 use crate::AddressSet;
 use ipnetwork_addr::{Ipv4Addr, Ipv6Addr};
+use ipnetwork_blocks::AddressSpace;
 use ipnetwork_family::{Ipv4Network, Ipv6Network};
 use std::alloc::Global;
 use std::str::FromStr;
