@@ -1,6 +1,7 @@
 -- An address with a `::`, by how many groups are written.
 use Rattle.std.proofs.Common.{◌≡◌, ℕ, ◌+◌, ◌-◌, ◌^◌, ◌≤◌, List, [], ◌∷◌, ◌++◌, length, replicate, ap, ◌∙◌, arith}
 use Rattle.std.specs.Int.Digits.{number_from_digits}
+use Rattle.ipnetwork_addr.specs.Texts.{colon}
 use Rattle.ipnetwork_addr.specs.Ipv6Text.{IsPlain, IsEnded, IsCompressed}
 
 module _ (text : List ℕ) (address : ℕ) (h : IsCompressed text address) where
@@ -12,7 +13,7 @@ module _ (text : List ℕ) (address : ℕ) (h : IsCompressed text address) where
       let e : h.missing ≡ 8 - length h.high - length h.low = omega (arith, h.eight) in
       h.value ∙ ap (λ n. number_from_digits (2 ^ 16) (h.high ++ replicate n 0 ++ h.low)) e
 
-pub compressed : (text before behind high low : List ℕ) (address : ℕ) → text ≡ before ++ (58 ∷ 58 ∷ []) ++ behind → IsPlain before high → IsEnded behind low → length high + length low ≤ 7
+pub compressed : (text before behind high low : List ℕ) (address : ℕ) → text ≡ before ++ (colon ∷ colon ∷ []) ++ behind → IsPlain before high → IsEnded behind low → length high + length low ≤ 7
     → address ≡ number_from_digits (2 ^ 16) (high ++ replicate (8 - length high - length low) 0 ++ low) → IsCompressed text address
 compressed text before behind high low address split plain ended room value = record {
   before = before;

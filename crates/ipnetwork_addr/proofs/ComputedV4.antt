@@ -9,6 +9,7 @@ use Rattle.std.specs.Prelude.{nat_lt, bytes_eq}
 use Rattle.std.specs.List.{slice_split}
 use Rattle.std.specs.Int.Digits.{number_from_digits}
 use Rattle.std.specs.Str.Parse.{AllDigits, digits_value}
+use Rattle.ipnetwork_addr.specs.Texts.{dot}
 use Rattle.ipnetwork_addr.specs.Ipv4Text.{NamesV4, canonical_v4}
 use Rattle.ipnetwork_addr.specs.Computed.Ipv4Text.{v4_of}
 use Rattle.ipnetwork_addr.proofs.Ipv4Lemmas.{Chain, reading_of, number_of, canonical_v4_names}
@@ -18,7 +19,7 @@ named_by_print text n fits e = subst (λ (t : List ℕ). NamesV4 t n) (sym e) (c
 
 pub v4_of_sound : (text : List ℕ) (address : ℕ) → v4_of text ≡ Some address → NamesV4 text address
 v4_of_sound text address =
-    let n : ℕ = number_from_digits 256 (map (digits_value 10) (slice_split (λ b. b == 46) text)) in
+    let n : ℕ = number_from_digits 256 (map (digits_value 10) (slice_split (λ b. b == dot) text)) in
     cond_both (nat_lt n (2 ^ 32)) _ _ (λ (r : Option ℕ). r ≡ Some address → NamesV4 text address)
     (λ fits. cond_both (bytes_eq text (canonical_v4 n)) _ _ (λ (r : Option ℕ). r ≡ Some address → NamesV4 text address)
     (λ same e. subst (NamesV4 text) (same_Some n address e) (named_by_print text n (ltb-true n (2 ^ 32) fits) ((bytes_eq-Decides text (canonical_v4 n)).0 same)))
@@ -29,17 +30,17 @@ v4_of_sound text address =
 
 abbrev NoDot : List ℕ → Type 0
 NoDot [] = Unit {0}
-NoDot (x ∷ xs) = ((x == 46) ≡ false) × NoDot xs
+NoDot (x ∷ xs) = ((x == dot) ≡ false) × NoDot xs
 
 digits_no_dot : (ds : List ℕ) → AllDigits 10 ds → NoDot ds
 digits_no_dot [] h = tt
-digits_no_dot (d ∷ ds) h = let within = digit_from_value d h.0 in (ne_eqb d 46 (λ e. omega arith), digits_no_dot ds h.1)
+digits_no_dot (d ∷ ds) h = let within = digit_from_value d h.0 in (ne_eqb d dot (λ e. omega arith), digits_no_dot ds h.1)
 
-split_at : (a b : List ℕ) → NoDot a → slice_split (λ x. x == 46) (a ++ 46 ∷ b) ≡ a ∷ slice_split (λ x. x == 46) b
+split_at : (a b : List ℕ) → NoDot a → slice_split (λ x. x == dot) (a ++ dot ∷ b) ≡ a ∷ slice_split (λ x. x == dot) b
 split_at [] b h = refl
 split_at (x ∷ a) b h = simp (h.0, split_at a b h.1)
 
-split_none : (a : List ℕ) → NoDot a → slice_split (λ x. x == 46) a ≡ a ∷ []
+split_none : (a : List ℕ) → NoDot a → slice_split (λ x. x == dot) a ≡ a ∷ []
 split_none [] h = refl
 split_none (x ∷ a) h = simp (h.0, split_none a h.1)
 
@@ -49,26 +50,26 @@ decimal_no_dot n bound = digits_no_dot (decimal n) (decimal_is_IsNumeral n (omeg
 decimal_value : (n : ℕ) → n ≤ 255 → digits_value 10 (decimal n) ≡ n
 decimal_value n bound = (decimal_is_IsNumeral n (omega arith)).1
 
-spelled_out : (text : List ℕ) (a b c d : ℕ) → Chain text a b c d → text ≡ decimal a ++ 46 ∷ (decimal b ++ 46 ∷ (decimal c ++ 46 ∷ decimal d))
+spelled_out : (text : List ℕ) (a b c d : ℕ) → Chain text a b c d → text ≡ decimal a ++ dot ∷ (decimal b ++ dot ∷ (decimal c ++ dot ∷ decimal d))
 spelled_out text a b c d k =
     k.first.split
     ∙ ap (λ z. decimal a ++ z) (k.second.dotted
-    ∙ ap (λ z. 46 ∷ z) (k.second.begins.split
+    ∙ ap (λ z. dot ∷ z) (k.second.begins.split
     ∙ ap (λ z. decimal b ++ z) (k.third.dotted
-    ∙ ap (λ z. 46 ∷ z) (k.third.begins.split
+    ∙ ap (λ z. dot ∷ z) (k.third.begins.split
     ∙ ap (λ z. decimal c ++ z) (k.fourth.dotted
-    ∙ ap (λ z. 46 ∷ z) (k.fourth.begins.split ∙ append-nil (decimal d)))))))
+    ∙ ap (λ z. dot ∷ z) (k.fourth.begins.split ∙ append-nil (decimal d)))))))
 
-parts_of : (text : List ℕ) (a b c d : ℕ) → Chain text a b c d → map (digits_value 10) (slice_split (λ x. x == 46) text) ≡ a ∷ b ∷ c ∷ d ∷ []
+parts_of : (text : List ℕ) (a b c d : ℕ) → Chain text a b c d → map (digits_value 10) (slice_split (λ x. x == dot) text) ≡ a ∷ b ∷ c ∷ d ∷ []
 parts_of text a b c d k =
     let bound_a = k.first.bound in
     let bound_b = k.second.begins.bound in
     let bound_c = k.third.begins.bound in
     let bound_d = k.fourth.begins.bound in
-    let parts : slice_split (λ x. x == 46) text ≡ decimal a ∷ decimal b ∷ decimal c ∷ decimal d ∷ [] =
-    ap (slice_split (λ x. x == 46)) (spelled_out text a b c d k)
-    ∙ split_at (decimal a) (decimal b ++ 46 ∷ (decimal c ++ 46 ∷ decimal d)) (decimal_no_dot a bound_a)
-    ∙ ap (λ z. decimal a ∷ z) (split_at (decimal b) (decimal c ++ 46 ∷ decimal d) (decimal_no_dot b bound_b)
+    let parts : slice_split (λ x. x == dot) text ≡ decimal a ∷ decimal b ∷ decimal c ∷ decimal d ∷ [] =
+    ap (slice_split (λ x. x == dot)) (spelled_out text a b c d k)
+    ∙ split_at (decimal a) (decimal b ++ dot ∷ (decimal c ++ dot ∷ decimal d)) (decimal_no_dot a bound_a)
+    ∙ ap (λ z. decimal a ∷ z) (split_at (decimal b) (decimal c ++ dot ∷ decimal d) (decimal_no_dot b bound_b)
     ∙ ap (λ z. decimal b ∷ z) (split_at (decimal c) (decimal d) (decimal_no_dot c bound_c)
     ∙ ap (λ z. decimal c ∷ z) (split_none (decimal d) (decimal_no_dot d bound_d)))) in
     ap (map (digits_value 10)) parts ∙ rw (decimal_value a bound_a, decimal_value b bound_b, decimal_value c bound_c, decimal_value d bound_d)
@@ -92,7 +93,7 @@ v4_of_complete text address h =
     let k = reading_of text address h in
     let whole = own_text text k.a k.b k.c k.d k.chain in
     let n : ℕ = number_of k.a k.b k.c k.d in
-    let read : number_from_digits 256 (map (digits_value 10) (slice_split (λ b. b == 46) text)) ≡ n =
+    let read : number_from_digits 256 (map (digits_value 10) (slice_split (λ b. b == dot) text)) ≡ n =
     ap (number_from_digits 256) (parts_of text k.a k.b k.c k.d k.chain) in
     let fits : nat_lt n (2 ^ 32) ≡ true = lt-ltb n (2 ^ 32) whole.0 in
     let same : bytes_eq text (canonical_v4 n) ≡ true = (bytes_eq-Decides text (canonical_v4 n)).1 whole.1 in

@@ -10,6 +10,7 @@ use Rattle.std.specs.Char.{digit_value, is_digit}
 use Rattle.std.specs.List.{list_all, join_with_byte, AllZip}
 use Rattle.std.specs.Int.Digits.{number_from_digits}
 use Rattle.std.specs.Str.Parse.{AllDigits, digits_value}
+use Rattle.ipnetwork_addr.specs.Texts.{colon}
 use Rattle.ipnetwork_addr.specs.Ipv4Text.{NamesV4}
 use Rattle.ipnetwork_addr.specs.Computed.Ipv4Text.{v4_of}
 use Rattle.ipnetwork_addr.specs.Ipv6Text.{IsGroup, IsPlain, IsDotted, IsEnded, NamesV6, two_groups}
@@ -80,16 +81,16 @@ groups_complete (part ∷ parts) (g ∷ gs) h = rw (group_complete part g h.0, g
 
 abbrev NoColon : List ℕ → Type 0
 NoColon [] = Unit {0}
-NoColon (x ∷ xs) = ((x == 58) ≡ false) × NoColon xs
+NoColon (x ∷ xs) = ((x == colon) ≡ false) × NoColon xs
 
-hex_is_no_colon : (x : ℕ) → digit_value x < 16 → (x == 58) ≡ false
-hex_is_no_colon x below = ne_eqb x 58 (λ e. let k : digit_value 58 < 16 = subst (λ (y : ℕ). digit_value y < 16) e below in omega (arith, k))
+hex_is_no_colon : (x : ℕ) → digit_value x < 16 → (x == colon) ≡ false
+hex_is_no_colon x below = ne_eqb x colon (λ e. let k : digit_value colon < 16 = subst (λ (y : ℕ). digit_value y < 16) e below in omega (arith, k))
 
 digits_no_colon : (text : List ℕ) → AllDigits 16 text → NoColon text
 digits_no_colon [] h = tt
 digits_no_colon (x ∷ text) h = (hex_is_no_colon x h.0, digits_no_colon text h.1)
 
-split_at : (a b : List ℕ) → NoColon a → colon_parts (a ++ 58 ∷ b) ≡ a ∷ colon_parts b
+split_at : (a b : List ℕ) → NoColon a → colon_parts (a ++ colon ∷ b) ≡ a ∷ colon_parts b
 split_at [] b h = refl
 split_at (x ∷ a) b h = simp (h.0, split_at a b h.1)
 
@@ -102,9 +103,9 @@ NoColons [] = Unit {0}
 NoColons (part ∷ parts) = NoColon part × NoColons parts
 
 -- parts that are joined are cut again
-cut_again : (part : List ℕ) (parts : List (List ℕ)) → NoColons (part ∷ parts) → colon_parts (join_with_byte 58 (part ∷ parts)) ≡ part ∷ parts
+cut_again : (part : List ℕ) (parts : List (List ℕ)) → NoColons (part ∷ parts) → colon_parts (join_with_byte colon (part ∷ parts)) ≡ part ∷ parts
 cut_again part [] h = split_none part h.0
-cut_again part (next ∷ parts) h = split_at part (join_with_byte 58 (next ∷ parts)) h.0 ∙ ap (λ ps. part ∷ ps) (cut_again next parts h.1)
+cut_again part (next ∷ parts) h = split_at part (join_with_byte colon (next ∷ parts)) h.0 ∙ ap (λ ps. part ∷ ps) (cut_again next parts h.1)
 
 zip_no_colons : (parts : List (List ℕ)) (gs : List ℕ) → AllZip IsGroup parts gs → NoColons parts
 zip_no_colons [] gs h = tt
@@ -117,11 +118,11 @@ plain_sound : (text gs : List ℕ) → plain_of text ≡ Some gs → IsPlain tex
 plain_sound [] gs e = record { parts = []; spelled = refl; named = subst (AllZip IsGroup []) (same_Some [] gs e) tt }
 plain_sound (x ∷ text) gs e = record {
   parts = colon_parts (x ∷ text);
-  spelled = sym (join_with_byte-slice_split 58 (x ∷ text));
+  spelled = sym (join_with_byte-slice_split colon (x ∷ text));
   named = groups_sound (colon_parts (x ∷ text)) gs e;
 }
 
-plain_nonempty : (text : List ℕ) (part : List ℕ) (parts : List (List ℕ)) (g : ℕ) → text ≡ join_with_byte 58 (part ∷ parts) → IsGroup part g → plain_of text ≡ groups_of (colon_parts text)
+plain_nonempty : (text : List ℕ) (part : List ℕ) (parts : List (List ℕ)) (g : ℕ) → text ≡ join_with_byte colon (part ∷ parts) → IsGroup part g → plain_of text ≡ groups_of (colon_parts text)
 plain_nonempty (x ∷ text) part parts g e h = refl
 plain_nonempty [] part [] g e h = absurd (let k = ap length e in omega (arith, k, h.digits.0))
 plain_nonempty [] (y ∷ part) (next ∷ parts) g e h = cc
@@ -130,7 +131,7 @@ plain_nonempty [] [] (next ∷ parts) g e h = cc
 plain_complete : (text gs : List ℕ) → IsPlain text gs → plain_of text ≡ Some gs
 plain_complete text gs h = go h.parts gs h.spelled h.named
   where
-    go : (parts : List (List ℕ)) (gs : List ℕ) → text ≡ join_with_byte 58 parts → AllZip IsGroup parts gs → plain_of text ≡ Some gs
+    go : (parts : List (List ℕ)) (gs : List ℕ) → text ≡ join_with_byte colon parts → AllZip IsGroup parts gs → plain_of text ≡ Some gs
     go [] [] e named = ap plain_of e
     go [] (g ∷ gs) e named = absurd named
     go (part ∷ parts) [] e named = absurd named
@@ -183,7 +184,7 @@ dotted_sound text gs e =
       front = k.front;
       last = k.last;
       address = k.address;
-      spelled = sym (join_with_byte-slice_split 58 text) ∙ ap (join_with_byte 58) k.spelled;
+      spelled = sym (join_with_byte-slice_split colon text) ∙ ap (join_with_byte colon) k.spelled;
       named = k.named;
       dotted = k.dotted;
       value = k.value;
@@ -195,7 +196,7 @@ NoColon-append (x ∷ a) b h k = (h.0, NoColon-append a b h.1 k)
 
 decimals_no_colon : (ds : List ℕ) → AllDigits 10 ds → NoColon ds
 decimals_no_colon [] h = tt
-decimals_no_colon (d ∷ ds) h = let within = digit_from_value d h.0 in (ne_eqb d 58 (λ e. omega arith), decimals_no_colon ds h.1)
+decimals_no_colon (d ∷ ds) h = let within = digit_from_value d h.0 in (ne_eqb d colon (λ e. omega arith), decimals_no_colon ds h.1)
 
 octet_no_colon : (text : List ℕ) (n : ℕ) (rest : List ℕ) → BeginsWithOctet text n rest → NoColon rest → NoColon text
 octet_no_colon text n rest h k =
@@ -213,7 +214,7 @@ no_colons_more : (parts : List (List ℕ)) (last : List ℕ) → NoColons parts 
 no_colons_more [] last h k = (k, tt)
 no_colons_more (part ∷ parts) last h k = (h.0, no_colons_more parts last h.1 k)
 
-cut_again_more : (parts : List (List ℕ)) (last : List ℕ) → NoColons (parts ++ last ∷ []) → colon_parts (join_with_byte 58 (parts ++ last ∷ [])) ≡ parts ++ last ∷ []
+cut_again_more : (parts : List (List ℕ)) (last : List ℕ) → NoColons (parts ++ last ∷ []) → colon_parts (join_with_byte colon (parts ++ last ∷ [])) ≡ parts ++ last ∷ []
 cut_again_more [] last h = cut_again last [] h
 cut_again_more (part ∷ parts) last h = cut_again part (parts ++ last ∷ []) h
 
@@ -249,7 +250,7 @@ full_complete gs groups e eight = ap full_number e ∙ ap (λ v. cond v (Some (n
 
 -- ---- texts with a gap
 
-gap_sound : (text l r : List ℕ) (left right : Option (List ℕ)) (a : ℕ) → text ≡ l ++ (58 ∷ 58 ∷ []) ++ r → ((gs : List ℕ) → left ≡ Some gs → IsPlain l gs) → ((gs : List ℕ) → right ≡ Some gs → IsEnded r gs)
+gap_sound : (text l r : List ℕ) (left right : Option (List ℕ)) (a : ℕ) → text ≡ l ++ (colon ∷ colon ∷ []) ++ r → ((gs : List ℕ) → left ≡ Some gs → IsPlain l gs) → ((gs : List ℕ) → right ≡ Some gs → IsEnded r gs)
     → gap_number left right ≡ Some a → NamesV6 text a
 gap_sound text l r None right a cut plain ended e = absurd (none-some a e)
 gap_sound text l r (Some ls) None a cut plain ended e = absurd (none-some a e)
@@ -262,11 +263,11 @@ or_else_sound : (P : ℕ → Type 0) (a b : Option ℕ) (x : ℕ) → ((y : ℕ)
 or_else_sound P (Some y) b x f g e = f x e
 or_else_sound P None b x f g e = g x e
 
-cut_at : (text : List ℕ) (i : ℕ) → take 2 (drop i text) ≡ 58 ∷ 58 ∷ [] → text ≡ take i text ++ (58 ∷ 58 ∷ []) ++ drop (i + 2) text
+cut_at : (text : List ℕ) (i : ℕ) → take 2 (drop i text) ≡ colon ∷ colon ∷ [] → text ≡ take i text ++ (colon ∷ colon ∷ []) ++ drop (i + 2) text
 cut_at text i e =
     sym (take-append-drop i text)
-    ∙ ap (λ t. take i text ++ t) (sym (take-append-drop 2 (drop i text)) ∙ ap (λ t. t ++ drop 2 (drop i text)) e ∙ ap (λ t. (58 ∷ 58 ∷ []) ++ t) (drop-drop 2 i text))
-    ∙ sym (append_assoc (take i text) (58 ∷ 58 ∷ []) (drop (i + 2) text))
+    ∙ ap (λ t. take i text ++ t) (sym (take-append-drop 2 (drop i text)) ∙ ap (λ t. t ++ drop 2 (drop i text)) e ∙ ap (λ t. (colon ∷ colon ∷ []) ++ t) (drop-drop 2 i text))
+    ∙ sym (append_assoc (take i text) (colon ∷ colon ∷ []) (drop (i + 2) text))
 
 gap_at_sound : (text : List ℕ) (i a : ℕ) → gap_at text i ≡ Some a → NamesV6 text a
 gap_at_sound text i a =
@@ -313,12 +314,12 @@ gap_found ls rs left right e f room =
 found_where : (b : Bool) (o : Option ℕ) → b ≡ true → Found o → Found (cond b o None)
 found_where b o e h = (h.0, ap (λ v. cond v o None) e ∙ h.1)
 
-gap_at_found : (text l r ls rs : List ℕ) → text ≡ l ++ (58 ∷ 58 ∷ []) ++ r → IsPlain l ls → IsEnded r rs → length ls + length rs ≤ 7 → Found (gap_at text (length l))
+gap_at_found : (text l r ls rs : List ℕ) → text ≡ l ++ (colon ∷ colon ∷ []) ++ r → IsPlain l ls → IsEnded r rs → length ls + length rs ≤ 7 → Found (gap_at text (length l))
 gap_at_found text l r ls rs cut plain ended room =
     let i : ℕ = length l in
-    let whole : text ≡ l ++ (58 ∷ 58 ∷ r) = cut ∙ append_assoc l (58 ∷ 58 ∷ []) r in
-    let front : take i text ≡ l = ap (take i) whole ∙ take_at l (58 ∷ 58 ∷ r) i refl in
-    let here : drop i text ≡ 58 ∷ 58 ∷ r = ap (drop i) whole ∙ drop_at l (58 ∷ 58 ∷ r) i refl in
+    let whole : text ≡ l ++ (colon ∷ colon ∷ r) = cut ∙ append_assoc l (colon ∷ colon ∷ []) r in
+    let front : take i text ≡ l = ap (take i) whole ∙ take_at l (colon ∷ colon ∷ r) i refl in
+    let here : drop i text ≡ colon ∷ colon ∷ r = ap (drop i) whole ∙ drop_at l (colon ∷ colon ∷ r) i refl in
     let back : drop (i + 2) text ≡ r = sym (drop-drop 2 i text) ∙ ap (drop 2) here in
     let test : bytes_eq (take 2 (drop i text)) (codes "::") ≡ true = (bytes_eq-Decides (take 2 (drop i text)) (codes "::")).1 (ap (take 2) here) in
     let left : plain_of (take i text) ≡ Some ls = ap plain_of front ∙ plain_complete l ls plain in
@@ -343,7 +344,7 @@ found text a (inl h) = elim h.ended [
 ]
 found text a (inr h) =
     let count : length text ≡ length h.before + (2 + length h.behind) =
-    ap length h.split ∙ length-append (h.before ++ (58 ∷ 58 ∷ [])) h.behind ∙ (let k = length-append h.before (58 ∷ 58 ∷ []) in omega arith) in
+    ap length h.split ∙ length-append (h.before ++ (colon ∷ colon ∷ [])) h.behind ∙ (let k = length-append h.before (colon ∷ colon ∷ []) in omega arith) in
     found_second _ _ (found_second _ _ (gap_below_found text (length text) (length h.before) (omega arith)
     (gap_at_found text h.before h.behind h.high h.low h.split h.high_groups h.low_groups (room_of text a h))))
 

@@ -14,11 +14,18 @@ decimal_three n low high =
 
 pub ruleset decimals = (decimal_digit, decimal_two, decimal_three)
 
--- a text, after the digits of a number were pushed one at a time
-pub two_pushed : (text one two : List ℕ) (n d e : ℕ) → 10 ≤ n → n < 100 → d ≡ 48 + n / 10 → e ≡ 48 + n % 10 → one ≡ text ++ d ∷ [] → two ≡ one ++ e ∷ [] → two ≡ text ++ decimal n
-two_pushed text one two n d e low high is_d is_e h k =
-    k ∙ rw (h, is_d, is_e, decimal_two n low high, append_assoc)
+-- a text, after a byte was pushed
+pub record IsPushed (text : List ℕ) (byte : ℕ) (now : List ℕ) : Type 0 where
+  pub is : now ≡ text ++ byte ∷ []
 
-pub three_pushed : (text one two three : List ℕ) (n d e f : ℕ) → 100 ≤ n → n < 1000 → d ≡ 48 + n / 100 → e ≡ 48 + n / 10 % 10 → f ≡ 48 + n % 10 → one ≡ text ++ d ∷ [] → two ≡ one ++ e ∷ [] → three ≡ two ++ f ∷ [] → three ≡ text ++ decimal n
-three_pushed text one two three n d e f low high is_d is_e is_f h k l =
-    l ∙ rw (k, h, is_d, is_e, is_f, decimal_three n low high, append_assoc, append_assoc)
+-- by what the byte is
+pub pushed_as : (text now : List ℕ) (byte other : ℕ) → byte ≡ other → now ≡ text ++ byte ∷ [] → IsPushed text other now
+pushed_as text now byte other same pushed = record { is = pushed ∙ ap (λ b. text ++ b ∷ []) same }
+
+-- a text, after the digits of a number were pushed one at a time
+pub two_pushed : {text one two : List ℕ} (n : ℕ) → 10 ≤ n → n < 100 → IsPushed text (48 + n / 10) one → IsPushed one (48 + n % 10) two → two ≡ text ++ decimal n
+two_pushed n low high h k = k.is ∙ rw (h.is, decimal_two n low high, append_assoc)
+
+pub three_pushed : {text one two three : List ℕ} (n : ℕ) → 100 ≤ n → n < 1000 → IsPushed text (48 + n / 100) one → IsPushed one (48 + n / 10 % 10) two
+    → IsPushed two (48 + n % 10) three → three ≡ text ++ decimal n
+three_pushed n low high h k l = l.is ∙ rw (k.is, h.is, decimal_three n low high, append_assoc, append_assoc)

@@ -1,6 +1,7 @@
 -- Texts of an address of either family.
 use Rattle.std.proofs.Common.{◌≡◌, ◌↔◌, ℕ, List, ◌∷◌, length, Option, None, Some, sym, ap, subst, inl, inr, arith, lit≤}
 use Rattle.std.proofs.lemmas.Option.{none-some}
+use Rattle.ipnetwork_addr.specs.Texts.{dot, colon}
 use Rattle.ipnetwork_addr.specs.declared.ip.IpAddr.{IpAddr}
 use Rattle.ipnetwork_addr.specs.declared.ip.IpAddr.TheVariants.{V4, V6}
 use Rattle.ipnetwork_addr.specs.Ipv4Text.{NamesV4}
@@ -17,11 +18,11 @@ use Rattle.ipnetwork_addr.proofs.Ipv6Printed.{canonical_v6_names, canonical_v6_i
 alone : (groups text : List ℕ) (end : Option (List ℕ)) (address : ℕ) → NamesV4 text address → IsTextPart groups text end → (length groups ≡ 2) × (end ≡ None)
 alone groups text end address named part =
     let b = v4_begins text address named in
-    elim (kind_of groups text end b.group (46 ∷ b.after) b.begins part) [
-      | IsLast e _ _ ↦ absurd (nil_cons 46 b.after (sym e))
+    elim (kind_of groups text end b.group (dot ∷ b.after) b.begins part) [
+      | IsLast e _ _ ↦ absurd (nil_cons dot b.after (sym e))
       | IsDot _ _ _ _ e f ↦ (ap length e, f)
-      | IsGap next e _ _ ↦ absurd (other_first 46 58 b.after (58 ∷ next) e (omega arith))
-      | IsNext next _ e _ _ ↦ absurd (other_first 46 58 b.after next e (omega arith))
+      | IsGap next e _ _ ↦ absurd (other_first dot colon b.after (colon ∷ next) e (omega arith))
+      | IsNext next _ e _ _ ↦ absurd (other_first dot colon b.after next e (omega arith))
     ]
 
 pub not_both : (text : List ℕ) (a b : ℕ) → NamesV4 text a → NamesV6 text b → ⊥
@@ -31,7 +32,7 @@ not_both text a b h k = go (shape_of text b k)
     left groups next (inl part) = none-some next (sym (alone groups text (Some next) a h part).1)
     left groups next (inr none) =
         let b = v4_begins text a h in
-        no_hex_no_group text (subst NoHex (sym none.spelled) (lit≤ tt)) b.group (46 ∷ b.after) b.begins
+        no_hex_no_group text (subst NoHex (sym none.spelled) (lit≤ tt)) b.group (dot ∷ b.after) b.begins
 
     go : Shape text b → ⊥
     go (Full groups part eight value) = omega (arith, (alone groups text None a h part).0, eight)

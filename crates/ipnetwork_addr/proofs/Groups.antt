@@ -6,16 +6,16 @@ use Rattle.std.specs.Char.{digit_value}
 use Rattle.std.specs.Str.Parse.{AllDigits, digits_value}
 use Rattle.ipnetwork_addr.specs.Private.GroupFront.{NoHex, BeginsWithHex, BeginsWithGroup, NoGroup}
 
-below : (text : List ℕ) (d : ℕ) (r : List ℕ) → (h : BeginsWithHex text d r) → digit_value h.byte < 16
-below text d r h = subst (λ (v : ℕ). v < 16) (sym h.value) h.below_sixteen
+below : {text : List ℕ} {d : ℕ} {r : List ℕ} → (h : BeginsWithHex text d r) → digit_value h.byte < 16
+below h = subst (λ (v : ℕ). v < 16) (sym h.value) h.below_sixteen
 
 -- ---- digits that were read
 
-pub two_hexes : (text : List ℕ) (a : ℕ) (r : List ℕ) (b : ℕ) (rest : List ℕ) → BeginsWithHex text a r → BeginsWithHex r b rest → NoHex rest → BeginsWithGroup text (a * 16 + b) rest
-two_hexes text a r b rest first second stops = record {
+pub two_hexes : {text r rest : List ℕ} {a b : ℕ} → BeginsWithHex text a r → BeginsWithHex r b rest → NoHex rest → BeginsWithGroup text (a * 16 + b) rest
+two_hexes first second stops = record {
   front = first.byte ∷ second.byte ∷ [];
   named = record {
-    digits = (lit≤ tt, (below text a r first, (below r b rest second, tt)));
+    digits = (lit≤ tt, (below first, (below second, tt)));
     short = lit≤ tt;
     value = rw (first.value, second.value) (omega arith);
   };
@@ -23,11 +23,11 @@ two_hexes text a r b rest first second stops = record {
   stops = stops;
 }
 
-pub three_hexes : (text : List ℕ) (a : ℕ) (r : List ℕ) (b : ℕ) (s : List ℕ) (c : ℕ) (rest : List ℕ) → BeginsWithHex text a r → BeginsWithHex r b s → BeginsWithHex s c rest → NoHex rest → BeginsWithGroup text ((a * 16 + b) * 16 + c) rest
-three_hexes text a r b s c rest first second third stops = record {
+pub three_hexes : {text r s rest : List ℕ} {a b c : ℕ} → BeginsWithHex text a r → BeginsWithHex r b s → BeginsWithHex s c rest → NoHex rest → BeginsWithGroup text ((a * 16 + b) * 16 + c) rest
+three_hexes first second third stops = record {
   front = first.byte ∷ second.byte ∷ third.byte ∷ [];
   named = record {
-    digits = (lit≤ tt, (below text a r first, (below r b s second, (below s c rest third, tt))));
+    digits = (lit≤ tt, (below first, (below second, (below third, tt))));
     short = lit≤ tt;
     value = rw (first.value, second.value, third.value) (omega arith);
   };
@@ -35,11 +35,11 @@ three_hexes text a r b s c rest first second third stops = record {
   stops = stops;
 }
 
-pub four_hexes : (text : List ℕ) (a : ℕ) (r : List ℕ) (b : ℕ) (s : List ℕ) (c : ℕ) (t : List ℕ) (d : ℕ) (rest : List ℕ) → BeginsWithHex text a r → BeginsWithHex r b s → BeginsWithHex s c t → BeginsWithHex t d rest → NoHex rest → BeginsWithGroup text (((a * 16 + b) * 16 + c) * 16 + d) rest
-four_hexes text a r b s c t d rest first second third fourth stops = record {
+pub four_hexes : {text r s t rest : List ℕ} {a b c d : ℕ} → BeginsWithHex text a r → BeginsWithHex r b s → BeginsWithHex s c t → BeginsWithHex t d rest → NoHex rest → BeginsWithGroup text (((a * 16 + b) * 16 + c) * 16 + d) rest
+four_hexes first second third fourth stops = record {
   front = first.byte ∷ second.byte ∷ third.byte ∷ fourth.byte ∷ [];
   named = record {
-    digits = (lit≤ tt, (below text a r first, (below r b s second, (below s c t third, (below t d rest fourth, tt)))));
+    digits = (lit≤ tt, (below first, (below second, (below third, (below fourth, tt)))));
     short = lit≤ tt;
     value = rw (first.value, second.value, third.value, fourth.value) (omega arith);
   };
@@ -50,37 +50,37 @@ four_hexes text a r b s c t d rest first second third fourth stops = record {
 -- ---- texts that begin with no group
 
 -- the digits of a group end within this text, at a byte that is no hex digit
-pub goes_on : (text : List ℕ) (d : ℕ) (r : List ℕ) → BeginsWithHex text d r → ¬ (NoHex text)
-goes_on text d r h stops =
+pub goes_on : {text : List ℕ} {d : ℕ} {r : List ℕ} → BeginsWithHex text d r → ¬ (NoHex text)
+goes_on {text} h stops =
     let e : get_or text 0 0 ≡ h.byte = ap (λ t. get_or t 0 0) h.split in
-    let small = below text d r h in
+    let small = below h in
     let large : 16 ≤ digit_value h.byte = subst (λ (b : ℕ). 16 ≤ digit_value b) e stops in
     omega (arith, small, large)
 
-behind : (text : List ℕ) (d : ℕ) (r : List ℕ) → BeginsWithHex text d r → drop 1 text ≡ r
-behind text d r h = ap (drop 1) h.split
+behind : {text : List ℕ} {d : ℕ} {r : List ℕ} → BeginsWithHex text d r → drop 1 text ≡ r
+behind h = ap (drop 1) h.split
 
-pub no_group_of_five : (text : List ℕ) (a : ℕ) (r : List ℕ) (b : ℕ) (s : List ℕ) (c : ℕ) (t : List ℕ) (d : ℕ) (u : List ℕ) (e : ℕ) (v : List ℕ) → BeginsWithHex text a r → BeginsWithHex r b s → BeginsWithHex s c t → BeginsWithHex t d u → BeginsWithHex u e v → NoGroup text
-no_group_of_five text a r b s c t d u e v first second third fourth fifth group rest h = go h.front h.named.digits.0 h.named.short h.split
+pub no_group_of_five : {text r s t u v : List ℕ} {a b c d e : ℕ} → BeginsWithHex text a r → BeginsWithHex r b s → BeginsWithHex s c t → BeginsWithHex t d u → BeginsWithHex u e v → NoGroup text
+no_group_of_five {text} {r} {s} {t} {u} first second third fourth fifth group rest h = go h.front h.named.digits.0 h.named.short h.split
   where
     is_r : drop 1 text ≡ r
-    is_r = behind text a r first
+    is_r = behind first
 
     is_s : drop 2 text ≡ s
-    is_s = ap (λ t. drop 2 t) first.split ∙ behind r b s second
+    is_s = ap (λ t. drop 2 t) first.split ∙ behind second
 
     is_t : drop 3 text ≡ t
-    is_t = ap (λ t. drop 3 t) first.split ∙ ap (λ t. drop 2 t) second.split ∙ behind s c t third
+    is_t = ap (λ t. drop 3 t) first.split ∙ ap (λ t. drop 2 t) second.split ∙ behind third
 
     is_u : drop 4 text ≡ u
-    is_u = ap (λ t. drop 4 t) first.split ∙ ap (λ t. drop 3 t) second.split ∙ ap (λ t. drop 2 t) third.split ∙ behind t d u fourth
+    is_u = ap (λ t. drop 4 t) first.split ∙ ap (λ t. drop 3 t) second.split ∙ ap (λ t. drop 2 t) third.split ∙ behind fourth
 
     go : (front : List ℕ) → 0 < length front → length front ≤ 4 → text ≡ front ++ rest → ⊥
     go [] some short split = omega (arith, some)
-    go (x ∷ []) some short split = goes_on r b s second (subst NoHex (sym (ap (drop 1) split) ∙ is_r) h.stops)
-    go (x ∷ y ∷ []) some short split = goes_on s c t third (subst NoHex (sym (ap (drop 2) split) ∙ is_s) h.stops)
-    go (x ∷ y ∷ z ∷ []) some short split = goes_on t d u fourth (subst NoHex (sym (ap (drop 3) split) ∙ is_t) h.stops)
-    go (x ∷ y ∷ z ∷ w ∷ []) some short split = goes_on u e v fifth (subst NoHex (sym (ap (drop 4) split) ∙ is_u) h.stops)
+    go (x ∷ []) some short split = goes_on second (subst NoHex (sym (ap (drop 1) split) ∙ is_r) h.stops)
+    go (x ∷ y ∷ []) some short split = goes_on third (subst NoHex (sym (ap (drop 2) split) ∙ is_s) h.stops)
+    go (x ∷ y ∷ z ∷ []) some short split = goes_on fourth (subst NoHex (sym (ap (drop 3) split) ∙ is_t) h.stops)
+    go (x ∷ y ∷ z ∷ w ∷ []) some short split = goes_on fifth (subst NoHex (sym (ap (drop 4) split) ∙ is_u) h.stops)
     go (x ∷ y ∷ z ∷ w ∷ q ∷ more) some short split = omega (arith, short)
 
 -- ---- a text begins with one group at most

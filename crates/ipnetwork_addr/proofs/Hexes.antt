@@ -2,7 +2,9 @@
 use Rattle.std.proofs.Common.{◌≡◌, ◌≢◌, false, ℕ, ◌/◌, ◌%◌, ◌<◌, ◌≤◌, List, [], ◌∷◌, ◌++◌, sym, ap, ◌∙◌, arith, append_assoc, append-nil, flat_map, length, get_or, take, drop, take_all, ne_eqb, eq-eqb}
 use Rattle.std.specs.Fmt.{digits, digit_glyph}
 use Rattle.std.proofs.lemmas.Fmt.{hex_one_digit, hex_two_digits}
+use Rattle.ipnetwork_addr.specs.Texts.{colon}
 use Rattle.ipnetwork_addr.specs.Ipv6Canonical.{hex, hex_groups}
+use Rattle.ipnetwork_addr.proofs.Decimals.{IsPushed}
 
 abbrev glyph : ℕ → ℕ
 glyph d = digit_glyph false d
@@ -28,27 +30,26 @@ hex_four n low high =
     rw (ne_eqb (n / 16) 0 first, ne_eqb (n / 16 / 16) 0 second, ne_eqb (n / 16 / 16 / 16) 0 third, eq-eqb (n / 16 / 16 / 16 / 16) 0 fourth, top, next)
 
 -- a text, after the digits of a group were pushed one at a time
-pub pushed_one : (text one : List ℕ) (n d : ℕ) → n < 16 → d ≡ glyph n → one ≡ text ++ d ∷ [] → one ≡ text ++ hex n
-pushed_one text one n d high is_d h = h ∙ rw (is_d, hex_one_digit false n high)
+pub pushed_one : {text one : List ℕ} (n : ℕ) → n < 16 → IsPushed text (glyph n) one → one ≡ text ++ hex n
+pushed_one n high h = h.is ∙ rw (hex_one_digit false n high)
 
-pub pushed_two : (text one two : List ℕ) (n d e : ℕ) → 16 ≤ n → n < 256 → d ≡ glyph (n / 16) → e ≡ glyph (n % 16) → one ≡ text ++ d ∷ [] → two ≡ one ++ e ∷ [] → two ≡ text ++ hex n
-pushed_two text one two n d e low high is_d is_e h k =
-    k ∙ rw (h, is_d, is_e, hex_two_digits false n low high, append_assoc)
+pub pushed_two : {text one two : List ℕ} (n : ℕ) → 16 ≤ n → n < 256 → IsPushed text (glyph (n / 16)) one → IsPushed one (glyph (n % 16)) two → two ≡ text ++ hex n
+pushed_two n low high h k = k.is ∙ rw (h.is, hex_two_digits false n low high, append_assoc)
 
-pub pushed_three : (text one two three : List ℕ) (n d e f : ℕ) → 256 ≤ n → n < 4096 → d ≡ glyph (n / 256) → e ≡ glyph (n / 16 % 16) → f ≡ glyph (n % 16) → one ≡ text ++ d ∷ [] → two ≡ one ++ e ∷ [] → three ≡ two ++ f ∷ [] → three ≡ text ++ hex n
-pushed_three text one two three n d e f low high is_d is_e is_f h k l =
-    l ∙ rw (k, h, is_d, is_e, is_f, hex_three n low high, append_assoc, append_assoc)
+pub pushed_three : {text one two three : List ℕ} (n : ℕ) → 256 ≤ n → n < 4096 → IsPushed text (glyph (n / 256)) one → IsPushed one (glyph (n / 16 % 16)) two
+    → IsPushed two (glyph (n % 16)) three → three ≡ text ++ hex n
+pushed_three n low high h k l = l.is ∙ rw (k.is, h.is, hex_three n low high, append_assoc, append_assoc)
 
-pub pushed_four : (text one two three four : List ℕ) (n d e f g : ℕ) → 4096 ≤ n → n < 65536 → d ≡ glyph (n / 4096) → e ≡ glyph (n / 256 % 16) → f ≡ glyph (n / 16 % 16) → g ≡ glyph (n % 16) → one ≡ text ++ d ∷ [] → two ≡ one ++ e ∷ [] → three ≡ two ++ f ∷ [] → four ≡ three ++ g ∷ [] → four ≡ text ++ hex n
-pushed_four text one two three four n d e f g low high is_d is_e is_f is_g h k l m =
-    m ∙ rw (l, k, h, is_d, is_e, is_f, is_g, hex_four n low high, append_assoc, append_assoc, append_assoc)
+pub pushed_four : {text one two three four : List ℕ} (n : ℕ) → 4096 ≤ n → n < 65536 → IsPushed text (glyph (n / 4096)) one → IsPushed one (glyph (n / 256 % 16)) two
+    → IsPushed two (glyph (n / 16 % 16)) three → IsPushed three (glyph (n % 16)) four → four ≡ text ++ hex n
+pushed_four n low high h k l m = m.is ∙ rw (l.is, k.is, h.is, hex_four n low high, append_assoc, append_assoc, append_assoc)
 
 -- groups, each after a colon
-pub hex_groups-cons : (g : ℕ) (groups : List ℕ) → hex_groups (g ∷ groups) ≡ hex g ++ flat_map (λ x. 58 ∷ hex x) groups
+pub hex_groups-cons : (g : ℕ) (groups : List ℕ) → hex_groups (g ∷ groups) ≡ hex g ++ flat_map (λ x. colon ∷ hex x) groups
 hex_groups-cons g [] = sym (append-nil (hex g))
-hex_groups-cons g (next ∷ groups) = ap (λ t. hex g ++ 58 ∷ t) (hex_groups-cons next groups)
+hex_groups-cons g (next ∷ groups) = ap (λ t. hex g ++ colon ∷ t) (hex_groups-cons next groups)
 
-pub groups_pushed : (text one all groups rest : List ℕ) (i : ℕ) → rest ≡ drop 1 groups → 0 < length groups → one ≡ text ++ hex (get_or groups 0 0) → length rest ≤ i → all ≡ one ++ flat_map (λ x. 58 ∷ hex x) (take i rest) → all ≡ text ++ hex_groups groups
+pub groups_pushed : (text one all groups rest : List ℕ) (i : ℕ) → rest ≡ drop 1 groups → 0 < length groups → one ≡ text ++ hex (get_or groups 0 0) → length rest ≤ i → all ≡ one ++ flat_map (λ x. colon ∷ hex x) (take i rest) → all ≡ text ++ hex_groups groups
 groups_pushed text one all [] rest i is_rest some h end k = absurd (omega arith)
 groups_pushed text one all (g ∷ groups) rest i is_rest some h end k =
     k ∙ rw (h, take_all i rest end, is_rest, hex_groups-cons g groups, append_assoc)

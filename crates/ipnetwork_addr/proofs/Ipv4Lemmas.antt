@@ -4,6 +4,7 @@ use Rattle.std.proofs.lemmas.Bool.{eqb-true, eqb-false}
 use Rattle.std.proofs.lemmas.List.{nil_from_length}
 use Rattle.std.specs.List.{join_with_byte, AllZip}
 use Rattle.std.specs.Int.Digits.{number_from_digits}
+use Rattle.ipnetwork_addr.specs.Texts.{dot}
 use Rattle.ipnetwork_addr.specs.Digits.{octets_of}
 use Rattle.ipnetwork_addr.specs.Ipv4Text.{IsOctet, NamesV4, canonical_v4}
 use Rattle.ipnetwork_addr.specs.Private.OctetFront.{NoDigit, BeginsWithOctet}
@@ -34,25 +35,25 @@ pub record Reading (text : List ℕ) (address : ℕ) : Type 0 where
 begins : (part : List ℕ) (n : ℕ) (rest : List ℕ) → IsOctet part n → NoDigit rest → BeginsWithOctet (part ++ rest) n rest
 begins part n rest h stops = record { bound = h.0; split = ap (λ t. t ++ rest) h.1; stops = stops }
 
-at_dot : (rest : List ℕ) → NoDigit (46 ∷ rest)
+at_dot : (rest : List ℕ) → NoDigit (dot ∷ rest)
 at_dot rest = inl (lit≤ tt)
 
 at_end : NoDigit []
 at_end = inl (lit≤ tt)
 
-reading_of_parts : (text : List ℕ) (parts : List (List ℕ)) (octets : List ℕ) (address : ℕ) → text ≡ join_with_byte 46 parts → AllZip IsOctet parts octets → length octets ≡ 4 → address ≡ number_from_digits 256 octets → Reading text address
+reading_of_parts : (text : List ℕ) (parts : List (List ℕ)) (octets : List ℕ) (address : ℕ) → text ≡ join_with_byte dot parts → AllZip IsOctet parts octets → length octets ≡ 4 → address ≡ number_from_digits 256 octets → Reading text address
 reading_of_parts text (p ∷ q ∷ r ∷ s ∷ []) (a ∷ b ∷ c ∷ d ∷ []) address spelled named four value = record {
   a = a;
   b = b;
   c = c;
   d = d;
   chain = record {
-    after_a = 46 ∷ (q ++ 46 ∷ (r ++ 46 ∷ s));
-    after_b = 46 ∷ (r ++ 46 ∷ s);
-    after_c = 46 ∷ s;
-    first = rw spelled (begins p a (46 ∷ (q ++ 46 ∷ (r ++ 46 ∷ s))) named.0 (at_dot (q ++ 46 ∷ (r ++ 46 ∷ s))));
-    second = record { after_dot = q ++ 46 ∷ (r ++ 46 ∷ s); dotted = refl; begins = begins q b (46 ∷ (r ++ 46 ∷ s)) named.1.0 (at_dot (r ++ 46 ∷ s)) };
-    third = record { after_dot = r ++ 46 ∷ s; dotted = refl; begins = begins r c (46 ∷ s) named.1.1.0 (at_dot s) };
+    after_a = dot ∷ (q ++ dot ∷ (r ++ dot ∷ s));
+    after_b = dot ∷ (r ++ dot ∷ s);
+    after_c = dot ∷ s;
+    first = rw spelled (begins p a (dot ∷ (q ++ dot ∷ (r ++ dot ∷ s))) named.0 (at_dot (q ++ dot ∷ (r ++ dot ∷ s))));
+    second = record { after_dot = q ++ dot ∷ (r ++ dot ∷ s); dotted = refl; begins = begins q b (dot ∷ (r ++ dot ∷ s)) named.1.0 (at_dot (r ++ dot ∷ s)) };
+    third = record { after_dot = r ++ dot ∷ s; dotted = refl; begins = begins r c (dot ∷ s) named.1.1.0 (at_dot s) };
     fourth = record { after_dot = s; dotted = refl; begins = rw append-nil at (begins s d [] named.1.1.1.0 at_end) };
   };
   value = value;
@@ -80,19 +81,19 @@ is_nil b text e f = nil_from_length text (eqb-true (length text) 0 (sym e ∙ f)
 pub not_nil : (b : Bool) (text : List ℕ) → b ≡ (length text == 0) → b ≡ false → text ≢ []
 not_nil b text e f empty = eqb-false (length text) 0 (sym e ∙ f) (ap length empty)
 
-pub names_four : (text : List ℕ) (a b c d : ℕ) (r s t u : List ℕ) → BeginsWithOctet text a r → BeginsWithDottedOctet r b s → BeginsWithDottedOctet s c t → BeginsWithDottedOctet t d u → u ≡ [] → NamesV4 text (number_of a b c d)
-names_four text a b c d r s t u first second third fourth empty = record {
+pub names_four : {text : List ℕ} {a b c d : ℕ} {r s t u : List ℕ} → BeginsWithOctet text a r → BeginsWithDottedOctet r b s → BeginsWithDottedOctet s c t → BeginsWithDottedOctet t d u → u ≡ [] → NamesV4 text (number_of a b c d)
+names_four {text} {a} {b} {c} {d} {r} {s} {t} {u} first second third fourth empty = record {
   octets = a ∷ b ∷ c ∷ d ∷ [];
   joined = record {
     parts = decimal a ∷ decimal b ∷ decimal c ∷ decimal d ∷ [];
     spelled =
         first.split
         ∙ ap (λ z. decimal a ++ z) (second.dotted
-        ∙ ap (λ z. 46 ∷ z) (second.begins.split
+        ∙ ap (λ z. dot ∷ z) (second.begins.split
         ∙ ap (λ z. decimal b ++ z) (third.dotted
-        ∙ ap (λ z. 46 ∷ z) (third.begins.split
+        ∙ ap (λ z. dot ∷ z) (third.begins.split
         ∙ ap (λ z. decimal c ++ z) (fourth.dotted
-        ∙ ap (λ z. 46 ∷ z) (fourth.begins.split ∙ ap (λ z. decimal d ++ z) empty ∙ append-nil (decimal d)))))));
+        ∙ ap (λ z. dot ∷ z) (fourth.begins.split ∙ ap (λ z. decimal d ++ z) empty ∙ append-nil (decimal d)))))));
     named = ((first.bound, refl), ((second.begins.bound, refl), ((third.begins.bound, refl), ((fourth.begins.bound, refl), tt))));
   };
   four = refl;
@@ -100,16 +101,16 @@ names_four text a b c d r s t u first second third fourth empty = record {
 }
 
 -- where the first octets were read, those of any name are they
-pub same_after_a : (text : List ℕ) (a : ℕ) (r : List ℕ) (b' c' d' a' : ℕ) → BeginsWithOctet text a r → (k : Chain text a' b' c' d') → k.after_a ≡ r
-same_after_a text a r b' c' d' a' first k = (octet_unique text a' a k.after_a r k.first first).1
+pub same_after_a : {text : List ℕ} {a : ℕ} {r : List ℕ} {b' c' d' a' : ℕ} → BeginsWithOctet text a r → (k : Chain text a' b' c' d') → k.after_a ≡ r
+same_after_a {text} {a} {r} {b'} {c'} {d'} {a'} first k = (octet_unique text a' a k.after_a r k.first first).1
 
-pub same_after_b : (text : List ℕ) (a b : ℕ) (r s : List ℕ) (b' c' d' a' : ℕ) → BeginsWithOctet text a r → BeginsWithDottedOctet r b s → (k : Chain text a' b' c' d') → k.after_b ≡ s
-same_after_b text a b r s b' c' d' a' first second k =
-    (dotted_octet_unique r b' b k.after_b s (rw (same_after_a text a r b' c' d' a' first k) at k.second) second).1
+pub same_after_b : {text : List ℕ} {a b : ℕ} {r s : List ℕ} {b' c' d' a' : ℕ} → BeginsWithOctet text a r → BeginsWithDottedOctet r b s → (k : Chain text a' b' c' d') → k.after_b ≡ s
+same_after_b {text} {a} {b} {r} {s} {b'} {c'} {d'} {a'} first second k =
+    (dotted_octet_unique r b' b k.after_b s (rw (same_after_a first k) at k.second) second).1
 
-pub same_after_c : (text : List ℕ) (a b c : ℕ) (r s t : List ℕ) (b' c' d' a' : ℕ) → BeginsWithOctet text a r → BeginsWithDottedOctet r b s → BeginsWithDottedOctet s c t → (k : Chain text a' b' c' d') → k.after_c ≡ t
-same_after_c text a b c r s t b' c' d' a' first second third k =
-    (dotted_octet_unique s c' c k.after_c t (rw (same_after_b text a b r s b' c' d' a' first second k) at k.third) third).1
+pub same_after_c : {text : List ℕ} {a b c : ℕ} {r s t : List ℕ} {b' c' d' a' : ℕ} → BeginsWithOctet text a r → BeginsWithDottedOctet r b s → BeginsWithDottedOctet s c t → (k : Chain text a' b' c' d') → k.after_c ≡ t
+same_after_c {text} {a} {b} {c} {r} {s} {t} {b'} {c'} {d'} {a'} first second third k =
+    (dotted_octet_unique s c' c k.after_c t (rw (same_after_b first second k) at k.third) third).1
 
 -- ---- the laws
 

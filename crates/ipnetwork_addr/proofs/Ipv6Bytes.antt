@@ -5,7 +5,7 @@ use Rattle.std.proofs.lemmas.Bool.{cond_both, ltb-true, ltb-false}
 use Rattle.std.specs.Char.{digit_value}
 use Rattle.std.specs.List.{join_with_byte, AllZip, AllByRecursion}
 use Rattle.std.specs.Str.Parse.{AllDigits}
-use Rattle.ipnetwork_addr.specs.Texts.{IsAddressByte, Digit, UpperHex, LowerHex, Colon}
+use Rattle.ipnetwork_addr.specs.Texts.{colon, IsAddressByte, Digit, UpperHex, LowerHex, Colon}
 use Rattle.ipnetwork_addr.specs.Ipv6Text.{IsGroup, IsPlain, IsEnded, NamesV6}
 use Rattle.ipnetwork_addr.proofs.AddressBytes.{AllBytes-append, v4_bytes}
 
@@ -23,19 +23,19 @@ hex_bytes : (ds : List ℕ) → AllDigits 16 ds → AllByRecursion IsAddressByte
 hex_bytes [] h = tt
 hex_bytes (d ∷ ds) h = (hex_byte d h.0, hex_bytes ds h.1)
 
-plain_bytes : (parts : List (List ℕ)) (groups : List ℕ) → AllZip IsGroup parts groups → AllByRecursion IsAddressByte (join_with_byte 58 parts)
+plain_bytes : (parts : List (List ℕ)) (groups : List ℕ) → AllZip IsGroup parts groups → AllByRecursion IsAddressByte (join_with_byte colon parts)
 plain_bytes [] groups h = tt
 plain_bytes (p ∷ parts) [] h = absurd h
 plain_bytes (p ∷ []) (g ∷ groups) h = hex_bytes p h.0.digits.1
 plain_bytes (p ∷ q ∷ parts) (g ∷ groups) h =
-    AllBytes-append p (58 ∷ join_with_byte 58 (q ∷ parts)) (hex_bytes p h.0.digits.1) (Colon refl, plain_bytes (q ∷ parts) groups h.1)
+    AllBytes-append p (colon ∷ join_with_byte colon (q ∷ parts)) (hex_bytes p h.0.digits.1) (Colon refl, plain_bytes (q ∷ parts) groups h.1)
 
-dotted_bytes : (parts : List (List ℕ)) (groups last : List ℕ) → AllZip IsGroup parts groups → AllByRecursion IsAddressByte last → AllByRecursion IsAddressByte (join_with_byte 58 (parts ++ last ∷ []))
+dotted_bytes : (parts : List (List ℕ)) (groups last : List ℕ) → AllZip IsGroup parts groups → AllByRecursion IsAddressByte last → AllByRecursion IsAddressByte (join_with_byte colon (parts ++ last ∷ []))
 dotted_bytes [] groups last h k = k
 dotted_bytes (p ∷ parts) [] last h k = absurd h
-dotted_bytes (p ∷ []) (g ∷ groups) last h k = AllBytes-append p (58 ∷ last) (hex_bytes p h.0.digits.1) (Colon refl, k)
+dotted_bytes (p ∷ []) (g ∷ groups) last h k = AllBytes-append p (colon ∷ last) (hex_bytes p h.0.digits.1) (Colon refl, k)
 dotted_bytes (p ∷ q ∷ parts) (g ∷ groups) last h k =
-    AllBytes-append p (58 ∷ join_with_byte 58 (q ∷ (parts ++ last ∷ []))) (hex_bytes p h.0.digits.1) (Colon refl, dotted_bytes (q ∷ parts) groups last h.1 k)
+    AllBytes-append p (colon ∷ join_with_byte colon (q ∷ (parts ++ last ∷ []))) (hex_bytes p h.0.digits.1) (Colon refl, dotted_bytes (q ∷ parts) groups last h.1 k)
 
 is_plain_bytes : (text groups : List ℕ) → IsPlain text groups → AllByRecursion IsAddressByte text
 is_plain_bytes text groups h = subst (AllByRecursion IsAddressByte) (sym h.spelled) (plain_bytes h.parts groups h.named)
@@ -48,6 +48,6 @@ pub v6_bytes : (text : List ℕ) (address : ℕ) → NamesV6 text address → Al
 v6_bytes text address (inl h) = is_ended_bytes text h.groups h.ended
 v6_bytes text address (inr h) =
     subst (AllByRecursion IsAddressByte) (sym h.split)
-    (AllBytes-append (h.before ++ 58 ∷ 58 ∷ []) h.behind
-    (AllBytes-append h.before (58 ∷ 58 ∷ []) (is_plain_bytes h.before h.high h.high_groups) (Colon refl, (Colon refl, tt)))
+    (AllBytes-append (h.before ++ colon ∷ colon ∷ []) h.behind
+    (AllBytes-append h.before (colon ∷ colon ∷ []) (is_plain_bytes h.before h.high h.high_groups) (Colon refl, (Colon refl, tt)))
     (is_ended_bytes h.behind h.low h.low_groups))

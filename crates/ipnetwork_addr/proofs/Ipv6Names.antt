@@ -3,6 +3,7 @@ use Rattle.std.proofs.Common.{◌≡◌, ℕ, ◌+◌, ◌-◌, ◌^◌, ◌<◌
 use Rattle.std.proofs.lemmas.Option.{none-some, same_Some}
 use Rattle.std.specs.List.{join_with_byte, AllZip}
 use Rattle.std.specs.Int.Digits.{number_from_digits}
+use Rattle.ipnetwork_addr.specs.Texts.{colon}
 use Rattle.ipnetwork_addr.specs.Ipv4Text.{NamesV4}
 use Rattle.ipnetwork_addr.specs.Ipv6Text.{IsGroup, IsPlain, IsDotted, IsEnded, NamesV6, two_groups}
 use Rattle.ipnetwork_addr.specs.Private.GroupFront.{NoHex, BeginsWithGroup, Last, Dotted, Gap, Next, IsTextPart, IsLeft, IsRight}
@@ -19,7 +20,7 @@ pub data Shape (text : List ℕ) (address : ℕ) : Type 0 where
 begins : (part : List ℕ) (g : ℕ) (rest : List ℕ) → IsGroup part g → NoHex rest → BeginsWithGroup (part ++ rest) g rest
 begins part g rest named stops = record { front = part; named = named; split = refl; stops = stops }
 
-plain_part : (parts : List (List ℕ)) (groups : List ℕ) → AllZip IsGroup parts groups → 0 < length groups → IsTextPart groups (join_with_byte 58 parts) None
+plain_part : (parts : List (List ℕ)) (groups : List ℕ) → AllZip IsGroup parts groups → 0 < length groups → IsTextPart groups (join_with_byte colon parts) None
 plain_part [] [] named some = absurd (omega arith)
 plain_part [] (g ∷ groups) named some = absurd named
 plain_part (p ∷ parts) [] named some = absurd named
@@ -27,29 +28,29 @@ plain_part (p ∷ []) (g ∷ []) named some = Last (rw append-nil at (begins p g
 plain_part (p ∷ []) (g ∷ h ∷ groups) named some = absurd named.1
 plain_part (p ∷ q ∷ parts) (g ∷ []) named some = absurd named.1
 plain_part (p ∷ q ∷ parts) (g ∷ h ∷ groups) named some =
-    Next (join_with_byte 58 (q ∷ parts)) (begins p g (58 ∷ join_with_byte 58 (q ∷ parts)) named.0 (lit≤ tt)) (plain_part (q ∷ parts) (h ∷ groups) named.1 (omega arith))
+    Next (join_with_byte colon (q ∷ parts)) (begins p g (colon ∷ join_with_byte colon (q ∷ parts)) named.0 (lit≤ tt)) (plain_part (q ∷ parts) (h ∷ groups) named.1 (omega arith))
 
-dotted_part : (parts : List (List ℕ)) (front last : List ℕ) (address : ℕ) → AllZip IsGroup parts front → NamesV4 last address → IsTextPart (front ++ two_groups address) (join_with_byte 58 (parts ++ last ∷ [])) None
+dotted_part : (parts : List (List ℕ)) (front last : List ℕ) (address : ℕ) → AllZip IsGroup parts front → NamesV4 last address → IsTextPart (front ++ two_groups address) (join_with_byte colon (parts ++ last ∷ [])) None
 dotted_part [] [] last address named dotted = Dotted address dotted refl refl
 dotted_part [] (g ∷ front) last address named dotted = absurd named
 dotted_part (p ∷ parts) [] last address named dotted = absurd named
 dotted_part (p ∷ []) (g ∷ front) last address named dotted =
-    Next last (begins p g (58 ∷ last) named.0 (lit≤ tt)) (dotted_part [] front last address named.1 dotted)
+    Next last (begins p g (colon ∷ last) named.0 (lit≤ tt)) (dotted_part [] front last address named.1 dotted)
 dotted_part (p ∷ q ∷ parts) (g ∷ front) last address named dotted =
-    let next : List ℕ = join_with_byte 58 (q ∷ (parts ++ last ∷ [])) in
-    Next next (begins p g (58 ∷ next) named.0 (lit≤ tt)) (dotted_part (q ∷ parts) front last address named.1 dotted)
+    let next : List ℕ = join_with_byte colon (q ∷ (parts ++ last ∷ [])) in
+    Next next (begins p g (colon ∷ next) named.0 (lit≤ tt)) (dotted_part (q ∷ parts) front last address named.1 dotted)
 
-left_part : (parts : List (List ℕ)) (groups next : List ℕ) → AllZip IsGroup parts groups → 0 < length groups → IsTextPart groups (join_with_byte 58 parts ++ 58 ∷ 58 ∷ next) (Some next)
+left_part : (parts : List (List ℕ)) (groups next : List ℕ) → AllZip IsGroup parts groups → 0 < length groups → IsTextPart groups (join_with_byte colon parts ++ colon ∷ colon ∷ next) (Some next)
 left_part [] [] next named some = absurd (omega arith)
 left_part [] (g ∷ groups) next named some = absurd named
 left_part (p ∷ parts) [] next named some = absurd named
-left_part (p ∷ []) (g ∷ []) next named some = Gap next (begins p g (58 ∷ 58 ∷ next) named.0 (lit≤ tt)) refl refl
+left_part (p ∷ []) (g ∷ []) next named some = Gap next (begins p g (colon ∷ colon ∷ next) named.0 (lit≤ tt)) refl refl
 left_part (p ∷ []) (g ∷ h ∷ groups) next named some = absurd named.1
 left_part (p ∷ q ∷ parts) (g ∷ []) next named some = absurd named.1
 left_part (p ∷ q ∷ parts) (g ∷ h ∷ groups) next named some =
-    let later : List ℕ = join_with_byte 58 (q ∷ parts) ++ 58 ∷ 58 ∷ next in
-    let e : (p ++ 58 ∷ join_with_byte 58 (q ∷ parts)) ++ 58 ∷ 58 ∷ next ≡ p ++ 58 ∷ later = append_assoc p (58 ∷ join_with_byte 58 (q ∷ parts)) (58 ∷ 58 ∷ next) in
-    Next later (subst (λ (t : List ℕ). BeginsWithGroup t g (58 ∷ later)) (sym e) (begins p g (58 ∷ later) named.0 (lit≤ tt))) (left_part (q ∷ parts) (h ∷ groups) next named.1 (omega arith))
+    let later : List ℕ = join_with_byte colon (q ∷ parts) ++ colon ∷ colon ∷ next in
+    let e : (p ++ colon ∷ join_with_byte colon (q ∷ parts)) ++ colon ∷ colon ∷ next ≡ p ++ colon ∷ later = append_assoc p (colon ∷ join_with_byte colon (q ∷ parts)) (colon ∷ colon ∷ next) in
+    Next later (subst (λ (t : List ℕ). BeginsWithGroup t g (colon ∷ later)) (sym e) (begins p g (colon ∷ later) named.0 (lit≤ tt))) (left_part (q ∷ parts) (h ∷ groups) next named.1 (omega arith))
 
 ended_part : (text groups : List ℕ) → IsEnded text groups → 0 < length groups → IsTextPart groups text None
 ended_part text groups (inl h) some = subst (λ (t : List ℕ). IsTextPart groups t None) (sym h.spelled) (plain_part h.parts groups h.named some)
@@ -58,29 +59,29 @@ ended_part text groups (inr h) some = rw (h.spelled, h.value) (dotted_part h.par
 right_of : (text groups : List ℕ) → IsEnded text groups → IsRight groups text
 right_of text [] (inl h) = inr (refl, nothing h.parts h.spelled h.named)
   where
-    nothing : (parts : List (List ℕ)) → text ≡ join_with_byte 58 parts → AllZip IsGroup parts [] → text ≡ []
+    nothing : (parts : List (List ℕ)) → text ≡ join_with_byte colon parts → AllZip IsGroup parts [] → text ≡ []
     nothing [] e named = e
     nothing (p ∷ parts) e named = absurd named
 right_of text [] (inr h) = absurd (omega (arith, ap length h.value, length-append h.front (two_groups h.address)))
 right_of text (g ∷ groups) h = inl (ended_part text (g ∷ groups) h (omega arith))
 
-left_of : (text left_text left next : List ℕ) → text ≡ left_text ++ 58 ∷ 58 ∷ next → IsPlain left_text left → IsLeft left text (Some next)
-left_of text left_text [] next e h = inr (record { next = next; none = refl; spelled = e ∙ ap (λ t. t ++ 58 ∷ 58 ∷ next) (nothing h.parts h.spelled h.named); ends = refl })
+left_of : (text left_text left next : List ℕ) → text ≡ left_text ++ colon ∷ colon ∷ next → IsPlain left_text left → IsLeft left text (Some next)
+left_of text left_text [] next e h = inr (record { next = next; none = refl; spelled = e ∙ ap (λ t. t ++ colon ∷ colon ∷ next) (nothing h.parts h.spelled h.named); ends = refl })
   where
-    nothing : (parts : List (List ℕ)) → left_text ≡ join_with_byte 58 parts → AllZip IsGroup parts [] → left_text ≡ []
+    nothing : (parts : List (List ℕ)) → left_text ≡ join_with_byte colon parts → AllZip IsGroup parts [] → left_text ≡ []
     nothing [] e named = e
     nothing (p ∷ parts) e named = absurd named
 left_of text left_text (g ∷ groups) next e h =
-    inl (subst (λ (t : List ℕ). IsTextPart (g ∷ groups) t (Some next)) (sym (e ∙ ap (λ t. t ++ 58 ∷ 58 ∷ next) h.spelled)) (left_part h.parts (g ∷ groups) next h.named (omega arith)))
+    inl (subst (λ (t : List ℕ). IsTextPart (g ∷ groups) t (Some next)) (sym (e ∙ ap (λ t. t ++ colon ∷ colon ∷ next) h.spelled)) (left_part h.parts (g ∷ groups) next h.named (omega arith)))
 
 pub shape_of : (text : List ℕ) (address : ℕ) → NamesV6 text address → Shape text address
 shape_of text address (inl h) = Full h.groups (ended_part text h.groups h.ended (omega (arith, h.eight))) h.eight h.value
 shape_of text address (inr h) =
-    Gapped h.high h.low h.behind (left_of text h.before h.high h.behind (h.split ∙ append_assoc h.before (58 ∷ 58 ∷ []) h.behind) h.high_groups) (right_of h.behind h.low h.low_groups) (room_of text address h) (value_of text address h)
+    Gapped h.high h.low h.behind (left_of text h.before h.high h.behind (h.split ∙ append_assoc h.before (colon ∷ colon ∷ []) h.behind) h.high_groups) (right_of h.behind h.low h.low_groups) (room_of text address h) (value_of text address h)
 
 -- ---- and back
 
-join_more : (part : List ℕ) (parts : List (List ℕ)) → 0 < length parts → part ++ 58 ∷ join_with_byte 58 parts ≡ join_with_byte 58 (part ∷ parts)
+join_more : (part : List ℕ) (parts : List (List ℕ)) → 0 < length parts → part ++ colon ∷ join_with_byte colon parts ≡ join_with_byte colon (part ∷ parts)
 join_more part [] some = absurd (omega arith)
 join_more part (p ∷ parts) some = refl
 
@@ -93,20 +94,20 @@ some_group : (groups text : List ℕ) (end : Option (List ℕ)) → IsTextPart g
 some_group [] text end part = absurd part
 some_group (g ∷ groups) text end part = omega arith
 
-plain_more : (text next : List ℕ) (g : ℕ) (groups : List ℕ) → BeginsWithGroup text g (58 ∷ next) → IsPlain next groups → 0 < length groups → IsPlain text (g ∷ groups)
+plain_more : (text next : List ℕ) (g : ℕ) (groups : List ℕ) → BeginsWithGroup text g (colon ∷ next) → IsPlain next groups → 0 < length groups → IsPlain text (g ∷ groups)
 plain_more text next g groups b h some = record {
   parts = b.front ∷ h.parts;
-  spelled = b.split ∙ ap (λ t. b.front ++ 58 ∷ t) h.spelled ∙ join_more b.front h.parts (as_many h.parts groups h.named some);
+  spelled = b.split ∙ ap (λ t. b.front ++ colon ∷ t) h.spelled ∙ join_more b.front h.parts (as_many h.parts groups h.named some);
   named = (b.named, h.named);
 }
 
-dotted_more : (text next : List ℕ) (g : ℕ) (groups : List ℕ) → BeginsWithGroup text g (58 ∷ next) → IsDotted next groups → IsDotted text (g ∷ groups)
+dotted_more : (text next : List ℕ) (g : ℕ) (groups : List ℕ) → BeginsWithGroup text g (colon ∷ next) → IsDotted next groups → IsDotted text (g ∷ groups)
 dotted_more text next g groups b h = record {
   parts = b.front ∷ h.parts;
   front = g ∷ h.front;
   last = h.last;
   address = h.address;
-  spelled = b.split ∙ ap (λ t. b.front ++ 58 ∷ t) h.spelled ∙ join_more b.front (h.parts ++ h.last ∷ []) (omega (arith, length-append h.parts (h.last ∷ [])));
+  spelled = b.split ∙ ap (λ t. b.front ++ colon ∷ t) h.spelled ∙ join_more b.front (h.parts ++ h.last ∷ []) (omega (arith, length-append h.parts (h.last ∷ [])));
   named = (b.named, h.named);
   dotted = h.dotted;
   value = ap (λ t. g ∷ t) h.value;
@@ -128,7 +129,7 @@ part_ended (g ∷ groups) text (Next next b part) = elim (part_ended groups next
 
 record LeftText (text groups next : List ℕ) : Type 0 where
   front : List ℕ
-  spelled : text ≡ front ++ 58 ∷ 58 ∷ next
+  spelled : text ≡ front ++ colon ∷ colon ∷ next
   plain : IsPlain front groups
 
 front_one : (g : ℕ) (groups part : List ℕ) → IsGroup part g → groups ≡ [] → IsPlain part (g ∷ groups)
@@ -140,22 +141,22 @@ part_left (g ∷ groups) text next (Last b e f) = absurd (none-some next (sym f)
 part_left (g ∷ groups) text next (Dotted address named e f) = absurd (none-some next (sym f))
 part_left (g ∷ groups) text next (Gap other b e f) = record {
   front = b.front;
-  spelled = b.split ∙ ap (λ t. b.front ++ 58 ∷ 58 ∷ t) (sym (same_Some next other f));
+  spelled = b.split ∙ ap (λ t. b.front ++ colon ∷ colon ∷ t) (sym (same_Some next other f));
   plain = front_one g groups b.front b.named e;
 }
 part_left (g ∷ groups) text next (Next after b part) =
     let later = part_left groups after next part in
     record {
-      front = b.front ++ 58 ∷ later.front;
-      spelled = b.split ∙ ap (λ t. b.front ++ 58 ∷ t) later.spelled ∙ sym (append_assoc b.front (58 ∷ later.front) (58 ∷ 58 ∷ next));
-      plain = plain_more (b.front ++ 58 ∷ later.front) later.front g groups (record { front = b.front; named = b.named; split = refl; stops = lit≤ tt }) later.plain (some_group groups after (Some next) part);
+      front = b.front ++ colon ∷ later.front;
+      spelled = b.split ∙ ap (λ t. b.front ++ colon ∷ t) later.spelled ∙ sym (append_assoc b.front (colon ∷ later.front) (colon ∷ colon ∷ next));
+      plain = plain_more (b.front ++ colon ∷ later.front) later.front g groups (record { front = b.front; named = b.named; split = refl; stops = lit≤ tt }) later.plain (some_group groups after (Some next) part);
     }
 
 left_text_of : (groups text next : List ℕ) → IsLeft groups text (Some next) → LeftText text groups next
 left_text_of groups text next (inl part) = part_left groups text next part
 left_text_of groups text next (inr h) = rw h.none (record {
   front = [];
-  spelled = h.spelled ∙ ap (λ t. 58 ∷ 58 ∷ t) (sym (same_Some next h.next h.ends));
+  spelled = h.spelled ∙ ap (λ t. colon ∷ colon ∷ t) (sym (same_Some next h.next h.ends));
   plain = record { parts = []; spelled = refl; named = tt };
 })
 
@@ -167,14 +168,14 @@ pub names_of : (text : List ℕ) (address : ℕ) → Shape text address → Name
 names_of text address (Full groups part eight value) = inl (record { groups = groups; ended = part_ended groups text part; eight = eight; value = value })
 names_of text address (Gapped left right next l r room value) =
     let front = left_text_of left text next l in
-    inr (compressed text front.front next left right address (front.spelled ∙ sym (append_assoc front.front (58 ∷ 58 ∷ []) next)) front.plain (right_ended right next r) room value)
+    inr (compressed text front.front next left right address (front.spelled ∙ sym (append_assoc front.front (colon ∷ colon ∷ []) next)) front.plain (right_ended right next r) room value)
 
 -- ---- there is one left part, and one right part
 
 pub left_unique : (gs hs text : List ℕ) (e f : Option (List ℕ)) → IsLeft gs text e → IsLeft hs text f → (gs ≡ hs) × (e ≡ f)
 left_unique gs hs text e f (inl p) (inl q) = part_unique gs hs text e f p q
-left_unique gs hs text e f (inl p) (inr q) = absurd (no_part_at_colon gs (58 ∷ q.next) e (subst (λ (t : List ℕ). IsTextPart gs t e) q.spelled p))
-left_unique gs hs text e f (inr p) (inl q) = absurd (no_part_at_colon hs (58 ∷ p.next) f (subst (λ (t : List ℕ). IsTextPart hs t f) p.spelled q))
+left_unique gs hs text e f (inl p) (inr q) = absurd (no_part_at_colon gs (colon ∷ q.next) e (subst (λ (t : List ℕ). IsTextPart gs t e) q.spelled p))
+left_unique gs hs text e f (inr p) (inl q) = absurd (no_part_at_colon hs (colon ∷ p.next) f (subst (λ (t : List ℕ). IsTextPart hs t f) p.spelled q))
 left_unique gs hs text e f (inr p) (inr q) = (p.none ∙ sym q.none, p.ends ∙ ap (λ t. Some (drop 2 t)) (sym p.spelled ∙ q.spelled) ∙ sym q.ends)
 
 pub right_unique : (gs hs text : List ℕ) → IsRight gs text → IsRight hs text → gs ≡ hs

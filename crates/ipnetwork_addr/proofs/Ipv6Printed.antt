@@ -2,6 +2,7 @@
 use Rattle.std.proofs.Common.{◌≡◌, ◌↔◌, subst, ℕ, suc, zero, ◌+◌, ◌%◌, ◌^◌, ◌<◌, ◌≤◌, false, List, [], ◌∷◌, ◌++◌, length, map, take, drop, replicate, refl, sym, ap, ◌∙◌, inl, inr, arith, lit≤, take-add, take-append-drop, length-take-le, length-drop}
 use Rattle.std.proofs.Common.{true≢false, eq-eqb, ◌/◌}
 use Rattle.std.proofs.lemmas.Bool.{cases_lt, cond_both, leb-true, leb-false, eqb-true}
+use Rattle.ipnetwork_addr.specs.Texts.{colon}
 use Rattle.ipnetwork_addr.proofs.ZeroRuns.{gap_found, no_gap, run_is_zeros}
 use Rattle.std.specs.List.{AllZip}
 use Rattle.std.specs.Int.Digits.{number_from_digits, AllBelowBase}
@@ -39,17 +40,18 @@ named_hex (g ∷ groups) fit = (hex_is_group g fit.0, named_hex groups fit.1)
 hex_groups_are_plain : (groups : List ℕ) → AllBelowBase (2 ^ 16) groups → IsPlain (hex_groups groups) groups
 hex_groups_are_plain groups fit = record { parts = map hex groups; spelled = refl; named = named_hex groups fit }
 
-fit_take : (n : ℕ) (groups : List ℕ) → AllBelowBase (2 ^ 16) groups → AllBelowBase (2 ^ 16) (take n groups)
+-- groups stay groups where some are left out. `ipnetwork_witness` cites these too
+pub fit_take : (n : ℕ) (groups : List ℕ) → AllBelowBase (2 ^ 16) groups → AllBelowBase (2 ^ 16) (take n groups)
 fit_take zero groups h = tt
 fit_take (suc n) [] h = tt
 fit_take (suc n) (g ∷ groups) h = (h.0, fit_take n groups h.1)
 
-fit_drop : (n : ℕ) (groups : List ℕ) → AllBelowBase (2 ^ 16) groups → AllBelowBase (2 ^ 16) (drop n groups)
+pub fit_drop : (n : ℕ) (groups : List ℕ) → AllBelowBase (2 ^ 16) groups → AllBelowBase (2 ^ 16) (drop n groups)
 fit_drop zero groups h = h
 fit_drop (suc n) [] h = h
 fit_drop (suc n) (g ∷ groups) h = fit_drop n groups h.1
 
-segments_fit : (address : ℕ) → AllBelowBase (2 ^ 16) (segments_of address)
+pub segments_fit : (address : ℕ) → AllBelowBase (2 ^ 16) (segments_of address)
 segments_fit address =
     (omega arith, (omega arith, (omega arith, (omega arith, (omega arith, (omega arith, (omega arith, (omega arith, tt))))))))
 
@@ -60,7 +62,7 @@ number-segments_of address fits = omega arith
 put_back : (groups : List ℕ) (i n : ℕ) → IsZeroRun groups i n → groups ≡ take i groups ++ replicate n 0 ++ drop (i + n) groups
 put_back groups i n run = rw (← run_is_zeros groups i n run, ← take-add i n groups) (sym (take-append-drop (i + n) groups))
 
-gap_named : (address : ℕ) (groups text : List ℕ) (i n : ℕ) → length groups ≡ 8 → AllBelowBase (2 ^ 16) groups → address ≡ number_from_digits (2 ^ 16) groups → IsGap groups i n → text ≡ hex_groups (take i groups) ++ (58 ∷ 58 ∷ []) ++ hex_groups (drop (i + n) groups) → NamesV6 text address
+gap_named : (address : ℕ) (groups text : List ℕ) (i n : ℕ) → length groups ≡ 8 → AllBelowBase (2 ^ 16) groups → address ≡ number_from_digits (2 ^ 16) groups → IsGap groups i n → text ≡ hex_groups (take i groups) ++ (colon ∷ colon ∷ []) ++ hex_groups (drop (i + n) groups) → NamesV6 text address
 gap_named address groups text i n eight fit value gap spelled =
     let within : i + n ≤ 8 = omega (arith, gap.zeros.there, eight) in
     let front = length-take-le i groups (omega arith) in
@@ -83,10 +85,10 @@ gap_named address groups text i n eight fit value gap spelled =
 mapped_number : (address : ℕ) → IsMapped address → address ≡ number_from_digits (2 ^ 16) (0 ∷ 0 ∷ 0 ∷ 0 ∷ 0 ∷ 0xffff ∷ two_groups (address % 2 ^ 32))
 mapped_number address mapped = omega (arith, mapped)
 
-mapped_named : (address : ℕ) (text : List ℕ) → IsMapped address → text ≡ (58 ∷ 58 ∷ 102 ∷ 102 ∷ 102 ∷ 102 ∷ 58 ∷ []) ++ canonical_v4 (address % 2 ^ 32) → NamesV6 text address
+mapped_named : (address : ℕ) (text : List ℕ) → IsMapped address → text ≡ (colon ∷ colon ∷ 102 ∷ 102 ∷ 102 ∷ 102 ∷ colon ∷ []) ++ canonical_v4 (address % 2 ^ 32) → NamesV6 text address
 mapped_named address text mapped spelled = inr (record {
   before = [];
-  behind = 102 ∷ 102 ∷ 102 ∷ 102 ∷ 58 ∷ canonical_v4 (address % 2 ^ 32);
+  behind = 102 ∷ 102 ∷ 102 ∷ 102 ∷ colon ∷ canonical_v4 (address % 2 ^ 32);
   high = [];
   low = 0xffff ∷ two_groups (address % 2 ^ 32);
   missing = 5;

@@ -4,6 +4,7 @@ use Rattle.std.proofs.Math.Nat.{pow-le-pow_right}
 use Rattle.std.proofs.lemmas.Nat.{pow-add}
 use Rattle.std.proofs.lemmas.Int.Digits.{number_after_append}
 use Rattle.std.specs.Int.Digits.{number_from_digits}
+use Rattle.ipnetwork_addr.specs.Texts.{colon, dot}
 use Rattle.ipnetwork_addr.specs.Ipv4Text.{NamesV4}
 use Rattle.ipnetwork_addr.specs.Private.NoAddress.{NamesNoV4}
 use Rattle.ipnetwork_addr.specs.Ipv6Text.{two_groups}
@@ -14,7 +15,7 @@ use Rattle.ipnetwork_addr.proofs.Parts.{IsLast, IsDot, IsGap, IsNext, kind_of, n
 -- the text begins with these groups, a colon after each, and this follows them
 abbrev pub Steps : List ℕ → List ℕ → List ℕ → Type 0
 Steps [] text rest = text ≡ rest
-Steps (g ∷ groups) text rest = (next : List ℕ) × BeginsWithGroup text g (58 ∷ next) × ((r : List ℕ) → next ≢ 58 ∷ r) × Steps groups next rest
+Steps (g ∷ groups) text rest = (next : List ℕ) × BeginsWithGroup text g (colon ∷ next) × ((r : List ℕ) → next ≢ colon ∷ r) × Steps groups next rest
 
 pub record PartSoFar (text rest : List ℕ) (count number : ℕ) : Type 0 where
   pub groups : List ℕ
@@ -25,8 +26,8 @@ pub record PartSoFar (text rest : List ℕ) (count number : ℕ) : Type 0 where
 
 -- ---- the groups that were read are the first of any part
 
-steps_push : (groups text rest : List ℕ) (g : ℕ) (next : List ℕ) → Steps groups text rest → BeginsWithGroup rest g (58 ∷ next) → ((r : List ℕ) → next ≢ 58 ∷ r) → Steps (groups ++ g ∷ []) text next
-steps_push [] text rest g next e b other = (next, subst (λ (t : List ℕ). BeginsWithGroup t g (58 ∷ next)) (sym e) b, other, refl)
+steps_push : (groups text rest : List ℕ) (g : ℕ) (next : List ℕ) → Steps groups text rest → BeginsWithGroup rest g (colon ∷ next) → ((r : List ℕ) → next ≢ colon ∷ r) → Steps (groups ++ g ∷ []) text next
+steps_push [] text rest g next e b other = (next, subst (λ (t : List ℕ). BeginsWithGroup t g (colon ∷ next)) (sym e) b, other, refl)
 steps_push (h ∷ groups) text rest g next s b other = (s.0, s.1, s.2, steps_push groups s.0 rest g next s.3 b other)
 
 steps_part : (groups more text rest : List ℕ) (end : Option (List ℕ)) → Steps groups text rest → IsTextPart more rest end → IsTextPart (groups ++ more) text end
@@ -40,9 +41,9 @@ record Remaining (groups part rest : List ℕ) (end : Option (List ℕ)) : Type 
 
 steps_back : (groups part text rest : List ℕ) (end : Option (List ℕ)) → Steps groups text rest → IsTextPart part text end → Remaining groups part rest end
 steps_back [] part text rest end e p = record { more = part; is = refl; later = subst (λ (t : List ℕ). IsTextPart part t end) e p }
-steps_back (g ∷ groups) part text rest end s p = elim (kind_of part text end g (58 ∷ s.0) s.1 p) [
-  | IsLast e _ _ ↦ absurd (nil_cons 58 s.0 (sym e))
-  | IsDot _ more e _ _ _ ↦ absurd (other_first 58 46 s.0 more e (omega arith))
+steps_back (g ∷ groups) part text rest end s p = elim (kind_of part text end g (colon ∷ s.0) s.1 p) [
+  | IsLast e _ _ ↦ absurd (nil_cons colon s.0 (sym e))
+  | IsDot _ more e _ _ _ ↦ absurd (other_first colon dot s.0 more e (omega arith))
   | IsGap next e _ _ ↦ absurd (s.2 next (ap (drop 1) e))
   | IsNext next more e is_part p' ↦
       let later = steps_back groups more s.0 rest end s.3 (subst (λ (t : List ℕ). IsTextPart more t end) (sym (ap (drop 1) e)) p') in
@@ -72,13 +73,13 @@ small_halves n count a h k =
     rw e (omega (arith, h, k))
 
 -- what is small enough for one more group, and for two
-pub fits_one : (text rest : List ℕ) (count number room : ℕ) → PartSoFar text rest count number → count < room → room ≤ 8 → number < 2 ^ 112
-fits_one text rest count number room s h k =
+pub fits_one : {text rest : List ℕ} {count number room : ℕ} → PartSoFar text rest count number → count < room → room ≤ 8 → number < 2 ^ 112
+fits_one {text} {rest} {count} {number} {room} s h k =
     let most : (2 ^ 16) ^ count ≤ (2 ^ 16) ^ 7 = pow-le-pow_right {n = 65536} (lit≤ tt) {j = 7} (omega arith) in
     omega (arith, most, s.small)
 
-pub fits_two : (text rest : List ℕ) (count number room : ℕ) → PartSoFar text rest count number → count + 2 ≤ room → room ≤ 8 → number < 2 ^ 96
-fits_two text rest count number room s h k =
+pub fits_two : {text rest : List ℕ} {count number room : ℕ} → PartSoFar text rest count number → count + 2 ≤ room → room ≤ 8 → number < 2 ^ 96
+fits_two {text} {rest} {count} {number} {room} s h k =
     let most : (2 ^ 16) ^ count ≤ (2 ^ 16) ^ 6 = pow-le-pow_right {n = 65536} (lit≤ tt) {j = 6} (omega arith) in
     omega (arith, most, s.small)
 
@@ -87,10 +88,10 @@ fits_two text rest count number room s h k =
 pub so_far_none : (text : List ℕ) → PartSoFar text text 0 0
 so_far_none text = record { groups = []; steps = refl; counted = refl; value = refl; small = lit≤ tt }
 
-pub so_far_more : (text rest after next : List ℕ) (count number g : ℕ) → PartSoFar text rest count number → BeginsWithGroup rest g after → after ≡ 58 ∷ next → ((r : List ℕ) → next ≢ 58 ∷ r) → PartSoFar text next (count + 1) (number * 2 ^ 16 + g)
-so_far_more text rest after next count number g s b colon other = record {
+pub so_far_more : {text rest after next : List ℕ} {count number g : ℕ} → PartSoFar text rest count number → BeginsWithGroup rest g after → after ≡ colon ∷ next → ((r : List ℕ) → next ≢ colon ∷ r) → PartSoFar text next (count + 1) (number * 2 ^ 16 + g)
+so_far_more {text} {rest} {after} {next} {count} {number} {g} s b at_colon other = record {
   groups = s.groups ++ g ∷ [];
-  steps = steps_push s.groups text rest g next s.steps (subst (BeginsWithGroup rest g) colon b) other;
+  steps = steps_push s.groups text rest g next s.steps (subst (BeginsWithGroup rest g) at_colon b) other;
   counted = omega (arith, s.counted, length-append s.groups (g ∷ []));
   value = value_push s.groups g number s.value;
   small = small_push number count g s.small (group_fits rest g after b);
@@ -99,8 +100,8 @@ so_far_more text rest after next count number g s b colon other = record {
 -- ---- the exits
 
 -- a part of one more group, which ends as its own part does
-ended : (text rest : List ℕ) (count number g room : ℕ) (end : Option (List ℕ)) → PartSoFar text rest count number → IsTextPart (g ∷ []) rest end → count < room → g < 2 ^ 16 → BeginsWithPart room text (count + 1) (number * 2 ^ 16 + g) end
-ended text rest count number g room end s part h fits = record {
+ended : {text rest : List ℕ} {count number g room : ℕ} {end : Option (List ℕ)} → PartSoFar text rest count number → IsTextPart (g ∷ []) rest end → count < room → g < 2 ^ 16 → BeginsWithPart room text (count + 1) (number * 2 ^ 16 + g) end
+ended {text} {rest} {count} {number} {g} {room} {end} s part h fits = record {
   groups = s.groups ++ g ∷ [];
   part = steps_part s.groups (g ∷ []) text rest end s.steps part;
   counted = omega (arith, s.counted, length-append s.groups (g ∷ []));
@@ -109,16 +110,16 @@ ended text rest count number g room end s part h fits = record {
   small = small_push number count g s.small fits;
 }
 
-pub ends_last : (text rest after : List ℕ) (count number g room : ℕ) → PartSoFar text rest count number → BeginsWithGroup rest g after → after ≡ [] → count < room → BeginsWithPart room text (count + 1) (number * 2 ^ 16 + g) None
-ends_last text rest after count number g room s b empty h =
-    ended text rest count number g room None s (Last (subst (BeginsWithGroup rest g) empty b) refl refl) h (group_fits rest g after b)
+pub ends_last : {text rest after : List ℕ} {count number g room : ℕ} → PartSoFar text rest count number → BeginsWithGroup rest g after → after ≡ [] → count < room → BeginsWithPart room text (count + 1) (number * 2 ^ 16 + g) None
+ends_last {text} {rest} {after} {count} {number} {g} {room} s b empty h =
+    ended s (Last (subst (BeginsWithGroup rest g) empty b) refl refl) h (group_fits rest g after b)
 
-pub ends_at_gap : (text rest after next behind : List ℕ) (count number g room : ℕ) → PartSoFar text rest count number → BeginsWithGroup rest g after → after ≡ 58 ∷ next → next ≡ 58 ∷ behind → count < room → BeginsWithPart room text (count + 1) (number * 2 ^ 16 + g) (Some behind)
-ends_at_gap text rest after next behind count number g room s b colon again h =
-    ended text rest count number g room (Some behind) s (Gap behind (subst (BeginsWithGroup rest g) (colon ∙ ap (λ t. 58 ∷ t) again) b) refl refl) h (group_fits rest g after b)
+pub ends_at_gap : {text rest after next behind : List ℕ} {count number g room : ℕ} → PartSoFar text rest count number → BeginsWithGroup rest g after → after ≡ colon ∷ next → next ≡ colon ∷ behind → count < room → BeginsWithPart room text (count + 1) (number * 2 ^ 16 + g) (Some behind)
+ends_at_gap {text} {rest} {after} {next} {behind} {count} {number} {g} {room} s b at_colon again h =
+    ended s (Gap behind (subst (BeginsWithGroup rest g) (at_colon ∙ ap (λ t. colon ∷ t) again) b) refl refl) h (group_fits rest g after b)
 
-pub ends_dotted : (text rest : List ℕ) (count number address room : ℕ) → PartSoFar text rest count number → NamesV4 rest address → count + 2 ≤ room → address < 2 ^ 32 → BeginsWithPart room text (count + 2) (number * 2 ^ 32 + address) None
-ends_dotted text rest count number address room s named h fits = record {
+pub ends_dotted : {text rest : List ℕ} {count number address room : ℕ} → PartSoFar text rest count number → NamesV4 rest address → count + 2 ≤ room → address < 2 ^ 32 → BeginsWithPart room text (count + 2) (number * 2 ^ 32 + address) None
+ends_dotted {text} {rest} {count} {number} {address} {room} s named h fits = record {
   groups = s.groups ++ two_groups address;
   part = steps_part s.groups (two_groups address) text rest None s.steps (Dotted address named refl refl);
   counted = omega (arith, s.counted, length-append s.groups (two_groups address));
@@ -130,48 +131,48 @@ ends_dotted text rest count number address room s named h fits = record {
 -- ---- no part
 
 -- where the text goes on with no part, it begins with none
-none_on : (text rest : List ℕ) (count number room : ℕ) → PartSoFar text rest count number → ((more : List ℕ) (end : Option (List ℕ)) → IsTextPart more rest end → room < count + length more) → NoPart room text
-none_on text rest count number room s long part end p =
+none_on : {text rest : List ℕ} {count number room : ℕ} → PartSoFar text rest count number → ((more : List ℕ) (end : Option (List ℕ)) → IsTextPart more rest end → room < count + length more) → NoPart room text
+none_on {text} {rest} {count} {number} {room} s long part end p =
     let k = steps_back s.groups part text rest end s.steps p in
     let most = long k.more end k.later in
     omega (arith, most, s.counted, ap length k.is, length-append s.groups k.more)
 
-pub no_group_on : (text rest : List ℕ) (count number room : ℕ) → PartSoFar text rest count number → NoGroup rest → NoPart room text
-no_group_on text rest count number room s none =
-    none_on text rest count number room s (λ more end p. absurd (no_group_no_part more rest end none p))
+pub no_group_on : {text rest : List ℕ} {count number room : ℕ} → PartSoFar text rest count number → NoGroup rest → NoPart room text
+no_group_on {text} {rest} {count} {number} {room} s none =
+    none_on s (λ more end p. absurd (no_group_no_part more rest end none p))
 
-pub no_room : (text rest : List ℕ) (count number room : ℕ) → PartSoFar text rest count number → room ≤ count → NoPart room text
-no_room text rest count number room s full = none_on text rest count number room s go
+pub no_room : {text rest : List ℕ} {count number room : ℕ} → PartSoFar text rest count number → room ≤ count → NoPart room text
+no_room {text} {rest} {count} {number} {room} s full = none_on s go
   where
     go : (more : List ℕ) (end : Option (List ℕ)) → IsTextPart more rest end → room < count + length more
     go [] end p = absurd p
     go (g ∷ more) end p = omega arith
 
 -- behind a group stands neither the end, a colon nor a dot
-pub no_other_byte : (text rest after : List ℕ) (count number g room : ℕ) → PartSoFar text rest count number → BeginsWithGroup rest g after → after ≢ [] → ((r : List ℕ) → after ≢ 58 ∷ r) → ((r : List ℕ) → after ≢ 46 ∷ r) → NoPart room text
-no_other_byte text rest after count number g room s b some no_colon no_dot =
-    none_on text rest count number room s λ more end p. elim (kind_of more rest end g after b p) [
+pub no_other_byte : {text rest after : List ℕ} {count number g room : ℕ} → PartSoFar text rest count number → BeginsWithGroup rest g after → after ≢ [] → ((r : List ℕ) → after ≢ colon ∷ r) → ((r : List ℕ) → after ≢ dot ∷ r) → NoPart room text
+no_other_byte {text} {rest} {after} {count} {number} {g} {room} s b some no_colon no_dot =
+    none_on s λ more end p. elim (kind_of more rest end g after b p) [
       | IsLast e _ _ ↦ absurd (some e)
       | IsDot _ m e _ _ _ ↦ absurd (no_dot m e)
-      | IsGap m e _ _ ↦ absurd (no_colon (58 ∷ m) e)
+      | IsGap m e _ _ ↦ absurd (no_colon (colon ∷ m) e)
       | IsNext m _ e _ _ ↦ absurd (no_colon m e)
     ]
 
 -- behind a group stands a dot, but there is no IPv4 text, or no room for one
-pub no_dotted : (text rest after : List ℕ) (count number g room : ℕ) → PartSoFar text rest count number → BeginsWithGroup rest g after → after ≢ [] → ((r : List ℕ) → after ≢ 58 ∷ r) → NamesNoV4 rest → NoPart room text
-no_dotted text rest after count number g room s b some no_colon none =
-    none_on text rest count number room s λ more end p. elim (kind_of more rest end g after b p) [
+pub no_dotted : {text rest after : List ℕ} {count number g room : ℕ} → PartSoFar text rest count number → BeginsWithGroup rest g after → after ≢ [] → ((r : List ℕ) → after ≢ colon ∷ r) → NamesNoV4 rest → NoPart room text
+no_dotted {text} {rest} {after} {count} {number} {g} {room} s b some no_colon none =
+    none_on s λ more end p. elim (kind_of more rest end g after b p) [
       | IsLast e _ _ ↦ absurd (some e)
       | IsDot address _ _ named _ _ ↦ absurd (none address named)
-      | IsGap m e _ _ ↦ absurd (no_colon (58 ∷ m) e)
+      | IsGap m e _ _ ↦ absurd (no_colon (colon ∷ m) e)
       | IsNext m _ e _ _ ↦ absurd (no_colon m e)
     ]
 
-pub no_room_dotted : (text rest after : List ℕ) (count number g room : ℕ) → PartSoFar text rest count number → BeginsWithGroup rest g after → after ≢ [] → ((r : List ℕ) → after ≢ 58 ∷ r) → room < count + 2 → NoPart room text
-no_room_dotted text rest after count number g room s b some no_colon full =
-    none_on text rest count number room s λ more end p. elim (kind_of more rest end g after b p) [
+pub no_room_dotted : {text rest after : List ℕ} {count number g room : ℕ} → PartSoFar text rest count number → BeginsWithGroup rest g after → after ≢ [] → ((r : List ℕ) → after ≢ colon ∷ r) → room < count + 2 → NoPart room text
+no_room_dotted {text} {rest} {after} {count} {number} {g} {room} s b some no_colon full =
+    none_on s λ more end p. elim (kind_of more rest end g after b p) [
       | IsLast e _ _ ↦ absurd (some e)
       | IsDot address _ _ named is_more _ ↦ omega (arith, ap length is_more)
-      | IsGap m e _ _ ↦ absurd (no_colon (58 ∷ m) e)
+      | IsGap m e _ _ ↦ absurd (no_colon (colon ∷ m) e)
       | IsNext m _ e _ _ ↦ absurd (no_colon m e)
     ]

@@ -3,6 +3,7 @@ use Rattle.std.proofs.Common.{◌≡◌, ◌≢◌, ℕ, ◌<◌, ◌≤◌, Lis
 use Rattle.std.proofs.lemmas.Fmt.{decimal_is_IsNumeral, length-decimal-le}
 use Rattle.std.specs.Char.{digit_value}
 use Rattle.std.specs.Str.Parse.{AllDigits, digits_value}
+use Rattle.ipnetwork_addr.specs.Texts.{dot, colon}
 use Rattle.ipnetwork_addr.specs.Ipv4Text.{NamesV4}
 use Rattle.ipnetwork_addr.specs.Ipv6Text.{two_groups}
 use Rattle.ipnetwork_addr.specs.Private.GroupFront.{NoHex, BeginsWithGroup, NoGroup, Last, Dotted, Gap, Next, IsTextPart}
@@ -18,7 +19,7 @@ hex_from_decimal (d ∷ ds) h = (let v = digit_value d in omega (arith, h.0), he
 pub record BeginsDotted (text : List ℕ) : Type 0 where
   pub group : ℕ
   pub after : List ℕ
-  pub begins : BeginsWithGroup text group (46 ∷ after)
+  pub begins : BeginsWithGroup text group (dot ∷ after)
 
 pub v4_begins : (text : List ℕ) (address : ℕ) → NamesV4 text address → BeginsDotted text
 v4_begins text address h =
@@ -44,9 +45,9 @@ v4_begins text address h =
 
 pub data Kind (text : List ℕ) (group : ℕ) (after : List ℕ) (groups : List ℕ) (end : Option (List ℕ)) : Type 0 where
   IsLast : after ≡ [] → groups ≡ group ∷ [] → end ≡ None → Kind text group after groups end
-  IsDot : (address : ℕ) (more : List ℕ) → after ≡ 46 ∷ more → NamesV4 text address → groups ≡ two_groups address → end ≡ None → Kind text group after groups end
-  IsGap : (next : List ℕ) → after ≡ 58 ∷ 58 ∷ next → groups ≡ group ∷ [] → end ≡ Some next → Kind text group after groups end
-  IsNext : (next more : List ℕ) → after ≡ 58 ∷ next → groups ≡ group ∷ more → IsTextPart more next end → Kind text group after groups end
+  IsDot : (address : ℕ) (more : List ℕ) → after ≡ dot ∷ more → NamesV4 text address → groups ≡ two_groups address → end ≡ None → Kind text group after groups end
+  IsGap : (next : List ℕ) → after ≡ colon ∷ colon ∷ next → groups ≡ group ∷ [] → end ≡ Some next → Kind text group after groups end
+  IsNext : (next more : List ℕ) → after ≡ colon ∷ next → groups ≡ group ∷ more → IsTextPart more next end → Kind text group after groups end
 
 pub kind_of : (groups text : List ℕ) (end : Option (List ℕ)) (g : ℕ) (after : List ℕ) → BeginsWithGroup text g after → IsTextPart groups text end → Kind text g after groups end
 kind_of [] text end g after b part = absurd part
@@ -55,12 +56,12 @@ kind_of (h ∷ groups) text end g after b (Last c e f) =
     IsLast same.1 (ap (λ t. h ∷ t) e ∙ ap (λ x. x ∷ []) (sym same.0)) f
 kind_of (h ∷ groups) text end g after b (Dotted address named e f) =
     let c = v4_begins text address named in
-    IsDot address c.after (group_unique text g c.group after (46 ∷ c.after) b c.begins).1 named e f
+    IsDot address c.after (group_unique text g c.group after (dot ∷ c.after) b c.begins).1 named e f
 kind_of (h ∷ groups) text end g after b (Gap next c e f) =
-    let same = group_unique text g h after (58 ∷ 58 ∷ next) b c in
+    let same = group_unique text g h after (colon ∷ colon ∷ next) b c in
     IsGap next same.1 (ap (λ t. h ∷ t) e ∙ ap (λ x. x ∷ []) (sym same.0)) f
 kind_of (h ∷ groups) text end g after b (Next next c more) =
-    let same = group_unique text g h after (58 ∷ next) b c in
+    let same = group_unique text g h after (colon ∷ next) b c in
     IsNext next groups same.1 (ap (λ x. x ∷ groups) (sym same.0)) more
 
 -- ---- texts that begin with no part
@@ -68,9 +69,9 @@ kind_of (h ∷ groups) text end g after b (Next next c more) =
 pub no_group_no_part : (groups text : List ℕ) (end : Option (List ℕ)) → NoGroup text → ¬ (IsTextPart groups text end)
 no_group_no_part [] text end none part = part
 no_group_no_part (g ∷ groups) text end none (Last b e f) = none g [] b
-no_group_no_part (g ∷ groups) text end none (Dotted address named e f) = let b = v4_begins text address named in none b.group (46 ∷ b.after) b.begins
-no_group_no_part (g ∷ groups) text end none (Gap next b e f) = none g (58 ∷ 58 ∷ next) b
-no_group_no_part (g ∷ groups) text end none (Next next b more) = none g (58 ∷ next) b
+no_group_no_part (g ∷ groups) text end none (Dotted address named e f) = let b = v4_begins text address named in none b.group (dot ∷ b.after) b.begins
+no_group_no_part (g ∷ groups) text end none (Gap next b e f) = none g (colon ∷ colon ∷ next) b
+no_group_no_part (g ∷ groups) text end none (Next next b more) = none g (colon ∷ next) b
 
 -- a group does not begin with such a byte
 no_front : (text front rest : List ℕ) → 0 < length front → AllDigits 16 front → NoHex text → text ≡ front ++ rest → ⊥
@@ -82,8 +83,8 @@ no_front text (x ∷ front) rest some digits none e =
 pub no_hex_no_group : (text : List ℕ) → NoHex text → NoGroup text
 no_hex_no_group text none g rest h = no_front text h.front rest h.named.digits.0 h.named.digits.1 none h.split
 
-pub no_part_at_colon : (groups text : List ℕ) (end : Option (List ℕ)) → ¬ (IsTextPart groups (58 ∷ text) end)
-no_part_at_colon groups text end = no_group_no_part groups (58 ∷ text) end (no_hex_no_group (58 ∷ text) (lit≤ tt))
+pub no_part_at_colon : (groups text : List ℕ) (end : Option (List ℕ)) → ¬ (IsTextPart groups (colon ∷ text) end)
+no_part_at_colon groups text end = no_group_no_part groups (colon ∷ text) end (no_hex_no_group (colon ∷ text) (lit≤ tt))
 
 pub no_part_of_nothing : (groups : List ℕ) (end : Option (List ℕ)) → ¬ (IsTextPart groups [] end)
 no_part_of_nothing groups end = no_group_no_part groups [] end (no_hex_no_group [] (lit≤ tt))
@@ -107,27 +108,27 @@ pub part_unique : (gs hs text : List ℕ) (e f : Option (List ℕ)) → IsTextPa
 part_unique [] hs text e f p q = absurd p
 part_unique (g ∷ gs) hs text e f (Last b is_gs is_e) q = elim (kind_of hs text f g [] b q) [
   | IsLast _ is_hs is_f ↦ (ap (λ t. g ∷ t) is_gs ∙ sym is_hs, is_e ∙ sym is_f)
-  | IsDot _ more s _ _ _ ↦ absurd (nil_cons 46 more s)
-  | IsGap next s _ _ ↦ absurd (nil_cons 58 (58 ∷ next) s)
-  | IsNext next _ s _ _ ↦ absurd (nil_cons 58 next s)
+  | IsDot _ more s _ _ _ ↦ absurd (nil_cons dot more s)
+  | IsGap next s _ _ ↦ absurd (nil_cons colon (colon ∷ next) s)
+  | IsNext next _ s _ _ ↦ absurd (nil_cons colon next s)
 ]
 part_unique (g ∷ gs) hs text e f (Dotted address named is_gs is_e) q =
     let b = v4_begins text address named in
-    elim (kind_of hs text f b.group (46 ∷ b.after) b.begins q) [
-      | IsLast s _ _ ↦ absurd (nil_cons 46 b.after (sym s))
+    elim (kind_of hs text f b.group (dot ∷ b.after) b.begins q) [
+      | IsLast s _ _ ↦ absurd (nil_cons dot b.after (sym s))
       | IsDot other more s named' is_hs is_f ↦ (is_gs ∙ ap two_groups (v4_unique text address other named named') ∙ sym is_hs, is_e ∙ sym is_f)
-      | IsGap next s _ _ ↦ absurd (other_first 46 58 b.after (58 ∷ next) s (omega arith))
-      | IsNext next _ s _ _ ↦ absurd (other_first 46 58 b.after next s (omega arith))
+      | IsGap next s _ _ ↦ absurd (other_first dot colon b.after (colon ∷ next) s (omega arith))
+      | IsNext next _ s _ _ ↦ absurd (other_first dot colon b.after next s (omega arith))
     ]
-part_unique (g ∷ gs) hs text e f (Gap next b is_gs is_e) q = elim (kind_of hs text f g (58 ∷ 58 ∷ next) b q) [
-  | IsLast s _ _ ↦ absurd (nil_cons 58 (58 ∷ next) (sym s))
-  | IsDot _ more s _ _ _ ↦ absurd (other_first 58 46 (58 ∷ next) more s (omega arith))
+part_unique (g ∷ gs) hs text e f (Gap next b is_gs is_e) q = elim (kind_of hs text f g (colon ∷ colon ∷ next) b q) [
+  | IsLast s _ _ ↦ absurd (nil_cons colon (colon ∷ next) (sym s))
+  | IsDot _ more s _ _ _ ↦ absurd (other_first colon dot (colon ∷ next) more s (omega arith))
   | IsGap other s is_hs is_f ↦ (ap (λ t. g ∷ t) is_gs ∙ sym is_hs, is_e ∙ ap Some (ap (drop 2) s) ∙ sym is_f)
   | IsNext other more s _ part ↦ absurd (no_part_at_colon more next f (subst (λ (t : List ℕ). IsTextPart more t f) (sym (ap (drop 1) s)) part))
 ]
-part_unique (g ∷ gs) hs text e f (Next next b part) q = elim (kind_of hs text f g (58 ∷ next) b q) [
-  | IsLast s _ _ ↦ absurd (nil_cons 58 next (sym s))
-  | IsDot _ more s _ _ _ ↦ absurd (other_first 58 46 next more s (omega arith))
+part_unique (g ∷ gs) hs text e f (Next next b part) q = elim (kind_of hs text f g (colon ∷ next) b q) [
+  | IsLast s _ _ ↦ absurd (nil_cons colon next (sym s))
+  | IsDot _ more s _ _ _ ↦ absurd (other_first colon dot next more s (omega arith))
   | IsGap other s _ _ ↦ absurd (no_part_at_colon gs other e (subst (λ (t : List ℕ). IsTextPart gs t e) (ap (drop 1) s) part))
   | IsNext other more s is_hs part' ↦
       let later = part_unique gs more next e f part (subst (λ (t : List ℕ). IsTextPart more t f) (sym (ap (drop 1) s)) part') in

@@ -1,5 +1,6 @@
 -- The printer writes the canonical text.
 use Rattle.std.proofs.Common.{◌≡◌, ◌↔◌, Bool, false, true≢false, IsTrue, sym, ℕ, ◌+◌, ◌%◌, ◌^◌, ◌<◌, ◌≤◌, List, [], ◌∷◌, ◌++◌, take, drop, codes, ◌∙◌, subst, arith}
+use Rattle.ipnetwork_addr.specs.Texts.{colon}
 use Rattle.ipnetwork_addr.specs.Digits.{segments_of}
 use Rattle.ipnetwork_addr.specs.Ipv4Text.{canonical_v4}
 use Rattle.ipnetwork_addr.specs.Ipv6Canonical.{IsMapped, IsGap, IsCanonicalV6, Mapped, Gap, Whole, hex_groups}
@@ -22,12 +23,12 @@ pub printed_mapped : (address : ℕ) (text front shown all : List ℕ) (last : �
 printed_mapped address text front shown all last mapped empty k is_shown is_last l = Mapped mapped (l ∙ rw (k, empty, is_shown, is_last))
 
 module _ (address : ℕ) (groups : List ℕ) (e : groups ≡ segments_of address) (not_mapped : ¬ (IsMapped address)) (run : ℕ × ℕ) (found : IsLongestRun groups run.0 run.1) where
-  pub printed_gap : (text front colons all back : List ℕ) → 2 ≤ run.1 → text ≡ [] → front ≡ text ++ hex_groups (take run.0 groups) → colons ≡ front ++ 58 ∷ 58 ∷ [] → back ≡ drop (run.0 + run.1) groups → all ≡ colons ++ hex_groups back → IsCanonicalV6 all address
+  pub printed_gap : (text front colons all back : List ℕ) → 2 ≤ run.1 → text ≡ [] → front ≡ text ++ hex_groups (take run.0 groups) → colons ≡ front ++ colon ∷ colon ∷ [] → back ≡ drop (run.0 + run.1) groups → all ≡ colons ++ hex_groups back → IsCanonicalV6 all address
   printed_gap text front colons all back several empty h k is_back l =
-      let spelled : all ≡ hex_groups (take run.0 groups) ++ (58 ∷ 58 ∷ []) ++ hex_groups (drop (run.0 + run.1) groups) = l ∙ rw (k, h, empty, is_back) in
+      let spelled : all ≡ hex_groups (take run.0 groups) ++ (colon ∷ colon ∷ []) ++ hex_groups (drop (run.0 + run.1) groups) = l ∙ rw (k, h, empty, is_back) in
       let gap : IsGap groups run.0 run.1 = is_gap groups run.0 run.1 found several in
       Gap not_mapped run.0 run.1 (subst (λ gs. IsGap gs run.0 run.1) e gap)
-      (subst (λ gs. all ≡ hex_groups (take run.0 gs) ++ (58 ∷ 58 ∷ []) ++ hex_groups (drop (run.0 + run.1) gs)) e spelled)
+      (subst (λ gs. all ≡ hex_groups (take run.0 gs) ++ (colon ∷ colon ∷ []) ++ hex_groups (drop (run.0 + run.1) gs)) e spelled)
 
   pub printed_whole : (text all : List ℕ) → run.1 < 2 → text ≡ [] → all ≡ text ++ hex_groups groups → IsCanonicalV6 all address
   printed_whole text all few empty h =

@@ -4,6 +4,7 @@ use Rattle.std.proofs.lemmas.Fmt.{decimal_digit, decimal_step, decimal_step_wide
 use Rattle.std.proofs.Math.Nat.{pow-succ'}
 use Rattle.std.proofs.lemmas.List.{append-nil}
 use Rattle.ipnetwork_addr.specs.Private.Decimals.{padded_decimal}
+use Rattle.ipnetwork_addr.proofs.Decimals.{IsPushed}
 
 pub length-decimal_step : (n : ℕ) → 10 ≤ n → n < 2 ^ 64 → length (decimal n) ≡ length (decimal (n / 10)) + 1
 length-decimal_step n low high =
@@ -94,28 +95,28 @@ counted_few n count rest fits all = omega (arith, all, length-decimal-le 20 n (o
 pub count_few : (n count : ℕ) → n < 2 ^ 64 → count ≡ length (decimal n) → count ≤ 20
 count_few n count fits e = omega (arith, e, length-decimal-le 20 n (omega arith) (omega arith) fits)
 
-pub digit_pushed : (text one : List ℕ) (n d : ℕ) → n < 10 → d ≡ 48 + n → one ≡ text ++ d ∷ [] → one ≡ text ++ decimal n
-digit_pushed text one n d small is_d h = h ∙ rw (is_d, decimal_digit n small)
+pub digit_pushed : {text one : List ℕ} (n : ℕ) → n < 10 → IsPushed text (48 + n) one → one ≡ text ++ decimal n
+digit_pushed n small h = h.is ∙ rw (decimal_digit n small)
 
--- a number of up to 39 digits, written in two parts or in three
-pub parts_two : (n high low : ℕ) → n < 2 ^ 128 → high ≡ n / 10 ^ 19 → low ≡ n % 10 ^ 19 → 0 < high
-    → decimal n ≡ decimal high ++ padded_decimal 19 low
-parts_two n high low fits is_high is_low some =
-    let whole : n ≡ high * 10 ^ 19 + low = omega arith in
-    let below : low < 10 ^ 19 = omega arith in
+-- a number of up to 39 digits, written in two parts or in three: its last 19 digits, and the number above them
+pub record IsDivided (n high low : ℕ) : Type 0 where
+  pub is_high : high ≡ n / 10 ^ 19
+  pub is_low : low ≡ n % 10 ^ 19
+
+pub parts_two : {n high low : ℕ} → n < 2 ^ 128 → IsDivided n high low → 0 < high → decimal n ≡ decimal high ++ padded_decimal 19 low
+parts_two {n} {high} {low} fits divided some =
+    let whole : n ≡ high * 10 ^ 19 + low = omega (arith, divided.is_high, divided.is_low) in
+    let below : low < 10 ^ 19 = omega (arith, divided.is_low) in
     rw whole (decimal-parts 19 high low some below (omega arith))
 
-pub two_pushed : (text one two : List ℕ) (n high low : ℕ) → n < 2 ^ 128 → high ≡ n / 10 ^ 19 → low ≡ n % 10 ^ 19 → 0 < high
+pub two_pushed : (text one two : List ℕ) {n high low : ℕ} → n < 2 ^ 128 → IsDivided n high low → 0 < high
     → one ≡ text ++ decimal high → two ≡ one ++ padded_decimal 19 low → two ≡ text ++ decimal n
-two_pushed text one two n high low fits is_high is_low some h k =
-    k ∙ rw (h, parts_two n high low fits is_high is_low some, append_assoc)
+two_pushed text one two fits divided some h k = k ∙ rw (h, parts_two fits divided some, append_assoc)
 
-pub three_pushed : (text one two three : List ℕ) (n high top middle low d : ℕ) → n < 2 ^ 128 → high ≡ n / 10 ^ 19 → low ≡ n % 10 ^ 19
-    → 10 ^ 19 ≤ high → top ≡ high / 10 ^ 19 → middle ≡ high % 10 ^ 19 → d ≡ 48 + top
-    → one ≡ text ++ d ∷ [] → two ≡ one ++ padded_decimal 19 middle → three ≡ two ++ padded_decimal 19 low → three ≡ text ++ decimal n
-three_pushed text one two three n high top middle low d fits is_high is_low large is_top is_middle is_d h k l =
-    let small : high < 2 ^ 128 = omega arith in
-    let digit : top < 10 = omega arith in
-    let some : 0 < top = omega arith in
-    two_pushed text two three n high low fits is_high is_low (omega arith)
-    (two_pushed text one two high top middle small is_top is_middle some (digit_pushed text one top d digit is_d h) k) l
+pub three_pushed : {text one : List ℕ} (two three : List ℕ) {n high top middle low : ℕ} → n < 2 ^ 128 → IsDivided n high low → 10 ^ 19 ≤ high → IsDivided high top middle
+    → IsPushed text (48 + top) one → two ≡ one ++ padded_decimal 19 middle → three ≡ two ++ padded_decimal 19 low → three ≡ text ++ decimal n
+three_pushed {text} {one} two three {n} {high} {top} fits divided large upper h k l =
+    let small : high < 2 ^ 128 = omega (arith, divided.is_high) in
+    let digit : top < 10 = omega (arith, upper.is_high, divided.is_high) in
+    let some : 0 < top = omega (arith, upper.is_high) in
+    two_pushed text two three fits divided (omega arith) (two_pushed text one two small upper some (digit_pushed top digit h) k) l

@@ -6,6 +6,7 @@ use Rattle.std.proofs.lemmas.Int.Digits.{digits_value-lt}
 use Rattle.std.specs.Int.Digits.{number_from_digits, AllBelowBase}
 use Rattle.std.specs.Net.Addr.{segments_of}
 use Rattle.std.specs.Net.Grammar.{IsGroup, IsGroupsAfter, IsColonHex}
+use Rattle.ipnetwork_addr.specs.Texts.{colon}
 use Rattle.ipnetwork_addr.specs.Ipv6Text.{NamesV6}
 use Rattle.ipnetwork_witness.proofs.Bridge.{Bridge}
 use Rattle.ipnetwork_witness.proofs.Colons.{plain_groups, ended_groups, groups_plain, groups_ended}
@@ -19,7 +20,7 @@ group_fits text group h =
 
 groups_fit : (ipv4 : Bool) (lead text groups : List ℕ) → IsGroupsAfter ipv4 lead text groups → AllBelowBase (2 ^ 16) groups
 groups_fit ipv4 lead text [] h = tt
-groups_fit ipv4 lead text (g ∷ groups) (inl h) = (group_fits h.0 g h.3, groups_fit ipv4 (58 ∷ []) h.1 groups h.4)
+groups_fit ipv4 lead text (g ∷ groups) (inl h) = (group_fits h.0 g h.3, groups_fit ipv4 (colon ∷ []) h.1 groups h.4)
 groups_fit ipv4 lead text (g ∷ groups) (inr h) =
     let d = h.4 in
     subst (AllBelowBase (2 ^ 16)) (sym (h.5 ∙ ap segments_of d.value)) (omega (arith, d.fit.0, d.fit.1), (omega (arith, d.fit.2, d.fit.3), tt))

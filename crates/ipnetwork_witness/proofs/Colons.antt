@@ -6,6 +6,7 @@ use Rattle.std.specs.Int.Digits.{number_from_digits}
 use Rattle.std.specs.Net.Addr.{segments_of}
 use Rattle.std.specs.Net.Grammar.{IsGroupsAfter, IsGroups}
 use Rattle.std.specs.Net.Grammar as std
+use Rattle.ipnetwork_addr.specs.Texts.{colon}
 use Rattle.ipnetwork_addr.specs.Ipv4Text.{NamesV4}
 use Rattle.ipnetwork_addr.specs.Ipv6Text.{IsGroup, IsPlain, IsEnded, two_groups}
 use Rattle.ipnetwork_witness.proofs.Dotted.{v4_bridge}
@@ -30,11 +31,11 @@ halves-segments text octets h = rw h.value (two h.a h.b h.c h.d h.fit)
 -- ---- parts with a colon between neighbours, or before each
 
 abbrev after_colons : List (List ℕ) → List ℕ
-after_colons parts = flat_map (λ part. 58 ∷ part) parts
+after_colons parts = flat_map (λ part. colon ∷ part) parts
 
-pub joined-cons : (part : List ℕ) (parts : List (List ℕ)) → join_with_byte 58 (part ∷ parts) ≡ part ++ flat_map (λ part. 58 ∷ part) parts
+pub joined-cons : (part : List ℕ) (parts : List (List ℕ)) → join_with_byte colon (part ∷ parts) ≡ part ++ flat_map (λ part. colon ∷ part) parts
 joined-cons part [] = sym (append-nil part)
-joined-cons part (next ∷ parts) = ap (λ t. part ++ 58 ∷ t) (joined-cons next parts)
+joined-cons part (next ∷ parts) = ap (λ t. part ++ colon ∷ t) (joined-cons next parts)
 
 record Spelling : Type 0 where
   lead : List ℕ
@@ -43,10 +44,10 @@ record Spelling : Type 0 where
   more : (part : List ℕ) (parts : List (List ℕ)) → spell (part ∷ parts) ≡ lead ++ part ++ after_colons parts
 
 abbrev between : Spelling
-between = record { lead = []; spell = join_with_byte 58; none = refl; more = joined-cons }
+between = record { lead = []; spell = join_with_byte colon; none = refl; more = joined-cons }
 
 abbrev before_each : Spelling
-before_each = record { lead = 58 ∷ []; spell = after_colons; none = refl; more = λ part parts. refl }
+before_each = record { lead = colon ∷ []; spell = after_colons; none = refl; more = λ part parts. refl }
 
 one_part : (s : Spelling) (last : List ℕ) → s.spell (last ∷ []) ≡ s.lead ++ last
 one_part s last = s.more last [] ∙ append-nil (s.lead ++ last)
@@ -100,14 +101,14 @@ parts_of s ipv4 text (g ∷ groups) (inr h) =
 pub groups_plain : (text groups : List ℕ) → IsGroups false text groups → IsPlain text groups
 groups_plain text groups h = go (parts_of between false text groups h)
   where
-    go : Parts false (join_with_byte 58) text groups → IsPlain text groups
+    go : Parts false (join_with_byte colon) text groups → IsPlain text groups
     go (Plain parts e named) = record { parts = parts; spelled = e; named = named }
     go (Dotted allowed parts front last address e named dotted value) = absurd (true≢false (sym allowed))
 
 pub groups_ended : (text groups : List ℕ) → IsGroups true text groups → IsEnded text groups
 groups_ended text groups h = go (parts_of between true text groups h)
   where
-    go : Parts true (join_with_byte 58) text groups → IsEnded text groups
+    go : Parts true (join_with_byte colon) text groups → IsEnded text groups
     go (Plain parts e named) = inl (record { parts = parts; spelled = e; named = named })
     go (Dotted allowed parts front last address e named dotted value) = inr (record {
       parts = parts;

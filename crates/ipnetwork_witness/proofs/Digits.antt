@@ -1,9 +1,8 @@
--- The digits of an address: of a number, of its bytes, and of pairs of bytes.
+-- The digits of an address: of a number, and of pairs of bytes.
 use Rattle.std.proofs.Common.{◌≡◌, ℕ, zero, suc, ◌+◌, ◌*◌, ◌/◌, ◌%◌, ◌^◌, ◌<◌, List, [], ◌∷◌, ◌++◌, length, refl, sym, ap, ap₂, ◌∙◌, arith, append-nil, append_assoc, length-append}
-use Rattle.std.proofs.Math.Nat.{div-div-eq-div-mul, div-lt_iff_lt-mul, pow-zero, pow-suc, pow-succ'}
+use Rattle.std.proofs.Math.Nat.{div-lt_iff_lt-mul, pow-zero, pow-suc}
 use Rattle.std.proofs.lemmas.Nat.{div-mul-add, mod-mul-add, div-add-mod'}
 use Rattle.std.proofs.lemmas.Int.Digits.{number_push}
-use Rattle.std.specs.Int.{byte_at, bytes_high_first}
 use Rattle.std.specs.Int.Digits.{number_from_digits, number_from_digits_after, AllBelowBase}
 use Rattle.std.specs.Net.Addr.{segments_of}
 use Rattle.ipnetwork_addr.specs.Digits.{digits_in}
@@ -39,21 +38,6 @@ digits_behind base (d ∷ ds) count n all fit e =
 
 pub digits_in-number : (base count : ℕ) (ds : List ℕ) → length ds ≡ count → AllBelowBase base ds → digits_in base count (number_from_digits base ds) ≡ ds
 digits_in-number base count ds long fit = digits_behind base ds 0 0 count fit (omega (arith, long))
-
--- ---- the bytes of a number are its digits in base 256
-
-byte_above : (place n : ℕ) → byte_at (suc place) n ≡ byte_at place (n / 256)
-byte_above zero n = refl
-byte_above (suc place) n =
-    ap (λ m. m % 256) (ap (λ p. n / p) (pow-succ' 256 (suc place)) ∙ sym (div-div-eq-div-mul n 256 (256 ^ suc place)))
-
-lowest_byte : (count n : ℕ) → bytes_high_first (suc count) n ≡ bytes_high_first count (n / 256) ++ n % 256 ∷ []
-lowest_byte zero n = refl
-lowest_byte (suc count) n = ap₂ (λ byte bytes. byte ∷ bytes) (byte_above count n) (lowest_byte count n)
-
-pub bytes-digits_in : (count n : ℕ) → bytes_high_first count n ≡ digits_in 256 count n
-bytes-digits_in zero n = refl
-bytes-digits_in (suc count) n = lowest_byte count n ∙ ap (λ bytes. bytes ++ n % 256 ∷ []) (bytes-digits_in count (n / 256))
 
 -- ---- two digits in base 256 are one in base 2^16
 

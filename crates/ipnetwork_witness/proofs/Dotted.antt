@@ -4,11 +4,12 @@ use Rattle.std.specs.List.{join_with_byte, AllZip}
 use Rattle.std.specs.Int.Digits.{number_from_digits}
 use Rattle.std.specs.Net.Text.{ipv4_text}
 use Rattle.std.specs.Net.Grammar.{IsDotted}
+use Rattle.ipnetwork_addr.specs.Texts.{dot}
 use Rattle.ipnetwork_addr.specs.Digits.{octets_of}
 use Rattle.ipnetwork_addr.specs.Ipv4Text.{IsOctet, NamesV4, canonical_v4}
 use Rattle.ipnetwork_witness.proofs.Bridge.{Bridge}
 
-spells : (text : List ℕ) (parts : List (List ℕ)) (octets : List ℕ) → text ≡ join_with_byte 46 parts → AllZip IsOctet parts octets → length octets ≡ 4 → IsDotted text octets
+spells : (text : List ℕ) (parts : List (List ℕ)) (octets : List ℕ) → text ≡ join_with_byte dot parts → AllZip IsOctet parts octets → length octets ≡ 4 → IsDotted text octets
 spells text (p ∷ q ∷ r ∷ s ∷ []) (a ∷ b ∷ c ∷ d ∷ []) spelled named four = record {
   a = a;
   b = b;

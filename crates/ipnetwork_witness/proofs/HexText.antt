@@ -7,6 +7,7 @@ use Rattle.std.specs.Char.{digit_char}
 use Rattle.std.specs.Fmt.{digits}
 use Rattle.std.specs.Int.Digits.{AllBelowBase}
 use Rattle.std.specs.Net.Text as std
+use Rattle.ipnetwork_addr.specs.Texts.{colon}
 use Rattle.ipnetwork_addr.specs.Ipv6Canonical.{hex, hex_groups}
 use Rattle.ipnetwork_witness.proofs.Colons.{joined-cons}
 
@@ -53,13 +54,13 @@ same_hex n fits = elim (cases_lt n 0x1000) [
 
 -- ---- groups
 
-same_behind : (groups : List ℕ) → AllBelowBase (2 ^ 16) groups → flat_map (λ g. 58 ∷ hex g) groups ≡ flat_map (λ g. 58 ∷ std.hex g) groups
+same_behind : (groups : List ℕ) → AllBelowBase (2 ^ 16) groups → flat_map (λ g. colon ∷ hex g) groups ≡ flat_map (λ g. colon ∷ std.hex g) groups
 same_behind [] fit = refl
-same_behind (g ∷ groups) fit = ap₂ (λ x y. (58 ∷ x) ++ y) (same_hex g fit.0) (same_behind groups fit.1)
+same_behind (g ∷ groups) fit = ap₂ (λ x y. (colon ∷ x) ++ y) (same_hex g fit.0) (same_behind groups fit.1)
 
 pub same_groups : (groups : List ℕ) → AllBelowBase (2 ^ 16) groups → hex_groups groups ≡ std.groups_text groups
 same_groups [] fit = refl
 same_groups (g ∷ groups) fit =
     joined-cons (hex g) (map hex groups)
-    ∙ ap (λ t. hex g ++ t) (flat_map-map (λ part. 58 ∷ part) hex groups)
+    ∙ ap (λ t. hex g ++ t) (flat_map-map (λ part. colon ∷ part) hex groups)
     ∙ ap₂ (λ x y. x ++ y) (same_hex g fit.0) (same_behind groups fit.1)

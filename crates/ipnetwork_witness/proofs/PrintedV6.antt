@@ -1,5 +1,5 @@
 -- IPv6: what std prints of an address is its canonical text.
-use Rattle.std.proofs.Common.{◌≡◌, ◌↔◌, ℕ, zero, suc, ◌+◌, ◌-◌, ◌/◌, ◌%◌, ◌^◌, ◌<◌, ◌≤◌, true≢false, List, [], ◌∷◌, ◌++◌, length, take, drop, replicate, get_or, refl, sym, ap, ap₂, ◌∙◌, arith, length-take-le, length-drop, get_or-drop}
+use Rattle.std.proofs.Common.{◌≡◌, ◌↔◌, ℕ, ◌+◌, ◌-◌, ◌/◌, ◌%◌, ◌^◌, ◌<◌, ◌≤◌, true≢false, List, [], ◌∷◌, ◌++◌, length, take, drop, replicate, get_or, refl, sym, ap, ap₂, ◌∙◌, arith, length-take-le, length-drop, get_or-drop}
 use Rattle.std.proofs.lemmas.Bool.{cond_both, ltb-true, ltb-false}
 use Rattle.std.proofs.lemmas.Grind.{same_number_lists}
 use Rattle.std.proofs.lemmas.List.{length-replicate, get_or-take, get_or-replicate}
@@ -9,9 +9,11 @@ use Rattle.std.proofs.NetLemmas.Texts as std_runs
 use Rattle.std.specs.Int.Digits.{number_from_digits, AllBelowBase}
 use Rattle.std.specs.Net.Addr as std_addresses
 use Rattle.std.specs.Net.Text.{ipv4_text, ipv6_text, hex_groups_text, longest_zero_run}
+use Rattle.ipnetwork_addr.specs.Texts.{colon}
 use Rattle.ipnetwork_addr.specs.Digits.{octets_of, segments_of}
 use Rattle.ipnetwork_addr.specs.Ipv6Canonical.{IsMapped, IsZeroRun, IsGap, IsCanonicalV6, Mapped, Gap, Whole}
 use Rattle.ipnetwork_addr.specs.Computed.Ipv6Canonical.{canonical_v6}
+use Rattle.ipnetwork_addr.proofs.Ipv6Printed.{fit_take, fit_drop, segments_fit}
 use Rattle.ipnetwork_witness.proofs.Dotted.{v4_prints}
 use Rattle.ipnetwork_witness.proofs.HexText.{same_groups}
 
@@ -52,19 +54,6 @@ no_gap : (groups : List ℕ) → (longest_zero_run groups).1 ≤ 1 → (i n : �
 no_gap groups few i n gap = omega (arith, few, gap.several, (longest_zero_run_first groups i n (run_to_std groups i n gap.zeros)).0)
 
 -- ---- the groups of an address
-
-fit_take : (n : ℕ) (groups : List ℕ) → AllBelowBase (2 ^ 16) groups → AllBelowBase (2 ^ 16) (take n groups)
-fit_take zero groups h = tt
-fit_take (suc n) [] h = tt
-fit_take (suc n) (g ∷ groups) h = (h.0, fit_take n groups h.1)
-
-fit_drop : (n : ℕ) (groups : List ℕ) → AllBelowBase (2 ^ 16) groups → AllBelowBase (2 ^ 16) (drop n groups)
-fit_drop zero groups h = h
-fit_drop (suc n) [] h = h
-fit_drop (suc n) (g ∷ groups) h = fit_drop n groups h.1
-
-segments_fit : (n : ℕ) → AllBelowBase (2 ^ 16) (segments_of n)
-segments_fit n = (omega arith, (omega arith, (omega arith, (omega arith, (omega arith, (omega arith, (omega arith, (omega arith, tt))))))))
 
 -- ---- the addresses that hold an IPv4 address
 
@@ -107,11 +96,11 @@ printed n fits =
     let decides = bytes_eq-Decides (take 6 groups) mark in
     let same = λ (gs : List ℕ) (h : AllBelowBase (2 ^ 16) gs). sym (same_groups gs h) in
     cond_both _ _ _ (λ text. IsCanonicalV6 text n)
-    (λ is. Mapped (mapped_of_mark n fits (decides.0 is)) (ap (λ t. (58 ∷ 58 ∷ 102 ∷ 102 ∷ 102 ∷ 102 ∷ 58 ∷ []) ++ t) (sym (v4_prints (n % 2 ^ 32) ∙ ap ipv4_text (low_octets n)))))
+    (λ is. Mapped (mapped_of_mark n fits (decides.0 is)) (ap (λ t. (colon ∷ colon ∷ 102 ∷ 102 ∷ 102 ∷ 102 ∷ colon ∷ []) ++ t) (sym (v4_prints (n % 2 ^ 32) ∙ ap ipv4_text (low_octets n)))))
     (λ not.
     let other : ¬ (IsMapped n) = λ mapped. true≢false (sym (decides.1 (mark_of_mapped n mapped)) ∙ not) in
     cond_both _ _ _ (λ text. IsCanonicalV6 text n)
-    (λ several. Gap other run.0 run.1 (gap_of groups (ltb-true 1 run.1 several)) (ap₂ (λ x y. x ++ (58 ∷ 58 ∷ []) ++ y) (same _ (fit_take run.0 groups fit)) (same _ (fit_drop (run.0 + run.1) groups fit))))
+    (λ several. Gap other run.0 run.1 (gap_of groups (ltb-true 1 run.1 several)) (ap₂ (λ x y. x ++ (colon ∷ colon ∷ []) ++ y) (same _ (fit_take run.0 groups fit)) (same _ (fit_drop (run.0 + run.1) groups fit))))
     (λ few. Whole other (no_gap groups (ltb-false 1 run.1 few)) (same groups fit)))
 
 pub v6_prints : ((text : List ℕ) (address : ℕ) → IsCanonicalV6 text address ↔ (text ≡ canonical_v6 address)) → (n : ℕ) → n < 2 ^ 128 → canonical_v6 n ≡ ipv6_text (segments_of n)

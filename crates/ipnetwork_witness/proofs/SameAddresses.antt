@@ -12,7 +12,8 @@ use Rattle.ipnetwork_addr.specs.Ipv4Text.{NamesV4}
 use Rattle.ipnetwork_addr.specs.Ipv6Text.{NamesV6}
 use Rattle.ipnetwork_witness.specs.Agreement.{SameV4, SameV6}
 use Rattle.ipnetwork_witness.proofs.Bridge.{same_texts, name_fits, number_fits, digits_back}
-use Rattle.ipnetwork_witness.proofs.Digits.{bytes-digits_in, segments-digits_in}
+use Rattle.ipnetwork_addr.proofs.ByteDigits.{digits_in-bytes}
+use Rattle.ipnetwork_witness.proofs.Digits.{segments-digits_in}
 use Rattle.ipnetwork_witness.proofs.Dotted.{v4_bridge}
 use Rattle.ipnetwork_witness.proofs.ColonHex.{v6_bridge}
 
@@ -20,14 +21,14 @@ use Rattle.ipnetwork_witness.proofs.ColonHex.{v6_bridge}
 
 pub octets_are : (ours : ℕ) (theirs : Ipv4Addr) → IsIpv4OfBits theirs ours → ipv4_octets theirs ≡ octets_of ours
 unfolding IsIpv4OfBits
-octets_are ours theirs h = h ∙ bytes-digits_in 4 ours
+octets_are ours theirs h = h ∙ digits_in-bytes 4 ours
 
 pub same_octets : (ours : ℕ) (theirs : Ipv4Addr) → ipv4_octets theirs ≡ octets_of ours → IsIpv4OfBits theirs ours
 unfolding IsIpv4OfBits
-same_octets ours theirs h = h ∙ sym (bytes-digits_in 4 ours)
+same_octets ours theirs h = h ∙ sym (digits_in-bytes 4 ours)
 
 segments_of_bytes : (n : ℕ) → std_addresses.segments_of (bytes_high_first 16 n) ≡ segments_of n
-segments_of_bytes n = ap std_addresses.segments_of (bytes-digits_in 16 n) ∙ segments-digits_in 8 n
+segments_of_bytes n = ap std_addresses.segments_of (digits_in-bytes 16 n) ∙ segments-digits_in 8 n
 
 pub segments_are : (ours : ℕ) (theirs : Ipv6Addr) → IsIpv6OfBits theirs ours → ipv6_segments theirs ≡ segments_of ours
 unfolding IsIpv6OfBits

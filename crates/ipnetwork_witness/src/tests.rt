@@ -1,5 +1,5 @@
 //! Both readers on texts that name an address, and on texts that name none.
-use crate::{agree_v4, agree_v6, laws, read_v4, read_v6, same_v4, same_v6};
+use crate::{agree_v4, agree_v6, read_v4, read_v6, same_v4, same_v6};
 
 const V4: [&str; 5] = [
     "0.0.0.0",
@@ -113,18 +113,4 @@ fn answers_to_two_texts_differ(rt: HostRuntime) {
         let (_, theirs) = read_v6(other.as_bytes());
         assert!(rt; !agree_v6(&ours, &theirs), "{text} {other}");
     }
-}
-
-#[test]
-fn laws_are_called() {
-    laws::v4_names_agree();
-    laws::v6_names_agree();
-    laws::ip_names_agree();
-    laws::v4_texts_are_shared();
-    laws::v6_texts_are_shared();
-    laws::ip_texts_are_shared();
-    laws::ip_text_fits();
-    laws::v4_prints_agree();
-    laws::v6_prints_agree();
-    laws::ip_prints_agree();
 }

@@ -1,8 +1,9 @@
 use Rattle.std.proofs.Common.{◌≡◌, ◌+◌, ◌*◌, ◌≤◌, ◌∷◌, ◌++◌, length, take, flat_map}
+use Rattle.ipnetwork_addr.specs.Texts.{colon}
 use Rattle.ipnetwork_addr.specs.Ipv6Canonical.{hex}
 use Rattle.ipnetwork_addr.proofs.hexadecimal.push_groups.Given as goal
 
 abbrev pub invariant-loop-group : goal.invariant-loop-group
 invariant-loop-group l =
-    (l.text.bytes ≡ l.initial.text.bytes ++ flat_map (λ x. 58 ∷ hex x) (take l.group-index l.rest))
+    (l.text.bytes ≡ l.initial.text.bytes ++ flat_map (λ x. colon ∷ hex x) (take l.group-index l.rest))
     × (length l.text.bytes ≤ length l.fn.text.bytes + 4 + 5 * l.group-index)
