@@ -14,6 +14,7 @@ use Rattle.cidr.specs.Laws.Outputs.{EndsALine, IsAskingLine, AskingPartsRunAfter
 use Rattle.cidr.specs.Requests.{Request, Plain, too_long, unknown, adding, dropping, finding, route_number_of, one_word_request, two_words_request, request_in, request_of}
 use Rattle.cidr.specs.Routes.{Routes, no_routes}
 use Rattle.cidr.specs.Words.{words}
+use Rattle.cidr.proofs.Computed.{routes_after}
 use Rattle.cidr.proofs.PlainLines.{differs}
 use Rattle.cidr.proofs.Splits.{lines_of_both}
 use Rattle.cidr.proofs.Turns.{replies-append}
@@ -66,10 +67,6 @@ asking_leaves line h =
     (subst (λ (these : List (List ℕ)). Leaves (request_in these)) (sym h.cut) (asking_words h.command h.others h.no_add h.no_drop))
 
 -- ---- what lines leave
-
-abbrev routes_after : Routes → List (List ℕ) → Routes
-routes_after routes [] = routes
-routes_after routes (line ∷ lines) = routes_after (next_routes routes (request_of line)) lines
 
 asking_after : (routes : Routes) (ls : List (List ℕ)) → AllByRecursion IsAskingLine ls → routes_after routes ls ≡ routes
 asking_after routes [] asking = refl

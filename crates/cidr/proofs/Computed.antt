@@ -32,7 +32,8 @@ leaves r s (Drop n) x gets = gets.1
 leaves r s (Find a) x gets = gets.1
 leaves r s (Plain y) x gets = gets.1
 
-abbrev routes_after : Routes → List (List ℕ) → Routes
+-- what lines leave
+abbrev pub routes_after : Routes → List (List ℕ) → Routes
 routes_after r [] = r
 routes_after r (l ∷ ls) = routes_after (next_routes r (request_of l)) ls
 

@@ -1,19 +1,16 @@
 -- The causes for each family make up the cause for both.
-use Rattle.std.proofs.Common.{◌≡◌, ◌≤◌, ℕ, List, arith}
+use Rattle.std.proofs.Common.{ℕ, List, arith}
 use Rattle.ipnetwork_addr.specs.declared.ip.IpAddr.{IpAddr}
 use Rattle.ipnetwork_addr.specs.declared.ip.IpAddr.TheVariants as addresses
 use Rattle.ipnetwork_addr.specs.Either.{NamesIp}
 use Rattle.ipnetwork_addr.specs.Ipv4Text.{NamesV4}
 use Rattle.ipnetwork_addr.specs.Ipv6Text.{NamesV6}
-use Rattle.ipnetwork_family.specs.Network.{Network}
-use Rattle.ipnetwork_family.specs.NetworkText.{IsCause, slashes, before_slash}
-use Rattle.ipnetwork_family.specs.Ipv4NetworkText.{IsV4Suffix, NamesV4Network}
-use Rattle.ipnetwork_family.specs.Ipv6NetworkText.{IsV6Suffix, NamesV6Network}
+use Rattle.ipnetwork_family.specs.NetworkText.{IsCause, before_slash}
+use Rattle.ipnetwork_family.specs.Ipv4NetworkText.{IsV4Suffix}
+use Rattle.ipnetwork_family.specs.Ipv6NetworkText.{IsV6Suffix}
 use Rattle.ipnetwork_family.specs.declared.error.CidrFault.{CidrFault}
 use Rattle.ipnetwork_family.specs.declared.error.CidrFault.TheVariants.{Format, Addr, Prefix}
-use Rattle.ipnetwork.specs.declared.ip_network.IpNetwork.{IpNetwork}
-use Rattle.ipnetwork.specs.declared.ip_network.IpNetwork.TheVariants.{V4, V6}
-use Rattle.ipnetwork.specs.IpNetworkText.{NamesIpNetwork, IsIpCause}
+use Rattle.ipnetwork.specs.IpNetworkText.{IsIpCause}
 use Rattle.ipnetwork.specs.Private.Causes.{first_cause}
 
 -- a text that is an address of neither family
@@ -28,8 +25,3 @@ cause_of_both text Addr Addr (few, no4) (also, no6) = (few, neither (before_slas
 cause_of_both text Addr Format (few, no4) several = absurd (omega (arith, few, several))
 cause_of_both text Addr Prefix (few, no4) (also, (a, named), bad) = (few, (addresses.V6 a, named, bad))
 cause_of_both text Prefix v6 (few, (a, named), bad) other = (few, (addresses.V4 a, named, bad))
-
--- no network of either family is named
-pub none_of_both : (text : List ℕ) → ((n : Network) → ¬ (NamesV4Network text n)) → ((n : Network) → ¬ (NamesV6Network text n)) → (n : IpNetwork) → ¬ (NamesIpNetwork text n)
-none_of_both text no4 no6 (V4 n) named = no4 n named
-none_of_both text no4 no6 (V6 n) named = no6 n named

@@ -2,7 +2,7 @@
 use Rattle.std.proofs.Common.{◌≡◌, ℕ, Bool, true, false, List, [], ◌∷◌, ◌++◌, sym, ap, ◌∙◌, append-nil}
 use Rattle.ipnetwork_addr.specs.Texts.{colon_first}
 use Rattle.ipnetwork_family.specs.Network.{Network}
-use Rattle.ipnetwork_family.specs.NetworkText.{NamesNetwork, Alone, Suffixed}
+use Rattle.ipnetwork_family.specs.NetworkText.{slash, NamesNetwork, Alone, Suffixed}
 use Rattle.ipnetwork_addr.specs.Ipv4Text.{NamesV4}
 use Rattle.ipnetwork_addr.specs.Ipv6Text.{NamesV6}
 use Rattle.ipnetwork_family.specs.Ipv4NetworkText.{NamesV4Network, IsV4Suffix}
@@ -15,7 +15,7 @@ use Rattle.ipnetwork.specs.IpNetworkText.{NamesIpNetwork}
 first_mark : (w : ℕ) (Names IsSuffix : List ℕ → ℕ → Type 0) (mark : Bool) → ((text rest : List ℕ) (address : ℕ) → Names text address → colon_first (text ++ rest) ≡ mark)
     → (text : List ℕ) (n : Network) → NamesNetwork w Names IsSuffix text n → colon_first text ≡ mark
 first_mark w Names IsSuffix mark law text n (Alone named full) = ap colon_first (sym (append-nil text)) ∙ law text [] n.address named
-first_mark w Names IsSuffix mark law text n (Suffixed address suffix cut named given) = ap colon_first cut ∙ law address (47 ∷ suffix) n.address named
+first_mark w Names IsSuffix mark law text n (Suffixed address suffix cut named given) = ap colon_first cut ∙ law address (slash ∷ suffix) n.address named
 
 different : true ≡ false → ⊥
 different e = cc

@@ -18,7 +18,7 @@ use Rattle.ipnetwork_addr.specs.Computed.Ipv6Text.{v6_of, gap_below}
 use Rattle.ipnetwork_addr.specs.declared.ip.IpAddr.{IpAddr}
 use Rattle.ipnetwork_addr.specs.declared.ip.IpAddr.TheVariants as addresses
 use Rattle.ipnetwork_family.specs.Network.{Network}
-use Rattle.ipnetwork_family.specs.NetworkText.{NamesNetwork, Alone, Suffixed}
+use Rattle.ipnetwork_family.specs.NetworkText.{slash, NamesNetwork, Alone, Suffixed}
 use Rattle.ipnetwork_family.specs.PrefixNumber.{IsPrefixNumber}
 use Rattle.ipnetwork_family.specs.Ipv4NetworkText.{IsV4Suffix}
 use Rattle.ipnetwork_family.specs.Ipv6NetworkText.{IsV6Suffix}
@@ -108,9 +108,9 @@ network_plain : (w : ℕ) (Names IsSuffix : List ℕ → ℕ → Type 0) → Are
     → (text : List ℕ) (n : Network) → NamesNetwork w Names IsSuffix text n → AllByRecursion IsPlain text × (text ≢ [])
 network_plain w Names IsSuffix texts suffixes text n (Alone named width) = (address_plain Names texts text n.address named, texts.some text n.address named)
 network_plain w Names IsSuffix texts suffixes text n (Suffixed address suffix split named given) =
-    let slash = plain 47 (omega arith) (λ e. omega arith) (λ e. omega arith) in
-    let all = all_append IsPlain address (47 ∷ suffix) (address_plain Names texts address n.address named) (slash, suffixes suffix n.prefix given) in
-    (subst (AllByRecursion IsPlain) (sym split) all, λ empty. not_empty address 47 suffix (sym split ∙ empty))
+    let plain_slash = plain slash (omega arith) (λ e. omega arith) (λ e. omega arith) in
+    let all = all_append IsPlain address (slash ∷ suffix) (address_plain Names texts address n.address named) (plain_slash, suffixes suffix n.prefix given) in
+    (subst (AllByRecursion IsPlain) (sym split) all, λ empty. not_empty address slash suffix (sym split ∙ empty))
 
 v4_suffix_plain : AreAddressTexts NamesV4 → (text : List ℕ) (p : ℕ) → IsV4Suffix text p → AllByRecursion IsPlain text
 v4_suffix_plain texts text p (fits, inl number) = number_plain text p number

@@ -1,5 +1,5 @@
 //! What a line means, or why it is refused. Each expected text was written by hand from the rules.
-use crate::{Entry, EntryFault, laws, read_entry};
+use crate::{Entry, EntryFault, read_entry};
 use arrayvec::ArrayString;
 use std::fmt::Write;
 use std::test::Fail;
@@ -100,11 +100,4 @@ fn refused_lines(rt: HostRuntime) {
     for (line, fault) in REFUSED {
         assert!(rt; read_entry(line) == Err(fault), "{line:?}");
     }
-}
-
-#[test]
-fn laws_are_called() {
-    laws::line_says_one_thing();
-    laws::network_texts_are_entries();
-    laws::address_texts_are_ranges();
 }

@@ -1,7 +1,8 @@
 use Rattle.std.proofs.Common.{subst, sym}
 use Rattle.ipnetwork.specs.IpNetworkText.{IsIpCause}
 use Rattle.ipnetwork.specs.declared.ip_network.IpNetwork.TheVariants.{V4, V6}
-use Rattle.ipnetwork.proofs.Causes.{cause_of_both, none_of_both}
+use Rattle.ipnetwork.proofs.Causes.{cause_of_both}
+use Rattle.ipnetwork.proofs.Families.{names_none}
 use Rattle.ipnetwork.proofs.refusal.cause.Goals as goal
 
 pub returns-in_default : goal.returns-in_default
@@ -14,5 +15,5 @@ pub returns : goal.returns
 returns c =
     let text = c.args.text.now in (
       subst (IsIpCause text) (sym c.first_cause.ensures) (cause_of_both text c.in-Err.v4 c.in-Err-read_bytes.v6 c.in-Err.ensures.0 c.in-Err-read_bytes.ensures.0),
-      none_of_both text c.in-Err.ensures.1 c.in-Err-read_bytes.ensures.1,
+      names_none text c.in-Err.ensures.1 c.in-Err-read_bytes.ensures.1,
     )
