@@ -1,11 +1,12 @@
 -- What each command answers, or asks of the routes.
-use Rattle.std.proofs.Common.{◌≡◌, ◌≢◌, ◌↔◌, ℕ, zero, suc, ◌+◌, ◌-◌, ◌*◌, ◌<◌, ◌≤◌, ◌^◌, Bool, true, false, cond, IsTrue, inl, inr, List, Option, None, Some, Result, Ok, Err, length, codes, refl, sym, ap, ap₂, ◌∙◌, arith}
+use Rattle.std.proofs.Common.{◌≡◌, ◌≢◌, ◌↔◌, ℕ, ◌+◌, ◌-◌, ◌*◌, ◌<◌, ◌≤◌, ◌^◌, Bool, true, false, cond, IsTrue, inl, inr, List, Option, None, Some, Result, Ok, Err, length, codes, refl, sym, ap, ap₂, ◌∙◌, arith}
 use Rattle.std.specs.Prelude.{nat_le}
 use Rattle.std.proofs.Math.Pow.{pow_mono, pow-add}
 use Rattle.std.proofs.lemmas.Nat.{pow_pos}
 use Rattle.std.proofs.lemmas.Bool.{le-leb}
 use Rattle.std.proofs.lemmas.Bool.Decides.{leb_tells}
 use Rattle.std.proofs.lemmas.List.{length-map}
+use Rattle.std.proofs.lemmas.List.FromFn.{length-range_with_len}
 use Rattle.ipnetwork_addr.specs.Either.{IsAddrAtMost}
 use Rattle.ipnetwork_addr.specs.Computed.Reading.{answer_from}
 use Rattle.ipnetwork_addr.specs.declared.ip.IpAddr.{IpAddr}
@@ -70,8 +71,7 @@ answers_network tells IsTold line text r told reading asks = record {
 
 length-count_up : (start n : ℕ) → length (count_up start n) ≡ n
 unfolding count_up
-length-count_up start zero = refl
-length-count_up start (suc n) = ap suc (length-count_up (suc start) n)
+length-count_up start n = length-range_with_len start n
 
 -- the number of members, and one less where it is the most
 some_members : (w : ℕ) (n : Network) → IsNetwork w n → n.prefix ≢ 0 → length (members w n) ≡ size_of w n

@@ -1,13 +1,13 @@
 -- Aggregates at which a misreading of the definitions would show, over addresses of 4 bits.
 use Rattle.std.proofs.Common.{◌≡◌, ℕ, zero, suc, ◌-◌, ◌*◌, ◌/◌, ◌^◌, ◌<◌, refl, ap, arith, ⊎_elim, [], ◌∷◌, length, get_or}
 use Rattle.std.specs.List.{Contains, filter_map}
-use Rattle.ipnetwork_family.specs.Network.{Network, high}
+use Rattle.ipnetwork_family.specs.Network.{Network, IsCidrBlock, high}
 use Rattle.ipnetwork_family.proofs.Blocks.{subnet_from}
 use Rattle.ipnetwork.specs.declared.ip_network.IpNetwork.TheVariants.{V4, V6}
 use Rattle.ipnetwork_blocks.specs.LeastList.{IsMaximalIn}
 use Rattle.ipnetwork_blocks.specs.Aggregate.{InUnion, IsAggregate}
 use Rattle.ipnetwork_blocks.specs.AggregateIp.{as_v4, as_v6}
-use Rattle.ipnetwork_blocks.specs.Private.Joining.{IsBlockNetwork, AreJoined}
+use Rattle.ipnetwork_blocks.specs.Private.Joining.{AreJoined}
 use Rattle.ipnetwork_blocks.proofs.LeastLists.{contains_cons, contains_head, contains_nil}
 use Rattle.ipnetwork_blocks.proofs.AggregateUnions.{union_same, union_skip, union_join, union_cleared}
 use Rattle.ipnetwork_blocks.proofs.AggregateFront.{joined_nil, joined_push}
@@ -16,22 +16,22 @@ use Rattle.ipnetwork_blocks.proofs.AggregateJoined.{joined_is_aggregate}
 abbrev pub net : ℕ → ℕ → Network
 net a p = record { address = a; prefix = p }
 
-is_block : (a p : ℕ) → a < 16 → p < 5 → a ≡ a / 2 ^ (4 - p) * 2 ^ (4 - p) → IsBlockNetwork 4 (net a p)
+is_block : (a p : ℕ) → a < 16 → p < 5 → a ≡ a / 2 ^ (4 - p) * 2 ^ (4 - p) → IsCidrBlock 4 (net a p)
 is_block a p l m e = record { network = record { address_fits = l; prefix_fits = omega arith }; block = e }
 
-first_quarter : IsBlockNetwork 4 (net 0 2)
+first_quarter : IsCidrBlock 4 (net 0 2)
 first_quarter = is_block 0 2 (omega arith) (omega arith) refl
 
-second_quarter : IsBlockNetwork 4 (net 4 2)
+second_quarter : IsCidrBlock 4 (net 4 2)
 second_quarter = is_block 4 2 (omega arith) (omega arith) refl
 
-third_quarter : IsBlockNetwork 4 (net 8 2)
+third_quarter : IsCidrBlock 4 (net 8 2)
 third_quarter = is_block 8 2 (omega arith) (omega arith) refl
 
-first_half : IsBlockNetwork 4 (net 0 1)
+first_half : IsCidrBlock 4 (net 0 1)
 first_half = is_block 0 1 (omega arith) (omega arith) refl
 
-single : (b : Network) → IsBlockNetwork 4 b → AreJoined 4 (b ∷ [])
+single : (b : Network) → IsCidrBlock 4 b → AreJoined 4 (b ∷ [])
 single b block = joined_push 4 [] b (joined_nil 4) block (λ i d l. absurd (omega arith)) (λ d l. absurd (omega arith))
 
 -- two halves become their block,

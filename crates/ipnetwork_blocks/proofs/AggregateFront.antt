@@ -5,12 +5,12 @@ use Rattle.std.specs.List.{All}
 use Rattle.std.proofs.lemmas.List.{get_or_default, get_or-take, length-take, length-take-le, take_all, take_more}
 use Rattle.std.proofs.lemmas.List.Elements.{All-push, All-take}
 use Rattle.std.proofs.lemmas.List.Quantifiers.{all_pairs_push}
-use Rattle.ipnetwork_family.specs.Network.{Network, high, IsNetworkAtMost}
+use Rattle.ipnetwork_family.specs.Network.{Network, IsCidrBlock, high, IsNetworkAtMost}
 use Rattle.ipnetwork_family.proofs.Blocks.{size_pos, block_begins}
 use Rattle.ipnetwork_family.proofs.BlocksAt.{block_at_network}
 use Rattle.ipnetwork_blocks.specs.Aggregate.{SameUnion}
 use Rattle.ipnetwork_blocks.specs.Supernets.{parent}
-use Rattle.ipnetwork_blocks.specs.Private.Joining.{AreHalves, IsBlockNetwork, Follows, AreJoined}
+use Rattle.ipnetwork_blocks.specs.Private.Joining.{AreHalves, Follows, AreJoined}
 use Rattle.ipnetwork_blocks.proofs.AggregateLists.{pairs_take}
 use Rattle.ipnetwork_blocks.proofs.HalfBlocks.{halves_join, nothing_between}
 use Rattle.ipnetwork_blocks.proofs.AggregateUnions.{union_same, union_trans, union_join}
@@ -19,7 +19,7 @@ pub joined_nil : (w : ℕ) → AreJoined w []
 joined_nil w = record { blocks = λ k d l. absurd (omega arith); pairs = λ i j d l m. absurd (omega arith) }
 
 pub joined_take : (w k : ℕ) (r : List Network) → AreJoined w r → AreJoined w (take k r)
-joined_take w k r h = record { blocks = All-take (IsBlockNetwork w) k r h.blocks; pairs = pairs_take (Follows w) r k h.pairs }
+joined_take w k r h = record { blocks = All-take (IsCidrBlock w) k r h.blocks; pairs = pairs_take (Follows w) r k h.pairs }
 
 -- what begins behind the end of the last block begins behind the end of each
 pub after_all : (w : ℕ) (r : List Network) (t b : Network) → AreJoined w r → 0 < length r → get_or r (length r - 1) t ≡ t → high w t < b.address
@@ -29,7 +29,7 @@ after_all w r t b h some is l i d m =
     ⊎_elim
     (λ (less : i < length r - 1).
     let f = h.pairs i (length r - 1) d less (omega arith) in
-    let bt : IsBlockNetwork w t = subst (λ (n : Network). IsBlockNetwork w n) last (h.blocks (length r - 1) d (omega arith)) in
+    let bt : IsCidrBlock w t = subst (λ (n : Network). IsCidrBlock w n) last (h.blocks (length r - 1) d (omega arith)) in
     let at : (get_or r (length r - 1) d).address ≡ t.address = ap (λ n. n.address) last in
     omega (arith, f.0, bt.block, size_pos w t.prefix))
     (λ (le : length r - 1 ≤ i).
@@ -39,10 +39,10 @@ after_all w r t b h some is l i d m =
     (cases_lt i (length r - 1))
 
 -- one block more behind the others, where it is no half of a block together with the last
-pub joined_push : (w : ℕ) (r : List Network) (b : Network) → AreJoined w r → IsBlockNetwork w b → All (λ a. high w a < b.address) r
+pub joined_push : (w : ℕ) (r : List Network) (b : Network) → AreJoined w r → IsCidrBlock w b → All (λ a. high w a < b.address) r
     → ((d : Network) → 0 < length r → ¬ (AreHalves w (get_or r (length r - 1) d) b)) → AreJoined w (r ++ b ∷ [])
 joined_push w r b h bb after last = record {
-  blocks = All-push (IsBlockNetwork w) r b h.blocks bb;
+  blocks = All-push (IsCidrBlock w) r b h.blocks bb;
   pairs = all_pairs_push (Follows w) r b h.pairs (λ k d l. (
     after k d l,
     λ s. ⊎_elim
@@ -60,12 +60,12 @@ joined_push w r b h bb after last = record {
 
 pub record IsJoining (w : ℕ) (r : List Network) (b : Network) (left : ℕ) (whole : Network) : Type 0 where
   pub bound : left ≤ length r
-  pub block : IsBlockNetwork w whole
+  pub block : IsCidrBlock w whole
   pub after : All (λ a. high w a < whole.address) (take left r)
   pub union : SameUnion w (take left r ++ whole ∷ []) (r ++ b ∷ [])
   pub order : IsNetworkAtMost whole b
 
-pub joining_starts : (w : ℕ) (r : List Network) (b : Network) → IsBlockNetwork w b → All (λ a. high w a < b.address) r → IsJoining w r b (length r) b
+pub joining_starts : (w : ℕ) (r : List Network) (b : Network) → IsCidrBlock w b → All (λ a. high w a < b.address) r → IsJoining w r b (length r) b
 joining_starts w r b hb after =
     let whole : take (length r) r ≡ r = take_all (length r) r (omega arith) in
     record {
@@ -82,7 +82,7 @@ joining_more w r b left whole t h j some is s =
     let bound = j.bound in
     let below : left - 1 < length r = omega arith in
     let back : left - 1 + 1 ≡ left = omega arith in
-    let bt : IsBlockNetwork w t = subst (λ (n : Network). IsBlockNetwork w n) (sym is) (h.blocks (left - 1) t below) in
+    let bt : IsCidrBlock w t = subst (λ (n : Network). IsCidrBlock w n) (sym is) (h.blocks (left - 1) t below) in
     let size = length-take left r in
     let l : high w t < whole.address =
     subst (λ (n : Network). high w n < whole.address) (get_or-take left r (left - 1) t (omega arith) ∙ sym is) (j.after (left - 1) t (omega arith)) in
@@ -92,7 +92,7 @@ joining_more w r b left whole t h j some is s =
     record {
       bound = omega arith;
       block = record {
-        network = (block_at_network w t.address (t.prefix - 1) bt.network.address_fits (omega arith)).0;
+        network = (block_at_network w t.address (t.prefix - 1) bt.network.address_fits (omega arith)).network;
         block = block_begins w (record { address = t.address; prefix = t.prefix - 1 });
       };
       after = λ i d m.

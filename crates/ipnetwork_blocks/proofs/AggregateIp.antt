@@ -126,11 +126,20 @@ of_part h w old parted part r p e a =
     least_of_same w (InUnion w (map the_network part)) (InUnion w (filter_map h old)) r
     (subst (λ (ns : List Network). SameUnion w ns (filter_map h old)) e (reordered h w parted old (IsPermutation-sym old parted p))) a
 
-pub either_aggregate : (old parted v4 v6 moved : List IpNetwork) (k a b : ℕ) → IsPermutation old parted → All IsV4 (take k parted) → All IsV6 (drop k parted)
-    → length v4 ≡ k → a ≤ k → b ≤ length v6 → All IsV4 v4 → All IsV6 v6
-    → IsAggregate 32 (map the_network (take k parted)) (map the_network (take a v4)) → IsAggregate 128 (map the_network (drop k parted)) (map the_network (take b v6))
+-- networks of one family, and what was kept where they stood: their aggregate, so many, comes first
+pub record IsAggregated (w : ℕ) (IsOfFamily : IpNetwork → Type 0) (networks kept : List IpNetwork) (count : ℕ) : Type 0 where
+  pub given : All IsOfFamily networks
+  pub left : All IsOfFamily kept
+  pub within : count ≤ length kept
+  pub aggregate : IsAggregate w (map the_network networks) (map the_network (take count kept))
+
+pub either_aggregate : (old parted v4 v6 moved : List IpNetwork) (k a b : ℕ) → IsPermutation old parted → length v4 ≡ k
+    → IsAggregated 32 IsV4 (take k parted) v4 a → IsAggregated 128 IsV6 (drop k parted) v6 b
     → moved ≡ copy_within (v4 ++ v6) k (k + b) a → IsIpAggregate old (take (a + b) moved)
-either_aggregate old parted v4 v6 moved k a b p is4 is6 size le within all4 all6 agg4 agg6 e =
+either_aggregate old parted v4 v6 moved k a b p size of_v4 of_v6 e =
+    let is4 = of_v4.given in
+    let is6 = of_v6.given in
+    let le : a ≤ k = omega (arith, size, of_v4.within) in
     let d : List IpNetwork = v4 ++ v6 in
     let whole : filter_map as_v4 parted ≡ filter_map as_v4 (take k parted) ++ filter_map as_v4 (drop k parted) =
     ap (filter_map as_v4) (sym (take-append-drop k parted)) ∙ filter_map-append as_v4 (take k parted) (drop k parted) in
@@ -144,7 +153,7 @@ either_aggregate old parted v4 v6 moved k a b p is4 is6 size le within all4 all6
     ∙ gives_all as_v6 the_network IsV6 v6_given (drop k parted) is6 in
     let size_d : length d ≡ k + length v6 = length-append v4 v6 ∙ ap (λ n. n + length v6) size in
     let behind : drop k d ≡ v6 = ap (λ n. drop n d) (sym size) ∙ drop-append_seam v4 v6 in
-    let fits : b ≤ length (drop k d) = subst (λ (l : List IpNetwork). b ≤ length l) (sym behind) within in
+    let fits : b ≤ length (drop k d) = subst (λ (l : List IpNetwork). b ≤ length l) (sym behind) of_v6.within in
     let count : k + b - k ≡ b = omega arith in
     let moved_is : moved ≡ paste d a (drop k d) b = e ∙ ap (paste d a (drop k d)) count in
     let front : take (a + b) moved ≡ take a v4 ++ take b v6 =
@@ -152,8 +161,8 @@ either_aggregate old parted v4 v6 moved k a b p is4 is6 size le within all4 all6
     ∙ ap (λ l. take a d ++ take b l) behind ∙ ap (λ l. l ++ take b v6) (take-append-le a v4 v6 (omega (arith, size))) in (
       map the_network (take a v4),
       map the_network (take b v6),
-      front ∙ ap (λ l. l ++ take b v6) (known the_network V4 IsV4 v4_known (take a v4) (All-take IsV4 a v4 all4))
-          ∙ ap (λ l. map V4 (map the_network (take a v4)) ++ l) (known the_network V6 IsV6 v6_known (take b v6) (All-take IsV6 b v6 all6)),
-      of_part as_v4 32 old parted (take k parted) (map the_network (take a v4)) p of4 agg4,
-      of_part as_v6 128 old parted (drop k parted) (map the_network (take b v6)) p of6 agg6,
+      front ∙ ap (λ l. l ++ take b v6) (known the_network V4 IsV4 v4_known (take a v4) (All-take IsV4 a v4 of_v4.left))
+          ∙ ap (λ l. map V4 (map the_network (take a v4)) ++ l) (known the_network V6 IsV6 v6_known (take b v6) (All-take IsV6 b v6 of_v6.left)),
+      of_part as_v4 32 old parted (take k parted) (map the_network (take a v4)) p of4 of_v4.aggregate,
+      of_part as_v6 128 old parted (drop k parted) (map the_network (take b v6)) p of6 of_v6.aggregate,
     )

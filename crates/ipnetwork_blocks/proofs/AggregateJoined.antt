@@ -3,11 +3,11 @@ use Rattle.std.proofs.Common.{◌≡◌, ℕ, zero, suc, ◌+◌, ◌-◌, ◌*�
 use Rattle.std.proofs.lemmas.Bool.{cases_lt}
 use Rattle.std.specs.List.{Contains}
 use Rattle.std.proofs.lemmas.List.Elements.{All-contains}
-use Rattle.ipnetwork_family.specs.Network.{Network, IsNetwork, Member, low, block_size, block_at, Subnet}
+use Rattle.ipnetwork_family.specs.Network.{Network, IsNetwork, IsCidrBlock, Member, low, block_size, block_at, Subnet}
 use Rattle.ipnetwork_family.proofs.Blocks.{size_pos, within_member, member_within, subnet_from, subnet_prefix, shares_address, multiple_begins, block_begins, block_same_set}
 use Rattle.ipnetwork_family.proofs.BlocksAt.{block_at_network, block_at_holds, block_at_subnet, same_block}
 use Rattle.ipnetwork_blocks.specs.Supernets.{parent}
-use Rattle.ipnetwork_blocks.specs.Private.Joining.{AreHalves, IsBlockNetwork, Follows, AreJoined}
+use Rattle.ipnetwork_blocks.specs.Private.Joining.{AreHalves, Follows, AreJoined}
 use Rattle.ipnetwork_blocks.specs.LeastList.{IsMaximalIn}
 use Rattle.ipnetwork_blocks.specs.Aggregate.{InUnion, LiesInUnion, SameUnion, IsAggregate}
 use Rattle.ipnetwork_blocks.proofs.AggregateLists.{pairs_contains}
@@ -17,8 +17,8 @@ use Rattle.ipnetwork_blocks.proofs.HalfBlocks.{size_half}
 -- two blocks of a joined list that share an address are the same
 pub joined_apart : (w : ℕ) (r : List Network) → AreJoined w r → (a b : Network) → Contains r a → Contains r b → (x : ℕ) → Member w a x → Member w b x → a ≡ b
 joined_apart w r h a b ca cb x ma mb =
-    let ba : IsBlockNetwork w a = All-contains (IsBlockNetwork w) r a h.blocks ca in
-    let bb : IsBlockNetwork w b = All-contains (IsBlockNetwork w) r b h.blocks cb in
+    let ba : IsCidrBlock w a = All-contains (IsCidrBlock w) r a h.blocks ca in
+    let bb : IsCidrBlock w b = All-contains (IsCidrBlock w) r b h.blocks cb in
     let ia = within_member w a x ma in
     let ib = within_member w b x mb in
     let Goal : Type 0 = a ≡ b in
@@ -38,7 +38,7 @@ halves_joined w r h x p lt l a b ca cb sa sb =
     let s : ℕ = block_size w (p + 1) in
     let q : ℕ = x / block_size w p in
     let d : Network = block_at w x p in
-    let dn : IsNetwork w d = (block_at_network w x p l (omega arith)).0 in
+    let dn : IsNetwork w d = (block_at_network w x p l (omega arith)).network in
     let begins : d.address ≡ low w d = block_begins w (record { address = x; prefix = p }) in
     let half : block_size w p ≡ s + s = size_half w p lt in
     let s_pos : 0 < s = size_pos w (p + 1) in
@@ -50,16 +50,16 @@ halves_joined w r h x p lt l a b ca cb sa sb =
     let h1 : Member w (block_at w x1 (p + 1)) x1 = block_at_holds w x1 (p + 1) m1.0 in
     let a0 : Member w a x0 = sa x0 h0 in
     let b1 : Member w b x1 = sb x1 h1 in
-    let ba : IsBlockNetwork w a = All-contains (IsBlockNetwork w) r a h.blocks ca in
-    let bb : IsBlockNetwork w b = All-contains (IsBlockNetwork w) r b h.blocks cb in
+    let ba : IsCidrBlock w a = All-contains (IsCidrBlock w) r a h.blocks ca in
+    let bb : IsCidrBlock w b = All-contains (IsCidrBlock w) r b h.blocks cb in
     let Goal : Type 0 = (n : Network) × Contains r n × Subnet w d n in
     ⊎_elim
     (λ (wide : a.prefix < p + 1). (a, ca, subnet_from w d a dn (omega arith) a0))
     (λ (na : p + 1 ≤ a.prefix). ⊎_elim
     (λ (wide : b.prefix < p + 1). (b, cb, subnet_from w d b dn (omega arith) (shares_address w d b x1 (omega arith) dn bb.network m1 b1)))
     (λ (nb : p + 1 ≤ b.prefix).
-    let ka = subnet_prefix w (block_at w x0 (p + 1)) a ((block_at_network w x0 (p + 1) m0.0 (omega arith)).0) ba.network sa in
-    let kb = subnet_prefix w (block_at w x1 (p + 1)) b ((block_at_network w x1 (p + 1) m1.0 (omega arith)).0) bb.network sb in
+    let ka = subnet_prefix w (block_at w x0 (p + 1)) a ((block_at_network w x0 (p + 1) m0.0 (omega arith)).network) ba.network sa in
+    let kb = subnet_prefix w (block_at w x1 (p + 1)) b ((block_at_network w x1 (p + 1) m1.0 (omega arith)).network) bb.network sb in
     let pa : a.prefix ≡ p + 1 = omega arith in
     let pb : b.prefix ≡ p + 1 = omega arith in
     let ea : a ≡ block_at w x0 (p + 1) = same_block w a (block_at w x0 (p + 1)) ba.block (block_begins w (record { address = x0; prefix = p + 1 })) pa x0 a0 h0 in
@@ -79,7 +79,7 @@ halves_joined w r h x p lt l a b ca cb sa sb =
   where
     not_both : {G : Type 0} (w : ℕ) (r : List Network) → AreJoined w r → (a b : Network) → Contains r a → Contains r b → a.address < b.address → AreHalves w a b → G
     not_both {G} w r h a b ca cb l s =
-        let bb : IsBlockNetwork w b = All-contains (IsBlockNetwork w) r b h.blocks cb in
+        let bb : IsCidrBlock w b = All-contains (IsCidrBlock w) r b h.blocks cb in
         ⊎_elim (λ (e : a ≡ b). let same : a.address ≡ b.address = ap (λ n. n.address) e in absurd (omega arith))
         (λ (o : Follows w a b ⊎ Follows w b a). ⊎_elim
         (λ (f : Follows w a b). absurd (f.1 s))
@@ -92,13 +92,13 @@ pub block_in_one : (w : ℕ) (r : List Network) → AreJoined w r → (k x p : �
 block_in_one w r h zero x p e l within =
     let c = within x (block_at_holds w x p l) in
     let n : Network = c.0 in
-    let b : IsBlockNetwork w n = All-contains (IsBlockNetwork w) r n h.blocks c.1 in
+    let b : IsCidrBlock w n = All-contains (IsCidrBlock w) r n h.blocks c.1 in
     (n, c.1, block_at_subnet w x p n (omega (arith, b.network.prefix_fits)) (omega arith) c.2)
 block_in_one w r h (suc k) x p e l within =
     let s : ℕ = block_size w (p + 1) in
     let q : ℕ = x / block_size w p in
     let d : Network = block_at w x p in
-    let dn : IsNetwork w d = (block_at_network w x p l (omega arith)).0 in
+    let dn : IsNetwork w d = (block_at_network w x p l (omega arith)).network in
     let begins : d.address ≡ low w d = block_begins w (record { address = x; prefix = p }) in
     let half : block_size w p ≡ s + s = size_half w p (omega arith) in
     let s_pos : 0 < s = size_pos w (p + 1) in
@@ -122,7 +122,7 @@ network_in_one w r h c cn within =
 -- the blocks of a joined list are the maximal ones of its union
 joined_is_maximal : (w : ℕ) (r : List Network) → AreJoined w r → (b : Network) → Contains r b → IsMaximalIn w (InUnion w r) b
 joined_is_maximal w r h b cb =
-    let bb : IsBlockNetwork w b = All-contains (IsBlockNetwork w) r b h.blocks cb in
+    let bb : IsCidrBlock w b = All-contains (IsCidrBlock w) r b h.blocks cb in
     record {
       network = bb.network;
       block = bb.block;
@@ -139,7 +139,7 @@ maximal_is_joined : (w : ℕ) (r : List Network) → AreJoined w r → (b : Netw
 maximal_is_joined w r h b m =
     let o = network_in_one w r h b m.network m.lies in
     let n : Network = o.0 in
-    let bn : IsBlockNetwork w n = All-contains (IsBlockNetwork w) r n h.blocks o.1 in
+    let bn : IsCidrBlock w n = All-contains (IsCidrBlock w) r n h.blocks o.1 in
     let own : Member w b b.address = (m.network.address_fits, refl) in
     ⊎_elim
     (λ (wide : n.prefix < b.prefix). let r : Contains r b = absurd (m.maximal n bn.network wide o.2 (λ x k. (n, o.1, k))) in r)
@@ -155,7 +155,7 @@ joined_is_aggregate w ns r h same =
     least_of_same w (InUnion w r) (InUnion w ns) r same (record {
       maximal = λ b. (joined_is_maximal w r h b, maximal_is_joined w r h b);
       ascending = λ i j d l m.
-          let b : IsBlockNetwork w (get_or r i d) = h.blocks i d (omega arith) in
+          let b : IsCidrBlock w (get_or r i d) = h.blocks i d (omega arith) in
           let f = h.pairs i j d l m in
           omega (arith, f.0, b.block, size_pos w (get_or r i d).prefix);
     })

@@ -4,9 +4,9 @@ use Rattle.std.proofs.lemmas.Bool.{cases_lt}
 use Rattle.std.specs.List.{All, Contains}
 use Rattle.std.proofs.lemmas.List.{get_or_default, get_or-take, length-take, length-take-le, take_all, take_more, take_more_set, take-take, length-set, get_or-set_same, get_or-set_other}
 use Rattle.std.proofs.lemmas.List.Elements.{Contains-get_or}
-use Rattle.ipnetwork_family.specs.Network.{Network, high, Subnet, IsNetworkAtMost}
+use Rattle.ipnetwork_family.specs.Network.{Network, IsCidrBlock, high, Subnet, IsNetworkAtMost}
 use Rattle.ipnetwork_blocks.specs.Aggregate.{SameUnion}
-use Rattle.ipnetwork_blocks.specs.Private.Joining.{IsBlockNetwork, AreJoined, AreInOrder, LiesInLast}
+use Rattle.ipnetwork_blocks.specs.Private.Joining.{AreJoined, AreInOrder, LiesInLast}
 use Rattle.ipnetwork_blocks.proofs.HalfBlocks.{past_top}
 use Rattle.ipnetwork_blocks.proofs.AggregateUnions.{union_same, union_trans, union_push, union_skip}
 use Rattle.ipnetwork_blocks.proofs.AggregateFront.{joined_nil, after_all}
@@ -75,7 +75,7 @@ passing_skips w z xs next kept b o h l is some sub =
     }
 
 -- a block that does not lie in the last one in front begins behind the end of each in front
-pub passing_after : (w : ℕ) (z xs : List Network) (next kept : ℕ) (b : Network) → All (IsBlockNetwork w) z → IsPassing w z xs next kept → next < length z
+pub passing_after : (w : ℕ) (z xs : List Network) (next kept : ℕ) (b : Network) → All (IsCidrBlock w) z → IsPassing w z xs next kept → next < length z
     → b ≡ get_or xs next b → (0 < kept → ¬ (Subnet w b (get_or xs (kept - 1) b))) → All (λ a. high w a < b.address) (take kept xs)
 passing_after w z xs next kept b blocks h l is out =
     let bound = h.bound in
@@ -83,12 +83,12 @@ passing_after w z xs next kept b blocks h l is out =
     let r : List Network = take kept xs in
     let len : length r ≡ kept = length-take-le kept xs (omega arith) in
     let here : get_or z next b ≡ b = sym (h.rest next b (omega arith)) ∙ sym is in
-    let bb : IsBlockNetwork w b = subst (λ (n : Network). IsBlockNetwork w n) here (blocks next b l) in
+    let bb : IsCidrBlock w b = subst (λ (n : Network). IsCidrBlock w n) here (blocks next b l) in
     ⊎_elim
     (λ (some : 0 < kept).
     let t : Network = get_or xs (kept - 1) b in
     let last : get_or r (kept - 1) b ≡ t = get_or-take kept xs (kept - 1) b (omega arith) in
-    let bt : IsBlockNetwork w t = subst (λ (n : Network). IsBlockNetwork w n) last (h.joined.blocks (kept - 1) b (omega arith)) in
+    let bt : IsCidrBlock w t = subst (λ (n : Network). IsCidrBlock w n) last (h.joined.blocks (kept - 1) b (omega arith)) in
     let order : IsNetworkAtMost t b = subst (λ (n : Network). IsNetworkAtMost t n) here (h.order b some l) in
     let ends : high w t < b.address = past_top w t b bt bb order (out some) in
     let at : length r - 1 ≡ kept - 1 = omega arith in
@@ -97,10 +97,10 @@ passing_after w z xs next kept b blocks h l is out =
     (λ (none : kept ≤ 0). λ i d m. absurd (omega arith))
     (cases_lt 0 kept)
 
-pub passing_block : (w : ℕ) (z xs : List Network) (next kept : ℕ) (b : Network) → All (IsBlockNetwork w) z → IsPassing w z xs next kept → next < length z
-    → b ≡ get_or xs next b → IsBlockNetwork w b
+pub passing_block : (w : ℕ) (z xs : List Network) (next kept : ℕ) (b : Network) → All (IsCidrBlock w) z → IsPassing w z xs next kept → next < length z
+    → b ≡ get_or xs next b → IsCidrBlock w b
 passing_block w z xs next kept b blocks h l is =
-    subst (λ (n : Network). IsBlockNetwork w n) (sym (h.rest next b (omega arith)) ∙ sym is) (blocks next b l)
+    subst (λ (n : Network). IsCidrBlock w n) (sym (h.rest next b (omega arith)) ∙ sym is) (blocks next b l)
 
 pub passing_places : (w : ℕ) (z xs : List Network) (next kept : ℕ) (b : Network) (left : ℕ) (whole : Network) → AreInOrder z
     → IsPassing w z xs next kept → next < length z → b ≡ get_or xs next b → left ≤ kept
@@ -153,7 +153,7 @@ passing_skips_last w z xs next kept b o h l is last =
     let some : 0 < kept = omega arith in
     passing_skips w z xs next kept b o h l is some (subst (λ (t : Network). Subnet w b t) (last_is w z xs next kept b h some) last.1)
 
-pub passing_after_last : (w : ℕ) (z xs : List Network) (next kept : ℕ) (b : Network) → All (IsBlockNetwork w) z → IsPassing w z xs next kept → next < length z
+pub passing_after_last : (w : ℕ) (z xs : List Network) (next kept : ℕ) (b : Network) → All (IsCidrBlock w) z → IsPassing w z xs next kept → next < length z
     → b ≡ get_or xs next b → ¬ (LiesInLast w (take kept xs) b) → All (λ a. high w a < b.address) (take kept xs)
 passing_after_last w z xs next kept b blocks h l is out =
     let bound = h.bound in

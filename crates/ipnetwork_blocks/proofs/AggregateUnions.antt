@@ -5,11 +5,11 @@ use Rattle.std.specs.List.Sorted.{IsPermutation}
 use Rattle.std.proofs.lemmas.List.Sorted.{IsPermutation-sym, Contains-permutation}
 use Rattle.std.proofs.lemmas.List.{get_or-map, length-map}
 use Rattle.std.proofs.lemmas.List.Elements.{Contains-append_left, Contains-push, Contains-push_cases, Contains-get_or}
-use Rattle.ipnetwork_family.specs.Network.{Network, Member, high, block_of, Subnet}
+use Rattle.ipnetwork_family.specs.Network.{Network, IsCidrBlock, Member, high, block_of, Subnet}
 use Rattle.ipnetwork_family.proofs.Blocks.{block_same_set}
 use Rattle.ipnetwork_blocks.specs.Aggregate.{InUnion, SameUnion}
 use Rattle.ipnetwork_blocks.specs.Supernets.{parent}
-use Rattle.ipnetwork_blocks.specs.Private.Joining.{AreHalves, IsBlockNetwork}
+use Rattle.ipnetwork_blocks.specs.Private.Joining.{AreHalves}
 use Rattle.ipnetwork_blocks.proofs.HalfBlocks.{halves_join}
 
 pub in_union_push : (w : ℕ) (r : List Network) (b : Network) (x : ℕ) → InUnion w (r ++ b ∷ []) x ↔ (InUnion w r x ⊎ Member w b x)
@@ -45,7 +45,7 @@ union_skip w r b n c s x = (
 )
 
 -- two halves at the end of a list, and their block in their place
-pub union_join : (w : ℕ) (r : List Network) (t b : Network) → IsBlockNetwork w t → IsBlockNetwork w b → high w t < b.address → AreHalves w t b
+pub union_join : (w : ℕ) (r : List Network) (t b : Network) → IsCidrBlock w t → IsCidrBlock w b → high w t < b.address → AreHalves w t b
     → SameUnion w (r ++ parent w t ∷ []) ((r ++ t ∷ []) ++ b ∷ [])
 union_join w r t b ht hb l s x =
     let j = (halves_join w t b ht hb l s).1 x in (

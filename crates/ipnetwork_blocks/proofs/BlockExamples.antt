@@ -105,8 +105,8 @@ even_and_odd =
 
 -- the block that follows is not always the sibling
 pub odd_and_even : ¬ (IsSibling 32 (net 5 32) (net 6 32))
-odd_and_even h = omega (arith, ((h.whole 6).1 (inr (own_address 32 (net 6 32) h.network))).1)
+odd_and_even h = omega (arith, ((h.whole 6).1 (inr (own_address 32 (net 6 32) h.block.network))).1)
 
 -- the whole address space has none
 pub none_at_prefix_0 : (b : Network) → ¬ (IsSibling 32 (net 0 0) b)
-none_at_prefix_0 b h = h.apart (b.address, (h.network.address_fits, omega (arith, h.network.address_fits)), own_address 32 b h.network)
+none_at_prefix_0 b h = h.apart (b.address, (h.block.network.address_fits, omega (arith, h.block.network.address_fits)), own_address 32 b h.block.network)

@@ -2,11 +2,11 @@
 use Rattle.std.proofs.Common.{◌≡◌, ℕ, ◌+◌, ◌-◌, ◌*◌, ◌^◌, ◌<◌, ◌≤◌, ◌⊎◌, inl, inr, sym, refl, ap, ◌∙◌, arith, ⊎_elim, ◌↔◌}
 use Rattle.std.proofs.Math.Nat.{div-mul-le_self}
 use Rattle.std.proofs.lemmas.Bool.{cases_lt}
-use Rattle.ipnetwork_family.specs.Network.{Network, IsNetwork, Member, low, block_size, Subnet, high, IsNetworkAtMost}
+use Rattle.ipnetwork_family.specs.Network.{Network, IsNetwork, IsCidrBlock, Member, low, block_size, Subnet, high, IsNetworkAtMost}
 use Rattle.ipnetwork_family.proofs.Blocks.{size_pos, size_divides, within_member, member_within, subnet_from, shares_address, block_begins, has_ends}
 use Rattle.ipnetwork_family.proofs.BlocksAt.{block_at_network}
 use Rattle.ipnetwork_blocks.specs.Supernets.{parent}
-use Rattle.ipnetwork_blocks.specs.Private.Joining.{AreHalves, IsBlockNetwork}
+use Rattle.ipnetwork_blocks.specs.Private.Joining.{AreHalves}
 
 -- a block has twice as many addresses as each of its halves
 pub size_half : (w p : ℕ) → p < w → block_size w p ≡ block_size w (p + 1) + block_size w (p + 1)
@@ -16,14 +16,14 @@ size_half w p h =
     twice ∙ ap (λ j. block_size w (p + 1) * 2 ^ j) one ∙ (omega arith)
 
 -- where two halves lie in their block, and how large all three are
-halves_stand : (w : ℕ) (t b : Network) → IsBlockNetwork w t → IsBlockNetwork w b → AreHalves w t b
+halves_stand : (w : ℕ) (t b : Network) → IsCidrBlock w t → IsCidrBlock w b → AreHalves w t b
     → (low w (parent w t) ≤ t.address) × (b.address + block_size w t.prefix ≤ low w (parent w t) + (block_size w t.prefix + block_size w t.prefix))
     × (block_size w (parent w t).prefix ≡ block_size w t.prefix + block_size w t.prefix) × (block_size w b.prefix ≡ block_size w t.prefix)
 halves_stand w t b ht hb s =
     let d : Network = parent w t in
     let tf = ht.network.prefix_fits in
     let pos = s.1 in
-    let dn : IsNetwork w d = (block_at_network w t.address (t.prefix - 1) ht.network.address_fits (omega arith)).0 in
+    let dn : IsNetwork w d = (block_at_network w t.address (t.prefix - 1) ht.network.address_fits (omega arith)).network in
     let back : t.prefix - 1 + 1 ≡ t.prefix = omega arith in
     let half : block_size w (t.prefix - 1) ≡ block_size w t.prefix + block_size w t.prefix =
     size_half w (t.prefix - 1) (omega arith) ∙ ap (λ k. block_size w k + block_size w k) back in
@@ -36,14 +36,14 @@ halves_stand w t b ht hb s =
     (omega arith, omega (arith, top.1, hb.block, size_pos w b.prefix), half, same)
 
 -- no block lies between two halves
-pub nothing_between : (w : ℕ) (e t b : Network) → IsBlockNetwork w e → IsBlockNetwork w t → IsBlockNetwork w b
+pub nothing_between : (w : ℕ) (e t b : Network) → IsCidrBlock w e → IsCidrBlock w t → IsCidrBlock w b
     → high w e < t.address → high w t < b.address → AreHalves w e b → ⊥
 nothing_between w e t b he ht hb l m s =
     let p = halves_stand w e b he hb s in
     omega (arith, p.0, p.1, he.block, ht.block, size_pos w e.prefix, size_pos w t.prefix)
 
 -- two halves in order: their block begins with the first, and its members are those of both
-pub halves_join : (w : ℕ) (t b : Network) → IsBlockNetwork w t → IsBlockNetwork w b → high w t < b.address → AreHalves w t b
+pub halves_join : (w : ℕ) (t b : Network) → IsCidrBlock w t → IsCidrBlock w b → high w t < b.address → AreHalves w t b
     → ((parent w t).address ≡ t.address) × ((x : ℕ) → Member w (parent w t) x ↔ (Member w t x ⊎ Member w b x))
 halves_join w t b ht hb l s =
     let d : Network = parent w t in
@@ -54,7 +54,7 @@ halves_join w t b ht hb l s =
     let next : b.address ≡ t.address + block_size w t.prefix = omega (arith, p.0, p.1, ht.block) in
     let tf = ht.network.prefix_fits in
     let pos = s.1 in
-    let dn : IsNetwork w d = (block_at_network w t.address (t.prefix - 1) ht.network.address_fits (omega arith)).0 in (
+    let dn : IsNetwork w d = (block_at_network w t.address (t.prefix - 1) ht.network.address_fits (omega arith)).network in (
       begins ∙ at,
       λ x. (
         (λ m.
@@ -71,7 +71,7 @@ halves_join w t b ht hb l s =
     )
 
 -- of two blocks in order, the second lies in the first or begins behind its end
-pub past_top : (w : ℕ) (t b : Network) → IsBlockNetwork w t → IsBlockNetwork w b → IsNetworkAtMost t b → ¬ (Subnet w b t) → high w t < b.address
+pub past_top : (w : ℕ) (t b : Network) → IsCidrBlock w t → IsCidrBlock w b → IsNetworkAtMost t b → ¬ (Subnet w b t) → high w t < b.address
 past_top w t b ht hb order out =
     let Goal : Type 0 = high w t < b.address in
     let from : t.address ≤ b.address = ⊎_elim (λ (l : t.address < b.address). omega arith) (λ (e : (t.address ≡ b.address) × (t.prefix ≤ b.prefix)). omega (arith, e.0)) order in

@@ -47,7 +47,7 @@ widest_from : (w : ℕ) (S : ℕ → Type 0) → ((x : ℕ) → S x ⊎ ¬ (S x)
 widest_from w S tells x zero h l lies = (
   block_at w x 0,
   record {
-    network = (block_at_network w x 0 l h).0;
+    network = (block_at_network w x 0 l h).network;
     block = block_begins w (record { address = x; prefix = 0 });
     lies = lies;
     maximal = λ c cn lt sub more. absurd (omega arith);
@@ -61,14 +61,14 @@ widest_from w S tells x (suc p) h l lies =
     (λ (fails : ¬ (LiesIn w S (block_at w x p))). (
       block_at w x (suc p),
       record {
-        network = (block_at_network w x (suc p) l h).0;
+        network = (block_at_network w x (suc p) l h).network;
         block = block_begins w (record { address = x; prefix = suc p });
         lies = lies;
         maximal = λ c cn lt sub more. fails (λ y m. more y (block_at_subnet w x p c (omega arith) fits (sub x (block_at_holds w x (suc p) l)) y m));
       },
       block_at_holds w x (suc p) l,
     ))
-    (lies_or_not w S tells (block_at w x p) ((block_at_network w x p l fits).0))
+    (lies_or_not w S tells (block_at w x p) ((block_at_network w x p l fits).network))
 
 pub in_a_maximal : (w : ℕ) (S : ℕ → Type 0) → ((x : ℕ) → S x ⊎ ¬ (S x)) → (x : ℕ) → x < 2 ^ w → S x → (b : Network) × IsMaximalIn w S b × Member w b x
 in_a_maximal w S tells x l s =

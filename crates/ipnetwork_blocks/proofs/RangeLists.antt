@@ -214,14 +214,14 @@ pub widest_is_maximal : (w first last p : ℕ) → first < 2 ^ w → p ≤ w →
     → IsMaximalIn w (FromTo first last) (block_at w first p)
 widest_is_maximal w first last p fits h from to wider =
     let n : Network = block_at w first p in
-    let nn : IsNetwork w n = (block_at_network w first p fits h).0 in
+    let nn : IsNetwork w n = (block_at_network w first p fits h).network in
     record {
       network = nn;
       block = block_begins w (record { address = first; prefix = p });
       lies = λ x m. let i = (has_ends w n nn).within x m in let a = i.0 in let b = i.1 in (omega arith, omega arith);
       maximal = λ c cn lt sub lies.
           let d : Network = block_at w first (p - 1) in
-          let dn : IsNetwork w d = (block_at_network w first (p - 1) fits (omega arith)).0 in
+          let dn : IsNetwork w d = (block_at_network w first (p - 1) fits (omega arith)).network in
           let inside : Subnet w d c = block_at_subnet w first (p - 1) c (omega arith) (omega arith) (sub first (block_at_holds w first p fits)) in
           let ends = has_ends w d dn in
           let a = lies (low w d) (inside (low w d) ends.low_is_member) in

@@ -28,7 +28,7 @@ pub record AreNumbers (w : ℕ) (f l : Network) (i j : ℕ) : Type 0 where
 pub run_numbers : (w : ℕ) (f l : Network) → IsRun w f l → AreNumbers w f l (f.address / block_size w f.prefix) (l.address / block_size w f.prefix)
 run_numbers w f l run =
     let s : ℕ = block_size w f.prefix in
-    let sizes : block_size w l.prefix ≡ s = ap (block_size w) (sym run.length) in
+    let sizes : block_size w l.prefix ≡ s = ap (block_size w) (sym run.as_long) in
     let first : f.address ≡ f.address / s * s = run.first_begins in
     let last : l.address ≡ l.address / s * s = run.last_begins ∙ ap (λ k. l.address / k * k) sizes in
     record {
@@ -86,7 +86,7 @@ run_goes_on w f l g run differ is begins =
     let next : (high w f + 1) / s ≡ i + 1 = div_within (i + 1) s (high w f + 1) (omega (arith, after)) (omega (arith, after, s_pos)) in
     let from : ℕ → List Network = λ k. map number (count_up k (j + 1 - k)) in
     subst Goes (sym is) (
-      record { network = run.network; length = run.length; first_begins = begins_next; last_begins = run.last_begins; ordered = before },
+      record { network = run.network; as_long = run.as_long; first_begins = begins_next; last_begins = run.last_begins; ordered = before },
       ap (map number) (count_up-next i j less) ∙ ap (λ b. b ∷ from (i + 1)) (block_numbered w f run.first_begins) ∙ ap (λ k. f ∷ from k) (sym next),
     )
 
@@ -155,7 +155,7 @@ starts w p n h longer fits =
     let count : low w last / s + 1 - low w first / s ≡ m = omega (arith, f_number, l_number, m_pos) in
     let between : ℕ → ℕ → List Network = λ i k. map (block_number w p) (count_up i k) in
     record {
-      run = record { network = block_fits_too w last last_net; length = refl; first_begins = block_begins w first; last_begins = block_begins w last; ordered = omega (arith, f_at, l_at) };
+      run = record { network = block_fits_too w last last_net; as_long = refl; first_begins = block_begins w first; last_begins = block_begins w last; ordered = omega (arith, f_at, l_at) };
       list = ap (λ i. between i (low w last / s + 1 - low w first / s)) (f_number ∙ sym i_is) ∙ ap (between (low w n / s)) count;
     }
 

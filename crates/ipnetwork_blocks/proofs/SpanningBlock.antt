@@ -22,16 +22,14 @@ alone a b c = ⊎_elim (λ (e : a ≡ b). e) (λ (none : Contains [] b). let r :
 
 pub spans_one : (w : ℕ) (n : Network) → IsNetwork w (block_of w n) → IsSpanning w (n ∷ []) (block_of w n)
 spans_one w n h = record {
-  network = h;
-  no_host_bits = block_begins w n;
+  block = record { network = h; block = block_begins w n };
   around = λ m c. subst (λ (k : Network). Subnet w k (block_of w n)) (alone n m c) (λ x i. (block_same_set w n x).1 i);
   smallest = λ b bn lie x i. lie n (contains_head n []) x ((block_same_set w n x).0 i);
 }
 
 pub spans_more : (w : ℕ) (networks : List Network) (n b wider : Network) → IsSpanning w networks b → IsSpanning w (b ∷ n ∷ []) wider → IsSpanning w (networks ++ n ∷ []) wider
 spans_more w networks n b wider h k = record {
-  network = k.network;
-  no_host_bits = k.no_host_bits;
+  block = k.block;
   around = λ m c.
       let Goal : Type 0 = Subnet w m wider in
       ⊎_elim
@@ -50,8 +48,7 @@ spans_more w networks n b wider h k = record {
 -- a network that is named twice
 pub spans_once : (w : ℕ) (networks : List Network) (n b : Network) → Contains networks n → IsSpanning w (n ∷ networks) b → IsSpanning w networks b
 spans_once w networks n b twice h = record {
-  network = h.network;
-  no_host_bits = h.no_host_bits;
+  block = h.block;
   around = λ m c. h.around m (contains_tail n networks m c);
   smallest = λ c cn lie. h.smallest c cn (λ m i.
       let Goal : Type 0 = Subnet w m c in
@@ -102,8 +99,7 @@ spans_both w shared p a b an bn h is =
     let of_b : b.address / block_size w p ≡ y / block_size w p = sym (coarser_size w p b.prefix y b.address p_b bn.prefix_fits low_b.1) in
     let agree : x / block_size w p ≡ y / block_size w p = coarser_size w p shared x y p_s h.within h.agree in
     record {
-      network = (block_at_network w x p low_a.0 within).0;
-      no_host_bits = block_begins w (record { address = x; prefix = p });
+      block = block_at_network w x p low_a.0 within;
       around = λ m c.
           let Goal : Type 0 = Subnet w m (block_at w x p) in
           ⊎_elim

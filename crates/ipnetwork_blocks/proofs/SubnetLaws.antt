@@ -19,35 +19,34 @@ use Rattle.ipnetwork_blocks.proofs.Runs.{multiple_order}
 pub around_is_one : (w : ℕ) (n b c : Network) (p : ℕ) → IsNetwork w n → IsAround w n p b → IsAround w n p c → b ≡ c
 around_is_one w n b c p h ab ac =
     let own = own_address w n h in
-    same_block w b c ab.no_host_bits ac.no_host_bits (ab.length ∙ sym ac.length) n.address (ab.holds n.address own) (ac.holds n.address own)
+    same_block w b c ab.block.block ac.block.block (ab.as_long ∙ sym ac.as_long) n.address (ab.around n.address own) (ac.around n.address own)
 
 pub sibling_is_one : (w : ℕ) (n b c : Network) → IsSibling w n b → IsSibling w n c → b ≡ c
 sibling_is_one w n b c sb sc =
-    let own = own_address w b sb.network in
+    let own = own_address w b sb.block.network in
     let in_c : Member w c b.address = ⊎_elim
     (λ (m : Member w n b.address). let r : Member w c b.address = absurd (sb.apart (b.address, m, own)) in r)
     (λ (m : Member w c b.address). m) ((sc.whole b.address).0 ((sb.whole b.address).1 (inr own))) in
-    same_block w b c sb.no_host_bits sc.no_host_bits (sb.length ∙ sym sc.length) b.address own in_c
+    same_block w b c sb.block.block sc.block.block (sb.as_long ∙ sym sc.as_long) b.address own in_c
 
 -- networks within one block have it for their parent
 same_parent : (w : ℕ) (n b : Network) → b.prefix ≡ n.prefix → Member w (parent w n) b.address → parent w b ≡ parent w n
-same_parent w n b length m =
+same_parent w n b as_long m =
     let size : ℕ = block_size w (n.prefix - 1) in
     let wide : Network = record { address = n.address; prefix = n.prefix - 1 } in
     let same : b.address / size ≡ n.address / size = ((block_same_set w wide b.address).0 m).1 in
     let of : ℕ → Network = λ p. block_of w (record { address = b.address; prefix = p - 1 }) in
     let at : ℕ → Network = λ q. record { address = q * size; prefix = n.prefix - 1 } in
-    ap of length ∙ ap at same
+    ap of as_long ∙ ap at same
 
 pub sibling_back : (w : ℕ) (n b : Network) → IsNetwork w n → IsSibling w n b → IsSibling w b (block_of w n)
 sibling_back w n b h sb =
-    let own = own_address w b sb.network in
-    let up : parent w b ≡ parent w n = same_parent w n b sb.length ((sb.whole b.address).1 (inr own)) in
+    let own = own_address w b sb.block.network in
+    let up : parent w b ≡ parent w n = same_parent w n b sb.as_long ((sb.whole b.address).1 (inr own)) in
     let set = block_same_set w n in
     record {
-      network = block_fits_too w n h;
-      length = sym sb.length;
-      no_host_bits = block_begins w n;
+      block = record { network = block_fits_too w n h; block = block_begins w n };
+      as_long = sym sb.as_long;
       apart = λ o. sb.apart (o.0, (set o.0).0 o.2, o.1);
       whole = λ x. (
         (λ m. ⊎_elim (λ (k : Member w n x). inr ((set x).1 k)) (λ (k : Member w b x). inl k)
@@ -106,7 +105,7 @@ module _ (w p : ℕ) (n : Network) (h : IsNetwork w n) (longer : n.prefix ≤ p)
       let base = in_parts.begins in
       let whole = in_parts.whole in
       let split : (a + i) * s ≡ a * s + i * s = omega arith in (
-        (record { address_fits = omega (arith, room, end, base, whole, split, s_pos); prefix_fits = fits }, sym begins),
+        record { network = record { address_fits = omega (arith, room, end, base, whole, split, s_pos); prefix_fits = fits }; block = sym begins },
         refl,
         (λ x k.
             let j = within_member w b x k in
@@ -139,11 +138,11 @@ module _ (w p : ℕ) (n : Network) (h : IsNetwork w n) (longer : n.prefix ≤ p)
       (λ part.
           let s : ℕ = block_size w p in
           let q : ℕ = b.address / s in
-          let ends = has_ends w b part.0.0 in
+          let ends = has_ends w b part.0.network in
           let sizes : block_size w b.prefix ≡ s = ap (block_size w) part.1 in
           let s_pos : 0 < s = size_pos w p in
-          let own : b.address ≡ q * s = part.0.1 ∙ ap (λ k. b.address / k * k) sizes in
-          let low_is : low w b ≡ q * s = sym part.0.1 ∙ own in
+          let own : b.address ≡ q * s = part.0.block ∙ ap (λ k. b.address / k * k) sizes in
+          let low_is : low w b ≡ q * s = sym part.0.block ∙ own in
           let from = within_member w n (low w b) (part.2 (low w b) ends.low_is_member) in
           let to = within_member w n (high w b) (part.2 (high w b) ends.high_is_member) in
           let at = number_within q (omega (arith, from.0, low_is)) (omega (arith, to.1, low_is, sizes, s_pos)) in

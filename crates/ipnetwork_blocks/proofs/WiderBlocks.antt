@@ -14,10 +14,9 @@ around_made w p n h le =
     let k : Network = record { address = n.address; prefix = p } in
     let kn : IsNetwork w k = record { address_fits = h.address_fits; prefix_fits = omega (arith, h.prefix_fits) } in
     record {
-      network = block_fits_too w k kn;
-      length = refl;
-      no_host_bits = block_begins w k;
-      holds = λ x m. (block_same_set w k x).1 (subnet_from w n k h le (h.address_fits, refl) x m);
+      block = record { network = block_fits_too w k kn; block = block_begins w k };
+      as_long = refl;
+      around = λ x m. (block_same_set w k x).1 (subnet_from w n k h le (h.address_fits, refl) x m);
     }
 
 -- what making the block around the network answers
@@ -109,14 +108,13 @@ sibling_from w n b h k pos same begins halves =
     (λ (e : (low w n ≡ base) × (low w b ≡ base + s)).
     let both : Halves w base s n b =
     record { lower_network = h; upper_network = k; lower_size = refl; upper_size = size; lower_begins = e.0; upper_begins = e.1 } in
-    record { network = k; length = same; no_host_bits = begins; apart = halves_apart w base s n b both; whole = halves_whole w base s n b (parent w n) both net refl double })
+    record { block = record { network = k; block = begins }; as_long = same; apart = halves_apart w base s n b both; whole = halves_whole w base s n b (parent w n) both net refl double })
     (λ (e : (low w n ≡ base + s) × (low w b ≡ base)).
     let both : Halves w base s b n =
     record { lower_network = k; upper_network = h; lower_size = size; upper_size = refl; lower_begins = e.1; upper_begins = e.0 } in
     record {
-      network = k;
-      length = same;
-      no_host_bits = begins;
+      block = record { network = k; block = begins };
+      as_long = same;
       apart = λ o. halves_apart w base s b n both (o.0, o.2, o.1);
       whole = λ x.
           let of = halves_whole w base s b n (parent w n) both net refl double x in (
@@ -168,39 +166,49 @@ sibling_answer w n pair (Some m) x p net length pos is h =
     let made : pair m ≡ block_of w (record { address = x; prefix = n.prefix }) = h.1 ∙ ap (λ k. block_of w (record { address = x; prefix = k })) length in
     (pos, subst (λ (b : Network). IsSibling w n b) (sym made) is)
 
+-- a network that is no whole address space, its parent, and where the two end
+pub record IsHalf (w : ℕ) (n b : Network) (end last p : ℕ) : Type 0 where
+  pub network : IsNetwork w n
+  pub as_long : p ≡ n.prefix
+  pub some : 0 < p
+  pub parent_is : b ≡ parent w n
+  pub end_is : end ≡ high w b
+  pub last_is : last ≡ high w n
+
 -- where the network does not end with its parent, the other half is the upper one
-pub upper_answer : (w : ℕ) (n b : Network) {X : Type 0} (pair : X → Network) (answer : Option X) (end last p : ℕ) → IsNetwork w n → p ≡ n.prefix → 0 < p → end < 2 ^ w
-    → b ≡ parent w n → end ≡ high w b → last ≡ high w n → last ≢ end
+pub upper_answer : (w : ℕ) (n b : Network) {X : Type 0} (pair : X → Network) (answer : Option X) (end last p : ℕ) → IsHalf w n b end last p → end < 2 ^ w → last ≢ end
     → MatchOption answer (w < p) (λ m. (p ≤ w) × (pair m ≡ block_of w (record { address = end; prefix = p })))
     → MatchOption answer (n.prefix ≡ 0) (λ m. (0 < n.prefix) × IsSibling w n (pair m))
-upper_answer w n b pair answer end last p net length pos fits b_is end_is last_is differ h =
+upper_answer w n b pair answer end last p half_is fits differ h =
+    let net = half_is.network in
     let s : ℕ = block_size w n.prefix in
     let base : ℕ = low w (parent w n) in
-    let longer : 0 < n.prefix = omega arith in
+    let longer : 0 < n.prefix = omega (arith, half_is.some, half_is.as_long) in
     let half : block_size w (n.prefix - 1) ≡ s + s = parent_size w n net longer in
     let s_pos : 0 < s = size_pos w n.prefix in
-    let at : end + 1 ≡ base + s + s = ap (λ k. k + 1) (end_is ∙ ap (high w) b_is) ∙ high_after w (parent w n) ∙ (omega (arith, half)) in
-    let own : last + 1 ≡ low w n + s = ap (λ k. k + 1) last_is ∙ high_after w n in
+    let at : end + 1 ≡ base + s + s = ap (λ k. k + 1) (half_is.end_is ∙ ap (high w) half_is.parent_is) ∙ high_after w (parent w n) ∙ (omega (arith, half)) in
+    let own : last + 1 ≡ low w n + s = ap (λ k. k + 1) half_is.last_is ∙ high_after w n in
     let Goal : Type 0 = IsSibling w n (block_of w (record { address = end; prefix = n.prefix })) in
-    sibling_answer w n pair answer end p net length longer
+    sibling_answer w n pair answer end p net half_is.as_long longer
     (⊎_elim (λ (e : low w n ≡ base). sibling_at w end n net longer fits (inl (e, omega (arith, at, s_pos), omega (arith, at))))
     (λ (e : low w n ≡ base + s). let r : Goal = absurd (differ (omega (arith, at, own, e))) in r) (half_begins w n net longer)) h
 
 -- and where it does, the lower one
-pub lower_answer : (w : ℕ) (n b : Network) {X : Type 0} (pair : X → Network) (answer : Option X) (end last first p : ℕ) → IsNetwork w n → p ≡ n.prefix → 0 < p → first < 2 ^ w
-    → b ≡ parent w n → end ≡ high w b → first ≡ low w b → last ≡ high w n → last ≡ end
+pub lower_answer : (w : ℕ) (n b : Network) {X : Type 0} (pair : X → Network) (answer : Option X) (end last first p : ℕ) → IsHalf w n b end last p → first < 2 ^ w
+    → first ≡ low w b → last ≡ end
     → MatchOption answer (w < p) (λ m. (p ≤ w) × (pair m ≡ block_of w (record { address = first; prefix = p })))
     → MatchOption answer (n.prefix ≡ 0) (λ m. (0 < n.prefix) × IsSibling w n (pair m))
-lower_answer w n b pair answer end last first p net length pos fits b_is end_is first_is last_is same h =
+lower_answer w n b pair answer end last first p half_is fits first_is same h =
+    let net = half_is.network in
     let s : ℕ = block_size w n.prefix in
     let base : ℕ = low w (parent w n) in
-    let longer : 0 < n.prefix = omega arith in
+    let longer : 0 < n.prefix = omega (arith, half_is.some, half_is.as_long) in
     let half : block_size w (n.prefix - 1) ≡ s + s = parent_size w n net longer in
     let s_pos : 0 < s = size_pos w n.prefix in
-    let at : end + 1 ≡ base + s + s = ap (λ k. k + 1) (end_is ∙ ap (high w) b_is) ∙ high_after w (parent w n) ∙ (omega (arith, half)) in
-    let own : last + 1 ≡ low w n + s = ap (λ k. k + 1) last_is ∙ high_after w n in
-    let from : first ≡ base = first_is ∙ ap (low w) b_is in
+    let at : end + 1 ≡ base + s + s = ap (λ k. k + 1) (half_is.end_is ∙ ap (high w) half_is.parent_is) ∙ high_after w (parent w n) ∙ (omega (arith, half)) in
+    let own : last + 1 ≡ low w n + s = ap (λ k. k + 1) half_is.last_is ∙ high_after w n in
+    let from : first ≡ base = first_is ∙ ap (low w) half_is.parent_is in
     let Goal : Type 0 = IsSibling w n (block_of w (record { address = first; prefix = n.prefix })) in
-    sibling_answer w n pair answer first p net length longer
+    sibling_answer w n pair answer first p net half_is.as_long longer
     (⊎_elim (λ (e : low w n ≡ base). let r : Goal = absurd (omega (arith, at, own, e, same, s_pos)) in r)
     (λ (e : low w n ≡ base + s). sibling_at w first n net longer fits (inr (e, omega (arith, from), omega (arith, from, s_pos)))) (half_begins w n net longer)) h

@@ -1,7 +1,7 @@
 -- The smallest block around networks.
 use Rattle.std.specs.Prelude.{ℕ, List}
 use Rattle.std.specs.List.{Contains}
-use Rattle.ipnetwork_family.specs.Network.{Network, IsNetwork, HostBitsAreZero, Subnet}
+use Rattle.ipnetwork_family.specs.Network.{Network, IsNetwork, IsCidrBlock, Subnet}
 
 -- each of the networks lies in b
 abbrev pub AllLieIn : ℕ → List Network → Network → Type 0
@@ -9,7 +9,6 @@ AllLieIn w networks b = (n : Network) → Contains networks n → Subnet w n b
 
 -- b is the smallest block around the networks: they all lie in it, and it lies in each network in which they all lie
 pub record IsSpanning (w : ℕ) (networks : List Network) (b : Network) : Type 0 where
-  pub network : IsNetwork w b
-  pub no_host_bits : HostBitsAreZero w b
+  pub block : IsCidrBlock w b
   pub around : AllLieIn w networks b
   pub smallest : (c : Network) → IsNetwork w c → AllLieIn w networks c → Subnet w b c

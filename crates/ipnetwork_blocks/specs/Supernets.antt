@@ -1,13 +1,12 @@
 -- The blocks around a network, and the other half of the block one bit shorter.
 use Rattle.std.specs.Prelude.{◌≡◌, ℕ, ◌-◌, ◌⊎◌, ◌↔◌}
-use Rattle.ipnetwork_family.specs.Network.{Network, IsNetwork, HostBitsAreZero, Member, Subnet, Overlap, block_of}
+use Rattle.ipnetwork_family.specs.Network.{Network, IsCidrBlock, Member, Subnet, Overlap, block_of}
 
 -- b is the block of prefix length p around the network
 pub record IsAround (w : ℕ) (n : Network) (p : ℕ) (b : Network) : Type 0 where
-  pub network : IsNetwork w b
-  pub length : b.prefix ≡ p
-  pub no_host_bits : HostBitsAreZero w b
-  pub holds : Subnet w n b
+  pub block : IsCidrBlock w b
+  pub as_long : b.prefix ≡ p
+  pub around : Subnet w n b
 
 -- the block of one bit less around the network
 abbrev pub parent : ℕ → Network → Network
@@ -16,8 +15,7 @@ parent w n = block_of w (record { address = n.address; prefix = n.prefix - 1 })
 -- b is the other half of the network's parent: a block of the same prefix length that shares no address with the
 -- network, and has together with it the addresses of the parent
 pub record IsSibling (w : ℕ) (n b : Network) : Type 0 where
-  pub network : IsNetwork w b
-  pub length : b.prefix ≡ n.prefix
-  pub no_host_bits : HostBitsAreZero w b
+  pub block : IsCidrBlock w b
+  pub as_long : b.prefix ≡ n.prefix
   pub apart : ¬ (Overlap w n b)
   pub whole : (x : ℕ) → Member w (parent w n) x ↔ (Member w n x ⊎ Member w b x)

@@ -1,10 +1,10 @@
 //! The least list of blocks with the union of given networks.
 ghost use Rattle.std.specs.Prelude.{◌≡◌, ◌<◌, ◌≤◌, ◌↔◌, IsTrue, MatchOption, length, take, ◌++◌, ◌∷◌, [], map};
 ghost use Rattle.std.specs.List.{All};
-ghost use Rattle.ipnetwork_family.specs.Network.{IsNetworkAtMost, block_of, high};
+ghost use Rattle.ipnetwork_family.specs.Network.{IsCidrBlock, IsNetworkAtMost, block_of, high};
 ghost use Rattle.ipnetwork_blocks.specs.Aggregate.{SameUnion, IsAggregate};
 ghost use Rattle.ipnetwork_blocks.specs.Supernets.{parent};
-ghost use Rattle.ipnetwork_blocks.specs.Private.Joining.{IsBlockNetwork, AreJoined, AreHalves, AreInOrder, LiesInLast};
+ghost use Rattle.ipnetwork_blocks.specs.Private.Joining.{AreJoined, AreHalves, AreInOrder, LiesInLast};
 
 use crate::held_network::HoldsNetwork;
 use crate::supernets::block;
@@ -69,7 +69,7 @@ pub fn aggregate_held<N: CidrNetwork, H: HoldsNetwork<N>>(values: &mut [H]) -> u
 fn clear_host_bits<N: CidrNetwork, H: HoldsNetwork<N>>(values: &mut [H])
     requires { All H.holds values.old }
     ensures cleared { map H.held values.new ≡ map (block_of N.WIDTH) (map H.held values.old) }
-    ensures blocks { All (IsBlockNetwork N.WIDTH) (map H.held values.new) }
+    ensures blocks { All (IsCidrBlock N.WIDTH) (map H.held values.new) }
     ensures held { All H.holds values.new }
 {
     for value in values.iter_mut() {
@@ -81,7 +81,7 @@ fn clear_host_bits<N: CidrNetwork, H: HoldsNetwork<N>>(values: &mut [H])
 // the next one lies in the last of them, or is joined with those at their end.
 fn join_sorted<N: CidrNetwork, H: HoldsNetwork<N>>(values: &mut [H]) -> usize
     requires held { All H.holds values.old }
-    requires blocks { All (IsBlockNetwork N.WIDTH) (map H.held values.old) }
+    requires blocks { All (IsCidrBlock N.WIDTH) (map H.held values.old) }
     requires order { AreInOrder (map H.held values.old) }
     ensures within { result ≤ length values.old }
     ensures joined { AreJoined N.WIDTH (take result (map H.held values.new)) }
@@ -116,7 +116,7 @@ fn lies_in_last<N: CidrNetwork, H: HoldsNetwork<N>>(front: &[H], block: N) -> bo
 fn join_back<N: CidrNetwork, H: HoldsNetwork<N>>(front: &[H], block: N) -> (usize, N)
     requires held { All H.holds front.now }
     requires joined { AreJoined N.WIDTH (map H.held front.now) }
-    requires block { IsBlockNetwork N.WIDTH (N.pair block) }
+    requires block { IsCidrBlock N.WIDTH (N.pair block) }
     requires behind { All (λ a. high N.WIDTH a < (N.pair block).address) (map H.held front.now) }
     ensures left { result.0 ≤ length front.now }
     ensures joined { AreJoined N.WIDTH (take result.0 (map H.held front.now) ++ N.pair result.1 ∷ []) }

@@ -7,7 +7,7 @@ use Rattle.ipnetwork_family.proofs.Blocks.{block_fits_too, block_begins, block_s
 pub block_at_network : (w x p : ℕ) → x < 2 ^ w → p ≤ w → IsCidrBlock w (block_at w x p)
 block_at_network w x p fits within =
     let n : Network = record { address = x; prefix = p } in
-    (block_fits_too w n (record { address_fits = fits; prefix_fits = within }), block_begins w n)
+    record { network = block_fits_too w n (record { address_fits = fits; prefix_fits = within }); block = block_begins w n }
 
 pub block_at_holds : (w x p : ℕ) → x < 2 ^ w → Member w (block_at w x p) x
 block_at_holds w x p fits = (block_same_set w (record { address = x; prefix = p }) x).1 (fits, refl)

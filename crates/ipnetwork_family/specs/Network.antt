@@ -1,6 +1,7 @@
 -- Networks of addresses of w bits, as numbers: 32 for IPv4 and 128 for IPv6 (RFC 4632, section 3.1; RFC 4291,
 -- section 2.3).
-use Rattle.std.specs.Prelude.{◌≡◌, ◌≢◌, ℕ, zero, suc, ◌+◌, ◌-◌, ◌*◌, ◌/◌, ◌^◌, ◌<◌, ◌≤◌, ◌⊎◌, min, List, [], ◌∷◌}
+use Rattle.std.specs.Prelude.{◌≡◌, ◌≢◌, ℕ, ◌+◌, ◌-◌, ◌*◌, ◌/◌, ◌^◌, ◌<◌, ◌≤◌, ◌⊎◌, min, List}
+use Rattle.std.specs.List.{range_with_len}
 use Rattle.std.specs.declared.cmp.Ordering.{Ordering}
 use Rattle.std.specs.Ordering.{nat_cmp, ordering_then}
 
@@ -47,13 +48,13 @@ abbrev pub HostBitsAreZero : ℕ → Network → Type 0
 HostBitsAreZero w n = n.address ≡ low w n
 
 -- a block: a network without host bits
-abbrev pub IsCidrBlock : ℕ → Network → Type 0
-IsCidrBlock w n = IsNetwork w n × HostBitsAreZero w n
+pub record IsCidrBlock (w : ℕ) (n : Network) : Type 0 where
+  pub network : IsNetwork w n
+  pub block : HostBitsAreZero w n
 
 -- count numbers in a row, from start on
 unfoldable pub count_up : ℕ → ℕ → List ℕ
-count_up start zero = []
-count_up start (suc count) = start ∷ count_up (suc start) count
+count_up start count = range_with_len start count
 
 -- the members in ascending order
 abbrev pub members : ℕ → Network → List ℕ

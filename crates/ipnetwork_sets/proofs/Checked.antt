@@ -2,9 +2,9 @@
 use Rattle.std.proofs.Common.{◌≡◌, ℕ, ◌+◌, ◌-◌, ◌<◌, ◌≤◌, sym, ap, subst, ◌∙◌, arith, List, [], ◌∷◌, ◌++◌, length, get_or, take}
 use Rattle.std.specs.List.{All}
 use Rattle.std.proofs.lemmas.List.{get_or_default, get_or-take, length-take-le, take_all, take_more}
-use Rattle.ipnetwork_family.specs.Network.{Network, IsNetwork, HostBitsAreZero, high}
+use Rattle.ipnetwork_family.specs.Network.{Network, IsNetwork, IsCidrBlock, HostBitsAreZero, high}
 use Rattle.ipnetwork_blocks.specs.AggregateLaws.{AggregateIsApart}
-use Rattle.ipnetwork_blocks.specs.Private.Joining.{IsBlockNetwork, Follows, AreJoined}
+use Rattle.ipnetwork_blocks.specs.Private.Joining.{Follows, AreJoined}
 use Rattle.ipnetwork_blocks.proofs.AggregateFront.{joined_nil, joined_push, after_all}
 use Rattle.ipnetwork_sets.specs.Sets.{IsAddressSet}
 use Rattle.ipnetwork_sets.proofs.Lists.{set_is_joined, joined_is_set}
@@ -19,7 +19,7 @@ check_goes_on w ns i b h l is net block last =
     let r : List Network = take i ns in
     let size : length r ≡ i = length-take-le i ns (omega arith) in
     let more : take (i + 1) ns ≡ r ++ b ∷ [] = take_more ns i b l ∙ ap (λ n. r ++ n ∷ []) (sym is) in
-    let bb : IsBlockNetwork w b = record { network = net; block = block } in
+    let bb : IsCidrBlock w b = record { network = net; block = block } in
     let before : (d : Network) → 0 < length r → get_or r (length r - 1) d ≡ get_or ns (i - 1) d =
     λ d some.
     let e : length r - 1 ≡ i - 1 = omega arith in
@@ -43,7 +43,7 @@ checked w ns i h l = joined_is_set w ns (subst (λ (t : List Network). AreJoined
 pub set_has_block : (w : ℕ) (ns : List Network) (i : ℕ) (b : Network) → AggregateIsApart → IsAddressSet w ns → i < length ns → b ≡ get_or ns i b → HostBitsAreZero w b
 set_has_block w ns i b law h l is =
     let j = set_is_joined w ns law h in
-    let k : IsBlockNetwork w b = subst (λ (n : Network). IsBlockNetwork w n) (sym is) (j.blocks i b l) in
+    let k : IsCidrBlock w b = subst (λ (n : Network). IsCidrBlock w n) (sym is) (j.blocks i b l) in
     k.block
 
 pub set_follows : (w : ℕ) (ns : List Network) (i : ℕ) (a b : Network) → AggregateIsApart → IsAddressSet w ns → 0 < i → i < length ns

@@ -2,11 +2,10 @@
 use Rattle.std.proofs.Common.{◌≡◌, ℕ, ◌-◌, ◌+◌, ◌^◌, ◌<◌, ◌≤◌, inl, inr, ap, subst, arith, ⊎_elim, List, [], ◌∷◌, length}
 use Rattle.std.proofs.Math.Pow.{pow_mono}
 use Rattle.std.proofs.lemmas.Bool.{cases_lt}
-use Rattle.ipnetwork_family.specs.Network.{Network, IsNetwork, Member, block_size}
+use Rattle.ipnetwork_family.specs.Network.{Network, IsNetwork, IsCidrBlock, Member, block_size}
 use Rattle.ipnetwork_family.proofs.Blocks.{size_pos, high_fits}
 use Rattle.ipnetwork_blocks.specs.Aggregate.{InUnion}
 use Rattle.ipnetwork_blocks.specs.AggregateLaws.{AggregateIsApart}
-use Rattle.ipnetwork_blocks.specs.Private.Joining.{IsBlockNetwork}
 use Rattle.ipnetwork_blocks.proofs.LeastLists.{own_address, contains_head}
 use Rattle.ipnetwork_sets.specs.CountLaws.{SetHasFewerBlocks}
 use Rattle.ipnetwork_sets.specs.Counts.{total}
@@ -26,7 +25,7 @@ filled : (w : ℕ) (bs : List Network) (from : ℕ) → AggregateIsApart → IsA
     → InUnion w bs x
 filled w [] from apart h all many x le l = absurd (omega arith)
 filled w (b ∷ bs) from apart h all many x le l =
-    let hb : IsBlockNetwork w b = set_block w (b ∷ bs) b h (contains_head b bs) in
+    let hb : IsCidrBlock w b = set_block w (b ∷ bs) b h (contains_head b bs) in
     let own : from ≤ b.address = all b.address ((union_cons w b bs b.address).1 (inl (own_address w b hb.network))) in
     let pos = size_pos w b.prefix in
     let top = high_fits w b hb.network in

@@ -56,18 +56,18 @@ module _ (w : ℕ) (n : Network) (a all : List Network) (p : ℕ) (networks : Ag
       let shortest = free_is_shortest w n a all h in
       let set : IsAddressSet w all = least_is_set w (InNetworkAlone w n a) all h shortest in
       let lies : LiesInUnion w o all = λ x m. (shortest.addresses x).1 (f.within x m, λ u. f.free (x, m, u)) in
-      (networks w all all set o f.block.0).0 lies
+      (networks w all all set o f.block.network).0 lies
 
   -- which is no longer, and does not begin behind it
   as_wide : (o b : Network) → IsFreeBlock w n a p o → Contains all b → Subnet w o b → b.prefix ≤ p
   as_wide o b f c sub =
-      let l = subnet_prefix w o b f.block.0 (maximal b c).network sub in
+      let l = subnet_prefix w o b f.block.network (maximal b c).network sub in
       let e = f.as_long in
       omega (arith, l, e)
 
   begins : (o b : Network) → IsFreeBlock w n a p o → Contains all b → Subnet w o b → b.address ≤ o.address
   begins o b f c sub =
-      let i = within_member w b o.address (sub o.address (own_address w o f.block.0)) in
+      let i = within_member w b o.address (sub o.address (own_address w o f.block.network)) in
       let z = (maximal b c).block in
       omega (arith, i.0, z)
 
@@ -85,7 +85,7 @@ module _ (w : ℕ) (n : Network) (a all : List Network) (p : ℕ) (networks : Ag
       contains_nil held.0 (subst (λ (t : List Network). Contains t held.0) e (not_passed left o held.0 k f held.1 held.2))
 
   pub none_so_long : w < p → NoBlockIsFree w n a p
-  none_so_long l o f = let e = f.as_long in let fits = f.block.0.prefix_fits in omega (arith, e, fits, l)
+  none_so_long l o f = let e = f.as_long in let fits = f.block.network.prefix_fits in omega (arith, e, fits, l)
 
   -- the first that is as wide has the first
   pub first_in : (left after : List Network) (b : Network) → IsPassing all p left → left ≡ b ∷ after → b.prefix ≤ p → p ≤ w → IsFirstFree w n a p (block_at w b.address p)
@@ -97,7 +97,7 @@ module _ (w : ℕ) (n : Network) (a all : List Network) (p : ℕ) (networks : Ag
       let block = block_at_network w b.address p m.network.address_fits fits in
       let sub : Subnet w d b = block_at_subnet w b.address p b wide fits (own_address w b m.network) in
       let i = within_member w d b.address (block_at_holds w b.address p m.network.address_fits) in
-      let z = block.1 in
+      let z = block.block in
       let up : AllPairs Before (b ∷ after) = subst (λ (t : List Network). AllPairs Before t) e
       (pairs_behind Before k.passed left (subst (λ (t : List Network). AllPairs Before t) k.parts h.ascending)) in
       record {

@@ -2,14 +2,13 @@
 use Rattle.std.proofs.Common.{◌≡◌, ℕ, ◌+◌, ◌-◌, ◌*◌, ◌/◌, ◌^◌, ◌<◌, ◌≤◌, ◌⊎◌, inl, inr, sym, refl, ap, subst, ◌∙◌, arith, ⊎_elim, List, [], ◌∷◌}
 use Rattle.std.proofs.lemmas.Bool.{cases_lt}
 use Rattle.std.proofs.lemmas.Nat.{mul-le}
-use Rattle.ipnetwork_family.specs.Network.{Network, IsNetwork, HostBitsAreZero, Member, Subnet, low, high, block_size, block_of}
+use Rattle.ipnetwork_family.specs.Network.{Network, IsNetwork, IsCidrBlock, HostBitsAreZero, Member, Subnet, low, high, block_size, block_of}
 use Rattle.ipnetwork_family.proofs.Blocks.{div_within, size_pos, has_ends, within_member, member_within, subnet_from, subnet_prefix, multiple_begins, block_begins}
 use Rattle.ipnetwork_family.proofs.BlocksAt.{block_at_network, block_at_holds, block_at_subnet, same_block}
 use Rattle.ipnetwork_blocks.specs.Supernets.{parent}
 use Rattle.ipnetwork_blocks.specs.LeastList.{LiesIn}
 use Rattle.ipnetwork_blocks.specs.Aggregate.{InUnion}
 use Rattle.ipnetwork_blocks.specs.AggregateLaws.{AggregateIsApart}
-use Rattle.ipnetwork_blocks.specs.Private.Joining.{IsBlockNetwork}
 use Rattle.ipnetwork_blocks.proofs.HalfBlocks.{size_half}
 use Rattle.ipnetwork_blocks.proofs.WiderBlocks.{half_begins}
 use Rattle.ipnetwork_blocks.proofs.LeastLists.{own_address, contains_head}
@@ -19,7 +18,7 @@ use Rattle.ipnetwork_sets.proofs.Steps.{smaller_inside, union_cons, union_nil, u
 
 -- the block of one bit less around a network
 parent_network : (w : ℕ) (n : Network) → IsNetwork w n → IsNetwork w (parent w n)
-parent_network w n h = (block_at_network w n.address (n.prefix - 1) h.address_fits (omega (arith, h.prefix_fits))).0
+parent_network w n h = (block_at_network w n.address (n.prefix - 1) h.address_fits (omega (arith, h.prefix_fits))).network
 
 -- ---- from piece to piece: what is passed
 
@@ -104,7 +103,7 @@ half_address s a x pos e =
     let two : x ≡ q * 2 * s = e ∙ (omega arith) in
     ap (λ z. z / s * s) two ∙ multiple_begins s (q * 2) pos ∙ sym two
 
-pub half_begins_there : (w : ℕ) (piece : Network) → IsBlockNetwork w piece → piece.prefix < w
+pub half_begins_there : (w : ℕ) (piece : Network) → IsCidrBlock w piece → piece.prefix < w
     → low w (record { address = piece.address; prefix = piece.prefix + 1 }) ≡ piece.address
 half_begins_there w piece h l =
     let s : ℕ = block_size w (piece.prefix + 1) in
@@ -282,11 +281,11 @@ longer_falls w piece next at long fits =
     omega (arith, same)
 
 -- a block of the cut set that neither ends before the piece nor begins behind it: it holds the piece, or lies in it
-pub piece_in_first : (w : ℕ) (piece b : Network) → IsBlockNetwork w piece → IsBlockNetwork w b → (high w b < piece.address → ⊥) → (high w piece < b.address → ⊥)
+pub piece_in_first : (w : ℕ) (piece b : Network) → IsCidrBlock w piece → IsCidrBlock w b → (high w b < piece.address → ⊥) → (high w piece < b.address → ⊥)
     → b.prefix ≤ piece.prefix → Subnet w piece b
 piece_in_first w piece b hp hb not_before not_behind le = smaller_inside w piece b hp hb not_behind not_before le
 
-pub first_in_piece : (w : ℕ) (piece b : Network) → IsBlockNetwork w piece → IsBlockNetwork w b → (high w b < piece.address → ⊥) → (high w piece < b.address → ⊥)
+pub first_in_piece : (w : ℕ) (piece b : Network) → IsCidrBlock w piece → IsCidrBlock w b → (high w b < piece.address → ⊥) → (high w piece < b.address → ⊥)
     → piece.prefix < b.prefix → Member w piece b.address
 first_in_piece w piece b hp hb not_before not_behind lt =
     smaller_inside w b piece hb hp not_before not_behind (omega arith) b.address (own_address w b hb.network)

@@ -2,14 +2,13 @@
 use Rattle.std.proofs.Common.{◌≡◌, ◌↔◌, ℕ, suc, ◌+◌, ◌-◌, ◌<◌, ◌≤◌, inl, inr, sym, refl, ap, subst, ◌∙◌, arith, ⊎_elim, List, [], ◌∷◌, length, Option, None, Some}
 use Rattle.std.proofs.lemmas.Bool.{cases_lt}
 use Rattle.std.specs.Option.{option_map}
-use Rattle.ipnetwork_family.specs.Network.{Network, Member, Subnet, high}
+use Rattle.ipnetwork_family.specs.Network.{Network, IsCidrBlock, Member, Subnet, high}
 use Rattle.ipnetwork_family.proofs.Blocks.{size_pos, within_member, member_within, subnet_prefix}
 use Rattle.ipnetwork_family.proofs.BlocksAt.{block_at_subnet}
 use Rattle.ipnetwork_blocks.specs.Supernets.{parent}
 use Rattle.ipnetwork_blocks.specs.LeastList.{LiesIn, IsMaximalIn, IsLeastList}
 use Rattle.ipnetwork_blocks.specs.Aggregate.{InUnion}
 use Rattle.ipnetwork_blocks.specs.AggregateLaws.{AggregateIsApart, AggregateHasOneBlock, AggregateHasNetworks}
-use Rattle.ipnetwork_blocks.specs.Private.Joining.{IsBlockNetwork}
 use Rattle.ipnetwork_blocks.proofs.LeastLists.{own_address, contains_head, least_of_none, least_of_one, least_of_same, least_unique}
 use Rattle.ipnetwork_sets.specs.Sets.{IsAddressSet, InFirstAlone, InNetworkAlone}
 use Rattle.ipnetwork_sets.specs.Private.LeastBlocks.{left_blocks}
@@ -30,7 +29,7 @@ difference_starts w first cut =
     ))
     (left_is_least w None first cut)
 
-pub network_starts : (w : ℕ) (n b : Network) (rest cut : List Network) → IsBlockNetwork w b → ((x : ℕ) → Member w b x ↔ Member w n x) → rest ≡ []
+pub network_starts : (w : ℕ) (n b : Network) (rest cut : List Network) → IsCidrBlock w b → ((x : ℕ) → Member w b x ↔ Member w n x) → rest ≡ []
     → IsLeastList w (InNetworkAlone w n cut) (left_blocks w (Some (b, b)) rest cut)
 network_starts w n b rest cut hb same e =
     least_of_same w (InLeft w (Some (b, b)) rest cut) (InNetworkAlone w n cut) (left_blocks w (Some (b, b)) rest cut)
@@ -48,7 +47,7 @@ network_starts w n b rest cut hb same e =
     ))
     (left_is_least w (Some (b, b)) rest cut)
 
-pub one_block_is_set : (w : ℕ) (b : Network) → IsBlockNetwork w b → IsAddressSet w (b ∷ [])
+pub one_block_is_set : (w : ℕ) (b : Network) → IsCidrBlock w b → IsAddressSet w (b ∷ [])
 one_block_is_set w b hb =
     least_of_same w (Member w b) (InUnion w (b ∷ [])) (b ∷ [])
     (λ x. (
@@ -64,8 +63,8 @@ takes_whole : (w : ℕ) (rest cut : List Network) (p : Network × Network) (afte
     → IsAtHand w (Some p) after cut
 takes_whole w rest cut p after apart h t =
     let set : IsAddressSet w (p.0 ∷ after) = subst (λ (l : List Network). IsAddressSet w l) t.0 h.0 in
-    let hb : IsBlockNetwork w p.0 = set_block w (p.0 ∷ after) p.0 set (contains_head p.0 after) in
-    let piece : IsBlockNetwork w p.1 = subst (λ (n : Network). IsBlockNetwork w n) (sym t.1) hb in
+    let hb : IsCidrBlock w p.0 = set_block w (p.0 ∷ after) p.0 set (contains_head p.0 after) in
+    let piece : IsCidrBlock w p.1 = subst (λ (n : Network). IsCidrBlock w n) (sym t.1) hb in
     (set, h.1, record { whole_is = hb; piece_is = piece; within = λ x m. subst (λ (n : Network). Member w n x) t.1 m }, widest_whole w p.0 p.1 cut t.1)
 
 pub takes_state : (w : ℕ) (at_hand : Option (Network × Network)) (rest cut : List Network) (p : Network × Network) (after : List Network) → AggregateIsApart

@@ -4,13 +4,13 @@ use Rattle.std.proofs.lemmas.Bool.{cases_lt}
 use Rattle.std.proofs.lemmas.List.{get_or-map}
 use Rattle.std.specs.List.{Contains}
 use Rattle.std.proofs.lemmas.List.Elements.{Contains-get_or}
-use Rattle.ipnetwork_family.specs.Network.{Network, IsNetwork, Member, high}
+use Rattle.ipnetwork_family.specs.Network.{Network, IsNetwork, IsCidrBlock, Member, high}
 use Rattle.ipnetwork_family.proofs.BlocksAt.{block_at_network}
 use Rattle.ipnetwork_blocks.specs.Supernets.{parent}
 use Rattle.ipnetwork_blocks.specs.LeastList.{IsMaximalIn}
 use Rattle.ipnetwork_blocks.specs.Aggregate.{InUnion, SameUnion, IsAggregate}
 use Rattle.ipnetwork_blocks.specs.AggregateLaws.{AggregateHasUnion, AggregateIsApart}
-use Rattle.ipnetwork_blocks.specs.Private.Joining.{AreHalves, IsBlockNetwork, AreJoined}
+use Rattle.ipnetwork_blocks.specs.Private.Joining.{AreHalves, AreJoined}
 use Rattle.ipnetwork_blocks.proofs.HalfBlocks.{halves_join}
 use Rattle.ipnetwork_blocks.proofs.AggregateJoined.{joined_is_aggregate}
 use Rattle.ipnetwork_blocks.proofs.LeastLists.{least_of_same}
@@ -40,7 +40,7 @@ set_of_aggregate w ns r law h =
     let same : SameUnion w r ns = law w ns r h in
     least_of_same w (InUnion w ns) (InUnion w r) r (λ x. ((same x).1, (same x).0)) h
 
-pub set_block : (w : ℕ) (bs : List Network) (b : Network) → IsAddressSet w bs → Contains bs b → IsBlockNetwork w b
+pub set_block : (w : ℕ) (bs : List Network) (b : Network) → IsAddressSet w bs → Contains bs b → IsCidrBlock w b
 set_block w bs b h c = let m : IsMaximalIn w (InUnion w bs) b = (h.maximal b).0 c in record { network = m.network; block = m.block }
 
 -- a set's blocks are joined as far as they go
@@ -60,10 +60,10 @@ set_is_joined w bs law h = record {
     no_halves w bs a b h ca cb ends s =
         let m : IsMaximalIn w (InUnion w bs) a = (h.maximal a).0 ca in
         let d : Network = parent w a in
-        let ba : IsBlockNetwork w a = set_block w bs a h ca in
+        let ba : IsCidrBlock w a = set_block w bs a h ca in
         let pos = s.1 in
         let fits = ba.network.prefix_fits in
-        let dn : IsNetwork w d = (block_at_network w a.address (a.prefix - 1) ba.network.address_fits (omega arith)).0 in
+        let dn : IsNetwork w d = (block_at_network w a.address (a.prefix - 1) ba.network.address_fits (omega arith)).network in
         let whole = (halves_join w a b ba (set_block w bs b h cb) ends s).1 in
         m.maximal d dn (omega arith) (λ x k. (whole x).1 (inl k))
         (λ x k. ⊎_elim (λ (ka : Member w a x). (a, ca, ka)) (λ (kb : Member w b x). (b, cb, kb)) ((whole x).0 k))

@@ -4,12 +4,11 @@ use Rattle.std.proofs.lemmas.Bool.{cases_eq, cases_lt, eq-eqb, ne_eqb}
 use Rattle.std.specs.List.{All, AllPairs, Contains}
 use Rattle.std.proofs.lemmas.List.Elements.{All-cons, All-contains, Contains-get_or}
 use Rattle.std.proofs.lemmas.List.Kept.{AllPairs-cons}
-use Rattle.ipnetwork_family.specs.Network.{Network, IsNetwork, Member, low, high}
+use Rattle.ipnetwork_family.specs.Network.{Network, IsNetwork, IsCidrBlock, Member, low, high}
 use Rattle.ipnetwork_family.proofs.Blocks.{size_pos, within_member, member_within}
 use Rattle.ipnetwork_blocks.specs.Ranges.{FromTo}
 use Rattle.ipnetwork_blocks.specs.Aggregate.{InUnion}
 use Rattle.ipnetwork_blocks.specs.AggregateLaws.{AggregateIsApart}
-use Rattle.ipnetwork_blocks.specs.Private.Joining.{IsBlockNetwork}
 use Rattle.ipnetwork_blocks.proofs.LeastLists.{contains_cons, contains_head, contains_tail, contains_nil, pairs_tail, pairs_head}
 use Rattle.ipnetwork_sets.specs.Sets.{IsAddressSet}
 use Rattle.ipnetwork_sets.specs.RangeLists.{InRanges, IsRangeList}
@@ -145,7 +144,7 @@ nothing S none = record {
 pub runs_are_ranges : (w : ℕ) (bs : List Network) → AggregateIsApart → IsAddressSet w bs → IsRangeList (InUnion w bs) (runs w bs)
 runs_are_ranges w [] apart h = subst (IsRangeList (InUnion w [])) (sym (runs_nil w)) (nothing (InUnion w []) (union_nil w))
 runs_are_ranges w (b ∷ bs) apart h =
-    let hb : IsBlockNetwork w b = set_block w (b ∷ bs) b h (contains_head b bs) in
+    let hb : IsCidrBlock w b = set_block w (b ∷ bs) b h (contains_head b bs) in
     let pos = size_pos w b.prefix in
     subst (IsRangeList (InUnion w (b ∷ bs))) (sym (runs_cons w b bs))
     (front_is_list (InUnion w (b ∷ bs)) (InUnion w bs) (low w b) (high w b) (runs w bs) (omega arith)
@@ -195,7 +194,7 @@ pub run_goes_on : (w : ℕ) (first : Network) (entry : List Network) (last b : N
 run_goes_on w first entry last b left after apart h e t =
     let tail : IsAddressSet w left = tail_is_set w last left apart h.set in
     let set : IsAddressSet w (b ∷ after) = subst (IsAddressSet w) e tail in
-    let hb : IsBlockNetwork w b = set_block w (b ∷ after) b set (contains_head b after) in
+    let hb : IsCidrBlock w b = set_block w (b ∷ after) b set (contains_head b after) in
     let block = hb.block in
     record {
       set = set;
@@ -213,7 +212,7 @@ pub run_ends : (w : ℕ) (first : Network) (entry : List Network) (last b : Netw
     → IsRunning w first entry last left → left ≡ b ∷ after → ¬ (Touches w last b) → runs w (first ∷ entry) ≡ (low w first, high w last) ∷ runs w (b ∷ after)
 run_ends w first entry last b left after apart h e t =
     let tail : IsAddressSet w left = tail_is_set w last left apart h.set in
-    let hb : IsBlockNetwork w b = set_block w (b ∷ after) b (subst (IsAddressSet w) e tail) (contains_head b after) in
+    let hb : IsCidrBlock w b = set_block w (b ∷ after) b (subst (IsAddressSet w) e tail) (contains_head b after) in
     let block = hb.block in
     let front = runs_cons w b after in
     h.same ∙ ap (λ l. put_in_front (low w first, high w last) (runs w l)) e ∙ ap (put_in_front (low w first, high w last)) front

@@ -2,12 +2,12 @@
 use Rattle.std.proofs.Common.{◌≡◌, ◌↔◌, ℕ, suc, ◌<◌, ◌≤◌, ◌⊎◌, inl, inr, sym, subst, arith, ⊎_elim, List, [], ◌∷◌}
 use Rattle.std.proofs.lemmas.Bool.{cases_lt}
 use Rattle.std.specs.List.{Contains}
-use Rattle.ipnetwork_family.specs.Network.{Network, IsNetwork, Member, Subnet, low, high}
+use Rattle.ipnetwork_family.specs.Network.{Network, IsNetwork, IsCidrBlock, Member, Subnet, low, high}
 use Rattle.ipnetwork_family.proofs.Blocks.{size_pos, has_ends, within_member, member_within, subnet_from, shares_address, nested}
 use Rattle.ipnetwork_blocks.specs.LeastList.{LiesIn, IsMaximalIn, IsLeastList}
 use Rattle.ipnetwork_blocks.specs.Aggregate.{InUnion}
 use Rattle.ipnetwork_blocks.specs.AggregateLaws.{AggregateIsApart}
-use Rattle.ipnetwork_blocks.specs.Private.Joining.{Follows, AreJoined, IsBlockNetwork}
+use Rattle.ipnetwork_blocks.specs.Private.Joining.{Follows, AreJoined}
 use Rattle.ipnetwork_blocks.proofs.LeastLists.{own_address, contains_cons, contains_head, contains_tail, contains_nil, pairs_tail, pairs_head, least_of_same, least_of_one, least_of_two, least_unique}
 use Rattle.ipnetwork_sets.specs.Sets.{IsAddressSet}
 use Rattle.ipnetwork_sets.proofs.Lists.{set_is_joined, joined_is_set, set_block}
@@ -81,14 +81,14 @@ pub union_behind : (w : ℕ) (b : Network) (bs : List Network) → AggregateIsAp
 union_behind w b bs law h x c =
     let R : Network → Network → Type 0 = λ a b. high w a < b.address in
     let l : high w b < c.0.address = pairs_head R b bs (law w (b ∷ bs) (b ∷ bs) h) c.0 c.1 in
-    let k : IsBlockNetwork w c.0 = set_block w (b ∷ bs) c.0 h (contains_tail b bs c.0 c.1) in
+    let k : IsCidrBlock w c.0 = set_block w (b ∷ bs) c.0 h (contains_tail b bs c.0 c.1) in
     let i = within_member w c.0 x c.2 in
     omega (arith, i.0, k.block)
 
 -- none comes before the address of the first
 pub union_from : (w : ℕ) (b : Network) (bs : List Network) → AggregateIsApart → IsAddressSet w (b ∷ bs) → (x : ℕ) → InUnion w (b ∷ bs) x → b.address ≤ x
 union_from w b bs law h x c =
-    let k : IsBlockNetwork w b = set_block w (b ∷ bs) b h (contains_head b bs) in
+    let k : IsCidrBlock w b = set_block w (b ∷ bs) b h (contains_head b bs) in
     let pos = size_pos w b.prefix in
     ⊎_elim
     (λ (m : Member w b x). let i = within_member w b x m in omega (arith, i.0, k.block))
@@ -108,7 +108,7 @@ maximal_in_part w S T b m part lies = record {
 }
 
 -- of two blocks that share an address the one with the longer prefix length lies in the other
-pub smaller_inside : (w : ℕ) (m n : Network) → IsBlockNetwork w m → IsBlockNetwork w n → (high w m < n.address → ⊥) → (high w n < m.address → ⊥) → n.prefix ≤ m.prefix → Subnet w m n
+pub smaller_inside : (w : ℕ) (m n : Network) → IsCidrBlock w m → IsCidrBlock w n → (high w m < n.address → ⊥) → (high w n < m.address → ⊥) → n.prefix ≤ m.prefix → Subnet w m n
 smaller_inside w m n hm hn not_before not_behind le =
     let pm = size_pos w m.prefix in
     let pn = size_pos w n.prefix in

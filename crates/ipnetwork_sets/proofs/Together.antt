@@ -3,14 +3,13 @@ use Rattle.std.proofs.Common.{◌≡◌, ◌↔◌, ℕ, ◌+◌, ◌^◌, ◌<�
 use Rattle.std.proofs.lemmas.Bool.{cases_lt}
 use Rattle.std.proofs.lemmas.List.{length-map}
 use Rattle.std.specs.Iterator.{MakesProgress, item_count}
-use Rattle.ipnetwork_family.specs.Network.{Network, IsNetwork, Member, low, high}
+use Rattle.ipnetwork_family.specs.Network.{Network, IsNetwork, IsCidrBlock, Member, low, high}
 use Rattle.ipnetwork_family.proofs.Blocks.{size_pos, has_ends, high_fits, within_member, member_within}
 use Rattle.ipnetwork_blocks.specs.LeastList.{LiesIn, IsLeastList}
 use Rattle.ipnetwork_blocks.specs.LeastListLaws.{RangeIsShortest}
 use Rattle.ipnetwork_blocks.specs.Aggregate.{InUnion}
 use Rattle.ipnetwork_blocks.specs.AggregateLaws.{AggregateIsApart}
 use Rattle.ipnetwork_blocks.specs.Ranges.{FromTo}
-use Rattle.ipnetwork_blocks.specs.Private.Joining.{IsBlockNetwork}
 use Rattle.ipnetwork_blocks.proofs.LeastLists.{own_address, contains_head, least_of_none, least_of_two, least_unique}
 use Rattle.ipnetwork_sets.specs.Sets.{IsAddressSet, InEither}
 use Rattle.ipnetwork_sets.specs.Private.LeastBlocks.{in_union, either_blocks}
@@ -22,7 +21,7 @@ use Rattle.ipnetwork_sets.proofs.Steps.{tail_is_set, union_cons, union_nil, unio
 -- ---- a run that grows
 
 -- the addresses from s to l, and then those of a block that goes on with them
-run_grows : (w : ℕ) (S R T : ℕ → Type 0) (s l last : ℕ) (b : Network) → IsBlockNetwork w b → ((x : ℕ) → R x ↔ (Member w b x ⊎ T x)) → s ≤ b.address → b.address ≤ l + 1
+run_grows : (w : ℕ) (S R T : ℕ → Type 0) (s l last : ℕ) (b : Network) → IsCidrBlock w b → ((x : ℕ) → R x ↔ (Member w b x ⊎ T x)) → s ≤ b.address → b.address ≤ l + 1
     → IsLater l (high w b) last → ((x : ℕ) → S x ↔ (FromTo s l x ⊎ R x)) → (x : ℕ) → S x ↔ (FromTo s last x ⊎ T x)
 run_grows w S R T s l last b hb split from to later parts x =
     let block = hb.block in
@@ -81,7 +80,7 @@ pub record IsGrowing (w : ℕ) (first second : List Network) (start last : ℕ) 
   pub parts : (x : ℕ) → InEither w first second x ↔ (FromTo start last x ⊎ InEither w others rest x)
   pub from : (x : ℕ) → InEither w others rest x → start ≤ x
 
-one_block : (w : ℕ) (b : Network) → IsBlockNetwork w b → (x : ℕ) → Member w b x ↔ FromTo (low w b) (high w b) x
+one_block : (w : ℕ) (b : Network) → IsCidrBlock w b → (x : ℕ) → Member w b x ↔ FromTo (low w b) (high w b) x
 one_block w b hb x =
     let pos = size_pos w b.prefix in (
       (λ m. let i = within_member w b x m in let a = i.0 in let z = i.1 in (a, omega arith)),
@@ -94,7 +93,7 @@ not_before : (w : ℕ) (list : List Network) (at : ℕ) → AggregateIsApart →
 not_before w [] at apart h low x c = absurd (union_nil w x c)
 not_before w (b ∷ bs) at apart h low x c = let l = low b bs refl in let m = union_from w b bs apart h x c in omega arith
 
-begin : (w : ℕ) (S R : ℕ → Type 0) (b : Network) → IsBlockNetwork w b → ((x : ℕ) → S x ↔ (Member w b x ⊎ R x)) → (x : ℕ) → S x ↔ (FromTo (low w b) (high w b) x ⊎ R x)
+begin : (w : ℕ) (S R : ℕ → Type 0) (b : Network) → IsCidrBlock w b → ((x : ℕ) → S x ↔ (Member w b x ⊎ R x)) → (x : ℕ) → S x ↔ (FromTo (low w b) (high w b) x ⊎ R x)
 begin w S R b hb split x =
     let same = one_block w b hb x in (
       (λ s. ⊎_elim (λ (m : Member w b x). inl (same.0 m)) (λ (r : R x). inr r) ((split x).0 s)),
@@ -102,7 +101,7 @@ begin w S R b hb split x =
     )
 
 module _ (w : ℕ) (apart : AggregateIsApart) where
-  starts : (b : Network) (others rest : List Network) (S : ℕ → Type 0) → IsBlockNetwork w b → IsAddressSet w others → IsAddressSet w rest
+  starts : (b : Network) (others rest : List Network) (S : ℕ → Type 0) → IsCidrBlock w b → IsAddressSet w others → IsAddressSet w rest
       → ((x : ℕ) → S x ↔ (Member w b x ⊎ InEither w others rest x))
       → ((x : ℕ) → InUnion w others x → b.address ≤ x) → ((x : ℕ) → InUnion w rest x → b.address ≤ x)
       → (first second : List Network) → ((x : ℕ) → InEither w first second x ↔ S x) → IsGrowing w first second (low w b) (high w b) others rest
@@ -129,7 +128,7 @@ module _ (w : ℕ) (apart : AggregateIsApart) where
       (λ (p : (first ≡ b ∷ others) × (second ≡ rest)).
       let set : IsAddressSet w (b ∷ others) = subst (IsAddressSet w) p.0 hf in
       let hr : IsAddressSet w rest = subst (IsAddressSet w) p.1 hs in
-      let hb : IsBlockNetwork w b = set_block w (b ∷ others) b set (contains_head b others) in
+      let hb : IsCidrBlock w b = set_block w (b ∷ others) b set (contains_head b others) in
       starts b others rest (InEither w (b ∷ others) rest) hb (tail_is_set w b others apart set) hr (either_first w b others rest)
       (λ x c. let l = union_behind w b others apart set x c in let pos = size_pos w b.prefix in omega (arith, l, hb.block, pos))
       (not_before w rest b.address apart hr (λ c more e. is.lowest c more (inr (p.1 ∙ e))))
@@ -141,7 +140,7 @@ module _ (w : ℕ) (apart : AggregateIsApart) where
       (λ (p : (first ≡ others) × (second ≡ b ∷ rest)).
       let set : IsAddressSet w (b ∷ rest) = subst (IsAddressSet w) p.1 hs in
       let ho : IsAddressSet w others = subst (IsAddressSet w) p.0 hf in
-      let hb : IsBlockNetwork w b = set_block w (b ∷ rest) b set (contains_head b rest) in
+      let hb : IsCidrBlock w b = set_block w (b ∷ rest) b set (contains_head b rest) in
       starts b others rest (InEither w others (b ∷ rest)) hb ho (tail_is_set w b rest apart set) (either_second w b others rest)
       (not_before w others b.address apart ho (λ c more e. is.lowest c more (inl (p.0 ∙ e))))
       (λ x c. let l = union_behind w b rest apart set x c in let pos = size_pos w b.prefix in omega (arith, l, hb.block, pos))
@@ -157,7 +156,7 @@ module _ (w : ℕ) (apart : AggregateIsApart) where
     pub grows_by_first : (after : List Network) → others ≡ b ∷ after → IsGrowing w first second start next after rest
     grows_by_first after e =
         let set : IsAddressSet w (b ∷ after) = subst (IsAddressSet w) e h.others_are_set in
-        let hb : IsBlockNetwork w b = set_block w (b ∷ after) b set (contains_head b after) in
+        let hb : IsCidrBlock w b = set_block w (b ∷ after) b set (contains_head b after) in
         let own : Member w b b.address = own_address w b hb.network in
         let here : InEither w others rest b.address = inl (subst (λ (l : List Network). InUnion w l b.address) (sym e) ((union_cons w b after b.address).1 (inl own))) in
         let top = high_fits w b hb.network in
@@ -181,7 +180,7 @@ module _ (w : ℕ) (apart : AggregateIsApart) where
     pub grows_by_second : (after : List Network) → rest ≡ b ∷ after → IsGrowing w first second start next others after
     grows_by_second after e =
         let set : IsAddressSet w (b ∷ after) = subst (IsAddressSet w) e h.rest_is_set in
-        let hb : IsBlockNetwork w b = set_block w (b ∷ after) b set (contains_head b after) in
+        let hb : IsCidrBlock w b = set_block w (b ∷ after) b set (contains_head b after) in
         let own : Member w b b.address = own_address w b hb.network in
         let here : InEither w others rest b.address = inr (subst (λ (l : List Network). InUnion w l b.address) (sym e) ((union_cons w b after b.address).1 (inl own))) in
         let top = high_fits w b hb.network in

@@ -7,12 +7,11 @@ use Rattle.std.proofs.lemmas.List.{length-append}
 use Rattle.std.specs.List.{Contains}
 use Rattle.std.proofs.lemmas.List.Elements.{Contains-append_left, Contains-append_right, Contains-append_cases}
 use Rattle.std.proofs.lemmas.List.Kept.{AllPairs-from_increasing}
-use Rattle.ipnetwork_family.specs.Network.{Network, Member, block_size, low, members}
+use Rattle.ipnetwork_family.specs.Network.{Network, IsCidrBlock, Member, block_size, low, members}
 use Rattle.ipnetwork_family.proofs.Blocks.{size_pos, high_fits, within_member}
 use Rattle.ipnetwork_family.proofs.Members.{lists_members, length-count_up}
 use Rattle.ipnetwork_blocks.specs.Aggregate.{InUnion}
 use Rattle.ipnetwork_blocks.specs.AggregateLaws.{AggregateIsApart}
-use Rattle.ipnetwork_blocks.specs.Private.Joining.{IsBlockNetwork}
 use Rattle.ipnetwork_blocks.proofs.LeastLists.{own_address, contains_nil, contains_head, pairs_append}
 use Rattle.ipnetwork_sets.specs.Counts.{HasCount, total}
 use Rattle.ipnetwork_sets.specs.Sets.{IsAddressSet}
@@ -50,7 +49,7 @@ counts_more w count next ns more n e f g =
 pub total_fits : (w : ℕ) (bs : List Network) (from : ℕ) → AggregateIsApart → IsAddressSet w bs → ((x : ℕ) → InUnion w bs x → from ≤ x) → from ≤ 2 ^ w → from + total w bs ≤ 2 ^ w
 total_fits w [] from apart h all fits = omega arith
 total_fits w (b ∷ bs) from apart h all fits =
-    let hb : IsBlockNetwork w b = set_block w (b ∷ bs) b h (contains_head b bs) in
+    let hb : IsCidrBlock w b = set_block w (b ∷ bs) b h (contains_head b bs) in
     let own : from ≤ b.address = all b.address ((union_cons w b bs b.address).1 (inl (own_address w b hb.network))) in
     let pos = size_pos w b.prefix in
     let top = high_fits w b hb.network in
@@ -67,7 +66,7 @@ counted w [] apart h = record {
   count = refl;
 }
 counted w (b ∷ bs) apart h =
-    let hb : IsBlockNetwork w b = set_block w (b ∷ bs) b h (contains_head b bs) in
+    let hb : IsCidrBlock w b = set_block w (b ∷ bs) b h (contains_head b bs) in
     let first = lists_members w b hb.network in
     let rest = counted w bs apart (tail_is_set w b bs apart h) in
     record {

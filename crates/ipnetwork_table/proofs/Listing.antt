@@ -15,7 +15,7 @@ use Rattle.ipnetwork_table.proofs.Pairs.{total, one_network, tie_of, before, fir
 nothing : {A : Type 0} (a : A) → None ≡ Some a → ⊥
 nothing a e = let f : false ≡ true = ap is_some e in cc
 
-same_value : {A : Type 0} (a b : A) → Some a ≡ Some b → a ≡ b
+pub same_value : {A : Type 0} (a b : A) → Some a ≡ Some b → a ≡ b
 same_value a b same = ap (λ o. unwrap_or o a) same
 
 is_before : (m n : Network) → network_cmp m n ≡ Less → IsNetworkBefore m n
@@ -88,7 +88,7 @@ module _ {V : Type 0} where
       let block_d = blocks d.0 (ap is_some (listed_is_stored t i d.0 d.1 at_i)) in
       let block_e = blocks e.0 (ap is_some (listed_is_stored t j e.0 e.1 at_j)) in
       let ahead = entries_ascend t i j d e at_i at_j less in
-      let behind = subnet_after w e.0 d.0 block_e.0 block_d.0 block_e.1 block_d.1 inside in
+      let behind = subnet_after w e.0 d.0 block_e.network block_d.network block_e.block block_d.block inside in
       ⊎_elim
       (λ (low : d.0.address < e.0.address). ⊎_elim
       (λ (high : e.0.address < d.0.address). omega (arith, low, high))

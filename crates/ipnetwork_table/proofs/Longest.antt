@@ -53,14 +53,14 @@ taken_out_again t n v new = same_map total one_network _ _ (λ m.
 
 module _ {V : Type 0} (w : ℕ) where
   pub none_above_width : (t : Table V) (x : ℕ) → HasBlocksAlone w t → NoneAbove w t x w
-  none_above_width t x blocks n stored above holds = let fits = (blocks n stored).0 in omega (arith, fits.prefix_fits, above)
+  none_above_width t x blocks n stored above holds = let fits = (blocks n stored).network in omega (arith, fits.prefix_fits, above)
 
   -- after a look-up at p that found nothing
   none_from : (t : Table V) (x p : ℕ) → HasBlocksAlone w t → NoneAbove w t x p → get t (block_at w x p) ≡ None
       → (n : Network) → IsSome (get t n) → p ≤ n.prefix → ¬ (Member w n x)
   none_from t x p blocks above none n stored from holds = ⊎_elim
       (λ (more : p < n.prefix). above n stored more holds)
-      (λ (same : n.prefix ≤ p). nothing (subst IsSome (ap (get t) (block_at_is w n x p (blocks n stored).1 holds (omega arith)) ∙ none) stored))
+      (λ (same : n.prefix ≤ p). nothing (subst IsSome (ap (get t) (block_at_is w n x p (blocks n stored).block holds (omega arith)) ∙ none) stored))
       (cases_lt p n.prefix)
 
   pub none_above_next : (t : Table V) (x p : ℕ) → HasBlocksAlone w t → NoneAbove w t x p → get t (block_at w x p) ≡ None → 0 < p → NoneAbove w t x (p - 1)

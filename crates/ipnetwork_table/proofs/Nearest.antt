@@ -74,19 +74,19 @@ module _ {V W : Type 0} where
   pub none_near : (w x : ℕ) (t : FinMap network_cmp V) (s : FinMap network_cmp W) → HasBlocksAlone w t → HaveTheSame t s → NoneUpTo s (block_at w x w) → NoneHolds w t x
   none_near w x t s blocks same none n stored holds =
       let key = blocks n stored in
-      none n ((same n).0 stored) (up_to_address w x n key.0 key.1 holds)
+      none n ((same n).0 stored) (up_to_address w x n key.network key.block holds)
 
   -- no stored block that holds x has a longer prefix than x shares with the last one
   pub none_above_shared : (w x c : ℕ) (k : Network) (t : FinMap network_cmp V) (s : FinMap network_cmp W) → HasBlocksAlone w t → HaveTheSame t s
       → IsLastUpTo s (block_at w x w) k → ShareAtMost w x k.address c → NoneAbove w t x c
   none_above_shared w x c k t s blocks same last shared n stored beyond holds =
       let key = blocks n stored in
-      let upper : IsNetworkAtMost n (block_at w x w) = up_to_address w x n key.0 key.1 holds in
+      let upper : IsNetworkAtMost n (block_at w x w) = up_to_address w x n key.network key.block holds in
       let lower : n.address ≤ k.address = address_up_to n k (last.2 n ((same n).0 stored) upper) in
       let most : k.address ≤ x = omega (arith, address_up_to k (block_at w x w) last.1, whole w x) in
       let ends = within_member w n x holds in
-      let inside : Member w n k.address = member_within w n key.0 k.address (omega (arith, lower, key.1)) (omega (arith, most, ends.1)) in
-      shared n.prefix beyond key.0.prefix_fits (inside.0, inside.1 ∙ sym holds.1)
+      let inside : Member w n k.address = member_within w n key.network k.address (omega (arith, lower, key.block)) (omega (arith, most, ends.1)) in
+      shared n.prefix beyond key.network.prefix_fits (inside.0, inside.1 ∙ sym holds.1)
 
   -- nor than that of the last one, where that holds x too
   pub none_above_near : (w x : ℕ) (k : Network) (t : FinMap network_cmp V) (s : FinMap network_cmp W) → HasBlocksAlone w t → HaveTheSame t s
@@ -94,9 +94,9 @@ module _ {V W : Type 0} where
   none_above_near w x k t s blocks same last here n stored beyond holds =
       let key = blocks n stored in
       let near = blocks k ((same k).1 last.0) in
-      let inside : Subnet w n k = subnet_from w n k key.0 (omega (arith, beyond)) (shares_address w n k x (omega (arith, beyond)) key.0 near.0 holds here) in
-      let after : IsNetworkAtMost k n = subnet_after w k n near.0 key.0 near.1 key.1 inside in
-      let upper : IsNetworkAtMost n k = last.2 n ((same n).0 stored) (up_to_address w x n key.0 key.1 holds) in
+      let inside : Subnet w n k = subnet_from w n k key.network (omega (arith, beyond)) (shares_address w n k x (omega (arith, beyond)) key.network near.network holds here) in
+      let after : IsNetworkAtMost k n = subnet_after w k n near.network key.network near.block key.block inside in
+      let upper : IsNetworkAtMost n k = last.2 n ((same n).0 stored) (up_to_address w x n key.network key.block holds) in
       let from : k.address ≤ n.address = address_up_to k n after in
       ⊎_elim
       (λ (less : n.address < k.address). omega (arith, less, from))

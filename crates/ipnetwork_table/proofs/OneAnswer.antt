@@ -1,7 +1,6 @@
 -- There is one answer to a look-up, and never more.
 use Rattle.std.proofs.Common.{◌≡◌, ℕ, zero, suc, ◌-◌, ◌^◌, ◌<◌, ◌≤◌, Option, Some, None, sym, refl, ap, subst, ◌∙◌, arith, ⊎_elim, is_some}
 use Rattle.std.specs.Prelude.{IsSome}
-use Rattle.std.specs.Option.{unwrap_or}
 use Rattle.std.specs.FinMap.{FinMap, get}
 use Rattle.std.proofs.lemmas.Bool.{cases_lt}
 use Rattle.ipnetwork_family.specs.Network.{Network, network_cmp, block_at}
@@ -9,13 +8,11 @@ use Rattle.ipnetwork_family.proofs.BlocksAt.{same_block}
 use Rattle.ipnetwork_table.specs.Laws.{BlocksOfAnyWidthThatMeet}
 use Rattle.ipnetwork_table.specs.Table.{HasBlocksAlone, HasNoHostBits, IsLongest, found_by_pair, Finds, Answers}
 use Rattle.ipnetwork_table.specs.Private.Nearest.{NoneAbove}
+use Rattle.ipnetwork_table.proofs.Listing.{same_value}
 use Rattle.ipnetwork_table.proofs.Longest.{none_above_width, none_above_next, none_at_all, longest_here}
 
 pub blocks_meet : BlocksOfAnyWidthThatMeet
 blocks_meet w m n x block_m block_n same in_m in_n = same_block w m n block_m block_n same x in_m in_n
-
-same_value : {A : Type 0} (a b : A) → Some a ≡ Some b → a ≡ b
-same_value a b same = ap (λ o. unwrap_or o a) same
 
 module _ {V : Type 0} (w : ℕ) (t : FinMap network_cmp V) (x : ℕ) (blocks : HasBlocksAlone w t) where
   abbrev Found : Type 0

@@ -1,17 +1,12 @@
 -- Blocks that are joined as far as they go: what stands in front while a list is aggregated.
 use Rattle.std.specs.Prelude.{◌≡◌, ℕ, ◌+◌, ◌-◌, ◌<◌, List, length, slice_index_or}
 use Rattle.std.specs.List.{All, AllPairs}
-use Rattle.ipnetwork_family.specs.Network.{Network, IsNetwork, HostBitsAreZero, Member, high, IsNetworkAtMost, Subnet}
+use Rattle.ipnetwork_family.specs.Network.{Network, IsCidrBlock, Member, high, IsNetworkAtMost, Subnet}
 use Rattle.ipnetwork_blocks.specs.Supernets.{parent}
 
 -- of two blocks that differ: they are the halves of one block
 abbrev pub AreHalves : ℕ → Network → Network → Type 0
 AreHalves w a b = (a.prefix ≡ b.prefix) × (0 < a.prefix) × Member w (parent w a) b.address
-
--- a network without host bits
-pub record IsBlockNetwork (w : ℕ) (b : Network) : Type 0 where
-  pub network : IsNetwork w b
-  pub block : HostBitsAreZero w b
 
 -- b begins after a has ended, and they are no halves of one block
 abbrev pub Follows : ℕ → Network → Network → Type 0
@@ -19,7 +14,7 @@ Follows w a b = (high w a < b.address) × ¬ (AreHalves w a b)
 
 -- blocks in ascending order and apart, no two of them the halves of one block
 pub record AreJoined (w : ℕ) (list : List Network) : Type 0 where
-  pub blocks : All (IsBlockNetwork w) list
+  pub blocks : All (IsCidrBlock w) list
   pub pairs : AllPairs (Follows w) list
 
 -- each network is at most the next one in order

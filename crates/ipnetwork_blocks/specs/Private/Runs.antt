@@ -13,7 +13,7 @@ blocks_left w (Some first) last =
 -- the first is a block of the same prefix length as the last, and is that or comes before it
 pub record IsRun (w : ℕ) (first last : Network) : Type 0 where
   pub network : IsNetwork w last
-  pub length : first.prefix ≡ last.prefix
+  pub as_long : first.prefix ≡ last.prefix
   pub first_begins : HostBitsAreZero w first
   pub last_begins : HostBitsAreZero w last
   pub ordered : first.address ≤ last.address

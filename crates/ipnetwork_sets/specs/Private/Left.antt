@@ -1,16 +1,15 @@
 -- The part of a block that is not in a set, from an address on.
 use Rattle.std.specs.Prelude.{◌≡◌, ℕ, ◌+◌, ◌<◌, ◌≤◌, ◌⊎◌, ◌↔◌, List, [], ◌∷◌, Option, None, Some}
-use Rattle.ipnetwork_family.specs.Network.{Network, Member, Subnet, low, high}
+use Rattle.ipnetwork_family.specs.Network.{Network, IsCidrBlock, Member, Subnet, low, high}
 use Rattle.ipnetwork_blocks.specs.Supernets.{parent}
 use Rattle.ipnetwork_blocks.specs.LeastList.{LiesIn}
 use Rattle.ipnetwork_blocks.specs.Aggregate.{InUnion}
-use Rattle.ipnetwork_blocks.specs.Private.Joining.{IsBlockNetwork}
 use Rattle.ipnetwork_sets.specs.Sets.{IsAddressSet}
 
 -- a block, and a block within it
 pub record IsPiece (w : ℕ) (whole piece : Network) : Type 0 where
-  pub whole_is : IsBlockNetwork w whole
-  pub piece_is : IsBlockNetwork w piece
+  pub whole_is : IsCidrBlock w whole
+  pub piece_is : IsCidrBlock w piece
   pub within : Subnet w piece whole
 
 -- x is an address of the block, not before `from` and not one of the cut set

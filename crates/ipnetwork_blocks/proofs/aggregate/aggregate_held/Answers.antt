@@ -2,9 +2,8 @@ use Rattle.std.proofs.Common.{ℕ, subst, List, map, take}
 use Rattle.std.proofs.lemmas.List.{take-map}
 use Rattle.std.proofs.lemmas.List.Sorted.{All-permutation, IsPermutation-map}
 use Rattle.std.specs.List.Sorted.{IsPermutation}
-use Rattle.ipnetwork_family.specs.Network.{Network}
+use Rattle.ipnetwork_family.specs.Network.{Network, IsCidrBlock}
 use Rattle.ipnetwork_blocks.specs.Aggregate.{IsAggregate}
-use Rattle.ipnetwork_blocks.specs.Private.Joining.{IsBlockNetwork}
 use Rattle.ipnetwork_blocks.proofs.AggregateMapped.{in_order_from_sort}
 use Rattle.ipnetwork_blocks.proofs.AggregateClearing.{aggregate_of_sorted}
 use Rattle.ipnetwork_blocks.proofs.aggregate.aggregate_held.Goals as goal
@@ -15,7 +14,7 @@ join_sorted-requires-clause-held g c =
 
 pub join_sorted-requires-clause-blocks : goal.join_sorted-requires-clause-blocks
 join_sorted-requires-clause-blocks g c =
-    All-permutation (IsBlockNetwork g.N.CidrNetwork.WIDTH) (map g.H.HoldsNetwork.held c.clear_host_bits.new.values) (map g.H.HoldsNetwork.held c.sort_unstable.new.self)
+    All-permutation (IsCidrBlock g.N.CidrNetwork.WIDTH) (map g.H.HoldsNetwork.held c.clear_host_bits.new.values) (map g.H.HoldsNetwork.held c.sort_unstable.new.self)
     (IsPermutation-map g.H.HoldsNetwork.held c.clear_host_bits.new.values c.sort_unstable.new.self c.sort_unstable.ensures.permutation) c.clear_host_bits.ensures.blocks
 
 pub join_sorted-requires-clause-order : goal.join_sorted-requires-clause-order

@@ -1,8 +1,7 @@
 use Rattle.std.proofs.Common.{◌≡◌, ◌+◌, ℕ, List, arith, ◌∙◌, ap, sym, subst, map}
 use Rattle.std.proofs.lemmas.List.{length-map, map-set}
 use Rattle.std.proofs.lemmas.List.Elements.{All-set}
-use Rattle.ipnetwork_family.specs.Network.{Network, block_of}
-use Rattle.ipnetwork_blocks.specs.Private.Joining.{IsBlockNetwork}
+use Rattle.ipnetwork_family.specs.Network.{Network, IsCidrBlock, block_of}
 use Rattle.ipnetwork_blocks.proofs.AggregateMapped.{read_map}
 use Rattle.ipnetwork_blocks.proofs.AggregateClearing.{IsClearing, clearing_more, cleared}
 use Rattle.ipnetwork_blocks.proofs.aggregate.clear_host_bits.Goals as goal
@@ -19,7 +18,7 @@ loop-value-preserved g c =
     let is = read_map g.H.HoldsNetwork.held c.loop-value.values i c.value-item.result (omega arith) c.value-item.is in
     let made : v ≡ block_of w (g.N.CidrNetwork.pair c.held_network.result) = c.holding.ensures.1 ∙ c.block.ensures.made in
     let one : v ≡ block_of w (g.H.HoldsNetwork.held c.value-item.result) = made ∙ ap (block_of w) (c.held_network.ensures ∙ ap g.H.HoldsNetwork.held (sym c.value-item.is)) in
-    let is_block : IsBlockNetwork w v = subst (λ (n : Network). IsBlockNetwork w n) (sym c.holding.ensures.1)
+    let is_block : IsCidrBlock w v = subst (λ (n : Network). IsCidrBlock w n) (sym c.holding.ensures.1)
     (record { network = c.block.ensures.network; block = c.block.ensures.no_host_bits }) in (
       All-set g.H.HoldsNetwork.holds c.loop-value.values i c.holding.result c.holding.ensures.0 c.loop-value.invariant.0,
       subst (λ (t : List Network). IsClearing w xs t (i + 1)) (sym (map-set g.H.HoldsNetwork.held c.loop-value.values i c.holding.result))

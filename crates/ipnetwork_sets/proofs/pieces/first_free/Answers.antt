@@ -1,9 +1,8 @@
 use Rattle.std.proofs.Common.{◌≡◌, ◌∷◌, ◌+◌, ◌<◌, ℕ, List, map, ap, sym, subst, arith}
 use Rattle.std.proofs.lemmas.Bool.{iff_false}
-use Rattle.ipnetwork_family.specs.Network.{Network, Member, high}
+use Rattle.ipnetwork_family.specs.Network.{Network, IsCidrBlock, Member, high}
 use Rattle.ipnetwork_family.proofs.Blocks.{size_pos}
 use Rattle.ipnetwork_blocks.specs.Aggregate.{InUnion}
-use Rattle.ipnetwork_blocks.specs.Private.Joining.{IsBlockNetwork}
 use Rattle.ipnetwork_blocks.proofs.LeastLists.{contains_head}
 use Rattle.ipnetwork_sets.specs.Sets.{IsAddressSet}
 use Rattle.ipnetwork_sets.specs.Private.Left.{IsWidest, Skips}
@@ -64,7 +63,7 @@ returns-in_default-piece_behind-clause-free g c =
     let e : left ≡ b ∷ after = ap (map g.N.CidrNetwork.pair) c.in-Some.ensures.cases.0 in
     let i = c.loop-first.invariant in
     let set : IsAddressSet w (b ∷ after) = subst (λ (t : List Network). IsAddressSet w t) e i.set in
-    let hb : IsBlockNetwork w b = set_block w (b ∷ after) b set (contains_head b after) in
+    let hb : IsCidrBlock w b = set_block w (b ∷ after) b set (contains_head b after) in
     subst (λ (t : List Network). Skips w whole from cut (high w whole + 1) t) (sym e)
     (skips_piece w whole piece b from cut (high w whole + 1) after i.part (subst (λ (t : List Network). Skips w whole from cut piece.address t) e i.skips)
     (piece_in_first w piece b i.part.piece_is hb (iff_false c.ends_before.ensures c.if-ends_before.false)
@@ -96,7 +95,7 @@ loop-first-preserved-then-prefix g c =
     let e : left ≡ b ∷ after = ap (map g.N.CidrNetwork.pair) c.in-Some.ensures.cases.0 in
     let i = c.loop-first.invariant in
     let set : IsAddressSet w (b ∷ after) = subst (λ (t : List Network). IsAddressSet w t) e i.set in
-    let hb : IsBlockNetwork w b = set_block w (b ∷ after) b set (contains_head b after) in
+    let hb : IsCidrBlock w b = set_block w (b ∷ after) b set (contains_head b after) in
     let next : Network = g.N.CidrNetwork.pair c.in-Some-piece_behind.next in
     let behind = c.in-Some-piece_behind.ensures in
     record {
@@ -134,7 +133,7 @@ loop-first-preserved g c =
     let e : left ≡ b ∷ after = ap (map g.N.CidrNetwork.pair) c.in-Some.ensures.cases.0 in
     let i = c.loop-first.invariant in
     let set : IsAddressSet w (b ∷ after) = subst (λ (t : List Network). IsAddressSet w t) e i.set in
-    let hb : IsBlockNetwork w b = set_block w (b ∷ after) b set (contains_head b after) in
+    let hb : IsCidrBlock w b = set_block w (b ∷ after) b set (contains_head b after) in
     let half : Network = g.N.CidrNetwork.pair c.lower_half-piece.result in
     let shorter : piece.prefix < w = omega (arith, c.prefix.ensures.made, c.prefix.ensures.network.prefix_fits, c.prefix-else-ends_before-2.ensures.made, c.if-prefix.false) in
     let is = half_is w whole piece half i.part shorter c.lower_half-piece.ensures in

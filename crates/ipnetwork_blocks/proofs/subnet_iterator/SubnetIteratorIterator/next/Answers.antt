@@ -19,7 +19,7 @@ invariant_of-self g c =
           v.self-is
       | else-eq v ↦ step_before_last w pair f l c.if-eq.self v.following-self-inside.result run
           (other_network g.N.PartialEq.eq g.N.Ord.cmp pair g.met.N.Ord.matches_eq g.met.N.CidrNetwork.network_order c.in_ok-item.item c.self.inside.last c.eq.result c.eq.ensures v.if-eq.false
-          run.length)
+          run.as_long)
           v.self-is v.following-self-inside.ensures
     ] in
     steps.ends
@@ -37,7 +37,7 @@ returns-clause-steps g c =
           v.self-is
       | else-eq v ↦ step_before_last w pair f l c.if-eq.self v.following-self-inside.result run
           (other_network g.N.PartialEq.eq g.N.Ord.cmp pair g.met.N.Ord.matches_eq g.met.N.CidrNetwork.network_order c.in_ok-item.item c.self.inside.last c.eq.result c.eq.ensures v.if-eq.false
-          run.length)
+          run.as_long)
           v.self-is v.following-self-inside.ensures
     ] in
     sym c.self.view_is ∙ list_of w pair c.self.inside.next c.if-eq.self c.in_ok-item.item l c.in_ok-item.was steps

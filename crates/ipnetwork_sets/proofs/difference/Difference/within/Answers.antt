@@ -1,7 +1,6 @@
 use Rattle.std.proofs.Common.{[], ℕ, map, refl, sym, subst, ◌↔◌}
-use Rattle.ipnetwork_family.specs.Network.{Network, Member}
+use Rattle.ipnetwork_family.specs.Network.{Network, IsCidrBlock, Member}
 use Rattle.ipnetwork_family.proofs.Blocks.{block_same_set}
-use Rattle.ipnetwork_blocks.specs.Private.Joining.{IsBlockNetwork}
 use Rattle.ipnetwork_sets.proofs.LeftParts.{widest_whole}
 use Rattle.ipnetwork_sets.proofs.LeftSets.{network_starts, one_block_is_set}
 use Rattle.ipnetwork_sets.proofs.difference.Difference.within.Goals as goal
@@ -10,7 +9,7 @@ pub invariant_of-result : goal.invariant_of-result
 invariant_of-result g c =
     let w : ℕ = g.N.CidrNetwork.WIDTH in
     let b : Network = g.N.CidrNetwork.pair c.block-whole.result in
-    let hb : IsBlockNetwork w b = record { network = c.block-whole.ensures.network; block = c.block-whole.ensures.no_host_bits } in (
+    let hb : IsCidrBlock w b = record { network = c.block-whole.ensures.network; block = c.block-whole.ensures.no_host_bits } in (
       one_block_is_set w b hb,
       c.requires,
       record { whole_is = hb; piece_is = hb; within = λ x m. m },

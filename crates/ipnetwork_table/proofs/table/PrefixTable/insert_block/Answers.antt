@@ -36,7 +36,7 @@ invariant_of-self-2 g c =
     let w = g.N.CidrNetwork.WIDTH in
     let block = g.N.CidrNetwork.pair c.args.block in
     rw (c.in_ok-old.ensures.set, c.in_default.ensures.put, c.prefix.ensures.made) (
-      with_block w c.self.inside.values block c.args.value (c.prefix.ensures.network, c.requires) c.self.invariant.0,
+      with_block w c.self.inside.values block c.args.value (record { network = c.prefix.ensures.network; block = c.requires }) c.self.invariant.0,
       marked_with c.self.inside.values c.self.inside.used block c.args.value (omega (arith, c.prefix.ensures.made, c.prefix.type_inv, c.self.told)) c.self.invariant.1,
       same_with c.self.inside.values c.self.inside.keys block c.args.value tt c.self.invariant.2,
     )
