@@ -18,9 +18,9 @@ pub record IsClearing (w : ℕ) (xs ys : List Network) (i : ℕ) : Type 0 where
 pub clearing_starts : (w : ℕ) (xs : List Network) → IsClearing w xs xs 0
 clearing_starts w xs = record { same = refl; blocks = λ k d l m. absurd (omega arith) }
 
-pub clearing_more : (w : ℕ) (xs ys : List Network) (i : ℕ) (x v : Network) → IsClearing w xs ys i → i < length xs → length ys ≡ length xs
+pub clearing_more : {w : ℕ} {xs ys : List Network} {i : ℕ} (x v : Network) → IsClearing w xs ys i → i < length xs → length ys ≡ length xs
     → x ≡ get_or ys i x → v ≡ block_of w x → IsCidrBlock w v → IsClearing w xs (set ys i v) (i + 1)
-clearing_more w xs ys i x v h l size is e b = record {
+clearing_more {w} {xs} {ys} {i} x v h l size is e b = record {
   same = ap (λ n. set ys i n) e ∙ map_over_more (block_of w) xs ys i x l h.same is;
   blocks = AllWithin-more_set ys i v (omega arith) (IsCidrBlock w) h.blocks b;
 }

@@ -76,9 +76,9 @@ joining_starts w r b hb after =
       order = inr (refl, omega arith);
     }
 
-pub joining_more : (w : ℕ) (r : List Network) (b : Network) (left : ℕ) (whole t : Network) → AreJoined w r → IsJoining w r b left whole → 0 < left
+pub joining_more : {w : ℕ} {r : List Network} {b : Network} {left : ℕ} {whole : Network} (t : Network) → AreJoined w r → IsJoining w r b left whole → 0 < left
     → t ≡ get_or r (left - 1) t → AreHalves w t whole → IsJoining w r b (left - 1) (parent w t)
-joining_more w r b left whole t h j some is s =
+joining_more {w} {r} {b} {left} {whole} t h j some is s =
     let bound = j.bound in
     let below : left - 1 < length r = omega arith in
     let back : left - 1 + 1 ≡ left = omega arith in

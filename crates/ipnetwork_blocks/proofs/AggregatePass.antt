@@ -97,16 +97,16 @@ passing_after w z xs next kept b blocks h l is out =
     (λ (none : kept ≤ 0). λ i d m. absurd (omega arith))
     (cases_lt 0 kept)
 
-pub passing_block : (w : ℕ) (z xs : List Network) (next kept : ℕ) (b : Network) → All (IsCidrBlock w) z → IsPassing w z xs next kept → next < length z
+pub passing_block : {w : ℕ} {z xs : List Network} {next kept : ℕ} (b : Network) → All (IsCidrBlock w) z → IsPassing w z xs next kept → next < length z
     → b ≡ get_or xs next b → IsCidrBlock w b
-passing_block w z xs next kept b blocks h l is =
+passing_block {w} {z} {xs} {next} {kept} b blocks h l is =
     subst (λ (n : Network). IsCidrBlock w n) (sym (h.rest next b (omega arith)) ∙ sym is) (blocks next b l)
 
-pub passing_places : (w : ℕ) (z xs : List Network) (next kept : ℕ) (b : Network) (left : ℕ) (whole : Network) → AreInOrder z
+pub passing_places : {w : ℕ} {z xs : List Network} {next kept : ℕ} (b : Network) (left : ℕ) (whole : Network) → AreInOrder z
     → IsPassing w z xs next kept → next < length z → b ≡ get_or xs next b → left ≤ kept
     → AreJoined w (take left (take kept xs) ++ whole ∷ []) → SameUnion w (take left (take kept xs) ++ whole ∷ []) (take kept xs ++ b ∷ []) → IsNetworkAtMost whole b
     → IsPassing w z (set xs left whole) (next + 1) (left + 1)
-passing_places w z xs next kept b left whole o h l is le joined union order =
+passing_places {w} {z} {xs} {next} {kept} b left whole o h l is le joined union order =
     let bound = h.bound in
     let size = h.size in
     let fits : left < length xs = omega arith in
@@ -145,17 +145,17 @@ last_is w z xs next kept b h some =
     let at : length (take kept xs) - 1 ≡ kept - 1 = omega arith in
     ap (λ k. get_or (take kept xs) k b) at ∙ get_or-take kept xs (kept - 1) b (omega arith)
 
-pub passing_skips_last : (w : ℕ) (z xs : List Network) (next kept : ℕ) (b : Network) → AreInOrder z → IsPassing w z xs next kept → next < length z
+pub passing_skips_last : {w : ℕ} {z xs : List Network} {next kept : ℕ} (b : Network) → AreInOrder z → IsPassing w z xs next kept → next < length z
     → b ≡ get_or xs next b → LiesInLast w (take kept xs) b → IsPassing w z xs (next + 1) kept
-passing_skips_last w z xs next kept b o h l is last =
+passing_skips_last {w} {z} {xs} {next} {kept} b o h l is last =
     let n = length-take kept xs in
     let m = last.0 in
     let some : 0 < kept = omega arith in
     passing_skips w z xs next kept b o h l is some (subst (λ (t : Network). Subnet w b t) (last_is w z xs next kept b h some) last.1)
 
-pub passing_after_last : (w : ℕ) (z xs : List Network) (next kept : ℕ) (b : Network) → All (IsCidrBlock w) z → IsPassing w z xs next kept → next < length z
+pub passing_after_last : {w : ℕ} {z xs : List Network} {next kept : ℕ} (b : Network) → All (IsCidrBlock w) z → IsPassing w z xs next kept → next < length z
     → b ≡ get_or xs next b → ¬ (LiesInLast w (take kept xs) b) → All (λ a. high w a < b.address) (take kept xs)
-passing_after_last w z xs next kept b blocks h l is out =
+passing_after_last {w} {z} {xs} {next} {kept} b blocks h l is out =
     let bound = h.bound in
     let size = h.size in
     let len : length (take kept xs) ≡ kept = length-take-le kept xs (omega arith) in

@@ -26,9 +26,9 @@ least_apart w first last n i r nn apart from to h =
     h
 
 -- networks that share one
-pub least_around : (w first last : ℕ) (n i : Network) (r s : List Network) → IsNetwork w n → IsNetwork w i → Overlap w n i → first ≡ low w n → last ≡ high w n
+pub least_around : {w : ℕ} {n i : Network} {r s : List Network} (first last : ℕ) → IsNetwork w n → IsNetwork w i → Overlap w n i → first ≡ low w n → last ≡ high w n
     → IsLeastList w (Before w first i) r → IsLeastList w (Behind w i last) s → IsLeastList w (InDifference w n i) (r ++ s)
-least_around w first last n i r s nn ni o from to h k =
+least_around {w} {n} {i} {r} {s} first last nn ni o from to h k =
     let shared_n = (has_ends w n nn).within o.0 o.1 in
     let shared_i = (has_ends w i ni).within o.0 o.2 in
     let a = shared_n.0 in

@@ -40,6 +40,6 @@ unfolding blocks_within
 all_but_one =
     let n : IsNetwork 3 (net 2 0) = record { address_fits = omega arith; prefix_fits = omega arith } in
     let i : IsNetwork 3 (net 5 3) = record { address_fits = omega arith; prefix_fits = omega arith } in
-    least_around 3 0 7 (net 2 0) (net 5 3) (net 0 1 ∷ net 4 3 ∷ []) (net 6 2 ∷ []) n i (5, (omega arith, refl), own_address 3 (net 5 3) i) refl refl
+    least_around 0 7 n i (5, (omega arith, refl), own_address 3 (net 5 3) i) refl refl
     (least_before 3 0 4 (net 5 3) (net 0 1 ∷ net 4 3 ∷ []) refl (least_from_to 3 0 4 (omega arith)))
     (least_behind 3 6 7 (net 5 3) (net 6 2 ∷ []) refl (least_from_to 3 6 7 (omega arith)))

@@ -159,9 +159,9 @@ starts w p n h longer fits =
       list = ap (λ i. between i (low w last / s + 1 - low w first / s)) (f_number ∙ sym i_is) ∙ ap (between (low w n / s)) count;
     }
 
-pub starts_at : (w p x y : ℕ) (n f l : Network) → IsNetwork w n → n.prefix ≤ p → p ≤ w → x ≡ low w n → y ≡ high w n
+pub starts_at : {w p : ℕ} {n f l : Network} (x y : ℕ) → IsNetwork w n → n.prefix ≤ p → p ≤ w → x ≡ low w n → y ≡ high w n
     → f ≡ block_of w (record { address = x; prefix = p }) → l ≡ block_of w (record { address = y; prefix = p }) → StartsRun w n p f l
-starts_at w p x y n f l h longer fits x_is y_is f_is l_is =
+starts_at {w} {p} {n} {f} {l} x y h longer fits x_is y_is f_is l_is =
     let of : ℕ → Network = λ k. block_of w (record { address = k; prefix = p }) in
     let to_last : StartsRun w n p (of (low w n)) l = subst (λ (b : Network). StartsRun w n p (of (low w n)) b) (sym (l_is ∙ ap of y_is)) (starts w p n h longer fits) in
     subst (λ (b : Network). StartsRun w n p b l) (sym (f_is ∙ ap of x_is)) to_last

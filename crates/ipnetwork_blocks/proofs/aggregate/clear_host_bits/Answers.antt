@@ -22,7 +22,7 @@ loop-value-preserved g c =
     (record { network = c.block.ensures.network; block = c.block.ensures.no_host_bits }) in (
       All-set g.H.HoldsNetwork.holds c.loop-value.values i c.holding.result c.holding.ensures.0 c.loop-value.invariant.0,
       subst (λ (t : List Network). IsClearing w xs t (i + 1)) (sym (map-set g.H.HoldsNetwork.held c.loop-value.values i c.holding.result))
-          (clearing_more w xs ys i (g.H.HoldsNetwork.held c.value-item.result) v c.loop-value.invariant.1 (omega arith) (omega arith) is one is_block),
+          (clearing_more (g.H.HoldsNetwork.held c.value-item.result) v c.loop-value.invariant.1 (omega arith) (omega arith) is one is_block),
     )
 
 pub returns-clause-blocks : goal.returns-clause-blocks

@@ -16,7 +16,7 @@ loop-left-preserved g c =
     let fits : c.loop-left.left - 1 < length c.args.front.now = let b = c.loop-left.invariant.bound in omega arith in
     let is = read_held g.H.HoldsNetwork.held c.args.front.now (c.loop-left.left - 1) c.index-front-left.result last fits c.index-front-left.is c.held_network.ensures in
     subst (λ (n : Network). IsJoining w r (g.N.CidrNetwork.pair c.args.block) (c.loop-left.left - 1) n) (sym s.1)
-    (joining_more w r (g.N.CidrNetwork.pair c.args.block) c.loop-left.left (g.N.CidrNetwork.pair c.loop-left.joined) last c.requires.joined c.loop-left.invariant
+    (joining_more last c.requires.joined c.loop-left.invariant
     (omega arith) is s.0)
 
 pub returns-in-None-clause-joined : goal.returns-in-None-clause-joined

@@ -20,8 +20,7 @@ join_back-left-requires-clause-block g c =
     let size_z = length-map c.args.values.now g.H.HoldsNetwork.held in
     let size_x = length-map c.loop-next.values g.H.HoldsNetwork.held in
     let size = c.loop-next.invariant.1.size in
-    passing_block g.N.CidrNetwork.WIDTH (map g.H.HoldsNetwork.held c.args.values.now) (map g.H.HoldsNetwork.held c.loop-next.values) c.loop-next.next c.loop-next.kept
-    (g.N.CidrNetwork.pair c.held_network-block.result) c.requires.blocks c.loop-next.invariant.1 (omega arith)
+    passing_block (g.N.CidrNetwork.pair c.held_network-block.result) c.requires.blocks c.loop-next.invariant.1 (omega arith)
     (read_held g.H.HoldsNetwork.held c.loop-next.values c.loop-next.next c.index-values-next.result (g.N.CidrNetwork.pair c.held_network-block.result) (omega arith) c.index-values-next.is c.held_network-block.ensures)
 
 pub join_back-left-requires-clause-behind : goal.join_back-left-requires-clause-behind
@@ -33,8 +32,7 @@ join_back-left-requires-clause-behind g c =
     let size = c.loop-next.invariant.1.size in
     let front = take-map g.H.HoldsNetwork.held c.loop-next.kept c.loop-next.values in
     subst (λ (t : List Network). All (λ a. high w a < b.address) t) front
-    (passing_after_last w (map g.H.HoldsNetwork.held c.args.values.now) (map g.H.HoldsNetwork.held c.loop-next.values) c.loop-next.next c.loop-next.kept
-    b c.requires.blocks c.loop-next.invariant.1 (omega arith)
+    (passing_after_last b c.requires.blocks c.loop-next.invariant.1 (omega arith)
     (read_held g.H.HoldsNetwork.held c.loop-next.values c.loop-next.next c.index-values-next.result b (omega arith) c.index-values-next.is c.held_network-block.ensures)
     (λ last. iff_false c.lies_in_last.ensures c.if-not-lies_in_last.true (subst (λ (t : List Network). LiesInLast w t b) front last)))
 
@@ -63,14 +61,14 @@ loop-next-preserved g c =
           let placed : IsPassing w z (map g.H.HoldsNetwork.held (set c.loop-next.values left v.holding.result)) (c.loop-next.next + 1) (left + 1) =
           subst (λ (t : List Network). IsPassing w z t (c.loop-next.next + 1) (left + 1)) (sym (map-set g.H.HoldsNetwork.held c.loop-next.values left v.holding.result))
           (subst (λ (n : Network). IsPassing w z (set xs left n) (c.loop-next.next + 1) (left + 1)) (sym v.holding.ensures.1)
-          (passing_places w z xs c.loop-next.next c.loop-next.kept b left whole c.requires.order c.loop-next.invariant.1 (omega arith) is (omega arith)
+          (passing_places b left whole c.requires.order c.loop-next.invariant.1 (omega arith) is (omega arith)
           (subst (λ (t : List Network). AreJoined w (take left t ++ whole ∷ [])) (sym front) v.join_back-left.ensures.joined)
           (subst (λ (t : List Network). SameUnion w (take left t ++ whole ∷ []) (t ++ b ∷ [])) (sym front) v.join_back-left.ensures.union)
           v.join_back-left.ensures.order)) in
           branch _ _ v.values-is v.kept-is (All-set g.H.HoldsNetwork.holds c.loop-next.values left v.holding.result v.holding.ensures.0 c.loop-next.invariant.0, placed)
       | else-not-lies_in_last v ↦ branch _ _ v.values-is v.kept-is (
         c.loop-next.invariant.0,
-        passing_skips_last w z xs c.loop-next.next c.loop-next.kept b c.requires.order c.loop-next.invariant.1 (omega arith) is
+        passing_skips_last b c.requires.order c.loop-next.invariant.1 (omega arith) is
             (subst (λ (t : List Network). LiesInLast w t b) (sym front) (c.lies_in_last.ensures.0 v.if-not-lies_in_last.false)),
       )
     ]

@@ -30,7 +30,7 @@ returns-clause-blocks g c =
     let w : ℕ = g.N.CidrNetwork.WIDTH in
     let n : Network = g.N.CidrNetwork.pair c.args.network in
     let i : Network = g.N.CidrNetwork.pair c.args.inner in
-    least_around w _ _ n i _ _ c.ip.ensures.network c.ip-2.ensures.network (c.overlaps.ensures.0 c.if-not-overlaps.false) c.network-first.ensures c.broadcast-last.ensures
+    least_around _ _ c.ip.ensures.network c.ip-2.ensures.network (c.overlaps.ensures.0 c.if-not-overlaps.false) c.network-first.ensures c.broadcast-last.ensures
     c.blocks_before.ensures c.blocks_behind.ensures
 
 pub returns-clause-none : goal.returns-clause-none
