@@ -58,9 +58,9 @@ begins_output computed r none input written h =
     )
 
 -- a run of the engine from no routes on
-pub ran : AnswerIsComputed ℕ → (r s : RouteTables) → routes_of r ≡ no_routes → (given limit : ℕ) → given ≡ limit → (left rest held holds : Option (List ℕ)) (result : Result (Unit {0}) RunFault)
-    → told.Ran (WritesAll (LineGets MayReply 1024) r s) (WritesFirst (LineGets MayReply 1024) r) given left rest held holds result → Ran limit left rest held holds result
-ran computed r s none given limit same left rest held holds result h =
+pub ran : {given limit : ℕ} {left rest held holds : Option (List ℕ)} {result : Result (Unit {0}) RunFault} → AnswerIsComputed ℕ → (r s : RouteTables) → routes_of r ≡ no_routes
+    → given ≡ limit → told.Ran (WritesAll (LineGets MayReply 1024) r s) (WritesFirst (LineGets MayReply 1024) r) given left rest held holds result → Ran limit left rest held holds result
+ran {given} {limit} {left} {rest} {held} {holds} {result} computed r s none same h =
     subst (λ (l : ℕ). Ran l left rest held holds result) same
     (engine.ran_as (WritesAll (LineGets MayReply 1024) r s) (WritesFirst (LineGets MayReply 1024) r) IsOutput BeginsOutput
     (is_output r s none) (begins_output computed r none) given left rest held holds result h)
