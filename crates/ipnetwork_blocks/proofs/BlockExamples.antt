@@ -5,7 +5,7 @@ use Rattle.ipnetwork_family.specs.Network.{Network, IsNetwork, count_up}
 use Rattle.ipnetwork_blocks.specs.Supernets.{IsSibling}
 use Rattle.ipnetwork_blocks.specs.FollowingBlock.{following_block}
 use Rattle.ipnetwork_blocks.specs.Hosts.{AreIpv4Hosts, AreIpv6Hosts}
-use Rattle.ipnetwork_blocks.specs.Subnets.{subnets_of}
+use Rattle.ipnetwork_blocks.specs.Subnets.{subnets_of, subnet_number}
 use Rattle.ipnetwork_blocks.proofs.WiderBlocks.{sibling_from}
 use Rattle.ipnetwork_blocks.proofs.LeastLists.{own_address}
 
@@ -73,6 +73,13 @@ four_subnets = refl
 pub own_length : subnets_of 32 (net 3221226061 24) 24 ≡ net 3221225984 24 ∷ []
 unfolding count_up
 own_length = refl
+
+-- number 2 of them, and the only one of their own length
+pub third_quarter : subnet_number 32 (net 3221226061 24) 26 2 ≡ net 3221226112 26
+third_quarter = refl
+
+pub number_zero : subnet_number 32 (net 3221226061 24) 24 0 ≡ net 3221225984 24
+number_zero = refl
 
 -- ---- the block that follows
 

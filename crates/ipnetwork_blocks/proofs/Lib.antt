@@ -27,6 +27,7 @@ pub mod RangeExamples
 pub mod RangeLists
 pub mod Runs
 pub mod SpanningBlock
+pub mod SpanningExamples
 pub mod SubnetLaws
 pub mod WiderBlocks
 pub mod WidestBlock

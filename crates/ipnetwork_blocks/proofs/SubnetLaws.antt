@@ -193,6 +193,7 @@ module _ (w p : ℕ) (n : Network) (h : IsNetwork w n) (longer : n.prefix ≤ p)
         let of : ℕ → Network = λ address. record { address = address; prefix = p } in
         let begins : (a + i) * s ≡ low w n + i * s = omega (arith, in_parts.begins) in
         slice_get-get_or (subnets_of w n p) i d (omega (arith, length_is, l)) ∙ ap Some (item_is i d l ∙ ap of begins);
+    numbered = λ i l. slice_get-get_or (subnets_of w n p) i n (omega (arith, length_is, l)) ∙ ap Some (item_is i n l);
   }
     where
       below_next : (i j s : ℕ) → 0 < s → i * s < (j + 1) * s → i ≤ j

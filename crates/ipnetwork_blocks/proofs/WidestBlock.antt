@@ -84,6 +84,18 @@ module _ (w first last zeros shared p : ℕ) (e : AreEnds w first last zeros sha
   pub widest_fits : high w (block_at w first p) ≤ last → IsMaximalIn w (FromTo first last) (block_at w first p)
   widest_fits ends = widest_is_maximal w first last p e.first_fits within (omega (arith, at_low w first p, at_first)) ends (none_wider ends)
 
+  -- a longer prefix than both share: the block ends before the last address
+  pub ends_within : shared < p → high w (block_at w first p) ≤ last
+  ends_within more =
+      let s : ℕ = block_size w p in
+      ⊎_elim
+      (λ (inside : last < first + s).
+      let agree : last / s ≡ first / s = div_within (first / s) s last (omega (arith, at_first, e.order)) (omega (arith, at_first, inside)) in
+      let most = e.bits_shared.greatest p within (sym agree) in
+      let r : high w (block_at w first p) ≤ last = absurd (omega (arith, most, more)) in r)
+      (λ (outside : first + s ≤ last). omega (arith, at_end w first p, at_first, outside))
+      (cases_lt last (first + s))
+
   -- where it ends after the range, its lower half ends within
   not_whole : last < high w (block_at w first p) → p < w
   not_whole late = ⊎_elim (λ (l : p < w). l)

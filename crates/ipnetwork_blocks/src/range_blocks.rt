@@ -139,18 +139,22 @@ fn ends_behind<N: AddressSpace>(network: N, address: N::Addr) -> bool
     address < network.broadcast()
 }
 
-// The widest block that begins at `first` and ends at `last` or before: that of the zeros that `first` ends with, but
-// within the least block that holds both, which either ends with `last` or is one bit too wide.
+// The widest block that begins at `first` and ends at `last` or before. If `first` ends with fewer zeros than there are
+// bits after those that it shares with `last`, it is that of the zeros. If not, it is the least block that holds both if
+// that ends with `last`, and its lower half if not.
 fn widest_block<N: AddressSpace>(first: N::Addr, last: N::Addr) -> N
     requires { N.number first ≤ N.number last }
     ensures begins { (N.pair result).address ≡ N.number first }
     ensures maximal { IsMaximalIn N.WIDTH (FromTo (N.number first) (N.number last)) (N.pair result) }
 {
     let aligned = N::WIDTH - N::trailing_zeros(first);
-    let prefix = aligned.max(N::shared_bits(first, last));
-    let block = N::block_at(first, prefix);
+    let shared = N::shared_bits(first, last);
+    if shared < aligned {
+        return N::block_at(first, aligned);
+    }
+    let block = N::block_at(first, shared);
     if ends_behind(block, last) {
-        return N::block_at(first, prefix + 1);
+        return N::block_at(first, shared + 1);
     }
     block
 }

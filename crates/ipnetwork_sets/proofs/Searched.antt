@@ -1,6 +1,7 @@
 -- The binary search, and what its block tells of an address and of a network.
-use Rattle.std.proofs.Common.{◌≡◌, ◌↔◌, ℕ, ◌+◌, ◌-◌, ◌<◌, ◌≤◌, ◌⊎◌, inl, inr, sym, refl, ap, subst, ◌∙◌, arith, ⊎_elim, List, length, get_or}
-use Rattle.std.proofs.lemmas.Bool.{cases_lt, cases_order}
+use Rattle.std.proofs.Common.{◌≡◌, ◌↔◌, ℕ, zero, suc, ◌+◌, ◌-◌, ◌*◌, ◌^◌, ◌<◌, ◌≤◌, ◌⊎◌, inl, inr, sym, refl, ap, subst, ◌∙◌, arith, ⊎_elim, Bool, true, false, IsTrue, if◌then◌else◌, List, length, get_or}
+use Rattle.std.proofs.Math.Nat.{pow-succ'}
+use Rattle.std.proofs.lemmas.Bool.{cases_lt, cases_order, iff_false}
 use Rattle.std.proofs.lemmas.List.{get_or_default}
 use Rattle.std.specs.List.{AllPairs, Contains}
 use Rattle.ipnetwork_family.specs.Network.{Network, IsNetwork, Member, Subnet, Overlap, low, high}
@@ -10,6 +11,7 @@ use Rattle.ipnetwork_blocks.specs.Aggregate.{InUnion, LiesInUnion}
 use Rattle.ipnetwork_blocks.specs.AggregateLaws.{AggregateHasOneBlock, AggregateHasNetworks}
 use Rattle.ipnetwork_sets.specs.Sets.{IsAddressSet, MeetsUnion}
 use Rattle.ipnetwork_sets.specs.Private.Search.{NoneUpTo, IsLastUpTo}
+use Rattle.ipnetwork_sets.proofs.Lists.{not_below}
 
 -- ---- the loop of `last_up_to`: the blocks before `from` begin at x or before it, those at `to` and behind after it
 
@@ -69,6 +71,46 @@ split_before blocks x from to middle b up h le l is begins =
           subst (λ (j : ℕ). x < (get_or blocks j d).address) e (omega arith))
           (cases_lt middle k);
     }
+
+-- the first step: the first p - 1 blocks are left, or the last p - 1
+pub split_first : (blocks : List Network) (x p : ℕ) (b : Network) → AllPairs (λ a b. a.address < b.address) blocks → 0 < p → p ≤ length blocks → length blocks < 2 * p
+    → b ≡ get_or blocks (p - 1) b → b.address ≤ x → IsSplit blocks x (length blocks + 1 - p) (length blocks + 1 - p + p - 1)
+split_first blocks x p b up some fits most is begins =
+    let h = split_behind blocks x 0 (length blocks) (p - 1) b up (split_starts blocks x) (omega arith) is begins in
+    record {
+      ordered = omega arith;
+      within = omega arith;
+      below = λ k d l. h.below k d (omega arith);
+      above = λ k d l m. absurd (omega arith);
+    }
+
+pub split_first_before : (blocks : List Network) (x p : ℕ) (b : Network) → AllPairs (λ a b. a.address < b.address) blocks → 0 < p → p ≤ length blocks
+    → b ≡ get_or blocks (p - 1) b → x < b.address → IsSplit blocks x 0 (0 + p - 1)
+split_first_before blocks x p b up some fits is after =
+    let h = split_before blocks x 0 (length blocks) (p - 1) b up (split_starts blocks x) (omega arith) (omega arith) is after in
+    subst (λ (k : ℕ). IsSplit blocks x 0 k) (omega arith) h
+
+-- a step, of which p - 1 blocks are left
+pub split_step : (blocks : List Network) (x from to p : ℕ) (b : Network) (begins : Bool) → AllPairs (λ a b. a.address < b.address) blocks → IsSplit blocks x from to
+    → 0 < p → to + 1 ≡ from + 2 * p → b ≡ get_or blocks (from + (p - 1)) b → IsTrue begins ↔ (b.address ≤ x)
+    → IsSplit blocks x (from + (if begins then p else 0)) (from + (if begins then p else 0) + p - 1)
+split_step blocks x from to p b true up h some at is iff =
+    let f : from + (p - 1) + 1 ≡ from + p = omega arith in
+    let t : to ≡ from + p + p - 1 = omega arith in
+    let s = split_behind blocks x from to (from + (p - 1)) b up h (omega arith) is (iff.0 refl) in
+    subst (λ (k : ℕ). IsSplit blocks x (from + p) k) t (subst (λ (k : ℕ). IsSplit blocks x k to) f s)
+split_step blocks x from to p b false up h some at is iff =
+    let after : x < b.address = not_below b.address x (iff_false iff refl) in
+    let t : from + (p - 1) ≡ from + 0 + p - 1 = omega arith in
+    let s = split_before blocks x from to (from + (p - 1)) b up h (omega arith) (omega arith) is after in
+    let f : from ≡ from + 0 = omega arith in
+    subst (λ (k : ℕ). IsSplit blocks x k (from + 0 + p - 1)) f (subst (λ (k : ℕ). IsSplit blocks x from k) t s)
+
+pub twice : (k : ℕ) → 0 < k → 2 ^ k ≡ 2 * 2 ^ (k - 1)
+twice zero h = absurd (omega arith)
+twice (suc k) h =
+    let e : k ≡ suc k - 1 = omega arith in
+    pow-succ' 2 k ∙ ap (λ j. 2 * 2 ^ j) e
 
 -- where both meet
 split_none : (blocks : List Network) (x to : ℕ) → IsSplit blocks x 0 to → to ≤ 0 → NoneUpTo blocks x

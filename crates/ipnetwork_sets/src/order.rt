@@ -1,8 +1,9 @@
 //! Which of two networks comes first.
 ghost use Rattle.std.specs.Prelude.{◌≡◌, ◌↔◌, ◌+◌, ◌<◌, ◌≤◌, IsTrue};
 ghost use Rattle.ipnetwork_family.specs.Network.{high};
+ghost use Rattle.ipnetwork_sets.specs.Private.Runs.{Touches};
 
-use ipnetwork_blocks::{AddressSpace, following};
+use ipnetwork_blocks::AddressSpace;
 
 /// Whether the first ends before the address of the second.
 pub(crate) fn ends_before<N: AddressSpace>(first: N, second: N) -> bool
@@ -18,15 +19,20 @@ pub(crate) fn begin_alike<N: AddressSpace>(first: N, second: N) -> bool
     first.ip() == second.ip()
 }
 
+/// Whether the second begins right behind the first.
+pub(crate) fn touches<N: AddressSpace>(first: N, second: N) -> bool
+    ensures { IsTrue result ↔ Touches N.WIDTH (N.pair first) (N.pair second) }
+{
+    let begin = second.ip();
+    match N::next_address(first.broadcast()) {
+        Some(next) => next == begin,
+        None => false,
+    }
+}
+
 /// Whether the second begins within the first, before it, or right behind it: no address lies between them.
 pub(crate) fn goes_on<N: AddressSpace>(first: N, second: N) -> bool
     ensures { IsTrue result ↔ ((N.pair second).address ≤ high N.WIDTH (N.pair first) + 1) }
 {
-    if second.ip() <= first.broadcast() {
-        return true;
-    }
-    match following(first) {
-        Some(behind) => behind.ip() == second.ip(),
-        None => false,
-    }
+    second.ip() <= first.broadcast() || touches(first, second)
 }

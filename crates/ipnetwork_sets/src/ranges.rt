@@ -1,18 +1,19 @@
 //! The ranges of addresses that a set is made of.
-ghost use Rattle.std.specs.Prelude.{◌≡◌, ◌↔◌, ◌∷◌, IsTrue, option_map};
+ghost use Rattle.std.specs.Prelude.{◌≡◌, ◌∷◌, option_map};
 ghost use Rattle.std.specs.Iterator.{YieldsFirstBy, item_count};
 ghost use Rattle.ipnetwork_family.specs.Network.{high, low};
 ghost use Rattle.ipnetwork_blocks.specs.Aggregate.{InUnion};
 ghost use Rattle.ipnetwork_sets.specs.Sets.{IsAddressSet};
 ghost use Rattle.ipnetwork_sets.specs.RangeLists.{IsRangeList};
-ghost use Rattle.ipnetwork_sets.specs.Private.Runs.{runs, runs_left, IsAhead, Touches};
+ghost use Rattle.ipnetwork_sets.specs.Private.Runs.{runs, runs_left, IsAhead};
 
 use crate::address_set::AddressSet;
 use crate::blocks::{Blocks, SetBlocks};
 use crate::common::Intersection;
 use crate::difference::Difference;
+use crate::order::touches;
 use crate::union::Union;
-use ipnetwork_blocks::{AddressSpace, following, laws};
+use ipnetwork_blocks::{AddressSpace, laws};
 use std::marker::Model;
 
 /// The ranges of a set that are still to come, in ascending order: of each its first and its last address. They are the
@@ -83,17 +84,6 @@ fn last_of_run<N: AddressSpace, B: SetBlocks<N>>(first: N, blocks: &mut B) -> (N
             return (last, Some(block));
         }
         last = block;
-    }
-}
-
-// Whether the second network begins right behind the first.
-fn touches<N: AddressSpace>(first: N, second: N) -> bool
-    ensures { IsTrue result ↔ Touches N.WIDTH (N.pair first) (N.pair second) }
-{
-    let begin = second.ip();
-    match following(first) {
-        Some(behind) => behind.ip() == begin,
-        None => false,
     }
 }
 

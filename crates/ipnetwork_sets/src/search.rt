@@ -1,5 +1,5 @@
 //! Questions to a set: each by one binary search for the last block up to an address.
-ghost use Rattle.std.specs.Prelude.{◌↔◌, ◌<◌, ◌≤◌, IsTrue, MatchOption, map};
+ghost use Rattle.std.specs.Prelude.{◌≡◌, ◌↔◌, ◌^◌, ◌<◌, ◌≤◌, IsTrue, if◌then◌else◌, MatchOption, map};
 ghost use Rattle.std.specs.List.{AllPairs};
 ghost use Rattle.ipnetwork_blocks.specs.Aggregate.{InUnion, LiesInUnion};
 ghost use Rattle.ipnetwork_sets.specs.Sets.{IsAddressSet, MeetsUnion};
@@ -47,26 +47,49 @@ pub(crate) fn overlaps<N: AddressSpace>(blocks: &[N], network: N) -> bool
     }
 }
 
-// The last of the blocks that begins at the address or before it. As many steps as the length has bits.
+// The last of the blocks that begins at the address or before it. As many steps as the length has bits, and no branch in
+// them depends on what the blocks are: each would be mispredicted every other time.
 fn last_up_to<N: AddressSpace>(blocks: &[N], addr: N::Addr) -> Option<N>
     requires { AllPairs (λ a b. a.address < b.address) (map N.pair blocks.now) }
     ensures { MatchOption result (NoneUpTo (map N.pair blocks.now) (N.number addr))
         (λ last. IsLastUpTo (map N.pair blocks.now) (N.number addr) (N.pair last)) }
 {
+    let Some(most) = blocks.len().checked_ilog2() else {
+        return None;
+    };
+    let before = power(most) - 1;
     let mut from = 0;
-    let mut to = blocks.len();
-    while from < to {
-        let middle = from + (to - from) / 2;
-        if begins_up_to(blocks[middle], addr) {
-            from = middle + 1;
-        } else {
-            to = middle;
-        }
+    if begins_up_to(blocks[before], addr) {
+        from = blocks.len() - before;
+    }
+    // The blocks before `from` begin up to the address, and those behind the 2^`exponent` - 1 from there on after it.
+    let mut exponent = most;
+    while exponent > 0 {
+        exponent -= 1;
+        let middle = from + (power(exponent) - 1);
+        let begins = begins_up_to(blocks[middle], addr);
+        from += power_if(begins, exponent);
     }
     if from == 0 {
         return None;
     }
     Some(blocks[from - 1])
+}
+
+// 2^`exponent`.
+fn power(exponent: u32) -> usize
+    requires { exponent < 64 }
+    ensures { result ≡ 2 ^ exponent }
+{
+    1 << exponent
+}
+
+// 2^`exponent` if the condition holds, and 0 if not. A shift is no branch; a product could be compiled to one.
+fn power_if(holds: bool, exponent: u32) -> usize
+    requires { exponent < 64 }
+    ensures { result ≡ (if holds then 2 ^ exponent else 0) }
+{
+    usize::from(holds) << exponent
 }
 
 // Whether the network's own address is this one, or comes before it.
