@@ -17,7 +17,7 @@ use Rattle.address_lists.specs.Lists.{ReadLists, HasAddress, Names, TakesEntry}
 use Rattle.address_lists.specs.Added.{AddsBlocks, AddsEntry}
 use Rattle.address_lists.specs.Private.Taking.{IsGoodEntry}
 
-pub union_append : (w : ℕ) (a b : List Network) (x : ℕ) → InUnion w (a ++ b) x ↔ (InUnion w a x ⊎ InUnion w b x)
+union_append : (w : ℕ) (a b : List Network) (x : ℕ) → InUnion w (a ++ b) x ↔ (InUnion w a x ⊎ InUnion w b x)
 union_append w a b x = (
   (λ c. ⊎_elim (λ (d : Contains a c.0). inl (c.0, d, c.2)) (λ (d : Contains b c.0). inr (c.0, d, c.2)) (Contains-append_cases a b c.0 c.1)),
   (λ p. ⊎_elim

@@ -1,4 +1,6 @@
 pub mod EngineTold
+pub mod FirstLines
 pub mod Gained
 pub mod MergedParts
+pub mod Printed
 pub mod Taken

@@ -1,9 +1,21 @@
 -- Merges of parts.
-use Rattle.std.specs.Prelude.{◌≡◌, ℕ, List, ◌++◌}
+use Rattle.std.specs.Prelude.{◌≡◌, ◌↔◌, ℕ, List, [], ◌∷◌}
+use Rattle.std.specs.List.{Contains}
 use Rattle.ipnetwork_family.specs.Network.{Network}
 use Rattle.ipnetwork_blocks.specs.Aggregate.{IsAggregate}
 
--- the merge of two parts' merges is the merge of the whole
+-- the parts have together the networks of a list, in whatever order, and no others
+abbrev pub AreParts : List Network → List (List Network) → Type 0
+AreParts networks parts = (n : Network) → Contains networks n ↔ ((part : List Network) × Contains parts part × Contains part n)
+
+-- there is a merge of each part, and no other
+abbrev pub AreMerges : ℕ → List (List Network) → List (List Network) → Type 0
+AreMerges w [] [] = Unit {0}
+AreMerges w (part ∷ parts) (merge ∷ merges) = IsAggregate w part merge × AreMerges w parts merges
+AreMerges w [] (merge ∷ merges) = ⊥
+AreMerges w (part ∷ parts) [] = ⊥
+
+-- the merge of the merges of parts, in whatever order, is the merge of the whole
 abbrev pub MergesOfPartsMerge : Type 0
-MergesOfPartsMerge = (w : ℕ) (first second merged_first merged_second whole again : List Network) → IsAggregate w first merged_first → IsAggregate w second merged_second
-    → IsAggregate w (first ++ second) whole → IsAggregate w (merged_first ++ merged_second) again → again ≡ whole
+MergesOfPartsMerge = (w : ℕ) (networks merged whole again : List Network) (parts merges : List (List Network)) → AreParts networks parts → AreMerges w parts merges → AreParts merged merges
+    → IsAggregate w networks whole → IsAggregate w merged again → again ≡ whole

@@ -1,10 +1,11 @@
 //! Lists are read.
-ghost use Rattle.std.specs.Prelude.{◌≡◌, ◌||◌, ℕ, List, Some, OnOk, IsFalse};
+ghost use Rattle.std.specs.Prelude.{◌≡◌, ◌||◌, ℕ, List, Some, OnOk, IfErr, IsFalse};
 ghost use Rattle.std.specs.Str.Lines.{lines};
 ghost use Rattle.line_engine.specs.Run.{ended_by_read};
 ghost use Rattle.line_engine.specs.Watched.{device_of, has_failed};
 ghost use Rattle.address_lists.specs.Lists.{at_list, TakesLines};
 ghost use Rattle.address_lists.specs.ReadBy.{read_by};
+ghost use Rattle.address_lists.specs.Stopped.{TakesBefore};
 
 use crate::list_reader::ListReader;
 use line_engine::fault::RunFault;
@@ -49,6 +50,7 @@ pub fn read_list<R: Read>(
     reader: &mut Watched<R>,
 ) -> Result<(), RunFault>
     ensures taken { OnOk result ((input : List ℕ) → R.remaining (device_of reader.old) ≡ Some input → TakesLines (at_list (read_by lists.old) list) (lines input) (read_by lists.new)) }
+    ensures stopped { IfErr result (λ fault. TakesBefore (R.remaining (device_of reader.old)) (R.remaining (device_of reader.new)) fault (at_list (read_by lists.old) list) (read_by lists.new)) }
     ensures failed { has_failed reader.new ≡ (has_failed reader.old || ended_by_read result) }
 {
     let mut nowhere = Watched::new(io::sink());

@@ -1,5 +1,5 @@
 -- What is told, one text after the other.
-use Rattle.std.proofs.Common.{◌≡◌, ℕ, Bool, true, false, List, ◌++◌, refl, sym}
+use Rattle.std.proofs.Common.{ℕ, Bool, true, false, List, ◌++◌, refl, sym}
 use Rattle.std.specs.Prelude.{IsTrue, IsFalse, Option}
 use Rattle.line_engine.specs.declared.output.Output.{Output}
 use Rattle.line_engine.specs.Outputs.{output_failed}

@@ -1,5 +1,5 @@
 //! Where lists come from.
-ghost use Rattle.std.specs.Prelude.{◌≡◌, ℕ, List as Bytes, Option, Some, None, IfOk};
+ghost use Rattle.std.specs.Prelude.{◌≡◌, ℕ, Bool, List as Bytes, Option, Some, None, IfOk, is_ok};
 
 use std::io;
 use std::io::Read;
@@ -21,6 +21,9 @@ pub trait OpenLists {
     // The bytes of the list of a name, where it is known what it has.
     ghost bytes_of: { Self → Bytes ℕ → Option (Bytes ℕ) } = { λ _ _. None };
 
+    // What may be: the list of a name is opened, or it is not.
+    ghost may_open: { Self → Bytes ℕ → Bool → Type 0 } = { λ _ _ _. Unit {0} };
+
     /// Opens the list of this name. The error is the system's.
     ///
     /// ```
@@ -31,5 +34,6 @@ pub trait OpenLists {
     /// assert!(rt; system.open("no such file").is_err());
     /// ```
     fn open(&self, name: &str) -> io::Result<Self::List>
-        ensures { IfOk result (λ list. (bytes : Bytes ℕ) → bytes_of self.now name.now ≡ Some bytes → Self.List.remaining list ≡ Some bytes) };
+        ensures bytes { IfOk result (λ list. (bytes : Bytes ℕ) → bytes_of self.now name.now ≡ Some bytes → Self.List.remaining list ≡ Some bytes) }
+        ensures opened { may_open self.now name.now (is_ok result) };
 }
