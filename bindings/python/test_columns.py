@@ -47,7 +47,7 @@ class Columns(unittest.TestCase):
             whole, offsets = layout(texts)
             self.assertEqual((offsets.dtype, len(offsets)), (numpy.uint32, len(TEXTS) + 1))
             for row, text in enumerate(TEXTS):
-                self.assertEqual(whole[offsets[row] : offsets[row + 1]], text.encode("utf-8", "surrogatepass"))
+                self.assertEqual(whole[offsets[row] : offsets[row + 1]], text.encode("utf-8", "replace"))
         self.assertEqual(layout([])[1].tolist(), [0])
 
     def test_addresses(self):

@@ -12,7 +12,9 @@ The shared library is looked for beside this file, as ``libipnetwork_c.so``, or 
 
 from __future__ import annotations
 
+import array
 import ctypes
+import itertools
 import operator
 import os
 from collections.abc import Iterator
@@ -398,6 +400,15 @@ def list_contains_column(fours: bytes, sixes: bytes, addresses: ReadableBuffer) 
         raise ValueError(f"{len(column)} bytes are no column of addresses of {_ADDRESS} bytes")
     rows = range(0, len(column), _ADDRESS)
     return bytearray(_list_has(fours, sixes, column[at : at + column[at + 16]]) for at in rows)
+
+
+def layout(rows: list[object]) -> tuple[bytearray, bytearray]:
+    """The texts of a list in Arrow's layout, the bytes and the offsets; a row that is no text is empty."""
+    each = [row.encode("utf-8") if isinstance(row, str) else b"" for row in rows]
+    offsets = array.array("I", itertools.accumulate(map(len, each), initial=0)) if sum(map(len, each)) <= 0x7FFFFFFF else None
+    if offsets is None:
+        raise ValueError("the texts have more than 2147483647 bytes, which is past the offsets: give them in parts")
+    return bytearray(b"".join(each)), bytearray(offsets.tobytes())
 
 
 def read_rows(kind: int, texts: ReadableBuffer, offsets: ReadableBuffer) -> tuple[bytearray, bytearray]:

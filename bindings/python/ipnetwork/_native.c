@@ -466,6 +466,46 @@ done:
     return both;
 }
 
+/* The bytes of a text in UTF-8, or no bytes of what is no text; NULL with UnicodeEncodeError of one that has none. */
+static const char *text_bytes(PyObject *row, Py_ssize_t *length) {
+    *length = 0;
+    return PyUnicode_Check(row) ? PyUnicode_AsUTF8AndSize(row, length) : "";
+}
+
+/* layout(rows): the texts of a list in Arrow's layout, the bytes and the offsets; a row that is no text is empty. */
+static PyObject *layout(PyObject *module, PyObject *rows) {
+    (void)module;
+    Py_ssize_t count = PyList_Size(rows), length;
+    size_t whole = 0;
+    if (count < 0) return NULL;
+    PyObject *offsets = PyByteArray_FromStringAndSize(NULL, (count + 1) * (Py_ssize_t)sizeof(uint32_t)), *texts = NULL, *both = NULL;
+    if (offsets == NULL) return NULL;
+    char *offset = PyByteArray_AsString(offsets);
+    for (Py_ssize_t row = 0; row <= count; row++) {
+        uint32_t start = (uint32_t)whole;
+        if (whole > INT32_MAX) {
+            PyErr_SetString(PyExc_ValueError, "the texts have more than 2147483647 bytes, which is past the offsets: give them in parts");
+            goto done;
+        }
+        memcpy(offset + (size_t)row * sizeof start, &start, sizeof start);
+        if (row < count && text_bytes(PyList_GetItem(rows, row), &length) == NULL) goto done;
+        if (row < count) whole += (size_t)length;
+    }
+    texts = PyByteArray_FromStringAndSize(NULL, (Py_ssize_t)whole);
+    if (texts == NULL) goto done;
+    char *text = PyByteArray_AsString(texts);
+    for (Py_ssize_t row = 0; row < count; row++) {
+        const char *bytes = text_bytes(PyList_GetItem(rows, row), &length);
+        if (bytes == NULL) goto done;
+        memcpy(text, bytes, (size_t)length);
+        text += length;
+    }
+    both = PyTuple_Pack(2, texts, offsets);
+done:
+    Py_XDECREF(texts), Py_DECREF(offsets);
+    return both;
+}
+
 /* ---- lists, each the bytes of structs one behind the other ---- */
 
 /* aggregate(version, rows) */
@@ -646,6 +686,7 @@ static PyMethodDef calls[] = {
     {"of_rows", of_rows, METH_VARARGS, NULL},
     {"prefix_of_mask", prefix_of_mask, METH_O, NULL},
     {"read_rows", read_rows, METH_VARARGS, NULL},
+    {"layout", layout, METH_O, NULL},
     {"aggregate", aggregate, METH_VARARGS, NULL},
     {"list_contains", list_contains, METH_VARARGS, NULL},
     {"list_contains_column", list_contains_column, METH_VARARGS, NULL},

@@ -16,7 +16,7 @@ from typing import TYPE_CHECKING, Union
 
 import numpy
 
-from . import AddressSet, IPv4Network, IPv6Network, read_address_column
+from . import AddressSet, IPv4Network, IPv6Network, _core, read_address_column
 
 if TYPE_CHECKING:
     from numpy.typing import NDArray
@@ -24,29 +24,22 @@ if TYPE_CHECKING:
 __all__ = ["is_member", "layout", "read_addresses"]
 
 
-def layout(texts: Iterable[object]) -> tuple[bytes, NDArray[numpy.uint32]]:
-    """The texts in Arrow's layout: their bytes, and the offsets, of which there is one more than texts.
+def layout(texts: Iterable[object]) -> tuple[bytearray, NDArray[numpy.uint32]]:
+    """The texts in Arrow's layout: their bytes, and the offsets, of which there is one more than texts. ValueError if they
+    have 2147483648 bytes or more.
 
     >>> texts, offsets = layout(["::1", None, "8.8.8.8"])
-    >>> texts, offsets.tolist()
+    >>> bytes(texts), offsets.tolist()
     (b'::18.8.8.8', [0, 3, 3, 10])
     """
-    rows = texts.tolist() if hasattr(texts, "tolist") else list(texts)
+    rows: list[object] = texts.tolist() if hasattr(texts, "tolist") else list(texts)
     try:
-        column = "".join(rows)
-    except TypeError:
-        rows = [row if isinstance(row, str) else "" for row in rows]
-        column = "".join(rows)
-    if column.isascii():
-        whole = column.encode("ascii")
-    else:
-        rows = [row.encode("utf-8", "surrogatepass") for row in rows]
-        whole = b"".join(rows)
-    if len(whole) > 0x7FFFFFFF:
-        raise ValueError("the texts have more than 2147483647 bytes, which is past the offsets: give them in parts")
-    offsets = numpy.zeros(len(rows) + 1, numpy.uint32)
-    numpy.cumsum(numpy.fromiter(map(len, rows), numpy.uint32, len(rows)), out=offsets[1:])
-    return whole, offsets
+        whole, offsets = _core.layout(rows)
+    except UnicodeEncodeError:
+        # A text with half a surrogate pair, which has no UTF-8, is no address; "?" neither.
+        rows = [row.encode("utf-8", "replace").decode() if isinstance(row, str) else row for row in rows]
+        whole, offsets = _core.layout(rows)
+    return whole, numpy.frombuffer(offsets, numpy.uint32)
 
 
 def read_addresses(texts: Iterable[object]) -> tuple[NDArray[numpy.uint8], NDArray[numpy.bool_]]:
