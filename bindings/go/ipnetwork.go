@@ -22,6 +22,12 @@ import (
 	"unsafe"
 )
 
+func init() {
+	if C.ipnetwork_abi_version() != C.IPNETWORK_ABI_VERSION {
+		panic("ipnetwork: the library is of another version than its header: build it again")
+	}
+}
+
 // A Fault says why there is no network, or no answer. Its text is what the library says of it.
 type Fault uint32
 

@@ -459,6 +459,15 @@ macro_rules! family {
             }
         }
 
+        impl TryFrom<($address, u8)> for $name {
+            type Error = Fault;
+
+            /// The network of this address and this prefix length, as `new` makes it.
+            fn try_from((address, prefix): ($address, u8)) -> Result<Self, Fault> {
+                Self::new(address, prefix)
+            }
+        }
+
         impl FromStr for $name {
             type Err = Fault;
 
@@ -791,6 +800,15 @@ impl From<IpAddr> for IpNetwork {
             IpAddr::V4(address) => IpNetwork::V4(address.into()),
             IpAddr::V6(address) => IpNetwork::V6(address.into()),
         }
+    }
+}
+
+impl TryFrom<(IpAddr, u8)> for IpNetwork {
+    type Error = Fault;
+
+    /// The network of this address and this prefix length, as `new` makes it.
+    fn try_from((address, prefix): (IpAddr, u8)) -> Result<Self, Fault> {
+        Self::new(address, prefix)
     }
 }
 

@@ -547,6 +547,11 @@ fn members_in_order() {
         );
         assert_eq!((network.nth(1), network.nth(4)), (Some(members[1]), None));
         assert_eq!(
+            IpNetwork::try_from((network.ip(), network.prefix())),
+            Ok(network)
+        );
+        assert_eq!(IpNetwork::try_from((network.ip(), 129)), Err(Fault::Prefix));
+        assert_eq!(
             IpNetwork::prefix_of_mask(network.mask()),
             Ok(network.prefix())
         );
