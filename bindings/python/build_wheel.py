@@ -1,7 +1,11 @@
-"""Makes the wheel of the package ipnetwork and of the library that it loads, for `pip install ./bindings/python`.
+"""Makes the wheel of the package ipnetwork and of the library that it calls, for `pip install ./bindings/python`.
 
 It needs no other package, and so no network: only cc, and the static library, as `rt lib` in crates/ipnetwork_c makes
 it. The environment variable IPNETWORK_C_LIB names another folder that has libipnetwork_c.a.
+
+Where the headers of Python are (Debian: python3-dev), the wheel has the extension `_native`, which from Python 3.11 on
+serves all later versions; else it has the library as a shared one, which the package calls by ctypes, and any Python may
+take it. `build_wheel.py FOLDER` builds the extension alone, into a folder, for tests.
 """
 
 import base64
@@ -9,12 +13,13 @@ import hashlib
 import os
 import pathlib
 import subprocess
+import sys
 import sysconfig
 import tempfile
 import zipfile
 
 HERE = pathlib.Path(__file__).resolve().parent
-NAME, VERSION = "ipnetwork", "0.2.0"
+NAME, VERSION = "ipnetwork", "0.3.0"
 METADATA = f"""Metadata-Version: 2.1
 Name: {NAME}
 Version: {VERSION}
@@ -22,30 +27,65 @@ Summary: IP networks in CIDR notation, by a proved library
 License: MIT OR Apache-2.0
 Requires-Python: >=3.9
 """
+MODULES = ("__init__.py", "_by_ctypes.py", "_errors.py", "_native.pyi", "columns.py", "py.typed")
+STABLE = sys.version_info >= (3, 11)  # from this version on the stable ABI has buffers
 
 
-def _library() -> bytes:
-    """The shared library, linked from the static one."""
+def _archive() -> pathlib.Path:
     default = HERE.parent.parent / "crates" / "ipnetwork_c" / "out"
     archive = pathlib.Path(os.environ.get("IPNETWORK_C_LIB", default)) / "libipnetwork_c.a"
     if not archive.is_file():
-        raise SystemExit(f"{archive} is not there: run `rt lib` in crates/ipnetwork_c, or set IPNETWORK_C_LIB")
-    with tempfile.TemporaryDirectory() as folder:
-        shared = pathlib.Path(folder) / "libipnetwork_c.so"
-        whole = ["-Wl,--whole-archive", str(archive), "-Wl,--no-whole-archive"]
-        subprocess.run(["cc", "-shared", *whole, "-o", str(shared)], check=True)
-        return shared.read_bytes()
+        raise SystemExit(f"{archive} is not there: run `rt lib` in crates/ipnetwork_c, or set IPNETWORK_C_LIB to its folder")
+    return archive
+
+
+def _cc(*arguments: str) -> None:
+    try:
+        subprocess.run(["cc", *arguments], check=True)
+    except FileNotFoundError:
+        raise SystemExit("there is no cc, which links the library: install a C compiler (Debian: gcc)") from None
+
+
+def link_shared(folder: pathlib.Path) -> pathlib.Path:
+    """The shared library, linked from the static one into a folder."""
+    shared = folder / "libipnetwork_c.so"
+    _cc("-shared", "-Wl,--whole-archive", str(_archive()), "-Wl,--no-whole-archive", "-o", str(shared))
+    return shared
+
+
+def has_headers() -> bool:
+    """Whether an extension of this Python can be compiled."""
+    return (pathlib.Path(sysconfig.get_paths()["include"]) / "Python.h").is_file()
+
+
+def compile_native(folder: pathlib.Path) -> pathlib.Path:
+    """The extension, compiled into a folder."""
+    suffix = ".abi3.so" if STABLE else sysconfig.get_config_var("EXT_SUFFIX")
+    native = folder / f"_native{suffix}"
+    stable = ["-DPy_LIMITED_API=0x030B0000"] if STABLE else []
+    flags = ["-std=c11", "-O2", "-Wall", "-Wextra", "-Werror", "-Wno-cast-function-type", "-fPIC", "-shared", "-fvisibility=hidden"]
+    paths = [f"-I{sysconfig.get_paths()['include']}", f"-I{HERE.parent / 'c'}", str(HERE / "ipnetwork" / "_native.c")]
+    _cc(*flags, *stable, *paths, str(_archive()), "-o", str(native))
+    return native
 
 
 def build_wheel(wheel_directory, config_settings=None, metadata_directory=None):
     """Writes the wheel (PEP 427) into a folder, and gives its file name."""
-    tag = "py3-none-" + sysconfig.get_platform().replace("-", "_").replace(".", "_")
+    platform = sysconfig.get_platform().replace("-", "_").replace(".", "_")
+    version = f"cp{sys.version_info[0]}{sys.version_info[1]}"
+    with tempfile.TemporaryDirectory() as folder:
+        if has_headers():
+            library = compile_native(pathlib.Path(folder))
+            tag = f"{'cp311-abi3' if STABLE else f'{version}-{version}'}-{platform}"
+        else:
+            library = link_shared(pathlib.Path(folder))
+            tag = f"py3-none-{platform}"
+        held = library.read_bytes()
     about = f"{NAME}-{VERSION}.dist-info"
     wheel = f"Wheel-Version: 1.0\nGenerator: build_wheel\nRoot-Is-Purelib: false\nTag: {tag}\n"
     files = {
-        "ipnetwork/__init__.py": (HERE / "ipnetwork" / "__init__.py").read_bytes(),
-        "ipnetwork/py.typed": b"",
-        "ipnetwork/libipnetwork_c.so": _library(),
+        **{f"ipnetwork/{name}": (HERE / "ipnetwork" / name).read_bytes() for name in MODULES},
+        f"ipnetwork/{library.name}": held,
         f"{about}/METADATA": METADATA.encode(),
         f"{about}/WHEEL": wheel.encode(),
     }
@@ -59,3 +99,7 @@ def build_wheel(wheel_directory, config_settings=None, metadata_directory=None):
         for path, content in files.items():
             archive.writestr(zipfile.ZipInfo(path, (1980, 1, 1, 0, 0, 0)), content, zipfile.ZIP_DEFLATED)
     return name
+
+
+if __name__ == "__main__":
+    print(compile_native(pathlib.Path(sys.argv[1])))

@@ -3,6 +3,7 @@
 import array
 import copy
 import ipaddress
+import itertools
 import pickle
 import random
 import unittest
@@ -11,6 +12,7 @@ from ipaddress import IPv4Address, IPv6Address
 import ipnetwork
 from ipnetwork import (
     AddressError,
+    AddressSet,
     FormatError,
     IPv4Network,
     IPv6Network,
@@ -158,14 +160,28 @@ class Questions(unittest.TestCase):
         self.assertIn(Own("10.1.2.3"), net)
         self.assertLess(net, IPv4Network("10.0.0.0/9"))
         self.assertIs(type(pickle.loads(pickle.dumps(IPv6Network("::/0")))), IPv6Network)
+        self.assertIs(type(Named.of(Own("10.0.0.0"), 8)), Named)
+        self.assertIs(type(Named.from_ipaddress(ipaddress.ip_network("10.0.0.0/8"))), Named)
+
+        class Made(IPv4Network):
+            def __init__(self, first, second):
+                super().__init__(first)
+                self.second = second
+
+        self.assertEqual((str(Made("10.0.0.0/8", 2)), Made("10.0.0.0/8", 2).second), ("10.0.0.0/8", 2))
 
     def test_membership(self):
         net = IPv4Network("74.125.227.0/25")
         self.assertIn(IPv4Address("74.125.227.4"), net)
         self.assertNotIn(IPv4Address("74.125.228.4"), net)
         self.assertNotIn(IPv6Address("::ffff:74.125.227.4"), net)
-        with self.assertRaises(TypeError):
-            "74.125.227.4" in net
+        # A network is no member, as in ipaddress, and an interface is its address.
+        self.assertNotIn(net, net)
+        self.assertNotIn(ipaddress.ip_network("74.125.227.4/32"), net)
+        self.assertIn(ipaddress.ip_interface("74.125.227.4/8"), net)
+        for given in ("74.125.227.4", 1, None, b"\x4a\x7d\xe3\x04"):
+            with self.assertRaises(TypeError):
+                given in net
 
     def test_columns(self):
         for kind, address, net in (
@@ -218,21 +234,42 @@ class Questions(unittest.TestCase):
             with self.assertRaises(ValueError):
                 ipnetwork.read_address_column(b"::", wrong)
 
-    def test_lists(self):
+    def test_sets_of_addresses(self):
         texts = ["10.0.0.7/8", "2001:db8::/33", "192.0.2.0/25", "2001:db8:8000::/33"]
-        allowed = ipnetwork.NetworkList(map(ip_network, texts))
-        for text, wanted in (
+        allowed = AddressSet(map(ip_network, texts))
+        self.assertEqual(list(map(str, allowed)), ["10.0.0.0/8", "192.0.2.0/25", "2001:db8::/32"])
+        rows = [
             ("10.255.0.0", True),
             ("192.0.2.127", True),
             ("192.0.2.128", False),
             ("2001:db8:8000::1", True),
             ("2001:db9::", False),
             ("2001:db8::1%eth0", False),
-        ):
+        ]
+        for text, wanted in rows:
             self.assertEqual(ipaddress.ip_address(text) in allowed, wanted, text)
-        self.assertNotIn(IPv4Address("0.0.0.0"), ipnetwork.NetworkList([]))
+        offsets = array.array("I", itertools.accumulate((len(text) for text, _ in rows), initial=0))
+        addresses, _ = ipnetwork.read_address_column("".join(text for text, _ in rows).encode(), offsets)
+        for column in (addresses, bytes(addresses), memoryview(addresses)):
+            self.assertEqual(list(allowed.contains_column(column)), [int(wanted) for _, wanted in rows])
+        self.assertEqual(allowed.contains_column(b""), b"")
+        with self.assertRaises(ValueError):
+            allowed.contains_column(bytes(16))
+        self.assertEqual(allowed.num_addresses, 2**24 + 128 + 2**96)
+        parts = [AddressSet([ip_network(text)]) for text in texts]
+        self.assertEqual(parts[0] | parts[1] | parts[2] | parts[3], allowed)
+        self.assertEqual(hash(parts[3] | parts[2] | parts[1] | parts[0]), hash(allowed))
+        self.assertNotEqual(parts[0], allowed)
+        for again in (pickle.loads(pickle.dumps(allowed)), copy.deepcopy(allowed), eval(repr(allowed), vars(ipnetwork))):
+            self.assertEqual(again, allowed)
+        self.assertNotIn(IPv4Address("0.0.0.0"), AddressSet())
+        self.assertFalse(AddressSet())
+        self.assertTrue(allowed)
+        for wrong in (ipaddress.ip_network("10.0.0.0/8"), "10.0.0.0/8"):
+            with self.assertRaises(TypeError):
+                AddressSet([wrong])
         with self.assertRaises(TypeError):
-            ipnetwork.NetworkList([ipaddress.ip_network("10.0.0.0/8")])
+            allowed | {}
         with self.assertRaises(TypeError):
             "10.0.0.1" in allowed
 
@@ -257,8 +294,53 @@ class Questions(unittest.TestCase):
         inner, outer = IPv6Network("2000:aaa::/56"), IPv6Network("2000:aaa::/48")
         self.assertTrue(inner.subnet_of(outer) and outer.supernet_of(inner) and inner.overlaps(outer))
         self.assertFalse(outer.subnet_of(inner) or inner.supernet_of(outer))
+        for other in (IPv4Network("0.0.0.0/0"), ipaddress.ip_network("::/0"), "::/0"):
+            with self.assertRaises(TypeError):
+                inner.subnet_of(other)
+            with self.assertRaises(TypeError):
+                inner.supernet_of(other)
+        # As in ipaddress.
+        self.assertFalse(inner.overlaps(IPv4Network("0.0.0.0/0")))
         with self.assertRaises(TypeError):
-            inner.subnet_of(IPv4Network("0.0.0.0/0"))
+            inner.overlaps("::/0")
+
+    def test_of_ipaddress(self):
+        for text in ("10.1.9.32/16", "2001:db8::1/64", "::/0"):
+            network = ip_network(text)
+            interface = ipaddress.ip_interface(text)
+            self.assertEqual(network.to_ipaddress(), interface)
+            self.assertEqual(type(network).from_ipaddress(interface), network)
+            masked = type(network).from_ipaddress(interface.network)
+            self.assertEqual((masked.ip, masked.prefixlen), (network.network_address, network.prefixlen))
+            self.assertNotEqual(network, interface.network)
+            for wrong in (text, network, ipaddress.ip_network("10.0.0.0/8" if network.version == 6 else "::/0")):
+                with self.assertRaises(TypeError):
+                    type(network).from_ipaddress(wrong)
+        zoned = ipaddress.ip_interface("fe80::1%eth0/64")
+        for given in (zoned, zoned.network):
+            if getattr(given, "scope_id", None) or given.network_address.scope_id:
+                with self.assertRaises(AddressError):
+                    IPv6Network.from_ipaddress(given)
+
+    def test_index(self):
+        class Seven:
+            def __index__(self):
+                return 7
+
+        net = IPv4Network("10.0.0.0/24")
+        self.assertEqual(net[Seven()], IPv4Address("10.0.0.7"))
+        self.assertEqual(IPv4Network.of(IPv4Address("10.0.0.0"), Seven()).prefixlen, 7)
+        for index in (1.0, "1", None):
+            with self.assertRaises(TypeError):
+                net[index]
+            with self.assertRaises(TypeError):
+                IPv4Network.of(IPv4Address("10.0.0.0"), index)
+        for index in (2**200, -(2**200), 2**32, 2**64):
+            with self.assertRaises(IndexError):
+                net[index]
+        for prefixlen in (2**200, -(2**200)):
+            with self.assertRaises(PrefixError):
+                IPv4Network.of(IPv4Address("10.0.0.0"), prefixlen)
 
     def test_members(self):
         members = [str(address) for address in IPv4Network("192.168.122.1/30")]
@@ -280,6 +362,7 @@ class Questions(unittest.TestCase):
         self.assertEqual(pickle.loads(pickle.dumps(nets[1])), nets[1])
         self.assertEqual(copy.copy(nets[1]), nets[1])
         self.assertEqual(f"{nets[1]:>12}|{nets[1]}", "  10.0.0.0/8|10.0.0.0/8")
+        self.assertEqual(copy.deepcopy(nets)[1], nets[1])
         with self.assertRaises(AttributeError):
             nets[1].hostmask_of_none
         self.assertEqual(eval(repr(nets[1])), nets[1])

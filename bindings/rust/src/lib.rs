@@ -18,7 +18,9 @@
 use core::cmp::Ordering;
 use core::error::Error;
 use core::fmt;
+use core::iter::FusedIterator;
 use core::net::{IpAddr, Ipv4Addr, Ipv6Addr};
+use core::ops::RangeInclusive;
 use core::str::FromStr;
 
 /// Why there is no network, or no answer.
@@ -84,6 +86,14 @@ mod c {
         pub v6: Network<16>,
     }
 
+    /// The octets of an IPv4 address are the first four.
+    #[repr(C)]
+    #[derive(Clone, Copy)]
+    pub struct Address {
+        pub octets: [u8; 16],
+        pub length: u8,
+    }
+
     pub type V4 = Network<4>;
     pub type V6 = Network<16>;
 
@@ -96,6 +106,11 @@ mod c {
             address: *const u8,
             length: usize,
             answer: &mut u8,
+        ) -> u32;
+        pub unsafe fn ipnetwork_address_read(
+            text: *const u8,
+            length: usize,
+            address: &mut Address,
         ) -> u32;
         pub unsafe fn ipnetwork_v4_read(text: *const u8, length: usize, network: &mut V4) -> u32;
         pub unsafe fn ipnetwork_v6_read(text: *const u8, length: usize, network: &mut V6) -> u32;
@@ -231,7 +246,7 @@ macro_rules! family {
         $(#[$doc:meta])* $name:ident, $octets:literal, $address:ident, $text:literal,
         $read:ident, $new:ident, $canonical:ident, $contains:ident, $network:ident, $broadcast:ident, $mask:ident,
         $prefix_of_mask:ident, $is_subnet_of:ident, $overlaps:ident, $compare:ident, $contains_column:ident,
-        $list_contains:ident, $aggregate:ident, $read_column:ident
+        $list_contains:ident, $aggregate:ident, $read_column:ident, $members:ident, $index:ident, $set:ident
     ) => {
         $(#[$doc])*
         #[derive(Clone, Copy, PartialEq, Eq, Hash, Debug)]
@@ -368,10 +383,88 @@ macro_rules! family {
             }
         }
 
+        impl $name {
+            /// The members, each once, in ascending order.
+            pub fn members(&self) -> $members {
+                $members { network: *self, indexes: 0..=self.last() }
+            }
+        }
+
+        impl IntoIterator for $name {
+            type Item = $address;
+            type IntoIter = $members;
+
+            fn into_iter(self) -> $members {
+                self.members()
+            }
+        }
+
+        /// The members of a network, each once, in ascending order.
+        #[derive(Clone, Debug)]
+        pub struct $members {
+            network: $name,
+            indexes: RangeInclusive<$index>,
+        }
+
+        impl Iterator for $members {
+            type Item = $address;
+
+            fn next(&mut self) -> Option<$address> {
+                self.indexes.next().and_then(|index| self.network.nth(index))
+            }
+
+            fn nth(&mut self, skipped: usize) -> Option<$address> {
+                self.indexes.nth(skipped).and_then(|index| self.network.nth(index))
+            }
+
+            fn size_hint(&self) -> (usize, Option<usize>) {
+                self.indexes.size_hint()
+            }
+        }
+
+        impl DoubleEndedIterator for $members {
+            fn next_back(&mut self) -> Option<$address> {
+                self.indexes.next_back().and_then(|index| self.network.nth(index))
+            }
+        }
+
+        impl FusedIterator for $members {}
+
+        /// The addresses of networks, in the memory of the caller. Sets with the same addresses are equal.
+        #[derive(Clone, Copy, PartialEq, Eq, Hash, Debug)]
+        pub struct $set<'a>(&'a [$name]);
+
+        impl<'a> $set<'a> {
+            /// The addresses of these networks, in any order, host bits or not, whose memory it takes. The union of sets
+            /// is the set of their blocks.
+            pub fn new(networks: &'a mut [$name]) -> Self {
+                $set($name::aggregate(networks))
+            }
+
+            /// The fewest networks that have these addresses, in ascending order.
+            pub fn blocks(&self) -> &'a [$name] {
+                self.0
+            }
+
+            /// Whether an address is one of the set. It looks at one block after the other.
+            pub fn contains(&self, address: $address) -> bool {
+                $name::any_contains(self.0, address)
+            }
+        }
+
         impl From<$address> for $name {
             /// The network of this address alone, whose prefix length is the full width.
             fn from(address: $address) -> Self {
                 $name(c::Network { address: address.octets(), prefix: $octets * 8 })
+            }
+        }
+
+        impl TryFrom<($address, u8)> for $name {
+            type Error = Fault;
+
+            /// The network of this address and this prefix length, as `new` makes it.
+            fn try_from((address, prefix): ($address, u8)) -> Result<Self, Fault> {
+                Self::new(address, prefix)
             }
         }
 
@@ -416,7 +509,7 @@ family!(
     ipnetwork_v4_read, ipnetwork_v4_new, ipnetwork_v4_canonical, ipnetwork_v4_contains, ipnetwork_v4_network,
     ipnetwork_v4_broadcast, ipnetwork_v4_mask, ipnetwork_v4_prefix_of_mask, ipnetwork_v4_is_subnet_of,
     ipnetwork_v4_overlaps, ipnetwork_v4_compare, ipnetwork_v4_contains_column, ipnetwork_v4_list_contains,
-    ipnetwork_v4_aggregate, ipnetwork_v4_read_column
+    ipnetwork_v4_aggregate, ipnetwork_v4_read_column, Ipv4Members, u32, Ipv4Set
 );
 
 family!(
@@ -426,10 +519,15 @@ family!(
     ipnetwork_v6_read, ipnetwork_v6_new, ipnetwork_v6_canonical, ipnetwork_v6_contains, ipnetwork_v6_network,
     ipnetwork_v6_broadcast, ipnetwork_v6_mask, ipnetwork_v6_prefix_of_mask, ipnetwork_v6_is_subnet_of,
     ipnetwork_v6_overlaps, ipnetwork_v6_compare, ipnetwork_v6_contains_column, ipnetwork_v6_list_contains,
-    ipnetwork_v6_aggregate, ipnetwork_v6_read_column
+    ipnetwork_v6_aggregate, ipnetwork_v6_read_column, Ipv6Members, u128, Ipv6Set
 );
 
 impl Ipv4Network {
+    /// The number of the last member.
+    fn last(&self) -> u32 {
+        u32::try_from(self.size() - 1).expect("the library numbers the members by 32 bits")
+    }
+
     /// The number of members.
     pub fn size(&self) -> u64 {
         let mut size = 0;
@@ -451,6 +549,11 @@ impl Ipv4Network {
 }
 
 impl Ipv6Network {
+    /// The number of the last member.
+    fn last(&self) -> u128 {
+        self.size().map_or(u128::MAX, |size| size - 1)
+    }
+
     /// The number of members; `None` at prefix length 0, where it is 2^128.
     pub fn size(&self) -> Option<u128> {
         let mut octets = [0; 17];
@@ -470,6 +573,22 @@ impl Ipv6Network {
             }
         }
     }
+}
+
+/// The address of either family that a text names, whatever its bytes, in the forms that a network has before a `/`. For
+/// any other text, with a `/` or a zone, `Fault::Address`.
+pub fn read_address(text: &[u8]) -> Result<IpAddr, Fault> {
+    let mut address = c::Address {
+        octets: [0; 16],
+        length: 0,
+    };
+    // SAFETY: a slice is never null, and has this many bytes.
+    result(unsafe { c::ipnetwork_address_read(text.as_ptr(), text.len(), &mut address) })?;
+    let [a, b, c, d, ..] = address.octets;
+    Ok(match address.length {
+        4 => IpAddr::V4(Ipv4Addr::new(a, b, c, d)),
+        _ => IpAddr::V6(Ipv6Addr::from(address.octets)),
+    })
 }
 
 /// A network of either family. Each IPv4 network is before each IPv6 network.
@@ -573,6 +692,38 @@ impl IpNetwork {
         }
     }
 
+    /// The number of members; `None` of an IPv6 network at prefix length 0, where it is 2^128.
+    pub fn size(&self) -> Option<u128> {
+        match self {
+            IpNetwork::V4(network) => Some(network.size().into()),
+            IpNetwork::V6(network) => network.size(),
+        }
+    }
+
+    /// The member number `index` in order, counted from 0; `None` if there are no more than that.
+    pub fn nth(&self, index: u128) -> Option<IpAddr> {
+        match self {
+            IpNetwork::V4(network) => Some(network.nth(u32::try_from(index).ok()?)?.into()),
+            IpNetwork::V6(network) => Some(network.nth(index)?.into()),
+        }
+    }
+
+    /// The members, each once, in ascending order.
+    pub fn members(&self) -> IpMembers {
+        match self {
+            IpNetwork::V4(network) => IpMembers::V4(network.members()),
+            IpNetwork::V6(network) => IpMembers::V6(network.members()),
+        }
+    }
+
+    /// The prefix length of a mask; `Fault::NoMask` where the address is none.
+    pub fn prefix_of_mask(mask: IpAddr) -> Result<u8, Fault> {
+        match mask {
+            IpAddr::V4(mask) => Ipv4Network::prefix_of_mask(mask),
+            IpAddr::V6(mask) => Ipv6Network::prefix_of_mask(mask),
+        }
+    }
+
     /// Whether each member of this network is a member of `other`; `false` if they are of different families.
     pub fn is_subnet_of(&self, other: &Self) -> bool {
         match (self, other) {
@@ -589,6 +740,44 @@ impl IpNetwork {
             (IpNetwork::V6(one), IpNetwork::V6(other)) => one.overlaps(other),
             _ => false,
         }
+    }
+}
+
+/// The members of a network of either family, each once, in ascending order.
+#[derive(Clone, Debug)]
+pub enum IpMembers {
+    /// Those of an IPv4 network.
+    V4(Ipv4Members),
+    /// Those of an IPv6 network.
+    V6(Ipv6Members),
+}
+
+impl Iterator for IpMembers {
+    type Item = IpAddr;
+
+    fn next(&mut self) -> Option<IpAddr> {
+        match self {
+            IpMembers::V4(members) => members.next().map(IpAddr::V4),
+            IpMembers::V6(members) => members.next().map(IpAddr::V6),
+        }
+    }
+
+    fn size_hint(&self) -> (usize, Option<usize>) {
+        match self {
+            IpMembers::V4(members) => members.size_hint(),
+            IpMembers::V6(members) => members.size_hint(),
+        }
+    }
+}
+
+impl FusedIterator for IpMembers {}
+
+impl IntoIterator for IpNetwork {
+    type Item = IpAddr;
+    type IntoIter = IpMembers;
+
+    fn into_iter(self) -> IpMembers {
+        self.members()
     }
 }
 
@@ -611,6 +800,15 @@ impl From<IpAddr> for IpNetwork {
             IpAddr::V4(address) => IpNetwork::V4(address.into()),
             IpAddr::V6(address) => IpNetwork::V6(address.into()),
         }
+    }
+}
+
+impl TryFrom<(IpAddr, u8)> for IpNetwork {
+    type Error = Fault;
+
+    /// The network of this address and this prefix length, as `new` makes it.
+    fn try_from((address, prefix): (IpAddr, u8)) -> Result<Self, Fault> {
+        Self::new(address, prefix)
     }
 }
 

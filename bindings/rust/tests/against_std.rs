@@ -1,7 +1,7 @@
 //! Every answer compared with `std::net` and plain arithmetic, on random texts and networks, and on mutated ones.
 //! `IPNETWORK_ROWS` is how many of each, a million where it is not set; `IPNETWORK_SEED` chooses others.
 
-use ipnetwork_c::{Fault, IpNetwork, Ipv4Network, Ipv6Network};
+use ipnetwork_c::{Fault, IpNetwork, Ipv4Network, Ipv4Set, Ipv6Network, Ipv6Set, read_address};
 use std::env;
 use std::net::{IpAddr, Ipv4Addr, Ipv6Addr};
 
@@ -503,4 +503,102 @@ fn columns_of_texts() {
     }
     assert_eq!((networks, faults), before);
     assert_eq!(read(&[], &mut [], &mut []), Ok(()));
+}
+
+#[test]
+fn members_in_order() {
+    let four: Ipv4Network = "192.168.122.1/30".parse().unwrap();
+    let all: Vec<String> = four.into_iter().map(|each| each.to_string()).collect();
+    let wanted = [
+        "192.168.122.0",
+        "192.168.122.1",
+        "192.168.122.2",
+        "192.168.122.3",
+    ];
+    assert_eq!(all, wanted);
+    assert!(
+        four.members()
+            .rev()
+            .eq(four.members().collect::<Vec<_>>().into_iter().rev())
+    );
+    assert_eq!(four.members().size_hint(), (4, Some(4)));
+    assert_eq!(four.members().nth(2), four.nth(2));
+    let all_four: Ipv4Network = "0.0.0.0/0".parse().unwrap();
+    assert_eq!(all_four.members().next_back(), Some(Ipv4Addr::BROADCAST));
+    let all_six: Ipv6Network = "::/0".parse().unwrap();
+    assert_eq!(
+        all_six.members().next_back(),
+        Some(Ipv6Addr::from(u128::MAX))
+    );
+    let last: Ipv6Network = "ffff:ffff:ffff:ffff:ffff:ffff:ffff:ffff/127"
+        .parse()
+        .unwrap();
+    assert_eq!(
+        last.members().map(u128::from).collect::<Vec<_>>(),
+        [u128::MAX - 1, u128::MAX]
+    );
+    for text in ["10.0.0.7/30", "2001:db8::/126"] {
+        let network: IpNetwork = text.parse().unwrap();
+        let members: Vec<IpAddr> = network.into_iter().collect();
+        assert_eq!(members.len() as u128, network.size().unwrap());
+        assert_eq!(
+            (members[0], members[3]),
+            (network.network(), network.broadcast())
+        );
+        assert_eq!((network.nth(1), network.nth(4)), (Some(members[1]), None));
+        assert_eq!(
+            IpNetwork::try_from((network.ip(), network.prefix())),
+            Ok(network)
+        );
+        assert_eq!(IpNetwork::try_from((network.ip(), 129)), Err(Fault::Prefix));
+        assert_eq!(
+            IpNetwork::prefix_of_mask(network.mask()),
+            Ok(network.prefix())
+        );
+    }
+    assert_eq!("::/0".parse::<IpNetwork>().unwrap().size(), None);
+    assert_eq!("0.0.0.0/0".parse::<IpNetwork>().unwrap().nth(1 << 32), None);
+}
+
+#[test]
+fn sets_of_the_same_addresses() {
+    let mut networks =
+        ["10.128.0.0/9", "10.0.0.0/9", "10.1.9.32/16"].map(|text| text.parse().unwrap());
+    let mut whole: [Ipv4Network; 1] = ["10.0.0.0/8".parse().unwrap()];
+    let set = Ipv4Set::new(&mut networks);
+    assert_eq!(set, Ipv4Set::new(&mut whole));
+    assert_eq!(set.blocks().len(), 1);
+    assert!(
+        set.contains(Ipv4Addr::new(10, 255, 0, 0)) && !set.contains(Ipv4Addr::new(11, 0, 0, 0))
+    );
+    assert!(!Ipv6Set::new(&mut []).contains(Ipv6Addr::LOCALHOST));
+}
+
+#[test]
+fn addresses_alone() {
+    for text in [
+        "10.1.9.32",
+        "2001:DB8::1",
+        "::ffff:192.0.2.9",
+        "1:2:3:4:5:6:7::",
+    ] {
+        assert_eq!(
+            read_address(text.as_bytes()),
+            Ok(text.parse::<IpAddr>().unwrap())
+        );
+    }
+    for text in [
+        "",
+        "10.1.9",
+        "10.1.9.32/32",
+        "fe80::1%eth0",
+        "01.2.3.4",
+        "::\0",
+    ] {
+        assert_eq!(
+            read_address(text.as_bytes()),
+            Err(Fault::Address),
+            "{text:?}"
+        );
+    }
 }

@@ -1,0 +1,3 @@
+module ipnetwork
+
+go 1.19

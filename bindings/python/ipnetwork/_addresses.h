@@ -1,0 +1,139 @@
+/* What a network of the extension holds, and how errors and addresses go to Python and come from it. */
+#ifndef IPNETWORK_ADDRESSES_H
+#define IPNETWORK_ADDRESSES_H
+
+#define PY_SSIZE_T_CLEAN
+#include <Python.h>
+#include <structmember.h>
+#include <stddef.h>
+#include <string.h>
+#include "ipnetwork.h"
+
+typedef struct {
+    PyObject_HEAD
+    ipnetwork_ip held;
+    /* Told as the network is made, since `ipaddress` has these at hand too. */
+    PyObject *least, *mask;
+    /* What was told already, or NULL. */
+    PyObject *text, *ip, *greatest, *size, *members;
+} Network;
+
+/* Set once, as the module is imported. */
+static PyTypeObject *network_type, *v4_type, *v6_type;                 /* the types of this file */
+static PyObject *v4_class, *v6_class;                                  /* the classes that `register` is given */
+static PyObject *v4_address, *v6_address, *base_network;               /* those of ipaddress */
+static PyObject *make_error, *map_of, *range_of, *int_from_bytes;
+static PyObject *name_ip, *name_scope, *big, *sixty_four, *zero, *one;
+static PyObject *masks[2][129];  /* those told already, by prefix length */
+static int plain;                /* whether an address of ipaddress is its number alone: see `is_plain` */
+
+/* Raises what `_errors.error` makes of a fault and of what was given. */
+static void raise_fault(ipnetwork_fault fault, PyObject *given) {
+    PyObject *error = PyObject_CallFunction(make_error, "IO", (unsigned int)fault, given);
+    if (error != NULL) {
+        PyErr_SetObject((PyObject *)Py_TYPE(error), error);
+        Py_DECREF(error);
+    }
+}
+
+/* A question about a network that the library made has no fault. */
+static int answered(ipnetwork_fault fault) {
+    if (fault == IPNETWORK_OK) return 1;
+    PyErr_Format(PyExc_RuntimeError, "the library answered fault %u to a question about a network", (unsigned int)fault);
+    return 0;
+}
+
+/* The number as 16 octets, the highest first; 0 with OverflowError where it is negative or has more than 128 bits. */
+static int octets_of_number(PyObject *number, uint8_t octets[16]) {
+    unsigned long long low = PyLong_AsUnsignedLongLongMask(number), high;
+    if (low == (unsigned long long)-1 && PyErr_Occurred()) return 0;
+    PyObject *shifted = PyNumber_Rshift(number, sixty_four);
+    if (shifted == NULL) return 0;
+    high = PyLong_AsUnsignedLongLong(shifted);
+    Py_DECREF(shifted);
+    if (high == (unsigned long long)-1 && PyErr_Occurred()) return 0;
+    for (int place = 7; place >= 0; place--, high >>= 8, low >>= 8) {
+        octets[place] = (uint8_t)high;
+        octets[place + 8] = (uint8_t)low;
+    }
+    return 1;
+}
+
+static PyObject *number_of_octets(const uint8_t *octets, Py_ssize_t count) {
+    if (count == 4)
+        return PyLong_FromUnsignedLong((unsigned long)octets[0] << 24 | (unsigned long)octets[1] << 16 | (unsigned long)octets[2] << 8 | octets[3]);
+    PyObject *bytes = PyBytes_FromStringAndSize((const char *)octets, count), *number = NULL;
+    if (bytes != NULL) {
+        number = PyObject_CallFunctionObjArgs(int_from_bytes, bytes, big, NULL);
+        Py_DECREF(bytes);
+    }
+    return number;
+}
+
+/* Whether the slots of an address are its number, and of IPv6 its zone, and nothing else: then one is made by setting
+ * them, which takes a fraction of the time of its constructor. */
+static int is_plain(PyObject *type, const char *slots) {
+    PyObject *names = PyObject_GetAttrString(type, "__slots__"), *sorted = names == NULL ? NULL : PySequence_List(names), *shown = NULL;
+    int same = -1;
+    if (sorted != NULL && PyList_Sort(sorted) == 0 && (shown = PyObject_Repr(sorted)) != NULL)
+        same = PyUnicode_CompareWithASCIIString(shown, slots) == 0;
+    Py_XDECREF(names), Py_XDECREF(sorted), Py_XDECREF(shown);
+    return same;
+}
+
+/* The address of ipaddress of 4 or 16 octets. */
+static PyObject *address_object(const uint8_t *octets, uint8_t length) {
+    PyObject *number = number_of_octets(octets, length), *type = length == 4 ? v4_address : v6_address, *address = NULL;
+    if (number == NULL) return NULL;
+    if (!plain) {
+        address = PyObject_CallFunctionObjArgs(type, number, NULL);
+    } else if ((address = PyType_GenericAlloc((PyTypeObject *)type, 0)) != NULL
+               && (PyObject_SetAttr(address, name_ip, number) < 0
+                   || (length == 16 && PyObject_SetAttr(address, name_scope, Py_None) < 0))) {
+        Py_CLEAR(address);
+    }
+    Py_DECREF(number);
+    return address;
+}
+
+/* What an object is: an address, its octets put where the last argument says; an address with a zone; or neither. */
+enum { IS_ADDRESS, HAS_ZONE, NO_ADDRESS, HAS_RAISED };
+
+static int address_of(PyObject *object, ipnetwork_address *address) {
+    if (PyObject_TypeCheck(object, (PyTypeObject *)v4_address)) {
+        PyObject *number = PyObject_GetAttr(object, name_ip);
+        if (number == NULL) return HAS_RAISED;
+        unsigned long bits = PyLong_AsUnsignedLong(number);
+        Py_DECREF(number);
+        if (bits == (unsigned long)-1 && PyErr_Occurred()) return HAS_RAISED;
+        for (int place = 3; place >= 0; place--, bits >>= 8) address->octets[place] = (uint8_t)bits;
+        address->length = 4;
+        return IS_ADDRESS;
+    }
+    if (PyObject_TypeCheck(object, (PyTypeObject *)v6_address)) {
+        PyObject *zone = PyObject_GetAttr(object, name_scope);
+        if (zone == NULL) return HAS_RAISED;
+        int zoned = zone != Py_None;
+        Py_DECREF(zone);
+        if (zoned) return HAS_ZONE;
+        PyObject *number = PyObject_GetAttr(object, name_ip);
+        if (number == NULL) return HAS_RAISED;
+        int whole = octets_of_number(number, address->octets);
+        Py_DECREF(number);
+        address->length = 16;
+        return whole ? IS_ADDRESS : HAS_RAISED;
+    }
+    return NO_ADDRESS;
+}
+
+/* The answer of `in` about what has no octets: an address with a zone and a network are no members; else TypeError. */
+static int no_member(PyObject *object, int kind) {
+    if (kind == HAS_RAISED) return -1;
+    if (kind == HAS_ZONE || PyObject_TypeCheck(object, network_type)) return 0;
+    int network = PyObject_IsInstance(object, base_network);
+    if (network != 0) return network < 0 ? -1 : 0;
+    PyErr_Format(PyExc_TypeError, "an address is IPv4Address or IPv6Address, not %R", (PyObject *)Py_TYPE(object));
+    return -1;
+}
+
+#endif

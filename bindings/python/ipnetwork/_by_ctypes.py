@@ -1,0 +1,432 @@
+# mypy: ignore-errors
+# The types of these names are those of _native.pyi.
+"""The core of the package over ``ctypes``, which needs no compiler: the names of ``_native.c``, and what they mean.
+
+The library reads and prints networks, tells their ends, masks and sizes, and answers lists and columns. What it told is
+kept. An address is a member exactly if it is none before the least and none after the greatest, so that single addresses
+are compared with these two here; likewise whether one network is part of another. The bytes of a network are its address
+and its prefix length, so that equality and order are theirs.
+
+The shared library is looked for beside this file, as ``libipnetwork_c.so``, or at IPNETWORK_LIBRARY.
+"""
+
+from __future__ import annotations
+
+import array
+import ctypes
+import itertools
+import operator
+import os
+from collections.abc import Iterator
+from functools import cached_property
+from ipaddress import IPv4Address, IPv4Network, IPv6Address, IPv6Network
+from typing import TYPE_CHECKING, ClassVar, Generic, SupportsIndex, TypeVar, Union
+
+from ._errors import error
+
+if TYPE_CHECKING:
+    from _typeshed import ReadableBuffer
+
+
+class _V4(ctypes.Structure):
+    _fields_ = [("address", ctypes.c_ubyte * 4), ("prefix", ctypes.c_uint8)]
+
+
+class _V6(ctypes.Structure):
+    _fields_ = [("address", ctypes.c_ubyte * 16), ("prefix", ctypes.c_uint8)]
+
+
+class _Either(ctypes.Structure):
+    _fields_ = [("family", ctypes.c_uint8), ("v4", _V4), ("v6", _V6)]
+
+
+def _load() -> ctypes.CDLL:
+    beside = os.path.join(os.path.dirname(os.path.abspath(__file__)), "libipnetwork_c.so")
+    path = os.environ.get("IPNETWORK_LIBRARY", beside)
+    if not os.path.exists(path):
+        raise ImportError(
+            f"the library is not there, neither as _native beside {__file__} nor as {path}: install the package by "
+            "`pip install ./bindings/python`, after `rt lib` in crates/ipnetwork_c, or set IPNETWORK_LIBRARY to the path of "
+            "libipnetwork_c.so, as bindings/README.md says"
+        )
+    library = ctypes.CDLL(path)
+    pointer, octets, size, word = ctypes.c_void_p, ctypes.c_char_p, ctypes.c_size_t, ctypes.c_uint32
+    library.ipnetwork_abi_version.restype = word
+    library.ipnetwork_abi_version.argtypes = []
+    if library.ipnetwork_abi_version() != 2:
+        raise ImportError(f"{path} is of another version than this module: build it again, as bindings/README.md says")
+    library.ipnetwork_read.argtypes = [octets, size, pointer]
+    library.ipnetwork_read.restype = word
+    library.ipnetwork_address_read_column.argtypes = [octets, size, pointer, size, pointer, size, pointer, size]
+    library.ipnetwork_address_read_column.restype = word
+    for family in ("v4", "v6"):
+        for name, arguments in (
+            ("read", [octets, size, pointer]),
+            ("new", [octets, ctypes.c_uint8, pointer]),
+            ("canonical", [octets, pointer, size, pointer]),
+            ("contains_column", [octets, pointer, size, pointer, size]),
+            ("list_contains", [octets, size, octets, pointer]),
+            ("aggregate", [pointer, size, pointer]),
+            ("read_column", [octets, size, pointer, size, pointer, size, pointer, size]),
+            ("network", [octets, pointer]),
+            ("broadcast", [octets, pointer]),
+            ("mask", [octets, pointer]),
+            ("prefix_of_mask", [octets, pointer]),
+        ):
+            call = getattr(library, f"ipnetwork_{family}_{name}")
+            call.argtypes = arguments
+            call.restype = word
+    return library
+
+
+_library = _load()
+_Room = ctypes.c_char * 44
+_ADDRESS = 17  # the bytes of a struct ipnetwork_address
+
+Address = TypeVar("Address", IPv4Address, IPv6Address)
+_Kind = TypeVar("_Kind", bound="Network[IPv4Address] | Network[IPv6Address]")
+
+
+def _answered(fault: int) -> None:
+    """A question about a network has no fault, since its prefix length is one of its family."""
+    if fault:
+        raise RuntimeError(f"the library answered fault {fault} to a question about a network")
+
+
+def _bytes(given: str) -> bytes:
+    if isinstance(given, str):
+        return given.encode("utf-8", "surrogatepass")
+    raise TypeError(f"a network is given as str, or as bytes of a packed address, not as {type(given)!r}")
+
+
+def _flat(given: ReadableBuffer) -> memoryview:
+    """The bytes of a buffer."""
+    view = memoryview(given)
+    return view.cast("B") if view.nbytes else memoryview(b"")
+
+
+def _no_member(address: object) -> bool:
+    """The answer of ``in`` about what is no address of the family: an address of the other one and a network are no
+    members; else TypeError."""
+    if isinstance(address, (IPv4Address, IPv6Address, Network, IPv4Network, IPv6Network)):
+        return False
+    raise TypeError(f"an address is IPv4Address or IPv6Address, not {type(address)!r}")
+
+
+class Network(Generic[Address]):
+    """What the networks of both families have. Each is the bytes of its struct: the address, and the prefix length."""
+
+    _width: ClassVar[int]
+    _family: ClassVar[str]
+    _struct: ClassVar[type[ctypes.Structure]]
+    _octets: ClassVar[type[ctypes.Array[ctypes.c_ubyte]]]
+    _address: type[Address]
+
+    _row: bytes
+    prefixlen: int
+    # The ends as numbers; the least is negative until they are asked for.
+    _low: int
+    _high: int
+
+    def __init__(self, text: Union[str, bytes]) -> None:
+        """The network that a text names, or that of the packed address of these bytes alone. FormatError, AddressError
+        or PrefixError, the first that holds."""
+        if isinstance(text, bytes):
+            if len(text) != self._width:
+                raise error(2, text)
+            self._keep(text + bytes([self._width * 8]))
+            return
+        given = _bytes(text)
+        held = self._struct()
+        fault = self._read(given, len(given), ctypes.byref(held))
+        if fault:
+            raise error(fault, text)
+        self._keep(bytes(held))
+
+    def _keep(self, row: bytes) -> None:
+        self._row = row
+        self.prefixlen = row[-1]
+        self._low = -1
+
+    def _find(self) -> int:
+        """Asks for the ends, and gives the least."""
+        octets = self._octets()
+        place = ctypes.byref(octets)
+        fault = self._greatest(self._row, place)
+        self._high = int.from_bytes(octets, "big")
+        _answered(fault or self._least(self._row, place))
+        self._low = low = int.from_bytes(octets, "big")
+        return low
+
+    @cached_property
+    def ip(self) -> Address:
+        """The address, host bits included."""
+        return self._address(self._row[:-1])
+
+    @cached_property
+    def network_address(self) -> Address:
+        """The least member: the address with its host bits cleared."""
+        return self._address(self._find())
+
+    @cached_property
+    def broadcast_address(self) -> Address:
+        """The greatest member: the address with its host bits set."""
+        self._find()
+        return self._address(self._high)
+
+    @cached_property
+    def netmask(self) -> Address:
+        """The mask of the prefix length."""
+        octets = self._octets()
+        _answered(self._mask(self._row, ctypes.byref(octets)))
+        return self._address(bytes(octets))
+
+    @cached_property
+    def num_addresses(self) -> int:
+        """The number of members."""
+        low = self._find()
+        return self._high - low + 1
+
+    @cached_property
+    def _text(self) -> str:
+        room, length = _Room(), ctypes.c_size_t()
+        _answered(self._print(self._row, ctypes.byref(room), 44, ctypes.byref(length)))
+        return room.value.decode("ascii")
+
+    def __str__(self) -> str:
+        """The canonical text."""
+        return self._text
+
+    def __getitem__(self, index: SupportsIndex) -> Address:
+        """The member of this number in order, counted from 0, or from the end where it is negative."""
+        place = operator.index(index)
+        low = self._low if self._low >= 0 else self._find()
+        member = place + (low if place >= 0 else self._high + 1)
+        if not low <= member <= self._high:
+            raise IndexError("no member of this number")
+        return self._address(member)
+
+    def __iter__(self) -> Iterator[Address]:
+        """The members, each once, in ascending order."""
+        low = self._find()
+        return map(self._address, range(low, self._high + 1))
+
+    def __contains__(self, address: object) -> bool:
+        """Whether an address is a member. None of the other family is, none with a zone, and no network."""
+        if isinstance(address, self._address):
+            low = self._low
+            if low < 0:
+                low = self._find()
+            return low <= address._ip <= self._high and getattr(address, "_scope_id", None) is None
+        return _no_member(address)
+
+    def contains_column(self, packed: ReadableBuffer) -> bytearray:
+        """For each address of a column a byte: 1 if it is a member of the network, and 0 if it is not.
+
+        A column is packed addresses of the network's family, one behind the other, in any contiguous buffer: ``bytes``,
+        ``bytearray``, ``memoryview``, an array of NumPy. ValueError if it has a part of an address at its end.
+        """
+        view = _flat(packed)
+        count, part = divmod(view.nbytes, self._width)
+        if part:
+            raise ValueError(f"{view.nbytes} bytes are no column of addresses of {self._width} bytes")
+        answers = bytearray(count)
+        if count:
+            given = bytes(view) if view.readonly else (ctypes.c_ubyte * view.nbytes).from_buffer(view)
+            room = (ctypes.c_ubyte * count).from_buffer(answers)
+            _answered(self._column(self._row, given, count, room, count))
+        return answers
+
+    def _of_this(self, other: Network[Address]) -> None:
+        if not isinstance(other, Network) or other._width != self._width:
+            raise TypeError(f"{self!r} and {other!r} are not networks of this package and of one family")
+
+    def subnet_of(self, other: Network[Address]) -> bool:
+        """Whether each member of this network is a member of ``other``. Host bits change nothing."""
+        if other.__class__ is not self.__class__:
+            self._of_this(other)
+        low = self._low if self._low >= 0 else self._find()
+        outer = other._low if other._low >= 0 else other._find()
+        return outer <= low and self._high <= other._high
+
+    def supernet_of(self, other: Network[Address]) -> bool:
+        """Whether each member of ``other`` is a member of this network. Host bits change nothing."""
+        if other.__class__ is not self.__class__:
+            self._of_this(other)
+        return other.subnet_of(self)
+
+    def overlaps(self, other: Union[Network[IPv4Address], Network[IPv6Address]]) -> bool:
+        """Whether some address is a member of both; ``False`` if the families differ."""
+        if not isinstance(other, Network):
+            self._of_this(other)
+        low = self._low if self._low >= 0 else self._find()
+        least = other._low if other._low >= 0 else other._find()
+        return self._width == other._width and least <= self._high and low <= other._high
+
+    # The bytes of networks of different families differ in length, so that these are not equal.
+    def __eq__(self, other: object) -> bool:
+        return self._row == other._row if isinstance(other, Network) else NotImplemented
+
+    def __hash__(self) -> int:
+        return hash(self._row)
+
+    def __lt__(self, other: Network[Address]) -> bool:
+        return self._row < other._row if isinstance(other, Network) and other._width == self._width else NotImplemented
+
+    def __le__(self, other: Network[Address]) -> bool:
+        return self._row <= other._row if isinstance(other, Network) and other._width == self._width else NotImplemented
+
+    def __gt__(self, other: Network[Address]) -> bool:
+        return self._row > other._row if isinstance(other, Network) and other._width == self._width else NotImplemented
+
+    def __ge__(self, other: Network[Address]) -> bool:
+        return self._row >= other._row if isinstance(other, Network) and other._width == self._width else NotImplemented
+
+
+class V4(Network[IPv4Address]):
+    """The IPv4 networks."""
+
+    _width = 4
+    _family = "v4"
+    _struct = _V4
+    _address = IPv4Address
+    _octets = ctypes.c_ubyte * 4
+    _read = _library.ipnetwork_v4_read
+    _print = _library.ipnetwork_v4_canonical
+    _column = _library.ipnetwork_v4_contains_column
+    _least = _library.ipnetwork_v4_network
+    _greatest = _library.ipnetwork_v4_broadcast
+    _mask = _library.ipnetwork_v4_mask
+
+
+class V6(Network[IPv6Address]):
+    """The IPv6 networks."""
+
+    _width = 16
+    _family = "v6"
+    _struct = _V6
+    _address = IPv6Address
+    _octets = ctypes.c_ubyte * 16
+    _read = _library.ipnetwork_v6_read
+    _print = _library.ipnetwork_v6_canonical
+    _column = _library.ipnetwork_v6_contains_column
+    _least = _library.ipnetwork_v6_network
+    _greatest = _library.ipnetwork_v6_broadcast
+    _mask = _library.ipnetwork_v6_mask
+
+
+_classes: tuple[type[V4], type[V6]] = (V4, V6)
+
+
+def register(four: type[V4], six: type[V6]) -> None:
+    """Says of which classes ``ip_network`` makes networks."""
+    global _classes
+    _classes = four, six
+
+
+def ip_network(text: Union[str, bytes]) -> Union[V4, V6]:
+    """The network of either family that a text names, or that of a packed address."""
+    if isinstance(text, bytes):
+        return _classes[len(text) == 16](text)
+    given = _bytes(text)
+    either = _Either()
+    if _library.ipnetwork_read(given, len(given), ctypes.byref(either)):
+        raise error(0, text)
+    kind, held = (_classes[0], either.v4) if either.family == 4 else (_classes[1], either.v6)
+    network = kind.__new__(kind)
+    network._keep(bytes(held))
+    return network
+
+
+def of_packed(kind: type[_Kind], packed: bytes, prefixlen: SupportsIndex) -> _Kind:
+    """The network of a packed address and a prefix length."""
+    given = operator.index(prefixlen)
+    held = kind._struct()
+    fault = 3 if not 0 <= given <= 255 else getattr(_library, f"ipnetwork_{kind._family}_new")(packed, given, ctypes.byref(held))
+    if fault:
+        raise error(fault, given)
+    network = kind.__new__(kind)
+    network._keep(bytes(held))
+    return network
+
+
+def of_rows(kind: type[_Kind], rows: bytes) -> list[_Kind]:
+    """The networks whose structs these bytes are."""
+    step = kind._width + 1
+    networks = []
+    for at in range(0, len(rows), step):
+        network = kind.__new__(kind)
+        network._keep(rows[at : at + step])
+        networks.append(network)
+    return networks
+
+
+def prefix_of_mask(packed: bytes) -> int:
+    """The prefix length of a packed mask; MaskError if it is none."""
+    prefix = ctypes.c_uint8()
+    fault = getattr(_library, f"ipnetwork_v{4 if len(packed) == 4 else 6}_prefix_of_mask")(packed, ctypes.byref(prefix))
+    if fault:
+        raise error(fault, packed)
+    return prefix.value
+
+
+def aggregate(version: int, rows: bytes) -> bytes:
+    """The aggregate of the networks whose structs these bytes are."""
+    room, count, step = ctypes.create_string_buffer(rows, len(rows)), ctypes.c_size_t(), 5 if version == 4 else 17
+    _answered(getattr(_library, f"ipnetwork_v{version}_aggregate")(room, len(rows) // step, ctypes.byref(count)))
+    return room.raw[: count.value * step]
+
+
+def _list_has(fours: bytes, sixes: bytes, packed: bytes) -> bool:
+    answer = ctypes.c_uint8()
+    if len(packed) == 4:
+        _answered(_library.ipnetwork_v4_list_contains(fours, len(fours) // 5, packed, ctypes.byref(answer)))
+    elif len(packed) == 16:
+        _answered(_library.ipnetwork_v6_list_contains(sixes, len(sixes) // 17, packed, ctypes.byref(answer)))
+    return answer.value == 1
+
+
+def list_contains(fours: bytes, sixes: bytes, address: object) -> bool:
+    """Whether an address is a member of one of the networks whose structs these bytes are."""
+    if isinstance(address, (IPv4Address, IPv6Address)):
+        return getattr(address, "_scope_id", None) is None and _list_has(fours, sixes, address.packed)
+    return _no_member(address)
+
+
+def list_contains_column(fours: bytes, sixes: bytes, addresses: ReadableBuffer) -> bytearray:
+    """The same of each address of a column, which are as ``read_rows`` leaves them."""
+    column = bytes(_flat(addresses))
+    if len(column) % _ADDRESS:
+        raise ValueError(f"{len(column)} bytes are no column of addresses of {_ADDRESS} bytes")
+    rows = range(0, len(column), _ADDRESS)
+    return bytearray(_list_has(fours, sixes, column[at : at + column[at + 16]]) for at in rows)
+
+
+def layout(rows: list[object]) -> tuple[bytearray, bytearray]:
+    """The texts of a list in Arrow's layout, the bytes and the offsets; a row that is no text is empty."""
+    each = [row.encode("utf-8") if isinstance(row, str) else b"" for row in rows]
+    offsets = array.array("I", itertools.accumulate(map(len, each), initial=0)) if sum(map(len, each)) <= 0x7FFFFFFF else None
+    if offsets is None:
+        raise ValueError("the texts have more than 2147483647 bytes, which is past the offsets: give them in parts")
+    return bytearray(b"".join(each)), bytearray(offsets.tobytes())
+
+
+def read_rows(kind: int, texts: ReadableBuffer, offsets: ReadableBuffer) -> tuple[bytearray, bytearray]:
+    """A column of texts read: networks of the family 4 or 6, or addresses, if the kind is 0; and the faults."""
+    call = getattr(_library, f"ipnetwork_v{kind}_read_column") if kind else _library.ipnetwork_address_read_column
+    step = {4: 5, 6: 17, 0: _ADDRESS}[kind]
+    if memoryview(offsets).itemsize != 4:
+        raise ValueError(f"offsets are numbers of 32 bits, not of {memoryview(offsets).itemsize * 8}")
+    given, places = _flat(texts), _flat(offsets)
+    starts = places.nbytes // 4
+    count = max(starts - 1, 0)
+    rows, faults = bytearray(count * step), bytearray(count)
+    text = bytes(given)
+    where = (ctypes.c_uint32 * starts).from_buffer_copy(places) if starts else None
+    room = (ctypes.c_ubyte * len(rows)).from_buffer(rows) if count else None
+    told = (ctypes.c_ubyte * count).from_buffer(faults) if count else None
+    fault = call(text, len(text), where, starts, room, count, told, count)
+    if fault == 8:
+        raise ValueError("the offsets fall, or pass the end of the texts")
+    _answered(fault)
+    return rows, faults

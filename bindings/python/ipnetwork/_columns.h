@@ -1,0 +1,190 @@
+/* The calls of the extension that take many rows, or many networks, at once. */
+#ifndef IPNETWORK_COLUMNS_H
+#define IPNETWORK_COLUMNS_H
+
+#include "_networks.h"
+
+static PyObject *network_column(PyObject *object, PyObject *given) {
+    const ipnetwork_ip *held = &((Network *)object)->held;
+    Py_ssize_t width = width_of(held);
+    PyObject *answers = NULL;
+    Py_buffer column;
+    if (PyObject_GetBuffer(given, &column, PyBUF_SIMPLE) < 0) return NULL;
+    if (column.len % width != 0) {
+        PyErr_Format(PyExc_ValueError, "%zd bytes are no column of addresses of %zd bytes", column.len, width);
+    } else if ((answers = PyByteArray_FromStringAndSize(NULL, column.len / width)) != NULL && column.len > 0) {
+        size_t count = (size_t)(column.len / width);
+        uint8_t *room = (uint8_t *)PyByteArray_AsString(answers);
+        ipnetwork_fault fault;
+        Py_BEGIN_ALLOW_THREADS
+        fault = held->family == 4 ? ipnetwork_v4_contains_column(&held->v4, column.buf, count, room, count)
+                                  : ipnetwork_v6_contains_column(&held->v6, column.buf, count, room, count);
+        Py_END_ALLOW_THREADS
+        if (!answered(fault)) Py_CLEAR(answers);
+    }
+    PyBuffer_Release(&column);
+    return answers;
+}
+
+/* read_rows(kind, texts, offsets): kind 4 or 6 for networks of a family, 0 for addresses. */
+static PyObject *read_rows(PyObject *module, PyObject *arguments) {
+    (void)module;
+    int kind;
+    PyObject *given_texts, *given_offsets, *rows = NULL, *faults = NULL, *both = NULL;
+    Py_buffer texts, offsets;
+    if (!PyArg_ParseTuple(arguments, "iOO", &kind, &given_texts, &given_offsets)) return NULL;
+    if (PyObject_GetBuffer(given_texts, &texts, PyBUF_SIMPLE) < 0) return NULL;
+    if (PyObject_GetBuffer(given_offsets, &offsets, PyBUF_ND) < 0) return PyBuffer_Release(&texts), NULL;
+    size_t starts = (size_t)offsets.len / 4, count = starts == 0 ? 0 : starts - 1;
+    size_t step = kind == 4 ? sizeof(ipnetwork_v4) : kind == 6 ? sizeof(ipnetwork_v6) : sizeof(ipnetwork_address);
+    if (offsets.itemsize != 4) {
+        PyErr_Format(PyExc_ValueError, "offsets are numbers of 32 bits, not of %zd", offsets.itemsize * 8);
+        goto done;
+    }
+    rows = PyByteArray_FromStringAndSize(NULL, (Py_ssize_t)(count * step));
+    faults = PyByteArray_FromStringAndSize(NULL, (Py_ssize_t)count);
+    if (rows == NULL || faults == NULL) goto done;
+    char *room = PyByteArray_AsString(rows);
+    uint8_t *told = (uint8_t *)PyByteArray_AsString(faults);
+    ipnetwork_fault fault;
+    memset(room, 0, count * step);
+    Py_BEGIN_ALLOW_THREADS
+    fault = kind == 4   ? ipnetwork_v4_read_column(texts.buf, (size_t)texts.len, offsets.buf, starts, (ipnetwork_v4 *)room, count, told, count)
+            : kind == 6 ? ipnetwork_v6_read_column(texts.buf, (size_t)texts.len, offsets.buf, starts, (ipnetwork_v6 *)room, count, told, count)
+                        : ipnetwork_address_read_column(texts.buf, (size_t)texts.len, offsets.buf, starts, (ipnetwork_address *)room, count, told, count);
+    Py_END_ALLOW_THREADS
+    if (fault == IPNETWORK_NO_OFFSETS) PyErr_SetString(PyExc_ValueError, "the offsets fall, or pass the end of the texts");
+    else if (answered(fault)) both = PyTuple_Pack(2, rows, faults);
+done:
+    Py_XDECREF(rows), Py_XDECREF(faults);
+    PyBuffer_Release(&texts), PyBuffer_Release(&offsets);
+    return both;
+}
+
+/* The bytes of a text in UTF-8, or no bytes of what is no text; NULL with UnicodeEncodeError of one that has none. */
+static const char *text_bytes(PyObject *row, Py_ssize_t *length) {
+    *length = 0;
+    return PyUnicode_Check(row) ? PyUnicode_AsUTF8AndSize(row, length) : "";
+}
+
+/* layout(rows): the texts of a list in Arrow's layout, the bytes and the offsets; a row that is no text is empty. */
+static PyObject *layout(PyObject *module, PyObject *rows) {
+    (void)module;
+    Py_ssize_t count = PyList_Size(rows), length;
+    size_t whole = 0;
+    if (count < 0) return NULL;
+    PyObject *offsets = PyByteArray_FromStringAndSize(NULL, (count + 1) * (Py_ssize_t)sizeof(uint32_t)), *texts = NULL, *both = NULL;
+    if (offsets == NULL) return NULL;
+    char *offset = PyByteArray_AsString(offsets);
+    for (Py_ssize_t row = 0; row <= count; row++) {
+        uint32_t start = (uint32_t)whole;
+        if (whole > INT32_MAX) {
+            PyErr_SetString(PyExc_ValueError, "the texts have more than 2147483647 bytes, which is past the offsets: give them in parts");
+            goto done;
+        }
+        memcpy(offset + (size_t)row * sizeof start, &start, sizeof start);
+        if (row < count && text_bytes(PyList_GetItem(rows, row), &length) == NULL) goto done;
+        if (row < count) whole += (size_t)length;
+    }
+    texts = PyByteArray_FromStringAndSize(NULL, (Py_ssize_t)whole);
+    if (texts == NULL) goto done;
+    char *text = PyByteArray_AsString(texts);
+    for (Py_ssize_t row = 0; row < count; row++) {
+        const char *bytes = text_bytes(PyList_GetItem(rows, row), &length);
+        if (bytes == NULL) goto done;
+        memcpy(text, bytes, (size_t)length);
+        text += length;
+    }
+    both = PyTuple_Pack(2, texts, offsets);
+done:
+    Py_XDECREF(texts), Py_DECREF(offsets);
+    return both;
+}
+
+/* ---- lists, each the bytes of structs one behind the other ---- */
+
+/* aggregate(version, rows) */
+static PyObject *aggregate(PyObject *module, PyObject *arguments) {
+    (void)module;
+    int version;
+    const char *rows;
+    Py_ssize_t length;
+    size_t count = 0;
+    if (!PyArg_ParseTuple(arguments, "iy#", &version, &rows, &length)) return NULL;
+    size_t step = version == 4 ? sizeof(ipnetwork_v4) : sizeof(ipnetwork_v6);
+    PyObject *room = PyByteArray_FromStringAndSize(rows, length), *blocks = NULL;
+    if (room == NULL) return NULL;
+    char *place = PyByteArray_AsString(room);
+    ipnetwork_fault fault = version == 4 ? ipnetwork_v4_aggregate((ipnetwork_v4 *)place, (size_t)length / step, &count)
+                                         : ipnetwork_v6_aggregate((ipnetwork_v6 *)place, (size_t)length / step, &count);
+    if (answered(fault)) blocks = PyBytes_FromStringAndSize(place, (Py_ssize_t)(count * step));
+    Py_DECREF(room);
+    return blocks;
+}
+
+/* A list of both families. */
+typedef struct {
+    const ipnetwork_v4 *fours;
+    const ipnetwork_v6 *sixes;
+    size_t four_count, six_count;
+} List;
+
+static List list_of(const char *fours, Py_ssize_t four_length, const char *sixes, Py_ssize_t six_length) {
+    List list = {(const ipnetwork_v4 *)fours, (const ipnetwork_v6 *)sixes, (size_t)four_length / sizeof(ipnetwork_v4),
+                 (size_t)six_length / sizeof(ipnetwork_v6)};
+    return list;
+}
+
+/* An address of neither 4 nor 16 octets is no member. */
+static ipnetwork_fault list_has(const List *list, const ipnetwork_address *address, uint8_t *answer) {
+    *answer = 0;
+    if (address->length == 4) return ipnetwork_v4_list_contains(list->fours, list->four_count, address->octets, answer);
+    if (address->length == 16) return ipnetwork_v6_list_contains(list->sixes, list->six_count, address->octets, answer);
+    return IPNETWORK_OK;
+}
+
+/* list_contains(fours, sixes, address) */
+static PyObject *list_contains(PyObject *module, PyObject *arguments) {
+    (void)module;
+    const char *fours, *sixes;
+    Py_ssize_t four_length, six_length;
+    PyObject *given;
+    ipnetwork_address address;
+    uint8_t answer;
+    if (!PyArg_ParseTuple(arguments, "y#y#O", &fours, &four_length, &sixes, &six_length, &given)) return NULL;
+    List list = list_of(fours, four_length, sixes, six_length);
+    int kind = address_of(given, &address);
+    if (kind != IS_ADDRESS) {
+        int member = no_member(given, kind);
+        return member < 0 ? NULL : PyBool_FromLong(member);
+    }
+    return answered(list_has(&list, &address, &answer)) ? PyBool_FromLong(answer) : NULL;
+}
+
+/* list_contains_column(fours, sixes, addresses): a byte for each of the addresses, which are as `read_rows` leaves them. */
+static PyObject *list_contains_column(PyObject *module, PyObject *arguments) {
+    (void)module;
+    const char *fours, *sixes;
+    Py_ssize_t four_length, six_length;
+    PyObject *given, *answers = NULL;
+    Py_buffer column;
+    if (!PyArg_ParseTuple(arguments, "y#y#O", &fours, &four_length, &sixes, &six_length, &given)) return NULL;
+    List list = list_of(fours, four_length, sixes, six_length);
+    if (PyObject_GetBuffer(given, &column, PyBUF_SIMPLE) < 0) return NULL;
+    Py_ssize_t count = column.len / (Py_ssize_t)sizeof(ipnetwork_address);
+    if (column.len % (Py_ssize_t)sizeof(ipnetwork_address) != 0) {
+        PyErr_Format(PyExc_ValueError, "%zd bytes are no column of addresses of 17 bytes", column.len);
+    } else if ((answers = PyByteArray_FromStringAndSize(NULL, count)) != NULL) {
+        const ipnetwork_address *addresses = column.buf;
+        uint8_t *room = (uint8_t *)PyByteArray_AsString(answers);
+        ipnetwork_fault fault = IPNETWORK_OK;
+        Py_BEGIN_ALLOW_THREADS
+        for (Py_ssize_t row = 0; row < count && fault == IPNETWORK_OK; row++) fault = list_has(&list, &addresses[row], &room[row]);
+        Py_END_ALLOW_THREADS
+        if (!answered(fault)) Py_CLEAR(answers);
+    }
+    PyBuffer_Release(&column);
+    return answers;
+}
+
+#endif

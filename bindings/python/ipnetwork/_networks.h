@@ -1,0 +1,270 @@
+/* The networks of the extension: made, asked, printed, compared. */
+#ifndef IPNETWORK_NETWORKS_H
+#define IPNETWORK_NETWORKS_H
+
+#include "_addresses.h"
+
+static PyObject *network_new(PyTypeObject *type, PyObject *arguments, PyObject *names) {
+    (void)arguments, (void)names;
+    PyObject *made = PyType_GenericAlloc(type, 0);
+    if (made != NULL) ((Network *)made)->held.family = PyType_IsSubtype(type, v6_type) ? 6 : 4;
+    return made;
+}
+
+static void forget(Network *self) {
+    PyObject **places[] = {&self->text, &self->ip, &self->least, &self->greatest, &self->mask, &self->size, &self->members};
+    for (size_t place = 0; place < sizeof places / sizeof *places; place++) Py_CLEAR(*places[place]);
+}
+
+static void network_dealloc(PyObject *object) {
+    PyTypeObject *type = Py_TYPE(object);
+    freefunc release = (freefunc)PyType_GetSlot(type, Py_tp_free);
+    forget((Network *)object);
+    release(object);
+    Py_DECREF(type);
+}
+
+static const uint8_t *octets_of(const ipnetwork_ip *held) { return held->family == 4 ? held->v4.address : held->v6.address; }
+static uint8_t width_of(const ipnetwork_ip *held) { return held->family == 4 ? 4 : 16; }
+static uint8_t prefix_of(const ipnetwork_ip *held) { return held->family == 4 ? held->v4.prefix : held->v6.prefix; }
+
+/* The network of these octets and this prefix length. */
+static ipnetwork_fault put(ipnetwork_ip *held, const uint8_t *octets, uint8_t prefix) {
+    return held->family == 4 ? ipnetwork_v4_new(octets, prefix, &held->v4) : ipnetwork_v6_new(octets, prefix, &held->v6);
+}
+
+/* The bytes of a str, as they are read by the library: a new reference, or NULL with an exception. */
+static PyObject *bytes_of_text(PyObject *text) {
+    if (PyUnicode_Check(text)) return PyUnicode_AsEncodedString(text, "utf-8", "surrogatepass");
+    PyErr_Format(PyExc_TypeError, "a network is given as str, or as bytes of a packed address, not as %R", (PyObject *)Py_TYPE(text));
+    return NULL;
+}
+
+/* Keeps what is made, once, and gives a new reference to it. */
+static PyObject *kept(PyObject **place, PyObject *made) {
+    *place = made;
+    Py_XINCREF(made);
+    return made;
+}
+
+static PyObject *again(PyObject *told) { Py_INCREF(told); return told; }
+
+typedef ipnetwork_fault (*ask_end)(const ipnetwork_ip *, ipnetwork_address *);
+
+static PyObject *told_end(const ipnetwork_ip *held, ask_end ask) {
+    ipnetwork_address address;
+    return answered(ask(held, &address)) ? address_object(address.octets, address.length) : NULL;
+}
+
+/* Tells what a network that was just made has at hand; 0 with an exception if it cannot. */
+static int tell(Network *self) {
+    PyObject **mask = &masks[self->held.family == 6][prefix_of(&self->held)];
+    if (*mask == NULL && (*mask = told_end(&self->held, ipnetwork_mask)) == NULL) return 0;
+    self->mask = again(*mask);
+    return (self->least = told_end(&self->held, ipnetwork_network)) != NULL;
+}
+
+static int network_init(PyObject *object, PyObject *arguments, PyObject *names) {
+    static char *keywords[] = {"text", NULL};
+    Network *self = (Network *)object;
+    PyObject *text;
+    ipnetwork_fault fault;
+    if (names == NULL && PyTuple_Size(arguments) == 1) text = PyTuple_GetItem(arguments, 0);
+    else if (!PyArg_ParseTupleAndKeywords(arguments, names, "O", keywords, &text)) return -1;
+    char *bytes;
+    Py_ssize_t length;
+    forget(self);
+    if (PyBytes_Check(text)) {
+        if (PyBytes_AsStringAndSize(text, &bytes, &length) < 0) return -1;
+        uint8_t width = width_of(&self->held);
+        fault = length == width ? put(&self->held, (const uint8_t *)bytes, (uint8_t)(width * 8)) : IPNETWORK_ADDRESS;
+    } else {
+        PyObject *encoded = bytes_of_text(text);
+        if (encoded == NULL || PyBytes_AsStringAndSize(encoded, &bytes, &length) < 0) return Py_XDECREF(encoded), -1;
+        fault = self->held.family == 4 ? ipnetwork_v4_read(bytes, (size_t)length, &self->held.v4)
+                                       : ipnetwork_v6_read(bytes, (size_t)length, &self->held.v6);
+        Py_DECREF(encoded);
+    }
+    if (fault != IPNETWORK_OK) return raise_fault(fault, text), -1;
+    return tell(self) ? 0 : -1;
+}
+
+/* A network of a class, of the bytes of its struct. */
+static PyObject *network_of_row(PyObject *type, const uint8_t *row) {
+    if (!PyType_Check(type) || !PyType_IsSubtype((PyTypeObject *)type, network_type)) {
+        PyErr_SetString(PyExc_TypeError, "no class of networks");
+        return NULL;
+    }
+    PyObject *made = network_new((PyTypeObject *)type, NULL, NULL);
+    if (made == NULL) return NULL;
+    ipnetwork_ip *held = &((Network *)made)->held;
+    uint8_t width = width_of(held);
+    if (!answered(put(held, row, row[width])) || !tell((Network *)made)) return Py_DECREF(made), NULL;
+    return made;
+}
+
+
+static PyObject *get_ip(PyObject *object, void *none) {
+    (void)none;
+    Network *self = (Network *)object;
+    if (self->ip != NULL) return again(self->ip);
+    return kept(&self->ip, address_object(octets_of(&self->held), width_of(&self->held)));
+}
+
+static PyObject *get_greatest(PyObject *object, void *none) {
+    (void)none;
+    Network *self = (Network *)object;
+    if (self->greatest != NULL) return again(self->greatest);
+    return kept(&self->greatest, told_end(&self->held, ipnetwork_broadcast));
+}
+
+static PyObject *get_prefix(PyObject *object, void *none) {
+    (void)none;
+    return PyLong_FromLong(prefix_of(&((Network *)object)->held));
+}
+
+static PyObject *get_size(PyObject *object, void *none) {
+    (void)none;
+    Network *self = (Network *)object;
+    if (self->size != NULL) return again(self->size);
+    if (self->held.family == 4) {
+        uint64_t size;
+        return answered(ipnetwork_v4_size(&self->held.v4, &size)) ? kept(&self->size, PyLong_FromUnsignedLongLong(size)) : NULL;
+    }
+    uint8_t octets[17];
+    return answered(ipnetwork_v6_size(&self->held.v6, octets)) ? kept(&self->size, number_of_octets(octets, 17)) : NULL;
+}
+
+static PyObject *get_row(PyObject *object, void *none) {
+    (void)none;
+    ipnetwork_ip *held = &((Network *)object)->held;
+    return held->family == 4 ? PyBytes_FromStringAndSize((const char *)&held->v4, sizeof held->v4)
+                             : PyBytes_FromStringAndSize((const char *)&held->v6, sizeof held->v6);
+}
+
+static PyObject *network_text(PyObject *object) {
+    Network *self = (Network *)object;
+    if (self->text != NULL) return again(self->text);
+    char buffer[IPNETWORK_V6_TEXT];
+    size_t length;
+    if (!answered(ipnetwork_canonical(&self->held, buffer, sizeof buffer, &length))) return NULL;
+    return kept(&self->text, PyUnicode_FromStringAndSize(buffer, (Py_ssize_t)length));
+}
+
+static int network_contains(PyObject *object, PyObject *given) {
+    ipnetwork_address address;
+    uint8_t answer;
+    int kind = address_of(given, &address);
+    if (kind != IS_ADDRESS) return no_member(given, kind);
+    if (!answered(ipnetwork_contains(&((Network *)object)->held, address.octets, address.length, &answer))) return -1;
+    return answer;
+}
+
+/* The range of the numbers of the members, which is kept. */
+static PyObject *members(Network *self) {
+    if (self->members == NULL) {
+        ipnetwork_address least, greatest;
+        if (!answered(ipnetwork_network(&self->held, &least)) || !answered(ipnetwork_broadcast(&self->held, &greatest))) return NULL;
+        PyObject *low = number_of_octets(least.octets, least.length), *high = number_of_octets(greatest.octets, greatest.length);
+        PyObject *past = high == NULL ? NULL : PyNumber_Add(high, one);
+        if (low != NULL && past != NULL) self->members = PyObject_CallFunctionObjArgs(range_of, low, past, NULL);
+        Py_XDECREF(low), Py_XDECREF(high), Py_XDECREF(past);
+    }
+    return self->members;
+}
+
+static PyObject *network_iter(PyObject *object) {
+    PyObject *range = members((Network *)object);
+    PyObject *type = ((Network *)object)->held.family == 4 ? v4_address : v6_address;
+    return range == NULL ? NULL : PyObject_CallFunctionObjArgs(map_of, type, range, NULL);
+}
+
+/* The member of a number, from the end where it is negative. */
+static PyObject *network_nth(PyObject *object, PyObject *index) {
+    Network *self = (Network *)object;
+    uint8_t n[16], address[16];
+    PyObject *number = PyNumber_Index(index), *size, *counted;
+    if (number == NULL) return NULL;
+    if (PyObject_RichCompareBool(number, zero, Py_LT) == 1) {
+        size = get_size(object, NULL);
+        counted = size == NULL ? NULL : PyNumber_Add(number, size);
+        Py_XDECREF(size), Py_DECREF(number);
+        if (counted == NULL) return NULL;
+        number = counted;
+    }
+    int whole = octets_of_number(number, n);
+    Py_DECREF(number);
+    if (!whole && !PyErr_ExceptionMatches(PyExc_OverflowError)) return NULL;
+    PyErr_Clear();
+    ipnetwork_fault fault = IPNETWORK_NO_MEMBER;
+    if (whole && self->held.family == 6) fault = ipnetwork_v6_nth(&self->held.v6, n, address);
+    static const uint8_t zeros[12];
+    if (whole && self->held.family == 4 && memcmp(n, zeros, 12) == 0)
+        fault = ipnetwork_v4_nth(&self->held.v4, (uint32_t)n[12] << 24 | (uint32_t)n[13] << 16 | (uint32_t)n[14] << 8 | n[15], address);
+    if (fault == IPNETWORK_NO_MEMBER) return PyErr_SetString(PyExc_IndexError, "no member of this number"), NULL;
+    return answered(fault) ? address_object(address, width_of(&self->held)) : NULL;
+}
+
+/* Networks of one family are ordered; those of two are not equal, and not ordered. */
+static PyObject *network_compare(PyObject *one_object, PyObject *other_object, int operation) {
+    if (PyObject_TypeCheck(other_object, network_type)) {
+        const ipnetwork_ip *one_held = &((Network *)one_object)->held, *other_held = &((Network *)other_object)->held;
+        if (one_held->family == other_held->family || operation == Py_EQ || operation == Py_NE) {
+            int32_t order;
+            if (!answered(ipnetwork_compare(one_held, other_held, &order))) return NULL;
+            int truth = operation == Py_EQ   ? order == 0
+                        : operation == Py_NE ? order != 0
+                        : operation == Py_LT ? order < 0
+                        : operation == Py_LE ? order <= 0
+                        : operation == Py_GT ? order > 0
+                                             : order >= 0;
+            return PyBool_FromLong(truth);
+        }
+    }
+    return again(Py_NotImplemented);
+}
+
+/* Of the octets and the prefix length, mixed so that networks in a row do not fall together. */
+static Py_hash_t network_hash(PyObject *object) {
+    const ipnetwork_ip *held = &((Network *)object)->held;
+    const uint8_t *octets = octets_of(held);
+    uint64_t mixed = prefix_of(held) + UINT64_C(0x9e3779b97f4a7c15);
+    for (int place = 0; place < width_of(held); place += 4) {
+        uint32_t word;
+        memcpy(&word, octets + place, sizeof word);
+        mixed = (mixed ^ word) * UINT64_C(0xbf58476d1ce4e5b9);
+        mixed ^= mixed >> 29;
+    }
+    return (Py_hash_t)mixed == -1 ? -2 : (Py_hash_t)mixed;
+}
+
+/* Another network, of the same family where `same` is set; NULL with TypeError if it is none. */
+static Network *another(PyObject *self, PyObject *other, int same) {
+    if (PyObject_TypeCheck(other, network_type)
+        && (!same || ((Network *)other)->held.family == ((Network *)self)->held.family))
+        return (Network *)other;
+    PyErr_Format(PyExc_TypeError, "%R and %R are not networks of this package and of one family", self, other);
+    return NULL;
+}
+
+typedef ipnetwork_fault (*ask_two)(const ipnetwork_ip *, const ipnetwork_ip *, uint8_t *);
+
+static PyObject *question(Network *inner, Network *outer, ask_two ask) {
+    uint8_t answer;
+    if (inner == NULL || outer == NULL || !answered(ask(&inner->held, &outer->held, &answer))) return NULL;
+    return PyBool_FromLong(answer);
+}
+
+static PyObject *network_subnet_of(PyObject *self, PyObject *other) {
+    return question((Network *)self, another(self, other, 1), ipnetwork_is_subnet_of);
+}
+
+static PyObject *network_supernet_of(PyObject *self, PyObject *other) {
+    return question(another(self, other, 1), (Network *)self, ipnetwork_is_subnet_of);
+}
+
+static PyObject *network_overlaps(PyObject *self, PyObject *other) {
+    return question((Network *)self, another(self, other, 0), ipnetwork_overlaps);
+}
+
+#endif

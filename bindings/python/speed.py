@@ -1,0 +1,123 @@
+"""Nanoseconds a call of this package and of ``ipaddress``, side by side, and of a row of the columns.
+
+    speed.py
+
+Each figure is the least of 15 runs, which take turns, so that what else the machine does meets both. Which core of the
+package is measured stands in the first line: see ``ipnetwork.CORE``. The columns need NumPy.
+"""
+
+import array
+import ipaddress
+import random
+import sys
+import time
+from ipaddress import IPv4Address, IPv6Address
+
+import ipnetwork
+from ipnetwork import AddressSet, IPv4Network, IPv6Network
+
+TURNS, COUNT, ROWS = 15, 2000, 200_000
+
+
+def timed(call, count):
+    start = time.perf_counter_ns()
+    call()
+    return (time.perf_counter_ns() - start) / count
+
+
+def least(*calls, count=COUNT):
+    """The least time of each call of these, divided by how many it makes."""
+    runs = [[timed(call, count) for call in calls] for _ in range(TURNS)]
+    return [min(times) for times in zip(*runs)]
+
+
+def each(source, objects):
+    """Runs an expression on each object, which is called x there."""
+    scope = {"objects": objects, "ipaddress": ipaddress, **vars(ipnetwork)}
+    exec(f"def run():\n    for x in objects:\n        {source}", scope)
+    return scope["run"]
+
+
+def calls_of(kind, theirs, interface, address, width, rng):
+    texts = [str(interface((address(rng.getrandbits(width)), rng.randrange(width + 1))).network) for _ in range(COUNT)]
+    ours, other = [kind(text) for text in texts], [theirs(text) for text in texts]
+    asked = [address(int(net.network_address) ^ (rng.getrandbits(width) >> rng.randrange(width))) for net in other]
+    rows = []
+
+    def row(name, source, own, wanted):
+        rows.append((f"IPv{kind.version}: {name}", *least(each(source, own), each(source, wanted))))
+
+    name = kind.__name__
+    rows.append((f"IPv{kind.version}: read", *least(each(f"{name}(x)", texts), each(f"ipaddress.{name}(x)", texts))))
+    rows.append((f"IPv{kind.version}: read, either family", *least(each("ip_network(x)", texts), each("ipaddress.ip_network(x)", texts))))
+    both = lambda nets, others: list(zip(nets, others))
+    row("in", "x[1] in x[0]", both(ours, asked), both(other, asked))
+    for sign in ("==", "<"):
+        row(sign, f"x[0] {sign} x[1]", both(ours, ours[1:] + ours[:1]), both(other, other[1:] + other[:1]))
+    for call in ("subnet_of", "supernet_of", "overlaps"):
+        row(call, f"x[0].{call}(x[1])", both(ours, ours[1:] + ours[:1]), both(other, other[1:] + other[:1]))
+    row("hash", "hash(x)", ours, other)
+    row("x[0]", "x[0]", ours, other)
+    for part in ("network_address", "broadcast_address", "netmask", "num_addresses", "prefixlen"):
+        rows.append(first(kind, theirs, part, texts))
+        row(part, f"x.{part}", ours, other)
+    row("str", "str(x)", ours, other)
+    long, longer = kind(f"{address(0)}/{width - 11}"), theirs(f"{address(0)}/{width - 11}")
+    rows.append((f"IPv{kind.version}: iteration, a member", *least(lambda: list(long), lambda: list(longer), count=2048)))
+    rows.append((f"IPv{kind.version}: sorted, of {COUNT}", *least(lambda: sorted(ours), lambda: sorted(other))))
+    rows.append((f"IPv{kind.version}: collapse, of {COUNT}",
+                 *least(lambda: list(ipnetwork.collapse_addresses(ours)), lambda: list(ipaddress.collapse_addresses(other)))))
+    return rows
+
+
+def first(kind, theirs, part, texts):
+    """Reading and asking for the part once, which counts what is computed once."""
+    name = kind.__name__
+    return (f"IPv{kind.version}: read and {part}",
+            *least(each(f"{name}(x).{part}", texts), each(f"ipaddress.{name}(x).{part}", texts)))
+
+
+def columns(rng):
+    fours = [str(IPv4Address(rng.getrandbits(32))) for _ in range(ROWS)]
+    sixes = [str(IPv6Address(rng.getrandbits(128) & ~(0xFFFFFFFF << rng.randrange(96)))) for _ in range(ROWS)]
+    for name, texts, net in (("IPv4", fours, "10.0.0.0/8"), ("IPv6", sixes, "2001:db8::/32")):
+        offsets = array.array("I", [0])
+        for text in texts:
+            offsets.append(offsets[-1] + len(text))
+        whole = "".join(texts).encode()
+        kind = type(ipnetwork.ip_network(net))
+        addresses, _ = ipnetwork.read_address_column(whole, offsets)
+        width = 4 if name == "IPv4" else 16
+        packed = b"".join(addresses[at : at + width] for at in range(0, len(addresses), 17))
+        network, one = kind(net), AddressSet([kind(net)])
+        yield (f"{name}: read_address_column", *least(lambda: ipnetwork.read_address_column(whole, offsets), count=ROWS))
+        yield (f"{name}: read_column", *least(lambda: kind.read_column(whole, offsets), count=ROWS))
+        yield (f"{name}: contains_column", *least(lambda: network.contains_column(packed), count=ROWS))
+        yield (f"{name}: contains_column of a set of one", *least(lambda: one.contains_column(addresses), count=ROWS))
+        try:
+            from ipnetwork import columns as over_numpy
+        except ImportError:
+            continue
+        yield (f"{name}: columns.read_addresses of a list", *least(lambda: over_numpy.read_addresses(texts), count=ROWS))
+
+
+def main():
+    rng = random.Random(30)
+    print(f"Python {sys.version.split()[0]}, {ipnetwork.CORE}: here, ipaddress, ratio")
+    slower = 0
+    for rows in (
+        calls_of(IPv4Network, ipaddress.IPv4Network, ipaddress.IPv4Interface, IPv4Address, 32, rng),
+        calls_of(IPv6Network, ipaddress.IPv6Network, ipaddress.IPv6Interface, IPv6Address, 128, rng),
+    ):
+        for name, own, other in rows:
+            slower += own > other
+            print(f"{name:36} {own:9.0f} {other:9.0f} {own / other:6.2f}{'  slower' if own > other else ''}")
+    print("a row, ns")
+    for name, own in columns(rng):
+        print(f"{name:44} {own:9.1f}")
+    if slower:
+        print(f"{slower} calls are slower than those of ipaddress")
+
+
+if __name__ == "__main__":
+    main()
