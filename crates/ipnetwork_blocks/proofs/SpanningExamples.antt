@@ -52,5 +52,5 @@ narrower_does_not h =
 -- and one with host bits is no block
 pub host_bits_do_not : ¬ (IsSpanning 32 quarters (net 3221225985 25))
 host_bits_do_not h =
-    let f : 3221225985 ≡ 3221225984 = h.no_host_bits in
+    let f : 3221225985 ≡ 3221225984 = h.block.block in
     omega (arith, f)
