@@ -1,8 +1,10 @@
 pub mod Examples
 pub mod Merging
+pub mod Parts
 pub mod Putting
 pub mod ReadInTurn
 pub mod Requests
 pub mod Runs
+pub mod Stopping
 pub mod Told
 pub mod Totals

@@ -1,12 +1,15 @@
 -- How a run ends.
 use Rattle.std.proofs.Common.{◌≡◌, ◌==◌, ℕ, List, Bool, not, sym, subst, inl, inr, length}
-use Rattle.std.specs.Prelude.{Option, Result, Ok, Err, OnOk, String, slice_range}
+use Rattle.std.specs.Prelude.{Result, Ok, Err, OnOk, IfErr, String, slice_range}
+use Rattle.address_lists.specs.Lists.{nothing_read}
 use Rattle.address_lists.specs.Refusals.{Refused, no_refusals}
 use Rattle.line_engine.specs.declared.output.Output.{Output}
+use Rattle.program_io.specs.Lists.{KnownLists}
 use Rattle.program_io.specs.Messages.{Tells}
 use Rattle.cidr_merge.specs.CommandLines.{Asks}
 use Rattle.cidr_merge.specs.Reading.{ReadsSide, ReadsSides}
 use Rattle.cidr_merge.specs.Runs.{Ending, IsSilent, EndsAnswering, EndsMerging, EndsAs}
+use Rattle.cidr_merge.specs.Stopping.{Stops, StopsInSides}
 use Rattle.cidr_merge.specs.Told.{refusals_text, fault_text}
 use Rattle.cidr_merge.specs.declared.command_line.Command.{Command}
 use Rattle.cidr_merge.specs.declared.command_line.Request.{Request}
@@ -15,41 +18,69 @@ use Rattle.cidr_merge.specs.declared.reading.Sets.{Sets}
 use Rattle.cidr_merge.proofs.ReadInTurn.{slice_rest}
 
 -- both sides were read
-pub sides_ok : {Z T F U G : Type 0} (result : Result T F) (read : Result U G) (done : U) (bytes_of : List ℕ → Option (List ℕ)) (words : List (String Z)) (request : Request) (first second : Sets)
-    (start between refused : Refused) → start ≡ no_refusals → read ≡ Ok done → OnOk read (ReadsSide bytes_of request.first (slice_range words request.first request.middle) start first between)
-    → OnOk result (ReadsSide bytes_of request.second (slice_range words request.second (length words)) between second refused) → OnOk result (ReadsSides bytes_of words request first second refused)
-sides_ok {Z} {T} {F} {U} {G} (Ok all) read done bytes_of words request first second start between refused s e firsts seconds = record {
+pub sides_ok : {Z T F U G : Type 0} (result : Result T F) (read : Result U G) (done : U) (known : KnownLists) (words : List (String Z)) (request : Request) (first second : Sets)
+    (start between refused : Refused) → start ≡ no_refusals → read ≡ Ok done → OnOk read (ReadsSide known request.first (slice_range words request.first request.middle) start first between)
+    → OnOk result (ReadsSide known request.second (slice_range words request.second (length words)) between second refused) → OnOk result (ReadsSides known words request first second refused)
+sides_ok {Z} {T} {F} {U} {G} (Ok all) read done known words request first second start between refused s e firsts seconds = record {
   between = between;
-  firsts = subst (λ (r : Refused). ReadsSide bytes_of request.first (slice_range words request.first request.middle) r first between) s
-      (subst (λ (r : Result U G). OnOk r (ReadsSide bytes_of request.first (slice_range words request.first request.middle) start first between)) e firsts);
-  seconds = subst (λ names. ReadsSide bytes_of request.second names between second refused) (slice_rest words request.second) seconds;
+  firsts = subst (λ (r : Refused). ReadsSide known request.first (slice_range words request.first request.middle) r first between) s
+      (subst (λ (r : Result U G). OnOk r (ReadsSide known request.first (slice_range words request.first request.middle) start first between)) e firsts);
+  seconds = subst (λ names. ReadsSide known request.second names between second refused) (slice_rest words request.second) seconds;
 }
-sides_ok (Err fault) read done bytes_of words request first second start between refused s e firsts seconds = tt
+sides_ok (Err fault) read done known words request first second start between refused s e firsts seconds = tt
+
+-- the reading stopped at a list of the first side
+pub first_stopped : {Z T : Type 0} (read : Result T ReadFault) (fault : ReadFault) (known : KnownLists) (words : List (String Z)) (request : Request) (start between refused : Refused) → start ≡ no_refusals
+    → read ≡ Err fault → IfErr read (λ f. Stops known request.first (slice_range words request.first request.middle) (nothing_read start) f between) → refused ≡ between
+    → StopsInSides known words request fault refused
+first_stopped {Z} {T} read fault known words request start between refused s e stops r =
+    let names = slice_range words request.first request.middle in
+    let said = subst (λ (r : Result T ReadFault). IfErr r (λ f. Stops known request.first names (nothing_read start) f between)) e stops in
+    inl (subst (λ (l : Refused). Stops known request.first names (nothing_read no_refusals) fault l) (sym r)
+    (subst (λ (l : Refused). Stops known request.first names (nothing_read l) fault between) s said))
+
+-- or of the second
+pub second_stopped : {Z T U G : Type 0} (result : Result T ReadFault) (read : Result U G) (done : U) (known : KnownLists) (words : List (String Z)) (request : Request) (first : Sets)
+    (start between refused : Refused) → start ≡ no_refusals → read ≡ Ok done → OnOk read (ReadsSide known request.first (slice_range words request.first request.middle) start first between)
+    → IfErr result (λ f. Stops known request.second (slice_range words request.second (length words)) (nothing_read between) f refused)
+    → IfErr result (λ f. StopsInSides known words request f refused)
+second_stopped (Ok all) read done known words request first start between refused s e firsts stops = tt
+second_stopped {Z} {T} {U} {G} (Err fault) read done known words request first start between refused s e firsts stops =
+    let names = slice_range words request.first request.middle in
+    inr (
+      first,
+      between,
+      subst (λ (r : Refused). ReadsSide known request.first names r first between) s
+          (subst (λ (r : Result U G). OnOk r (ReadsSide known request.first names start first between)) e firsts),
+      subst (λ ws. Stops known request.second ws (nothing_read between) fault refused) (slice_rest words request.second) stops,
+    )
 
 -- the answer was given
-pub merged : {Z W E T F : Type 0} (read : Result T F) (done : T) (bytes_of : List ℕ → Option (List ℕ)) (words : List (String Z)) (request : Request) (first second : Sets) (refused : Refused)
-    (is_empty : Bool) (end : Ending W E) (told : Output E) → read ≡ Ok done → OnOk read (ReadsSides bytes_of words request first second refused)
+pub merged : {Z W E T F : Type 0} (read : Result T F) (done : T) (known : KnownLists) (words : List (String Z)) (request : Request) (first second : Sets) (refused : Refused)
+    (is_empty : Bool) (end : Ending W E) (told : Output E) → read ≡ Ok done → OnOk read (ReadsSides known words request first second refused)
     → Tells end.tells end.errors told (refusals_text words refused) → is_empty ≡ (length refused.kept == 0) → EndsAnswering request (not is_empty) first second (record end { errors = told })
-    → EndsMerging bytes_of words request end
-merged {Z} {W} {E} {T} {F} read done bytes_of words request first second refused is_empty end told e sides tells f ends = (
+    → EndsMerging known words request end
+merged {Z} {W} {E} {T} {F} read done known words request first second refused is_empty end told e sides tells f ends = (
   refused,
   told,
   tells,
   inr (
     first,
     second,
-    subst (λ (r : Result T F). OnOk r (ReadsSides bytes_of words request first second refused)) e sides,
+    subst (λ (r : Result T F). OnOk r (ReadsSides known words request first second refused)) e sides,
     subst (λ (b : Bool). EndsAnswering request (not b) first second (record end { errors = told })) f ends,
   ),
 )
 
 -- the reading stopped
-pub stopped : {Z W E : Type 0} (bytes_of : List ℕ → Option (List ℕ)) (words : List (String Z)) (request : Request) (refused : Refused) (fault : ReadFault) (end : Ending W E) (told : Output E)
-    → Tells end.tells end.errors told (refusals_text words refused) → IsSilent end → Tells end.tells told end.errors_after (fault_text words fault) → EndsMerging bytes_of words request end
-stopped bytes_of words request refused fault end told tells silent why = (refused, told, tells, inl (fault, silent, why))
+pub stopped : {Z W E T : Type 0} (read : Result T ReadFault) (known : KnownLists) (words : List (String Z)) (request : Request) (refused : Refused) (fault : ReadFault) (end : Ending W E) (told : Output E)
+    → read ≡ Err fault → IfErr read (λ f. StopsInSides known words request f refused) → Tells end.tells end.errors told (refusals_text words refused) → IsSilent end
+    → Tells end.tells told end.errors_after (fault_text words fault) → EndsMerging known words request end
+stopped {Z} {W} {E} {T} read known words request refused fault end told e stops tells silent why =
+    (refused, told, tells, inl (fault, subst (λ (r : Result T ReadFault). IfErr r (λ f. StopsInSides known words request f refused)) e stops, silent, why))
 
 -- a command that is known
-pub ends_by : {Z W E : Type 0} (help version usage : List ℕ) (bytes_of : List ℕ → Option (List ℕ)) (words : List (String Z)) (command other : Command) (end : Ending W E) → command ≡ other
-    → Asks words command → EndsAs help version usage bytes_of words other end → (known : Command) × Asks words known × EndsAs help version usage bytes_of words known end
-ends_by help version usage bytes_of words command other end e asks ends =
-    (command, asks, subst (λ (c : Command). EndsAs help version usage bytes_of words c end) (sym e) ends)
+pub ends_by : {Z W E : Type 0} (help version usage : List ℕ) (known : KnownLists) (words : List (String Z)) (command other : Command) (end : Ending W E) → command ≡ other
+    → Asks words command → EndsAs help version usage known words other end → (asked : Command) × Asks words asked × EndsAs help version usage known words asked end
+ends_by help version usage known words command other end e asks ends =
+    (command, asks, subst (λ (c : Command). EndsAs help version usage known words c end) (sym e) ends)

@@ -1,7 +1,9 @@
 -- What the contracts of this crate cite.
 pub mod Answers
 pub mod CommandLines
+pub mod Parts
 pub mod Private
 pub mod Reading
 pub mod Runs
+pub mod Stopping
 pub mod Told

@@ -1,35 +1,37 @@
 -- What is read of lists.
-use Rattle.std.specs.Prelude.{◌≡◌, ℕ, ◌+◌, List, [], ◌∷◌, Option, Some, false, String, slice_range, drop}
+use Rattle.std.specs.Prelude.{◌≡◌, ℕ, ◌+◌, List, [], ◌∷◌, Some, true, false, String, slice_range, drop}
 use Rattle.std.specs.Str.Lines.{lines}
 use Rattle.std.specs.String.{string_bytes}
 use Rattle.ipnetwork_blocks.specs.Aggregate.{IsAggregate}
 use Rattle.address_lists.specs.Lists.{ReadLists, nothing_read, at_list, TakesLines}
 use Rattle.address_lists.specs.Refusals.{Refused, no_refusals}
+use Rattle.program_io.specs.Lists.{KnownLists}
 use Rattle.cidr_merge.specs.declared.command_line.Request.{Request}
 use Rattle.cidr_merge.specs.declared.reading.Sets.{Sets}
 
--- the lines of the list of this name are taken, if it is known what the list has. Refused lines name it by the number
-abbrev pub ReadsList : (List ℕ → Option (List ℕ)) → ℕ → List ℕ → ReadLists → ReadLists → Type 0
-ReadsList bytes_of number name before after = (input : List ℕ) → bytes_of name ≡ Some input → TakesLines (at_list before number) (lines input) after
+-- the list of this name was opened, and its lines are taken, if it is known what it has. Refused lines name it by the
+-- number
+abbrev pub ReadsList : KnownLists → ℕ → List ℕ → ReadLists → ReadLists → Type 0
+ReadsList known number name before after = known.may_open name true × ((input : List ℕ) → known.bytes_of name ≡ Some input → TakesLines (at_list before number) (lines input) after)
 
 -- so are those of the lists of these names, in turn; the first has this number, the next the one after it
-abbrev pub ReadsLists : {Z : Type 0} → (List ℕ → Option (List ℕ)) → ℕ → List (String Z) → ReadLists → ReadLists → Type 0
-ReadsLists bytes_of number [] before after = after ≡ before
-ReadsLists bytes_of number (name ∷ names) before after = (between : ReadLists) × ReadsList bytes_of number (string_bytes name) before between
-    × ReadsLists bytes_of (number + 1) names between after
+abbrev pub ReadsLists : {Z : Type 0} → KnownLists → ℕ → List (String Z) → ReadLists → ReadLists → Type 0
+ReadsLists known number [] before after = after ≡ before
+ReadsLists known number (name ∷ names) before after = (between : ReadLists) × ReadsList known number (string_bytes name) before between
+    × ReadsLists known (number + 1) names between after
 
 -- the lists of these names were read, after others of which some lines were refused: the sets have the addresses of
 -- their networks, and these are the refused lines now
-pub record ReadsSide {Z : Type 0} (bytes_of : List ℕ → Option (List ℕ)) (number : ℕ) (names : List (String Z)) (before : Refused) (sets : Sets) (refused : Refused) : Type 0 where
+pub record ReadsSide {Z : Type 0} (known : KnownLists) (number : ℕ) (names : List (String Z)) (before : Refused) (sets : Sets) (refused : Refused) : Type 0 where
   pub read : ReadLists
-  pub lists : ReadsLists bytes_of number names (nothing_read before) read
+  pub lists : ReadsLists known number names (nothing_read before) read
   pub memory : read.is_out_of_memory ≡ false
   pub v4 : IsAggregate 32 read.v4 sets.v4
   pub v6 : IsAggregate 128 read.v6 sets.v6
   pub refused_lines : read.refused ≡ refused
 
 -- the lists of both sides were read
-pub record ReadsSides {Z : Type 0} (bytes_of : List ℕ → Option (List ℕ)) (words : List (String Z)) (request : Request) (first second : Sets) (refused : Refused) : Type 0 where
+pub record ReadsSides {Z : Type 0} (known : KnownLists) (words : List (String Z)) (request : Request) (first second : Sets) (refused : Refused) : Type 0 where
   pub between : Refused
-  pub firsts : ReadsSide bytes_of request.first (slice_range words request.first request.middle) no_refusals first between
-  pub seconds : ReadsSide bytes_of request.second (drop request.second words) between second refused
+  pub firsts : ReadsSide known request.first (slice_range words request.first request.middle) no_refusals first between
+  pub seconds : ReadsSide known request.second (drop request.second words) between second refused

@@ -6,9 +6,11 @@ use Rattle.ipnetwork_sets.specs.Equality.{same_blocks}
 use Rattle.line_engine.specs.declared.output.Output.{Output}
 use Rattle.line_engine.specs.Outputs.{writer_of, waits_in, output_failed}
 use Rattle.program_io.specs.Endings.{failure_text}
+use Rattle.program_io.specs.Lists.{KnownLists}
 use Rattle.program_io.specs.Messages.{Tells}
 use Rattle.cidr_merge.specs.Answers.{IsAnswer}
 use Rattle.cidr_merge.specs.Reading.{ReadsSides}
+use Rattle.cidr_merge.specs.Stopping.{StopsInSides}
 use Rattle.cidr_merge.specs.Told.{refusals_text, fault_text}
 use Rattle.cidr_merge.specs.declared.command_line.Command.{Command}
 use Rattle.cidr_merge.specs.declared.command_line.Command.TheVariants.{Help, Version, Merge, Usage}
@@ -70,15 +72,15 @@ abbrev pub EndsAnswering : {W E : Type 0} → Request → Bool → Sets → Sets
 EndsAnswering request skips first second end =
     ((skips && not request.skips_bad ≡ true) × IsSilent end × HasTold end []) ⊎ ((skips && not request.skips_bad ≡ false) × (FailsToWrite end ⊎ WritesAnswer request skips first second end))
 
--- the lists were not read to their ends: nothing was written, and it was told why
-abbrev pub StopsReading : {Z W E : Type 0} → List (String Z) → Ending W E → Type 0
-StopsReading words end = (fault : ReadFault) × IsSilent end × HasTold end (fault_text words fault)
+-- the lists were not read to their ends, and these lines were refused before: nothing was written, and it was told why
+abbrev pub StopsReading : {Z W E : Type 0} → KnownLists → List (String Z) → Request → Refused → Ending W E → Type 0
+StopsReading known words request refused end = (fault : ReadFault) × StopsInSides known words request fault refused × IsSilent end × HasTold end (fault_text words fault)
 
 -- the refused lines were told, and then either why the reading stopped or the answer was given
-abbrev pub EndsMerging : {Z W E : Type 0} → (List ℕ → Option (List ℕ)) → List (String Z) → Request → Ending W E → Type 0
-EndsMerging {Z} {W} {E} bytes_of words request end = (refused : Refused) × (told : Output E) × Tells end.tells end.errors told (refusals_text words refused)
-    × (StopsReading words (record end { errors = told })
-    ⊎ ((first second : Sets) × ReadsSides bytes_of words request first second refused × EndsAnswering request (was_refused refused) first second (record end { errors = told })))
+abbrev pub EndsMerging : {Z W E : Type 0} → KnownLists → List (String Z) → Request → Ending W E → Type 0
+EndsMerging {Z} {W} {E} known words request end = (refused : Refused) × (told : Output E) × Tells end.tells end.errors told (refusals_text words refused)
+    × (StopsReading known words request refused (record end { errors = told })
+    ⊎ ((first second : Sets) × ReadsSides known words request first second refused × EndsAnswering request (was_refused refused) first second (record end { errors = told })))
 
 -- the text was written and nothing told, or the writer failed, and that was told
 abbrev pub EndsPrinting : {W E : Type 0} → List ℕ → Ending W E → Type 0
@@ -87,8 +89,8 @@ EndsPrinting text end = (end.status ≡ (if output_failed end.output_after then 
 
 -- how a run ends if the words ask for this. The three texts are those of `--help`, of `--version`, and of what is told of
 -- words that are no command
-abbrev pub EndsAs : {Z W E : Type 0} → List ℕ → List ℕ → List ℕ → (List ℕ → Option (List ℕ)) → List (String Z) → Command → Ending W E → Type 0
-EndsAs help version usage bytes_of words Help end = EndsPrinting help end
-EndsAs help version usage bytes_of words Version end = EndsPrinting version end
-EndsAs help version usage bytes_of words (Merge request) end = EndsMerging bytes_of words request end
-EndsAs help version usage bytes_of words Usage end = IsSilent end × HasTold end usage
+abbrev pub EndsAs : {Z W E : Type 0} → List ℕ → List ℕ → List ℕ → KnownLists → List (String Z) → Command → Ending W E → Type 0
+EndsAs help version usage known words Help end = EndsPrinting help end
+EndsAs help version usage known words Version end = EndsPrinting version end
+EndsAs help version usage known words (Merge request) end = EndsMerging known words request end
+EndsAs help version usage known words Usage end = IsSilent end × HasTold end usage

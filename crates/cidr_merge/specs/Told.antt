@@ -6,7 +6,7 @@ use Rattle.address_lists.specs.Faults.{line_fault_text}
 use Rattle.address_lists.specs.Refusals.{Refused}
 use Rattle.address_lists.specs.declared.refusals.Refusal.{Refusal}
 use Rattle.cidr_merge.specs.declared.reading.ReadFault.{ReadFault}
-use Rattle.cidr_merge.specs.declared.reading.ReadFault.TheVariants.{Open, Read, OutOfMemory}
+use Rattle.cidr_merge.specs.declared.reading.ReadFault.TheVariants.{Open, Read, Write, OutOfMemory}
 
 -- the name of the list at a place among the words; past them none
 abbrev pub name_at : {Z : Type 0} → List (String Z) → ℕ → List ℕ
@@ -31,4 +31,5 @@ refusals_text words refused = flat_map (refusal_line words) refused.kept ++ more
 abbrev pub fault_text : {Z : Type 0} → List (String Z) → ReadFault → List ℕ
 fault_text words (Open place) = name_at words place ++ codes ": cannot open\n"
 fault_text words (Read place) = name_at words place ++ codes ": cannot read\n"
+fault_text words (Write place) = name_at words place ++ codes ": cannot read\n"
 fault_text words OutOfMemory = codes "out of memory\n"

@@ -4,6 +4,7 @@
 mod command_line;
 mod counts;
 mod help;
+mod laws;
 mod printing;
 mod range_sides;
 mod range_sweep;

@@ -1,5 +1,5 @@
 //! The run that the program makes.
-ghost use Rattle.std.specs.Prelude.{◌≡◌, ◌++◌, ℕ, List, length, OnOk, is_err};
+ghost use Rattle.std.specs.Prelude.{◌≡◌, ◌++◌, ℕ, List, length, OnOk, IfErr, is_err};
 ghost use Rattle.std.specs.Io.KnownBytes.{Appends};
 ghost use Rattle.line_engine.specs.Outputs.{writer_of, waits_in, output_failed};
 ghost use Rattle.cidr_merge.specs.Answers.{IsAnswer};
@@ -7,6 +7,8 @@ ghost use Rattle.cidr_merge.specs.CommandLines.{Asks};
 ghost use Rattle.cidr_merge.specs.Private.Words.{IsWithin};
 ghost use Rattle.cidr_merge.specs.Reading.{ReadsSides};
 ghost use Rattle.cidr_merge.specs.Runs.{answer_status, EndsAnswering, EndsMerging, EndsAs};
+ghost use Rattle.cidr_merge.specs.Stopping.{StopsInSides};
+ghost use Rattle.program_io.specs.Lists.{known_of};
 
 use crate::command_line::{Command, Operation, Request, command_of};
 use crate::help::{HELP, USAGE, VERSION};
@@ -38,7 +40,7 @@ pub(crate) fn run<L: OpenLists, W: Write, E: Write>(
     output: &mut Output<'_, W>,
     errors: &mut Output<'_, E>,
 ) -> u8
-    ensures { (command : Command) × Asks words.now command × EndsAs HELP.now VERSION.now USAGE.now (L.bytes_of lists.now) words.now command
+    ensures { (command : Command) × Asks words.now command × EndsAs HELP.now VERSION.now USAGE.now (known_of L.bytes_of L.may_open lists.now) words.now command
         (record { holds = W.contents; output = output.old; output_after = output.new; tells = E.contents; errors = errors.old; errors_after = errors.new; status = result }) }
 {
     match command_of(words) {
@@ -59,7 +61,7 @@ fn merge<L: OpenLists, W: Write, E: Write>(
     errors: &mut Output<'_, E>,
 ) -> u8
     requires { IsWithin (length words.now) request }
-    ensures { EndsMerging (L.bytes_of lists.now) words.now request
+    ensures { EndsMerging (known_of L.bytes_of L.may_open lists.now) words.now request
         (record { holds = W.contents; output = output.old; output_after = output.new; tells = E.contents; errors = errors.old; errors_after = errors.new; status = result }) }
 {
     let (first, second, refusals, read) = read_sides(alloc, request, words, lists);
@@ -88,7 +90,8 @@ fn read_sides<L: OpenLists>(
     lists: &L,
 ) -> (Sets, Sets, Refusals, Result<(), ReadFault>)
     requires { IsWithin (length words.now) request }
-    ensures { OnOk result.3 (ReadsSides (L.bytes_of lists.now) words.now request result.0 result.1 result.2) }
+    ensures read { OnOk result.3 (ReadsSides (known_of L.bytes_of L.may_open lists.now) words.now request result.0 result.1 result.2) }
+    ensures stopped { IfErr result.3 (λ fault. StopsInSides (known_of L.bytes_of L.may_open lists.now) words.now request fault result.2) }
 {
     let (first, refusals, read) = read_side(
         alloc,

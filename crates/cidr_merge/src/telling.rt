@@ -58,6 +58,10 @@ pub(crate) fn tell_fault<E: Write>(words: &[String], fault: ReadFault, errors: &
             tell_name(words, place, errors);
             tell(": cannot read\n", errors);
         }
+        ReadFault::Write(place) => {
+            tell_name(words, place, errors);
+            tell(": cannot read\n", errors);
+        }
         ReadFault::OutOfMemory => tell("out of memory\n", errors),
     }
 }

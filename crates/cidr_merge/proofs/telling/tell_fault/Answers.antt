@@ -16,3 +16,9 @@ returns-in-Read g c =
     let contents = g.E.Write.contents in
     subst (λ (fault : ReadFault). Tells contents c.args.errors.now c.tell-in-Read.new.errors (fault_text c.args.words.now fault)) (sym c.in-Read.is)
     (tells_more contents c.args.errors.now c.tell_name-in-Read.new.errors c.tell-in-Read.new.errors _ _ c.tell_name-in-Read.ensures c.tell-in-Read.ensures)
+
+pub returns-in-Write : goal.returns-in-Write
+returns-in-Write g c =
+    let contents = g.E.Write.contents in
+    subst (λ (fault : ReadFault). Tells contents c.args.errors.now c.tell-in-Write.new.errors (fault_text c.args.words.now fault)) (sym c.in-Write.is)
+    (tells_more contents c.args.errors.now c.tell_name-in-Write.new.errors c.tell-in-Write.new.errors _ _ c.tell_name-in-Write.ensures c.tell-in-Write.ensures)
