@@ -1,8 +1,6 @@
 -- The laws of differences, and of what settles the result of an operation.
-use Rattle.std.proofs.Common.{◌≡◌, ◌↔◌, ℕ, ◌⊎◌, inl, inr, ⊎_elim, List, []}
-use Rattle.ipnetwork_family.specs.Network.{Network, Member}
-use Rattle.ipnetwork_blocks.specs.Aggregate.{InUnion, SameUnion}
-use Rattle.ipnetwork_blocks.specs.LeastList.{IsLeastList}
+use Rattle.std.proofs.Common.{inl, inr, ⊎_elim, []}
+use Rattle.ipnetwork_blocks.specs.Aggregate.{InUnion}
 use Rattle.ipnetwork_blocks.proofs.LeastLists.{least_unique, least_of_none}
 use Rattle.ipnetwork_sets.specs.DifferenceLaws.{CommonPartIsSettled, DifferenceIsSettled, FreePartIsSettled, UnionIsSettled, DifferenceOfOne, DifferenceOfUnion, DifferenceOfCommonPart}
 use Rattle.ipnetwork_sets.specs.Sets.{InBoth, InFirstAlone, InNetworkAlone, InEither}

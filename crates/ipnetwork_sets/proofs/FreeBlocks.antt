@@ -1,11 +1,11 @@
 -- The first free block of a prefix length: in the first of the blocks that are left that is wide enough.
-use Rattle.std.proofs.Common.{◌≡◌, ◌↔◌, ℕ, ◌<◌, ◌≤◌, ◌⊎◌, inl, inr, sym, refl, ap, subst, ◌∙◌, arith, ⊎_elim, List, [], ◌∷◌, ◌++◌, append_assoc, Option, None, Some, MatchOption}
+use Rattle.std.proofs.Common.{◌≡◌, ℕ, ◌<◌, ◌≤◌, sym, refl, ap, subst, ◌∙◌, arith, ⊎_elim, List, [], ◌∷◌, ◌++◌, append_assoc, Option, None, Some, MatchOption}
 use Rattle.std.specs.List.{AllPairs, Contains}
 use Rattle.std.proofs.lemmas.List.Elements.{Contains-append_cases, Contains-append_right}
-use Rattle.ipnetwork_family.specs.Network.{Network, IsNetwork, IsCidrBlock, Member, Subnet, low, block_at}
+use Rattle.ipnetwork_family.specs.Network.{Network, Subnet, block_at}
 use Rattle.ipnetwork_family.proofs.Blocks.{subnet_prefix, within_member}
 use Rattle.ipnetwork_family.proofs.BlocksAt.{block_at_network, block_at_holds, block_at_subnet}
-use Rattle.ipnetwork_blocks.specs.Aggregate.{InUnion, LiesInUnion}
+use Rattle.ipnetwork_blocks.specs.Aggregate.{LiesInUnion}
 use Rattle.ipnetwork_blocks.specs.AggregateLaws.{AggregateHasNetworks}
 use Rattle.ipnetwork_blocks.specs.LeastList.{IsMaximalIn, IsLeastList}
 use Rattle.ipnetwork_blocks.proofs.LeastLists.{own_address, contains_cons, contains_head, contains_nil, pairs_tail, pairs_head}

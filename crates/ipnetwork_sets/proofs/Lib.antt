@@ -15,6 +15,7 @@ pub mod RunLists
 pub mod Searched
 pub mod SetLaws
 pub mod Steps
+pub mod TextLaws
 pub mod Together
 pub mod Totals
 pub mod WholeSpace

@@ -1,5 +1,5 @@
 -- Blocks that are collected, one of them read ahead.
-use Rattle.std.proofs.Common.{◌≡◌, ap, sym, subst, refl, ◌∙◌, List, [], ◌∷◌, ◌++◌, length, Option, None, Some, MatchOption, option_map, map, append_assoc}
+use Rattle.std.proofs.Common.{◌≡◌, ap, sym, ◌∙◌, List, [], ◌∷◌, ◌++◌, length, Option, None, Some, MatchOption, option_map, map, append_assoc}
 use Rattle.std.proofs.lemmas.List.{append-nil, map-append}
 use Rattle.ipnetwork_family.specs.Network.{Network}
 

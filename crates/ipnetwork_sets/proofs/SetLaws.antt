@@ -1,10 +1,8 @@
 -- The laws of the operations on sets.
-use Rattle.std.proofs.Common.{◌≡◌, ◌↔◌, ℕ, ◌⊎◌, inl, inr, sym, refl, subst, ⊎_elim, List, [], ◌∷◌, ◌++◌, Bool, true, false, not, IsTrue, is_some, MatchOption, Option, None, Some, map, append_assoc, ap, ◌∙◌, arith, true≢false}
-use Rattle.std.proofs.lemmas.List.{append-nil, map-append}
+use Rattle.std.proofs.Common.{◌≡◌, ◌↔◌, ℕ, ◌⊎◌, inl, inr, sym, refl, subst, ⊎_elim, List, [], ◌∷◌, Bool, true, false, not, IsTrue, is_some, MatchOption, Option, None, Some, arith, true≢false}
 use Rattle.std.specs.List.{Contains}
-use Rattle.std.proofs.lemmas.List.Elements.{Contains-append_left, Contains-append_right, Contains-append_cases}
 use Rattle.ipnetwork_family.specs.Network.{Network, Member}
-use Rattle.ipnetwork_blocks.specs.Aggregate.{InUnion, IsAggregate}
+use Rattle.ipnetwork_blocks.specs.Aggregate.{InUnion}
 use Rattle.ipnetwork_blocks.specs.LeastList.{IsMaximalIn, IsLeastList}
 use Rattle.ipnetwork_blocks.specs.LeastListLaws.{IsShortest}
 use Rattle.ipnetwork_blocks.proofs.LeastLists.{own_address, contains_head, least_of_same, least_unique}

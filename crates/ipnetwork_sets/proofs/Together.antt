@@ -12,7 +12,7 @@ use Rattle.ipnetwork_blocks.specs.AggregateLaws.{AggregateIsApart}
 use Rattle.ipnetwork_blocks.specs.Ranges.{FromTo}
 use Rattle.ipnetwork_blocks.proofs.LeastLists.{own_address, contains_head, least_of_none, least_of_two, least_unique}
 use Rattle.ipnetwork_sets.specs.Sets.{IsAddressSet, InEither}
-use Rattle.ipnetwork_sets.specs.Private.LeastBlocks.{in_union, either_blocks}
+use Rattle.ipnetwork_sets.specs.Private.LeastBlocks.{either_blocks}
 use Rattle.ipnetwork_sets.specs.Private.Together.{at_hand, IsFirst, EndsAt, IsLater, IsRun}
 use Rattle.ipnetwork_sets.proofs.LeastBlocks.{either_is_least}
 use Rattle.ipnetwork_sets.proofs.Lists.{set_block}

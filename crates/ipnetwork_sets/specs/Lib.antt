@@ -8,3 +8,4 @@ pub mod Laws
 pub mod Private
 pub mod RangeLists
 pub mod Sets
+pub mod Texts

@@ -1,5 +1,5 @@
 -- Sets of addresses as ranges: each a first and a last address.
-use Rattle.std.specs.Prelude.{◌≡◌, ℕ, ◌+◌, ◌<◌, ◌≤◌, ◌↔◌, List}
+use Rattle.std.specs.Prelude.{ℕ, ◌+◌, ◌<◌, ◌≤◌, ◌↔◌, List}
 use Rattle.std.specs.List.{All, AllPairs, Contains}
 use Rattle.ipnetwork_blocks.specs.Ranges.{FromTo}
 

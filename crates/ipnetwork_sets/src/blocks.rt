@@ -5,6 +5,7 @@ ghost use Rattle.ipnetwork_family.specs.Network.{Network};
 ghost use Rattle.ipnetwork_sets.specs.Sets.{IsAddressSet};
 
 use crate::address_set::AddressSet;
+use crate::address_slice::AddressSlice;
 use crate::common::Intersection;
 use crate::difference::Difference;
 use crate::union::Union;
@@ -70,6 +71,20 @@ impl<N: AddressSpace> AddressSet<N> {
     /// assert_eq!(rt; blocks.next(), Some("192.0.2.0/25".parse()?));
     /// ```
     pub fn iter(&self) -> Blocks<'_, N>
+        ensures { result ≡ self.now }
+    {
+        self.as_slice().iter()
+    }
+}
+
+impl<'a, N: AddressSpace> AddressSlice<'a, N> {
+    /// The blocks one after the other, in ascending order.
+    ///
+    /// ```
+    /// let list: [Ipv4Network; 1] = ["192.0.2.0/25".parse()?];
+    /// assert!(rt; AddressSlice::from_blocks(&list).unwrap().iter().eq(list));
+    /// ```
+    pub fn iter(&self) -> Blocks<'a, N>
         ensures { result ≡ self.now }
     {
         Blocks {

@@ -6,6 +6,7 @@ ghost use Rattle.ipnetwork_sets.specs.Private.Totals.{capped};
 
 use crate::address_count::AddressCount;
 use crate::address_set::AddressSet;
+use crate::address_slice::AddressSlice;
 use ipnetwork_blocks::{AddressSpace, laws};
 
 impl<N: AddressSpace> AddressSet<N> {
@@ -14,6 +15,20 @@ impl<N: AddressSpace> AddressSet<N> {
     /// ```
     /// let set = AddressSet::from_networks(vec![in rt.alloc(); "192.0.2.0/25".parse::<Ipv4Network>()?]?);
     /// assert_eq!(rt; set.address_count(), AddressCount::from(128));
+    /// ```
+    pub fn address_count(&self) -> AddressCount
+        ensures { N.WIDTH ≤ 128 → HasCount (InUnion N.WIDTH self.now) (count_number result) }
+    {
+        self.as_slice().address_count()
+    }
+}
+
+impl<'a, N: AddressSpace> AddressSlice<'a, N> {
+    /// How many addresses there are in the set. Goes over the blocks once, and does not allocate.
+    ///
+    /// ```
+    /// let list: [Ipv4Network; 1] = ["192.0.2.0/25".parse()?];
+    /// assert_eq!(rt; AddressSlice::from_blocks(&list).unwrap().address_count(), AddressCount::from(128));
     /// ```
     pub fn address_count(&self) -> AddressCount
         ensures { N.WIDTH ≤ 128 → HasCount (InUnion N.WIDTH self.now) (count_number result) }

@@ -3,9 +3,12 @@
 ghost use Rattle.ipnetwork_sets.specs.CountLaws.{AscendingIsOneList, UnionHasOneCount, RangesAreOneList, UnionHasOneRangeList, SetAddsUp, CommonPartAddsUp, DifferenceAddsUp, FreePartAddsUp, UnionAddsUp, TotalGoesOn, SetHasFewerBlocks};
 ghost use Rattle.ipnetwork_sets.specs.DifferenceLaws.{CommonPartIsSettled, DifferenceIsSettled, FreePartIsSettled, UnionIsSettled, DifferenceOfOne, DifferenceOfUnion, DifferenceOfCommonPart};
 ghost use Rattle.ipnetwork_sets.specs.Equality.{SameBlocksAreEqual};
+ghost use Rattle.ipnetwork_family.specs.Family.{text_of, v4_family, v6_family};
+ghost use Rattle.ipnetwork_sets.specs.Texts.{LinesTellSets};
 ghost use Rattle.ipnetwork_sets.specs.Laws.{CommonPartIsShortest, DifferenceIsShortest, FreePartIsShortest, UnionIsShortest, SameAddressesAreOneSet, CommonPartCommutes, UnionCommutes, CommonPartOfOne, UnionOfOne, DifferenceIsDisjoint, PartsMakeTheWhole, FreeOfUnion, FreeOfCommonPart};
 
 use ipnetwork_blocks::laws;
+use ipnetwork_family::laws as network_laws;
 
 /// Of each operation the blocks have the addresses of the set and no others, each ends before the next begins, no
 /// networks with the same addresses are fewer, and no other list is the least.
@@ -21,6 +24,22 @@ pub fn equality()
     ensures test { SameBlocksAreEqual }
     ensures addresses { SameAddressesAreOneSet }
 {}
+
+/// Two sets of IPv4 addresses are printed as the same text exactly if they have the same addresses.
+pub fn v4_texts()
+    ensures { LinesTellSets 32 (text_of v4_family) }
+{
+    network_laws::canonical_v4_network_bytes();
+    network_laws::canonical_v4_network_is_one_to_one();
+}
+
+/// Two sets of IPv6 addresses are printed as the same text exactly if they have the same addresses.
+pub fn v6_texts()
+    ensures { LinesTellSets 128 (text_of v6_family) }
+{
+    network_laws::canonical_v6_network_bytes();
+    network_laws::canonical_v6_network_is_one_to_one();
+}
 
 /// The common part and the union are those of the two in either order, and of a set with itself they are the set.
 pub fn order_and_repetition()

@@ -3,6 +3,7 @@
 
 mod address_count;
 mod address_set;
+mod address_slice;
 mod blocks;
 mod check;
 mod collecting;
@@ -21,10 +22,12 @@ mod ranges;
 mod search;
 #[cfg(test)]
 mod tests;
+mod text;
 mod union;
 
 pub use address_count::AddressCount;
 pub use address_set::AddressSet;
+pub use address_slice::AddressSlice;
 pub use blocks::{Blocks, SetBlocks};
 pub use common::Intersection;
 pub use difference::Difference;

@@ -94,8 +94,7 @@ impl<N: AddressSpace> AddressSet<N> {
     pub fn is_subset_of(&self, other: &AddressSet<N>) -> bool
         ensures { IsTrue result ↔ IsWithin N.WIDTH self.now other.now }
     {
-        let mut left = self.difference(other);
-        left.next().is_none()
+        self.as_slice().is_subset_of(&other.as_slice())
     }
 
     /// Whether no address is in both sets. Goes over both lists once at the most, and does not allocate.
@@ -108,7 +107,6 @@ impl<N: AddressSpace> AddressSet<N> {
     pub fn is_disjoint_from(&self, other: &AddressSet<N>) -> bool
         ensures { IsTrue result ↔ AreDisjoint N.WIDTH self.now other.now }
     {
-        let mut common = self.intersection(other);
-        common.next().is_none()
+        self.as_slice().is_disjoint_from(&other.as_slice())
     }
 }

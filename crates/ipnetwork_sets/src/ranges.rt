@@ -8,6 +8,7 @@ ghost use Rattle.ipnetwork_sets.specs.RangeLists.{IsRangeList};
 ghost use Rattle.ipnetwork_sets.specs.Private.Runs.{runs, runs_left, IsAhead};
 
 use crate::address_set::AddressSet;
+use crate::address_slice::AddressSlice;
 use crate::blocks::{Blocks, SetBlocks};
 use crate::common::Intersection;
 use crate::difference::Difference;
@@ -97,6 +98,22 @@ impl<N: AddressSpace> AddressSet<N> {
     /// assert_eq!(rt; set.ranges().next(), Some(range));
     /// ```
     pub fn ranges(&self) -> Ranges<N, Blocks<'_, N>>
+        ensures { IsRangeList (InUnion N.WIDTH self.now) result }
+    {
+        Ranges::of(self.iter())
+    }
+}
+
+impl<'a, N: AddressSpace> AddressSlice<'a, N> {
+    /// The first and the last address of each range of the set, in ascending order: the fewest ranges that there are.
+    /// Goes over the blocks once, as the iterator is asked, and does not allocate.
+    ///
+    /// ```
+    /// let list: [Ipv4Network; 1] = ["192.0.2.0/24".parse()?];
+    /// let range = (Ipv4Addr::new(192, 0, 2, 0), Ipv4Addr::new(192, 0, 2, 255));
+    /// assert_eq!(rt; AddressSlice::from_blocks(&list).unwrap().ranges().next(), Some(range));
+    /// ```
+    pub fn ranges(&self) -> Ranges<N, Blocks<'a, N>>
         ensures { IsRangeList (InUnion N.WIDTH self.now) result }
     {
         Ranges::of(self.iter())

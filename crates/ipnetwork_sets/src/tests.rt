@@ -5,6 +5,7 @@ mod free_blocks;
 mod operations;
 mod questions;
 mod ranges;
+mod texts;
 
 use crate::AddressSet;
 use ipnetwork_blocks::AddressSpace;

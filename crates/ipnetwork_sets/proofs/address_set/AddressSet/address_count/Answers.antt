@@ -1,10 +1,9 @@
-use Rattle.std.proofs.Common.{ap, ◌∙◌}
-use Rattle.ipnetwork_sets.specs.Counts.{count_number, total}
-use Rattle.ipnetwork_sets.specs.Private.Totals.{capped}
-use Rattle.ipnetwork_sets.proofs.Totals.{has_count}
+use Rattle.std.proofs.Common.{◌≤◌, List, subst}
+use Rattle.ipnetwork_family.specs.Network.{Network}
+use Rattle.ipnetwork_blocks.specs.Aggregate.{InUnion}
+use Rattle.ipnetwork_sets.specs.Counts.{count_number, HasCount}
 use Rattle.ipnetwork_sets.proofs.address_set.AddressSet.address_count.Goals as goal
 
 pub returns : goal.returns
 returns g c =
-    has_count g.N.CidrNetwork.WIDTH c.args.self.now (count_number c.count_blocks.result) c.one_block.ensures.apart c.blocks-2.ensures.set
-    (c.count_blocks.ensures ∙ ap (λ l. capped (total g.N.CidrNetwork.WIDTH l)) c.blocks-2.ensures.blocks)
+    subst (λ (s : List Network). g.N.CidrNetwork.WIDTH ≤ 128 → HasCount (InUnion g.N.CidrNetwork.WIDTH s) (count_number c.address_count.result)) c.as_slice.ensures c.address_count.ensures

@@ -1,4 +1,4 @@
-use Rattle.std.proofs.Common.{◌≡◌, ◌<◌, ◌≤◌, subst, sym, arith}
+use Rattle.std.proofs.Common.{arith}
 use Rattle.ipnetwork_sets.proofs.FreeBlocks.{passing_goes_on, none_free, answers}
 use Rattle.ipnetwork_sets.proofs.address_set.AddressSet.first_free.Goals as goal
 

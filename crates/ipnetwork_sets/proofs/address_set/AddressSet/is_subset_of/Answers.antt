@@ -1,7 +1,10 @@
-use Rattle.ipnetwork_sets.proofs.SetLaws.{within_answer}
+use Rattle.std.proofs.Common.{◌↔◌, ℕ, List, IsTrue, subst}
+use Rattle.ipnetwork_family.specs.Network.{Network}
+use Rattle.ipnetwork_sets.specs.Sets.{IsWithin}
 use Rattle.ipnetwork_sets.proofs.address_set.AddressSet.is_subset_of.Goals as goal
 
 pub returns : goal.returns
 returns g c =
-    within_answer g.N.CidrNetwork.WIDTH c.args.self.now c.args.other.now c.difference-left.result c.next.new.self g.N.CidrNetwork.pair c.next.result c.is_none.result
-    c.difference-left.ensures c.next.ensures.steps c.is_none.ensures
+    let w : ℕ = g.N.CidrNetwork.WIDTH in
+    subst (λ (t : List Network). IsTrue c.is_subset_of.result ↔ IsWithin w c.args.self.now t) c.as_slice-2.ensures
+    (subst (λ (s : List Network). IsTrue c.is_subset_of.result ↔ IsWithin w s c.as_slice-2.result) c.as_slice.ensures c.is_subset_of.ensures)

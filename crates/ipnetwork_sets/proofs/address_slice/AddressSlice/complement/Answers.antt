@@ -1,5 +1,5 @@
 use Rattle.ipnetwork_sets.proofs.WholeSpace.{complement_is_least}
-use Rattle.ipnetwork_sets.proofs.address_set.AddressSet.complement.Goals as goal
+use Rattle.ipnetwork_sets.proofs.address_slice.AddressSlice.complement.Goals as goal
 
 pub returns : goal.returns
 returns g c =
