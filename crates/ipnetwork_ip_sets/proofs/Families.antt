@@ -1,0 +1,219 @@
+-- Lists of networks of either family, and those of each family in them.
+use Rattle.std.proofs.Common.{◌≡◌, ◌↔◌, ℕ, suc, ◌<◌, Bool, IsTrue, sym, refl, ap, subst, ◌∙◌, List, [], ◌∷◌, ◌++◌, map, length, get_or, take, Option, Some}
+use Rattle.std.proofs.lemmas.List.{map-id}
+use Rattle.std.proofs.lemmas.List.Elements.{filter_map-append}
+use Rattle.std.proofs.Math.Seq.{take-suc}
+use Rattle.std.specs.List.{Contains, filter_map}
+use Rattle.ipnetwork_addr.specs.declared.ip.IpAddr.{IpAddr}
+use Rattle.ipnetwork_addr.specs.declared.ip.IpAddr.TheVariants as addresses
+use Rattle.ipnetwork_family.specs.Network.{Network, Member}
+use Rattle.ipnetwork.specs.IpNetworks.{IpMember}
+use Rattle.ipnetwork.specs.declared.ip_network.IpNetwork.{IpNetwork}
+use Rattle.ipnetwork.specs.declared.ip_network.IpNetwork.TheVariants.{V4, V6}
+use Rattle.ipnetwork_blocks.specs.Aggregate.{InUnion, LiesInUnion, IsAggregate}
+use Rattle.ipnetwork_blocks.specs.AggregateIp.{as_v4, as_v6, IsIpAggregate}
+use Rattle.ipnetwork_blocks.specs.AggregateIpLaws.{InIpUnion, LiesInIpUnion}
+use Rattle.ipnetwork_blocks.specs.LeastList.{IsLeastList}
+use Rattle.ipnetwork_blocks.proofs.AggregateIp.{given, gives}
+use Rattle.ipnetwork_blocks.proofs.LeastLists.{least_of_same}
+use Rattle.ipnetwork_sets.specs.Sets.{IsAddressSet, MeetsUnion}
+use Rattle.ipnetwork_ip_sets.specs.IpSets.{v4_then_v6, IsIpLeastList, IsIpAddressSet, MeetsIpUnion}
+
+pub through : {P Q R : Type 0} → P ↔ Q → Q ↔ R → P ↔ R
+through p q = ((λ m. q.0 (p.0 m)), (λ m. p.1 (q.1 m)))
+
+-- ---- the networks of each family in a list of both
+
+pub v4_of_both : (v4 v6 : List Network) → filter_map as_v4 (v4_then_v6 v4 v6) ≡ v4
+v4_of_both [] [] = refl
+v4_of_both [] (n ∷ v6) = v4_of_both [] v6
+v4_of_both (n ∷ v4) v6 = ap (λ ns. n ∷ ns) (v4_of_both v4 v6)
+
+pub v6_of_both : (v4 v6 : List Network) → filter_map as_v6 (v4_then_v6 v4 v6) ≡ v6
+v6_of_both [] [] = refl
+v6_of_both [] (n ∷ v6) = ap (λ ns. n ∷ ns) (v6_of_both [] v6)
+v6_of_both (n ∷ v4) v6 = v6_of_both v4 v6
+
+-- ---- the addresses of each family
+
+-- of a family of addresses of w bits, which stand among those of either as `address` says: its networks are those that
+-- `own` gives
+record IsFamily (w : ℕ) (own : IpNetwork → Option Network) (put : Network → IpNetwork) (address : ℕ → IpAddr) : Type 0 where
+  kept : (y : IpNetwork) (n : Network) → own y ≡ Some n → y ≡ put n
+  one : (y : IpNetwork) (x : ℕ) → IpMember y (address x) → (n : Network) × (own y ≡ Some n) × Member w n x
+  member : (n : Network) (x : ℕ) → Member w n x → IpMember (put n) (address x)
+
+v4_kept : (y : IpNetwork) (n : Network) → as_v4 y ≡ Some n → y ≡ V4 n
+v4_kept (V4 m) n e = cc
+v4_kept (V6 m) n e = cc
+
+v4_one : (y : IpNetwork) (x : ℕ) → IpMember y (addresses.V4 x) → (n : Network) × (as_v4 y ≡ Some n) × Member 32 n x
+v4_one (V4 n) x m = (n, refl, m)
+v4_one (V6 n) x m = absurd m
+
+v4_family : IsFamily 32 as_v4 V4 addresses.V4
+v4_family = record {
+  kept = v4_kept;
+  one = v4_one;
+  member = λ n x m. m;
+}
+
+v6_kept : (y : IpNetwork) (n : Network) → as_v6 y ≡ Some n → y ≡ V6 n
+v6_kept (V4 m) n e = cc
+v6_kept (V6 m) n e = cc
+
+v6_one : (y : IpNetwork) (x : ℕ) → IpMember y (addresses.V6 x) → (n : Network) × (as_v6 y ≡ Some n) × Member 128 n x
+v6_one (V4 n) x m = absurd m
+v6_one (V6 n) x m = (n, refl, m)
+
+v6_family : IsFamily 128 as_v6 V6 addresses.V6
+v6_family = record {
+  kept = v6_kept;
+  one = v6_one;
+  member = λ n x m. m;
+}
+
+-- an address lies in the union exactly if it lies in that of its family's networks
+in_family : (w : ℕ) (own : IpNetwork → Option Network) (put : Network → IpNetwork) (address : ℕ → IpAddr) → IsFamily w own put address
+    → (ns : List IpNetwork) (x : ℕ) → InUnion w (filter_map own ns) x ↔ InIpUnion ns (address x)
+in_family w own put address family ns x = (
+  (λ c. let g = given own ns c.0 c.1 in (put c.0, subst (λ (y : IpNetwork). Contains ns y) (family.kept g.0 c.0 g.2) g.1, family.member c.0 x c.2)),
+  (λ c. let o = family.one c.0 x c.2 in (o.0, gives own ns c.0 o.0 c.1 o.1, o.2)),
+)
+
+pub in_v4 : (ns : List IpNetwork) (x : ℕ) → InUnion 32 (filter_map as_v4 ns) x ↔ InIpUnion ns (addresses.V4 x)
+in_v4 = in_family 32 as_v4 V4 addresses.V4 v4_family
+
+pub in_v6 : (ns : List IpNetwork) (x : ℕ) → InUnion 128 (filter_map as_v6 ns) x ↔ InIpUnion ns (addresses.V6 x)
+in_v6 = in_family 128 as_v6 V6 addresses.V6 v6_family
+
+-- ---- the questions of a set
+
+pub v4_lies : (ns : List IpNetwork) (n : Network) → LiesInUnion 32 n (filter_map as_v4 ns) ↔ LiesInIpUnion (V4 n) ns
+v4_lies ns n = (go, (λ h x m. (in_v4 ns x).1 (h (addresses.V4 x) m)))
+  where
+    go : LiesInUnion 32 n (filter_map as_v4 ns) → LiesInIpUnion (V4 n) ns
+    go h (addresses.V4 x) m = (in_v4 ns x).0 (h x m)
+    go h (addresses.V6 x) m = absurd m
+
+pub v6_lies : (ns : List IpNetwork) (n : Network) → LiesInUnion 128 n (filter_map as_v6 ns) ↔ LiesInIpUnion (V6 n) ns
+v6_lies ns n = (go, (λ h x m. (in_v6 ns x).1 (h (addresses.V6 x) m)))
+  where
+    go : LiesInUnion 128 n (filter_map as_v6 ns) → LiesInIpUnion (V6 n) ns
+    go h (addresses.V4 x) m = absurd m
+    go h (addresses.V6 x) m = (in_v6 ns x).0 (h x m)
+
+pub v4_meets : (ns : List IpNetwork) (n : Network) → MeetsUnion 32 n (filter_map as_v4 ns) ↔ MeetsIpUnion (V4 n) ns
+v4_meets ns n = ((λ h. (addresses.V4 h.0, h.1, (in_v4 ns h.0).0 h.2)), (λ h. go h.0 h.1 h.2))
+  where
+    go : (x : IpAddr) → IpMember (V4 n) x → InIpUnion ns x → MeetsUnion 32 n (filter_map as_v4 ns)
+    go (addresses.V4 x) m u = (x, m, (in_v4 ns x).1 u)
+    go (addresses.V6 x) m u = absurd m
+
+pub v6_meets : (ns : List IpNetwork) (n : Network) → MeetsUnion 128 n (filter_map as_v6 ns) ↔ MeetsIpUnion (V6 n) ns
+v6_meets ns n = ((λ h. (addresses.V6 h.0, h.1, (in_v6 ns h.0).0 h.2)), (λ h. go h.0 h.1 h.2))
+  where
+    go : (x : IpAddr) → IpMember (V6 n) x → InIpUnion ns x → MeetsUnion 128 n (filter_map as_v6 ns)
+    go (addresses.V4 x) m u = absurd m
+    go (addresses.V6 x) m u = (x, m, (in_v6 ns x).1 u)
+
+-- ---- least lists
+
+-- the least list of a set is that of its IPv4 addresses, and after it that of its IPv6 addresses
+pub put_together : (S : IpAddr → Type 0) (S4 S6 : ℕ → Type 0) (v4 v6 : List Network) → ((x : ℕ) → S4 x ↔ S (addresses.V4 x)) → ((x : ℕ) → S6 x ↔ S (addresses.V6 x))
+    → IsLeastList 32 S4 v4 → IsLeastList 128 S6 v6 → IsIpLeastList S (v4_then_v6 v4 v6)
+put_together S S4 S6 v4 v6 same4 same6 h k =
+    (v4, v6, refl, least_of_same 32 S4 (λ x. S (addresses.V4 x)) v4 same4 h, least_of_same 128 S6 (λ x. S (addresses.V6 x)) v6 same6 k)
+
+-- and the blocks of each family in it are the least list of the family
+pub v4_part : (S : IpAddr → Type 0) (S4 : ℕ → Type 0) (r : List IpNetwork) → ((x : ℕ) → S4 x ↔ S (addresses.V4 x)) → IsIpLeastList S r → IsLeastList 32 S4 (filter_map as_v4 r)
+v4_part S S4 r same h =
+    subst (IsLeastList 32 S4) (sym (ap (filter_map as_v4) h.2 ∙ v4_of_both h.0 h.1))
+    (least_of_same 32 (λ x. S (addresses.V4 x)) S4 h.0 (λ x. ((same x).1, (same x).0)) h.3)
+
+pub v6_part : (S : IpAddr → Type 0) (S6 : ℕ → Type 0) (r : List IpNetwork) → ((x : ℕ) → S6 x ↔ S (addresses.V6 x)) → IsIpLeastList S r → IsLeastList 128 S6 (filter_map as_v6 r)
+v6_part S S6 r same h =
+    subst (IsLeastList 128 S6) (sym (ap (filter_map as_v6) h.2 ∙ v6_of_both h.0 h.1))
+    (least_of_same 128 (λ x. S (addresses.V6 x)) S6 h.1 (λ x. ((same x).1, (same x).0)) h.4)
+
+-- a list that is put together so is that of its blocks of each family
+pub own_parts : (r : List IpNetwork) (v4 v6 : List Network) → r ≡ v4_then_v6 v4 v6 → r ≡ v4_then_v6 (filter_map as_v4 r) (filter_map as_v6 r)
+own_parts r v4 v6 e =
+    e ∙ ap (λ l. v4_then_v6 l v6) (sym (ap (filter_map as_v4) e ∙ v4_of_both v4 v6)) ∙ ap (λ l. v4_then_v6 (filter_map as_v4 r) l) (sym (ap (filter_map as_v6) e ∙ v6_of_both v4 v6))
+
+-- so two of them are equal if their blocks of each family are
+pub both_equal : (r s : List IpNetwork) (a b c d : List Network) → r ≡ v4_then_v6 a b → s ≡ v4_then_v6 c d
+    → filter_map as_v4 r ≡ filter_map as_v4 s → filter_map as_v6 r ≡ filter_map as_v6 s → r ≡ s
+both_equal r s a b c d er es e4 e6 =
+    own_parts r a b er ∙ ap (λ l. v4_then_v6 l (filter_map as_v6 r)) e4 ∙ ap (λ l. v4_then_v6 (filter_map as_v4 s) l) e6 ∙ sym (own_parts s c d es)
+
+-- ---- what the questions of a set return
+
+pub contains_v4 : (ns : List IpNetwork) (a : IpAddr) (x : ℕ) (b : Bool) (v : List Network) → a ≡ addresses.V4 x → v ≡ filter_map as_v4 ns → IsTrue b ↔ InUnion 32 v x → IsTrue b ↔ InIpUnion ns a
+contains_v4 ns a x b v is e told =
+    subst (λ (y : IpAddr). IsTrue b ↔ InIpUnion ns y) (sym is) (through (subst (λ (l : List Network). IsTrue b ↔ InUnion 32 l x) e told) (in_v4 ns x))
+
+pub contains_v6 : (ns : List IpNetwork) (a : IpAddr) (x : ℕ) (b : Bool) (v : List Network) → a ≡ addresses.V6 x → v ≡ filter_map as_v6 ns → IsTrue b ↔ InUnion 128 v x → IsTrue b ↔ InIpUnion ns a
+contains_v6 ns a x b v is e told =
+    subst (λ (y : IpAddr). IsTrue b ↔ InIpUnion ns y) (sym is) (through (subst (λ (l : List Network). IsTrue b ↔ InUnion 128 l x) e told) (in_v6 ns x))
+
+pub covers_v4 : (ns : List IpNetwork) (a : IpNetwork) (n : Network) (b : Bool) (v : List Network) → a ≡ V4 n → v ≡ filter_map as_v4 ns → IsTrue b ↔ LiesInUnion 32 n v → IsTrue b ↔ LiesInIpUnion a ns
+covers_v4 ns a n b v is e told =
+    subst (λ (y : IpNetwork). IsTrue b ↔ LiesInIpUnion y ns) (sym is) (through (subst (λ (l : List Network). IsTrue b ↔ LiesInUnion 32 n l) e told) (v4_lies ns n))
+
+pub covers_v6 : (ns : List IpNetwork) (a : IpNetwork) (n : Network) (b : Bool) (v : List Network) → a ≡ V6 n → v ≡ filter_map as_v6 ns → IsTrue b ↔ LiesInUnion 128 n v → IsTrue b ↔ LiesInIpUnion a ns
+covers_v6 ns a n b v is e told =
+    subst (λ (y : IpNetwork). IsTrue b ↔ LiesInIpUnion y ns) (sym is) (through (subst (λ (l : List Network). IsTrue b ↔ LiesInUnion 128 n l) e told) (v6_lies ns n))
+
+pub overlaps_v4 : (ns : List IpNetwork) (a : IpNetwork) (n : Network) (b : Bool) (v : List Network) → a ≡ V4 n → v ≡ filter_map as_v4 ns → IsTrue b ↔ MeetsUnion 32 n v → IsTrue b ↔ MeetsIpUnion a ns
+overlaps_v4 ns a n b v is e told =
+    subst (λ (y : IpNetwork). IsTrue b ↔ MeetsIpUnion y ns) (sym is) (through (subst (λ (l : List Network). IsTrue b ↔ MeetsUnion 32 n l) e told) (v4_meets ns n))
+
+pub overlaps_v6 : (ns : List IpNetwork) (a : IpNetwork) (n : Network) (b : Bool) (v : List Network) → a ≡ V6 n → v ≡ filter_map as_v6 ns → IsTrue b ↔ MeetsUnion 128 n v → IsTrue b ↔ MeetsIpUnion a ns
+overlaps_v6 ns a n b v is e told =
+    subst (λ (y : IpNetwork). IsTrue b ↔ MeetsIpUnion y ns) (sym is) (through (subst (λ (l : List Network). IsTrue b ↔ MeetsUnion 128 n l) e told) (v6_meets ns n))
+
+-- a list of networks of neither family has none
+pub none_of_either : (ns : List IpNetwork) → filter_map as_v4 ns ≡ [] → filter_map as_v6 ns ≡ [] → ns ≡ []
+none_of_either [] e f = refl
+none_of_either (V4 n ∷ ns) e f = cc
+none_of_either (V6 n ∷ ns) e f = cc
+
+-- ---- sets and aggregates, put together
+
+pub set_of_families : (v4 v6 : List Network) → IsAddressSet 32 v4 → IsAddressSet 128 v6 → IsIpAddressSet (v4_then_v6 v4 v6)
+set_of_families v4 v6 h k = (
+  v4,
+  v6,
+  refl,
+  subst (λ (l : List Network). IsAggregate 32 l v4) (sym (v4_of_both v4 v6)) h,
+  subst (λ (l : List Network). IsAggregate 128 l v6) (sym (v6_of_both v4 v6)) k,
+)
+
+-- of the networks of two lists
+pub aggregate_of_lists : (v4 v6 r4 r6 : List Network) (r : List IpNetwork) → IsAggregate 32 (map (λ n. n) v4) r4 → IsAggregate 128 (map (λ n. n) v6) r6 → r ≡ v4_then_v6 r4 r6
+    → IsIpAggregate (v4_then_v6 v4 v6) r
+aggregate_of_lists v4 v6 r4 r6 r h k e = (
+  r4,
+  r6,
+  e,
+  subst (λ (l : List Network). IsAggregate 32 l r4) (map-id v4 ∙ sym (v4_of_both v4 v6)) h,
+  subst (λ (l : List Network). IsAggregate 128 l r6) (map-id v6 ∙ sym (v6_of_both v4 v6)) k,
+)
+
+-- of those of one list, taken apart
+pub aggregate_of_parts : (ns r : List IpNetwork) (v4 v6 : List Network) → v4 ≡ filter_map as_v4 ns → v6 ≡ filter_map as_v6 ns → IsIpAggregate (v4_then_v6 v4 v6) r → IsIpAggregate ns r
+aggregate_of_parts ns r v4 v6 e f h = (
+  h.0,
+  h.1,
+  h.2,
+  subst (λ (l : List Network). IsAggregate 32 l h.0) (v4_of_both v4 v6 ∙ e) h.3,
+  subst (λ (l : List Network). IsAggregate 128 l h.1) (v6_of_both v4 v6 ∙ f) h.4,
+)
+
+-- one network more of a list that is taken apart
+pub one_more : (own : IpNetwork → Option Network) (ns : List IpNetwork) (i : ℕ) (n : IpNetwork) (before after : List Network) → i < length ns → get_or ns i n ≡ n
+    → before ≡ filter_map own (take i ns) → after ≡ before ++ filter_map own (n ∷ []) → after ≡ filter_map own (take (suc i) ns)
+one_more own ns i n before after l is e f =
+    f ∙ ap (λ b. b ++ filter_map own (n ∷ [])) e ∙ sym (filter_map-append own (take i ns) (n ∷ []))
+    ∙ ap (filter_map own) (ap (λ y. take i ns ++ (y ∷ [])) (sym is) ∙ sym (take-suc ns i n l))

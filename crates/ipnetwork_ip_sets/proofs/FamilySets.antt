@@ -1,0 +1,100 @@
+-- The operations on lists of networks of either family, family by family.
+use Rattle.std.proofs.Common.{◌≡◌, ◌↔◌, ◌&&◌, ℕ, Bool, true, false, IsTrue, ◌⊎◌, inl, inr, ⊎_elim, sym, subst, refl, List}
+use Rattle.std.specs.List.{filter_map}
+use Rattle.ipnetwork_addr.specs.declared.ip.IpAddr.{IpAddr}
+use Rattle.ipnetwork_addr.specs.declared.ip.IpAddr.TheVariants as addresses
+use Rattle.ipnetwork_family.specs.Network.{Network}
+use Rattle.ipnetwork.specs.declared.ip_network.IpNetwork.{IpNetwork}
+use Rattle.ipnetwork_blocks.specs.AggregateIp.{as_v4, as_v6}
+use Rattle.ipnetwork_blocks.specs.LeastList.{IsLeastList}
+use Rattle.ipnetwork_sets.specs.Counts.{HasCount}
+use Rattle.ipnetwork_sets.specs.Sets.{InBoth, InFirstAlone, InComplement, InEither, IsWithin, AreDisjoint}
+use Rattle.ipnetwork_ip_sets.specs.IpSets.{v4_then_v6, IsIpLeastList, InIpBoth, InIpFirstAlone, InIpComplement, InIpEither, IsIpWithin, AreIpDisjoint}
+use Rattle.ipnetwork_ip_sets.proofs.Families.{through, in_v4, in_v6, v4_of_both, v6_of_both, put_together}
+
+-- ---- facts that hold together
+
+pub same : {P : Type 0} → P ↔ P
+same = ((λ m. m), (λ m. m))
+
+pub and_iff : {P Q R S : Type 0} → P ↔ Q → R ↔ S → (P × R) ↔ (Q × S)
+and_iff p r = ((λ m. (p.0 m.0, r.0 m.1)), (λ m. (p.1 m.0, r.1 m.1)))
+
+pub or_iff : {P Q R S : Type 0} → P ↔ Q → R ↔ S → (P ⊎ R) ↔ (Q ⊎ S)
+or_iff {P} {Q} {R} {S} p r = (
+  (λ m. ⊎_elim (λ (h : P). inl (p.0 h)) (λ (h : R). inr (r.0 h)) m),
+  (λ m. ⊎_elim (λ (h : Q). inl (p.1 h)) (λ (h : S). inr (r.1 h)) m),
+)
+
+pub not_iff : {P Q : Type 0} → P ↔ Q → (¬ P) ↔ (¬ Q)
+not_iff p = ((λ n q. n (p.1 q)), (λ n q. n (p.0 q)))
+
+-- ---- the sets of the operations
+
+pub both_v4 : (a b : List IpNetwork) (x : ℕ) → InBoth 32 (filter_map as_v4 a) (filter_map as_v4 b) x ↔ InIpBoth a b (addresses.V4 x)
+both_v4 a b x = and_iff (in_v4 a x) (in_v4 b x)
+
+pub both_v6 : (a b : List IpNetwork) (x : ℕ) → InBoth 128 (filter_map as_v6 a) (filter_map as_v6 b) x ↔ InIpBoth a b (addresses.V6 x)
+both_v6 a b x = and_iff (in_v6 a x) (in_v6 b x)
+
+pub alone_v4 : (a b : List IpNetwork) (x : ℕ) → InFirstAlone 32 (filter_map as_v4 a) (filter_map as_v4 b) x ↔ InIpFirstAlone a b (addresses.V4 x)
+alone_v4 a b x = and_iff (in_v4 a x) (not_iff (in_v4 b x))
+
+pub alone_v6 : (a b : List IpNetwork) (x : ℕ) → InFirstAlone 128 (filter_map as_v6 a) (filter_map as_v6 b) x ↔ InIpFirstAlone a b (addresses.V6 x)
+alone_v6 a b x = and_iff (in_v6 a x) (not_iff (in_v6 b x))
+
+pub rest_v4 : (a : List IpNetwork) (x : ℕ) → InComplement 32 (filter_map as_v4 a) x ↔ InIpComplement a (addresses.V4 x)
+rest_v4 a x = and_iff same (not_iff (in_v4 a x))
+
+pub rest_v6 : (a : List IpNetwork) (x : ℕ) → InComplement 128 (filter_map as_v6 a) x ↔ InIpComplement a (addresses.V6 x)
+rest_v6 a x = and_iff same (not_iff (in_v6 a x))
+
+pub either_v4 : (a b : List IpNetwork) (x : ℕ) → InEither 32 (filter_map as_v4 a) (filter_map as_v4 b) x ↔ InIpEither a b (addresses.V4 x)
+either_v4 a b x = or_iff (in_v4 a x) (in_v4 b x)
+
+pub either_v6 : (a b : List IpNetwork) (x : ℕ) → InEither 128 (filter_map as_v6 a) (filter_map as_v6 b) x ↔ InIpEither a b (addresses.V6 x)
+either_v6 a b x = or_iff (in_v6 a x) (in_v6 b x)
+
+-- the blocks that an operation leaves of each family, put together
+pub least_of_families : (F : ℕ → List Network → List Network → ℕ → Type 0) (S : IpAddr → Type 0) (a b : List IpNetwork) (a4 b4 a6 b6 r4 r6 : List Network) (r : List IpNetwork)
+    → ((x : ℕ) → F 32 (filter_map as_v4 a) (filter_map as_v4 b) x ↔ S (addresses.V4 x)) → ((x : ℕ) → F 128 (filter_map as_v6 a) (filter_map as_v6 b) x ↔ S (addresses.V6 x))
+    → a4 ≡ filter_map as_v4 a → b4 ≡ filter_map as_v4 b → a6 ≡ filter_map as_v6 a → b6 ≡ filter_map as_v6 b
+    → IsLeastList 32 (F 32 a4 b4) r4 → IsLeastList 128 (F 128 a6 b6) r6 → r ≡ v4_then_v6 r4 r6 → IsIpLeastList S r
+least_of_families F S a b a4 b4 a6 b6 r4 r6 r same4 same6 ea4 eb4 ea6 eb6 h k e =
+    subst (IsIpLeastList S) (sym e)
+    (put_together S (F 32 (filter_map as_v4 a) (filter_map as_v4 b)) (F 128 (filter_map as_v6 a) (filter_map as_v6 b)) r4 r6 same4 same6
+    (subst (λ (l : List Network). IsLeastList 32 (F 32 (filter_map as_v4 a) l) r4) eb4 (subst (λ (l : List Network). IsLeastList 32 (F 32 l b4) r4) ea4 h))
+    (subst (λ (l : List Network). IsLeastList 128 (F 128 (filter_map as_v6 a) l) r6) eb6 (subst (λ (l : List Network). IsLeastList 128 (F 128 l b6) r6) ea6 k)))
+
+-- ---- questions of two sets
+
+pub within_by_family : (a b : List IpNetwork) → (IsWithin 32 (filter_map as_v4 a) (filter_map as_v4 b) × IsWithin 128 (filter_map as_v6 a) (filter_map as_v6 b)) ↔ IsIpWithin a b
+within_by_family a b = (
+  (λ h. go h.0 h.1),
+  (λ h. ((λ x c. (in_v4 b x).1 (h (addresses.V4 x) ((in_v4 a x).0 c))), (λ x c. (in_v6 b x).1 (h (addresses.V6 x) ((in_v6 a x).0 c))))),
+)
+  where
+    go : IsWithin 32 (filter_map as_v4 a) (filter_map as_v4 b) → IsWithin 128 (filter_map as_v6 a) (filter_map as_v6 b) → IsIpWithin a b
+    go h k (addresses.V4 x) c = (in_v4 b x).0 (h x ((in_v4 a x).1 c))
+    go h k (addresses.V6 x) c = (in_v6 b x).0 (k x ((in_v6 a x).1 c))
+
+pub disjoint_by_family : (a b : List IpNetwork)
+    → (AreDisjoint 32 (filter_map as_v4 a) (filter_map as_v4 b) × AreDisjoint 128 (filter_map as_v6 a) (filter_map as_v6 b)) ↔ AreIpDisjoint a b
+disjoint_by_family a b = (
+  (λ h. go h.0 h.1),
+  (λ h. ((λ x c. h (addresses.V4 x) ((both_v4 a b x).0 c)), (λ x c. h (addresses.V6 x) ((both_v6 a b x).0 c)))),
+)
+  where
+    go : AreDisjoint 32 (filter_map as_v4 a) (filter_map as_v4 b) → AreDisjoint 128 (filter_map as_v6 a) (filter_map as_v6 b) → AreIpDisjoint a b
+    go h k (addresses.V4 x) c = h x ((both_v4 a b x).1 c)
+    go h k (addresses.V6 x) c = k x ((both_v6 a b x).1 c)
+
+-- ---- counts
+
+pub count_of_same : (S T : ℕ → Type 0) (n : ℕ) → ((x : ℕ) → S x ↔ T x) → HasCount S n → HasCount T n
+count_of_same S T n same h = record {
+  addresses = h.addresses;
+  ascending = h.ascending;
+  exactly = λ x. through (h.exactly x) (same x);
+  count = h.count;
+}

@@ -1,0 +1,4 @@
+pub mod Families
+pub mod FamilySets
+pub mod Questions
+pub mod SetLaws

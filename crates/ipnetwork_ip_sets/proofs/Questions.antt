@@ -1,0 +1,57 @@
+-- What is asked of IPv4 first, and then of IPv6; and how many blocks the families have together.
+use Rattle.std.proofs.Common.{◌≡◌, ◌↔◌, ℕ, suc, ◌+◌, Bool, true, false, true≢false, IsTrue, sym, subst, refl, ap, ◌∙◌, List, [], ◌∷◌, map, length, arith}
+use Rattle.std.proofs.lemmas.List.{map-id}
+use Rattle.std.specs.List.{filter_map}
+use Rattle.ipnetwork_family.specs.Network.{Network}
+use Rattle.ipnetwork.specs.declared.ip_network.IpNetwork.{IpNetwork}
+use Rattle.ipnetwork.specs.declared.ip_network.IpNetwork.TheVariants.{V4, V6}
+use Rattle.ipnetwork_blocks.specs.AggregateIp.{as_v4, as_v6}
+use Rattle.ipnetwork_ip_sets.proofs.Families.{none_of_either}
+
+-- a question of both families is that of IPv6 if the answer is yes for IPv4,
+pub asked_of_both : (F : ℕ → List Network → List Network → Type 0) (S : Type 0) (a b : List IpNetwork) (a4 b4 a6 b6 : List Network) (p q : Bool)
+    → (F 32 (filter_map as_v4 a) (filter_map as_v4 b) × F 128 (filter_map as_v6 a) (filter_map as_v6 b)) ↔ S
+    → a4 ≡ filter_map as_v4 a → b4 ≡ filter_map as_v4 b → a6 ≡ filter_map as_v6 a → b6 ≡ filter_map as_v6 b
+    → IsTrue p ↔ F 32 a4 b4 → p ≡ true → IsTrue q ↔ F 128 a6 b6 → IsTrue q ↔ S
+asked_of_both F S a b a4 b4 a6 b6 p q whole ea4 eb4 ea6 eb6 first true_of_v4 second = (
+  (λ t. whole.0 (of_v4 (first.0 true_of_v4), of_v6 (second.0 t))),
+  (λ h. second.1 (to_v6 (whole.1 h).1)),
+)
+  where
+    of_v4 : F 32 a4 b4 → F 32 (filter_map as_v4 a) (filter_map as_v4 b)
+    of_v4 f = subst (λ (l : List Network). F 32 (filter_map as_v4 a) l) eb4 (subst (λ (l : List Network). F 32 l b4) ea4 f)
+
+    of_v6 : F 128 a6 b6 → F 128 (filter_map as_v6 a) (filter_map as_v6 b)
+    of_v6 f = subst (λ (l : List Network). F 128 (filter_map as_v6 a) l) eb6 (subst (λ (l : List Network). F 128 l b6) ea6 f)
+
+    to_v6 : F 128 (filter_map as_v6 a) (filter_map as_v6 b) → F 128 a6 b6
+    to_v6 f = subst (λ (l : List Network). F 128 l b6) (sym ea6) (subst (λ (l : List Network). F 128 (filter_map as_v6 a) l) (sym eb6) f)
+
+-- and is answered no if it is for IPv4
+pub refused_by_v4 : (F : ℕ → List Network → List Network → Type 0) (S : Type 0) (a b : List IpNetwork) (a4 b4 : List Network) (p : Bool)
+    → (F 32 (filter_map as_v4 a) (filter_map as_v4 b) × F 128 (filter_map as_v6 a) (filter_map as_v6 b)) ↔ S
+    → a4 ≡ filter_map as_v4 a → b4 ≡ filter_map as_v4 b → IsTrue p ↔ F 32 a4 b4 → p ≡ false → IsTrue p ↔ S
+refused_by_v4 F S a b a4 b4 p whole ea4 eb4 first false_of_v4 = (
+  (λ t. absurd (true≢false (sym t ∙ false_of_v4))),
+  (λ h. first.1 (to_v4 (whole.1 h).0)),
+)
+  where
+    to_v4 : F 32 (filter_map as_v4 a) (filter_map as_v4 b) → F 32 a4 b4
+    to_v4 f = subst (λ (l : List Network). F 32 l b4) (sym ea4) (subst (λ (l : List Network). F 32 (filter_map as_v4 a) l) (sym eb4) f)
+
+pub none_by_family : (a : List IpNetwork) → ((filter_map as_v4 a ≡ []) × (filter_map as_v6 a ≡ [])) ↔ (a ≡ [])
+none_by_family a = ((λ h. none_of_either a h.0 h.1), (λ e. (ap (filter_map as_v4) e, ap (filter_map as_v6) e)))
+
+-- ---- how many blocks
+
+length_by_family : (ns : List IpNetwork) → length (filter_map as_v4 ns) + length (filter_map as_v6 ns) ≡ length ns
+length_by_family [] = refl
+length_by_family (V4 n ∷ ns) = let told = length_by_family ns in omega (arith, told)
+length_by_family (V6 n ∷ ns) = let told = length_by_family ns in omega (arith, told)
+
+-- of lists that are those of each family
+pub length_of_both : (ns : List IpNetwork) (a b x y : List Network) → map (λ n. n) a ≡ x → x ≡ filter_map as_v4 ns → map (λ n. n) b ≡ y → y ≡ filter_map as_v6 ns
+    → length a + length b ≡ length ns
+length_of_both ns a b x y ea ex eb ey =
+    ap (λ (l : List Network). length l + length b) (sym (map-id a) ∙ ea ∙ ex)
+    ∙ ap (λ (l : List Network). length (filter_map as_v4 ns) + length l) (sym (map-id b) ∙ eb ∙ ey) ∙ length_by_family ns

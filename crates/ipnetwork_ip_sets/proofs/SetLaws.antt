@@ -1,0 +1,232 @@
+-- The laws of sets of addresses of either family, from those of one family.
+use Rattle.std.proofs.Common.{◌≡◌, ◌↔◌, ℕ, ◌+◌, ◌&&◌, Bool, true, false, true≢false, IsTrue, sym, refl, ap, subst, ◌∙◌, arith, List, ◌++◌, map, length}
+use Rattle.std.specs.List.{All, filter_map}
+use Rattle.ipnetwork_addr.specs.declared.ip.IpAddr.{IpAddr}
+use Rattle.ipnetwork_addr.specs.declared.ip.IpAddr.TheVariants as addresses
+use Rattle.ipnetwork_family.specs.Network.{Network}
+use Rattle.ipnetwork.specs.declared.ip_network.IpNetwork.{IpNetwork}
+use Rattle.ipnetwork.specs.declared.ip_network.IpNetwork.TheVariants.{V4, V6}
+use Rattle.ipnetwork_blocks.specs.Aggregate.{InUnion, SameUnion, IsAggregate}
+use Rattle.ipnetwork_blocks.specs.AggregateIp.{as_v4, as_v6, IsIpAggregate}
+use Rattle.ipnetwork_blocks.specs.AggregateIpLaws.{InIpUnion, SameIpUnion, IpAggregateIsApart, IpAggregateIsLeast}
+use Rattle.ipnetwork_blocks.specs.LeastList.{IsLeastList}
+use Rattle.ipnetwork_blocks.specs.LeastListLaws.{IsShortest}
+use Rattle.ipnetwork_blocks.proofs.LeastLists.{least_of_same, least_unique}
+use Rattle.ipnetwork_sets.specs.Equality.{same_blocks, SameBlocksAreEqual}
+use Rattle.ipnetwork_sets.specs.Laws as sets
+use Rattle.ipnetwork_sets.specs.Sets.{IsAddressSet, InBoth, InFirstAlone, InNetworkAlone, InComplement, InEither, AreDisjoint}
+use Rattle.ipnetwork_sets.proofs.WholeSpace.{whole, whole_has_all}
+use Rattle.ipnetwork_ip_sets.specs.IpEquality.{same_ip_blocks}
+use Rattle.ipnetwork_ip_sets.specs.IpSets.{v4_then_v6, IsIpLeastList, IsIpAddressSet, InIpBoth, InIpFirstAlone, InIpComplement, InIpEither}
+use Rattle.ipnetwork_ip_sets.specs.Laws.{EachFamilyKeepsItsAddresses, IpAggregateIsLeastList, IsIpShortest, IpCommonPartIsShortest, IpDifferenceIsShortest}
+use Rattle.ipnetwork_ip_sets.specs.Laws.{IpComplementIsShortest, IpUnionIsShortest, SameIpAddressesAreOneSet, SameIpBlocksAreEqual, IpCommonPartCommutes}
+use Rattle.ipnetwork_ip_sets.specs.Laws.{IpUnionCommutes, IpCommonPartOfOne, IpUnionOfOne, IpDifferenceIsDisjoint, IpPartsMakeTheWhole}
+use Rattle.ipnetwork_ip_sets.proofs.Families.{through, v4_of_both, v6_of_both, in_v4, in_v6, v4_part, v6_part, both_equal, put_together}
+use Rattle.ipnetwork_ip_sets.proofs.FamilySets.{both_v4, both_v6, alone_v4, alone_v6, rest_v4, rest_v6, either_v4, either_v6, disjoint_by_family}
+
+-- ---- each family
+
+pub each_family_keeps_its_addresses : EachFamilyKeepsItsAddresses
+each_family_keeps_its_addresses v4 v6 x =
+    let front = in_v4 (v4_then_v6 v4 v6) x in
+    let back = in_v6 (v4_then_v6 v4 v6) x in (
+      subst (λ (l : List Network). InIpUnion (v4_then_v6 v4 v6) (addresses.V4 x) ↔ InUnion 32 l x) (v4_of_both v4 v6) (front.1, front.0),
+      subst (λ (l : List Network). InIpUnion (v4_then_v6 v4 v6) (addresses.V6 x) ↔ InUnion 128 l x) (v6_of_both v4 v6) (back.1, back.0),
+    )
+
+to_least : (ns r : List IpNetwork) → IsIpAggregate ns r → IsIpLeastList (InIpUnion ns) r
+to_least ns r h = (
+  h.0,
+  h.1,
+  h.2,
+  least_of_same 32 (InUnion 32 (filter_map as_v4 ns)) (λ x. InIpUnion ns (addresses.V4 x)) h.0 (in_v4 ns) h.3,
+  least_of_same 128 (InUnion 128 (filter_map as_v6 ns)) (λ x. InIpUnion ns (addresses.V6 x)) h.1 (in_v6 ns) h.4,
+)
+
+from_least : (ns r : List IpNetwork) → IsIpLeastList (InIpUnion ns) r → IsIpAggregate ns r
+from_least ns r h = (
+  h.0,
+  h.1,
+  h.2,
+  least_of_same 32 (λ x. InIpUnion ns (addresses.V4 x)) (InUnion 32 (filter_map as_v4 ns)) h.0 (λ x. ((in_v4 ns x).1, (in_v4 ns x).0)) h.3,
+  least_of_same 128 (λ x. InIpUnion ns (addresses.V6 x)) (InUnion 128 (filter_map as_v6 ns)) h.1 (λ x. ((in_v6 ns x).1, (in_v6 ns x).0)) h.4,
+)
+
+pub ip_aggregate_is_least_list : IpAggregateIsLeastList
+ip_aggregate_is_least_list ns r = (to_least ns r, from_least ns r)
+
+-- the blocks of each family of a set are a set
+v4_set : (a : List IpNetwork) → IsIpAddressSet a → IsAddressSet 32 (filter_map as_v4 a)
+v4_set a h = v4_part (InIpUnion a) (InUnion 32 (filter_map as_v4 a)) a (in_v4 a) (to_least a a h)
+
+v6_set : (a : List IpNetwork) → IsIpAddressSet a → IsAddressSet 128 (filter_map as_v6 a)
+v6_set a h = v6_part (InIpUnion a) (InUnion 128 (filter_map as_v6 a)) a (in_v6 a) (to_least a a h)
+
+-- ---- the least list of a set, where that of each family has the addresses of the family
+
+one_ip_list : (S : IpAddr → Type 0) (r s : List IpNetwork) → IsIpLeastList S r → IsIpLeastList S s → r ≡ s
+one_ip_list S r s h k =
+    h.2 ∙ ap (λ l. v4_then_v6 l h.1) (least_unique 32 (λ x. S (addresses.V4 x)) h.0 k.0 h.3 k.3)
+    ∙ ap (λ l. v4_then_v6 k.0 l) (least_unique 128 (λ x. S (addresses.V6 x)) h.1 k.1 h.4 k.4) ∙ sym k.2
+
+is_ip_shortest : IpAggregateIsApart → IpAggregateIsLeast → (S : IpAddr → Type 0) (S4 S6 : ℕ → Type 0) (r : List IpNetwork)
+    → ((x : ℕ) → S4 x ↔ S (addresses.V4 x)) → ((x : ℕ) → S6 x ↔ S (addresses.V6 x)) → IsIpLeastList S r
+    → ((x : ℕ) → InUnion 32 (filter_map as_v4 r) x ↔ S4 x) → ((x : ℕ) → InUnion 128 (filter_map as_v6 r) x ↔ S6 x) → IsIpShortest S r
+is_ip_shortest is_apart is_least S S4 S6 r same4 same6 h has4 has6 = record {
+  addresses = has;
+  apart = is_apart r r set;
+  shortest = λ ns fit same. is_least r r ns set fit (λ x. through (same x) ((has x).1, (has x).0));
+  one = λ s k. one_ip_list S s r k h;
+}
+  where
+    has : (x : IpAddr) → InIpUnion r x ↔ S x
+    has (addresses.V4 x) = through ((in_v4 r x).1, (in_v4 r x).0) (through (has4 x) (same4 x))
+    has (addresses.V6 x) = through ((in_v6 r x).1, (in_v6 r x).0) (through (has6 x) (same6 x))
+
+    set : IsIpAddressSet r
+    set = from_least r r (
+      h.0,
+      h.1,
+      h.2,
+      least_of_same 32 (λ x. S (addresses.V4 x)) (λ x. InIpUnion r (addresses.V4 x)) h.0 (λ x. ((has (addresses.V4 x)).1, (has (addresses.V4 x)).0)) h.3,
+      least_of_same 128 (λ x. S (addresses.V6 x)) (λ x. InIpUnion r (addresses.V6 x)) h.1 (λ x. ((has (addresses.V6 x)).1, (has (addresses.V6 x)).0)) h.4,
+    )
+
+module _ (apart : IpAggregateIsApart) (least : IpAggregateIsLeast) where
+  pub ip_common_is_shortest : sets.CommonPartIsShortest → IpCommonPartIsShortest
+  ip_common_is_shortest law a b r h =
+      let front = v4_part (InIpBoth a b) (InBoth 32 (filter_map as_v4 a) (filter_map as_v4 b)) r (both_v4 a b) h in
+      let back = v6_part (InIpBoth a b) (InBoth 128 (filter_map as_v6 a) (filter_map as_v6 b)) r (both_v6 a b) h in
+      is_ip_shortest apart least (InIpBoth a b) (InBoth 32 (filter_map as_v4 a) (filter_map as_v4 b)) (InBoth 128 (filter_map as_v6 a) (filter_map as_v6 b)) r (both_v4 a b) (both_v6 a b) h
+      (law 32 (filter_map as_v4 a) (filter_map as_v4 b) (filter_map as_v4 r) front).addresses
+      (law 128 (filter_map as_v6 a) (filter_map as_v6 b) (filter_map as_v6 r) back).addresses
+
+  pub ip_difference_is_shortest : sets.DifferenceIsShortest → IpDifferenceIsShortest
+  ip_difference_is_shortest law a b r h =
+      let front = v4_part (InIpFirstAlone a b) (InFirstAlone 32 (filter_map as_v4 a) (filter_map as_v4 b)) r (alone_v4 a b) h in
+      let back = v6_part (InIpFirstAlone a b) (InFirstAlone 128 (filter_map as_v6 a) (filter_map as_v6 b)) r (alone_v6 a b) h in
+      is_ip_shortest apart least (InIpFirstAlone a b) (InFirstAlone 32 (filter_map as_v4 a) (filter_map as_v4 b)) (InFirstAlone 128 (filter_map as_v6 a) (filter_map as_v6 b)) r
+      (alone_v4 a b) (alone_v6 a b) h
+      (law 32 (filter_map as_v4 a) (filter_map as_v4 b) (filter_map as_v4 r) front).addresses
+      (law 128 (filter_map as_v6 a) (filter_map as_v6 b) (filter_map as_v6 r) back).addresses
+
+  pub ip_union_is_shortest : sets.UnionIsShortest → IpUnionIsShortest
+  ip_union_is_shortest law a b r h =
+      let front = v4_part (InIpEither a b) (InEither 32 (filter_map as_v4 a) (filter_map as_v4 b)) r (either_v4 a b) h in
+      let back = v6_part (InIpEither a b) (InEither 128 (filter_map as_v6 a) (filter_map as_v6 b)) r (either_v6 a b) h in
+      is_ip_shortest apart least (InIpEither a b) (InEither 32 (filter_map as_v4 a) (filter_map as_v4 b)) (InEither 128 (filter_map as_v6 a) (filter_map as_v6 b)) r
+      (either_v4 a b) (either_v6 a b) h
+      (law 32 (filter_map as_v4 a) (filter_map as_v4 b) (filter_map as_v4 r) front).addresses
+      (law 128 (filter_map as_v6 a) (filter_map as_v6 b) (filter_map as_v6 r) back).addresses
+
+  -- all addresses are those of the network of prefix length 0
+  free_is_rest : (w : ℕ) (a : List Network) (x : ℕ) → InNetworkAlone w whole a x ↔ InComplement w a x
+  free_is_rest w a x = ((λ p. (p.0.0, p.1)), (λ p. (whole_has_all w x p.0, p.1)))
+
+  pub ip_complement_is_shortest : sets.FreePartIsShortest → IpComplementIsShortest
+  ip_complement_is_shortest law a r h =
+      let free4 : (x : ℕ) → InNetworkAlone 32 whole (filter_map as_v4 a) x ↔ InIpComplement a (addresses.V4 x) =
+      λ x. through (free_is_rest 32 (filter_map as_v4 a) x) (rest_v4 a x) in
+      let free6 : (x : ℕ) → InNetworkAlone 128 whole (filter_map as_v6 a) x ↔ InIpComplement a (addresses.V6 x) =
+      λ x. through (free_is_rest 128 (filter_map as_v6 a) x) (rest_v6 a x) in
+      let front = v4_part (InIpComplement a) (InNetworkAlone 32 whole (filter_map as_v4 a)) r free4 h in
+      let back = v6_part (InIpComplement a) (InNetworkAlone 128 whole (filter_map as_v6 a)) r free6 h in
+      is_ip_shortest apart least (InIpComplement a) (InNetworkAlone 32 whole (filter_map as_v4 a)) (InNetworkAlone 128 whole (filter_map as_v6 a)) r free4 free6 h
+      (law 32 whole (filter_map as_v4 a) (filter_map as_v4 r) front).addresses (law 128 whole (filter_map as_v6 a) (filter_map as_v6 r) back).addresses
+
+-- ---- equal sets
+
+same_by_family : (a b : List IpNetwork) → SameUnion 32 (filter_map as_v4 a) (filter_map as_v4 b) → SameUnion 128 (filter_map as_v6 a) (filter_map as_v6 b) → SameIpUnion a b
+same_by_family a b h k (addresses.V4 x) = through ((in_v4 a x).1, (in_v4 a x).0) (through (h x) (in_v4 b x))
+same_by_family a b h k (addresses.V6 x) = through ((in_v6 a x).1, (in_v6 a x).0) (through (k x) (in_v6 b x))
+
+same_v4 : (a b : List IpNetwork) → SameIpUnion a b → SameUnion 32 (filter_map as_v4 a) (filter_map as_v4 b)
+same_v4 a b h x = through (in_v4 a x) (through (h (addresses.V4 x)) ((in_v4 b x).1, (in_v4 b x).0))
+
+same_v6 : (a b : List IpNetwork) → SameIpUnion a b → SameUnion 128 (filter_map as_v6 a) (filter_map as_v6 b)
+same_v6 a b h x = through (in_v6 a x) (through (h (addresses.V6 x)) ((in_v6 b x).1, (in_v6 b x).0))
+
+pub same_ip_addresses_are_one_set : sets.SameAddressesAreOneSet → SameIpAddressesAreOneSet
+same_ip_addresses_are_one_set law a b h k =
+    let front = law 32 (filter_map as_v4 a) (filter_map as_v4 b) (v4_set a h) (v4_set b k) in
+    let back = law 128 (filter_map as_v6 a) (filter_map as_v6 b) (v6_set a h) (v6_set b k) in (
+      (λ e. same_by_family a b (front.0 (ap (filter_map as_v4) e)) (back.0 (ap (filter_map as_v6) e))),
+      (λ same. both_equal a b h.0 h.1 k.0 k.1 h.2 k.2 (front.1 (same_v4 a b same)) (back.1 (same_v6 a b same))),
+    )
+
+and_told : (p q : Bool) → IsTrue (p && q) ↔ (IsTrue p × IsTrue q)
+and_told true q = ((λ t. (refl, t)), (λ h. h.1))
+and_told false q = ((λ t. (t, absurd (no t))), (λ h. h.0))
+  where
+    no : IsTrue false → ⊥
+    no t = true≢false (sym t)
+
+pub same_ip_blocks_are_equal : SameBlocksAreEqual → SameIpBlocksAreEqual
+same_ip_blocks_are_equal law a b h k =
+    let told = and_told (same_blocks (filter_map as_v4 a) (filter_map as_v4 b)) (same_blocks (filter_map as_v6 a) (filter_map as_v6 b)) in
+    let front = law (filter_map as_v4 a) (filter_map as_v4 b) in
+    let back = law (filter_map as_v6 a) (filter_map as_v6 b) in (
+      (λ t. let both = told.0 t in both_equal a b h.0 h.1 k.0 k.1 h.2 k.2 (front.0 both.0) (back.0 both.1)),
+      (λ e. told.1 (front.1 (ap (filter_map as_v4) e), back.1 (ap (filter_map as_v6) e))),
+    )
+
+-- ---- order and repetition
+
+pub ip_common_commutes : sets.CommonPartCommutes → IpCommonPartCommutes
+ip_common_commutes law a b r s h k =
+    both_equal r s h.0 h.1 k.0 k.1 h.2 k.2
+    (law 32 (filter_map as_v4 a) (filter_map as_v4 b) (filter_map as_v4 r) (filter_map as_v4 s)
+    (v4_part (InIpBoth a b) (InBoth 32 (filter_map as_v4 a) (filter_map as_v4 b)) r (both_v4 a b) h)
+    (v4_part (InIpBoth b a) (InBoth 32 (filter_map as_v4 b) (filter_map as_v4 a)) s (both_v4 b a) k))
+    (law 128 (filter_map as_v6 a) (filter_map as_v6 b) (filter_map as_v6 r) (filter_map as_v6 s)
+    (v6_part (InIpBoth a b) (InBoth 128 (filter_map as_v6 a) (filter_map as_v6 b)) r (both_v6 a b) h)
+    (v6_part (InIpBoth b a) (InBoth 128 (filter_map as_v6 b) (filter_map as_v6 a)) s (both_v6 b a) k))
+
+pub ip_union_commutes : sets.UnionCommutes → IpUnionCommutes
+ip_union_commutes law a b r s h k =
+    both_equal r s h.0 h.1 k.0 k.1 h.2 k.2
+    (law 32 (filter_map as_v4 a) (filter_map as_v4 b) (filter_map as_v4 r) (filter_map as_v4 s)
+    (v4_part (InIpEither a b) (InEither 32 (filter_map as_v4 a) (filter_map as_v4 b)) r (either_v4 a b) h)
+    (v4_part (InIpEither b a) (InEither 32 (filter_map as_v4 b) (filter_map as_v4 a)) s (either_v4 b a) k))
+    (law 128 (filter_map as_v6 a) (filter_map as_v6 b) (filter_map as_v6 r) (filter_map as_v6 s)
+    (v6_part (InIpEither a b) (InEither 128 (filter_map as_v6 a) (filter_map as_v6 b)) r (either_v6 a b) h)
+    (v6_part (InIpEither b a) (InEither 128 (filter_map as_v6 b) (filter_map as_v6 a)) s (either_v6 b a) k))
+
+pub ip_common_of_one : sets.CommonPartOfOne → IpCommonPartOfOne
+ip_common_of_one law a r h k =
+    both_equal r a k.0 k.1 h.0 h.1 k.2 h.2
+    (law 32 (filter_map as_v4 a) (filter_map as_v4 r)
+    (v4_set a h) (v4_part (InIpBoth a a) (InBoth 32 (filter_map as_v4 a) (filter_map as_v4 a)) r (both_v4 a a) k))
+    (law 128 (filter_map as_v6 a) (filter_map as_v6 r)
+    (v6_set a h) (v6_part (InIpBoth a a) (InBoth 128 (filter_map as_v6 a) (filter_map as_v6 a)) r (both_v6 a a) k))
+
+pub ip_union_of_one : sets.UnionOfOne → IpUnionOfOne
+ip_union_of_one law a r h k =
+    both_equal r a k.0 k.1 h.0 h.1 k.2 h.2
+    (law 32 (filter_map as_v4 a) (filter_map as_v4 r)
+    (v4_set a h) (v4_part (InIpEither a a) (InEither 32 (filter_map as_v4 a) (filter_map as_v4 a)) r (either_v4 a a) k))
+    (law 128 (filter_map as_v6 a) (filter_map as_v6 r)
+    (v6_set a h) (v6_part (InIpEither a a) (InEither 128 (filter_map as_v6 a) (filter_map as_v6 a)) r (either_v6 a a) k))
+
+-- ---- a difference, and the common part
+
+pub ip_difference_is_disjoint : sets.DifferenceIsDisjoint → IpDifferenceIsDisjoint
+ip_difference_is_disjoint law a b r h =
+    (disjoint_by_family r b).0 (
+      law 32 (filter_map as_v4 a) (filter_map as_v4 b) (filter_map as_v4 r)
+          (v4_part (InIpFirstAlone a b) (InFirstAlone 32 (filter_map as_v4 a) (filter_map as_v4 b)) r (alone_v4 a b) h),
+      law 128 (filter_map as_v6 a) (filter_map as_v6 b) (filter_map as_v6 r)
+          (v6_part (InIpFirstAlone a b) (InFirstAlone 128 (filter_map as_v6 a) (filter_map as_v6 b)) r (alone_v6 a b) h),
+    )
+
+pub ip_parts_make_the_whole : sets.PartsMakeTheWhole → IpPartsMakeTheWhole
+ip_parts_make_the_whole law a b c d r h hc hd k =
+    both_equal r a k.0 k.1 h.0 h.1 k.2 h.2
+    (law 32 (filter_map as_v4 a) (filter_map as_v4 b) (filter_map as_v4 c) (filter_map as_v4 d) (filter_map as_v4 r)
+    (v4_set a h) (v4_part (InIpBoth a b) (InBoth 32 (filter_map as_v4 a) (filter_map as_v4 b)) c (both_v4 a b) hc)
+    (v4_part (InIpFirstAlone a b) (InFirstAlone 32 (filter_map as_v4 a) (filter_map as_v4 b)) d (alone_v4 a b) hd)
+    (v4_part (InIpEither c d) (InEither 32 (filter_map as_v4 c) (filter_map as_v4 d)) r (either_v4 c d) k))
+    (law 128 (filter_map as_v6 a) (filter_map as_v6 b) (filter_map as_v6 c) (filter_map as_v6 d) (filter_map as_v6 r)
+    (v6_set a h) (v6_part (InIpBoth a b) (InBoth 128 (filter_map as_v6 a) (filter_map as_v6 b)) c (both_v6 a b) hc)
+    (v6_part (InIpFirstAlone a b) (InFirstAlone 128 (filter_map as_v6 a) (filter_map as_v6 b)) d (alone_v6 a b) hd)
+    (v6_part (InIpEither c d) (InEither 128 (filter_map as_v6 c) (filter_map as_v6 d)) r (either_v6 c d) k))

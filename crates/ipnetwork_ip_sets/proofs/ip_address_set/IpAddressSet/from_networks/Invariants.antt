@@ -1,0 +1,8 @@
+use Rattle.std.proofs.Common.{◌≡◌, take}
+use Rattle.std.specs.List.{filter_map}
+use Rattle.ipnetwork_blocks.specs.AggregateIp.{as_v4, as_v6}
+use Rattle.ipnetwork_ip_sets.proofs.ip_address_set.IpAddressSet.from_networks.Given as goal
+
+abbrev pub invariant-loop-network : goal.invariant-loop-network
+invariant-loop-network l =
+    (l.v4_memory.items ≡ filter_map as_v4 (take l.network-index l.networks)) × (l.v6_memory.items ≡ filter_map as_v6 (take l.network-index l.networks))

@@ -1,0 +1,54 @@
+-- Sets of addresses of either family, as lists of blocks.
+use Rattle.std.specs.Prelude.{◌≡◌, ◌⊎◌, ◌++◌, List, map}
+use Rattle.ipnetwork_addr.specs.Either.{FitsIp}
+use Rattle.ipnetwork_addr.specs.declared.ip.IpAddr.{IpAddr}
+use Rattle.ipnetwork_addr.specs.declared.ip.IpAddr.TheVariants as addresses
+use Rattle.ipnetwork_family.specs.Network.{Network}
+use Rattle.ipnetwork.specs.IpNetworks.{IpMember}
+use Rattle.ipnetwork.specs.declared.ip_network.IpNetwork.{IpNetwork}
+use Rattle.ipnetwork.specs.declared.ip_network.IpNetwork.TheVariants.{V4, V6}
+use Rattle.ipnetwork_blocks.specs.AggregateIp.{IsIpAggregate}
+use Rattle.ipnetwork_blocks.specs.AggregateIpLaws.{InIpUnion}
+use Rattle.ipnetwork_blocks.specs.LeastList.{IsLeastList}
+
+-- the networks of IPv4, and after them those of IPv6
+abbrev pub v4_then_v6 : List Network → List Network → List IpNetwork
+v4_then_v6 v4 v6 = map V4 v4 ++ map V6 v6
+
+-- the blocks are the maximal ones of the set's IPv4 addresses, in ascending order, and after them those of its IPv6
+-- addresses
+abbrev pub IsIpLeastList : (IpAddr → Type 0) → List IpNetwork → Type 0
+IsIpLeastList set blocks = (v4 : List Network) × (v6 : List Network) × (blocks ≡ v4_then_v6 v4 v6)
+    × IsLeastList 32 (λ x. set (addresses.V4 x)) v4 × IsLeastList 128 (λ x. set (addresses.V6 x)) v6
+
+-- the blocks are the maximal ones of their own union, by family and in ascending order
+abbrev pub IsIpAddressSet : List IpNetwork → Type 0
+IsIpAddressSet blocks = IsIpAggregate blocks blocks
+
+-- some address of the network lies in the union of the others
+abbrev pub MeetsIpUnion : IpNetwork → List IpNetwork → Type 0
+MeetsIpUnion n networks = (x : IpAddr) × IpMember n x × InIpUnion networks x
+
+-- x is an address of both
+abbrev pub InIpBoth : List IpNetwork → List IpNetwork → IpAddr → Type 0
+InIpBoth first second x = InIpUnion first x × InIpUnion second x
+
+-- x is an address of the first, and not of the second
+abbrev pub InIpFirstAlone : List IpNetwork → List IpNetwork → IpAddr → Type 0
+InIpFirstAlone first second x = InIpUnion first x × ¬ (InIpUnion second x)
+
+-- x is an address of its family, and none of the set
+abbrev pub InIpComplement : List IpNetwork → IpAddr → Type 0
+InIpComplement networks x = FitsIp x × ¬ (InIpUnion networks x)
+
+-- x is an address of one of the two, or of both
+abbrev pub InIpEither : List IpNetwork → List IpNetwork → IpAddr → Type 0
+InIpEither first second x = InIpUnion first x ⊎ InIpUnion second x
+
+-- each address of the first is one of the second
+abbrev pub IsIpWithin : List IpNetwork → List IpNetwork → Type 0
+IsIpWithin first second = (x : IpAddr) → InIpUnion first x → InIpUnion second x
+
+-- no address is one of both
+abbrev pub AreIpDisjoint : List IpNetwork → List IpNetwork → Type 0
+AreIpDisjoint first second = (x : IpAddr) → ¬ (InIpBoth first second x)

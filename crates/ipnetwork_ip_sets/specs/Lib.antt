@@ -1,0 +1,4 @@
+-- What the contracts of this crate cite.
+pub mod IpEquality
+pub mod IpSets
+pub mod Laws

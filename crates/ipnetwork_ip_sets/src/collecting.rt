@@ -1,0 +1,119 @@
+//! Sets made of what gives blocks, in lists of the caller's.
+ghost use Rattle.std.specs.Prelude.{◌≡◌, IfOk};
+
+use crate::blocks::IpBlocks;
+use crate::ip_address_set::IpAddressSet;
+use ipnetwork::{Ipv4Network, Ipv6Network};
+use ipnetwork_sets::{Blocks, Difference, Intersection, Union};
+use std::alloc::AllocError;
+
+impl IpAddressSet {
+    /// A set with the same addresses. The lists of the families are put into `v4_memory` and `v6_memory`, whose content
+    /// is dropped first; an error means that one had to grow, and that there was no memory for that.
+    ///
+    /// ```
+    /// let set = IpAddressSet::from_lists(vec![in rt.alloc(); "192.0.2.0/25".parse::<Ipv4Network>()?]?, Vec::new(rt.alloc()));
+    /// assert!(rt; set.copied(Vec::new(rt.alloc()), Vec::new(rt.alloc()))? == set);
+    /// ```
+    pub fn copied(
+        &self,
+        v4_memory: Vec<Ipv4Network>,
+        v6_memory: Vec<Ipv6Network>,
+    ) -> Result<Self, AllocError>
+        ensures { IfOk result (λ set. set ≡ self.now) }
+    {
+        self.iter().into_set(v4_memory, v6_memory)
+    }
+}
+
+impl<'a> IpBlocks<Blocks<'a, Ipv4Network>, Blocks<'a, Ipv6Network>> {
+    /// The set of the blocks that are still to come. The lists of the families are put into `v4_memory` and
+    /// `v6_memory`, whose content is dropped first; an error means that one had to grow, and that there was no memory for
+    /// that.
+    ///
+    /// ```
+    /// let set = IpAddressSet::from_lists(vec![in rt.alloc(); "192.0.2.0/25".parse::<Ipv4Network>()?]?, Vec::new(rt.alloc()));
+    /// let blocks = set.iter();
+    /// assert!(rt; blocks.into_set(Vec::new(rt.alloc()), Vec::new(rt.alloc()))? == set);
+    /// ```
+    pub fn into_set(
+        self,
+        v4_memory: Vec<Ipv4Network>,
+        v6_memory: Vec<Ipv6Network>,
+    ) -> Result<IpAddressSet, AllocError>
+        ensures { IfOk result (λ set. set ≡ self.entry) }
+    {
+        let v4 = self.v4.into_set(v4_memory)?;
+        let v6 = self.v6.into_set(v6_memory)?;
+        Ok(IpAddressSet::from_parts(v4, v6))
+    }
+}
+
+impl<'a> IpBlocks<Intersection<'a, Ipv4Network>, Intersection<'a, Ipv6Network>> {
+    /// The set of the blocks that are still to come. The lists of the families are put into `v4_memory` and
+    /// `v6_memory`, whose content is dropped first; an error means that one had to grow, and that there was no memory for
+    /// that.
+    ///
+    /// ```
+    /// let set = IpAddressSet::from_lists(vec![in rt.alloc(); "192.0.2.0/25".parse::<Ipv4Network>()?]?, Vec::new(rt.alloc()));
+    /// let common = set.intersection(&set).into_set(Vec::new(rt.alloc()), Vec::new(rt.alloc()))?;
+    /// assert!(rt; common == set);
+    /// ```
+    pub fn into_set(
+        self,
+        v4_memory: Vec<Ipv4Network>,
+        v6_memory: Vec<Ipv6Network>,
+    ) -> Result<IpAddressSet, AllocError>
+        ensures { IfOk result (λ set. set ≡ self.entry) }
+    {
+        let v4 = self.v4.into_set(v4_memory)?;
+        let v6 = self.v6.into_set(v6_memory)?;
+        Ok(IpAddressSet::from_parts(v4, v6))
+    }
+}
+
+impl<'a> IpBlocks<Difference<'a, Ipv4Network>, Difference<'a, Ipv6Network>> {
+    /// The set of the blocks that are still to come. The lists of the families are put into `v4_memory` and
+    /// `v6_memory`, whose content is dropped first; an error means that one had to grow, and that there was no memory for
+    /// that.
+    ///
+    /// ```
+    /// let set = IpAddressSet::from_lists(vec![in rt.alloc(); "192.0.2.0/25".parse::<Ipv4Network>()?]?, Vec::new(rt.alloc()));
+    /// let rest = set.difference(&set).into_set(Vec::new(rt.alloc()), Vec::new(rt.alloc()))?;
+    /// assert!(rt; rest.is_empty());
+    /// ```
+    pub fn into_set(
+        self,
+        v4_memory: Vec<Ipv4Network>,
+        v6_memory: Vec<Ipv6Network>,
+    ) -> Result<IpAddressSet, AllocError>
+        ensures { IfOk result (λ set. set ≡ self.entry) }
+    {
+        let v4 = self.v4.into_set(v4_memory)?;
+        let v6 = self.v6.into_set(v6_memory)?;
+        Ok(IpAddressSet::from_parts(v4, v6))
+    }
+}
+
+impl<'a> IpBlocks<Union<'a, Ipv4Network>, Union<'a, Ipv6Network>> {
+    /// The set of the blocks that are still to come. The lists of the families are put into `v4_memory` and
+    /// `v6_memory`, whose content is dropped first; an error means that one had to grow, and that there was no memory for
+    /// that.
+    ///
+    /// ```
+    /// let set = IpAddressSet::from_lists(vec![in rt.alloc(); "192.0.2.0/25".parse::<Ipv4Network>()?]?, Vec::new(rt.alloc()));
+    /// let both = set.union_blocks(&set).into_set(Vec::new(rt.alloc()), Vec::new(rt.alloc()))?;
+    /// assert!(rt; both == set);
+    /// ```
+    pub fn into_set(
+        self,
+        v4_memory: Vec<Ipv4Network>,
+        v6_memory: Vec<Ipv6Network>,
+    ) -> Result<IpAddressSet, AllocError>
+        ensures { IfOk result (λ set. set ≡ self.entry) }
+    {
+        let v4 = self.v4.into_set(v4_memory)?;
+        let v6 = self.v6.into_set(v6_memory)?;
+        Ok(IpAddressSet::from_parts(v4, v6))
+    }
+}

@@ -1,0 +1,51 @@
+//! The laws of sets of addresses of either family. Each function's contract is laws; it does nothing, and a proof whose
+//! function calls it may use them.
+ghost use Rattle.ipnetwork_ip_sets.specs.Laws.{EachFamilyKeepsItsAddresses, IpAggregateIsLeastList, IpCommonPartIsShortest, IpDifferenceIsShortest, IpComplementIsShortest, IpUnionIsShortest, SameIpAddressesAreOneSet, SameIpBlocksAreEqual, IpCommonPartCommutes, IpUnionCommutes, IpCommonPartOfOne, IpUnionOfOne, IpDifferenceIsDisjoint, IpPartsMakeTheWhole};
+
+use ipnetwork_blocks::laws as blocks;
+use ipnetwork_sets::laws as sets;
+
+/// Each family keeps its addresses, and the aggregate of networks is the least list of the addresses of their union.
+pub fn each_family()
+    ensures addresses { EachFamilyKeepsItsAddresses }
+    ensures aggregate { IpAggregateIsLeastList }
+{}
+
+/// Of each operation the blocks have the addresses of the set and no others, each ends before the next begins, no
+/// networks with the same addresses are fewer, and no other list is the least.
+pub fn shortest()
+    ensures common { IpCommonPartIsShortest }
+    ensures difference { IpDifferenceIsShortest }
+    ensures complement { IpComplementIsShortest }
+    ensures union { IpUnionIsShortest }
+{
+    sets::shortest();
+    blocks::ip_one_block();
+    blocks::ip_least();
+}
+
+/// Two sets are equal exactly if they have the same addresses, and `==` tells it.
+pub fn equality()
+    ensures test { SameIpBlocksAreEqual }
+    ensures addresses { SameIpAddressesAreOneSet }
+{
+    sets::equality();
+}
+
+/// The common part and the union are those of the two in either order, and of a set with itself they are the set.
+pub fn order_and_repetition()
+    ensures common { IpCommonPartCommutes }
+    ensures union { IpUnionCommutes }
+    ensures common_of_one { IpCommonPartOfOne }
+    ensures union_of_one { IpUnionOfOne }
+{
+    sets::order_and_repetition();
+}
+
+/// A difference has no address of the set that was taken off, and together with the common part it is the first set.
+pub fn parts()
+    ensures disjoint { IpDifferenceIsDisjoint }
+    ensures whole { IpPartsMakeTheWhole }
+{
+    sets::parts();
+}

@@ -1,0 +1,15 @@
+//! Sets of IP addresses of either family: of each family one set of `ipnetwork_sets`.
+#![tactic(auto)]
+
+mod blocks;
+mod collecting;
+mod counting;
+mod equality;
+mod ip_address_set;
+pub mod laws;
+mod operations;
+#[cfg(test)]
+mod tests;
+
+pub use blocks::IpBlocks;
+pub use ip_address_set::IpAddressSet;

@@ -1,0 +1,133 @@
+//! The operations on sets.
+ghost use Rattle.std.specs.Prelude.{◌↔◌, IsTrue, IfOk};
+ghost use Rattle.ipnetwork_ip_sets.specs.IpSets.{IsIpLeastList, InIpBoth, InIpFirstAlone, InIpComplement, InIpEither, IsIpWithin, AreIpDisjoint};
+
+use crate::blocks::IpBlocks;
+use crate::ip_address_set::IpAddressSet;
+use ipnetwork::{Ipv4Network, Ipv6Network};
+use ipnetwork_sets::{Difference, Intersection, Union};
+use std::alloc::AllocError;
+
+impl IpAddressSet {
+    /// The blocks of the addresses that both sets have. Goes over the lists of both once, as the iterator is asked, and
+    /// does not allocate.
+    ///
+    /// ```
+    /// let set = IpAddressSet::from_lists(vec![in rt.alloc(); "192.0.2.0/25".parse::<Ipv4Network>()?]?, Vec::new(rt.alloc()));
+    /// let other = IpAddressSet::from_lists(vec![in rt.alloc(); "192.0.2.0/26".parse::<Ipv4Network>()?]?, Vec::new(rt.alloc()));
+    /// assert_eq!(rt; set.intersection(&other).next(), Some("192.0.2.0/26".parse()?));
+    /// ```
+    pub fn intersection<'a>(
+        &'a self,
+        other: &'a IpAddressSet,
+    ) -> IpBlocks<Intersection<'a, Ipv4Network>, Intersection<'a, Ipv6Network>>
+        ensures { IsIpLeastList (InIpBoth self.now other.now) result }
+    {
+        IpBlocks::of(
+            self.v4().intersection(other.v4()),
+            self.v6().intersection(other.v6()),
+        )
+    }
+
+    /// The blocks of the addresses that this set has and the other has not. Goes over the lists of both once, as the
+    /// iterator is asked, and does not allocate.
+    ///
+    /// ```
+    /// let set = IpAddressSet::from_lists(vec![in rt.alloc(); "192.0.2.0/25".parse::<Ipv4Network>()?]?, Vec::new(rt.alloc()));
+    /// let other = IpAddressSet::from_lists(vec![in rt.alloc(); "192.0.2.0/26".parse::<Ipv4Network>()?]?, Vec::new(rt.alloc()));
+    /// assert_eq!(rt; set.difference(&other).next(), Some("192.0.2.64/26".parse()?));
+    /// ```
+    pub fn difference<'a>(
+        &'a self,
+        other: &'a IpAddressSet,
+    ) -> IpBlocks<Difference<'a, Ipv4Network>, Difference<'a, Ipv6Network>>
+        ensures { IsIpLeastList (InIpFirstAlone self.now other.now) result }
+    {
+        IpBlocks::of(
+            self.v4().difference(other.v4()),
+            self.v6().difference(other.v6()),
+        )
+    }
+
+    /// The blocks of all addresses of either family that are not in the set. Goes over both its lists once, as the
+    /// iterator is asked, and does not allocate.
+    ///
+    /// ```
+    /// let set = IpAddressSet::from_lists(vec![in rt.alloc(); "0.0.0.0/1".parse::<Ipv4Network>()?]?, Vec::new(rt.alloc()));
+    /// assert!(rt; set.complement().eq(["128.0.0.0/1".parse()?, "::/0".parse()?]));
+    /// ```
+    pub fn complement(&self) -> IpBlocks<Difference<'_, Ipv4Network>, Difference<'_, Ipv6Network>>
+        ensures { IsIpLeastList (InIpComplement self.now) result }
+    {
+        IpBlocks::of(self.v4().complement(), self.v6().complement())
+    }
+
+    /// The blocks of the addresses that one of the two has, or both. Goes over the lists of both once, as the iterator is
+    /// asked, and does not allocate.
+    ///
+    /// ```
+    /// let set = IpAddressSet::from_lists(vec![in rt.alloc(); "192.0.2.0/25".parse::<Ipv4Network>()?]?, Vec::new(rt.alloc()));
+    /// let other = IpAddressSet::from_lists(vec![in rt.alloc(); "192.0.2.128/25".parse::<Ipv4Network>()?]?, Vec::new(rt.alloc()));
+    /// assert_eq!(rt; set.union_blocks(&other).next(), Some("192.0.2.0/24".parse()?));
+    /// ```
+    pub fn union_blocks<'a>(
+        &'a self,
+        other: &'a IpAddressSet,
+    ) -> IpBlocks<Union<'a, Ipv4Network>, Union<'a, Ipv6Network>>
+        ensures { IsIpLeastList (InIpEither self.now other.now) result }
+    {
+        IpBlocks::of(
+            self.v4().union_blocks(other.v4()),
+            self.v6().union_blocks(other.v6()),
+        )
+    }
+
+    /// The set of the addresses that one of the two has, or both. Goes over the lists of both once. The lists of the
+    /// families are put into `v4_memory` and `v6_memory`, whose content is dropped first; an error means that one had to
+    /// grow, and that there was no memory for that.
+    ///
+    /// ```
+    /// let set = IpAddressSet::from_lists(vec![in rt.alloc(); "192.0.2.0/25".parse::<Ipv4Network>()?]?, Vec::new(rt.alloc()));
+    /// let other = IpAddressSet::from_lists(Vec::new(rt.alloc()), vec![in rt.alloc(); "::1/128".parse::<Ipv6Network>()?]?);
+    /// let union = set.union(&other, Vec::new(rt.alloc()), Vec::new(rt.alloc()))?;
+    /// assert!(rt; union.iter().eq(["192.0.2.0/25".parse()?, "::1/128".parse()?]));
+    /// ```
+    pub fn union(
+        &self,
+        other: &IpAddressSet,
+        v4_memory: Vec<Ipv4Network>,
+        v6_memory: Vec<Ipv6Network>,
+    ) -> Result<Self, AllocError>
+        ensures { IfOk result (λ set. IsIpLeastList (InIpEither self.now other.now) set) }
+    {
+        self.union_blocks(other).into_set(v4_memory, v6_memory)
+    }
+
+    /// Whether each address of this set is in the other. Goes over the lists of both once at the most, and does not
+    /// allocate.
+    ///
+    /// ```
+    /// let set = IpAddressSet::from_lists(vec![in rt.alloc(); "192.0.2.0/25".parse::<Ipv4Network>()?]?, Vec::new(rt.alloc()));
+    /// let other = IpAddressSet::from_lists(vec![in rt.alloc(); "192.0.2.0/26".parse::<Ipv4Network>()?]?, Vec::new(rt.alloc()));
+    /// assert!(rt; other.is_subset_of(&set));
+    /// assert!(rt; !set.is_subset_of(&other));
+    /// ```
+    pub fn is_subset_of(&self, other: &IpAddressSet) -> bool
+        ensures { IsTrue result ↔ IsIpWithin self.now other.now }
+    {
+        self.v4().is_subset_of(other.v4()) && self.v6().is_subset_of(other.v6())
+    }
+
+    /// Whether no address is in both sets. Goes over the lists of both once at the most, and does not allocate.
+    ///
+    /// ```
+    /// let set = IpAddressSet::from_lists(vec![in rt.alloc(); "0.0.0.0/0".parse::<Ipv4Network>()?]?, Vec::new(rt.alloc()));
+    /// let other = IpAddressSet::from_lists(Vec::new(rt.alloc()), vec![in rt.alloc(); "::/0".parse::<Ipv6Network>()?]?);
+    /// assert!(rt; set.is_disjoint_from(&other));
+    /// ```
+    pub fn is_disjoint_from(&self, other: &IpAddressSet) -> bool
+        ensures { IsTrue result ↔ AreIpDisjoint self.now other.now }
+    {
+        self.v4().is_disjoint_from(other.v4()) && self.v6().is_disjoint_from(other.v6())
+    }
+}
