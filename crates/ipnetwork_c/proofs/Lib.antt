@@ -7,3 +7,4 @@ pub mod MemberCounts
 pub mod Truths
 pub mod DifferingBits
 pub mod Rows
+pub mod BlocksPut

@@ -1,3 +1,4 @@
 -- What the private functions promise each other.
 pub mod Texts
 pub mod Structs
+pub mod Writing

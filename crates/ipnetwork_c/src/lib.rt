@@ -8,6 +8,7 @@ ghost use Rattle.std.specs.Prelude.{◌≡◌};
 
 mod address;
 mod aggregates;
+mod block_calls;
 mod columns;
 mod either;
 mod fault;
@@ -24,6 +25,7 @@ mod structs;
 mod tests;
 mod text;
 mod text_columns;
+mod writing;
 
 pub use address::AddressInC;
 pub use structs::{IpInC, Ipv4InC, Ipv6InC};
@@ -39,7 +41,7 @@ pub extern "C" fn ipnetwork_abi_version() -> u32
 /// The minor version: each call that is added raises it, and a change of `ipnetwork_abi_version` begins it again at 0.
 #[unsafe(no_mangle)]
 pub extern "C" fn ipnetwork_abi_minor_version() -> u32
-    ensures { result ≡ 0 }
+    ensures { result ≡ 1 }
 {
-    0
+    1
 }
