@@ -272,6 +272,15 @@ IPNETWORK_CHECKED_AT(3) ipnetwork_fault ipnetwork_v6_aggregate(ipnetwork_v6 *IPN
                                                                 size_t network_count,
                                                                 size_t *IPNETWORK_ALONE block_count);
 
+/* Whether an address lies in the set of block_count blocks, as a call of aggregate leaves them: *answer is 1 or 0, by one
+ * binary search. Of another list 1 is right too, but 0 says nothing: ipnetwork_v4_list_contains and
+ * ipnetwork_v6_list_contains take any list. IPNETWORK_PREFIX only if the prefix length of a struct is past the width, which
+ * that of no set's is; not every struct is looked at. */
+IPNETWORK_CHECKED_AT(3, 4) ipnetwork_fault ipnetwork_v4_set_contains(const ipnetwork_v4 *blocks, size_t block_count,
+    const uint8_t address[4], uint8_t *IPNETWORK_ALONE answer);
+IPNETWORK_CHECKED_AT(3, 4) ipnetwork_fault ipnetwork_v6_set_contains(const ipnetwork_v6 *blocks, size_t block_count,
+    const uint8_t address[16], uint8_t *IPNETWORK_ALONE answer);
+
 /* The blocks whose addresses are those from first to last, both included: the fewest that there are, in ascending order
  * and without host bits, in the front of blocks, an array of the caller's with room for room of them. There are at most
  * 62 for IPv4, and 254 for IPv6. *block_count is how many they are. IPNETWORK_SHORT_BUFFER if that is more than room: then

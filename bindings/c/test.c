@@ -530,6 +530,52 @@ static void fewest(const char *row, const ipnetwork_v4 *fours, const ipnetwork_v
     CHECK(row, memcmp(told, has, 256) == 0);
 }
 
+/* Random sets within 256 addresses, asked for each of these, against a table with a byte for each. */
+static void sets(void) {
+    uint32_t state = 7;
+    for (unsigned round = 0; round < 600; round++) {
+        size_t room = round % 9, count = 77, again = 77;
+        ipnetwork_v4 *four = edge(room * sizeof *four);
+        ipnetwork_v6 *six = edge(room * sizeof *six);
+        uint8_t has[256] = {0};
+        for (size_t i = 0; i < room; i++) {
+            state = state * 1103515245 + 12345;
+            unsigned low = state >> 16 & 255, bits = (state >> 24) % 6;
+            four[i] = (ipnetwork_v4){{192, 0, 2, (uint8_t)low}, (uint8_t)(32 - bits)};
+            six[i] = (ipnetwork_v6){{0x20, 1, 0x0d, 0xb8}, (uint8_t)(128 - bits)};
+            six[i].address[15] = (uint8_t)low;
+            memset(has + (low >> bits << bits), 1, 1u << bits);
+        }
+        CHECK("set", ipnetwork_v4_aggregate(four, room, &count) == YES);
+        CHECK("set", ipnetwork_v6_aggregate(six, room, &again) == YES && again == count);
+        /* The blocks stand at the end of the memory. */
+        ipnetwork_v4 *blocks = four + (room - count);
+        ipnetwork_v6 *blocks_six = six + (room - count);
+        memmove(blocks, four, count * sizeof *four);
+        memmove(blocks_six, six, count * sizeof *six);
+        fewest("set", blocks, blocks_six, count, has);
+        for (unsigned low = 0; low < 256; low++) {
+            uint8_t in_four = 77, in_six = 77, address[4] = {192, 0, 2, (uint8_t)low};
+            uint8_t address_six[16] = {0x20, 1, 0x0d, 0xb8};
+            address_six[15] = (uint8_t)low;
+            CHECK("set", ipnetwork_v4_set_contains(blocks, count, address, &in_four) == YES && in_four == has[low]);
+            CHECK("set", ipnetwork_v6_set_contains(blocks_six, count, address_six, &in_six) == YES && in_six == has[low]);
+        }
+        leave_edge(four, room * sizeof *four);
+        leave_edge(six, room * sizeof *six);
+    }
+    ipnetwork_v4 past = v4("10.0.0.0/8");
+    ipnetwork_v6 past_six = v6("::/8");
+    uint8_t answer = 77;
+    past.prefix = 33;
+    past_six.prefix = 129;
+    CHECK("past", ipnetwork_v4_set_contains(&past, 1, past.address, &answer) == PREF && answer == 77);
+    CHECK("past", ipnetwork_v6_set_contains(&past_six, 1, past_six.address, &answer) == PREF && answer == 77);
+    CHECK("NULL", ipnetwork_v4_set_contains(NULL, 0, past.address, &answer) == YES && answer == 0);
+    answer = 77;
+    CHECK("NULL", ipnetwork_v6_set_contains(NULL, 0, past_six.address, &answer) == YES && answer == 0);
+}
+
 /* The blocks of ranges within 256 addresses, and the longest lists that there are. */
 static void ranges(void) {
     for (unsigned first = 0; first < 256; first += 3) {
@@ -853,6 +899,7 @@ int main(void) {
     columns();
     lists();
     aggregates();
+    sets();
     ranges();
     subnets();
     columns_of_texts();

@@ -16,9 +16,12 @@ mod holding;
 mod ipv4;
 mod ipv6;
 pub mod laws;
+mod listed;
 mod lists;
 mod order;
 mod questions;
+mod set_calls;
+mod sets;
 mod sizes;
 mod structs;
 #[cfg(test)]

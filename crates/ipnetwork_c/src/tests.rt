@@ -11,6 +11,7 @@ use crate::ipv4::*;
 use crate::ipv6::*;
 use crate::lists::*;
 use crate::questions::*;
+use crate::set_calls::*;
 use crate::structs::{IpInC, Ipv4InC, Ipv6InC};
 use crate::text_columns::*;
 use crate::{ipnetwork_abi_minor_version, ipnetwork_abi_version};
@@ -372,6 +373,27 @@ fn columns_of_texts(rt: HostRuntime) {
         (fours[1].address, sixes[2].prefix, sixes[3].prefix),
         ([0; 4], 0, 32)
     );
+}
+
+#[test]
+fn sets_of_blocks(rt: HostRuntime) {
+    let four = |last, prefix| Ipv4InC {
+        address: [192, 0, 2, last],
+        prefix,
+    };
+    let blocks = [four(0, 25), four(192, 26)];
+    let six = [Ipv6InC {
+        address: FIRST,
+        prefix: 128,
+    }];
+    let (mut has, mut has_not, mut has_six) = (9, 9, 9);
+    let told = [
+        ipnetwork_v4_set_contains(&blocks, &[192, 0, 2, 127], &mut has),
+        ipnetwork_v4_set_contains(&blocks, &[192, 0, 2, 128], &mut has_not),
+        ipnetwork_v6_set_contains(&six, &FIRST, &mut has_six),
+    ];
+    assert_eq!(rt; told, [0, 0, 0]);
+    assert_eq!(rt; (has, has_not, has_six), (1, 0, 1));
 }
 
 #[test]
