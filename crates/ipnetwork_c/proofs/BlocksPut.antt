@@ -1,5 +1,5 @@
 -- Blocks put into a list one after the other.
-use Rattle.std.proofs.Common.{◌≡◌, ◌↔◌, ◌⊎◌, ℕ, suc, ◌+◌, ◌-◌, ◌*◌, ◌/◌, ◌^◌, ◌<◌, ◌≤◌, List, [], ◌∷◌, ◌++◌, length, map, drop, get_or, slice_set, ⊎_elim, inl, inr, refl, sym, subst, ap, ◌∙◌, arith, min, add-one, append_assoc, drop-cons}
+use Rattle.std.proofs.Common.{◌≡◌, ℕ, ◌+◌, ◌-◌, ◌^◌, ◌<◌, ◌≤◌, List, [], ◌∷◌, ◌++◌, length, drop, get_or, slice_set, ⊎_elim, refl, sym, subst, ap, ◌∙◌, arith, min, add-one, append_assoc, drop-cons}
 use Rattle.std.proofs.Math.Nat.{min-le_left, min-eq_left, min-eq_right, le-min}
 use Rattle.std.proofs.Math.Seq.{set-append_seam}
 use Rattle.std.proofs.lemmas.Bool.{cases_lt}
@@ -7,7 +7,7 @@ use Rattle.std.proofs.lemmas.List.{length-map, length-append, length-set, map-ap
 use Rattle.ipnetwork_family.specs.Network.{Network}
 use Rattle.ipnetwork_blocks.specs.LeastList.{IsLeastList}
 use Rattle.ipnetwork_blocks.proofs.LeastLists.{least_unique}
-use Rattle.ipnetwork_c.specs.Lists.{StandInFront, PutsBlocks}
+use Rattle.ipnetwork_c.specs.Lists.{PutsBlocks}
 use Rattle.ipnetwork_c.specs.Lists.PutsBlocks.{Put, TooShort}
 use Rattle.ipnetwork_c.specs.Private.Writing.{HasBlocks, AddsBlocks}
 

@@ -1,5 +1,5 @@
-use Rattle.std.proofs.Common.{◌∙◌, arith}
-use Rattle.ipnetwork_c.proofs.BlocksPut.{block_put, block_counted}
+use Rattle.std.proofs.Common.{arith}
+use Rattle.ipnetwork_c.proofs.BlocksPut.{block_put}
 use Rattle.ipnetwork_c.proofs.writing.put.Goals as goal
 
 pub returns : goal.returns

@@ -1,5 +1,5 @@
-use Rattle.std.proofs.Common.{◌++◌, ◌∷◌, [], refl, arith}
-use Rattle.ipnetwork_c.proofs.BlocksPut.{adds_none, adds_more, still_all, all_added}
+use Rattle.std.proofs.Common.{◌++◌, ◌∷◌, [], refl}
+use Rattle.ipnetwork_c.proofs.BlocksPut.{adds_none, adds_more, still_all}
 use Rattle.ipnetwork_c.proofs.writing.put_blocks.Goals as goal
 
 pub loop-block-init : goal.loop-block-init
