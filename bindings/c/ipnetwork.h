@@ -2,8 +2,8 @@
  *
  * Every call but the two that tell a version answers an ipnetwork_fault: IPNETWORK_OK, which is 0, or why there is no
  * answer. Answers go where the last pointers say. After a fault nothing has been written, but for the length that a
- * call which writes a text tells with IPNETWORK_SHORT_BUFFER. A struct that the caller has filled is checked: a prefix
- * length past the width is IPNETWORK_PREFIX, and never trusted.
+ * call which writes a text tells with IPNETWORK_SHORT_BUFFER, and the number that one which writes blocks does. A struct
+ * that the caller has filled is checked: a prefix length past the width is IPNETWORK_PREFIX, and never trusted.
  *
  * No call allocates or keeps anything. Each may be made from any thread, and from several at once, as long as no
  * other thread writes what it reads or touches what it writes.
@@ -34,7 +34,7 @@ extern "C" {
  * that of the library. A call that is added raises the minor version, which ipnetwork_abi_minor_version() answers: a
  * program needs a library of the version that it was compiled with, and of the same minor version or a later one. */
 #define IPNETWORK_ABI_VERSION 2
-#define IPNETWORK_ABI_MINOR_VERSION 0
+#define IPNETWORK_ABI_MINOR_VERSION 1
 
 /* Enough for every text of the family and the zero byte behind it. */
 #define IPNETWORK_V4_TEXT 19
@@ -54,11 +54,12 @@ enum {
     IPNETWORK_ADDRESS = 2,      /* what stands before the '/', or the whole text where there is none, is no address of
                                    the family; of ipnetwork_read: the text is no network of either family */
     IPNETWORK_PREFIX = 3,       /* no prefix length of the family, whether a text, an argument or a struct has it */
-    IPNETWORK_SHORT_BUFFER = 4, /* no room for the text and a zero byte, or for as many rows */
+    IPNETWORK_SHORT_BUFFER = 4, /* no room for the text and a zero byte, or for as many rows or blocks */
     IPNETWORK_NO_MASK = 5,      /* the address is no mask */
-    IPNETWORK_NO_MEMBER = 6,    /* the network has no member of that number */
+    IPNETWORK_NO_MEMBER = 6,    /* the network has no member, or no block, of that number */
     IPNETWORK_NO_FAMILY = 7,    /* a family that is neither 4 nor 6, or an address of neither 4 nor 16 octets */
-    IPNETWORK_NO_OFFSETS = 8    /* offsets of a column that fall, or pass the end of its texts */
+    IPNETWORK_NO_OFFSETS = 8,   /* offsets of a column that fall, or pass the end of its texts */
+    IPNETWORK_NO_RANGE = 9      /* a range whose first address comes after its last */
 };
 
 /* IPNETWORK_CHECKED: the fault has to be looked at, and no pointer is NULL. IPNETWORK_CHECKED_AT: of these arguments
@@ -270,6 +271,33 @@ IPNETWORK_CHECKED_AT(3) ipnetwork_fault ipnetwork_v4_aggregate(ipnetwork_v4 *IPN
 IPNETWORK_CHECKED_AT(3) ipnetwork_fault ipnetwork_v6_aggregate(ipnetwork_v6 *IPNETWORK_ALONE networks,
                                                                 size_t network_count,
                                                                 size_t *IPNETWORK_ALONE block_count);
+
+/* Whether an address lies in the set of block_count blocks, as a call of aggregate leaves them: *answer is 1 or 0, by one
+ * binary search. Of another list 1 is right too, but 0 says nothing: ipnetwork_v4_list_contains and
+ * ipnetwork_v6_list_contains take any list. IPNETWORK_PREFIX only if the prefix length of a struct is past the width, which
+ * that of no set's is; not every struct is looked at. */
+IPNETWORK_CHECKED_AT(3, 4) ipnetwork_fault ipnetwork_v4_set_contains(const ipnetwork_v4 *blocks, size_t block_count,
+    const uint8_t address[4], uint8_t *IPNETWORK_ALONE answer);
+IPNETWORK_CHECKED_AT(3, 4) ipnetwork_fault ipnetwork_v6_set_contains(const ipnetwork_v6 *blocks, size_t block_count,
+    const uint8_t address[16], uint8_t *IPNETWORK_ALONE answer);
+
+/* The blocks whose addresses are those from first to last, both included: the fewest that there are, in ascending order
+ * and without host bits, in the front of blocks, an array of the caller's with room for room of them. There are at most
+ * 62 for IPv4, and 254 for IPv6. *block_count is how many they are. IPNETWORK_SHORT_BUFFER if that is more than room: then
+ * *block_count is written all the same, and blocks is not. If room is 0, blocks may be NULL. IPNETWORK_NO_RANGE if first
+ * comes after last. */
+IPNETWORK_CHECKED_AT(1, 2, 5) ipnetwork_fault ipnetwork_v4_range_to_blocks(const uint8_t first[4], const uint8_t last[4],
+    ipnetwork_v4 *IPNETWORK_ALONE blocks, size_t room, size_t *IPNETWORK_ALONE block_count);
+IPNETWORK_CHECKED_AT(1, 2, 5) ipnetwork_fault ipnetwork_v6_range_to_blocks(const uint8_t first[16],
+    const uint8_t last[16], ipnetwork_v6 *IPNETWORK_ALONE blocks, size_t room, size_t *IPNETWORK_ALONE block_count);
+
+/* The block number n of this prefix length within a network, counted from 0 in ascending order; for IPv6 n is 16 octets,
+ * the highest first. IPNETWORK_PREFIX if the prefix length is less than the network's, or past the width;
+ * IPNETWORK_NO_MEMBER if the network has no more than n such blocks. */
+IPNETWORK_CHECKED ipnetwork_fault ipnetwork_v4_subnet_at(const ipnetwork_v4 *network, uint8_t prefix, uint32_t n,
+                                                         ipnetwork_v4 *IPNETWORK_ALONE subnet);
+IPNETWORK_CHECKED ipnetwork_fault ipnetwork_v6_subnet_at(const ipnetwork_v6 *network, uint8_t prefix,
+                                                         const uint8_t n[16], ipnetwork_v6 *IPNETWORK_ALONE subnet);
 
 /* The networks, or the addresses, of a column of texts, in the layout of Arrow: texts_length bytes with all texts, one
  * behind the other, and offset_count offsets. Text i goes from offsets[i] to offsets[i + 1], so that there is one text

@@ -1,11 +1,14 @@
 /* Each call of the header: rows with known answers, buffers of every length, prefix lengths past the width. Every
  * text and buffer stands in a block of exactly its size, so that valgrind or a sanitizer sees a byte too many. */
+#define _DEFAULT_SOURCE
 #include "ipnetwork.h"
 #include "rows.h"
 
 #include <stdio.h>
 #include <stdlib.h>
 #include <string.h>
+#include <sys/mman.h>
+#include <unistd.h>
 
 static int failures;
 
@@ -25,6 +28,21 @@ static void *block(const void *bytes, size_t length) {
     if (length != 0)
         memcpy(copy, bytes, length);
     return copy;
+}
+
+/* This many bytes, at most a page, that end where a page begins that can be neither read nor written. */
+static void *edge(size_t length) {
+    size_t page = (size_t)sysconf(_SC_PAGESIZE);
+    char *pages = mmap(NULL, 2 * page, PROT_READ | PROT_WRITE, MAP_PRIVATE | MAP_ANONYMOUS, -1, 0);
+    if (pages == MAP_FAILED || length > page || mprotect(pages + page, page, PROT_NONE) != 0)
+        abort();
+    return pages + page - length;
+}
+
+static void leave_edge(void *bytes, size_t length) {
+    size_t page = (size_t)sysconf(_SC_PAGESIZE);
+    if (munmap((char *)bytes + length - page, 2 * page) != 0)
+        abort();
 }
 
 /* Bytes, and NULL if there are none, as malloc may give. */
@@ -144,9 +162,9 @@ static void fault_texts(void) {
     static const char *const wanted[] = {"no fault", "more than one slash", "no address",
                                          "no prefix length of the family", "no room for the text", "no mask",
                                          "no member of this number", "no family", "no offsets of the column",
-                                         "unknown fault"};
+                                         "no range", "unknown fault"};
     for (uint32_t fault = 0; fault < 300; fault++) {
-        const char *text = wanted[fault < 9 ? fault : 9];
+        const char *text = wanted[fault < 10 ? fault : 10];
         char buffer[IPNETWORK_FAULT_TEXT];
         size_t length;
         CHECK(text, ipnetwork_fault_text(fault, buffer, sizeof buffer, &length) == YES);
@@ -494,6 +512,159 @@ static void aggregates(void) {
     CHECK("all", is_blank(all[0].address, 4) && all[1].prefix <= 32 && all[2].prefix <= 32);
 }
 
+/* Blocks within 256 addresses: those of which has[] tells, the fewest that there are, and in order. */
+static void fewest(const char *row, const ipnetwork_v4 *fours, const ipnetwork_v6 *sixes, size_t count,
+                   const uint8_t has[256]) {
+    uint8_t told[256] = {0};
+    unsigned next = 0, width = 0;
+    for (size_t i = 0; i < count; i++) {
+        unsigned low = fours[i].address[3], bits = 32u - fours[i].prefix;
+        CHECK(row, bits < 9 && (low & ((1u << bits) - 1)) == 0 && low >= next);
+        CHECK(row, !(i > 0 && low == next && bits == width && (low >> bits & 1) == 1));
+        CHECK(row, sixes[i].address[15] == low && sixes[i].prefix == 128 - bits);
+        CHECK(row, memcmp(fours[i].address, "\xc0\0\2", 3) == 0 && memcmp(sixes[i].address, "\x20\1\x0d\xb8", 4) == 0);
+        next = low + (1u << bits);
+        width = bits;
+        memset(told + low, 1, next - low);
+    }
+    CHECK(row, memcmp(told, has, 256) == 0);
+}
+
+/* Random sets within 256 addresses, asked for each of these, against a table with a byte for each. */
+static void sets(void) {
+    uint32_t state = 7;
+    for (unsigned round = 0; round < 600; round++) {
+        size_t room = round % 9, count = 77, again = 77;
+        ipnetwork_v4 *four = edge(room * sizeof *four);
+        ipnetwork_v6 *six = edge(room * sizeof *six);
+        uint8_t has[256] = {0};
+        for (size_t i = 0; i < room; i++) {
+            state = state * 1103515245 + 12345;
+            unsigned low = state >> 16 & 255, bits = (state >> 24) % 6;
+            four[i] = (ipnetwork_v4){{192, 0, 2, (uint8_t)low}, (uint8_t)(32 - bits)};
+            six[i] = (ipnetwork_v6){{0x20, 1, 0x0d, 0xb8}, (uint8_t)(128 - bits)};
+            six[i].address[15] = (uint8_t)low;
+            memset(has + (low >> bits << bits), 1, 1u << bits);
+        }
+        CHECK("set", ipnetwork_v4_aggregate(four, room, &count) == YES);
+        CHECK("set", ipnetwork_v6_aggregate(six, room, &again) == YES && again == count);
+        /* The blocks stand at the end of the memory. */
+        ipnetwork_v4 *blocks = four + (room - count);
+        ipnetwork_v6 *blocks_six = six + (room - count);
+        memmove(blocks, four, count * sizeof *four);
+        memmove(blocks_six, six, count * sizeof *six);
+        fewest("set", blocks, blocks_six, count, has);
+        for (unsigned low = 0; low < 256; low++) {
+            uint8_t in_four = 77, in_six = 77, address[4] = {192, 0, 2, (uint8_t)low};
+            uint8_t address_six[16] = {0x20, 1, 0x0d, 0xb8};
+            address_six[15] = (uint8_t)low;
+            CHECK("set", ipnetwork_v4_set_contains(blocks, count, address, &in_four) == YES && in_four == has[low]);
+            CHECK("set", ipnetwork_v6_set_contains(blocks_six, count, address_six, &in_six) == YES && in_six == has[low]);
+        }
+        leave_edge(four, room * sizeof *four);
+        leave_edge(six, room * sizeof *six);
+    }
+    ipnetwork_v4 past = v4("10.0.0.0/8");
+    ipnetwork_v6 past_six = v6("::/8");
+    uint8_t answer = 77;
+    past.prefix = 33;
+    past_six.prefix = 129;
+    CHECK("past", ipnetwork_v4_set_contains(&past, 1, past.address, &answer) == PREF && answer == 77);
+    CHECK("past", ipnetwork_v6_set_contains(&past_six, 1, past_six.address, &answer) == PREF && answer == 77);
+    CHECK("NULL", ipnetwork_v4_set_contains(NULL, 0, past.address, &answer) == YES && answer == 0);
+    answer = 77;
+    CHECK("NULL", ipnetwork_v6_set_contains(NULL, 0, past_six.address, &answer) == YES && answer == 0);
+}
+
+/* The blocks of ranges within 256 addresses, and the longest lists that there are. */
+static void ranges(void) {
+    for (unsigned first = 0; first < 256; first += 3) {
+        for (unsigned last = 0; last < 256; last += 5) {
+            uint8_t four[2][4] = {{192, 0, 2, (uint8_t)first}, {192, 0, 2, (uint8_t)last}};
+            uint8_t six[2][16] = {{0x20, 1, 0x0d, 0xb8}, {0x20, 1, 0x0d, 0xb8}}, has[256] = {0};
+            six[0][15] = (uint8_t)first;
+            six[1][15] = (uint8_t)last;
+            size_t told = 77, again = 77, blocks;
+            if (last < first) {
+                CHECK("range", ipnetwork_v4_range_to_blocks(four[0], four[1], NULL, 0, &told) == IPNETWORK_NO_RANGE && told == 77);
+                CHECK("range", ipnetwork_v6_range_to_blocks(six[0], six[1], NULL, 0, &again) == IPNETWORK_NO_RANGE && again == 77);
+                continue;
+            }
+            memset(has + first, 1, last - first + 1);
+            CHECK("range", ipnetwork_v4_range_to_blocks(four[0], four[1], NULL, 0, &told) == IPNETWORK_SHORT_BUFFER);
+            CHECK("range", ipnetwork_v6_range_to_blocks(six[0], six[1], NULL, 0, &again) == IPNETWORK_SHORT_BUFFER && again == told);
+            blocks = told;
+            ipnetwork_v4 *made = edge(blocks * sizeof *made);
+            ipnetwork_v6 *made_six = edge(blocks * sizeof *made_six);
+            made[0].prefix = made_six[0].prefix = 77;
+            CHECK("range", ipnetwork_v4_range_to_blocks(four[0], four[1], made, blocks - 1, &told) == IPNETWORK_SHORT_BUFFER);
+            CHECK("range", ipnetwork_v6_range_to_blocks(six[0], six[1], made_six, blocks - 1, &again) == IPNETWORK_SHORT_BUFFER);
+            CHECK("range", told == blocks && again == blocks && made[0].prefix == 77 && made_six[0].prefix == 77);
+            CHECK("range", ipnetwork_v4_range_to_blocks(four[0], four[1], made, blocks, &told) == YES && told == blocks);
+            CHECK("range", ipnetwork_v6_range_to_blocks(six[0], six[1], made_six, blocks, &again) == YES && again == blocks);
+            fewest("range", made, made_six, blocks, has);
+            leave_edge(made, blocks * sizeof *made);
+            leave_edge(made_six, blocks * sizeof *made_six);
+        }
+    }
+    uint8_t first[16] = {0}, last[16];
+    memset(last, 255, 16);
+    size_t told = 77;
+    ipnetwork_v4 four = {{77}, 77};
+    ipnetwork_v6 six = {{77}, 77};
+    CHECK("all", ipnetwork_v4_range_to_blocks(first, last, &four, 1, &told) == YES && told == 1 && is_blank(&four, sizeof four));
+    CHECK("all", ipnetwork_v6_range_to_blocks(first, last, &six, 1, &told) == YES && told == 1 && is_blank(&six, sizeof six));
+    first[3] = 1;
+    last[3] = 254;
+    CHECK("longest", ipnetwork_v4_range_to_blocks(first, last, NULL, 0, &told) == IPNETWORK_SHORT_BUFFER && told == 62);
+    first[3] = 0;
+    last[3] = 255;
+    first[15] = 1;
+    last[15] = 254;
+    CHECK("longest", ipnetwork_v6_range_to_blocks(first, last, NULL, 0, &told) == IPNETWORK_SHORT_BUFFER && told == 254);
+}
+
+/* The blocks within a network by their number. */
+static void subnets(void) {
+    ipnetwork_v4 four = v4("10.7.0.9/16"), made = {{77}, 77};
+    ipnetwork_v6 six = v6("2001:db8::9/48"), made_six = {{77}, 77};
+    for (unsigned longer = 0; longer <= 16; longer++) {
+        for (uint32_t number = 0; number < (1u << longer); number += longer < 8 ? 1 : 251) {
+            uint32_t low = 0x0a070000u + (number << (16 - longer));
+            uint8_t octets[16] = {0};
+            octets[14] = (uint8_t)(number >> 8);
+            octets[15] = (uint8_t)number;
+            CHECK("subnet", ipnetwork_v4_subnet_at(&four, (uint8_t)(16 + longer), number, &made) == YES);
+            CHECK("subnet", made.address[0] == low >> 24 && made.address[1] == (low >> 16 & 255));
+            CHECK("subnet", made.address[2] == (low >> 8 & 255) && made.address[3] == (low & 255) && made.prefix == 16 + longer);
+            CHECK("subnet", ipnetwork_v6_subnet_at(&six, (uint8_t)(48 + longer), octets, &made_six) == YES);
+            CHECK("subnet", made_six.address[6] == (low >> 8 & 255) && made_six.address[7] == (low & 255));
+            CHECK("subnet", memcmp(made_six.address, six.address, 6) == 0 && is_blank(made_six.address + 8, 8) && made_six.prefix == 48 + longer);
+        }
+        uint8_t past[16] = {0};
+        past[13] = (uint8_t)(longer == 16);
+        past[14] = (uint8_t)(longer > 7 && longer < 16 ? 1u << (longer - 8) : 0);
+        past[15] = (uint8_t)(longer < 8 ? 1u << longer : 0);
+        made.prefix = made_six.prefix = 77;
+        CHECK("past", ipnetwork_v4_subnet_at(&four, (uint8_t)(16 + longer), 1u << longer, &made) == IPNETWORK_NO_MEMBER);
+        CHECK("past", ipnetwork_v6_subnet_at(&six, (uint8_t)(48 + longer), past, &made_six) == IPNETWORK_NO_MEMBER);
+        CHECK("past", made.prefix == 77 && made_six.prefix == 77);
+    }
+    uint8_t zero[16] = {0}, most[16];
+    memset(most, 255, 16);
+    for (unsigned prefix = 0; prefix < 256; prefix++) {
+        CHECK("prefix", ipnetwork_v4_subnet_at(&four, (uint8_t)prefix, 0, &made) == (prefix < 16 || prefix > 32 ? PREF : YES));
+        CHECK("prefix", ipnetwork_v6_subnet_at(&six, (uint8_t)prefix, zero, &made_six) == (prefix < 48 || prefix > 128 ? PREF : YES));
+    }
+    four.prefix = six.prefix = 0;
+    CHECK("last", ipnetwork_v4_subnet_at(&four, 32, 4294967295u, &made) == YES && memcmp(made.address, most, 4) == 0);
+    CHECK("last", ipnetwork_v6_subnet_at(&six, 128, most, &made_six) == YES && memcmp(made_six.address, most, 16) == 0);
+    four.prefix = 33;
+    six.prefix = 129;
+    CHECK("past", ipnetwork_v4_subnet_at(&four, 33, 0, &made) == PREF && ipnetwork_v6_subnet_at(&six, 129, zero, &made_six) == PREF);
+    CHECK("past", made.prefix == 32 && made_six.prefix == 128);
+}
+
 /* Columns of texts, in blocks of exactly their size: each row as the call for its text answers, whatever the others are. */
 static void columns_of_texts(void) {
     static const size_t count = sizeof rows / sizeof *rows;
@@ -728,6 +899,9 @@ int main(void) {
     columns();
     lists();
     aggregates();
+    sets();
+    ranges();
+    subnets();
     columns_of_texts();
     either();
     questions_of_either();

@@ -7,3 +7,5 @@ pub mod MemberCounts
 pub mod Truths
 pub mod DifferingBits
 pub mod Rows
+pub mod Searching
+pub mod BlocksPut

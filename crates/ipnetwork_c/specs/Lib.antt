@@ -4,5 +4,6 @@ pub mod Answers
 pub mod Either
 pub mod Columns
 pub mod Lists
+pub mod Blocks
 pub mod TextColumns
 pub mod Private

@@ -1,3 +1,5 @@
 -- What the private functions promise each other.
 pub mod Texts
 pub mod Structs
+pub mod Sets
+pub mod Writing

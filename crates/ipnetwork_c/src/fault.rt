@@ -24,6 +24,8 @@ pub(crate) const NO_FAMILY: u32 = 7;
 
 pub(crate) const NO_OFFSETS: u32 = 8;
 
+pub(crate) const NO_RANGE: u32 = 9;
+
 /// The number of the cause for which a text is refused.
 pub(crate) fn number_of(fault: CidrFault) -> u32
     ensures { result ≡ fault_number fault }
@@ -49,6 +51,7 @@ fn words_of(fault: u32) -> &'static str
         NO_MEMBER => "no member of this number",
         NO_FAMILY => "no family",
         NO_OFFSETS => "no offsets of the column",
+        NO_RANGE => "no range",
         _ => "unknown fault",
     }
 }

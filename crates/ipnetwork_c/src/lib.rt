@@ -8,6 +8,7 @@ ghost use Rattle.std.specs.Prelude.{◌≡◌};
 
 mod address;
 mod aggregates;
+mod block_calls;
 mod columns;
 mod either;
 mod fault;
@@ -15,15 +16,19 @@ mod holding;
 mod ipv4;
 mod ipv6;
 pub mod laws;
+mod listed;
 mod lists;
 mod order;
 mod questions;
+mod set_calls;
+mod sets;
 mod sizes;
 mod structs;
 #[cfg(test)]
 mod tests;
 mod text;
 mod text_columns;
+mod writing;
 
 pub use address::AddressInC;
 pub use structs::{IpInC, Ipv4InC, Ipv6InC};
@@ -39,7 +44,7 @@ pub extern "C" fn ipnetwork_abi_version() -> u32
 /// The minor version: each call that is added raises it, and a change of `ipnetwork_abi_version` begins it again at 0.
 #[unsafe(no_mangle)]
 pub extern "C" fn ipnetwork_abi_minor_version() -> u32
-    ensures { result ≡ 0 }
+    ensures { result ≡ 1 }
 {
-    0
+    1
 }

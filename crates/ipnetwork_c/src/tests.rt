@@ -3,6 +3,7 @@
 
 use crate::address::*;
 use crate::aggregates::*;
+use crate::block_calls::*;
 use crate::columns::*;
 use crate::either::{ipnetwork_contains, ipnetwork_read};
 use crate::fault::ipnetwork_fault_text;
@@ -10,6 +11,7 @@ use crate::ipv4::*;
 use crate::ipv6::*;
 use crate::lists::*;
 use crate::questions::*;
+use crate::set_calls::*;
 use crate::structs::{IpInC, Ipv4InC, Ipv6InC};
 use crate::text_columns::*;
 use crate::{ipnetwork_abi_minor_version, ipnetwork_abi_version};
@@ -151,7 +153,7 @@ fn calls_of_either(rt: HostRuntime) -> Result<(), Fail> {
     assert_eq!(rt; told, [7, 0, 0, 7]);
     assert_eq!(rt;
         (ipnetwork_abi_version(), ipnetwork_abi_minor_version()),
-        (2, 0)
+        (2, 1)
     );
     Ok(())
 }
@@ -268,7 +270,7 @@ fn what_faults_say(rt: HostRuntime) {
     let mut length = 0;
     let told = [
         ipnetwork_fault_text(5, &mut text, &mut length),
-        ipnetwork_fault_text(9, &mut text, &mut length),
+        ipnetwork_fault_text(99, &mut text, &mut length),
     ];
     assert_eq!(rt; (told, length), ([0, 4], 13));
     assert_eq!(rt; text, *b"no mask\0\xff");
@@ -371,4 +373,56 @@ fn columns_of_texts(rt: HostRuntime) {
         (fours[1].address, sixes[2].prefix, sixes[3].prefix),
         ([0; 4], 0, 32)
     );
+}
+
+#[test]
+fn sets_of_blocks(rt: HostRuntime) {
+    let four = |last, prefix| Ipv4InC {
+        address: [192, 0, 2, last],
+        prefix,
+    };
+    let blocks = [four(0, 25), four(192, 26)];
+    let six = [Ipv6InC {
+        address: FIRST,
+        prefix: 128,
+    }];
+    let (mut has, mut has_not, mut has_six) = (9, 9, 9);
+    let told = [
+        ipnetwork_v4_set_contains(&blocks, &[192, 0, 2, 127], &mut has),
+        ipnetwork_v4_set_contains(&blocks, &[192, 0, 2, 128], &mut has_not),
+        ipnetwork_v6_set_contains(&six, &FIRST, &mut has_six),
+    ];
+    assert_eq!(rt; told, [0, 0, 0]);
+    assert_eq!(rt; (has, has_not, has_six), (1, 0, 1));
+}
+
+#[test]
+fn blocks_of_ranges_and_by_number(rt: HostRuntime) {
+    let net = Ipv4InC {
+        address: [10, 0, 0, 0],
+        prefix: 8,
+    };
+    let wide = Ipv6InC {
+        address: FIRST,
+        prefix: 32,
+    };
+    let (mut fours, mut six, mut counts) = ([NO_V4; 3], [NO_V6; 1], [9; 4]);
+    let mut two = [NO_V4; 2];
+    let (mut subnet, mut wide_subnet) = (NO_V4, NO_V6);
+    let mut number = [0; 16];
+    number[14] = 255;
+    number[15] = 255;
+    let told = [
+        ipnetwork_v4_range_to_blocks(&[192, 0, 2, 1], &[192, 0, 2, 4], &mut fours, &mut counts[0]),
+        ipnetwork_v6_range_to_blocks(&[0; 16], &[255; 16], &mut six, &mut counts[1]),
+        ipnetwork_v4_range_to_blocks(&[0, 0, 0, 1], &[0; 4], &mut fours, &mut counts[2]),
+        ipnetwork_v4_range_to_blocks(&[192, 0, 2, 1], &[192, 0, 2, 4], &mut two, &mut counts[3]),
+        ipnetwork_v4_subnet_at(&net, 16, 255, &mut subnet),
+        ipnetwork_v4_subnet_at(&net, 16, 256, &mut subnet),
+        ipnetwork_v6_subnet_at(&wide, 48, &number, &mut wide_subnet),
+    ];
+    assert_eq!(rt; (told, counts), ([0, 0, 9, 4, 0, 6, 0], [3, 1, 9, 3]));
+    assert_eq!(rt; (fours[1].address, fours[1].prefix), ([192, 0, 2, 2], 31));
+    assert_eq!(rt; (subnet.address, subnet.prefix), ([10, 255, 0, 0], 16));
+    assert_eq!(rt; (wide_subnet.address[5], wide_subnet.prefix), (255, 48));
 }

@@ -1,0 +1,142 @@
+-- Blocks put into a list one after the other.
+use Rattle.std.proofs.Common.{◌≡◌, ℕ, ◌+◌, ◌-◌, ◌^◌, ◌<◌, ◌≤◌, List, [], ◌∷◌, ◌++◌, length, drop, get_or, slice_set, ⊎_elim, refl, sym, subst, ap, ◌∙◌, arith, min, add-one, append_assoc, drop-cons}
+use Rattle.std.proofs.Math.Nat.{min-le_left, min-eq_left, min-eq_right, le-min}
+use Rattle.std.proofs.Math.Seq.{set-append_seam}
+use Rattle.std.proofs.lemmas.Bool.{cases_lt}
+use Rattle.std.proofs.lemmas.List.{length-map, length-append, length-set, map-append, append-nil}
+use Rattle.ipnetwork_family.specs.Network.{Network}
+use Rattle.ipnetwork_blocks.specs.LeastList.{IsLeastList}
+use Rattle.ipnetwork_blocks.proofs.LeastLists.{least_unique}
+use Rattle.ipnetwork_c.specs.Lists.{PutsBlocks}
+use Rattle.ipnetwork_c.specs.Lists.PutsBlocks.{Put, TooShort}
+use Rattle.ipnetwork_c.specs.Private.Writing.{HasBlocks, AddsBlocks}
+
+-- ---- blocks in the front of a list
+
+pub nothing_put : {C : Type 0} (held : C → Network) (list : List C) → HasBlocks held [] list list 0
+nothing_put held list = record {
+  counted = refl;
+  rows = refl;
+  front = λ room. record { front = []; blocks_are = refl; list = refl };
+}
+
+-- a number that is kept to the greatest one, and what is added
+kept_sum : (a b m : ℕ) → min (min a m + b) m ≡ min (a + b) m
+kept_sum a b m =
+    ⊎_elim
+    (λ (l : a < m). let le : a ≤ m = omega arith in ap (λ k. min (k + b) m) (min-eq_left le))
+    (λ (l : m ≤ a).
+    let over : m ≤ m + b = omega arith in
+    let more : m ≤ a + b = omega arith in
+    ap (λ k. min (k + b) m) (min-eq_right l) ∙ min-eq_right over ∙ sym (min-eq_right more))
+    (cases_lt a m)
+
+one_more : (blocks : List Network) (n : Network) → length (blocks ++ n ∷ []) ≡ length blocks + 1
+one_more blocks n = length-append blocks (n ∷ [])
+
+counts_on : (blocks : List Network) (n : Network) (count next : ℕ) → count ≡ min (length blocks) (2 ^ 128 - 1) → next ≡ min (count + 1) (2 ^ 128 - 1) → next ≡ min (length (blocks ++ n ∷ [])) (2 ^ 128 - 1)
+counts_on blocks n count next is told =
+    told ∙ ap (λ k. min (k + 1) (2 ^ 128 - 1)) is ∙ kept_sum (length blocks) 1 (2 ^ 128 - 1) ∙ ap (λ k. min k (2 ^ 128 - 1)) (sym (one_more blocks n))
+
+-- there is room for one block more
+pub block_put : {C : Type 0} (held : C → Network) (blocks : List Network) (before list : List C) (count next : ℕ) (c : C) (n : Network) → HasBlocks held blocks before list count → count < length list → length list < 2 ^ 64
+    → held c ≡ n → next ≡ min (count + 1) (2 ^ 128 - 1) → HasBlocks held (blocks ++ n ∷ []) before (slice_set list count c) next
+block_put {C} held blocks before list count next c n h room few is told =
+    let rows = h.rows in
+    let counted = h.counted in
+    let size : count ≡ length blocks =
+    ⊎_elim
+    (λ (l : length blocks < 2 ^ 128 - 1). let le : length blocks ≤ 2 ^ 128 - 1 = omega arith in counted ∙ min-eq_left le)
+    (λ (l : 2 ^ 128 - 1 ≤ length blocks). let e : count ≡ 2 ^ 128 - 1 = counted ∙ min-eq_right l in let r : count ≡ length blocks = absurd (omega arith) in r)
+    (cases_lt (length blocks) (2 ^ 128 - 1)) in
+    record {
+      counted = counts_on blocks n count next counted told;
+      rows = length-set list count c ∙ rows;
+      front = λ fits.
+          let more = one_more blocks n in
+          let f = h.front (omega arith) in
+          let xs : List C = f.front in
+          let long : length xs ≡ length blocks = sym (length-map xs held) ∙ ap length f.blocks_are in
+          let k : ℕ = length blocks in
+          let behind : List C = drop (k + 1) before in
+          let rest : drop k before ≡ get_or before k c ∷ behind = drop-cons before k c (omega arith) ∙ ap (λ j. get_or before k c ∷ drop j before) (sym (add-one k)) in
+          record {
+            front = xs ++ c ∷ [];
+            blocks_are = map-append held xs (c ∷ []) ∙ ap (λ ns. ns ++ held c ∷ []) f.blocks_are ∙ ap (λ m. blocks ++ m ∷ []) is;
+            list = ap (λ l. slice_set l count c) (f.list ∙ ap (λ r. xs ++ r) rest)
+                ∙ ap (λ j. slice_set (xs ++ get_or before k c ∷ behind) j c) (size ∙ sym long)
+                ∙ set-append_seam xs (get_or before k c) behind c
+                ∙ sym (append_assoc xs (c ∷ []) behind)
+                ∙ ap (λ j. (xs ++ c ∷ []) ++ drop j before) (sym (one_more blocks n));
+          };
+    }
+
+-- there is none
+pub block_counted : {C : Type 0} (held : C → Network) (blocks : List Network) (before list : List C) (count next : ℕ) (n : Network) → HasBlocks held blocks before list count → length list ≤ count
+    → next ≡ min (count + 1) (2 ^ 128 - 1) → HasBlocks held (blocks ++ n ∷ []) before list next
+block_counted held blocks before list count next n h full told =
+    let rows = h.rows in
+    let counted = h.counted in
+    let most = min-le_left (length blocks) (2 ^ 128 - 1) in
+    let more = one_more blocks n in
+    record {
+      counted = counts_on blocks n count next counted told;
+      rows = rows;
+      front = λ fits. absurd (omega arith);
+    }
+
+pub adds_none : {C : Type 0} (held : C → Network) (list : List C) (count : ℕ) → AddsBlocks held [] list list count count
+adds_none held list count blocks start h = subst (λ (l : List Network). HasBlocks held l start list count) (sym (append-nil blocks)) h
+
+pub adds_more : {C : Type 0} (held : C → Network) (put : List Network) (n : Network) (list middle after : List C) (begun count next : ℕ) → AddsBlocks held put list middle begun count → AddsBlocks held (n ∷ []) middle after count next
+    → AddsBlocks held (put ++ n ∷ []) list after begun next
+adds_more held put n list middle after begun count next h k blocks start has =
+    subst (λ (l : List Network). HasBlocks held l start after next) (append_assoc blocks put (n ∷ [])) (k (blocks ++ put) start (h blocks start has))
+
+pub still_all : (put before left all : List Network) (n : Network) → put ++ before ≡ all → before ≡ n ∷ left → (put ++ n ∷ []) ++ left ≡ all
+still_all put before left all n is step = append_assoc put (n ∷ []) left ∙ ap (λ l. put ++ l) (sym step) ∙ is
+
+pub all_added : {C : Type 0} (held : C → Network) (put left all : List Network) (list after : List C) (begun count : ℕ) → put ++ left ≡ all → left ≡ [] → AddsBlocks held put list after begun count → AddsBlocks held all list after begun count
+all_added held put left all list after begun count is none h blocks start has =
+    subst (λ (l : List Network). HasBlocks held (blocks ++ l) start after count) (sym (append-nil put) ∙ ap (λ l. put ++ l) (sym none) ∙ is) (h blocks start has)
+
+-- of nothing put before
+pub added_first : {C : Type 0} (held : C → Network) (blocks : List Network) (list after : List C) (count : ℕ) → AddsBlocks held blocks list after 0 count → HasBlocks held blocks list after count
+added_first held blocks list after count h = h [] list (nothing_put held list)
+
+-- ---- what the caller is told
+
+kept_is : (n kept m : ℕ) → kept ≡ min n m → kept < m → kept ≡ n
+kept_is n kept m is below =
+    ⊎_elim
+    (λ (l : n < m). let le : n ≤ m = omega arith in is ∙ min-eq_left le)
+    (λ (l : m ≤ n). let e : kept ≡ m = is ∙ min-eq_right l in let r : kept ≡ n = absurd (omega arith) in r)
+    (cases_lt n m)
+
+twice_kept : (n wanted told : ℕ) → wanted ≡ min n (2 ^ 128 - 1) → told ≡ min wanted (2 ^ 64 - 1) → told ≡ min n (2 ^ 64 - 1)
+twice_kept n wanted told is told_is =
+    ⊎_elim
+    (λ (l : n < 2 ^ 64 - 1). let le : n ≤ 2 ^ 128 - 1 = omega arith in told_is ∙ ap (λ k. min k (2 ^ 64 - 1)) (is ∙ min-eq_left le))
+    (λ (l : 2 ^ 64 - 1 ≤ n).
+    let room : 2 ^ 64 - 1 ≤ 2 ^ 128 - 1 = omega arith in
+    let over : 2 ^ 64 - 1 ≤ wanted = subst (λ (k : ℕ). 2 ^ 64 - 1 ≤ k) (sym is) (le-min l room) in
+    told_is ∙ min-eq_right over ∙ sym (min-eq_right l))
+    (cases_lt n (2 ^ 64 - 1))
+
+-- there are more than the list has room for
+pub too_many : {C : Type 0} (w : ℕ) (held : C → Network) (S : ℕ → Type 0) (before : List C) (blocks : List Network) (wanted told : ℕ) → IsLeastList w S blocks → wanted ≡ min (length blocks) (2 ^ 128 - 1)
+    → length before < wanted → told ≡ min wanted (2 ^ 64 - 1) → PutsBlocks w held S before before told 4
+too_many w held S before blocks wanted told least is more told_is =
+    let most = min-le_left (length blocks) (2 ^ 128 - 1) in
+    TooShort blocks least (omega (arith, is, more, most)) refl (twice_kept (length blocks) wanted told is told_is) refl
+
+-- there is room for them, and they are put there
+pub all_put : {C : Type 0} (w : ℕ) (held : C → Network) (S : ℕ → Type 0) (before after : List C) (counted blocks : List Network) (wanted told again : ℕ) → IsLeastList w S counted → wanted ≡ min (length counted) (2 ^ 128 - 1)
+    → wanted ≤ length before → length before < 2 ^ 64 → told ≡ min wanted (2 ^ 64 - 1) → IsLeastList w S blocks → HasBlocks held blocks before after again → PutsBlocks w held S before after told 0
+all_put w held S before after counted blocks wanted told again least is room few told_is once has =
+    let same : counted ≡ blocks = least_unique w S counted blocks least once in
+    let long : length counted ≡ length blocks = ap length same in
+    let exact : wanted ≡ length counted = kept_is (length counted) wanted (2 ^ 128 - 1) is (omega (arith, room, few)) in
+    let small : wanted ≤ 2 ^ 64 - 1 = omega (arith, room, few) in
+    let fits : length blocks ≤ length before = omega (arith, exact, long, room) in
+    Put blocks once fits refl (told_is ∙ min-eq_left small ∙ exact ∙ long) (has.front fits)

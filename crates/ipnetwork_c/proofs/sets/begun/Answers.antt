@@ -1,0 +1,47 @@
+use Rattle.std.proofs.Common.{◌+◌, ◌-◌, ◌/◌, ◌<◌, ℕ, List, map, arith}
+use Rattle.std.proofs.lemmas.Bool.{iff_false}
+use Rattle.std.proofs.lemmas.List.{length-map}
+use Rattle.ipnetwork_family.specs.Network.{Network}
+use Rattle.ipnetwork_sets.proofs.Lists.{read_pair, not_below}
+use Rattle.ipnetwork_sets.proofs.Searched.{split_behind, split_before}
+use Rattle.ipnetwork_c.proofs.Searching.{search_starts, split_met}
+use Rattle.ipnetwork_c.proofs.sets.begun.Goals as goal
+
+pub loop-from-init : goal.loop-from-init
+loop-from-init g c = record { ordered = omega arith; within = omega arith; split = λ up. search_starts g.H.HoldsNetwork.held c.args.list.now (g.N.CidrNetwork.number c.args.addr) }
+
+pub loop-from-preserved-then-begins_up_to : goal.loop-from-preserved-then-begins_up_to
+loop-from-preserved-then-begins_up_to g c =
+    let ns : List Network = map g.H.HoldsNetwork.held c.args.list.now in
+    let size = length-map c.args.list.now g.H.HoldsNetwork.held in
+    let within = c.loop-from.invariant.within in
+    let middle : ℕ = c.loop-from.from + (c.loop-from.to - c.loop-from.from) / 2 in
+    let b : Network = g.H.HoldsNetwork.held c.index-list-middle.result in
+    let below : middle < c.loop-from.to = omega arith in
+    let is = read_pair g.H.HoldsNetwork.held c.args.list.now middle c.index-list-middle.result (omega arith) c.index-list-middle.is in
+    record {
+      ordered = omega arith;
+      within = within;
+      split = λ up. split_behind ns (g.N.CidrNetwork.number c.args.addr) c.loop-from.from c.loop-from.to middle b up (c.loop-from.invariant.split up) below is
+          (c.begins_up_to.ensures.0 c.if-begins_up_to.true);
+    }
+
+pub loop-from-preserved : goal.loop-from-preserved
+loop-from-preserved g c =
+    let ns : List Network = map g.H.HoldsNetwork.held c.args.list.now in
+    let size = length-map c.args.list.now g.H.HoldsNetwork.held in
+    let within = c.loop-from.invariant.within in
+    let middle : ℕ = c.loop-from.from + (c.loop-from.to - c.loop-from.from) / 2 in
+    let b : Network = g.H.HoldsNetwork.held c.index-list-middle.result in
+    let below : middle < c.loop-from.to = omega arith in
+    let is = read_pair g.H.HoldsNetwork.held c.args.list.now middle c.index-list-middle.result (omega arith) c.index-list-middle.is in
+    record {
+      ordered = omega arith;
+      within = omega arith;
+      split = λ up. split_before ns (g.N.CidrNetwork.number c.args.addr) c.loop-from.from c.loop-from.to middle b up (c.loop-from.invariant.split up) (omega arith) below is
+          (not_below b.address (g.N.CidrNetwork.number c.args.addr) (iff_false c.begins_up_to.ensures c.if-begins_up_to.false));
+    }
+
+pub returns-clause-split : goal.returns-clause-split
+returns-clause-split g c = λ up.
+    split_met (map g.H.HoldsNetwork.held c.args.list.now) (g.N.CidrNetwork.number c.args.addr) c.loop-from.from c.loop-from.to (c.loop-from.invariant.split up) c.loop-from-test.false

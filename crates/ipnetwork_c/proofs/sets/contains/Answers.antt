@@ -1,0 +1,33 @@
+use Rattle.std.proofs.Common.{◌-◌, ℕ, List, map, length, sym, subst, arith}
+use Rattle.std.specs.List.{AllPairs}
+use Rattle.std.proofs.lemmas.Bool.{iff_false}
+use Rattle.std.proofs.lemmas.List.{length-map}
+use Rattle.ipnetwork_family.specs.Network.{Network}
+use Rattle.ipnetwork_blocks.proofs.AggregateMapped.{read_map}
+use Rattle.ipnetwork_c.specs.Private.Sets.{SplitsAt}
+use Rattle.ipnetwork_c.proofs.Searching.{finds_none, finds_last}
+use Rattle.ipnetwork_c.proofs.sets.contains.Goals as goal
+
+pub returns-then-count-eq0 : goal.returns-then-count-eq0
+returns-then-count-eq0 g c =
+    let ns : List Network = map g.H.HoldsNetwork.held c.args.list.now in
+    let x : ℕ = g.N.CidrNetwork.number c.args.addr in
+    finds_none g.N.CidrNetwork.WIDTH ns x c.one_block.ensures.one
+    (λ up. subst (λ (i : ℕ). SplitsAt ns x i) c.if-count-eq0.true (c.begun-count.ensures.split up))
+
+pub returns-then-not-fits : goal.returns-then-not-fits
+returns-then-not-fits g c = λ all.
+    iff_false c.fits.ensures c.if-not-fits.true
+    (subst g.H.HoldsNetwork.holds (sym c.index-list-count.is) (all (c.begun-count.result - 1) c.index-list-count.result (omega (arith, c.begun-count.ensures.within))))
+
+pub returns : goal.returns
+returns g c =
+    let w : ℕ = g.N.CidrNetwork.WIDTH in
+    let ns : List Network = map g.H.HoldsNetwork.held c.args.list.now in
+    let x : ℕ = g.N.CidrNetwork.number c.args.addr in
+    let size = length-map c.args.list.now g.H.HoldsNetwork.held in
+    let within = c.begun-count.ensures.within in
+    let last : Network = g.H.HoldsNetwork.held c.index-list-count.result in
+    let is = read_map g.H.HoldsNetwork.held c.args.list.now (c.begun-count.result - 1) c.index-list-count.result (omega arith) c.index-list-count.is in
+    finds_last w ns x c.begun-count.result last c.contains.result c.from.result c.one_block.ensures.one c.begun-count.ensures.split (omega arith) (omega arith) is
+    (rw c.held_network.ensures at c.contains.ensures) c.from.ensures

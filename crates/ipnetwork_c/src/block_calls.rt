@@ -1,0 +1,114 @@
+//! The blocks of a range of addresses, and the blocks within a network by their number.
+ghost use Rattle.std.specs.Prelude.{◌≡◌};
+ghost use Rattle.ipnetwork_c.specs.Blocks.{RangeOperation, WritesSubnet};
+ghost use Rattle.ipnetwork_c.specs.Held.{v4_in, v6_in, HoldsV4, HoldsV6, number_of_octets};
+
+use crate::fault::{NO_MEMBER, NO_RANGE, OK, PREFIX, SHORT_BUFFER};
+use crate::structs::{Ipv4InC, Ipv6InC, address_of, number_of};
+use crate::writing::{put_blocks, to_usize};
+use ipnetwork::{Ipv4Addr, Ipv4Network, Ipv6Network};
+use ipnetwork_blocks::{AddressSpace, HoldsNetwork, range_to_blocks, subnet_at};
+
+// Puts the blocks of a range in the front of `blocks`, and their number in `count`.
+fn range<N: AddressSpace, H: HoldsNetwork<N>>(
+    first: N::Addr,
+    last: N::Addr,
+    blocks: &mut [H],
+    count: &mut usize,
+) -> u32
+    ensures { RangeOperation N.WIDTH H.held (N.number first) (N.number last) blocks.old blocks.new count.old count.new result }
+{
+    let Some(counted) = range_to_blocks::<N>(first, last) else {
+        return NO_RANGE;
+    };
+    let wanted = put_blocks::<N, H>(counted, &mut [], 0);
+    *count = to_usize(wanted);
+    if wanted > blocks.len() as u128 {
+        return SHORT_BUFFER;
+    }
+    let Some(range) = range_to_blocks::<N>(first, last) else {
+        unreachable!()
+    };
+    put_blocks::<N, H>(range, blocks, 0);
+    OK
+}
+
+/// Writes the blocks whose addresses are those from the first to the last, both included, to the front of `blocks`: the
+/// fewest that there are, in ascending order, and at most 62. `count` is their number. `SHORT_BUFFER` if there is no room
+/// for them, and then only `count` is written. `NO_RANGE` if the first comes after the last.
+#[unsafe(no_mangle)]
+pub extern "C" fn ipnetwork_v4_range_to_blocks(
+    first: &[u8; 4],
+    last: &[u8; 4],
+    blocks: &mut [Ipv4InC],
+    count: &mut usize,
+) -> u32
+    ensures { RangeOperation 32 v4_in (number_of_octets first.now) (number_of_octets last.now) blocks.old blocks.new count.old count.new result }
+{
+    range::<Ipv4Network, Ipv4InC>(Ipv4Addr::from(*first), Ipv4Addr::from(*last), blocks, count)
+}
+
+/// The same of IPv6, with at most 254 blocks.
+#[unsafe(no_mangle)]
+pub extern "C" fn ipnetwork_v6_range_to_blocks(
+    first: &[u8; 16],
+    last: &[u8; 16],
+    blocks: &mut [Ipv6InC],
+    count: &mut usize,
+) -> u32
+    ensures { RangeOperation 128 v6_in (number_of_octets first.now) (number_of_octets last.now) blocks.old blocks.new count.old count.new result }
+{
+    range::<Ipv6Network, Ipv6InC>(address_of(first), address_of(last), blocks, count)
+}
+
+/// The block number `number` of this prefix length within the network, counted from 0 in ascending order. `PREFIX` if the
+/// network's prefix length is greater than 32, or if this one is, or is less than the network's; `NO_MEMBER` if the
+/// network has no more than `number` such blocks.
+#[unsafe(no_mangle)]
+pub extern "C" fn ipnetwork_v4_subnet_at(
+    network: &Ipv4InC,
+    prefix: u8,
+    number: u32,
+    subnet: &mut Ipv4InC,
+) -> u32
+    ensures { WritesSubnet 32 HoldsV4 (v4_in network.now) prefix number subnet.old subnet.new result }
+{
+    let Some(network) = network.network() else {
+        return PREFIX;
+    };
+    if prefix < network.prefix() || prefix > 32 {
+        return PREFIX;
+    }
+    match subnet_at(network, prefix, u128::from(number)) {
+        Some(block) => {
+            *subnet = Ipv4InC::of(&block);
+            OK
+        }
+        None => NO_MEMBER,
+    }
+}
+
+/// The same of IPv6, for prefix lengths up to 128. The number is 16 octets, the highest first.
+#[unsafe(no_mangle)]
+pub extern "C" fn ipnetwork_v6_subnet_at(
+    network: &Ipv6InC,
+    prefix: u8,
+    number: &[u8; 16],
+    subnet: &mut Ipv6InC,
+) -> u32
+    ensures { WritesSubnet 128 HoldsV6 (v6_in network.now) prefix (number_of_octets number.now) subnet.old subnet.new result }
+{
+    let Some(network) = network.network() else {
+        return PREFIX;
+    };
+    if prefix < network.prefix() || prefix > 128 {
+        return PREFIX;
+    }
+    match subnet_at(network, prefix, number_of(number)) {
+        Some(block) => {
+            *subnet = Ipv6InC::of(&block);
+            OK
+        }
+        None => NO_MEMBER,
+    }
+}

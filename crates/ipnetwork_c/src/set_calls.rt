@@ -1,0 +1,46 @@
+//! Lists that are those of sets, as `ipnetwork_v4_aggregate` leaves them in the caller's memory, asked for an address.
+ghost use Rattle.ipnetwork_c.specs.Held.{v4_in, v6_in, number_of_octets};
+ghost use Rattle.ipnetwork_c.specs.Lists.{SetQuery};
+
+use crate::fault::{OK, PREFIX};
+use crate::sets;
+use crate::structs::{Ipv4InC, Ipv6InC, address_of};
+use ipnetwork::{Ipv4Addr, Ipv4Network, Ipv6Network};
+
+/// Whether an address lies in the set of a list that is that of a set, as `ipnetwork_v4_aggregate` leaves it: 1 or 0, by
+/// one binary search. Of another list 1 is right too, and 0 says nothing. `PREFIX` if the search ends at a struct whose
+/// prefix length is greater than 32, which that of no set's is.
+#[unsafe(no_mangle)]
+pub extern "C" fn ipnetwork_v4_set_contains(
+    blocks: &[Ipv4InC],
+    address: &[u8; 4],
+    answer: &mut u8,
+) -> u32
+    ensures { SetQuery 32 v4_in blocks.now (number_of_octets address.now) answer.old answer.new result }
+{
+    match sets::contains::<Ipv4Network, Ipv4InC>(blocks, Ipv4Addr::from(*address)) {
+        Some(found) => {
+            *answer = found;
+            OK
+        }
+        None => PREFIX,
+    }
+}
+
+/// The same of IPv6, for prefix lengths up to 128.
+#[unsafe(no_mangle)]
+pub extern "C" fn ipnetwork_v6_set_contains(
+    blocks: &[Ipv6InC],
+    address: &[u8; 16],
+    answer: &mut u8,
+) -> u32
+    ensures { SetQuery 128 v6_in blocks.now (number_of_octets address.now) answer.old answer.new result }
+{
+    match sets::contains::<Ipv6Network, Ipv6InC>(blocks, address_of(address)) {
+        Some(found) => {
+            *answer = found;
+            OK
+        }
+        None => PREFIX,
+    }
+}
