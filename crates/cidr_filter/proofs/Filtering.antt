@@ -24,7 +24,7 @@ use Rattle.cidr_filter.proofs.LogParts.{both}
 
 -- ---- stands
 
-counts_more : (old mid new first second : ℕ) → Counts old mid first → Counts mid new second → Counts old new (first + second)
+pub counts_more : (old mid new first second : ℕ) → Counts old mid first → Counts mid new second → Counts old new (first + second)
 counts_more old mid new first second f g within =
     let one = f within in
     let two = g (omega (arith, one)) in
@@ -121,11 +121,7 @@ module _ (filter : Filter) (counts : Bool) where
 
   -- ---- the last line
 
-  pub rest_of_none : (old : Stand) (bytes : List ℕ) → (length bytes == 0) ≡ true → FiltersRest filter counts bytes old old
-  rest_of_none old bytes none =
-      subst (λ (b : List ℕ). FiltersRest filter counts b old old) (sym (nil_from_length bytes (eqb-true (length bytes) 0 none))) ([], 0, goes_nowhere old, (refl, refl))
-
-  pub rest_of_line : (old mid new : Stand) (bytes : List ℕ) → HasNo 10 bytes → (length bytes == 0) ≡ false → FiltersLine filter counts bytes bytes old mid
+  rest_of_line : (old mid new : Stand) (bytes : List ℕ) → HasNo 10 bytes → (length bytes == 0) ≡ false → FiltersLine filter counts bytes bytes old mid
       → new.selected ≡ mid.selected → new.lines ≡ mid.lines → new.waits ≡ [] → Appends mid.holds new.holds mid.waits → FiltersRest filter counts bytes old new
   rest_of_line old mid new bytes none some f same lines empty h =
       let added = output_of filter counts f.0 (unended bytes) in
@@ -136,6 +132,18 @@ module _ (filter : Filter) (counts : Bool) where
         subst (λ (n : ℕ). Goes old new (added ++ []) (count + 0) n) (sym (ap length one)) (goes_on old mid new added [] count 0 1 0 f.3 (goes_out mid new same lines empty h)),
         subst (λ (ls : List LogLine). Filters filter counts ls (added ++ []) (count + 0)) (sym one) (f.0, [], 0, f.1, f.2, (refl, refl), refl, refl),
       )
+
+  -- what waited is handed on, behind no line or the last one
+  pub rest_handed : {T E : Type 0} (result : Result T E) (old new : Stand) (bytes : List ℕ) → (length bytes == 0) ≡ true → new.selected ≡ old.selected → new.lines ≡ old.lines
+      → OnOk result (new.waits ≡ []) → OnOk result (Appends old.holds new.holds old.waits) → OnOk result (FiltersRest filter counts bytes old new)
+  rest_handed (Ok x) old new bytes none same lines empty h =
+      subst (λ (b : List ℕ). FiltersRest filter counts b old new) (sym (nil_from_length bytes (eqb-true (length bytes) 0 none))) ([], 0, goes_out old new same lines empty h, (refl, refl))
+  rest_handed (Err e) old new bytes none same lines empty h = tt
+
+  pub line_handed : {T E : Type 0} (result : Result T E) (old mid new : Stand) (bytes : List ℕ) → HasNo 10 bytes → (length bytes == 0) ≡ false → FiltersLine filter counts bytes bytes old mid
+      → new.selected ≡ mid.selected → new.lines ≡ mid.lines → OnOk result (new.waits ≡ []) → OnOk result (Appends mid.holds new.holds mid.waits) → OnOk result (FiltersRest filter counts bytes old new)
+  line_handed (Ok x) old mid new bytes none some f same lines empty h = rest_of_line old mid new bytes none some f same lines empty h
+  line_handed (Err e) old mid new bytes none some f same lines empty h = tt
 
   -- ---- what is held of what is left
 

@@ -1,6 +1,6 @@
 -- How the filtering of a log ends before its end.
 use Rattle.std.proofs.Common.{◌≡◌, ℕ, ◌+◌, ◌-◌, ◌^◌, ◌<◌, ◌≤◌, ◌==◌, ◌||◌, Bool, true, false, not, List, [], ◌∷◌, ◌++◌, length, length-drop, inl, inr, ◌⊎◌, take, drop, refl, sym, ap, ◌∙◌, subst, arith, append_assoc, append-nil, length-append, true≢false}
-use Rattle.std.specs.Prelude.{Option, None, Some, Result, Ok, Err, OnErr, IfErr, IsTrue}
+use Rattle.std.specs.Prelude.{Option, None, Some, Result, Ok, Err, OnErr, IfErr, IsOkUnless, IsTrue}
 use Rattle.std.specs.Io.KnownBytes.{Consumes, Keeps, IsAtEnd}
 use Rattle.std.proofs.KnownBytes.{Consumes-trans}
 use Rattle.byte_search.specs.Bytes.{IsAbsent}
@@ -12,7 +12,7 @@ use Rattle.line_engine.proofs.BytesLemmas.{HasNo, none_behind}
 use Rattle.cidr_filter.specs.Filters.{Judges, is_dropped, is_refused, is_selected, is_stopped, one_if, output_of}
 use Rattle.cidr_filter.specs.Lines.{LogLine, log_lines, ended_lines, content}
 use Rattle.cidr_filter.specs.Stands.{Stand, Goes}
-use Rattle.cidr_filter.specs.Stops.{FiltersEnded, WritesBeginning, EndsAtLine, Stops}
+use Rattle.cidr_filter.specs.Stops.{FiltersEnded, WritesBeginning, EndsAtLine, Stops, ended_by_write}
 use Rattle.cidr_filter.specs.Private.Judging.{fault_of}
 use Rattle.cidr_filter.specs.Private.Progress.{FiltersLine, RefusesLine, LineStops, Alike, Advances, RefusesIn, WritesIn, StopsIn, ReadsBehind}
 use Rattle.cidr_filter.specs.declared.filter.Bad.{Bad}
@@ -23,7 +23,7 @@ use Rattle.cidr_filter.specs.declared.filter.Verdict.TheVariants as verdicts
 use Rattle.cidr_filter.specs.declared.log.LogFault.{LogFault}
 use Rattle.cidr_filter.specs.declared.log.LogFault.TheVariants as faults
 use Rattle.cidr_filter.proofs.Alike.{alike_refl, alike_trans, alike_behind, alike_exact, alike_length, filters_alike, splits, ended_alike}
-use Rattle.cidr_filter.proofs.Filtering.{goes_nowhere, goes_on, lines_of, behind, advances_on}
+use Rattle.cidr_filter.proofs.Filtering.{goes_nowhere, goes_on, lines_of, behind, advances_nowhere, advances_on}
 use Rattle.cidr_filter.proofs.LogLines.{unended, lines_last, rest_unended}
 use Rattle.cidr_filter.proofs.LogParts.{both}
 
@@ -100,6 +100,7 @@ module _ (filter : Filter) (counts : Bool) where
 
   pub line_stops : (ends : Type 0) (failed : Bool) (old new : Stand) (line : LogLine) (others : List LogLine) (stripped bytes : List ℕ) (fault : LogFault) → log_lines bytes ≡ line ∷ others
       → (line.is_ended ≡ true) ⊎ ends → stripped ≡ content line → LineStops filter counts line.bytes stripped failed old new fault → StopsIn filter counts ends bytes failed old new fault
+  line_stops ends failed old new line others stripped bytes faults.Open e is_line strips s = absurd s
   line_stops ends failed old new line others stripped bytes faults.Read e is_line strips s = absurd s
   line_stops ends failed old new line others stripped bytes faults.Endless e is_line strips s = absurd s
   line_stops ends failed old new line others stripped bytes faults.Address e is_line strips s =
@@ -159,6 +160,7 @@ module _ (filter : Filter) (counts : Bool) where
 
   pub stops_behind : (ends : Type 0) (failed : Bool) (old mid new : Stand) (bytes left : List ℕ) (fault : LogFault) → Advances filter counts old mid bytes left
       → StopsIn filter counts ends left failed mid new fault → StopsIn filter counts ends bytes failed old new fault
+  stops_behind ends failed old mid new bytes left faults.Open p s = absurd s
   stops_behind ends failed old mid new bytes left faults.Read p s = absurd s
   stops_behind ends failed old mid new bytes left faults.Endless p s = absurd s
   stops_behind ends failed old mid new bytes left faults.Write p s = (s.0, writes_behind old mid new bytes left p s.1)
@@ -193,6 +195,32 @@ module _ (filter : Filter) (counts : Bool) where
         beginning = begins_after_puts old.holds mid.holds new.holds old.waits mid.waits added [] f.3.0
             (subst (λ (t : List ℕ). AppendsBeginning mid.holds new.holds t) (sym (append-nil mid.waits)) b);
       }
+
+  -- a write of what waits
+  pub hand_stops : {T : Type 0} (result : Result T LogFault) (ends : Type 0) (bytes : List ℕ) (old new : Stand) (was failed : Bool) → IsOkUnless result faults.Write
+      → failed ≡ (was || ended_by_write result) → OnErr result (WritesIn filter counts old new bytes) → IfErr result (StopsIn filter counts ends bytes failed old new)
+  hand_stops (Ok x) ends bytes old new was failed is e w = tt
+  hand_stops (Err faults.Open) ends bytes old new was failed is e w = absurd (cc)
+  hand_stops (Err faults.Read) ends bytes old new was failed is e w = absurd (cc)
+  hand_stops (Err faults.Write) ends bytes old new was failed is e w = (failed_now failed was e, w)
+  hand_stops (Err faults.Address) ends bytes old new was failed is e w = absurd (cc)
+  hand_stops (Err faults.Length) ends bytes old new was failed is e w = absurd (cc)
+  hand_stops (Err faults.Endless) ends bytes old new was failed is e w = absurd (cc)
+
+  pub hand_fault : (ends : Type 0) (fault : LogFault) (bytes : List ℕ) (old new : Stand) (was failed : Bool) → fault ≡ faults.Write
+      → failed ≡ (was || ended_by_write {T = Unit {0}} (Err fault)) → WritesIn filter counts old new bytes → StopsIn filter counts ends bytes failed old new fault
+  hand_fault ends fault bytes old new was failed is e w = hand_stops {T = Unit {0}} (Err fault) ends bytes old new was failed is e w
+
+  -- a writer that failed to take what waits behind no line, or behind the last one
+  pub none_writes : {T E : Type 0} (result : Result T E) (old new : Stand) (bytes : List ℕ) → OnErr result (AppendsBeginning old.holds new.holds old.waits)
+      → OnErr result (WritesIn filter counts old new bytes)
+  none_writes (Ok x) old new bytes b = tt
+  none_writes (Err e) old new bytes b = hands_nothing old old new bytes bytes (advances_nowhere filter counts old bytes) b
+
+  pub line_writes : {T E : Type 0} (result : Result T E) (old mid new : Stand) (bytes : List ℕ) → HasNo 10 bytes → (length bytes == 0) ≡ false → FiltersLine filter counts bytes bytes old mid
+      → OnErr result (AppendsBeginning mid.holds new.holds mid.waits) → OnErr result (WritesIn filter counts old new bytes)
+  line_writes (Ok x) old mid new bytes none some f b = tt
+  line_writes (Err e) old mid new bytes none some f b = hands_no_line old mid new bytes none some f b
 
   -- ---- the log
 
@@ -232,6 +260,7 @@ module _ (filter : Filter) (counts : Bool) where
 
     stops_log : (ends : Type 0) (read_failed write_failed : Bool) (read : List ℕ) (fault : LogFault) → Consumes remained remains read → (ends → IsAtEnd remains)
         → StopsIn filter counts ends read write_failed old new fault → Stops filter counts remained remains read_failed write_failed old new fault
+    stops_log ends read_failed write_failed read faults.Open took at_end s = absurd s
     stops_log ends read_failed write_failed read faults.Read took at_end s = absurd s
     stops_log ends read_failed write_failed read faults.Endless took at_end s = absurd s
     stops_log ends read_failed write_failed read faults.Write took at_end s = (s.0, writes_log read took s.1)

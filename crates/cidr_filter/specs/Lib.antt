@@ -5,7 +5,11 @@ pub mod Filters
 pub mod Laws
 pub mod Lines
 pub mod Listed
+pub mod Logs
 pub mod Options
 pub mod Private
+pub mod Reading
+pub mod Runs
 pub mod Stands
 pub mod Stops
+pub mod Told

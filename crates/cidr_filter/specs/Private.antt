@@ -1,4 +1,6 @@
 -- What the private functions promise each other.
 pub mod Judging
 pub mod Progress
+pub mod Reading
 pub mod Requests
+pub mod Runs

@@ -1,5 +1,5 @@
 -- How the filtering of a log ends.
-use Rattle.std.specs.Prelude.{◌≡◌, ℕ, ◌-◌, ◌^◌, ◌<◌, ◌⊎◌, Bool, true, IsTrue, List, ◌∷◌, ◌++◌, length, Option}
+use Rattle.std.specs.Prelude.{◌≡◌, ℕ, ◌-◌, ◌^◌, ◌<◌, ◌⊎◌, Bool, true, false, IsTrue, List, ◌∷◌, ◌++◌, length, Option, Result, Ok, Err}
 use Rattle.std.specs.Io.KnownBytes.{Consumes, IsAtEnd}
 use Rattle.line_engine.specs.Outputs.{AppendsBeginning}
 use Rattle.cidr_filter.specs.Filters.{Judges, is_refused, Filters}
@@ -9,7 +9,7 @@ use Rattle.cidr_filter.specs.declared.filter.Filter.{Filter}
 use Rattle.cidr_filter.specs.declared.filter.Verdict.{Verdict}
 use Rattle.cidr_filter.specs.declared.filter.Verdict.TheVariants as verdicts
 use Rattle.cidr_filter.specs.declared.log.LogFault.{LogFault}
-use Rattle.cidr_filter.specs.declared.log.LogFault.TheVariants.{Read, Write, Address, Length, Endless}
+use Rattle.cidr_filter.specs.declared.log.LogFault.TheVariants.{Open, Read, Write, Address, Length, Endless}
 
 -- what was read was filtered to its end
 pub record Ends (filter : Filter) (counts : Bool) (remained remains : Option (List ℕ)) (old new : Stand) : Type 0 where
@@ -62,6 +62,8 @@ pub record EndsAtLine (filter : Filter) (counts : Bool) (remained remains : Opti
 
 -- what holds if a log is not filtered to its end, by the fault
 abbrev pub Stops : Filter → Bool → Option (List ℕ) → Option (List ℕ) → Bool → Bool → Stand → Stand → LogFault → Type 0
+-- it was opened
+Stops filter counts remained remains read_failed write_failed old new Open = ⊥
 -- a read failed, and what was read before was filtered
 Stops filter counts remained remains read_failed write_failed old new Read = IsTrue read_failed × (read : List ℕ) × Consumes remained remains read × FiltersEnded filter counts old new read
 -- a write failed
@@ -73,3 +75,23 @@ Stops filter counts remained remains read_failed write_failed old new Length = E
 -- more bytes were read than 64 bits count; all but the last of them were filtered
 Stops filter counts remained remains read_failed write_failed old new Endless =
     (read : List ℕ) × (last : List ℕ) × Consumes remained remains (read ++ last) × (2 ^ 64 - 1 < length (read ++ last)) × FiltersEnded filter counts old new read
+
+-- whether a read ended the filtering
+abbrev pub ended_by_read : {T : Type 0} → Result T LogFault → Bool
+ended_by_read (Ok done) = false
+ended_by_read (Err Open) = false
+ended_by_read (Err Read) = true
+ended_by_read (Err Write) = false
+ended_by_read (Err Address) = false
+ended_by_read (Err Length) = false
+ended_by_read (Err Endless) = false
+
+-- whether a write did
+abbrev pub ended_by_write : {T : Type 0} → Result T LogFault → Bool
+ended_by_write (Ok done) = false
+ended_by_write (Err Open) = false
+ended_by_write (Err Read) = false
+ended_by_write (Err Write) = true
+ended_by_write (Err Address) = false
+ended_by_write (Err Length) = false
+ended_by_write (Err Endless) = false

@@ -6,7 +6,7 @@ ghost use Rattle.cidr_filter.specs.Options.{option_of, behind_option, is_list, i
 ghost use Rattle.cidr_filter.specs.Private.Requests.{IfFilter};
 
 use crate::filter::Bad;
-use crate::options::{Choice, behind, choice_at, is};
+use crate::options::{Choice, behind, choice_at, is, is_list};
 
 /// What a run is asked for. Its options are the words before `files`, and the FILEs those from there on.
 #[derive(Clone, Copy, Debug, PartialEq, Eq)]
@@ -135,16 +135,6 @@ fn with_choice(request: Request, choice: Choice) -> Request
             ..request
         },
         Choice::File | Choice::Input | Choice::Text => request,
-    }
-}
-
-// Whether an option names a list, or is one.
-fn is_list(choice: Choice) -> bool
-    ensures { result ≡ is_list choice }
-{
-    match choice {
-        Choice::File | Choice::Input | Choice::Text => true,
-        _ => false,
     }
 }
 

@@ -1,13 +1,13 @@
 //! The lines of a log are filtered.
-ghost use Rattle.std.specs.Prelude.{◌≡◌, ◌<◌, ◌≤◌, ◌++◌, ◌∷◌, ◌-◌, [], if◌then◌else◌, length, take, drop, false, IsTrue, OnOk, OnErr, IfOk, IfErr, IsOkUnless};
+ghost use Rattle.std.specs.Prelude.{◌≡◌, ◌||◌, ◌<◌, ◌≤◌, ◌++◌, ◌∷◌, ◌-◌, [], if◌then◌else◌, length, take, drop, false, IsTrue, OnOk, OnErr, IfOk, IfErr, IsOkUnless, Err, is_err};
 ghost use Rattle.std.specs.Str.Lines.{strip_carriage_return};
 ghost use Rattle.byte_search.specs.Bytes.{IsAbsent};
-ghost use Rattle.std.specs.Io.KnownBytes.{Keeps};
+ghost use Rattle.std.specs.Io.KnownBytes.{Keeps, Appends};
 ghost use Rattle.line_engine.specs.Outputs.{writer_of, output_failed, waits_in, AppendsBeginning};
 ghost use Rattle.line_engine.specs.Watched.{device_of, has_failed};
 ghost use Rattle.cidr_filter.specs.Filters.{is_dropped, mark_of};
 ghost use Rattle.cidr_filter.specs.Stands.{stand, Goes};
-ghost use Rattle.cidr_filter.specs.Stops.{Ends, Stops};
+ghost use Rattle.cidr_filter.specs.Stops.{Ends, Stops, ended_by_read, ended_by_write};
 ghost use Rattle.cidr_filter.specs.Private.Judging.{fault_of};
 ghost use Rattle.cidr_filter.specs.Private.Progress.{FiltersLine, FiltersRest, LineStops, Advances, StopsIn, ReadsBehind, IsHeld};
 
@@ -21,6 +21,8 @@ use std::io::{Read, Write};
 /// Why a log is not filtered to its end.
 #[derive(Clone, Copy, Debug, PartialEq, Eq)]
 pub enum LogFault {
+    /// The log cannot be opened.
+    Open,
     /// A read failed.
     Read,
     /// A write failed.
@@ -43,6 +45,9 @@ pub struct Tally {
 }
 
 /// Filters the lines of a log: those that are selected are written, or, if `counts`, only counted.
+///
+/// What is selected of the lines that a read completes is written before the next read. After a failed read nothing is
+/// written.
 pub fn filter_log<R: Read, W: Write>(
     filter: &Filter,
     counts: bool,
@@ -59,6 +64,12 @@ pub fn filter_log<R: Read, W: Write>(
         (has_failed reader.new) (output_failed output.new)
         (stand (W.contents (writer_of output.old)) (waits_in output.old) tally.old)
         (stand (W.contents (writer_of output.new)) (waits_in output.new) tally.new)) }
+    // A device has failed exactly if it had failed before, or its failure ended the log. So none writes after a read that
+    // failed.
+    ensures reader_failed { has_failed reader.new ≡ (has_failed reader.old || ended_by_read result) }
+    ensures writer_failed { output_failed output.new ≡ (output_failed output.old || ended_by_write result) }
+    ensures written { OnOk result (waits_in output.new ≡ []) }
+    ensures handed_on { result ≡ Err LogFault.Read → waits_in output.old ≡ [] → waits_in output.new ≡ [] }
 {
     let mut held = 0;
     let mut room = u64::MAX;
@@ -96,7 +107,7 @@ fn read_behind<R: Read>(
     requires { held < length buffer.old }
     ensures length { length buffer.new ≡ length buffer.old }
     ensures read { IfOk result (ReadsBehind (R.remaining (device_of reader.old)) (R.remaining (device_of reader.new)) buffer.old buffer.new held) }
-    ensures failed { OnErr result (IsTrue (has_failed reader.new)) }
+    ensures failed { has_failed reader.new ≡ (has_failed reader.old || is_err result) }
     ensures kept { OnErr result (Keeps (R.remaining (device_of reader.old)) (R.remaining (device_of reader.new))) }
     ensures fault { IsOkUnless result LogFault.Read }
 {
@@ -151,14 +162,16 @@ fn filter_piece<W: Write>(
     ensures err { IfErr result (StopsIn filter.now counts ⊥ piece.now (output_failed output.new)
         (stand (W.contents (writer_of output.old)) (waits_in output.old) tally.old)
         (stand (W.contents (writer_of output.new)) (waits_in output.new) tally.new)) }
+    ensures writer_failed { output_failed output.new ≡ (output_failed output.old || ended_by_write result) }
+    ensures emptied { OnOk result (waits_in output.new ≡ []) }
 {
     let start = match filter_lines(filter, counts, piece, held, output, tally) {
         Ok(start) => start,
         Err(fault) => return Err(fault),
     };
-    match output.hand_on() {
+    match hand_on(output) {
         Ok(()) => Ok(start),
-        Err(_) => Err(LogFault::Write),
+        Err(fault) => Err(fault),
     }
 }
 
@@ -182,6 +195,7 @@ fn filter_lines<W: Write>(
     ensures err { IfErr result (StopsIn filter.now counts ⊥ piece.now (output_failed output.new)
         (stand (W.contents (writer_of output.old)) (waits_in output.old) tally.old)
         (stand (W.contents (writer_of output.new)) (waits_in output.new) tally.new)) }
+    ensures writer_failed { output_failed output.new ≡ (output_failed output.old || ended_by_write result) }
 {
     let mut start = 0;
     let mut from = held;
@@ -214,13 +228,26 @@ fn finish<W: Write>(
     ensures err { IfErr result (StopsIn filter.now counts (Unit {0}) line.now (output_failed output.new)
         (stand (W.contents (writer_of output.old)) (waits_in output.old) tally.old)
         (stand (W.contents (writer_of output.new)) (waits_in output.new) tally.new)) }
+    ensures writer_failed { output_failed output.new ≡ (output_failed output.old || ended_by_write result) }
+    ensures emptied { OnOk result (waits_in output.new ≡ []) }
 {
     if line.is_empty() {
-        return Ok(());
+        return hand_on(output);
     }
     if let Err(fault) = filter_line(filter, counts, line, line, output, tally) {
         return Err(fault);
     }
+    hand_on(output)
+}
+
+// Writes what waits.
+fn hand_on<W: Write>(output: &mut Output<'_, W>) -> Result<(), LogFault>
+    ensures ok { OnOk result (Appends (W.contents (writer_of output.old)) (W.contents (writer_of output.new)) (waits_in output.old)) }
+    ensures emptied { OnOk result (waits_in output.new ≡ []) }
+    ensures err { OnErr result (AppendsBeginning (W.contents (writer_of output.old)) (W.contents (writer_of output.new)) (waits_in output.old)) }
+    ensures writer_failed { output_failed output.new ≡ (output_failed output.old || ended_by_write result) }
+    ensures fault { IsOkUnless result LogFault.Write }
+{
     match output.hand_on() {
         Ok(()) => Ok(()),
         Err(_) => Err(LogFault::Write),
@@ -242,6 +269,7 @@ fn filter_line<W: Write>(
     ensures err { IfErr result (LineStops filter.now counts line.now content.now (output_failed output.new)
         (stand (W.contents (writer_of output.old)) (waits_in output.old) tally.old)
         (stand (W.contents (writer_of output.new)) (waits_in output.new) tally.new)) }
+    ensures writer_failed { output_failed output.new ≡ (output_failed output.old || ended_by_write result) }
 {
     let verdict = filter.judge(content);
     if filter.refuses(&verdict) {
@@ -271,6 +299,7 @@ fn select_line<W: Write>(
     ensures beginning { OnErr result (AppendsBeginning (W.contents (writer_of output.old)) (W.contents (writer_of output.new))
         (waits_in output.old ++ (if counts then [] else mark_of filter.now.listed verdict.now ++ (line.now ++ 10 ∷ [])))) }
     ensures fault { IsOkUnless result LogFault.Write }
+    ensures writer_failed { output_failed output.new ≡ (output_failed output.old || ended_by_write result) }
 {
     tally.selected = tally.selected.saturating_add(1);
     if counts {

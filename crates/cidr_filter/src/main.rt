@@ -8,6 +8,7 @@ mod help;
 mod laws;
 mod listed;
 mod log;
+mod logs;
 mod options;
 mod printing;
 mod reading;

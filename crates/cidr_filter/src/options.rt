@@ -2,7 +2,7 @@
 ghost use Rattle.std.specs.Prelude.{◌≡◌, ◌-◌, ◌^◌, ◌<◌, ◌≤◌, drop, length, min};
 ghost use Rattle.std.specs.List.{list_all};
 ghost use Rattle.std.specs.Char.{is_ascii_digit};
-ghost use Rattle.cidr_filter.specs.Options.{is, is_letter, number_of, takes_next, behind_option, option_of, in_one_word, in_two_words, letters_option, file_option, field_option, separator_option, bad_option};
+ghost use Rattle.cidr_filter.specs.Options.{is, is_letter, number_of, takes_next, behind_option, option_of, in_one_word, in_two_words, is_list, letters_option, file_option, field_option, separator_option, bad_option};
 
 use crate::filter::Bad;
 
@@ -216,6 +216,16 @@ fn bad_choice(value: &[u8]) -> Option<Choice>
         Some(Choice::Bad(Bad::Stop))
     } else {
         None
+    }
+}
+
+/// Whether an option names a list, or is one.
+pub(crate) fn is_list(choice: Choice) -> bool
+    ensures { result ≡ is_list choice }
+{
+    match choice {
+        Choice::File | Choice::Input | Choice::Text => true,
+        _ => false,
     }
 }
 

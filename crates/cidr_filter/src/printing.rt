@@ -1,5 +1,5 @@
 //! A line is printed.
-ghost use Rattle.std.specs.Prelude.{◌≡◌, ◌++◌, ◌∷◌, [], OnOk, OnErr, IsTrue};
+ghost use Rattle.std.specs.Prelude.{◌≡◌, ◌||◌, ◌++◌, ◌∷◌, [], OnOk, OnErr, is_err};
 ghost use Rattle.line_engine.specs.Outputs.{writer_of, waits_in, output_failed, Puts, AppendsBeginning};
 ghost use Rattle.cidr_filter.specs.Filters.{mark_of, block_text, block_in};
 
@@ -20,7 +20,7 @@ pub(crate) fn print_line<W: Write>(
 ) -> Result<(), RunFault>
     ensures ok { OnOk result (Puts (W.contents (writer_of output.old)) (waits_in output.old) (W.contents (writer_of output.new)) (waits_in output.new)
         (mark_of listed.now verdict.now ++ (line.now ++ 10 ∷ []))) }
-    ensures err { OnErr result (IsTrue (output_failed output.new)) }
+    ensures failed { output_failed output.new ≡ (output_failed output.old || is_err result) }
     ensures beginning { OnErr result (AppendsBeginning (W.contents (writer_of output.old)) (W.contents (writer_of output.new))
         (waits_in output.old ++ (mark_of listed.now verdict.now ++ (line.now ++ 10 ∷ [])))) }
 {
@@ -31,7 +31,7 @@ pub(crate) fn print_line<W: Write>(
 // Writes a line and a line feed.
 fn put_line<W: Write>(line: &[u8], output: &mut Output<'_, W>) -> Result<(), RunFault>
     ensures ok { OnOk result (Puts (W.contents (writer_of output.old)) (waits_in output.old) (W.contents (writer_of output.new)) (waits_in output.new) (line.now ++ 10 ∷ [])) }
-    ensures err { OnErr result (IsTrue (output_failed output.new)) }
+    ensures failed { output_failed output.new ≡ (output_failed output.old || is_err result) }
     ensures beginning { OnErr result (AppendsBeginning (W.contents (writer_of output.old)) (W.contents (writer_of output.new)) (waits_in output.old ++ (line.now ++ 10 ∷ []))) }
 {
     output.put(line)?;
@@ -45,7 +45,7 @@ fn put_mark<W: Write>(
     output: &mut Output<'_, W>,
 ) -> Result<(), RunFault>
     ensures ok { OnOk result (Puts (W.contents (writer_of output.old)) (waits_in output.old) (W.contents (writer_of output.new)) (waits_in output.new) (mark_of listed.now verdict.now)) }
-    ensures err { OnErr result (IsTrue (output_failed output.new)) }
+    ensures failed { output_failed output.new ≡ (output_failed output.old || is_err result) }
     ensures beginning { OnErr result (AppendsBeginning (W.contents (writer_of output.old)) (W.contents (writer_of output.new)) (waits_in output.old ++ mark_of listed.now verdict.now)) }
 {
     match listed {
@@ -57,7 +57,7 @@ fn put_mark<W: Write>(
 // Writes a block and a tab, or a minus sign for none.
 fn put_block<W: Write>(block: Option<IpNetwork>, output: &mut Output<'_, W>) -> Result<(), RunFault>
     ensures ok { OnOk result (Puts (W.contents (writer_of output.old)) (waits_in output.old) (W.contents (writer_of output.new)) (waits_in output.new) (block_text block ++ 9 ∷ [])) }
-    ensures err { OnErr result (IsTrue (output_failed output.new)) }
+    ensures failed { output_failed output.new ≡ (output_failed output.old || is_err result) }
     ensures beginning { OnErr result (AppendsBeginning (W.contents (writer_of output.old)) (W.contents (writer_of output.new)) (waits_in output.old ++ (block_text block ++ 9 ∷ []))) }
 {
     put_text(block, output)?;
@@ -67,7 +67,7 @@ fn put_block<W: Write>(block: Option<IpNetwork>, output: &mut Output<'_, W>) -> 
 // Writes a block, or a minus sign for none.
 fn put_text<W: Write>(block: Option<IpNetwork>, output: &mut Output<'_, W>) -> Result<(), RunFault>
     ensures ok { OnOk result (Puts (W.contents (writer_of output.old)) (waits_in output.old) (W.contents (writer_of output.new)) (waits_in output.new) (block_text block)) }
-    ensures err { OnErr result (IsTrue (output_failed output.new)) }
+    ensures failed { output_failed output.new ≡ (output_failed output.old || is_err result) }
     ensures beginning { OnErr result (AppendsBeginning (W.contents (writer_of output.old)) (W.contents (writer_of output.new)) (waits_in output.old ++ block_text block)) }
 {
     match block {

@@ -1,5 +1,12 @@
 //! What is told on the error writer. That a write of it fails changes nothing.
-use crate::options::{Choice, behind, choice_at};
+ghost use Rattle.std.specs.Prelude.{◌≡◌, ◌++◌, codes, take};
+ghost use Rattle.program_io.specs.Messages.{Tells};
+ghost use Rattle.cidr_filter.specs.Filters.{one_if};
+ghost use Rattle.cidr_filter.specs.Options.{is};
+ghost use Rattle.cidr_filter.specs.Told.{name_at, is_text, texts_in, refusal_place, refusal_line, more_text, refusals_text, fault_text, line_text, log_fault_text};
+
+use crate::log::LogFault;
+use crate::options::{behind, is};
 use crate::reading::ReadFault;
 use address_lists::{Refusal, Refusals};
 use line_engine::output::Output;
@@ -11,30 +18,33 @@ pub(crate) fn tell_refusals<E: Write>(
     words: &[String],
     refusals: &Refusals,
     errors: &mut Output<'_, E>,
-) {
-    for refusal in refusals.kept() {
+)
+    ensures { Tells E.contents errors.old errors.new (refusals_text words.now refusals.now) }
+{
+    let kept = refusals.kept();
+    for refusal in kept {
         tell_refusal(words, *refusal, errors);
     }
-    if refusals.more() > 0 {
-        tell_number(refusals.more(), errors);
-        tell(" more refused lines\n", errors);
-    }
+    tell_more(refusals.more(), errors);
 }
 
 // Tells a refused line.
-fn tell_refusal<E: Write>(words: &[String], refusal: Refusal, errors: &mut Output<'_, E>) {
-    tell_list(words, refusal, errors);
+fn tell_refusal<E: Write>(words: &[String], refusal: Refusal, errors: &mut Output<'_, E>)
+    ensures { Tells E.contents errors.old errors.new (refusal_line words.now refusal) }
+{
+    tell_place(words, refusal, errors);
     tell(": refused ", errors);
     tell(refusal.fault.text(), errors);
     tell("\n", errors);
 }
 
 // Tells where a refused line stands: the list and the line, or which `-e` it is.
-fn tell_list<E: Write>(words: &[String], refusal: Refusal, errors: &mut Output<'_, E>) {
-    let texts = texts_up_to(words, refusal.list);
+fn tell_place<E: Write>(words: &[String], refusal: Refusal, errors: &mut Output<'_, E>)
+    ensures { Tells E.contents errors.old errors.new (refusal_place words.now refusal) }
+{
     if is_text(words, refusal.list) {
         tell("-e:", errors);
-        tell_number(texts, errors);
+        tell_number(texts_up_to(words, refusal.list), errors);
         return;
     }
     tell_name(words, refusal.list, errors);
@@ -42,29 +52,61 @@ fn tell_list<E: Write>(words: &[String], refusal: Refusal, errors: &mut Output<'
     tell_number(refusal.line, errors);
 }
 
-// Whether the word at a place is the value of a `-e`. The word before a list is its option.
-fn is_text(words: &[String], place: usize) -> bool {
-    match words.get(place.saturating_sub(1)) {
-        Some(word) => word.as_str() == "-e",
+// Whether the word before a place is `-e`, so that the word there is the value of it.
+fn is_text(words: &[String], place: usize) -> bool
+    ensures { result ≡ is_text words.now place }
+{
+    if place == 0 {
+        return false;
+    }
+    match words.get(place - 1) {
+        Some(word) => is(word, "-e"),
         None => false,
     }
 }
 
 // How many `-e` there are among the options before a place.
-fn texts_up_to(words: &[String], place: usize) -> u64 {
-    let mut count = 0u64;
+fn texts_up_to(words: &[String], place: usize) -> u64
+    ensures { result ≡ texts_in (take place words.now) }
+{
+    let options = &words[..words.len().min(place)];
+    texts_in(options) as u64
+}
+
+// How many of the options are `-e`.
+fn texts_in(options: &[String]) -> usize
+    ensures { result ≡ texts_in options.now }
+{
+    let mut count = 0;
     let mut at = 0;
-    while at < place && at < words.len() {
-        if choice_at(words, at) == Some(Choice::Text) {
-            count = count.saturating_add(1);
-        }
-        at = behind(words, at);
+    while at < options.len() {
+        count += text_in(&options[at]);
+        at = behind(options, at);
     }
     count
 }
 
+// 1 if a word is `-e`, and else 0.
+fn text_in(word: &String) -> usize
+    ensures { result ≡ one_if (is (codes "-e") word.now) }
+{
+    if is(word, "-e") { 1 } else { 0 }
+}
+
+// Tells how many more lines were refused, if any were.
+fn tell_more<E: Write>(more: u64, errors: &mut Output<'_, E>)
+    ensures { Tells E.contents errors.old errors.new (more_text more) }
+{
+    if more > 0 {
+        tell_number(more, errors);
+        tell(" more refused lines\n", errors);
+    }
+}
+
 /// Tells why the lists were not read to the end.
-pub(crate) fn tell_fault<E: Write>(words: &[String], fault: ReadFault, errors: &mut Output<'_, E>) {
+pub(crate) fn tell_fault<E: Write>(words: &[String], fault: ReadFault, errors: &mut Output<'_, E>)
+    ensures { Tells E.contents errors.old errors.new (fault_text words.now fault) }
+{
     match fault {
         ReadFault::Open(place) => {
             tell_name(words, place, errors);
@@ -79,8 +121,49 @@ pub(crate) fn tell_fault<E: Write>(words: &[String], fault: ReadFault, errors: &
 }
 
 // Tells the word at a place.
-fn tell_name<E: Write>(words: &[String], place: usize, errors: &mut Output<'_, E>) {
+fn tell_name<E: Write>(words: &[String], place: usize, errors: &mut Output<'_, E>)
+    ensures { Tells E.contents errors.old errors.new (name_at words.now place) }
+{
     if let Some(name) = words.get(place) {
         tell(name.as_str(), errors);
     }
+}
+
+/// Tells why the log of this name was not filtered to its end, after so many of its lines.
+pub(crate) fn tell_log_fault<E: Write>(
+    name: &str,
+    fault: LogFault,
+    lines: u64,
+    errors: &mut Output<'_, E>,
+)
+    ensures { Tells E.contents errors.old errors.new (log_fault_text name.now lines fault) }
+{
+    match fault {
+        LogFault::Open => tell_of(name, ": cannot open\n", errors),
+        LogFault::Read => tell_of(name, ": cannot read\n", errors),
+        LogFault::Write => tell("write error\n", errors),
+        LogFault::Address => tell_line(name, lines, "address", errors),
+        LogFault::Length => tell_line(name, lines, "length", errors),
+        LogFault::Endless => tell_of(name, ": too long\n", errors),
+    }
+}
+
+// Tells a name, and then a text.
+fn tell_of<E: Write>(name: &str, text: &str, errors: &mut Output<'_, E>)
+    ensures { Tells E.contents errors.old errors.new (name.now ++ text.now) }
+{
+    tell(name, errors);
+    tell(text, errors);
+}
+
+// Tells which line is refused, and why.
+fn tell_line<E: Write>(name: &str, lines: u64, cause: &str, errors: &mut Output<'_, E>)
+    ensures { Tells E.contents errors.old errors.new (line_text name.now lines cause.now) }
+{
+    tell(name, errors);
+    tell(":", errors);
+    tell_number(lines.saturating_add(1), errors);
+    tell(": refused ", errors);
+    tell(cause, errors);
+    tell("\n", errors);
 }

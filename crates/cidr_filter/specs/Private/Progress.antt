@@ -23,6 +23,7 @@ RefusesLine filter content old new verdict = Judges filter content verdict × (i
 
 -- or the writer failed, which took a beginning of what waited and of the line's output
 abbrev pub LineStops : Filter → Bool → List ℕ → List ℕ → Bool → Stand → Stand → LogFault → Type 0
+LineStops filter counts bytes content write_failed old new faults.Open = ⊥
 LineStops filter counts bytes content write_failed old new faults.Read = ⊥
 LineStops filter counts bytes content write_failed old new faults.Write =
     IsTrue write_failed × (verdict : Verdict) × Judges filter content verdict × (is_refused filter verdict ≡ false)
@@ -77,6 +78,7 @@ pub record WritesIn (filter : Filter) (counts : Bool) (old new : Stand) (bytes :
   pub beginning : AppendsBeginning old.holds new.holds (old.waits ++ added)
 
 abbrev pub StopsIn : Filter → Bool → Type 0 → List ℕ → Bool → Stand → Stand → LogFault → Type 0
+StopsIn filter counts ends bytes write_failed old new faults.Open = ⊥
 StopsIn filter counts ends bytes write_failed old new faults.Read = ⊥
 StopsIn filter counts ends bytes write_failed old new faults.Write = IsTrue write_failed × WritesIn filter counts old new bytes
 StopsIn filter counts ends bytes write_failed old new faults.Address = RefusesIn filter counts ends old new bytes verdicts.Bad

@@ -1,12 +1,14 @@
-use Rattle.std.proofs.Common.{[], ◌+◌, ◌-◌, take, arith}
+use Rattle.std.proofs.Common.{[], ℕ, ◌+◌, ◌-◌, ◌∙◌, refl, take, arith}
 use Rattle.std.proofs.KnownBytes.{Consumes-nil}
 use Rattle.std.proofs.lemmas.List.{length-take-le}
-use Rattle.line_engine.specs.Watched.{device_of}
+use Rattle.line_engine.specs.Watched.{device_of, has_failed}
 use Rattle.line_engine.specs.Outputs.{writer_of, waits_in, output_failed}
 use Rattle.cidr_filter.specs.Stands.{stand}
+use Rattle.std.specs.Prelude.{Err}
+use Rattle.cidr_filter.proofs.Failing.{or_none, none_or, or_on, no_read, read_works, not_read}
 use Rattle.cidr_filter.proofs.Kept.{held_fits, held_absent}
 use Rattle.cidr_filter.proofs.Filtering.{advances_nowhere, ended_ok, piece_more}
-use Rattle.cidr_filter.proofs.Stopping.{read_stops, last_stops, endless_stops, piece_stops, long_stops}
+use Rattle.cidr_filter.proofs.Stopping.{failed_now, read_stops, last_stops, endless_stops, piece_stops, long_stops}
 use Rattle.cidr_filter.proofs.log.filter_log.Goals as goal
 
 pub pieces-init : goal.pieces-init
@@ -15,6 +17,9 @@ pieces-init g c = record {
   room = c.requires.room;
   absent = λ place low high. absurd (omega (arith, low, high));
   sofar = ([], Consumes-nil _, omega arith, advances_nowhere c.args.filter.now c.args.counts _ []);
+  reads = refl;
+  writes = refl;
+  handed = λ h. h;
 }
 
 pub returns-then-count-eq0-clause-ok : goal.returns-then-count-eq0-clause-ok
@@ -28,7 +33,7 @@ returns-in-Err-clause-err g c =
     let stops =
     read_stops c.args.filter.now c.args.counts _ _ _ _ _ c.pieces.buffer c.pieces.buffer sofar.0 c.pieces.held 0 sofar.1 sofar.3 (omega (arith, c.pieces.invariant.fits, c.pieces.invariant.room))
     c.pieces.invariant.absent c.in-Err.ensures.kept in
-    (c.in-Err.ensures.failed, stops.0, stops.1, stops.2)
+    (failed_now (has_failed c.read_behind.new.reader) _ c.in-Err.ensures.failed, stops.0, stops.1, stops.2)
 
 pub returns-then-count-eq0-clause-err : goal.returns-then-count-eq0-clause-err
 returns-then-count-eq0-clause-err g c =
@@ -75,4 +80,52 @@ pieces-preserved g c =
       absent = held_absent c.args.filter.now (take (held + count) c.read_behind.new.buffer) c.keep.new.buffer (held + count) start c.in-Ok-held_of.count
           (length-take-le (held + count) c.read_behind.new.buffer c.in-Ok.ensures.read.0) c.keep.ensures.front c.in-Ok-filter_piece.ensures.absent c.in-Ok-held_of.ensures.held;
       sofar = (more.0, more.1, omega (arith, more.2, c.pieces.invariant.sofar.2, c.if-count-room.false), more.3);
+      reads = none_or _ _ c.in-Ok.ensures.failed ∙ c.pieces.invariant.reads;
+      writes = none_or _ _ c.in-Ok-filter_piece.ensures.writer_failed ∙ c.pieces.invariant.writes;
+      handed = λ h. c.in-Ok-filter_piece.ensures.emptied;
     }
+
+-- ---- which device failed
+
+pub returns-in-Err-clause-reader_failed : goal.returns-in-Err-clause-reader_failed
+returns-in-Err-clause-reader_failed g c = or_on _ _ _ _ c.pieces.invariant.reads c.in-Err.ensures.failed
+
+pub returns-in-Err-clause-writer_failed : goal.returns-in-Err-clause-writer_failed
+returns-in-Err-clause-writer_failed g c = or_none _ _ c.pieces.invariant.writes
+
+pub returns-in-Err-clause-handed_on : goal.returns-in-Err-clause-handed_on
+returns-in-Err-clause-handed_on g c = λ e h. c.pieces.invariant.handed h
+
+pub returns-then-count-eq0-clause-reader_failed : goal.returns-then-count-eq0-clause-reader_failed
+returns-then-count-eq0-clause-reader_failed g c =
+    read_works _ _ _ (none_or _ _ c.in-Ok.ensures.failed ∙ c.pieces.invariant.reads) (no_read c.args.filter.now c.args.counts _ _ _ _ _ c.finish.result c.finish.ensures.err)
+
+pub returns-then-count-eq0-clause-writer_failed : goal.returns-then-count-eq0-clause-writer_failed
+returns-then-count-eq0-clause-writer_failed g c = or_on _ _ _ _ c.pieces.invariant.writes c.finish.ensures.writer_failed
+
+pub returns-then-count-eq0-clause-handed_on : goal.returns-then-count-eq0-clause-handed_on
+returns-then-count-eq0-clause-handed_on g c = λ e. not_read c.args.filter.now c.args.counts _ _ _ _ _ c.finish.result _ c.finish.ensures.err e
+
+pub returns-then-count-room-clause-reader_failed : goal.returns-then-count-room-clause-reader_failed
+returns-then-count-room-clause-reader_failed g c = or_none _ _ (none_or _ _ c.in-Ok.ensures.failed ∙ c.pieces.invariant.reads)
+
+pub returns-then-count-room-clause-writer_failed : goal.returns-then-count-room-clause-writer_failed
+returns-then-count-room-clause-writer_failed g c = or_none _ _ c.pieces.invariant.writes
+
+pub returns-in-Err-filter_piece-clause-reader_failed : goal.returns-in-Err-filter_piece-clause-reader_failed
+returns-in-Err-filter_piece-clause-reader_failed g c =
+    read_works _ _ _ (none_or _ _ c.in-Ok.ensures.failed ∙ c.pieces.invariant.reads)
+    (no_read {T = Unit {0}} c.args.filter.now c.args.counts _ _ _ _ _ (Err c.in-Err-filter_piece.fault) c.in-Err-filter_piece.ensures.err)
+
+pub returns-in-Err-filter_piece-clause-writer_failed : goal.returns-in-Err-filter_piece-clause-writer_failed
+returns-in-Err-filter_piece-clause-writer_failed g c = or_on _ _ _ _ c.pieces.invariant.writes c.in-Err-filter_piece.ensures.writer_failed
+
+pub returns-in-Err-filter_piece-clause-handed_on : goal.returns-in-Err-filter_piece-clause-handed_on
+returns-in-Err-filter_piece-clause-handed_on g c = λ e.
+    not_read {T = Unit {0}} c.args.filter.now c.args.counts _ _ _ _ _ (Err c.in-Err-filter_piece.fault) _ c.in-Err-filter_piece.ensures.err e
+
+pub returns-in-Err-held_of-clause-reader_failed : goal.returns-in-Err-held_of-clause-reader_failed
+returns-in-Err-held_of-clause-reader_failed g c = or_none _ _ (none_or _ _ c.in-Ok.ensures.failed ∙ c.pieces.invariant.reads)
+
+pub returns-in-Err-held_of-clause-writer_failed : goal.returns-in-Err-held_of-clause-writer_failed
+returns-in-Err-held_of-clause-writer_failed g c = or_on _ _ _ _ c.pieces.invariant.writes c.in-Ok-filter_piece.ensures.writer_failed

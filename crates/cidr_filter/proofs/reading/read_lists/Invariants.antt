@@ -1,8 +1,17 @@
-use Rattle.std.proofs.Common.{◌≤◌, ◌-◌, length}
+use Rattle.std.proofs.Common.{◌≡◌, ◌≤◌, ◌-◌, List, false, length, drop}
+use Rattle.address_lists.specs.ReadBy.{read_by}
+use Rattle.cidr_filter.specs.CommandLines.{Begin}
+use Rattle.cidr_filter.specs.Reading.{ReadsOptions}
+use Rattle.cidr_filter.specs.declared.options.Choice.{Choice}
 use Rattle.cidr_filter.proofs.reading.read_lists.Given as goal
 
-abbrev pub invariant-loop-at : goal.invariant-loop-at
-invariant-loop-at g l = l.at ≤ length l.words
+abbrev pub invariant-options : goal.invariant-options
+invariant-options g l = record {
+  within : l.at ≤ length l.words;
+  memory : (read_by l.reader).is_out_of_memory ≡ false;
+  said : (options : List Choice) × Begin l.words options (drop l.at l.words)
+      × ReadsOptions (g.L.OpenLists.bytes_of l.lists) l.words l.words options (read_by l.initial.reader) (read_by l.reader);
+}
 
-abbrev pub decreases-loop-at : goal.decreases-loop-at
-decreases-loop-at g l = length l.words - l.at
+abbrev pub decreases-options : goal.decreases-options
+decreases-options g l = length l.words - l.at

@@ -1,0 +1,357 @@
+-- Values at which a misreading of the definitions would show.
+use Rattle.std.proofs.Common.{◌≡◌, ◌<◌, ◌≤◌, ℕ, List, [], ◌∷◌, ◌++◌, Bool, true, false, not, ◌&&◌, ◌||◌, ◌∙◌, inl, inr, refl, sym, ap, subst, arith, length}
+use Rattle.std.specs.Prelude.{codes, bytes_eq, if◌then◌else◌, String, Option, Some, None, IsSome}
+use Rattle.std.specs.List.{list_all}
+use Rattle.std.specs.Fmt.{digits}
+use Rattle.std.specs.String.{string_bytes}
+use Rattle.std.specs.Str.Lines.{lines}
+use Rattle.ipnetwork_addr.specs.Either.{NamesIp}
+use Rattle.ipnetwork_addr.specs.declared.ip.IpAddr.{IpAddr}
+use Rattle.ipnetwork.specs.declared.ip_network.IpNetwork.TheVariants.{V4}
+use Rattle.list_entries.specs.declared.entry.EntryFault.TheVariants.{Prefix}
+use Rattle.address_lists.specs.Lists.{ReadLists, at_list, TakesLines}
+use Rattle.address_lists.specs.declared.fault.LineFault.TheVariants.{Entry}
+use Rattle.cidr_filter.specs.Fields.{field_of}
+use Rattle.cidr_filter.specs.Filters.{IsListed, Judges, is_selected, is_refused, mark_of, output_of, Filters}
+use Rattle.cidr_filter.specs.Lines.{LogLine, log_lines, ended_lines, content, printed}
+use Rattle.cidr_filter.specs.Logs.{logs_of, IsAllOf, IsFirstOf, FiltersLogs, HaltsBy}
+use Rattle.cidr_filter.specs.Options.{number_of, field_option, separator_option, bad_option, letters_option, begins, in_one_word, option_of, behind_option}
+use Rattle.cidr_filter.specs.CommandLines.{Begin, files_among, inputs_among, is_plain}
+use Rattle.cidr_filter.specs.Reading.{ReadsOptions}
+use Rattle.cidr_filter.specs.Runs.{Ending, HasTold, HasWritten, total_text, FiltersAll, StopsAtLog, EndsLogs}
+use Rattle.cidr_filter.specs.Told.{refusals_text, fault_text, more_text, log_fault_text}
+use Rattle.cidr_filter.specs.declared.filter.Bad.{Bad}
+use Rattle.cidr_filter.specs.declared.filter.Bad.TheVariants as bads
+use Rattle.cidr_filter.specs.declared.filter.Filter.{Filter}
+use Rattle.cidr_filter.specs.declared.filter.Verdict.TheVariants as verdicts
+use Rattle.cidr_filter.specs.declared.listed.Listed.TheVariants.{Addresses, Blocks}
+use Rattle.cidr_filter.specs.declared.listed.Tables.{Tables}
+use Rattle.cidr_filter.specs.declared.log.LogFault.TheVariants as faults
+use Rattle.cidr_filter.specs.declared.options.Choice.{Choice}
+use Rattle.cidr_filter.specs.declared.options.Choice.TheVariants as choices
+use Rattle.cidr_filter.specs.declared.reading.ReadFault.TheVariants.{Open, Read}
+use Rattle.cidr_filter.proofs.Judging.{same_some}
+
+-- ---- fields, cut at each comma (44) or blank (32)
+
+pub second_field : field_of 2 44 (codes "a,10.0.0.1,c") ≡ Some (codes "10.0.0.1")
+second_field = refl
+
+pub empty_field : field_of 2 44 (codes "a,,c") ≡ Some []
+empty_field = refl
+
+pub last_field : field_of 3 44 (codes "a,,c") ≡ Some (codes "c")
+last_field = refl
+
+pub no_such_field : field_of 4 44 (codes "a,,c") ≡ None
+no_such_field = refl
+
+pub field_before_a_blank : field_of 1 32 (codes " x") ≡ Some []
+field_before_a_blank = refl
+
+-- ---- lines
+
+abbrev pub ended : List ℕ → LogLine
+ended bytes = record { bytes = bytes; is_ended = true }
+
+abbrev pub unended : List ℕ → LogLine
+unended bytes = record { bytes = bytes; is_ended = false }
+
+pub lines_of_a_log : log_lines (codes "a\n\nb") ≡ ended (codes "a") ∷ ended [] ∷ unended (codes "b") ∷ []
+lines_of_a_log = refl
+
+pub no_line_behind_the_last : log_lines (codes "a\n") ≡ ended (codes "a") ∷ []
+no_line_behind_the_last = refl
+
+pub ended_lines_of_a_log : ended_lines (codes "a\nb") ≡ ended (codes "a") ∷ []
+ended_lines_of_a_log = refl
+
+pub one_return_is_the_end : content (ended (codes "a\r\r")) ≡ codes "a\r"
+one_return_is_the_end = refl
+
+pub return_that_nothing_follows : content (unended (codes "a\r")) ≡ codes "a\r"
+return_that_nothing_follows = refl
+
+pub printed_as_it_was : printed (ended (codes "a\r")) ≡ codes "a\r\n"
+printed_as_it_was = refl
+
+pub printed_with_an_end : printed (unended (codes "a")) ≡ codes "a\n"
+printed_with_an_end = refl
+
+-- ---- what a line is to a list
+
+abbrev pub by : Bool → Bad → Filter
+by inverts bad = record { listed = Addresses (record { v4 = []; v6 = [] }); field = 1; separator = 32; inverts = inverts; bad = bad }
+
+pub line_inside : (address : IpAddr) → NamesIp (codes "10.0.0.1") address → IsListed (by false bads.Drop) address → Judges (by false bads.Drop) (codes "10.0.0.1 x") (verdicts.Inside None)
+line_inside address names listed = (omega arith, (address, (codes "10.0.0.1", refl, names), listed, refl))
+
+pub line_outside : (address : IpAddr) → NamesIp (codes "10.0.0.1") address → ¬ (IsListed (by true bads.Drop) address) → Judges (by true bads.Drop) (codes "10.0.0.1 x") verdicts.Outside
+line_outside address names listed = (omega arith, (address, (codes "10.0.0.1", refl, names), listed))
+
+pub address_in_another_field : ((address : IpAddr) → ¬ (NamesIp (codes "x") address)) → Judges (by false bads.Drop) (codes "x 10.0.0.1") verdicts.Bad
+address_in_another_field none = (omega arith, λ address holds. none address (subst (λ (f : List ℕ). NamesIp f address) (same_some holds.0 (codes "x") _ holds.1 refl) holds.2))
+
+pub inside_is_selected : is_selected (by false bads.Keep) (verdicts.Inside None) ≡ true
+inside_is_selected = refl
+
+pub outside_is_not : is_selected (by false bads.Keep) verdicts.Outside ≡ false
+outside_is_not = refl
+
+pub outside_of_none : is_selected (by true bads.Drop) verdicts.Outside ≡ true
+outside_of_none = refl
+
+pub bad_dropped_also_inverted : is_selected (by true bads.Drop) verdicts.Bad ≡ false
+bad_dropped_also_inverted = refl
+
+pub bad_kept : is_selected (by false bads.Keep) verdicts.Bad ≡ true
+bad_kept = refl
+
+pub bad_stops : is_refused (by true bads.Stop) verdicts.Bad ≡ true
+bad_stops = refl
+
+pub kept_is_not_refused : is_refused (by true bads.Keep) verdicts.Bad ≡ false
+kept_is_not_refused = refl
+
+pub too_long_is_not_kept : is_selected (by false bads.Keep) verdicts.TooLong ≡ false
+too_long_is_not_kept = refl
+
+pub too_long_where_bad_is_kept : is_refused (by false bads.Keep) verdicts.TooLong ≡ true
+too_long_where_bad_is_kept = refl
+
+pub too_long_dropped : is_refused (by false bads.Drop) verdicts.TooLong ≡ false
+too_long_dropped = refl
+
+-- the longest network and a tab, or a minus sign
+pub block_before_a_line : (tables : Tables) → mark_of (Blocks tables) (verdicts.Inside (Some (V4 (record { address = 167772160; prefix = 8 })))) ≡ codes "10.0.0.0/8\t"
+unfolding digits
+block_before_a_line tables = refl
+
+pub no_block : (tables : Tables) → mark_of (Blocks tables) verdicts.Bad ≡ codes "-\t"
+no_block tables = refl
+
+pub line_selected : output_of (by false bads.Drop) false (verdicts.Inside None) (ended (codes "a\r")) ≡ codes "a\r\n"
+line_selected = refl
+
+pub line_counted : output_of (by false bads.Drop) true (verdicts.Inside None) (ended (codes "a")) ≡ []
+line_counted = refl
+
+-- ---- options
+
+pub number_in_decimal : number_of (codes "4294967295") ≡ 4294967295
+number_in_decimal = refl
+
+pub greatest_field : field_option (codes "4294967295") ≡ Some (choices.Field 4294967295)
+greatest_field = refl
+
+pub field_too_great : field_option (codes "4294967296") ≡ None
+field_too_great = refl
+
+pub no_field_zero : field_option (codes "0") ≡ None
+no_field_zero = refl
+
+pub no_signed_field : field_option (codes "+1") ≡ None
+no_signed_field = refl
+
+pub comma : separator_option (codes ",") ≡ Some (choices.Separator 44)
+comma = refl
+
+pub no_line_feed : separator_option (10 ∷ []) ≡ None
+no_line_feed = refl
+
+pub no_return : separator_option (13 ∷ []) ≡ None
+no_return = refl
+
+pub no_byte_past_ascii : separator_option (128 ∷ []) ≡ None
+no_byte_past_ascii = refl
+
+pub bad_word : bad_option (codes "stop") ≡ Some (choices.Bad bads.Stop)
+bad_word = refl
+
+pub other_bad_word : bad_option (codes "Stop") ≡ None
+other_bad_word = refl
+
+pub letters_together : letters_option (codes "vc") ≡ Some (choices.Letters true true)
+letters_together = refl
+
+pub one_letter : letters_option (codes "c") ≡ Some (choices.Letters false true)
+one_letter = refl
+
+pub other_letter : letters_option (codes "vx") ≡ None
+other_letter = refl
+
+pub field_in_one_word : in_one_word (codes "-k3") ≡ Some (choices.Field 3)
+field_in_one_word = refl
+
+pub separator_in_one_word : in_one_word (codes "-d,") ≡ Some (choices.Separator 44)
+separator_in_one_word = refl
+
+pub bad_in_one_word : in_one_word (codes "--bad=keep") ≡ Some (choices.Bad bads.Keep)
+bad_in_one_word = refl
+
+pub longest_word : in_one_word (codes "--longest") ≡ Some choices.Longest
+longest_word = refl
+
+pub dashes_are_no_option : in_one_word (codes "--") ≡ None
+dashes_are_no_option = refl
+
+pub dash_is_no_option : in_one_word (codes "-") ≡ None
+dash_is_no_option = refl
+
+pub list_of_standard_input : {Z : Type 0} (name value : String Z) → string_bytes name ≡ codes "-f" → string_bytes value ≡ codes "-" → option_of (name ∷ value ∷ []) ≡ Some choices.Input
+list_of_standard_input name value n v = rw (n, v)
+
+pub option_without_its_value : {Z : Type 0} (name : String Z) → string_bytes name ≡ codes "-e" → option_of (name ∷ []) ≡ None
+option_without_its_value name n = rw n
+
+pub files_behind_dashes : {Z : Type 0} (dashes file : String Z) → string_bytes dashes ≡ codes "--" → files_among (dashes ∷ file ∷ []) ≡ Some (file ∷ [])
+files_behind_dashes dashes file d =
+    ap (λ (t : List ℕ). if bytes_eq t (codes "--") then Some (file ∷ []) else if list_all is_plain (dashes ∷ file ∷ []) then Some (dashes ∷ file ∷ []) else None) d
+
+pub no_option_among_files : {Z : Type 0} (file option : String Z) → string_bytes file ≡ codes "a" → string_bytes option ≡ codes "-v" → files_among (file ∷ option ∷ []) ≡ None
+no_option_among_files file option f o =
+    ap (λ (t : List ℕ). if bytes_eq t (codes "--") then Some (option ∷ []) else if (bytes_eq t (codes "-") || not (begins (codes "-") t)) && (is_plain option && true) then Some (file ∷ option ∷ []) else None) f
+    ∙ ap (λ (t : List ℕ). if (bytes_eq t (codes "-") || not (begins (codes "-") t)) && true then Some (file ∷ option ∷ []) else None) o
+
+pub no_file_is_standard_input : (Z : Type 0) → inputs_among {Z = Z} [] ≡ 1
+no_file_is_standard_input Z = refl
+
+-- ---- what is told
+
+pub a_refused_line : {Z : Type 0} (file list text value : String Z) → string_bytes file ≡ codes "-f" → string_bytes list ≡ codes "a.txt"
+    → refusals_text (file ∷ list ∷ text ∷ value ∷ []) (record { kept = record { list = 1; line = 7; fault = Entry Prefix } ∷ []; more = 0 }) ≡ codes "a.txt:7: refused prefix\n"
+unfolding digits
+a_refused_line file list text value f l = rw (f, l)
+
+pub the_second_text : {Z : Type 0} (text one file list again two : String Z) → string_bytes text ≡ codes "-e" → string_bytes file ≡ codes "-f" → string_bytes list ≡ codes "-e" → string_bytes again ≡ codes "-e"
+    → refusals_text (text ∷ one ∷ file ∷ list ∷ again ∷ two ∷ []) (record { kept = record { list = 5; line = 1; fault = Entry Prefix } ∷ []; more = 2 })
+    ≡ codes "-e:2: refused prefix\n2 more refused lines\n"
+unfolding digits
+the_second_text text one file list again two t f l a = rw (t, f, a)
+
+pub a_list_that_is_missing : {Z : Type 0} (file list : String Z) → string_bytes list ≡ codes "x" → fault_text (file ∷ list ∷ []) (Open 1) ≡ codes "x: cannot open\n"
+a_list_that_is_missing file list l = rw l
+
+pub a_list_that_fails : {Z : Type 0} (file list : String Z) → string_bytes list ≡ codes "-" → fault_text (file ∷ list ∷ []) (Read 1) ≡ codes "-: cannot read\n"
+a_list_that_fails file list l = rw l
+
+pub a_line_that_ends_the_run : log_fault_text (codes "log") 3 faults.Address ≡ codes "log:4: refused address\n"
+unfolding digits
+a_line_that_ends_the_run = refl
+
+pub a_first_line_that_is_too_long : log_fault_text (codes "-") 0 faults.Length ≡ codes "-:1: refused length\n"
+unfolding digits
+a_first_line_that_is_too_long = refl
+
+pub a_log_that_is_missing : log_fault_text (codes "log") 0 faults.Open ≡ codes "log: cannot open\n"
+a_log_that_is_missing = refl
+
+pub a_log_that_fails : log_fault_text (codes "log") 9 faults.Read ≡ codes "log: cannot read\n"
+a_log_that_fails = refl
+
+pub a_writer_that_fails : log_fault_text (codes "log") 9 faults.Write ≡ codes "write error\n"
+a_writer_that_fails = refl
+
+-- ---- whole runs
+
+pub the_number_of_lines : total_text true 12 ≡ codes "12\n"
+unfolding digits
+the_number_of_lines = refl
+
+pub no_number : total_text false 12 ≡ []
+no_number = refl
+
+pub standard_input : (Z : Type 0) → logs_of {Z = Z} [] ≡ codes "-" ∷ []
+standard_input Z = refl
+
+pub files_in_their_order : {Z : Type 0} (one two : String Z) → logs_of (one ∷ two ∷ []) ≡ string_bytes one ∷ string_bytes two ∷ []
+files_in_their_order one two = refl
+
+-- a list, and then an `-e`: each is taken at the place of its value
+pub lists_in_their_order : {Z : Type 0} (bytes_of : List ℕ → Option (List ℕ)) (file list text value : String Z) (before mid after : ReadLists) → string_bytes list ≡ codes "a" → string_bytes value ≡ codes "x"
+    → ((input : List ℕ) → bytes_of (codes "a") ≡ Some input → TakesLines (at_list before 1) (lines input) mid)
+    → TakesLines (at_list mid 3) (lines (codes "x")) after → string_bytes file ≡ codes "-f" → string_bytes text ≡ codes "-e"
+    → ReadsOptions bytes_of (file ∷ list ∷ text ∷ value ∷ []) (file ∷ list ∷ text ∷ value ∷ []) (choices.File ∷ choices.Text ∷ []) before after
+lists_in_their_order bytes_of file list text value before mid after l v first second f t = rw (f, l, v) (mid, first, (after, second, refl))
+
+module _ (bytes_of : List ℕ → Option (List ℕ)) (inside : Judges (by false bads.Stop) (codes "in") (verdicts.Inside None)) (outside : Judges (by false bads.Stop) (codes "out") verdicts.Outside)
+    (bad : Judges (by false bads.Stop) (codes "bad") verdicts.Bad) where
+  -- two logs, of which the second has no last line feed
+  pub two_logs : IsAllOf bytes_of (codes "a") (codes "out\nin\n") → IsAllOf bytes_of (codes "b") (codes "in")
+      → FiltersLogs (by false bads.Stop) false bytes_of (codes "a" ∷ codes "b" ∷ []) (codes "in\nin\n") 2
+  two_logs a b = (
+    codes "out\nin\n",
+    codes "in\n",
+    codes "in\n",
+    1,
+    1,
+    a,
+    (verdicts.Outside, codes "in\n", 1, outside, refl, (verdicts.Inside None, [], 0, inside, refl, (refl, refl), refl, refl), refl, refl),
+    (codes "in", codes "in\n", [], 1, 0, b, (verdicts.Inside None, [], 0, inside, refl, (refl, refl), refl, refl), (refl, refl), refl, refl),
+    refl,
+    refl,
+  )
+
+  -- they are counted together
+  pub two_logs_counted : IsAllOf bytes_of (codes "a") (codes "in\n") → IsAllOf bytes_of (codes "b") (codes "in\n") → {W E : Type 0} (end : Ending W E) → HasWritten end (codes "2\n") → HasTold end [] → end.status ≡ 0
+      → EndsLogs (by false bads.Stop) true bytes_of (codes "a" ∷ codes "b" ∷ []) end
+  unfolding digits
+  two_logs_counted a b end written told status = inl (record {
+    output = [];
+    selected = 2;
+    filters = (
+      codes "in\n",
+      [],
+      [],
+      1,
+      1,
+      a,
+      (verdicts.Inside None, [], 0, inside, refl, (refl, refl), refl, refl),
+      (codes "in\n", [], [], 1, 0, b, (verdicts.Inside None, [], 0, inside, refl, (refl, refl), refl, refl), (refl, refl), refl, refl),
+      refl,
+      refl,
+    );
+    ends = inl (written, told, status);
+  })
+
+  -- a line that ends the run: what comes before it is written
+  pub stopped_at_the_second_line : IsFirstOf bytes_of (codes "a") (codes "in\nbad\nin\n") → {W E : Type 0} (end : Ending W E) → HasWritten end (codes "in\n") → HasTold end (codes "a:2: refused address\n")
+      → end.status ≡ 2 → EndsLogs (by false bads.Stop) false bytes_of (codes "a" ∷ codes "b" ∷ []) end
+  unfolding digits
+  stopped_at_the_second_line a end written told status = inr (record {
+    before = [];
+    name = codes "a";
+    behind = codes "b" ∷ [];
+    output = [];
+    selected = 0;
+    lines = ended (codes "in") ∷ [];
+    added = codes "in\n";
+    more = 1;
+    fault = faults.Address;
+    logs = refl;
+    filters = (refl, refl);
+    first = (verdicts.Inside None, [], 0, inside, refl, (refl, refl), refl, refl);
+    halts = record {
+      read = codes "in\nbad\nin\n";
+      line = ended (codes "bad");
+      others = ended (codes "in") ∷ [];
+      is_first = a;
+      are = refl;
+      is_line = inl refl;
+      judges = bad;
+      refused = refl;
+    };
+    wrote = written;
+    told = told;
+    status = status;
+  })
+
+  -- no line of a log is selected
+  pub nothing_selected : IsAllOf bytes_of (codes "-") (codes "out\n") → {W E : Type 0} (end : Ending W E) → HasWritten end [] → HasTold end [] → end.status ≡ 1
+      → EndsLogs (by false bads.Stop) false bytes_of (codes "-" ∷ []) end
+  nothing_selected a end written told status = inl (record {
+    output = [];
+    selected = 0;
+    filters = (codes "out\n", [], [], 0, 0, a, (verdicts.Outside, [], 0, outside, refl, (refl, refl), refl, refl), (refl, refl), refl, refl);
+    ends = inl (written, told, status);
+  })

@@ -1,0 +1,240 @@
+-- Logs that are filtered in turn.
+use Rattle.std.proofs.Common.{◌≡◌, ◌⊎◌, ◌<◌, ◌≤◌, ◌+◌, ◌-◌, ◌^◌, ◌++◌, ◌∷◌, ◌∙◌, ◌==◌, [], ℕ, Bool, List, true, false, cond, inl, inr, refl, sym, ap, subst, arith, length, min, map, append_assoc, append-nil}
+use Rattle.std.specs.Prelude.{Option, None, Some, Result, Ok, Err, OnOk, IfErr, filter}
+use Rattle.std.specs.List.{slice_split}
+use Rattle.std.specs.Io.KnownBytes.{Appends, Consumes, IsAtEnd}
+use Rattle.std.proofs.KnownBytes.{Appends-trans}
+use Rattle.std.proofs.lemmas.Option.{none-some}
+use Rattle.line_engine.specs.Answers.{IsBeginning}
+use Rattle.line_engine.specs.Outputs.{Puts, AppendsBeginning}
+use Rattle.line_engine.proofs.Putting.{puts_nothing, puts_more, begins_after_puts}
+use Rattle.cidr_filter.specs.Filters.{Filters}
+use Rattle.cidr_filter.specs.Lines.{LogLine, lines_in, log_lines, ended_lines}
+use Rattle.cidr_filter.specs.Logs.{IsAllOf, IsFirstOf, FiltersLogs, RefusesAfter, HaltsBy}
+use Rattle.cidr_filter.specs.Stands.{Stand, Counts, Goes}
+use Rattle.cidr_filter.specs.Stops.{Ends, FiltersEnded, WritesBeginning, EndsAtLine, IsLine, Stops}
+use Rattle.cidr_filter.specs.Private.Runs.{FiltersName, FiltersNames, NameStops}
+use Rattle.cidr_filter.specs.declared.filter.Filter.{Filter}
+use Rattle.cidr_filter.specs.declared.filter.Verdict.{Verdict}
+use Rattle.cidr_filter.specs.declared.log.LogFault.{LogFault}
+use Rattle.cidr_filter.specs.declared.log.LogFault.TheVariants as faults
+use Rattle.cidr_filter.proofs.Filtering.{counts_more, counts_none}
+use Rattle.cidr_filter.proofs.Judging.{same_some}
+
+-- ---- what was read of a log
+
+known_first : (remained remains : Option (List ℕ)) (read input : List ℕ) → remained ≡ Some input → Consumes remained remains read → IsBeginning read input
+known_first None remains read input e h = absurd (none-some input e)
+known_first (Some xs) None read input e h = absurd h
+known_first (Some xs) (Some ys) read input e h = (ys, same_some input xs (Some xs) e refl ∙ h)
+
+known_all : (remained remains : Option (List ℕ)) (read input : List ℕ) → remained ≡ Some input → Consumes remained remains read → IsAtEnd remains → read ≡ input
+known_all None remains read input e h end = absurd (none-some input e)
+known_all (Some xs) None read input e h end = absurd h
+known_all (Some xs) (Some ys) read input e h end =
+    sym (same_some input xs (Some xs) e refl ∙ h ∙ ap (λ t. read ++ t) end ∙ append-nil read)
+
+first_part : (read last input : List ℕ) → IsBeginning (read ++ last) input → IsBeginning read input
+first_part read last input b = (last ++ b.0, b.1 ∙ append_assoc read last b.0)
+
+-- ---- one log
+
+lines_told : (lines count : ℕ) → Counts 0 lines count → lines ≡ min count (2 ^ 64 - 1)
+lines_told lines count counted = let e = counted (omega arith) in omega (arith, e)
+
+-- the lines that are ended come first
+module _ where
+  is_ended : LogLine → Bool
+  is_ended line = line.is_ended
+
+  last_apart : (bytes : List ℕ) (none : Bool) → (others : List LogLine) × (cond none [] (record { bytes = bytes; is_ended = false } ∷ []) ≡ filter (λ line. line.is_ended) (cond none [] (record { bytes = bytes; is_ended = false } ∷ [])) ++ others)
+  last_apart bytes true = ([], refl)
+  last_apart bytes false = (record { bytes = bytes; is_ended = false } ∷ [], refl)
+
+  ended_before : (parts : List (List ℕ)) → (others : List LogLine) × (lines_in parts ≡ filter (λ line. line.is_ended) (lines_in parts) ++ others)
+  ended_before [] = ([], refl)
+  ended_before (part ∷ []) = last_apart part (length part == 0)
+  ended_before (part ∷ next ∷ parts) =
+      let more = ended_before (next ∷ parts) in
+      (more.0, ap (λ ls. record { bytes = part; is_ended = true } ∷ ls) more.1)
+
+pub ended_first : (read : List ℕ) → (others : List LogLine) × (log_lines read ≡ ended_lines read ++ others)
+ended_first read = ended_before (slice_split (λ b. b == 10) read)
+
+module _ (filter : Filter) (counts : Bool) (bytes_of : List ℕ → Option (List ℕ)) where
+  -- what the first lines of a log are, whatever ends it
+  pub some_first : (name : List ℕ) (lines : List LogLine) (fault : LogFault) → HaltsBy filter bytes_of name lines fault → HaltsBy filter bytes_of name lines faults.Write
+  some_first name lines faults.Open h = ([], [], (λ input e. (input, refl)), sym (ap (λ ls. ls ++ []) h))
+  some_first name lines faults.Read h =
+      let ended = ended_first h.0 in
+      (h.0, ended.0, h.1, ended.1 ∙ ap (λ ls. ls ++ ended.0) (sym h.2))
+  some_first name lines faults.Write h = h
+  some_first name lines faults.Address h = (h.read, h.line ∷ h.others, h.is_first, h.are)
+  some_first name lines faults.Length h = (h.read, h.line ∷ h.others, h.is_first, h.are)
+  some_first name lines faults.Endless h =
+      let ended = ended_first h.0 in
+      (h.0, ended.0, (λ input e. first_part h.0 h.1 input (h.2 input e)), ended.1 ∙ ap (λ ls. ls ++ ended.0) (sym h.4))
+
+  module _ (name : List ℕ) (remained remains : Option (List ℕ)) (known : (input : List ℕ) → bytes_of name ≡ Some input → remained ≡ Some input) where
+    all_of : (read : List ℕ) → Consumes remained remains read → IsAtEnd remains → IsAllOf bytes_of name read
+    all_of read took end = λ input e. known_all remained remains read input (known input e) took end
+
+    first_of : (read : List ℕ) → Consumes remained remains read → IsFirstOf bytes_of name read
+    first_of read took = λ input e. known_first remained remains read input (known input e) took
+
+    -- a log that was filtered to its end
+    pub name_ok : {T E : Type 0} (result : Result T E) (old new : Stand) → OnOk result (Ends filter counts remained remains (record old { lines = 0 }) new)
+        → OnOk result (FiltersName filter counts bytes_of name old new)
+    name_ok (Ok done) old new h = record {
+      read = h.read;
+      added = h.added;
+      count = h.count;
+      all = all_of h.read h.reads h.end;
+      filters = h.filters;
+      puts = h.goes.0;
+      counted = h.goes.1;
+    }
+    name_ok (Err fault) old new h = tt
+
+    line_halts : (verdict : Verdict) (old new : Stand) (h : EndsAtLine filter counts remained remains old new verdict) → RefusesAfter filter bytes_of name h.first verdict
+    line_halts verdict old new h = record {
+      read = h.read;
+      line = h.line;
+      others = h.others;
+      is_first = first_of h.read h.reads;
+      are = h.lines;
+      is_line = elim h.is_line [
+        | inl ended ↦ inl ended
+        | inr others ↦ elim others [
+          | inl end ↦ inr (inl (all_of h.read h.reads end))
+          | inr long ↦ inr (inr long)
+        ]
+      ];
+      judges = h.judges;
+      refused = h.refused;
+    }
+
+    -- or not
+    stops_by : (read_failed write_failed : Bool) (old new : Stand) (fault : LogFault) → Stops filter counts remained remains read_failed write_failed (record old { lines = 0 }) new fault
+        → NameStops filter counts bytes_of name write_failed old new fault
+    stops_by read_failed write_failed old new faults.Open h = absurd h
+    stops_by read_failed write_failed old new faults.Read h = record {
+      lines = ended_lines h.1;
+      added = h.3.added;
+      count = h.3.count;
+      filters = h.3.filters;
+      halts = (h.1, first_of h.1 h.2, refl);
+      puts = (h.3.goes.0, lines_told new.lines _ h.3.goes.2);
+    }
+    stops_by read_failed write_failed old new faults.Write h = record {
+      lines = h.1.first;
+      added = h.1.added;
+      count = h.1.count;
+      filters = h.1.filters;
+      halts = (h.1.read, h.1.others, first_of h.1.read h.1.reads, h.1.lines);
+      puts = (h.0, h.1.beginning);
+    }
+    stops_by read_failed write_failed old new faults.Address h = record {
+      lines = h.first;
+      added = h.added;
+      count = h.count;
+      filters = h.filters;
+      halts = line_halts _ _ new h;
+      puts = (h.goes.0, lines_told new.lines _ h.goes.2);
+    }
+    stops_by read_failed write_failed old new faults.Length h = record {
+      lines = h.first;
+      added = h.added;
+      count = h.count;
+      filters = h.filters;
+      halts = line_halts _ _ new h;
+      puts = (h.goes.0, lines_told new.lines _ h.goes.2);
+    }
+    stops_by read_failed write_failed old new faults.Endless h = record {
+      lines = ended_lines h.0;
+      added = h.4.added;
+      count = h.4.count;
+      filters = h.4.filters;
+      halts = (h.0, h.1, first_of (h.0 ++ h.1) h.2, h.3, refl);
+      puts = (h.4.goes.0, lines_told new.lines _ h.4.goes.2);
+    }
+
+    pub name_err : {T : Type 0} (result : Result T LogFault) (read_failed write_failed : Bool) (old new : Stand)
+        → IfErr result (Stops filter counts remained remains read_failed write_failed (record old { lines = 0 }) new)
+        → IfErr result (NameStops filter counts bytes_of name write_failed old new)
+    name_err (Ok done) read_failed write_failed old new h = tt
+    name_err (Err fault) read_failed write_failed old new h = stops_by read_failed write_failed old new fault h
+
+  -- a log that was not opened
+  pub name_closed : (name : List ℕ) (failed : Bool) (old : Stand) → NameStops filter counts bytes_of name failed old (record old { lines = 0 }) faults.Open
+  name_closed name failed old = record {
+    lines = [];
+    added = [];
+    count = 0;
+    filters = (refl, refl);
+    halts = refl;
+    puts = (puts_nothing old.holds old.waits, omega arith);
+  }
+
+  -- ---- logs in turn
+
+  pub names_none : (old : Stand) → FiltersNames filter counts bytes_of [] old old
+  names_none old = record {
+    output = [];
+    count = 0;
+    filters = (refl, refl);
+    puts = puts_nothing old.holds old.waits;
+    counted = counts_none old.selected old.selected refl;
+  }
+
+  pub names_one : (name : List ℕ) (old new : Stand) → FiltersName filter counts bytes_of name old new → FiltersNames filter counts bytes_of (name ∷ []) old new
+  names_one name old new h = record {
+    output = h.added ++ [];
+    count = h.count + 0;
+    filters = (h.read, h.added, [], h.count, 0, h.all, h.filters, (refl, refl), refl, refl);
+    puts = subst (Puts old.holds old.waits new.holds new.waits) (sym (append-nil h.added)) h.puts;
+    counted = subst (Counts old.selected new.selected) (omega arith) h.counted;
+  }
+
+  logs_both : (first second : List (List ℕ)) (a b : List ℕ) (m n : ℕ) → FiltersLogs filter counts bytes_of first a m → FiltersLogs filter counts bytes_of second b n
+      → FiltersLogs filter counts bytes_of (first ++ second) (a ++ b) (m + n)
+  logs_both [] second a b m n f g =
+      let none = f.1 in
+      let same : n ≡ m + n = omega (arith, none) in
+      subst (λ (t : List ℕ). FiltersLogs filter counts bytes_of second (t ++ b) (m + n)) (sym f.0)
+      (subst (λ (k : ℕ). FiltersLogs filter counts bytes_of second b k) same g)
+  logs_both (name ∷ first) second a b m n f g = (
+    f.0,
+    f.1,
+    f.2 ++ b,
+    f.3,
+    f.4 + n,
+    f.5,
+    f.6,
+    logs_both first second f.2 b f.4 n f.7 g,
+    ap (λ t. t ++ b) f.8 ∙ append_assoc f.1 f.2 b,
+    let e = f.9 in omega (arith, e),
+  )
+
+  pub names_both : (first second : List (List ℕ)) (old mid new : Stand) → FiltersNames filter counts bytes_of first old mid → FiltersNames filter counts bytes_of second mid new
+      → FiltersNames filter counts bytes_of (first ++ second) old new
+  names_both first second old mid new f g = record {
+    output = f.output ++ g.output;
+    count = f.count + g.count;
+    filters = logs_both first second f.output g.output f.count g.count f.filters g.filters;
+    puts = puts_more old.holds mid.holds new.holds old.waits mid.waits new.waits f.output g.output f.puts g.puts;
+    counted = counts_more old.selected mid.selected new.selected f.count g.count f.counted g.counted;
+  }
+
+  pub filters_both : (first second : List (List ℕ)) (a b : List ℕ) (m n : ℕ) → FiltersLogs filter counts bytes_of first a m → FiltersLogs filter counts bytes_of second b n
+      → FiltersLogs filter counts bytes_of (first ++ second) (a ++ b) (m + n)
+  filters_both first second a b m n f g = logs_both first second a b m n f g
+
+-- ---- what was put and then written
+
+-- what waited after some bytes were put was written, and more
+pub puts_then_all : (held mid holds : Option (List ℕ)) (waited between added more : List ℕ) → Puts held waited mid between added → Appends mid holds (between ++ more) → Appends held holds (waited ++ (added ++ more))
+puts_then_all held mid holds waited between added more p h =
+    subst (Appends held holds)
+    (sym (append_assoc p.0 between more) ∙ ap (λ t. t ++ more) (sym p.2) ∙ append_assoc waited added more)
+    (Appends-trans held mid holds p.0 (between ++ more) p.1 h)

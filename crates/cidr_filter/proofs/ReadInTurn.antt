@@ -1,0 +1,166 @@
+-- Lists that are read in turn.
+use Rattle.std.proofs.Common.{◌≡◌, ◌<◌, ◌≤◌, ◌+◌, ◌-◌, ◌++◌, ◌∷◌, ◌∙◌, [], ℕ, Bool, List, true, false, not, cond, refl, sym, ap, subst, arith, length, get_or, drop, length-drop, true≢false}
+use Rattle.std.specs.Prelude.{Option, None, Some, Result, Ok, Err, OnOk, IfOk, String, nat_lt, ◌&&◌, ◌==◌, if◌then◌else◌, codes, bytes_eq}
+use Rattle.std.specs.List.{list_all, list_any}
+use Rattle.std.specs.String.{string_bytes}
+use Rattle.std.specs.Str.Lines.{lines}
+use Rattle.std.proofs.lemmas.List.{get_or-drop}
+use Rattle.std.proofs.lemmas.Option.{none-some}
+use Rattle.ipnetwork_blocks.specs.Aggregate.{IsAggregate}
+use Rattle.ipnetwork_family.specs.Network.{Network}
+use Rattle.address_lists.specs.Lists.{ReadLists, nothing_read, at_list, TakesLines}
+use Rattle.address_lists.specs.Refusals.{Refused, no_refusals}
+use Rattle.cidr_filter.specs.CommandLines.{Begin}
+use Rattle.cidr_filter.specs.Listed.{HasBlocksOf}
+use Rattle.cidr_filter.specs.Options.{option_of, behind_option, takes_next, in_one_word, field_option, separator_option, bad_option, letters_option, is_field, is_separator, is_letter, number_of, begins, is_list}
+use Rattle.cidr_filter.specs.Reading.{ReadsList, ReadsOption, next_place, ReadsOptions, ReadsLists, IsReadOf, HoldsRead}
+use Rattle.cidr_filter.specs.Told.{name_at}
+use Rattle.cidr_filter.specs.Private.Reading.{ReadsAll, HasBlocks}
+use Rattle.cidr_filter.specs.declared.filter.Bad.TheVariants as bads
+use Rattle.cidr_filter.specs.declared.listed.Listed.{Listed}
+use Rattle.cidr_filter.specs.declared.listed.Listed.TheVariants.{Addresses, Blocks}
+use Rattle.cidr_filter.specs.declared.listed.Sets.{Sets}
+use Rattle.cidr_filter.specs.declared.options.Choice.{Choice}
+use Rattle.cidr_filter.specs.declared.options.Choice.TheVariants as choices
+use Rattle.cidr_filter.proofs.Told.{name_within}
+
+-- ---- options
+
+-- an option more
+pub reads_more : {Z : Type 0} (bytes_of : List ℕ → Option (List ℕ)) (all words rest : List (String Z)) (options : List Choice) (choice : Choice) (before mid after : ReadLists)
+    → Begin words options rest → ReadsOptions bytes_of all words options before mid → ReadsOption bytes_of (next_place all rest) choice (name_at rest 1) mid after
+    → ReadsOptions bytes_of all words (options ++ choice ∷ []) before after
+reads_more {Z} bytes_of all words rest [] choice before mid after e h r = (
+  after,
+  subst (λ (w : List (String Z)). ReadsOption bytes_of (next_place all w) choice (name_at w 1) before after) (sym e)
+      (subst (λ (m : ReadLists). ReadsOption bytes_of (next_place all rest) choice (name_at rest 1) m after) h r),
+  refl,
+)
+reads_more bytes_of all words rest (option ∷ options) choice before mid after begin h r =
+    (h.0, h.1, reads_more bytes_of all (behind_option words) rest options choice h.0 mid after begin.1 h.2 r)
+
+pub place_behind : {Z : Type 0} (words : List (String Z)) (at : ℕ) → at ≤ length words → next_place words (drop at words) ≡ at + 1
+place_behind words at within = omega (arith, within, length-drop at words)
+
+-- ---- an option that names a list has a value
+
+abbrev is_other : Option Choice → Bool
+is_other None = true
+is_other (Some choice) = not (is_list choice)
+
+either : (b : Bool) (x y : Option Choice) → is_other x ≡ true → is_other y ≡ true → is_other (cond b x y) ≡ true
+either true x y h k = h
+either false x y h k = k
+
+separator_other : (text : List ℕ) → is_other (separator_option text) ≡ true
+separator_other [] = refl
+separator_other (byte ∷ []) = either (is_separator byte) (Some (choices.Separator byte)) None refl refl
+separator_other (byte ∷ other ∷ bytes) = refl
+
+field_other : (text : List ℕ) → is_other (field_option text) ≡ true
+field_other text = either (is_field text) (Some (choices.Field (number_of text))) None refl refl
+
+letters_other : (letters : List ℕ) → is_other (letters_option letters) ≡ true
+letters_other letters =
+    either (nat_lt 0 (length letters) && list_all is_letter letters)
+    (Some (choices.Letters (list_any (λ letter. letter == 118) letters) (list_any (λ letter. letter == 99) letters))) None refl refl
+
+bad_other : (text : List ℕ) → is_other (bad_option text) ≡ true
+bad_other text =
+    let stop : Option Choice = if bytes_eq text (codes "stop") then Some (choices.Bad bads.Stop) else None in
+    let keep : Option Choice = if bytes_eq text (codes "keep") then Some (choices.Bad bads.Keep) else stop in
+    either (bytes_eq text (codes "drop")) (Some (choices.Bad bads.Drop)) keep refl
+    (either (bytes_eq text (codes "keep")) (Some (choices.Bad bads.Keep)) stop refl
+    (either (bytes_eq text (codes "stop")) (Some (choices.Bad bads.Stop)) None refl refl))
+
+one_word_other : (word : List ℕ) → is_other (in_one_word word) ≡ true
+one_word_other word =
+    let letters : Option Choice = if begins (codes "-") word then letters_option (drop 1 word) else None in
+    let longest : Option Choice = if bytes_eq word (codes "--longest") then Some choices.Longest else letters in
+    let bad : Option Choice = if begins (codes "--bad=") word then bad_option (drop 6 word) else longest in
+    let separator : Option Choice = if begins (codes "-d") word then separator_option (drop 2 word) else bad in
+    either (begins (codes "-k") word) (field_option (drop 2 word)) separator (field_other (drop 2 word))
+    (either (begins (codes "-d") word) (separator_option (drop 2 word)) bad (separator_other (drop 2 word))
+    (either (begins (codes "--bad=") word) (bad_option (drop 6 word)) longest (bad_other (drop 6 word))
+    (either (bytes_eq word (codes "--longest")) (Some choices.Longest) letters refl
+    (either (begins (codes "-") word) (letters_option (drop 1 word)) None (letters_other (drop 1 word)) refl))))
+
+other_not_list : (o : Option Choice) (choice : Choice) → o ≡ Some choice → is_other o ≡ true → is_list choice ≡ true → ⊥
+other_not_list o choice e other list = true≢false (sym other ∙ ap is_other e ∙ ap not list)
+
+one_alone : {Z : Type 0} (word : String Z) (takes : Bool) (choice : Choice) → takes_next word ≡ takes → option_of (word ∷ []) ≡ Some choice → is_list choice ≡ true → ⊥
+one_alone word true choice t e list = none-some choice (sym (ap (λ b. cond b None (in_one_word (string_bytes word))) t) ∙ e)
+one_alone word false choice t e list =
+    other_not_list (in_one_word (string_bytes word)) choice (sym (ap (λ b. cond b None (in_one_word (string_bytes word))) t) ∙ e) (one_word_other (string_bytes word)) list
+
+has_value : {Z : Type 0} (words : List (String Z)) (choice : Choice) → option_of words ≡ Some choice → is_list choice ≡ true → 1 < length words
+has_value [] choice e list = absurd (none-some choice e)
+has_value (word ∷ []) choice e list = absurd (one_alone word (takes_next word) choice refl e list)
+has_value (word ∷ value ∷ words) choice e list = omega arith
+
+pub value_within : {Z : Type 0} (words : List (String Z)) (at : ℕ) (choice : Choice) → at ≤ length words → option_of (drop at words) ≡ Some choice → is_list choice ≡ true → at + 1 < length words
+value_within words at choice within e list = omega (arith, within, length-drop at words, has_value (drop at words) choice e list)
+
+pub value_is : {Z : Type 0} (words : List (String Z)) (at : ℕ) (value : String Z) → at + 1 < length words → value ≡ get_or words (at + 1) value → name_at (drop at words) 1 ≡ string_bytes value
+value_is words at value within is =
+    name_within (drop at words) 1 value (omega (arith, within, length-drop at words)) ∙ ap string_bytes (get_or-drop at words 1 value ∙ sym is)
+
+-- ---- what an option reads
+
+pub reads_nothing : (bytes_of : List ℕ → Option (List ℕ)) (number : ℕ) (choice : Choice) (value : List ℕ) (before : ReadLists) → is_list choice ≡ false → ReadsOption bytes_of number choice value before before
+reads_nothing bytes_of number (choices.Letters inverts counts) value before e = refl
+reads_nothing bytes_of number (choices.Field field) value before e = refl
+reads_nothing bytes_of number (choices.Separator byte) value before e = refl
+reads_nothing bytes_of number (choices.Bad bad) value before e = refl
+reads_nothing bytes_of number choices.Longest value before e = refl
+reads_nothing bytes_of number choices.File value before e = absurd (true≢false e)
+reads_nothing bytes_of number choices.Input value before e = absurd (true≢false e)
+reads_nothing bytes_of number choices.Text value before e = absurd (true≢false e)
+
+-- the value of an `-e`
+pub reads_text : {T E : Type 0} (result : Result T E) (bytes_of : List ℕ → Option (List ℕ)) (number : ℕ) (choice : Choice) (value text : List ℕ) (before after : ReadLists)
+    → choice ≡ choices.Text → value ≡ text → OnOk result (TakesLines (at_list before number) (lines text) after) → OnOk result (ReadsOption bytes_of number choice value before after)
+reads_text result bytes_of number choice value text before after is same h =
+    subst (λ (c : Choice). OnOk result (ReadsOption bytes_of number c value before after)) (sym is)
+    (subst (λ (t : List ℕ). OnOk result (TakesLines (at_list before number) (lines t) after)) (sym same) h)
+
+file_is : {T E : Type 0} (result : Result T E) (bytes_of : List ℕ → Option (List ℕ)) (number : ℕ) (choice : Choice) (value : List ℕ) (before after : ReadLists)
+    → is_list choice ≡ true → ¬ (choice ≡ choices.Text) → OnOk result (ReadsList bytes_of number value before after) → OnOk result (ReadsOption bytes_of number choice value before after)
+file_is result bytes_of number (choices.Letters inverts counts) value before after list not h = absurd (true≢false (sym list))
+file_is result bytes_of number (choices.Field field) value before after list not h = absurd (true≢false (sym list))
+file_is result bytes_of number (choices.Separator byte) value before after list not h = absurd (true≢false (sym list))
+file_is result bytes_of number (choices.Bad bad) value before after list not h = absurd (true≢false (sym list))
+file_is result bytes_of number choices.Longest value before after list not h = absurd (true≢false (sym list))
+file_is result bytes_of number choices.File value before after list not h = h
+file_is result bytes_of number choices.Input value before after list not h = h
+file_is result bytes_of number choices.Text value before after list not h = absurd (not refl)
+
+-- the list that an `-f` names
+pub reads_file : {T E : Type 0} (result : Result T E) (bytes_of : List ℕ → Option (List ℕ)) (number : ℕ) (choice : Choice) (value name : List ℕ) (before after : ReadLists)
+    → is_list choice ≡ true → ¬ (choice ≡ choices.Text) → value ≡ name → OnOk result (ReadsList bytes_of number name before after)
+    → OnOk result (ReadsOption bytes_of number choice value before after)
+reads_file result bytes_of number choice value name before after list not same h =
+    file_is result bytes_of number choice value before after list not (subst (λ (n : List ℕ). OnOk result (ReadsList bytes_of number n before after)) (sym same) h)
+
+-- ---- what was read
+
+pub blocks_held : {E : Type 0} (result : Result Listed E) (longest : Bool) (read : ReadLists) (v4 v6 : List Network) → longest ≡ true → v4 ≡ read.v4 → v6 ≡ read.v6
+    → IfOk result (HasBlocks v4 v6) → IfOk result (HoldsRead longest read)
+blocks_held (Ok (Addresses sets)) longest read v4 v6 e f g h = absurd h
+blocks_held (Ok (Blocks tables)) longest read v4 v6 e f g h =
+    (e, subst (λ (n : List Network). HasBlocksOf 32 n tables.v4) f h.0, subst (λ (n : List Network). HasBlocksOf 128 n tables.v6) g h.1)
+blocks_held (Err fault) longest read v4 v6 e f g h = tt
+
+pub all_read : {Z T E F : Type 0} (result : Result T E) (bytes_of : List ℕ → Option (List ℕ)) (words : List (String Z)) (longest : Bool) (listed : Result Listed F) (start read : ReadLists)
+    (before refused : Refused) → before ≡ no_refusals → start ≡ nothing_read before → OnOk result (ReadsLists bytes_of words start read) → OnOk result (read.is_out_of_memory ≡ false)
+    → IfOk listed (HoldsRead longest read) → refused ≡ read.refused → OnOk result (ReadsAll bytes_of words longest listed refused)
+all_read (Ok done) bytes_of words longest listed start read before refused none e h m holds same = record {
+  read = read;
+  is_read = record {
+    lists = subst (λ (s : ReadLists). ReadsLists bytes_of words s read) (e ∙ ap nothing_read none) h;
+    memory = m;
+  };
+  holds = holds;
+  refused_lines = sym same;
+}
+all_read (Err fault) bytes_of words longest listed start read before refused none e h m holds same = tt

@@ -1,0 +1,411 @@
+-- How a run ends.
+use Rattle.std.proofs.Common.{◌≡◌, ◌==◌, ◌⊎◌, ◌+◌, ◌-◌, ◌^◌, ◌<◌, ◌≤◌, ◌++◌, ◌∷◌, ◌∙◌, [], ◌||◌, ℕ, zero, suc, List, Bool, true, false, true≢false, not, refl, sym, ap, subst, inl, inr, arith, length, min, map, take, drop, take-append-drop, get_or, append_assoc, append-nil, decimal, codes}
+use Rattle.std.specs.Prelude.{Option, Result, Ok, Err, OnOk, OnErr, IfErr, IfOk, IsTrue, is_err, nat_lt, if◌then◌else◌, String}
+use Rattle.std.specs.String.{string_bytes}
+use Rattle.std.specs.Io.KnownBytes.{Appends}
+use Rattle.std.proofs.lemmas.Bool.{ne_eqb}
+use Rattle.std.proofs.lemmas.Bool.Decides.{nat_tests}
+use Rattle.std.proofs.lemmas.List.{take_all, take_more, map_push}
+use Rattle.address_lists.specs.Lists.{ReadLists}
+use Rattle.address_lists.specs.Refusals.{Refused}
+use Rattle.line_engine.specs.declared.output.Output.{Output}
+use Rattle.line_engine.specs.Outputs.{writer_of, waits_in, output_failed, Puts, AppendsBeginning}
+use Rattle.line_engine.proofs.Putting.{begins_after_puts}
+use Rattle.program_io.specs.Endings.{status_of, end_text}
+use Rattle.program_io.specs.Messages.{Tells}
+use Rattle.cidr_filter.specs.CommandLines.{Asks}
+use Rattle.cidr_filter.specs.Filters.{Filters}
+use Rattle.cidr_filter.specs.Lines.{LogLine}
+use Rattle.cidr_filter.specs.Logs.{logs_of, HaltsBy}
+use Rattle.cidr_filter.specs.Reading.{HoldsRead}
+use Rattle.cidr_filter.specs.Runs.{Ending, was_refused, HasTold, HasWritten, FailsWriting, Wrote, Refuses, StopsAtLog, total_text, FiltersAll, EndsLogs, filter_of, EndsFiltering, EndsRequest, EndsAs}
+use Rattle.cidr_filter.specs.Stands.{Stand, stand, Counts}
+use Rattle.cidr_filter.specs.Told.{refusals_text, fault_text, line_text, log_fault_text}
+use Rattle.cidr_filter.specs.Private.Reading.{ReadsAll}
+use Rattle.cidr_filter.specs.Private.Runs.{FiltersNames, PutsBy, HandsOn, StopsBy, EndsListed, EndsBy}
+use Rattle.cidr_filter.specs.declared.command_line.Command.{Command}
+use Rattle.cidr_filter.specs.declared.command_line.Request.{Request}
+use Rattle.cidr_filter.specs.declared.filter.Filter.{Filter}
+use Rattle.cidr_filter.specs.declared.listed.Listed.{Listed}
+use Rattle.cidr_filter.specs.declared.log.LogFault.{LogFault}
+use Rattle.cidr_filter.specs.declared.log.LogFault.TheVariants as faults
+use Rattle.cidr_filter.specs.declared.log.Tally.{Tally}
+use Rattle.cidr_filter.specs.declared.reading.ReadFault.{ReadFault}
+use Rattle.cidr_filter.proofs.LogsInTurn.{names_both, some_first, filters_both, puts_then_all}
+use Rattle.cidr_filter.proofs.Stopping.{failed_now}
+
+-- ---- a log that stops
+
+-- the number of the line that is told
+told_line : (name cause : List ℕ) (lines count : ℕ) → lines ≡ min count (2 ^ 64 - 1) → line_text name lines cause ≡ line_text name count cause
+told_line name cause lines count e =
+    let same : min (lines + 1) (2 ^ 64 - 1) ≡ min (count + 1) (2 ^ 64 - 1) = omega (arith, e) in
+    ap (λ n. name ++ codes ":" ++ decimal n ++ codes ": refused " ++ cause ++ codes "\n") same
+
+told_log : (name : List ℕ) (lines count : ℕ) (fault : LogFault) → lines ≡ min count (2 ^ 64 - 1) → log_fault_text name lines fault ≡ log_fault_text name count fault
+told_log name lines count faults.Open e = refl
+told_log name lines count faults.Read e = refl
+told_log name lines count faults.Write e = refl
+told_log name lines count faults.Address e = told_line name (codes "address") lines count e
+told_log name lines count faults.Length e = told_line name (codes "length") lines count e
+told_log name lines count faults.Endless e = refl
+
+tells_as : {W : Type 0} (contents : W → Option (List ℕ)) (old new : Output W) (text other : List ℕ) → text ≡ other → Tells contents old new text → Tells contents old new other
+tells_as contents old new text other e h = subst (λ (t : List ℕ). Tells contents old new t) e h
+
+-- the first lines of a log were filtered, and then it stopped
+at_log : {W E : Type 0} (filter : Filter) (counts : Bool) (bytes_of : List ℕ → Option (List ℕ)) (name : List ℕ) (fault : LogFault) (lines : List LogLine) (added : List ℕ) (more : ℕ) (end : Ending W E)
+    → end.status ≡ 2 → Filters filter counts lines added more → HaltsBy filter bytes_of name lines fault → Wrote fault end ([] ++ added)
+    → HasTold end (log_fault_text name (length lines) fault) → StopsAtLog filter counts bytes_of (name ∷ []) end
+at_log filter counts bytes_of name fault lines added more end two filters halts wrote told = record {
+  before = [];
+  name = name;
+  behind = [];
+  output = [];
+  selected = 0;
+  lines = lines;
+  added = added;
+  more = more;
+  fault = fault;
+  logs = refl;
+  filters = (refl, refl);
+  first = filters;
+  halts = halts;
+  wrote = wrote;
+  told = told;
+  status = two;
+}
+
+-- what waited was written behind what was put, or the writer failed at it
+written_behind : {W E : Type 0} (end : Ending W E) (mid : Output W) (added : List ℕ)
+    → Puts (end.holds (writer_of end.output)) (waits_in end.output) (end.holds (writer_of mid)) (waits_in mid) added
+    → HasWritten (record end { output = mid }) [] → HasWritten end added
+written_behind end mid added p h =
+    subst (λ t. Appends (end.holds (writer_of end.output)) (end.holds (writer_of end.output_after)) (waits_in end.output ++ t)) (append-nil added)
+    (puts_then_all _ _ _ _ _ added [] p h)
+
+failed_behind : {W E : Type 0} (end : Ending W E) (mid : Output W) (added : List ℕ)
+    → Puts (end.holds (writer_of end.output)) (waits_in end.output) (end.holds (writer_of mid)) (waits_in mid) added
+    → FailsWriting (record end { output = mid }) [] → FailsWriting end added
+failed_behind end mid added p h = (
+  h.0,
+  subst (λ t. AppendsBeginning (end.holds (writer_of end.output)) (end.holds (writer_of end.output_after)) (waits_in end.output ++ t)) (append-nil added)
+      (begins_after_puts _ _ _ _ _ added [] p h.1),
+)
+
+module _ {W E : Type 0} (filter : Filter) (counts : Bool) (bytes_of : List ℕ → Option (List ℕ)) (name : List ℕ) (lines : List LogLine) (added : List ℕ) (more : ℕ)
+    (filters : Filters filter counts lines added more) (end : Ending W E) (two : end.status ≡ 2) (mid : Output W) (told : ℕ) where
+  -- the output of these lines was put, and then what waited was written or not
+  handed : (fault : LogFault) → HaltsBy filter bytes_of name lines fault → ((text : List ℕ) → HasWritten end text → Wrote fault end text)
+      → Puts (end.holds (writer_of end.output)) (waits_in end.output) (end.holds (writer_of mid)) (waits_in mid) added × (told ≡ min (length lines) (2 ^ 64 - 1))
+      → HandsOn name told fault (record end { output = mid }) → StopsAtLog filter counts bytes_of (name ∷ []) end
+  handed fault halts wrote p (inl h) =
+      at_log filter counts bytes_of name fault lines added more end two filters halts (wrote ([] ++ added) (written_behind end mid added p.0 h.0))
+      (tells_as end.tells end.errors end.errors_after _ _ (told_log name told (length lines) fault p.1) h.1)
+  handed fault halts wrote p (inr h) =
+      at_log filter counts bytes_of name faults.Write lines added more end two filters (some_first filter counts bytes_of name lines fault halts) (failed_behind end mid added p.0 h.0) h.1
+
+  -- the writer had failed
+  had_failed : HaltsBy filter bytes_of name lines faults.Write → IsTrue (output_failed mid)
+      × AppendsBeginning (end.holds (writer_of end.output)) (end.holds (writer_of mid)) (waits_in end.output ++ added)
+      → (end.output_after ≡ mid) × HasTold (record end { output = mid }) (codes "write error\n") → StopsAtLog filter counts bytes_of (name ∷ []) end
+  had_failed halts p stops =
+      at_log filter counts bytes_of name faults.Write lines added more end two filters halts
+      (subst (λ (o : Output W). (output_failed o ≡ true) × AppendsBeginning (end.holds (writer_of end.output)) (end.holds (writer_of o)) (waits_in end.output ++ added)) (sym stops.0) p) stops.1
+
+  pub stops_now : (fault : LogFault) (old new : Tally) → new.lines ≡ told → HaltsBy filter bytes_of name lines fault
+      → PutsBy fault (output_failed mid) (stand (end.holds (writer_of end.output)) (waits_in end.output) old) (stand (end.holds (writer_of mid)) (waits_in mid) new) added (length lines)
+      → StopsBy name told fault (record end { output = mid }) → StopsAtLog filter counts bytes_of (name ∷ []) end
+  stops_now faults.Open old new same halts puts stops = handed faults.Open halts (λ text h. h) (puts.0, sym same ∙ puts.1) stops
+  stops_now faults.Read old new same halts puts stops = handed faults.Read halts (λ text h. h) (puts.0, sym same ∙ puts.1) stops
+  stops_now faults.Write old new same halts puts stops = had_failed halts puts stops
+  stops_now faults.Address old new same halts puts stops = handed faults.Address halts (λ text h. h) (puts.0, sym same ∙ puts.1) stops
+  stops_now faults.Length old new same halts puts stops = handed faults.Length halts (λ text h. h) (puts.0, sym same ∙ puts.1) stops
+  stops_now faults.Endless old new same halts puts stops = handed faults.Endless halts (λ text h. h) (puts.0, sym same ∙ puts.1) stops
+
+-- ---- logs in turn
+
+wrote_behind : {W E : Type 0} (fault : LogFault) (end : Ending W E) (mid : Output W) (output text : List ℕ)
+    → Puts (end.holds (writer_of end.output)) (waits_in end.output) (end.holds (writer_of mid)) (waits_in mid) output
+    → Wrote fault (record end { output = mid }) text → Wrote fault end (output ++ text)
+wrote_behind faults.Open end mid output text p h = puts_then_all _ _ _ _ _ output text p h
+wrote_behind faults.Read end mid output text p h = puts_then_all _ _ _ _ _ output text p h
+wrote_behind faults.Write end mid output text p h = (h.0, begins_after_puts _ _ _ _ _ output text p h.1)
+wrote_behind faults.Address end mid output text p h = puts_then_all _ _ _ _ _ output text p h
+wrote_behind faults.Length end mid output text p h = puts_then_all _ _ _ _ _ output text p h
+wrote_behind faults.Endless end mid output text p h = puts_then_all _ _ _ _ _ output text p h
+
+wrote_same : {W E : Type 0} (fault : LogFault) (end : Ending W E) (text other : List ℕ) → text ≡ other → Wrote fault end text → Wrote fault end other
+wrote_same fault end text other e h = subst (λ (t : List ℕ). Wrote fault end t) e h
+
+-- a log that stops behind others that were filtered
+pub stops_behind_names : {W E : Type 0} (filter : Filter) (counts : Bool) (bytes_of : List ℕ → Option (List ℕ)) (done more rest names : List (List ℕ)) (end : Ending W E) (mid : Output W) (old now : Tally)
+    → names ≡ done ++ (more ++ rest)
+    → FiltersNames filter counts bytes_of done (stand (end.holds (writer_of end.output)) (waits_in end.output) old) (stand (end.holds (writer_of mid)) (waits_in mid) now)
+    → StopsAtLog filter counts bytes_of more (record end { output = mid }) → StopsAtLog filter counts bytes_of names end
+stops_behind_names filter counts bytes_of done more rest names end mid old now e f s = record {
+  before = done ++ s.before;
+  name = s.name;
+  behind = s.behind ++ rest;
+  output = f.output ++ s.output;
+  selected = f.count + s.selected;
+  lines = s.lines;
+  added = s.added;
+  more = s.more;
+  fault = s.fault;
+  logs = e ∙ ap (λ l. done ++ (l ++ rest)) s.logs ∙ ap (λ l. done ++ l) (append_assoc s.before (s.name ∷ s.behind) rest) ∙ sym (append_assoc done s.before (s.name ∷ (s.behind ++ rest)));
+  filters = filters_both filter counts bytes_of done s.before f.output s.output f.count s.selected f.filters s.filters;
+  first = s.first;
+  halts = s.halts;
+  wrote = wrote_same s.fault end _ _ (sym (append_assoc f.output s.output s.added)) (wrote_behind s.fault end mid f.output (s.output ++ s.added) f.puts s.wrote);
+  told = s.told;
+  status = s.status;
+}
+
+-- the names of logs up to a place, the one there, and those behind it
+pub names_more : {Z : Type 0} (files : List (String Z)) (i : ℕ) (file : String Z) (name : List ℕ) → i < length files → file ≡ get_or files i file → name ≡ string_bytes file
+    → map string_bytes (take (i + 1) files) ≡ map string_bytes (take i files) ++ name ∷ []
+names_more files i file name within is same =
+    ap (map string_bytes) (take_more files i file within ∙ ap (λ f. take i files ++ f ∷ []) (sym is)) ∙ map_push string_bytes (take i files) file
+    ∙ ap (λ n. map string_bytes (take i files) ++ n ∷ []) (sym same)
+
+pub logs_some : {Z : Type 0} (files : List (String Z)) → (length files == 0) ≡ false → logs_of files ≡ map string_bytes files
+logs_some [] some = absurd (true≢false some)
+logs_some (file ∷ files) some = refl
+
+pub logs_none : {Z : Type 0} (files : List (String Z)) → (length files == 0) ≡ true → logs_of files ≡ codes "-" ∷ []
+logs_none [] none = refl
+logs_none (file ∷ files) none = absurd (true≢false (sym none ∙ ne_eqb (length (file ∷ files)) 0 (λ e. omega (arith, e))))
+
+map_both : {X : Type 0} (f : X → List ℕ) (xs ys : List X) → map f (xs ++ ys) ≡ map f xs ++ map f ys
+map_both f [] ys = refl
+map_both f (x ∷ xs) ys = ap (λ l. f x ∷ l) (map_both f xs ys)
+
+pub names_apart : {Z : Type 0} (files : List (String Z)) (i : ℕ) (name : List ℕ) → map string_bytes (take (i + 1) files) ≡ map string_bytes (take i files) ++ name ∷ []
+    → map string_bytes files ≡ map string_bytes (take i files) ++ ((name ∷ []) ++ map string_bytes (drop (i + 1) files))
+names_apart files i name e =
+    ap (map string_bytes) (sym (take-append-drop (i + 1) files)) ∙ map_both string_bytes (take (i + 1) files) (drop (i + 1) files)
+    ∙ ap (λ l. l ++ map string_bytes (drop (i + 1) files)) e ∙ append_assoc (map string_bytes (take i files)) (name ∷ []) (map string_bytes (drop (i + 1) files))
+
+-- ---- one file more
+
+module _ {Z : Type 0} (filter : Filter) (counts : Bool) (bytes_of : List ℕ → Option (List ℕ)) (files : List (String Z)) where
+  -- there is none
+  pub input_named : (old new : Stand) → (length files == 0) ≡ true → FiltersNames filter counts bytes_of (codes "-" ∷ []) old new → FiltersNames filter counts bytes_of (logs_of files) old new
+  input_named old new none h = subst (λ (n : List (List ℕ)). FiltersNames filter counts bytes_of n old new) (sym (logs_none files none)) h
+
+  pub input_stops : {W E : Type 0} (end : Ending W E) → (length files == 0) ≡ true → StopsAtLog filter counts bytes_of (codes "-" ∷ []) end → StopsAtLog filter counts bytes_of (logs_of files) end
+  input_stops end none h = subst (λ (n : List (List ℕ)). StopsAtLog filter counts bytes_of n end) (sym (logs_none files none)) h
+
+  -- the one at a place was filtered too
+  pub one_more : (i : ℕ) (name : List ℕ) (old mid new : Stand) → map string_bytes (take (i + 1) files) ≡ map string_bytes (take i files) ++ name ∷ []
+      → FiltersNames filter counts bytes_of (map string_bytes (take i files)) old mid → FiltersNames filter counts bytes_of (name ∷ []) mid new
+      → FiltersNames filter counts bytes_of (map string_bytes (take (i + 1) files)) old new
+  one_more i name old mid new e f g =
+      subst (λ (n : List (List ℕ)). FiltersNames filter counts bytes_of n old new) (sym e) (names_both filter counts bytes_of (map string_bytes (take i files)) (name ∷ []) old mid new f g)
+
+  -- all were
+  pub all_named : (i : ℕ) (old new : Stand) → (length files == 0) ≡ false → length files ≤ i → FiltersNames filter counts bytes_of (map string_bytes (take i files)) old new
+      → FiltersNames filter counts bytes_of (logs_of files) old new
+  all_named i old new some past h =
+      subst (λ (n : List (List ℕ)). FiltersNames filter counts bytes_of n old new) (ap (map string_bytes) (take_all i files past) ∙ sym (logs_some files some)) h
+
+  -- the one at a place stopped
+  pub one_stops : {W E : Type 0} (i : ℕ) (name : List ℕ) (holds : W → Option (List ℕ)) (tells : E → Option (List ℕ)) (output mid after : Output W) (errors silent told : Output E) (old now : Tally)
+      → silent ≡ errors → (length files == 0) ≡ false → map string_bytes (take (i + 1) files) ≡ map string_bytes (take i files) ++ name ∷ []
+      → FiltersNames filter counts bytes_of (map string_bytes (take i files)) (stand (holds (writer_of output)) (waits_in output) old) (stand (holds (writer_of mid)) (waits_in mid) now)
+      → StopsAtLog filter counts bytes_of (name ∷ []) (record { holds = holds; output = mid; output_after = after; tells = tells; errors = silent; errors_after = told; status = 2 })
+      → StopsAtLog filter counts bytes_of (logs_of files) (record { holds = holds; output = output; output_after = after; tells = tells; errors = errors; errors_after = told; status = 2 })
+  one_stops {W} {E} i name holds tells output mid after errors silent told old now same some more f s =
+      let end : Ending W E = record { holds = holds; output = output; output_after = after; tells = tells; errors = errors; errors_after = told; status = 2 } in
+      subst (λ (n : List (List ℕ)). StopsAtLog filter counts bytes_of n end) (sym (logs_some files some))
+      (stops_behind_names filter counts bytes_of (map string_bytes (take i files)) (name ∷ []) (map string_bytes (drop (i + 1) files)) (map string_bytes files) end mid old now (names_apart files i name more) f
+      (subst (λ (o : Output E). StopsAtLog filter counts bytes_of (name ∷ []) (record { holds = holds; output = mid; output_after = after; tells = tells; errors = o; errors_after = told; status = 2 })) same s))
+
+-- ---- all logs
+
+total_same : (counts : Bool) (told count : ℕ) → told ≡ min count (2 ^ 64 - 1) → total_text counts told ≡ total_text counts count
+total_same true told count e =
+    let same : min told (2 ^ 64 - 1) ≡ min count (2 ^ 64 - 1) = omega (arith, e) in
+    ap (λ n. decimal n ++ codes "\n") same
+total_same false told count e = refl
+
+positive : (number : ℕ) → 0 < number → nat_lt 0 number ≡ true
+positive number some = grind (arith, nat_tests)
+
+status_same : (told count : ℕ) → told ≡ min count (2 ^ 64 - 1) → nat_lt 0 told ≡ nat_lt 0 count
+status_same zero zero e = refl
+status_same zero (suc count) e = absurd (omega (arith, e))
+status_same (suc told) zero e = absurd (omega (arith, e))
+status_same (suc told) (suc count) e = positive (suc told) (omega arith) ∙ sym (positive (suc count) (omega arith))
+
+counted_told : (told count : ℕ) → Counts 0 told count → told ≡ min count (2 ^ 64 - 1)
+counted_told told count counted = let e = counted (omega arith) in omega (arith, e)
+
+module _ {W E T F : Type 0} (filter : Filter) (counts : Bool) (bytes_of : List ℕ → Option (List ℕ)) (names : List (List ℕ)) (end : Ending W E) (mid : Output W) (told : ℕ) where
+  pub all_ended : (written : Result T F) (status : ℕ) (old now : Tally) → old.selected ≡ 0 → now.selected ≡ told
+      → FiltersNames filter counts bytes_of names (stand (end.holds (writer_of end.output)) (waits_in end.output) old) (stand (end.holds (writer_of mid)) (waits_in mid) now)
+      → OnOk written (Appends (end.holds (writer_of mid)) (end.holds (writer_of end.output_after)) (waits_in mid ++ total_text counts told))
+      → OnErr written (AppendsBeginning (end.holds (writer_of mid)) (end.holds (writer_of end.output_after)) (waits_in mid ++ total_text counts told))
+      → output_failed end.output_after ≡ (output_failed mid || is_err written) → status ≡ (if nat_lt 0 told then 0 else 1) → end.status ≡ status_of written status
+      → HasTold end (end_text written) → FiltersAll filter counts bytes_of names end
+  all_ended (Ok done) status old now none same f ok err failed st two tells =
+      let counted = counted_told told f.count (subst (λ n. Counts n told f.count) none (subst (λ n. Counts old.selected n f.count) same f.counted)) in
+      record {
+        output = f.output;
+        selected = f.count;
+        filters = f.filters;
+        ends = inl (
+          puts_then_all _ _ _ _ _ f.output (total_text counts f.count) f.puts
+              (subst (λ t. Appends (end.holds (writer_of mid)) (end.holds (writer_of end.output_after)) (waits_in mid ++ t)) (total_same counts told f.count counted) ok),
+          tells,
+          two ∙ st ∙ ap (λ b. if b then 0 else 1) (status_same told f.count counted),
+        );
+      }
+  all_ended (Err fault) status old now none same f ok err failed st two tells =
+      let counted = counted_told told f.count (subst (λ n. Counts n told f.count) none (subst (λ n. Counts old.selected n f.count) same f.counted)) in
+      record {
+        output = f.output;
+        selected = f.count;
+        filters = f.filters;
+        ends = inr (
+          (
+            failed_now (output_failed end.output_after) (output_failed mid) failed,
+            begins_after_puts _ _ _ _ _ f.output (total_text counts f.count) f.puts
+                (subst (λ t. AppendsBeginning (end.holds (writer_of mid)) (end.holds (writer_of end.output_after)) (waits_in mid ++ t)) (total_same counts told f.count counted) err),
+          ),
+          tells,
+          two,
+        );
+      }
+
+-- the number of selected lines was put, and then what waits was written
+pub number_then_ok : {T F : Type 0} (result : Result T F) (held mid holds : Option (List ℕ)) (waited between text other : List ℕ) → text ≡ other → Puts held waited mid between text
+    → OnOk result (Appends mid holds between) → OnOk result (Appends held holds (waited ++ other))
+number_then_ok (Ok done) held mid holds waited between text other e p h =
+    subst (λ t. Appends held holds (waited ++ t)) e
+    (subst (Appends held holds) (ap (λ t. waited ++ t) (append-nil text))
+    (puts_then_all held mid holds waited between text [] p (subst (Appends mid holds) (sym (append-nil between)) h)))
+number_then_ok (Err fault) held mid holds waited between text other e p h = tt
+
+pub number_then_err : {T F : Type 0} (result : Result T F) (held mid holds : Option (List ℕ)) (waited between text other : List ℕ) → text ≡ other → Puts held waited mid between text
+    → OnErr result (AppendsBeginning mid holds between) → OnErr result (AppendsBeginning held holds (waited ++ other))
+number_then_err (Ok done) held mid holds waited between text other e p h = tt
+number_then_err (Err fault) held mid holds waited between text other e p h =
+    subst (λ t. AppendsBeginning held holds (waited ++ t)) e
+    (subst (AppendsBeginning held holds) (ap (λ t. waited ++ t) (append-nil text))
+    (begins_after_puts held mid holds waited between text [] p (subst (AppendsBeginning mid holds) (sym (append-nil between)) h)))
+
+pub none_then_ok : {T F : Type 0} (result : Result T F) (held holds : Option (List ℕ)) (waited text : List ℕ) → text ≡ [] → OnOk result (Appends held holds waited) → OnOk result (Appends held holds (waited ++ text))
+none_then_ok result held holds waited text e h =
+    subst (λ (t : List ℕ). OnOk result (Appends held holds (waited ++ t))) (sym e) (subst (λ (t : List ℕ). OnOk result (Appends held holds t)) (sym (append-nil waited)) h)
+
+pub none_then_err : {T F : Type 0} (result : Result T F) (held holds : Option (List ℕ)) (waited text : List ℕ) → text ≡ [] → OnErr result (AppendsBeginning held holds waited)
+    → OnErr result (AppendsBeginning held holds (waited ++ text))
+none_then_err result held holds waited text e h =
+    subst (λ (t : List ℕ). OnErr result (AppendsBeginning held holds (waited ++ t))) (sym e)
+    (subst (λ (t : List ℕ). OnErr result (AppendsBeginning held holds t)) (sym (append-nil waited)) h)
+
+-- the line of the number, which fits 64 bits
+pub number_told : (counts : Bool) (number : ℕ) → counts ≡ true → number < 2 ^ 64 → decimal number ++ 10 ∷ [] ≡ total_text counts number
+number_told counts number e fits =
+    let same : number ≡ min number (2 ^ 64 - 1) = omega (arith, fits) in
+    ap (λ n. decimal n ++ codes "\n") same ∙ sym (ap (λ b. if b then decimal (min number (2 ^ 64 - 1)) ++ codes "\n" else []) e)
+
+pub nothing_told : (counts : Bool) (number : ℕ) → counts ≡ false → total_text counts number ≡ []
+nothing_told counts number e = ap (λ b. if b then decimal (min number (2 ^ 64 - 1)) ++ codes "\n" else []) e
+
+-- ---- what was written when a log stopped
+
+pub stops_else : {W E : Type 0} (name : List ℕ) (lines : ℕ) (fault : LogFault) (end : Ending W E) → ¬ (fault ≡ faults.Write) → HandsOn name lines fault end → StopsBy name lines fault end
+stops_else name lines faults.Open end not h = h
+stops_else name lines faults.Read end not h = h
+stops_else name lines faults.Write end not h = absurd (not refl)
+stops_else name lines faults.Address end not h = h
+stops_else name lines faults.Length end not h = h
+stops_else name lines faults.Endless end not h = h
+
+pub stops_failed : {W E : Type 0} (name : List ℕ) (lines : ℕ) (fault : LogFault) (end : Ending W E) → fault ≡ faults.Write → end.output_after ≡ end.output
+    → HasTold end (log_fault_text name lines faults.Write) → StopsBy name lines fault end
+stops_failed name lines fault end is same told = subst (λ (f : LogFault). StopsBy name lines f end) (sym is) (same, told)
+
+pub handed_all : {W E : Type 0} (name : List ℕ) (lines : ℕ) (fault : LogFault) (end : Ending W E)
+    → Appends (end.holds (writer_of end.output)) (end.holds (writer_of end.output_after)) (waits_in end.output) → HasTold end (log_fault_text name lines fault) → HandsOn name lines fault end
+handed_all name lines fault end h told =
+    inl (subst (Appends (end.holds (writer_of end.output)) (end.holds (writer_of end.output_after))) (sym (append-nil (waits_in end.output))) h, told)
+
+pub handed_some : {W E : Type 0} (name : List ℕ) (lines : ℕ) (fault : LogFault) (end : Ending W E) → IsTrue (output_failed end.output_after)
+    → AppendsBeginning (end.holds (writer_of end.output)) (end.holds (writer_of end.output_after)) (waits_in end.output) → HasTold end (log_fault_text name lines faults.Write)
+    → HandsOn name lines fault end
+handed_some name lines fault end failed h told =
+    inr ((failed, subst (AppendsBeginning (end.holds (writer_of end.output)) (end.holds (writer_of end.output_after))) (sym (append-nil (waits_in end.output))) h), told)
+
+-- ---- the run
+
+pub by_listed : {W E X : Type 0} (bytes_of : List ℕ → Option (List ℕ)) (request : Request) (listed : Result Listed X) (held : Listed) (names : List (List ℕ)) (end : Ending W E)
+    → listed ≡ Ok held → EndsListed bytes_of request held names end → EndsBy bytes_of request listed names end
+by_listed {W} {E} {X} bytes_of request listed held names end is h = subst (λ (l : Result Listed X). EndsBy bytes_of request l names end) (sym is) h
+
+pub by_none : {W E X : Type 0} (bytes_of : List ℕ → Option (List ℕ)) (request : Request) (listed : Result Listed X) (fault : X) (names : List (List ℕ)) (end : Ending W E)
+    → listed ≡ Err fault → Refuses (codes "out of memory\n") end → EndsBy bytes_of request listed names end
+by_none {W} {E} {X} bytes_of request listed fault names end is h = subst (λ (l : Result Listed X). EndsBy bytes_of request l names end) (sym is) h
+
+filtered_by : {Z W E X : Type 0} (bytes_of : List ℕ → Option (List ℕ)) (words : List (String Z)) (request : Request) (listed : Result Listed X) (read : ReadLists) (end : Ending W E)
+    → was_refused read.refused ≡ false → IfOk listed (HoldsRead request.longest read) → EndsBy bytes_of request listed (logs_of (drop request.files words)) end
+    → EndsFiltering bytes_of words request read end
+filtered_by bytes_of words request (Ok listed) read end none holds (inl h) = inr (none, inl h)
+filtered_by bytes_of words request (Ok listed) read end none holds (inr h) = inr (none, inr (listed, holds, h))
+filtered_by bytes_of words request (Err fault) read end none holds h = inr (none, inl h)
+
+module _ {Z W E : Type 0} (bytes_of : List ℕ → Option (List ℕ)) (words : List (String Z)) (request : Request) (refused : Refused) (end : Ending W E) (told : Output E)
+    (tells : Tells end.tells end.errors told (refusals_text words refused)) where
+  -- the reading stopped
+  pub reading_stopped : (fault : ReadFault) → Refuses (fault_text words fault) (record end { errors = told }) → EndsRequest bytes_of words request end
+  reading_stopped fault h = (refused, told, tells, inl (fault, h))
+
+  module _ {T F X : Type 0} (result : Result T F) (done : T) (listed : Result Listed X) (is : result ≡ Ok done) (all : OnOk result (ReadsAll bytes_of words request.longest listed refused)) where
+    was_read : ReadsAll bytes_of words request.longest listed refused
+    was_read = subst (λ (r : Result T F). OnOk r (ReadsAll bytes_of words request.longest listed refused)) is all
+
+    -- a line was refused
+    pub line_refused : (is_empty : Bool) → is_empty ≡ (length refused.kept == 0) → is_empty ≡ false → Refuses [] (record end { errors = told }) → EndsRequest bytes_of words request end
+    line_refused is_empty e some h = (
+      refused,
+      told,
+      tells,
+      inr (was_read.read, was_read.is_read, was_read.refused_lines, inl (ap was_refused was_read.refused_lines ∙ ap not (sym e ∙ some), h)),
+    )
+
+    -- none was
+    pub logs_filtered : (is_empty : Bool) → is_empty ≡ (length refused.kept == 0) → is_empty ≡ true
+        → EndsBy bytes_of request listed (logs_of (drop request.files words)) (record end { errors = told }) → EndsRequest bytes_of words request end
+    logs_filtered is_empty e none h = (
+      refused,
+      told,
+      tells,
+      inr (
+        was_read.read,
+        was_read.is_read,
+        was_read.refused_lines,
+        filtered_by bytes_of words request listed was_read.read (record end { errors = told }) (ap was_refused was_read.refused_lines ∙ ap not (sym e ∙ none)) was_read.holds h,
+      ),
+    )
+
+-- a command that is known
+pub ends_by : {Z W E : Type 0} (help version usage : List ℕ) (bytes_of : List ℕ → Option (List ℕ)) (words : List (String Z)) (command other : Command) (end : Ending W E) → command ≡ other
+    → Asks words command → EndsAs help version usage bytes_of words other end → (known : Command) × Asks words known × EndsAs help version usage bytes_of words known end
+ends_by help version usage bytes_of words command other end e asks ends =
+    (command, asks, subst (λ (c : Command). EndsAs help version usage bytes_of words c end) (sym e) ends)
+
+-- nothing was told before
+pub all_by : {W E T F : Type 0} (filter : Filter) (counts : Bool) (bytes_of : List ℕ → Option (List ℕ)) (names : List (List ℕ)) (holds : W → Option (List ℕ)) (tells : E → Option (List ℕ))
+    (output mid after : Output W) (errors silent told_errors : Output E) (status told : ℕ) → silent ≡ errors → (written : Result T F) (wanted : ℕ) (old now : Tally) → old.selected ≡ 0 → now.selected ≡ told
+    → FiltersNames filter counts bytes_of names (stand (holds (writer_of output)) (waits_in output) old) (stand (holds (writer_of mid)) (waits_in mid) now)
+    → OnOk written (Appends (holds (writer_of mid)) (holds (writer_of after)) (waits_in mid ++ total_text counts told))
+    → OnErr written (AppendsBeginning (holds (writer_of mid)) (holds (writer_of after)) (waits_in mid ++ total_text counts told))
+    → output_failed after ≡ (output_failed mid || is_err written) → wanted ≡ (if nat_lt 0 told then 0 else 1) → status ≡ status_of written wanted
+    → Tells tells silent told_errors (end_text written)
+    → FiltersAll filter counts bytes_of names (record { holds = holds; output = output; output_after = after; tells = tells; errors = errors; errors_after = told_errors; status = status })
+all_by {W} {E} filter counts bytes_of names holds tells output mid after errors silent told_errors status told same written wanted old now none is f ok err failed st two text =
+    all_ended filter counts bytes_of names (record { holds = holds; output = output; output_after = after; tells = tells; errors = errors; errors_after = told_errors; status = status }) mid told
+    written wanted old now none is f ok err failed st two (subst (λ (o : Output E). Tells tells o told_errors (end_text written)) same text)

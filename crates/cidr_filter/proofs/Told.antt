@@ -1,0 +1,128 @@
+-- What is told, one text after the other.
+use Rattle.std.proofs.Common.{◌≡◌, ◌<◌, ◌≤◌, ◌+◌, ◌-◌, ◌++◌, ◌∷◌, ◌∙◌, ◌⊎◌, inl, inr, [], ℕ, zero, suc, List, cond, refl, sym, ap, subst, arith, length, get_or, take, drop, drop-cons, min, ◌&&◌, append-nil, decimal, codes, true≢false}
+use Rattle.std.specs.Prelude.{Option, String, Bool, true, false, ◌||◌, nat_lt, bytes_eq, if◌then◌else◌}
+use Rattle.std.specs.List.{flat_map}
+use Rattle.std.specs.String.{string_bytes}
+use Rattle.std.proofs.lemmas.Grind.{flat_map-append}
+use Rattle.std.proofs.lemmas.List.{take_all, drop_all}
+use Rattle.std.proofs.lemmas.Bool.{cases_lt}
+use Rattle.std.proofs.lemmas.Bool.Decides.{nat_tests}
+use Rattle.line_engine.specs.declared.output.Output.{Output}
+use Rattle.line_engine.proofs.Putting.{puts_nothing}
+use Rattle.program_io.specs.Messages.{Tells}
+use Rattle.program_io.proofs.Telling.{tells_more}
+use Rattle.cidr_filter.specs.Filters.{one_if}
+use Rattle.cidr_filter.specs.Options.{is, takes_next, behind_option}
+use Rattle.cidr_filter.specs.Told.{name_at, is_text, texts_in, more_text}
+
+pub tells_nothing : {W : Type 0} (contents : W → Option (List ℕ)) (old : Output W) → Tells contents old old []
+tells_nothing contents old = record {
+  told = λ works. puts_nothing _ _;
+  failed = λ h. h;
+}
+
+-- a text by another name
+pub tells_same : {W : Type 0} (contents : W → Option (List ℕ)) (old new : Output W) (text other : List ℕ) → text ≡ other → Tells contents old new text → Tells contents old new other
+tells_same contents old new text other e h = subst (λ (t : List ℕ). Tells contents old new t) e h
+
+-- a line more
+pub tells_line : {W X : Type 0} (contents : W → Option (List ℕ)) (old mid new : Output W) (line : X → List ℕ) (done all : List X) (x : X) → all ≡ done ++ x ∷ []
+    → Tells contents old mid (flat_map line done) → Tells contents mid new (line x) → Tells contents old new (flat_map line all)
+tells_line contents old mid new line done all x e p q =
+    tells_same contents old new (flat_map line done ++ line x) (flat_map line all)
+    (ap (λ t. flat_map line done ++ t) (sym (append-nil (line x))) ∙ sym (flat_map-append line done (x ∷ [])) ∙ ap (flat_map line) (sym e))
+    (tells_more contents old mid new (flat_map line done) (line x) p q)
+
+-- how many more lines were refused, if any were
+pub more_told : (more : ℕ) → 0 < more → decimal more ++ codes " more refused lines\n" ≡ more_text more
+more_told more l =
+    let text = decimal more ++ codes " more refused lines\n" in
+    let e : nat_lt 0 more ≡ true = grind (arith, nat_tests) in
+    subst (λ (b : Bool). text ≡ (if b then text else [])) (sym e) refl
+
+-- ---- names of lists
+
+pub name_within : {Z : Type 0} (words : List (String Z)) (place : ℕ) (word : String Z) → place < length words → name_at words place ≡ string_bytes (get_or words place word)
+name_within [] place word l = absurd (omega arith)
+name_within (w ∷ ws) zero word l = refl
+name_within (w ∷ ws) (suc place) word l = name_within ws place word (omega arith)
+
+pub name_past : {Z : Type 0} (words : List (String Z)) (place : ℕ) → length words ≤ place → name_at words place ≡ []
+name_past [] place l = refl
+name_past (w ∷ ws) zero l = absurd (omega arith)
+name_past (w ∷ ws) (suc place) l = name_past ws place (omega arith)
+
+-- ---- how many `-e`
+
+take_within : {X : Type 0} (xs : List X) (count : ℕ) → ((count < length xs) ⊎ (length xs ≤ count)) → take (min (length xs) count) xs ≡ take count xs
+take_within xs count (inl less) = let e : min (length xs) count ≡ count = omega (arith, less) in ap (λ n. take n xs) e
+take_within xs count (inr all) =
+    let e : min (length xs) count ≡ length xs = omega (arith, all) in
+    ap (λ n. take n xs) e ∙ take_all (length xs) xs (omega arith) ∙ sym (take_all count xs all)
+
+pub take_least : {X : Type 0} (xs : List X) (count : ℕ) → take (min (length xs) count) xs ≡ take count xs
+take_least xs count = take_within xs count (cases_lt count (length xs))
+
+none_left : (Z : Type 0) (b : Bool) → texts_in {Z = Z} (cond b [] []) ≡ 0
+none_left Z true = refl
+none_left Z false = refl
+
+not_first : (a b : Bool) → (a || b) ≡ false → a ≡ false
+not_first true b e = absurd (true≢false e)
+not_first false b e = refl
+
+not_second : (a b : Bool) → (a || b) ≡ false → b ≡ false
+not_second true b e = absurd (true≢false e)
+not_second false b e = e
+
+not_text : (file text field separator bad : Bool) → ((((file || text) || field) || separator) || bad) ≡ false → text ≡ false
+not_text file text field separator bad e =
+    not_second file text (not_first (file || text) field (not_first ((file || text) || field) separator (not_first (((file || text) || field) || separator) bad e)))
+
+-- an option of two words, or of one
+two_or_one : {Z : Type 0} (word value : String Z) (words : List (String Z)) (takes : Bool) → takes_next word ≡ takes
+    → cond takes (one_if (is (codes "-e") word) + texts_in words) (texts_in (value ∷ words)) ≡ one_if (is (codes "-e") word) + texts_in (cond takes words (value ∷ words))
+two_or_one word value words true e = refl
+two_or_one word value words false e =
+    let none : one_if (is (codes "-e") word) ≡ 0 =
+    ap one_if (not_text (is (codes "-f") word) (is (codes "-e") word) (is (codes "-k") word) (is (codes "-d") word) (is (codes "--bad") word) e) in
+    omega (arith, none)
+
+first_text : {Z : Type 0} (word : String Z) (words : List (String Z)) → texts_in (word ∷ words) ≡ one_if (is (codes "-e") word) + texts_in (behind_option (word ∷ words))
+first_text {Z} word [] = let e : texts_in (behind_option (word ∷ [])) ≡ 0 = none_left Z (takes_next word) in omega (arith, e)
+first_text word (value ∷ words) = two_or_one word value words (takes_next word) refl
+
+text_here : {Z : Type 0} (words rest : List (String Z)) (word : String Z) → rest ≡ word ∷ words → texts_in rest ≡ one_if (is (codes "-e") word) + texts_in (behind_option rest)
+text_here words rest word e = ap texts_in e ∙ first_text word words ∙ ap (λ r. one_if (is (codes "-e") word) + texts_in (behind_option r)) (sym e)
+
+pub at_most_one_text : {Z : Type 0} (word : String Z) → one_if (is (codes "-e") word) ≤ 1
+at_most_one_text word = one_at_most (is (codes "-e") word) where
+  one_at_most : (b : Bool) → one_if b ≤ 1
+  one_at_most true = omega arith
+  one_at_most false = omega arith
+
+-- a step of the count
+pub texts_more : {Z : Type 0} (options : List (String Z)) (at next count one : ℕ) (word : String Z) → at < length options → word ≡ get_or options at word → one ≡ one_if (is (codes "-e") word)
+    → drop next options ≡ behind_option (drop at options) → count + texts_in (drop at options) ≡ texts_in options → (count + one) + texts_in (drop next options) ≡ texts_in options
+texts_more options at next count one word within is same rest sum =
+    let here = text_here (drop (suc at) options) (drop at options) word (drop-cons options at word within ∙ ap (λ w. w ∷ drop (suc at) options) (sym is)) in
+    let left : texts_in (drop next options) ≡ texts_in (behind_option (drop at options)) = ap texts_in rest in
+    omega (arith, here, left, same, sum)
+
+pub texts_all : {Z : Type 0} (options : List (String Z)) (at count : ℕ) → length options ≤ at → count + texts_in (drop at options) ≡ texts_in options → count ≡ texts_in options
+texts_all options at count past sum = let none : texts_in (drop at options) ≡ 0 = ap texts_in (drop_all at options past) in omega (arith, none, sum)
+
+-- ---- whether a place is of an `-e`
+
+text_before : {Z : Type 0} (words : List (String Z)) (place : ℕ) (known : Bool) → 0 < place → bytes_eq (name_at words (place - 1)) (codes "-e") ≡ known → known ≡ is_text words place
+text_before words place known some e =
+    let positive : nat_lt 0 place ≡ true = grind (arith, nat_tests) in
+    sym e ∙ sym (ap (λ b. b && bytes_eq (name_at words (place - 1)) (codes "-e")) positive)
+
+pub text_at : {Z : Type 0} (words : List (String Z)) (place : ℕ) (word : String Z) (result : Bool) → 0 < place → place - 1 < length words → word ≡ get_or words (place - 1) word
+    → result ≡ is (codes "-e") word → result ≡ is_text words place
+text_at words place word result some within here e =
+    text_before words place result some (ap (λ t. bytes_eq t (codes "-e")) (name_within words (place - 1) word within ∙ ap string_bytes (sym here)) ∙ sym e)
+
+pub no_text_at : {Z : Type 0} (words : List (String Z)) (place : ℕ) → 0 < place → length words ≤ place - 1 → false ≡ is_text words place
+no_text_at words place some past = text_before words place false some (ap (λ t. bytes_eq t (codes "-e")) (name_past words (place - 1) past))

@@ -1,0 +1,5 @@
+use Rattle.program_io.proofs.Telling.{tells_more}
+use Rattle.cidr_filter.proofs.telling.tell_of.Goals as goal
+
+pub returns : goal.returns
+returns g c = tells_more g.E.Write.contents c.args.errors.now c.tell.new.errors c.tell-2.new.errors _ _ c.tell.ensures c.tell-2.ensures

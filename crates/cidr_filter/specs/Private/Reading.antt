@@ -1,0 +1,21 @@
+-- What is read of lists, step by step.
+use Rattle.std.specs.Prelude.{◌≡◌, ℕ, Bool, List, Option, Result, IfOk, String}
+use Rattle.address_lists.specs.Lists.{ReadLists}
+use Rattle.address_lists.specs.Refusals.{Refused}
+use Rattle.ipnetwork_family.specs.Network.{Network}
+use Rattle.cidr_filter.specs.Listed.{HasBlocksOf}
+use Rattle.cidr_filter.specs.Reading.{IsReadOf, HoldsRead}
+use Rattle.cidr_filter.specs.declared.listed.Listed.{Listed}
+use Rattle.cidr_filter.specs.declared.listed.Listed.TheVariants.{Addresses, Blocks}
+
+-- the lists were read, and with memory for the blocks that are told these are their networks
+pub record ReadsAll {Z E : Type 0} (bytes_of : List ℕ → Option (List ℕ)) (words : List (String Z)) (longest : Bool) (listed : Result Listed E) (refused : Refused) : Type 0 where
+  pub read : ReadLists
+  pub is_read : IsReadOf bytes_of words read
+  pub holds : IfOk listed (HoldsRead longest read)
+  pub refused_lines : read.refused ≡ refused
+
+-- the blocks of these networks
+abbrev pub HasBlocks : List Network → List Network → Listed → Type 0
+HasBlocks v4 v6 (Addresses sets) = ⊥
+HasBlocks v4 v6 (Blocks tables) = HasBlocksOf 32 v4 tables.v4 × HasBlocksOf 128 v6 tables.v6

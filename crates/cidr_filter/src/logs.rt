@@ -1,0 +1,204 @@
+//! The logs of a run are filtered in turn.
+ghost use Rattle.std.specs.Prelude.{◌≡◌, ◌<◌, ◌++◌, ◌||◌, ◌∷◌, [], true, false, decimal, length, nat_lt, if◌then◌else◌, is_err, OnOk, OnErr, IfErr};
+ghost use Rattle.std.specs.Io.KnownBytes.{Appends};
+ghost use Rattle.line_engine.specs.Outputs.{writer_of, waits_in, output_failed, Puts, AppendsBeginning};
+ghost use Rattle.cidr_filter.specs.Logs.{logs_of};
+ghost use Rattle.cidr_filter.specs.Runs.{EndsLogs, StopsAtLog, total_text};
+ghost use Rattle.cidr_filter.specs.Stands.{stand};
+ghost use Rattle.cidr_filter.specs.Private.Runs.{FiltersNames, FiltersName, NameStops, StopsBy};
+
+use crate::filter::Filter;
+use crate::log::{LogFault, Tally, filter_log};
+use crate::telling::tell_log_fault;
+use line_engine::fault::RunFault;
+use line_engine::output::Output;
+use line_engine::watched::Watched;
+use program_io::ending::{FAILED, end};
+use program_io::lists::OpenLists;
+use program_io::messages::number_text;
+use std::io::Write;
+
+/// The exit status if a line was selected.
+const SELECTED: u8 = 0;
+
+/// The exit status if none was.
+const NONE_SELECTED: u8 = 1;
+
+/// Filters the logs of these names in their order, or standard input if there is no name, and returns the exit status.
+pub(crate) fn filter_logs<L: OpenLists, W: Write, E: Write>(
+    filter: &Filter,
+    counts: bool,
+    files: &[String],
+    lists: &L,
+    buffer: &mut [u8],
+    output: &mut Output<'_, W>,
+    errors: &mut Output<'_, E>,
+) -> u8
+    requires { 1048578 < length buffer.old }
+    ensures { EndsLogs filter.now counts (L.bytes_of lists.now) (logs_of files.now)
+        (record { holds = W.contents; output = output.old; output_after = output.new; tells = E.contents; errors = errors.old; errors_after = errors.new; status = result }) }
+{
+    let mut tally = Tally {
+        selected: 0,
+        lines: 0,
+    };
+    if !filter_each(
+        filter, counts, files, lists, buffer, output, &mut tally, errors,
+    ) {
+        return FAILED;
+    }
+    let written = write_end(counts, tally.selected, output);
+    end(written, status(tally.selected), errors)
+}
+
+// Filters the logs of these names, or standard input, and returns whether all came to their ends. If not, it is told why.
+fn filter_each<L: OpenLists, W: Write, E: Write>(
+    filter: &Filter,
+    counts: bool,
+    files: &[String],
+    lists: &L,
+    buffer: &mut [u8],
+    output: &mut Output<'_, W>,
+    tally: &mut Tally,
+    errors: &mut Output<'_, E>,
+) -> bool
+    requires { 1048578 < length buffer.old }
+    ensures all { result ≡ true → (errors.new ≡ errors.old) × FiltersNames filter.now counts (L.bytes_of lists.now) (logs_of files.now)
+        (stand (W.contents (writer_of output.old)) (waits_in output.old) tally.old)
+        (stand (W.contents (writer_of output.new)) (waits_in output.new) tally.new) }
+    ensures stopped { result ≡ false → StopsAtLog filter.now counts (L.bytes_of lists.now) (logs_of files.now)
+        (record { holds = W.contents; output = output.old; output_after = output.new; tells = E.contents; errors = errors.old; errors_after = errors.new; status = 2 }) }
+{
+    if files.is_empty() {
+        let input = "-";
+        return filter_one(filter, counts, input, lists, buffer, output, tally, errors);
+    }
+    for file in files {
+        let name = file.as_str();
+        if !filter_one(filter, counts, name, lists, buffer, output, tally, errors) {
+            return false;
+        }
+    }
+    true
+}
+
+// Filters the log of this name, and returns whether it came to its end. If not, it is told why.
+fn filter_one<L: OpenLists, W: Write, E: Write>(
+    filter: &Filter,
+    counts: bool,
+    name: &str,
+    lists: &L,
+    buffer: &mut [u8],
+    output: &mut Output<'_, W>,
+    tally: &mut Tally,
+    errors: &mut Output<'_, E>,
+) -> bool
+    requires { 1048578 < length buffer.old }
+    ensures all { result ≡ true → (errors.new ≡ errors.old) × FiltersNames filter.now counts (L.bytes_of lists.now) (name.now ∷ [])
+        (stand (W.contents (writer_of output.old)) (waits_in output.old) tally.old)
+        (stand (W.contents (writer_of output.new)) (waits_in output.new) tally.new) }
+    ensures stopped { result ≡ false → StopsAtLog filter.now counts (L.bytes_of lists.now) (name.now ∷ [])
+        (record { holds = W.contents; output = output.old; output_after = output.new; tells = E.contents; errors = errors.old; errors_after = errors.new; status = 2 }) }
+{
+    match filter_named(filter, counts, name, lists, buffer, output, tally) {
+        Ok(()) => true,
+        Err(fault) => {
+            stop(name, fault, tally.lines, output, errors);
+            false
+        }
+    }
+}
+
+// Opens the log of this name, and filters it.
+fn filter_named<L: OpenLists, W: Write>(
+    filter: &Filter,
+    counts: bool,
+    name: &str,
+    lists: &L,
+    buffer: &mut [u8],
+    output: &mut Output<'_, W>,
+    tally: &mut Tally,
+) -> Result<(), LogFault>
+    requires { 1048578 < length buffer.old }
+    ensures ok { OnOk result (FiltersName filter.now counts (L.bytes_of lists.now) name.now
+        (stand (W.contents (writer_of output.old)) (waits_in output.old) tally.old)
+        (stand (W.contents (writer_of output.new)) (waits_in output.new) tally.new)) }
+    ensures err { IfErr result (NameStops filter.now counts (L.bytes_of lists.now) name.now (output_failed output.new)
+        (stand (W.contents (writer_of output.old)) (waits_in output.old) tally.old)
+        (stand (W.contents (writer_of output.new)) (waits_in output.new) tally.new)) }
+{
+    tally.lines = 0;
+    let Ok(log) = lists.open(name) else {
+        return Err(LogFault::Open);
+    };
+    let mut log = Watched::new(log);
+    filter_log(filter, counts, buffer, &mut log, output, tally)
+}
+
+// Writes what waits, and tells why a log was not filtered to its end, after so many of its lines: by a write, if one
+// fails now.
+fn stop<W: Write, E: Write>(
+    name: &str,
+    fault: LogFault,
+    lines: u64,
+    output: &mut Output<'_, W>,
+    errors: &mut Output<'_, E>,
+)
+    ensures { StopsBy name.now lines fault
+        (record { holds = W.contents; output = output.old; output_after = output.new; tells = E.contents; errors = errors.old; errors_after = errors.new; status = 2 }) }
+{
+    match fault {
+        LogFault::Write => tell_log_fault(name, LogFault::Write, lines, errors),
+        _ => match output.hand_on() {
+            Ok(()) => tell_log_fault(name, fault, lines, errors),
+            Err(_) => tell_log_fault(name, LogFault::Write, lines, errors),
+        },
+    }
+}
+
+// Writes how many lines were selected, if they are counted, and what waits.
+fn write_end<W: Write>(
+    counts: bool,
+    selected: u64,
+    output: &mut Output<'_, W>,
+) -> Result<(), RunFault>
+    ensures ok { OnOk result (Appends (W.contents (writer_of output.old)) (W.contents (writer_of output.new)) (waits_in output.old ++ total_text counts selected)) }
+    ensures err { OnErr result (AppendsBeginning (W.contents (writer_of output.old)) (W.contents (writer_of output.new)) (waits_in output.old ++ total_text counts selected)) }
+    ensures failed { output_failed output.new ≡ (output_failed output.old || is_err result) }
+{
+    if !counts {
+        return output.finish();
+    }
+    write_number(selected, output)?;
+    output.finish()
+}
+
+// Writes a number and a line feed.
+fn write_number<W: Write>(number: u64, output: &mut Output<'_, W>) -> Result<(), RunFault>
+    ensures ok { OnOk result (Puts (W.contents (writer_of output.old)) (waits_in output.old) (W.contents (writer_of output.new)) (waits_in output.new) (decimal number ++ 10 ∷ [])) }
+    ensures err { OnErr result (AppendsBeginning (W.contents (writer_of output.old)) (W.contents (writer_of output.new)) (waits_in output.old ++ (decimal number ++ 10 ∷ []))) }
+    ensures failed { output_failed output.new ≡ (output_failed output.old || is_err result) }
+{
+    put_number(number, output)?;
+    output.put(b"\n")
+}
+
+// Writes a number.
+fn put_number<W: Write>(number: u64, output: &mut Output<'_, W>) -> Result<(), RunFault>
+    ensures ok { OnOk result (Puts (W.contents (writer_of output.old)) (waits_in output.old) (W.contents (writer_of output.new)) (waits_in output.new) (decimal number)) }
+    ensures err { OnErr result (AppendsBeginning (W.contents (writer_of output.old)) (W.contents (writer_of output.new)) (waits_in output.old ++ decimal number)) }
+    ensures failed { output_failed output.new ≡ (output_failed output.old || is_err result) }
+{
+    output.put(number_text(number).as_str().as_bytes())
+}
+
+// The exit status by how many lines were selected.
+fn status(selected: u64) -> u8
+    ensures { result ≡ (if nat_lt 0 selected then 0 else 1) }
+{
+    if selected > 0 {
+        SELECTED
+    } else {
+        NONE_SELECTED
+    }
+}
