@@ -10,8 +10,6 @@ mod list_reader;
 mod networks;
 mod read;
 mod refusals;
-#[cfg(test)]
-mod tests;
 
 pub use fault::LineFault;
 pub use list_reader::ListReader;

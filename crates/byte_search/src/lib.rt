@@ -7,9 +7,6 @@ ghost use Rattle.std.specs.Prelude.{◌≡◌, ◌+◌, ◌==◌, ◌<◌, ◌�
 ghost use Rattle.std.specs.Simd.Lanes.{mask_l};
 ghost use Rattle.byte_search.specs.Bytes.{IsAbsent, IsNext};
 
-#[cfg(test)]
-mod tests;
-
 use std::simd::prelude::*;
 
 /// The index of the first byte equal to `byte` at or after the index `from`, or `None`. `from` must be at

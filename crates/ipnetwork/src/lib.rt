@@ -15,8 +15,6 @@ mod json;
 pub mod laws;
 mod refusal;
 mod size;
-#[cfg(test)]
-mod tests;
 
 pub use error::WrongFamily;
 pub use ip_iter::IpNetworkIterator;

@@ -19,8 +19,6 @@ mod ipv6_order;
 pub mod laws;
 mod octet;
 mod segments;
-#[cfg(test)]
-mod tests;
 
 pub use error::AddrParseError;
 pub use ip::IpAddr;

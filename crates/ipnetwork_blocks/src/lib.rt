@@ -18,8 +18,6 @@ mod range_blocks;
 mod spanning_block;
 mod subnet_iterator;
 mod supernets;
-#[cfg(test)]
-mod tests;
 
 pub use address_space::AddressSpace;
 pub use aggregate::{aggregate_held, aggregate_in_place, aggregate_vec};

@@ -15,8 +15,6 @@ pub mod laws;
 mod network;
 pub mod parse;
 mod segments;
-#[cfg(test)]
-mod tests;
 
 pub use address::Address;
 pub use cidr_network::CidrNetwork;

@@ -8,8 +8,6 @@ mod equality;
 mod ip_address_set;
 pub mod laws;
 mod operations;
-#[cfg(test)]
-mod tests;
 
 pub use blocks::IpBlocks;
 pub use ip_address_set::IpAddressSet;

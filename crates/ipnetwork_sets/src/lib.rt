@@ -20,8 +20,6 @@ mod order;
 mod pieces;
 mod ranges;
 mod search;
-#[cfg(test)]
-mod tests;
 mod text;
 mod union;
 

@@ -9,8 +9,6 @@ mod entries;
 pub mod laws;
 mod ordered_keys;
 mod table;
-#[cfg(test)]
-mod tests;
 mod values;
 
 pub use entries::Entries;

@@ -13,8 +13,6 @@
 mod ipv4;
 mod ipv6;
 pub mod laws;
-#[cfg(test)]
-mod tests;
 
 pub use ipv4::{agree_v4, read_v4, same_v4};
 pub use ipv6::{agree_v6, read_v6, same_v6};

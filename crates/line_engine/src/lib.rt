@@ -13,6 +13,4 @@ pub mod output;
 mod pieces;
 mod replies;
 pub mod run;
-#[cfg(test)]
-mod tests;
 pub mod watched;

@@ -7,7 +7,5 @@ mod comment;
 mod entry;
 pub mod laws;
 mod range;
-#[cfg(test)]
-mod tests;
 
 pub use entry::{Entry, EntryFault, read_entry};

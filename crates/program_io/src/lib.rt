@@ -6,5 +6,3 @@ pub mod ending;
 pub mod lists;
 pub mod messages;
 pub mod system;
-#[cfg(test)]
-mod tests;

@@ -1,0 +1,5 @@
+//! Tests of the crates of blocks and of sets of addresses.
+#![tactic(auto)]
+
+#[cfg(test)]
+mod tests;

@@ -1,0 +1,5 @@
+//! Tests of the crates of networks.
+#![tactic(auto)]
+
+#[cfg(test)]
+mod tests;

@@ -1,0 +1,5 @@
+//! Tests of the crate of tables.
+#![tactic(auto)]
+
+#[cfg(test)]
+mod tests;

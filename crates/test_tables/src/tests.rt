@@ -1,0 +1,3 @@
+//! A module for each crate that is tested.
+
+mod of_ipnetwork_table;
