@@ -12,8 +12,6 @@ mod names;
 mod replies;
 mod route_tables;
 mod run;
-#[cfg(test)]
-mod tests;
 mod words;
 
 use crate::run::run;

@@ -24,8 +24,6 @@ mod set_calls;
 mod sets;
 mod sizes;
 mod structs;
-#[cfg(test)]
-mod tests;
 mod text;
 mod text_columns;
 mod writing;

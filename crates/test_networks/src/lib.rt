@@ -1,5 +1,0 @@
-//! Tests of the crates of networks.
-#![tactic(auto)]
-
-#[cfg(test)]
-mod tests;

@@ -1,4 +1,0 @@
-//! A module for each crate that is tested.
-
-mod of_ipnetwork;
-mod of_ipnetwork_family;

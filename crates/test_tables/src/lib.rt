@@ -1,5 +1,0 @@
-//! Tests of the crate of tables.
-#![tactic(auto)]
-
-#[cfg(test)]
-mod tests;

@@ -1,3 +1,0 @@
-//! A module for each crate that is tested.
-
-mod of_ipnetwork_table;
