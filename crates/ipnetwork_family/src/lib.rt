@@ -14,7 +14,6 @@ mod json;
 pub mod laws;
 mod network;
 pub mod parse;
-mod segments;
 #[cfg(test)]
 mod tests;
 
