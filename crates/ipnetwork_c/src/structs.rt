@@ -78,8 +78,7 @@ impl Ipv6InC {
     }
 
     /// Whether an address of 16 octets lies in the network's set, if the prefix length is at most 128: whether the two
-    /// numbers differ in host bits alone. `Ipv6Network::contains` goes segment by segment, which takes three times as
-    /// many instructions from octets.
+    /// numbers differ in host bits alone. For `Ipv6Network::contains` an address would be made of each number first.
     pub(crate) fn contains(&self, address: &[u8; 16]) -> Option<bool>
         ensures { MatchOption result (¬ (PrefixFits 128 (v6_in self.now))) (λ answer. PrefixFits 128 (v6_in self.now) × (IsTrue answer ↔ Member 128 (v6_in self.now) (number_of_octets address.now))) }
     {

@@ -1,5 +1,4 @@
 -- What the private functions promise each other.
-pub mod HostBits
 pub mod Numerals
 pub mod Slashes
 pub mod Suffixes

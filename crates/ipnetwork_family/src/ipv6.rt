@@ -1,4 +1,4 @@
-//! IPv6 addresses as networks ask them, segment by segment, and what only IPv6 networks have.
+//! IPv6 addresses as networks ask them, and what only IPv6 networks have.
 ghost use Rattle.std.specs.Prelude.{◌≡◌, ℕ, ◌+◌, ◌-◌, ◌^◌, ◌<◌, ◌≤◌};
 ghost use Rattle.std.specs.Option.{SomeIff};
 ghost use Rattle.ipnetwork_family.specs.Family.{v6_family};
@@ -7,7 +7,7 @@ ghost use Rattle.ipnetwork_family.specs.Network.{low, size_of};
 
 use crate::network::mask_to_prefix;
 use crate::parse::read_prefix;
-use crate::{Address, IpNetworkError, Network, segments};
+use crate::{Address, IpNetworkError, Network};
 use arrayvec::ArrayString;
 use ipnetwork_addr::{ADDRESS_TEXT_CAPACITY, AddrParseError, Ipv6Addr, laws};
 
@@ -54,23 +54,31 @@ impl Address for Ipv6Addr {
     }
 
     fn mask(prefix: u8) -> Ipv6Addr {
-        Ipv6Addr::from(segments::mask(prefix))
+        Ipv6Addr::from(!host_ones(prefix))
     }
 
     fn prefix_of_mask(self) -> Option<u8> {
-        segments::prefix_of_mask(&self.segments())
+        let mask = u128::from(self);
+        let prefix = (!mask).leading_zeros() as u8;
+        if !mask == host_ones(prefix) {
+            Some(prefix)
+        } else {
+            None
+        }
     }
 
     fn least(self, prefix: u8) -> Ipv6Addr {
-        Ipv6Addr::from(segments::least(&self.segments(), prefix))
+        Ipv6Addr::from(u128::from(self) & !host_ones(prefix))
     }
 
     fn greatest(self, prefix: u8) -> Ipv6Addr {
-        Ipv6Addr::from(segments::greatest(&self.segments(), prefix))
+        let ones = host_ones(prefix);
+        Ipv6Addr::from(u128::from(self) & !ones | ones)
     }
 
     fn agrees(self, other: Ipv6Addr, prefix: u8) -> bool {
-        segments::agree(&self.segments(), &other.segments(), prefix)
+        let mask = !host_ones(prefix);
+        u128::from(self) & mask == u128::from(other) & mask
     }
 
     fn next(self) -> Ipv6Addr {

@@ -14,7 +14,6 @@ mod json;
 pub mod laws;
 mod network;
 pub mod parse;
-mod segments;
 
 pub use address::Address;
 pub use cidr_network::CidrNetwork;

@@ -1,11 +1,5 @@
-use Rattle.std.proofs.Common.{refl}
-use Rattle.ipnetwork_family.specs.Network.{Network}
-use Rattle.ipnetwork_addr.proofs.EightSegments.{made_of}
-use Rattle.ipnetwork_family.proofs.EightSegments.{low_back}
+use Rattle.ipnetwork_family.proofs.Bits.{clear_hosts}
 use Rattle.ipnetwork_family.proofs.ipv6.Ipv6AddrAddress.least.Goals as goal
 
 pub returns : goal.returns
-returns c =
-    let n : Network = record { address = c.args.self; prefix = c.args.prefix } in
-    low_back n c.least.result _ _ c.from.result (record { address_fits = c.segments.ensures.bound; prefix_fits = c.requires })
-    (made_of c.segments.result c.args.self c.segments.ensures.bound c.segments.ensures.segments) refl c.least.ensures c.from.ensures
+returns c = rw (c.from-2.ensures, c.host_ones.ensures, ← c.from.ensures) (clear_hosts 128 c.args.prefix c.from.result c.requires c.from.type_inv)

@@ -1,5 +1,6 @@
-use Rattle.ipnetwork_addr.proofs.EightSegments.{made_of}
+use Rattle.std.proofs.Common.{refl}
+use Rattle.ipnetwork_family.proofs.Masks.{no_mask}
 use Rattle.ipnetwork_family.proofs.ipv6.Ipv6AddrAddress.prefix_of_mask.Goals as goal
 
-pub returns : goal.returns
-returns c = rw (made_of c.segments.result c.args.self c.segments.ensures.bound c.segments.ensures.segments) at c.prefix_of_mask.ensures
+pub returns-else-mask-host_ones : goal.returns-else-mask-host_ones
+returns-else-mask-host_ones c = rw (← c.from-mask.ensures) (no_mask 128 c.from-mask.result _ c.host_ones.result refl c.host_ones.ensures c.if-mask-host_ones.false)
