@@ -148,13 +148,22 @@ impl Ipv6Addr {
 /// What one of the high half counts for in the number of an address.
 const HALF: u128 = 0x1_0000_0000_0000_0000;
 
+/// The high half of a number, and the low one.
+// Not inlined: to a compiler the halves are then two numbers that it knows nothing of, and it stores each at once. If it
+// sees how they are made, it cuts and stores every segment by itself.
+#[inline(never)]
+fn halves_of(number: u128) -> (u64, u64)
+    ensures { number ≡ result.0 * 2 ^ 64 + result.1 }
+{
+    ((number / HALF) as u64, (number % HALF) as u64)
+}
+
 impl From<u128> for Ipv6Addr {
     ghost from_gives = { λ number address. address ≡ number };
 
     /// The address of this number.
     fn from(number: u128) -> Self {
-        let high = (number / HALF) as u64;
-        let low = (number % HALF) as u64;
+        let (high, low) = halves_of(number);
         Ipv6Addr {
             low_first: segments::low_first_of(high, low),
         }

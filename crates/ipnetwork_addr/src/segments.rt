@@ -30,9 +30,6 @@ pub(crate) fn half(a: u16, b: u16, c: u16, d: u16) -> u64
 }
 
 /// The segments of the address of these two halves, the lowest first.
-// As a function of its own over two numbers of 64 bits it is two stores. Inlined, or over one number of 128 bits, it
-// becomes some twenty instructions on segments.
-#[inline(never)]
 pub(crate) fn low_first_of(high: u64, low: u64) -> [u16; 8]
     ensures { result ≡ reverse (segments_of (high * 2 ^ 64 + low)) }
 {
