@@ -7,6 +7,7 @@ mod canonical;
 mod colons;
 pub mod decimal;
 mod decimal_value;
+mod decimal_word;
 mod error;
 pub mod first_mark;
 mod group;
