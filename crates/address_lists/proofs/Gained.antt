@@ -1,8 +1,6 @@
 -- What a network or a range adds to the addresses.
 use Rattle.std.proofs.Common.{◌≡◌, ◌↔◌, ◌⊎◌, inl, inr, ⊎_elim, ℕ, ◌^◌, ◌<◌, List, [], ◌∷◌, ◌++◌, sym, subst}
 use Rattle.std.specs.Prelude.{Result, Ok, Err, OnOk, is_err}
-use Rattle.std.specs.List.{Contains}
-use Rattle.std.proofs.lemmas.List.Elements.{Contains-append_left, Contains-append_right, Contains-append_cases}
 use Rattle.ipnetwork_addr.specs.declared.ip.IpAddr.{IpAddr}
 use Rattle.ipnetwork_addr.specs.declared.ip.IpAddr.TheVariants.{V4, V6}
 use Rattle.ipnetwork_family.specs.Network.{Network, Member}
@@ -11,19 +9,12 @@ use Rattle.ipnetwork_blocks.specs.Aggregate.{InUnion}
 use Rattle.ipnetwork_blocks.specs.Ranges.{FromTo}
 use Rattle.ipnetwork_blocks.proofs.AggregateUnions.{in_union_push}
 use Rattle.ipnetwork_blocks.proofs.MaximalBlocks.{range_is_shortest}
+use Rattle.ipnetwork_sets.proofs.FromRanges.{union_append}
 use Rattle.list_entries.specs.declared.entry.Entry.{Entry}
 use Rattle.list_entries.specs.declared.entry.Entry.TheVariants as entries
 use Rattle.address_lists.specs.Lists.{ReadLists, HasAddress, Names, TakesEntry}
 use Rattle.address_lists.specs.Added.{AddsBlocks, AddsEntry}
 use Rattle.address_lists.specs.Private.Taking.{IsGoodEntry}
-
-union_append : (w : ℕ) (a b : List Network) (x : ℕ) → InUnion w (a ++ b) x ↔ (InUnion w a x ⊎ InUnion w b x)
-union_append w a b x = (
-  (λ c. ⊎_elim (λ (d : Contains a c.0). inl (c.0, d, c.2)) (λ (d : Contains b c.0). inr (c.0, d, c.2)) (Contains-append_cases a b c.0 c.1)),
-  (λ p. ⊎_elim
-      (λ (c : InUnion w a x). (c.0, Contains-append_left a b c.0 c.1, c.2))
-      (λ (c : InUnion w b x). (c.0, Contains-append_right a b c.0 c.1, c.2)) p),
-)
 
 gains_network : (w : ℕ) (before after : List Network) (n : Network) → after ≡ before ++ n ∷ [] → (x : ℕ) → InUnion w after x ↔ (InUnion w before x ⊎ Member w n x)
 gains_network w before after n e x = subst (λ (l : List Network). InUnion w l x ↔ (InUnion w before x ⊎ Member w n x)) (sym e) (in_union_push w before n x)

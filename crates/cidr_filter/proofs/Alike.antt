@@ -9,7 +9,8 @@ use Rattle.cidr_filter.specs.Lines.{LogLine, log_lines, content}
 use Rattle.cidr_filter.specs.Private.Progress.{AlikeLine, Alike}
 use Rattle.cidr_filter.specs.declared.filter.Filter.{Filter}
 use Rattle.cidr_filter.specs.declared.filter.Verdict.TheVariants as verdicts
-use Rattle.cidr_filter.proofs.LogLines.{ended, unended, lines_line, lines_last, newline_cases}
+use Rattle.line_engine.proofs.Lines.{newline_cases}
+use Rattle.cidr_filter.proofs.LogLines.{ended, unended, lines_line, lines_last}
 
 module _ (filter_by : Filter) where
   pub alike_refl : (a : List LogLine) → Alike filter_by a a

@@ -4,7 +4,6 @@ use Rattle.std.proofs.lemmas.List.{get_or-drop, get_or-take}
 use Rattle.std.specs.List.{slice_split, list_all}
 use Rattle.byte_search.specs.Bytes.{IsAbsent, IsNext}
 use Rattle.std.proofs.lemmas.Bool.{cases_lt, ne_eqb}
-use Rattle.std.proofs.lemmas.Bool.Decides.{eqb_tells}
 use Rattle.line_engine.proofs.BytesLemmas.{HasNo, split_at, split_none, split_cons}
 use Rattle.cidr_filter.specs.Lines.{LogLine, lines_in, log_lines}
 
@@ -53,9 +52,6 @@ pub absent_behind : (text new : List ℕ) (start count : ℕ) → count ≤ leng
 absent_behind text new start count few same absent = λ place low high e.
     absent (start + place) (omega arith) (omega (arith, few, high))
     (sym (ap (λ t. get_or t place 0) same ∙ get_or-take count (drop start text) place 0 high ∙ get_or-drop start text place 0) ∙ e)
-
-pub newline_cases : (c : ℕ) → (c ≡ 10) ⊎ ((c == 10) ≡ false)
-newline_cases c = elim (eqb_tells c 10) [ inl same ↦ inl same.1 | inr apart ↦ inr apart.0 ]
 
 -- the lines of bytes that no line feed is among are none, or one that is not ended
 pub rest_unended : (a : List ℕ) → HasNo 10 a → list_all (λ line. not line.is_ended) (log_lines a) ≡ true

@@ -5,7 +5,8 @@ use Rattle.cidr_filter.specs.Filters.{output_of, Filters}
 use Rattle.cidr_filter.specs.Laws.{OutputsOfPartsFollow}
 use Rattle.cidr_filter.specs.Lines.{LogLine, log_lines}
 use Rattle.cidr_filter.specs.declared.filter.Filter.{Filter}
-use Rattle.cidr_filter.proofs.LogLines.{ended, lines_line, newline_cases}
+use Rattle.line_engine.proofs.Lines.{newline_cases}
+use Rattle.cidr_filter.proofs.LogLines.{ended, lines_line}
 
 -- the lines up to a line feed, and those behind it; `p` is what was read of the line
 lines_two : (p first second : List ℕ) → HasNo 10 p → log_lines (p ++ (first ++ 10 ∷ second)) ≡ log_lines (p ++ (first ++ 10 ∷ [])) ++ log_lines second

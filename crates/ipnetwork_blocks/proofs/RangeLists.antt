@@ -18,7 +18,7 @@ use Rattle.ipnetwork_blocks.proofs.LeastLists.{own_address, least_of_same, least
 abbrev pub Part : ℕ → ℕ → ℕ → ℕ → ℕ → Type 0
 Part k base first last x = ((first ≤ x) × (x ≤ last)) × ((base ≤ x) × (x < base + 2 ^ k))
 
-cond_by : {X : Type 0} (P : X → Type 0) (t : Bool) (x y : X) → (t ≡ true → P x) → (t ≡ false → P y) → P (cond t x y)
+pub cond_by : {X : Type 0} (P : X → Type 0) (t : Bool) (x y : X) → (t ≡ true → P x) → (t ≡ false → P y) → P (cond t x y)
 cond_by P true x y f g = f refl
 cond_by P false x y f g = g refl
 

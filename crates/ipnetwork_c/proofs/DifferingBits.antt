@@ -1,15 +1,13 @@
 -- Two numbers share their first bits exactly if they differ in the last ones alone.
 use Rattle.std.proofs.Common.{◌≡◌, ◌↔◌, ℕ, ◌-◌, ◌*◌, ◌/◌, ◌^◌, ◌<◌, ◌≤◌, Option, Some, None, unwrap_or, IsTrue, leb, ⊎_elim, bit_xor, ap, ◌∙◌, sym, arith}
 use Rattle.std.specs.Option.{SomeIff}
-use Rattle.std.specs.Int.Bits.{xor_add_and, xor_self}
+use Rattle.std.specs.Int.Bits.{xor_self}
 use Rattle.std.proofs.Math.Nat.{div-lt_iff_lt-mul}
 use Rattle.std.proofs.lemmas.Bool.{cases_lt, leb-true, le-leb}
-use Rattle.std.proofs.lemmas.Nat.{pow_pos, xor_shr, and_le_l, and_le_r}
+use Rattle.std.proofs.lemmas.Nat.{pow_pos, xor_shr}
 use Rattle.std.proofs.lemmas.Nat.Bits.{ones_shr}
 use Rattle.ipnetwork_family.specs.Network.{Network, Member}
-
-no_difference : (a b : ℕ) → bit_xor a b ≡ 0 → a ≡ b
-no_difference a b e = omega (arith, xor_add_and a b, and_le_l a b, and_le_r a b)
+use Rattle.ipnetwork_family.proofs.CountedBits.{no_difference}
 
 share_front : (a b k : ℕ) → (bit_xor a b < 2 ^ k) ↔ (b / 2 ^ k ≡ a / 2 ^ k)
 share_front a b k =

@@ -9,7 +9,7 @@ use Rattle.ipnetwork_family.specs.Bits.{SharesBits, EndsInZeros}
 
 -- ---- bits in front
 
-no_difference : (a b : ℕ) → bit_xor a b ≡ 0 → a ≡ b
+pub no_difference : (a b : ℕ) → bit_xor a b ≡ 0 → a ≡ b
 no_difference a b e = omega (arith, xor_add_and a b, and_le_l a b, and_le_r a b)
 
 -- two numbers agree before their last k bits exactly if they differ in these alone

@@ -4,24 +4,25 @@ use Rattle.ipnetwork_blocks.specs.Aggregate.{InUnion}
 use Rattle.ipnetwork_blocks.proofs.LeastLists.{least_unique, least_of_none}
 use Rattle.ipnetwork_sets.specs.DifferenceLaws.{CommonPartIsSettled, DifferenceIsSettled, FreePartIsSettled, UnionIsSettled, DifferenceOfOne, DifferenceOfUnion, DifferenceOfCommonPart}
 use Rattle.ipnetwork_sets.specs.Sets.{InBoth, InFirstAlone, InNetworkAlone, InEither}
-use Rattle.ipnetwork_sets.proofs.SetLaws.{one_list, union_or_not, common_is_shortest, difference_is_shortest, union_is_shortest}
+use Rattle.ipnetwork_sets.proofs.Steps.{same_list}
+use Rattle.ipnetwork_sets.proofs.SetLaws.{union_or_not, common_is_shortest, difference_is_shortest, union_is_shortest}
 
 pub common_part_is_settled : CommonPartIsSettled
 common_part_is_settled w a b c d r s ac bd h k =
-    one_list w (InBoth w a b) (InBoth w c d) r s h k (λ x. ((λ p. ((ac x).0 p.0, (bd x).0 p.1)), (λ p. ((ac x).1 p.0, (bd x).1 p.1))))
+    same_list w (InBoth w a b) (InBoth w c d) r s h k (λ x. ((λ p. ((ac x).0 p.0, (bd x).0 p.1)), (λ p. ((ac x).1 p.0, (bd x).1 p.1))))
 
 pub difference_is_settled : DifferenceIsSettled
 difference_is_settled w a b c d r s ac bd h k =
-    one_list w (InFirstAlone w a b) (InFirstAlone w c d) r s h k
+    same_list w (InFirstAlone w a b) (InFirstAlone w c d) r s h k
     (λ x. ((λ p. ((ac x).0 p.0, λ m. p.1 ((bd x).1 m))), (λ p. ((ac x).1 p.0, λ m. p.1 ((bd x).0 m)))))
 
 pub free_part_is_settled : FreePartIsSettled
 free_part_is_settled w n a c r s ac h k =
-    one_list w (InNetworkAlone w n a) (InNetworkAlone w n c) r s h k (λ x. ((λ p. (p.0, λ m. p.1 ((ac x).1 m))), (λ p. (p.0, λ m. p.1 ((ac x).0 m)))))
+    same_list w (InNetworkAlone w n a) (InNetworkAlone w n c) r s h k (λ x. ((λ p. (p.0, λ m. p.1 ((ac x).1 m))), (λ p. (p.0, λ m. p.1 ((ac x).0 m)))))
 
 pub union_is_settled : UnionIsSettled
 union_is_settled w a b c d r s ac bd h k =
-    one_list w (InEither w a b) (InEither w c d) r s h k
+    same_list w (InEither w a b) (InEither w c d) r s h k
     (λ x. (
       (λ p. ⊎_elim (λ (m : InUnion w a x). inl ((ac x).0 m)) (λ (m : InUnion w b x). inr ((bd x).0 m)) p),
       (λ p. ⊎_elim (λ (m : InUnion w c x). inl ((ac x).1 m)) (λ (m : InUnion w d x). inr ((bd x).1 m)) p),
@@ -35,7 +36,7 @@ difference_of_union w a b c u f fb fc r hu hf hb hc k =
     let in_u = (union_is_shortest w b c u hu).addresses in
     let in_b = (difference_is_shortest w a b fb hb).addresses in
     let in_c = (difference_is_shortest w a c fc hc).addresses in
-    one_list w (InFirstAlone w a u) (InBoth w fb fc) f r hf k
+    same_list w (InFirstAlone w a u) (InBoth w fb fc) f r hf k
     (λ x. (
       (λ p. ((in_b x).1 (p.0, λ m. p.1 ((in_u x).1 (inl m))), (in_c x).1 (p.0, λ m. p.1 ((in_u x).1 (inr m))))),
       (λ p. (((in_b x).0 p.0).0, λ m. ⊎_elim (λ (o : InUnion w b x). ((in_b x).0 p.0).1 o) (λ (o : InUnion w c x). ((in_c x).0 p.1).1 o) ((in_u x).0 m))),
@@ -46,7 +47,7 @@ difference_of_common_part w a b c d f fb fc r hd hf hb hc k =
     let in_d = (common_is_shortest w b c d hd).addresses in
     let in_b = (difference_is_shortest w a b fb hb).addresses in
     let in_c = (difference_is_shortest w a c fc hc).addresses in
-    one_list w (InFirstAlone w a d) (InEither w fb fc) f r hf k
+    same_list w (InFirstAlone w a d) (InEither w fb fc) f r hf k
     (λ x. (
       (λ p. ⊎_elim
           (λ (m : InUnion w b x). inr ((in_c x).1 (p.0, λ o. p.1 ((in_d x).1 (m, o)))))

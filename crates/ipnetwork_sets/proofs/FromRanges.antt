@@ -29,7 +29,7 @@ pub adds_all : (w first last : ℕ) (before items left blocks : List Network) �
 adds_all w first last before items left blocks h e none =
     (blocks, h, sym (append-nil items) ∙ ap (λ t. items ++ t) (sym none) ∙ e)
 
-union_append : (w : ℕ) (a b : List Network) (x : ℕ) → InUnion w (a ++ b) x ↔ (InUnion w a x ⊎ InUnion w b x)
+pub union_append : (w : ℕ) (a b : List Network) (x : ℕ) → InUnion w (a ++ b) x ↔ (InUnion w a x ⊎ InUnion w b x)
 union_append w a b x = (
   (λ c. ⊎_elim (λ (d : Contains a c.0). inl (c.0, d, c.2)) (λ (d : Contains b c.0). inr (c.0, d, c.2)) (Contains-append_cases a b c.0 c.1)),
   (λ p. ⊎_elim

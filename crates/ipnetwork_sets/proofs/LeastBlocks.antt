@@ -9,6 +9,7 @@ use Rattle.ipnetwork_family.proofs.Blocks.{subnet_from, shares_address, membersh
 use Rattle.ipnetwork_blocks.specs.LeastList.{LiesIn, IsLeastList}
 use Rattle.ipnetwork_blocks.specs.Aggregate.{InUnion}
 use Rattle.ipnetwork_blocks.proofs.BlocksFrom.{block_from, Begins, from_network, from_block, in_from, from_in, twice, lower_begins, upper_begins}
+use Rattle.ipnetwork_blocks.proofs.RangeLists.{cond_by}
 use Rattle.ipnetwork_blocks.proofs.LeastLists.{own_address, least_of_same, least_of_none, least_of_one, least_of_two}
 use Rattle.ipnetwork_sets.specs.Sets.{InBoth, InEither}
 use Rattle.ipnetwork_sets.specs.Private.LeastBlocks.{all_from, least_within, least_blocks, in_union, common_blocks, either_blocks, is_from, left_blocks}
@@ -38,10 +39,6 @@ true_all_from test start (suc count) all =
 -- the addresses that pass the test, in a block with k host bits
 abbrev Part : (ℕ → Bool) → ℕ → ℕ → ℕ → Type 0
 Part test k base x = (test x ≡ true) × ((base ≤ x) × (x < base + 2 ^ k))
-
-cond_by : {X : Type 0} (P : X → Type 0) (t : Bool) (x y : X) → (t ≡ true → P x) → (t ≡ false → P y) → P (cond t x y)
-cond_by P true x y f g = f refl
-cond_by P false x y f g = g refl
 
 -- the whole block passes
 whole_part : (test : ℕ → Bool) (w k base : ℕ) → Begins w k base → all_from test base (2 ^ k) ≡ true → IsLeastList w (Part test k base) (block_from w k base ∷ [])

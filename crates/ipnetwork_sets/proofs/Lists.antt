@@ -31,9 +31,6 @@ no_items pair (x ∷ xs) e = absurd (omega arith)
 pub not_below : (a b : ℕ) → (a ≤ b → ⊥) → b < a
 not_below a b not = ⊎_elim (λ (l : b < a). l) (λ (le : a ≤ b). let r : b < a = absurd (not le) in r) (cases_lt b a)
 
-pub not_before : (a b : ℕ) → (a < b → ⊥) → b ≤ a
-not_before a b not = ⊎_elim (λ (l : a < b). let r : b ≤ a = absurd (not l) in r) (λ (le : b ≤ a). le) (cases_lt a b)
-
 -- an aggregate is a set
 pub set_of_aggregate : (w : ℕ) (ns r : List Network) → AggregateHasUnion → IsAggregate w ns r → IsAddressSet w r
 set_of_aggregate w ns r law h =

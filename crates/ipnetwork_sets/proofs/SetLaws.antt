@@ -5,12 +5,13 @@ use Rattle.ipnetwork_family.specs.Network.{Network, Member}
 use Rattle.ipnetwork_blocks.specs.Aggregate.{InUnion}
 use Rattle.ipnetwork_blocks.specs.LeastList.{IsMaximalIn, IsLeastList}
 use Rattle.ipnetwork_blocks.specs.LeastListLaws.{IsShortest}
-use Rattle.ipnetwork_blocks.proofs.LeastLists.{own_address, contains_head, least_of_same, least_unique}
+use Rattle.ipnetwork_blocks.proofs.LeastLists.{own_address, contains_head, least_of_same}
 use Rattle.ipnetwork_blocks.proofs.MaximalBlocks.{is_shortest, member_or_not}
 use Rattle.ipnetwork_sets.specs.Laws.{CommonPartIsShortest, DifferenceIsShortest, FreePartIsShortest, UnionIsShortest, SameAddressesAreOneSet, CommonPartCommutes, UnionCommutes, CommonPartOfOne, UnionOfOne, DifferenceIsDisjoint, PartsMakeTheWhole, FreeOfUnion, FreeOfCommonPart}
 use Rattle.ipnetwork_sets.specs.Sets.{IsAddressSet, InBoth, InFirstAlone, InNetworkAlone, InEither, IsWithin, AreDisjoint}
 use Rattle.ipnetwork_sets.specs.Private.LeastBlocks.{in_union, common_blocks, either_blocks, left_blocks}
 use Rattle.ipnetwork_sets.specs.Private.Left.{InLeft}
+use Rattle.ipnetwork_sets.proofs.Steps.{same_list}
 use Rattle.ipnetwork_sets.proofs.LeastBlocks.{union_told, common_is_least, either_is_least, left_is_least, left_or_not, left_fits}
 
 -- ---- an address is in a union, or not
@@ -60,32 +61,28 @@ union_is_shortest w a b r h =
 
 -- ---- equal sets
 
--- least lists of sets with the same addresses are equal
-pub one_list : (w : ℕ) (S T : ℕ → Type 0) (r s : List Network) → IsLeastList w S r → IsLeastList w T s → ((x : ℕ) → S x ↔ T x) → r ≡ s
-one_list w S T r s h k same = least_unique w T r s (least_of_same w S T r same h) k
-
 pub same_addresses_are_one_set : SameAddressesAreOneSet
 same_addresses_are_one_set w a b h k = (
   (λ e x. ((λ c. subst (λ (l : List Network). InUnion w l x) e c), (λ c. subst (λ (l : List Network). InUnion w l x) (sym e) c))),
-  (λ same. one_list w (InUnion w a) (InUnion w b) a b h k same),
+  (λ same. same_list w (InUnion w a) (InUnion w b) a b h k same),
 )
 
 pub common_commutes : CommonPartCommutes
-common_commutes w a b r s h k = one_list w (InBoth w a b) (InBoth w b a) r s h k (λ x. ((λ p. (p.1, p.0)), (λ p. (p.1, p.0))))
+common_commutes w a b r s h k = same_list w (InBoth w a b) (InBoth w b a) r s h k (λ x. ((λ p. (p.1, p.0)), (λ p. (p.1, p.0))))
 
 pub union_commutes : UnionCommutes
 union_commutes w a b r s h k =
-    one_list w (InEither w a b) (InEither w b a) r s h k
+    same_list w (InEither w a b) (InEither w b a) r s h k
     (λ x. (
       (λ p. ⊎_elim (λ (c : InUnion w a x). inr c) (λ (c : InUnion w b x). inl c) p),
       (λ p. ⊎_elim (λ (c : InUnion w b x). inr c) (λ (c : InUnion w a x). inl c) p),
     ))
 
 pub common_of_one : CommonPartOfOne
-common_of_one w a r h k = one_list w (InBoth w a a) (InUnion w a) r a k h (λ x. ((λ p. p.0), (λ c. (c, c))))
+common_of_one w a r h k = same_list w (InBoth w a a) (InUnion w a) r a k h (λ x. ((λ p. p.0), (λ c. (c, c))))
 
 pub union_of_one : UnionOfOne
-union_of_one w a r h k = one_list w (InEither w a a) (InUnion w a) r a k h (λ x. ((λ p. ⊎_elim (λ (c : InUnion w a x). c) (λ (c : InUnion w a x). c) p), (λ c. inl c)))
+union_of_one w a r h k = same_list w (InEither w a a) (InUnion w a) r a k h (λ x. ((λ p. ⊎_elim (λ (c : InUnion w a x). c) (λ (c : InUnion w a x). c) p), (λ c. inl c)))
 
 -- ---- a difference, and the common part
 
@@ -96,7 +93,7 @@ pub parts_make_the_whole : PartsMakeTheWhole
 parts_make_the_whole w a b c d r h hc hd k =
     let in_c = (common_is_shortest w a b c hc).addresses in
     let in_d = (difference_is_shortest w a b d hd).addresses in
-    one_list w (InEither w c d) (InUnion w a) r a k h
+    same_list w (InEither w c d) (InUnion w a) r a k h
     (λ x. (
       (λ p. ⊎_elim (λ (m : InUnion w c x). ((in_c x).0 m).0) (λ (m : InUnion w d x). ((in_d x).0 m).0) p),
       (λ m. ⊎_elim (λ (n : InUnion w b x). inl ((in_c x).1 (m, n))) (λ (n : ¬ (InUnion w b x)). inr ((in_d x).1 (m, n))) (union_or_not w b x)),
@@ -109,7 +106,7 @@ free_of_union w n a b u f fa fb r hu hf ha hb k =
     let in_u = (union_is_shortest w a b u hu).addresses in
     let in_a = (free_is_shortest w n a fa ha).addresses in
     let in_b = (free_is_shortest w n b fb hb).addresses in
-    one_list w (InNetworkAlone w n u) (InBoth w fa fb) f r hf k
+    same_list w (InNetworkAlone w n u) (InBoth w fa fb) f r hf k
     (λ x. (
       (λ p. ((in_a x).1 (p.0, λ m. p.1 ((in_u x).1 (inl m))), (in_b x).1 (p.0, λ m. p.1 ((in_u x).1 (inr m))))),
       (λ p. (((in_a x).0 p.0).0, λ m. ⊎_elim (λ (c : InUnion w a x). ((in_a x).0 p.0).1 c) (λ (c : InUnion w b x). ((in_b x).0 p.1).1 c) ((in_u x).0 m))),
@@ -120,7 +117,7 @@ free_of_common w n a b c f fa fb r hc hf ha hb k =
     let in_c = (common_is_shortest w a b c hc).addresses in
     let in_a = (free_is_shortest w n a fa ha).addresses in
     let in_b = (free_is_shortest w n b fb hb).addresses in
-    one_list w (InNetworkAlone w n c) (InEither w fa fb) f r hf k
+    same_list w (InNetworkAlone w n c) (InEither w fa fb) f r hf k
     (λ x. (
       (λ p. ⊎_elim
           (λ (m : InUnion w a x). inr ((in_b x).1 (p.0, λ o. p.1 ((in_c x).1 (m, o)))))

@@ -47,7 +47,7 @@ first_and_rest w S T b r s h m parts after k =
     (in_first_or_behind w S T b m (λ x. (parts x).0) after)
     (least_of_one w b m.network m.block) k)
 
--- where the set stays, so does its list
+-- least lists of sets with the same addresses are equal
 pub same_list : (w : ℕ) (S T : ℕ → Type 0) (r s : List Network) → IsLeastList w S r → IsLeastList w T s → ((x : ℕ) → S x ↔ T x) → r ≡ s
 same_list w S T r s h k same = least_unique w T r s (least_of_same w S T r same h) k
 
