@@ -5,6 +5,8 @@ pub mod arguments;
 pub mod ending;
 pub mod lists;
 pub mod messages;
+pub mod reading;
 pub mod system;
+pub mod telling;
 #[cfg(test)]
 mod tests;
