@@ -1,10 +1,10 @@
 -- What the engine says of a list that is read.
-use Rattle.std.proofs.Common.{◌≡◌, ◌-◌, ◌^◌, ℕ, List, subst}
+use Rattle.std.proofs.Common.{◌≡◌, ◌-◌, ◌^◌, ℕ, List, false, true≢false, subst}
 use Rattle.std.specs.Prelude.{Option, Some, Result, Ok, Err, OnOk, IfErr, IfSome}
 use Rattle.std.specs.Io.KnownBytes.{Appends}
 use Rattle.std.specs.Str.Lines.{lines}
 use Rattle.line_engine.specs.Answers.{LineGets, WritesAll, WritesFirst}
-use Rattle.line_engine.specs.Run.{Ran}
+use Rattle.line_engine.specs.Run.{Ran, ended_by_write}
 use Rattle.line_engine.specs.declared.fault.RunFault.{RunFault}
 use Rattle.line_engine.specs.declared.fault.RunFault.TheVariants.{Read, Write, InputTooLong}
 use Rattle.line_engine.proofs.Runs.{ran_output}
@@ -29,13 +29,13 @@ read_taken start before after begun limit left rest held holds (Ok done) ran = �
 -- and of one that it does not read to its end
 pub read_before : (start : ReadLists) (before after : ListReader) → read_by before ≡ start → (left rest held holds : Option (List ℕ)) (result : Result (Unit {0}) RunFault)
     → Ran (WritesAll (LineGets MayTake 1024) before after) (WritesFirst (LineGets MayTake 1024) before) (2 ^ 64 - 1) left rest held holds result
-    → IfErr result (λ fault. TakesBefore left rest fault start (read_by after))
-read_before start before after begun left rest held holds (Ok done) ran = tt
-read_before start before after begun left rest held holds (Err Write) ran = tt
-read_before start before after begun left rest held holds (Err Read) ran =
+    → ended_by_write result ≡ false → IfErr result (λ fault. TakesBefore left rest fault start (read_by after))
+read_before start before after begun left rest held holds (Ok done) ran unwritten = tt
+read_before start before after begun left rest held holds (Err Write) ran unwritten = absurd (true≢false unwritten)
+read_before start before after begun left rest held holds (Err Read) ran unwritten =
     let said = ran.ends.1 in
     subst (λ (s : ReadLists). TakesBefore left rest Read s (read_by after)) begun (ran.read, ran.reads, turns_take before after _ said.0 said.1)
-read_before start before after begun left rest held holds (Err InputTooLong) ran =
+read_before start before after begun left rest held holds (Err InputTooLong) ran unwritten =
     let part = ran.ends.1 in
     let said = part.3 in
     subst (λ (s : ReadLists). TakesBefore left rest InputTooLong s (read_by after)) begun

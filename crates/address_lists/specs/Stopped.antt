@@ -18,5 +18,5 @@ TakesBefore remained remains Read before after = (read : List ℕ) × Consumes r
 -- more bytes were read than 64 bits count: the lines that some first ones of them complete
 TakesBefore remained remains InputTooLong before after =
     (read : List ℕ) × (first : List ℕ) × Consumes remained remains read × (2 ^ 64 - 1 < length read) × IsBeginning first read × TakesComplete first before after
--- a write failed: this does not happen, since nothing is written, but the contract of a writer does not say so
-TakesBefore remained remains Write before after = Unit {0}
+-- no write fails: the lines get no replies, so that none is written
+TakesBefore remained remains Write before after = ⊥

@@ -10,7 +10,7 @@ use Rattle.std.proofs.lemmas.Bool.Decides.{nat_tests}
 use Rattle.line_engine.specs.declared.output.Output.{Output}
 use Rattle.line_engine.proofs.Putting.{puts_nothing}
 use Rattle.program_io.specs.Messages.{Tells}
-use Rattle.program_io.proofs.Telling.{tells_more}
+use Rattle.program_io.proofs.Told.{tells_more}
 use Rattle.cidr_filter.specs.Filters.{one_if}
 use Rattle.cidr_filter.specs.Options.{is, takes_next, behind_option}
 use Rattle.cidr_filter.specs.Told.{name_at, is_text, texts_in, more_text}

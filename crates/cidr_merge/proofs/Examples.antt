@@ -1,6 +1,6 @@
 -- Values at which a misreading of the definitions would show. Each of these computes.
 use Rattle.std.proofs.Common.{◌≡◌, ℕ, List, ◌∷◌, [], true, false, refl}
-use Rattle.std.specs.Prelude.{codes, String, Some, None, Ok, Err}
+use Rattle.std.specs.Prelude.{codes, String, Some, None}
 use Rattle.std.specs.Fmt.{digits}
 use Rattle.std.specs.String.{string_bytes}
 use Rattle.ipnetwork_family.specs.Network.{Network}
@@ -8,21 +8,12 @@ use Rattle.ipnetwork_family.specs.Family.{v4_family}
 use Rattle.ipnetwork_blocks.specs.Aggregate.{InUnion}
 use Rattle.list_entries.specs.declared.entry.EntryFault.TheVariants.{Prefix}
 use Rattle.address_lists.specs.declared.fault.LineFault.TheVariants.{Entry}
-use Rattle.address_lists.specs.Lists.{ReadLists, at_list}
-use Rattle.address_lists.specs.Refusals.{Refused}
-use Rattle.program_io.specs.Lists.{KnownLists}
-use Rattle.std.specs.Str.Lines.{lines}
 use Rattle.cidr_merge.specs.Answers.{IsLeft, IsLeftOfSecond, AreBoth, merged, merged_ranges, block_line, range_line}
 use Rattle.cidr_merge.specs.CommandLines.{is, begins_dashed, is_dashed, is_name, operation_named, options_of, lists_of, are_options, are_lists, are_sides, before_dashes, behind_dashes, form_of}
-use Rattle.line_engine.specs.declared.fault.RunFault.TheVariants as faults
-use Rattle.cidr_merge.specs.Private.Readings.{end_of}
-use Rattle.cidr_merge.specs.Reading.{ReadsList}
 use Rattle.cidr_merge.specs.Runs.{answer_status}
-use Rattle.cidr_merge.specs.Stopping.{StopsAt}
-use Rattle.cidr_merge.specs.Told.{refusals_text, fault_text, more_text}
+use Rattle.cidr_merge.specs.Told.{refusals_text}
 use Rattle.cidr_merge.specs.declared.command_line.Operation.TheVariants.{Union, Common, Minus, Differ}
 use Rattle.cidr_merge.specs.declared.command_line.Form.TheVariants.{Counts}
-use Rattle.cidr_merge.specs.declared.reading.ReadFault.TheVariants.{Open, Read, Write, OutOfMemory}
 use Rattle.cidr_merge.specs.declared.reading.Sets.{Sets}
 use Rattle.cidr_merge.specs.declared.sides.Side.TheVariants.{First, Second}
 
@@ -112,50 +103,10 @@ skipped_before_unequal = refl
 
 -- ---- what is told
 
-pub no_more : more_text 0 ≡ []
-no_more = refl
-
-pub some_more : more_text 12 ≡ codes "12 more refused lines\n"
-unfolding digits
-some_more = refl
-
 pub a_refused_line : {Z : Type 0} (union list : String Z) → string_bytes list ≡ codes "a.txt"
     → refusals_text (union ∷ list ∷ []) (record { kept = record { list = 1; line = 7; fault = Entry Prefix } ∷ []; more = 0 }) ≡ codes "a.txt:7: refused prefix\n"
 unfolding digits
 a_refused_line union list e = rw e
-
-pub a_refused_list : {Z : Type 0} (union list : String Z) → string_bytes list ≡ codes "-" → fault_text (union ∷ list ∷ []) (Read 1) ≡ codes "-: cannot read\n"
-a_refused_list union list e = rw e
-
-pub a_missing_list : {Z : Type 0} (union list : String Z) → string_bytes list ≡ codes "x" → fault_text (union ∷ list ∷ []) (Open 1) ≡ codes "x: cannot open\n"
-a_missing_list union list e = rw e
-
-pub a_list_that_is_not_read_on : {Z : Type 0} (union list : String Z) → string_bytes list ≡ codes "x" → fault_text (union ∷ list ∷ []) (Write 1) ≡ codes "x: cannot read\n"
-a_list_that_is_not_read_on union list e = rw e
-
--- ---- where the reading stops
-
--- a list that was read to its end is no fault, and one for which there was no memory is that, also if a read failed
-pub a_list_is_read : (done : Unit {0}) → end_of (Ok done) 1 false ≡ Ok done
-a_list_is_read done = refl
-
-pub a_read_fails : end_of (Err faults.Read) 1 false ≡ Err (Read 1)
-a_read_fails = refl
-
-pub no_memory : end_of (Err faults.Read) 1 true ≡ Err OutOfMemory
-no_memory = refl
-
--- a list that is read was opened, and one that cannot be opened was not
-pub what_is_read_was_opened : (known : KnownLists) (number : ℕ) (name : List ℕ) (before after : ReadLists) → ReadsList known number name before after → known.may_open name true
-what_is_read_was_opened known number name before after h = h.0
-
-pub what_is_not_opened : (known : KnownLists) (number place : ℕ) (name : List ℕ) (before : ReadLists) (refused : Refused) → StopsAt known number name before (Open place) refused
-    → (place ≡ number) × known.may_open name false × (refused ≡ before.refused)
-what_is_not_opened known number place name before refused h = h
-
--- a read that fails before any line was read leaves the refused lines of the lists before
-pub a_read_that_fails_at_once : (known : KnownLists) (name : List ℕ) (before : ReadLists) → known.may_open name true → before.is_out_of_memory ≡ false → StopsAt known 1 name before (Read 1) before.refused
-a_read_that_fails_at_once known name before opened memory = (refl, at_list before 1, (opened, λ input e. ([], lines input, refl, refl)), memory, refl)
 
 -- ---- the command line
 

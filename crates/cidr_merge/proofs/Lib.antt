@@ -6,5 +6,4 @@ pub mod ReadInTurn
 pub mod Requests
 pub mod Runs
 pub mod Stopping
-pub mod Told
 pub mod Totals

@@ -7,7 +7,8 @@ use Rattle.ipnetwork_blocks.specs.Aggregate.{IsAggregate}
 use Rattle.address_lists.specs.Lists.{ReadLists, nothing_read}
 use Rattle.address_lists.specs.Refusals.{Refused}
 use Rattle.program_io.specs.Lists.{KnownLists}
-use Rattle.cidr_merge.specs.Reading.{ReadsList, ReadsLists, ReadsSide}
+use Rattle.program_io.specs.Reading.{ReadsList}
+use Rattle.cidr_merge.specs.Reading.{ReadsLists, ReadsSide}
 use Rattle.cidr_merge.specs.declared.reading.Sets.{Sets}
 
 -- a list more

@@ -4,16 +4,18 @@ use Rattle.std.specs.Prelude.{Result, Ok, Err, OnOk, IfErr, String, slice_range}
 use Rattle.address_lists.specs.Lists.{nothing_read}
 use Rattle.address_lists.specs.Refusals.{Refused, no_refusals}
 use Rattle.line_engine.specs.declared.output.Output.{Output}
+use Rattle.program_io.specs.Endings.{Ending, IsSilent}
 use Rattle.program_io.specs.Lists.{KnownLists}
 use Rattle.program_io.specs.Messages.{Tells}
+use Rattle.program_io.specs.Told.{fault_text}
 use Rattle.cidr_merge.specs.CommandLines.{Asks}
 use Rattle.cidr_merge.specs.Reading.{ReadsSide, ReadsSides}
-use Rattle.cidr_merge.specs.Runs.{Ending, IsSilent, EndsAnswering, EndsMerging, EndsAs}
+use Rattle.cidr_merge.specs.Runs.{EndsAnswering, EndsMerging, EndsAs}
 use Rattle.cidr_merge.specs.Stopping.{Stops, StopsInSides}
-use Rattle.cidr_merge.specs.Told.{refusals_text, fault_text}
+use Rattle.cidr_merge.specs.Told.{refusals_text}
 use Rattle.cidr_merge.specs.declared.command_line.Command.{Command}
 use Rattle.cidr_merge.specs.declared.command_line.Request.{Request}
-use Rattle.cidr_merge.specs.declared.reading.ReadFault.{ReadFault}
+use Rattle.program_io.specs.declared.reading.ReadFault.{ReadFault}
 use Rattle.cidr_merge.specs.declared.reading.Sets.{Sets}
 use Rattle.cidr_merge.proofs.ReadInTurn.{slice_rest}
 

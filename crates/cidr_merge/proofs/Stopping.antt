@@ -1,64 +1,17 @@
 -- Where the reading of lists stops.
-use Rattle.std.proofs.Common.{◌≡◌, ◌<◌, ◌≤◌, ◌+◌, ◌-◌, ◌++◌, ◌∷◌, ◌∙◌, [], ℕ, List, Bool, true, false, refl, sym, ap, subst, arith, length, get_or, take, drop, append_assoc, append-nil}
+use Rattle.std.proofs.Common.{◌≡◌, ◌<◌, ◌≤◌, ◌+◌, ◌-◌, ◌++◌, ◌∷◌, ◌∙◌, [], ℕ, List, false, sym, ap, subst, arith, length, get_or, take, drop, append_assoc}
 use Rattle.std.proofs.Math.Seq.{take-add}
-use Rattle.std.specs.Prelude.{Option, Some, Result, Ok, Err, OnOk, IfErr, String, slice_range}
-use Rattle.std.specs.Str.Lines.{lines}
+use Rattle.std.specs.Prelude.{Result, Ok, Err, OnOk, IfErr, String, slice_range}
 use Rattle.std.specs.String.{string_bytes}
-use Rattle.line_engine.specs.declared.fault.RunFault.{RunFault}
-use Rattle.line_engine.specs.declared.fault.RunFault.TheVariants as faults
-use Rattle.address_lists.specs.Lists.{ReadLists, nothing_read, at_list, TakesLines}
+use Rattle.address_lists.specs.Lists.{ReadLists, nothing_read}
 use Rattle.address_lists.specs.Refusals.{Refused}
-use Rattle.address_lists.specs.Stopped.{TakesBefore}
-use Rattle.address_lists.proofs.FirstLines.{first_taken, first_taken_of_too_many}
 use Rattle.program_io.specs.Lists.{KnownLists}
-use Rattle.cidr_merge.specs.Private.Readings.{end_of}
+use Rattle.program_io.specs.Reading.{StopsAt}
 use Rattle.cidr_merge.specs.Reading.{ReadsLists, ReadsSide}
-use Rattle.cidr_merge.specs.Stopping.{ReadsFirst, StopsAt, Stops}
-use Rattle.cidr_merge.specs.declared.reading.ReadFault.{ReadFault}
+use Rattle.cidr_merge.specs.Stopping.{Stops}
+use Rattle.program_io.specs.declared.reading.ReadFault.{ReadFault}
 use Rattle.cidr_merge.specs.declared.reading.Sets.{Sets}
 use Rattle.cidr_merge.proofs.ReadInTurn.{slice_more, slice_count, slice_none}
-
--- ---- a list
-
--- what was taken before a fault are first lines of the list
-first_of : (known : KnownLists) (number : ℕ) (name : List ℕ) (before after : ReadLists) (left rest : Option (List ℕ)) → known.may_open name true
-    → ((bytes : List ℕ) → known.bytes_of name ≡ Some bytes → left ≡ Some bytes) → TakesBefore left rest faults.Read (at_list before number) after → ReadsFirst known number name before after
-first_of known number name before after left rest opened has h =
-    (opened, λ input e. first_taken input rest (at_list before number) after (subst (λ (l : Option (List ℕ)). TakesBefore l rest faults.Read (at_list before number) after) (has input e) h))
-
-first_of_too_many : (known : KnownLists) (number : ℕ) (name : List ℕ) (before after : ReadLists) (left rest : Option (List ℕ)) → known.may_open name true
-    → ((bytes : List ℕ) → known.bytes_of name ≡ Some bytes → left ≡ Some bytes) → TakesBefore left rest faults.InputTooLong (at_list before number) after → ReadsFirst known number name before after
-first_of_too_many known number name before after left rest opened has h =
-    (opened, λ input e. first_taken_of_too_many input rest (at_list before number) after (subst (λ (l : Option (List ℕ)). TakesBefore l rest faults.InputTooLong (at_list before number) after) (has input e) h))
-
-one_stopped : (known : KnownLists) (number : ℕ) (name : List ℕ) (before after : ReadLists) (left rest : Option (List ℕ)) (read : Result (Unit {0}) RunFault) (out : Bool) → known.may_open name true
-    → ((bytes : List ℕ) → known.bytes_of name ≡ Some bytes → left ≡ Some bytes) → OnOk read ((input : List ℕ) → left ≡ Some input → TakesLines (at_list before number) (lines input) after)
-    → IfErr read (λ fault. TakesBefore left rest fault (at_list before number) after) → out ≡ after.is_out_of_memory
-    → IfErr (end_of read number out) (λ fault. StopsAt known number name before fault after.refused)
-one_stopped known number name before after left rest (Ok done) false opened has taken stopped e = tt
-one_stopped known number name before after left rest (Ok done) true opened has taken stopped e =
-    (after, (opened, λ input f. (lines input, [], sym (append-nil (lines input)), taken input (has input f))), sym e, refl)
-one_stopped known number name before after left rest (Err faults.Read) false opened has taken stopped e =
-    (refl, after, first_of known number name before after left rest opened has stopped, sym e, refl)
-one_stopped known number name before after left rest (Err faults.Read) true opened has taken stopped e =
-    (after, first_of known number name before after left rest opened has stopped, sym e, refl)
-one_stopped known number name before after left rest (Err faults.InputTooLong) false opened has taken stopped e =
-    (refl, after, first_of_too_many known number name before after left rest opened has stopped, sym e, refl)
-one_stopped known number name before after left rest (Err faults.InputTooLong) true opened has taken stopped e =
-    (after, first_of_too_many known number name before after left rest opened has stopped, sym e, refl)
-one_stopped known number name before after left rest (Err faults.Write) out opened has taken stopped e = refl
-
--- how the reading of a list ended, if it stopped
-pub read_stopped : {L : Type 0} (remaining : L → Option (List ℕ)) (list device : L) (known : KnownLists) (number : ℕ) (name asked : List ℕ) (before after : ReadLists) (rest : Option (List ℕ))
-    (read : Result (Unit {0}) RunFault) (out : Bool) (result : Result (Unit {0}) ReadFault) → result ≡ end_of read number out → device ≡ list → asked ≡ name → known.may_open asked true
-    → ((bytes : List ℕ) → known.bytes_of asked ≡ Some bytes → remaining list ≡ Some bytes)
-    → OnOk read ((input : List ℕ) → remaining device ≡ Some input → TakesLines (at_list before number) (lines input) after)
-    → IfErr read (λ fault. TakesBefore (remaining device) rest fault (at_list before number) after) → out ≡ after.is_out_of_memory
-    → IfErr result (λ fault. StopsAt known number name before fault after.refused)
-read_stopped remaining list device known number name asked before after rest read out result ends same spelled opened has taken stopped e =
-    subst (λ (r : Result (Unit {0}) ReadFault). IfErr r (λ fault. StopsAt known number name before fault after.refused)) (sym ends)
-    (one_stopped known number name before after (remaining device) rest read out (subst (λ (n : List ℕ). known.may_open n true) spelled opened)
-    (λ bytes f. ap remaining same ∙ has bytes (ap known.bytes_of spelled ∙ f)) taken stopped e)
 
 -- ---- lists in turn
 

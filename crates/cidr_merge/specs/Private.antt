@@ -1,6 +1,5 @@
 -- What the private functions promise each other, and how contracts see private fields.
 pub mod Ranges
-pub mod Readings
 pub mod Sweeps
 pub mod Totals
 pub mod Words

@@ -1,20 +1,15 @@
 -- What is read of lists.
-use Rattle.std.specs.Prelude.{◌≡◌, ℕ, ◌+◌, List, [], ◌∷◌, Some, true, false, String, slice_range, drop}
-use Rattle.std.specs.Str.Lines.{lines}
+use Rattle.std.specs.Prelude.{◌≡◌, ℕ, ◌+◌, List, [], ◌∷◌, false, String, slice_range, drop}
 use Rattle.std.specs.String.{string_bytes}
 use Rattle.ipnetwork_blocks.specs.Aggregate.{IsAggregate}
-use Rattle.address_lists.specs.Lists.{ReadLists, nothing_read, at_list, TakesLines}
+use Rattle.address_lists.specs.Lists.{ReadLists, nothing_read}
 use Rattle.address_lists.specs.Refusals.{Refused, no_refusals}
 use Rattle.program_io.specs.Lists.{KnownLists}
+use Rattle.program_io.specs.Reading.{ReadsList}
 use Rattle.cidr_merge.specs.declared.command_line.Request.{Request}
 use Rattle.cidr_merge.specs.declared.reading.Sets.{Sets}
 
--- the list of this name was opened, and its lines are taken, if it is known what it has. Refused lines name it by the
--- number
-abbrev pub ReadsList : KnownLists → ℕ → List ℕ → ReadLists → ReadLists → Type 0
-ReadsList known number name before after = known.may_open name true × ((input : List ℕ) → known.bytes_of name ≡ Some input → TakesLines (at_list before number) (lines input) after)
-
--- so are those of the lists of these names, in turn; the first has this number, the next the one after it
+-- the lists of these names are read, in turn; the first has this number, the next the one after it
 abbrev pub ReadsLists : {Z : Type 0} → KnownLists → ℕ → List (String Z) → ReadLists → ReadLists → Type 0
 ReadsLists known number [] before after = after ≡ before
 ReadsLists known number (name ∷ names) before after = (between : ReadLists) × ReadsList known number (string_bytes name) before between

@@ -1,23 +1,23 @@
 -- How a run ends: its exit status, what was written, and what was told.
-use Rattle.std.specs.Prelude.{◌≡◌, ℕ, List, [], ◌++◌, Bool, true, false, not, ◌&&◌, ◌==◌, ◌⊎◌, if◌then◌else◌, length, codes, Option, String}
-use Rattle.std.specs.Io.KnownBytes.{Appends}
+use Rattle.std.specs.Prelude.{◌≡◌, ℕ, List, [], Bool, true, false, not, ◌&&◌, ◌⊎◌, if◌then◌else◌, codes, String}
 use Rattle.address_lists.specs.Refusals.{Refused}
 use Rattle.ipnetwork_sets.specs.Equality.{same_blocks}
 use Rattle.line_engine.specs.declared.output.Output.{Output}
-use Rattle.line_engine.specs.Outputs.{writer_of, waits_in, output_failed}
-use Rattle.program_io.specs.Endings.{failure_text}
+use Rattle.line_engine.specs.Outputs.{output_failed}
+use Rattle.program_io.specs.Endings.{Ending, IsSilent, HasTold, HasWritten, EndsPrinting}
 use Rattle.program_io.specs.Lists.{KnownLists}
 use Rattle.program_io.specs.Messages.{Tells}
+use Rattle.program_io.specs.Told.{was_refused, fault_text}
+use Rattle.program_io.specs.declared.reading.ReadFault.{ReadFault}
 use Rattle.cidr_merge.specs.Answers.{IsAnswer}
 use Rattle.cidr_merge.specs.Reading.{ReadsSides}
 use Rattle.cidr_merge.specs.Stopping.{StopsInSides}
-use Rattle.cidr_merge.specs.Told.{refusals_text, fault_text}
+use Rattle.cidr_merge.specs.Told.{refusals_text}
 use Rattle.cidr_merge.specs.declared.command_line.Command.{Command}
 use Rattle.cidr_merge.specs.declared.command_line.Command.TheVariants.{Help, Version, Merge, Usage}
 use Rattle.cidr_merge.specs.declared.command_line.Operation.{Operation}
 use Rattle.cidr_merge.specs.declared.command_line.Operation.TheVariants.{Union, Common, Minus, Differ}
 use Rattle.cidr_merge.specs.declared.command_line.Request.{Request}
-use Rattle.cidr_merge.specs.declared.reading.ReadFault.{ReadFault}
 use Rattle.cidr_merge.specs.declared.reading.Sets.{Sets}
 
 -- whether the operation is `differ`, and the blocks of its sides are not the same
@@ -30,32 +30,6 @@ are_unequal Differ first second = not (same_blocks first.v4 second.v4 && same_bl
 -- the exit status of an answer: 3 if lines were skipped, else 1 if the sides of `differ` are not equal, else 0
 abbrev pub answer_status : Operation → Bool → Sets → Sets → ℕ
 answer_status operation skips first second = if skips then 3 else if are_unequal operation first second then 1 else 0
-
--- whether a line was refused
-abbrev pub was_refused : Refused → Bool
-was_refused refused = not (length refused.kept == 0)
-
--- the writer and the error writer of a run, before it and after it, what each says that it holds, and the exit status
-pub record Ending (W E : Type 0) : Type 0 where
-  pub holds : W → Option (List ℕ)
-  pub output : Output W
-  pub output_after : Output W
-  pub tells : E → Option (List ℕ)
-  pub errors : Output E
-  pub errors_after : Output E
-  pub status : ℕ
-
--- nothing was written, and the status is 2
-abbrev pub IsSilent : {W E : Type 0} → Ending W E → Type 0
-IsSilent end = (end.output_after ≡ end.output) × (end.status ≡ 2)
-
--- the text was told
-abbrev pub HasTold : {W E : Type 0} → Ending W E → List ℕ → Type 0
-HasTold end text = Tells end.tells end.errors end.errors_after text
-
--- the text was written after what waited
-abbrev pub HasWritten : {W E : Type 0} → Ending W E → List ℕ → Type 0
-HasWritten end text = Appends (end.holds (writer_of end.output)) (end.holds (writer_of end.output_after)) (waits_in end.output ++ text)
 
 -- the writer failed
 abbrev pub FailsToWrite : {W E : Type 0} → Ending W E → Type 0
@@ -81,11 +55,6 @@ abbrev pub EndsMerging : {Z W E : Type 0} → KnownLists → List (String Z) →
 EndsMerging {Z} {W} {E} known words request end = (refused : Refused) × (told : Output E) × Tells end.tells end.errors told (refusals_text words refused)
     × (StopsReading known words request refused (record end { errors = told })
     ⊎ ((first second : Sets) × ReadsSides known words request first second refused × EndsAnswering request (was_refused refused) first second (record end { errors = told })))
-
--- the text was written and nothing told, or the writer failed, and that was told
-abbrev pub EndsPrinting : {W E : Type 0} → List ℕ → Ending W E → Type 0
-EndsPrinting text end = (end.status ≡ (if output_failed end.output_after then 2 else 0)) × (end.status ≡ 0 → HasWritten end text)
-    × HasTold end (failure_text (output_failed end.output_after))
 
 -- how a run ends if the words ask for this. The three texts are those of `--help`, of `--version`, and of what is told of
 -- words that are no command

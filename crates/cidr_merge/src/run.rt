@@ -13,13 +13,15 @@ ghost use Rattle.program_io.specs.Lists.{known_of};
 use crate::command_line::{Command, Operation, Request, command_of};
 use crate::help::{HELP, USAGE, VERSION};
 use crate::printing::print;
-use crate::reading::{ReadFault, Sets, read_side};
-use crate::telling::{tell_fault, tell_refusals};
+use crate::reading::{Sets, read_side};
+use crate::telling::tell_refusals;
 use address_lists::Refusals;
 use line_engine::fault::RunFault;
 use line_engine::output::Output;
 use program_io::ending::{FAILED, end, print_text, refuse_usage};
 use program_io::lists::OpenLists;
+use program_io::reading::ReadFault;
+use program_io::telling::tell_fault;
 use std::alloc::Global;
 use std::io::Write;
 
@@ -40,7 +42,7 @@ pub(crate) fn run<L: OpenLists, W: Write, E: Write>(
     output: &mut Output<'_, W>,
     errors: &mut Output<'_, E>,
 ) -> u8
-    ensures { (command : Command) × Asks words.now command × EndsAs HELP.now VERSION.now USAGE.now (known_of L.bytes_of L.may_open lists.now) words.now command
+    ensures { (command : Command) × Asks words.now command × EndsAs HELP.now VERSION.now USAGE.now (known_of L.bytes_of L.may_open L.may_fail lists.now) words.now command
         (record { holds = W.contents; output = output.old; output_after = output.new; tells = E.contents; errors = errors.old; errors_after = errors.new; status = result }) }
 {
     match command_of(words) {
@@ -61,7 +63,7 @@ fn merge<L: OpenLists, W: Write, E: Write>(
     errors: &mut Output<'_, E>,
 ) -> u8
     requires { IsWithin (length words.now) request }
-    ensures { EndsMerging (known_of L.bytes_of L.may_open lists.now) words.now request
+    ensures { EndsMerging (known_of L.bytes_of L.may_open L.may_fail lists.now) words.now request
         (record { holds = W.contents; output = output.old; output_after = output.new; tells = E.contents; errors = errors.old; errors_after = errors.new; status = result }) }
 {
     let (first, second, refusals, read) = read_sides(alloc, request, words, lists);
@@ -90,8 +92,8 @@ fn read_sides<L: OpenLists>(
     lists: &L,
 ) -> (Sets, Sets, Refusals, Result<(), ReadFault>)
     requires { IsWithin (length words.now) request }
-    ensures read { OnOk result.3 (ReadsSides (known_of L.bytes_of L.may_open lists.now) words.now request result.0 result.1 result.2) }
-    ensures stopped { IfErr result.3 (λ fault. StopsInSides (known_of L.bytes_of L.may_open lists.now) words.now request fault result.2) }
+    ensures read { OnOk result.3 (ReadsSides (known_of L.bytes_of L.may_open L.may_fail lists.now) words.now request result.0 result.1 result.2) }
+    ensures stopped { IfErr result.3 (λ fault. StopsInSides (known_of L.bytes_of L.may_open L.may_fail lists.now) words.now request fault result.2) }
 {
     let (first, refusals, read) = read_side(
         alloc,

@@ -1,9 +1,9 @@
 -- How a run goes on and ends.
-use Rattle.std.proofs.Common.{◌≡◌, ℕ, ◌-◌, ◌<◌, ◌≤◌, List, [], ◌++◌, length, take, refl, sym, ap, ◌∙◌, subst, arith, append-nil, length-append}
+use Rattle.std.proofs.Common.{◌≡◌, ℕ, ◌-◌, ◌<◌, ◌≤◌, List, [], ◌++◌, length, take, refl, sym, ap, ◌∙◌, subst, true≢false, arith, append-nil, length-append}
 use Rattle.std.proofs.KnownBytes.{Appends-nil, Consumes-nil, Consumes-trans, Consumes-kept}
 use Rattle.std.specs.Io.KnownBytes.{Appends, Consumes, Keeps, IsAtEnd}
 use Rattle.std.specs.List.{concat}
-use Rattle.std.specs.Prelude.{Bool, true, false, ◌||◌, Option, None, Some, Result, Ok, Err, OnOk, OnErr, IsOkUnless, IfSome, is_ok}
+use Rattle.std.specs.Prelude.{Bool, true, false, ◌||◌, Option, None, Some, Result, Ok, Err, OnOk, OnErr, IsOkUnless, IfSome, is_err, is_ok}
 use Rattle.std.specs.Str.Lines.{lines}
 use Rattle.line_engine.specs.declared.line.Line.{Line}
 use Rattle.line_engine.specs.declared.fault.RunFault.{RunFault}
@@ -216,3 +216,8 @@ module _ (IsOutput BeginsOutput : List ℕ → List ℕ → Type 0) where
       record { read = ran.read; written = ran.written; reads = ran.reads; writes = ran.writes; ends = (ran.ends.0, (part.0, part.1, part.2, all _ _ part.3)) }
   ran_as Other BeginsOther all first limit left rest held holds (Err Write) ran =
       record { read = ran.read; written = ran.written; reads = ran.reads; writes = ran.writes; ends = (ran.ends.0, first _ _ ran.ends.1) }
+
+-- a run that is no error was not ended by a write
+pub ended_well : (result : Result (Unit {0}) RunFault) → is_err result ≡ false → ended_by_write result ≡ false
+ended_well (Ok done) none = refl
+ended_well (Err fault) none = absurd (true≢false none)

@@ -1,5 +1,5 @@
 //! Bytes at the front of a slice that the caller lends.
-ghost use Rattle.std.specs.Prelude.{◌≡◌, ◌+◌, ◌==◌, [], ◌∷◌, length};
+ghost use Rattle.std.specs.Prelude.{◌≡◌, ◌+◌, ◌==◌, ◌≤◌, [], ◌∷◌, length};
 
 use std::marker::Model;
 
@@ -86,7 +86,8 @@ impl<'a> Buffer<'a> {
     /// assert_eq!(rt; buffer.as_slice(), b"10/8".as_slice());
     /// ```
     pub fn as_slice(&self) -> &[u8]
-        ensures { result.now ≡ self.now.items }
+        ensures bytes { result.now ≡ self.now.items }
+        ensures within { length result.now ≤ self.now.capacity }
     {
         &self.slice[..self.count]
     }

@@ -1,5 +1,5 @@
 //! Pieces of the input: their lines are answered, and what follows the last one goes on in the next piece.
-ghost use Rattle.std.specs.Prelude.{◌≡◌, ◌||◌, ◌≤◌, ℕ, List, [], is_err, OnOk, OnErr, IsOkUnless, IsFalse};
+ghost use Rattle.std.specs.Prelude.{◌≡◌, ◌||◌, ◌≤◌, ℕ, List, [], false, is_err, OnOk, OnErr, IsOkUnless, IsFalse};
 ghost use Rattle.line_engine.specs.Answers.{LineGets};
 ghost use Rattle.line_engine.specs.Private.Device.{inner_of, failed_of};
 ghost use Rattle.line_engine.specs.Private.Line.{Holds};
@@ -33,6 +33,7 @@ pub(crate) fn answer_piece<H: LineHandler, W: Write>(
     ensures capacity { replies.new.capacity ≡ replies.old.capacity }
     ensures watched { failed_of writer.new ≡ (failed_of writer.old || is_err result) }
     ensures fault { IsOkUnless result RunFault.Write }
+    ensures unwritten { replies.old.capacity ≡ 0 → is_err result ≡ false }
 {
     gather_piece(handler, writer, replies, line, piece)?;
     hand_on(writer, replies)
@@ -56,6 +57,7 @@ fn gather_piece<H: LineHandler, W: Write>(
     ensures capacity { replies.new.capacity ≡ replies.old.capacity }
     ensures watched { failed_of writer.new ≡ (failed_of writer.old || is_err result) }
     ensures fault { IsOkUnless result RunFault.Write }
+    ensures unwritten { replies.old.capacity ≡ 0 → is_err result ≡ false }
 {
     let mut start = 0;
     'lines: loop {
@@ -86,6 +88,7 @@ fn gather_line<H: LineHandler, W: Write>(
     ensures capacity { replies.new.capacity ≡ replies.old.capacity }
     ensures watched { failed_of writer.new ≡ (failed_of writer.old || is_err result) }
     ensures fault { IsOkUnless result RunFault.Write }
+    ensures unwritten { replies.old.capacity ≡ 0 → is_err result ≡ false }
 {
     if line.is_empty() {
         return gather_reply(handler, writer, replies, without_carriage_return(bytes));
@@ -96,7 +99,7 @@ fn gather_line<H: LineHandler, W: Write>(
     Ok(())
 }
 
-/// Answers what is pending at the end of the input, and flushes.
+/// Answers what is pending at the end of the input, and flushes, unless no reply can be gathered.
 pub(crate) fn finish<H: LineHandler, W: Write>(
     handler: &mut H,
     writer: &mut Device<W>,
@@ -116,8 +119,12 @@ pub(crate) fn finish<H: LineHandler, W: Write>(
     ensures emptied { OnOk result (replies.new.items ≡ []) }
     ensures watched { failed_of writer.new ≡ (failed_of writer.old || is_err result) }
     ensures fault { IsOkUnless result RunFault.Write }
+    ensures unwritten { replies.old.capacity ≡ 0 → is_err result ≡ false }
 {
     answer_rest(handler, writer, replies, line)?;
+    if replies.remaining() == 0 {
+        return Ok(());
+    }
     if writer.flush().is_err() {
         return Err(RunFault::Write);
     }
@@ -142,8 +149,10 @@ fn answer_rest<H: LineHandler, W: Write>(
         → OnErr result (Stops (LineGets H.may_get H.LINE_MAX)
         (stand (W.contents (inner_of writer.old)) replies.old handler.old) (W.contents (inner_of writer.new)) (last_line pending)) }
     ensures emptied { OnOk result (replies.new.items ≡ []) }
+    ensures capacity { replies.new.capacity ≡ replies.old.capacity }
     ensures watched { failed_of writer.new ≡ (failed_of writer.old || is_err result) }
     ensures fault { IsOkUnless result RunFault.Write }
+    ensures unwritten { replies.old.capacity ≡ 0 → is_err result ≡ false }
 {
     if line.is_empty() {
         return Ok(());

@@ -1,5 +1,5 @@
 //! Replies are gathered, and handed on to the writer where one more might not fit.
-ghost use Rattle.std.specs.Prelude.{◌≡◌, ◌||◌, ◌≤◌, ℕ, List, [], ◌∷◌, is_err, length, OnOk, OnErr, IsOkUnless, IsFalse};
+ghost use Rattle.std.specs.Prelude.{◌≡◌, ◌||◌, ◌≤◌, ℕ, List, [], ◌∷◌, false, is_err, length, OnOk, OnErr, IsOkUnless, IsFalse};
 ghost use Rattle.std.specs.Io.KnownBytes.{Appends};
 ghost use Rattle.line_engine.specs.Answers.{LineGets, asked};
 ghost use Rattle.line_engine.specs.Buffers.{HasRoom, Adds};
@@ -30,6 +30,7 @@ pub(crate) fn gather_reply<H: LineHandler, W: Write>(
     ensures capacity { replies.new.capacity ≡ replies.old.capacity }
     ensures watched { failed_of writer.new ≡ (failed_of writer.old || is_err result) }
     ensures fault { IsOkUnless result RunFault.Write }
+    ensures unwritten { replies.old.capacity ≡ 0 → is_err result ≡ false }
 {
     make_room(writer, replies, H::REPLY_MAX)?;
     reply_to(handler, line, replies);
@@ -64,6 +65,7 @@ fn make_room<W: Write>(
     ensures capacity { replies.new.capacity ≡ replies.old.capacity }
     ensures watched { failed_of writer.new ≡ (failed_of writer.old || is_err result) }
     ensures fault { IsOkUnless result RunFault.Write }
+    ensures unwritten { replies.old.capacity ≡ 0 → is_err result ≡ false }
 {
     if replies.remaining() >= count {
         return Ok(());
@@ -84,6 +86,7 @@ pub(crate) fn hand_on<W: Write>(
     ensures capacity { replies.new.capacity ≡ replies.old.capacity }
     ensures watched { failed_of writer.new ≡ (failed_of writer.old || is_err result) }
     ensures fault { IsOkUnless result RunFault.Write }
+    ensures unwritten { replies.old.capacity ≡ 0 → is_err result ≡ false }
 {
     write_whole(writer, replies.as_slice())?;
     replies.clear();
@@ -97,6 +100,7 @@ pub(crate) fn write_whole<W: Write>(writer: &mut Device<W>, bytes: &[u8]) -> Res
     ensures err { OnErr result (AppendsBeginning (W.contents (inner_of writer.old)) (W.contents (inner_of writer.new)) bytes.now) }
     ensures watched { failed_of writer.new ≡ (failed_of writer.old || is_err result) }
     ensures fault { IsOkUnless result RunFault.Write }
+    ensures unwritten { length bytes.now ≡ 0 → is_err result ≡ false }
 {
     let mut at = 0;
     while at < bytes.len() {

@@ -1,5 +1,5 @@
 //! A run: each line that a reader gives is answered on a writer.
-ghost use Rattle.std.specs.Prelude.{◌≡◌, ◌||◌, ◌+◌, ◌<◌, ◌≤◌, ℕ, List, [], length, Err, IsFalse, IsTrue};
+ghost use Rattle.std.specs.Prelude.{◌≡◌, ◌||◌, ◌+◌, ◌<◌, ◌≤◌, ℕ, List, [], length, Err, false, IsFalse, IsTrue};
 ghost use Rattle.line_engine.specs.Answers.{LineGets, WritesAll, WritesFirst};
 ghost use Rattle.line_engine.specs.Private.Device.{inner_of, failed_of};
 ghost use Rattle.line_engine.specs.Run.{Ran, ended_by_read, ended_by_write};
@@ -97,6 +97,8 @@ pub fn answer_lines<H: LineHandler, R: Read, W: Write>(
     // and no call is made where one had.
     ensures reader_first { IsTrue (has_failed reader.old) → result ≡ Err RunFault.Read }
     ensures writer_next { IsFalse (has_failed reader.old) → IsTrue (has_failed writer.old) → result ≡ Err RunFault.Write }
+    // A run that has no room for replies writes nothing, and so cannot fail to write.
+    ensures unwritten { length waiting.old ≡ 0 → IsFalse (has_failed writer.old) → ended_by_write result ≡ false }
     ensures uncalled { IsTrue (has_failed reader.old || has_failed writer.old)
         → (device_of reader.new ≡ device_of reader.old) × (device_of writer.new ≡ device_of writer.old)
         × (handler.new ≡ handler.old) }
@@ -133,6 +135,7 @@ fn answer_all<H: LineHandler, R: Read, W: Write>(
         (W.contents (inner_of writer.old)) (W.contents (inner_of writer.new)) result }
     ensures reader_failed { failed_of reader.new ≡ (failed_of reader.old || ended_by_read result) }
     ensures writer_failed { failed_of writer.new ≡ (failed_of writer.old || ended_by_write result) }
+    ensures unwritten { length waiting.old ≡ 0 → ended_by_write result ≡ false }
 {
     let mut line = Line::new(rest);
     let mut replies = Buffer::new(waiting);

@@ -1,1 +1,3 @@
-pub mod Telling
+pub mod Examples
+pub mod NamedLists
+pub mod Told

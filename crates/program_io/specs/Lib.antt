@@ -2,3 +2,6 @@
 pub mod Endings
 pub mod Lists
 pub mod Messages
+pub mod Private
+pub mod Reading
+pub mod Told

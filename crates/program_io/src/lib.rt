@@ -5,4 +5,6 @@ pub mod arguments;
 pub mod ending;
 pub mod lists;
 pub mod messages;
+pub mod reading;
 pub mod system;
+pub mod telling;

@@ -1,10 +1,12 @@
 //! Where lists come from.
-ghost use Rattle.std.specs.Prelude.{◌≡◌, ℕ, Bool, List as Bytes, Option, Some, None, IfOk, is_ok};
+ghost use Rattle.std.specs.Prelude.{◌≡◌, ℕ, Bool, IsTrue, List as Bytes, Option, Some, None, IfOk, is_ok};
+ghost use Rattle.line_engine.specs.Watched.{has_failed};
 
+use line_engine::watched::Watched;
 use std::io;
 use std::io::Read;
 
-/// Opens lists by their names.
+/// Opens lists by their names, and closes them.
 ///
 /// ```
 /// // Whether there is a list of this name.
@@ -24,6 +26,9 @@ pub trait OpenLists {
     // What may be: the list of a name is opened, or it is not.
     ghost may_open: { Self → Bytes ℕ → Bool → Type 0 } = { λ _ _ _. Unit {0} };
 
+    // What may be: a read of the list of a name fails.
+    ghost may_fail: { Self → Bytes ℕ → Type 0 } = { λ _ _. Unit {0} };
+
     /// Opens the list of this name. The error is the system's.
     ///
     /// ```
@@ -36,4 +41,18 @@ pub trait OpenLists {
     fn open(&self, name: &str) -> io::Result<Self::List>
         ensures bytes { IfOk result (λ list. (bytes : Bytes ℕ) → bytes_of self.now name.now ≡ Some bytes → Self.List.remaining list ≡ Some bytes) }
         ensures opened { may_open self.now name.now (is_ok result) };
+
+    /// Closes the list of this name. That a read of it failed is known from here on.
+    ///
+    /// ```
+    /// use line_engine::watched::Watched;
+    /// use program_io::lists::OpenLists;
+    ///
+    /// let system = program_io::system::System::new(&rt);
+    /// let list = Watched::new(system.open("-")?);
+    /// assert!(rt; !list.failed());
+    /// system.close("-", list);
+    /// ```
+    fn close(&self, name: &str, list: Watched<Self::List>)
+        ensures failed { IsTrue (has_failed list) → may_fail self.now name.now };
 }

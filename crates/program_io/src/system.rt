@@ -1,5 +1,9 @@
 //! The files of the system.
+ghost use Rattle.std.specs.Prelude.{IsTrue};
+ghost use Rattle.line_engine.specs.Watched.{has_failed};
+
 use crate::lists::OpenLists;
+use line_engine::watched::Watched;
 use std::fs::File;
 use std::io::{Read, Stdin};
 use std::{fs, io};
@@ -62,5 +66,11 @@ impl OpenLists for System<'_> {
             return Ok(Device::Input(self.rt.stdin()));
         }
         Ok(Device::File(fs::open(self.rt, name)?))
+    }
+
+    fn close(&self, _name: &str, list: Watched<Device>)
+        ensures failed { IsTrue (has_failed list) → Unit {0} }
+    {
+        drop(list);
     }
 }

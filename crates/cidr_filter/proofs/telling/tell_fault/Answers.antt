@@ -1,6 +1,6 @@
 use Rattle.std.proofs.Common.{sym, subst}
 use Rattle.program_io.specs.Messages.{Tells}
-use Rattle.program_io.proofs.Telling.{tells_more}
+use Rattle.program_io.proofs.Told.{tells_more}
 use Rattle.cidr_filter.specs.Told.{fault_text}
 use Rattle.cidr_filter.specs.declared.reading.ReadFault.{ReadFault}
 use Rattle.cidr_filter.proofs.telling.tell_fault.Goals as goal

@@ -1,5 +1,5 @@
 use Rattle.std.proofs.Common.{◌++◌, ◌∙◌, ap, decimal, codes, append_assoc}
-use Rattle.program_io.proofs.Telling.{tells_more}
+use Rattle.program_io.proofs.Told.{tells_more}
 use Rattle.cidr_filter.proofs.Told.{tells_same}
 use Rattle.cidr_filter.proofs.telling.tell_line.Goals as goal
 

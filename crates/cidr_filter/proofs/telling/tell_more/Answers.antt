@@ -1,4 +1,4 @@
-use Rattle.program_io.proofs.Telling.{tells_more}
+use Rattle.program_io.proofs.Told.{tells_more}
 use Rattle.cidr_filter.proofs.Told.{tells_same, more_told}
 use Rattle.cidr_filter.proofs.telling.tell_more.Goals as goal
 

@@ -1,6 +1,6 @@
 use Rattle.std.proofs.Common.{◌++◌, ◌∙◌, sym, ap, decimal, codes, take}
 use Rattle.std.specs.Prelude.{Bool, if◌then◌else◌}
-use Rattle.program_io.proofs.Telling.{tells_more}
+use Rattle.program_io.proofs.Told.{tells_more}
 use Rattle.cidr_filter.proofs.Told.{tells_same}
 use Rattle.cidr_filter.specs.Told.{name_at, texts_in}
 use Rattle.cidr_filter.proofs.telling.tell_place.Goals as goal

@@ -1,4 +1,4 @@
-use Rattle.program_io.proofs.Telling.{tells_more}
+use Rattle.program_io.proofs.Told.{tells_more}
 use Rattle.cidr_filter.proofs.Told.{tells_same}
 use Rattle.cidr_filter.proofs.telling.tell_refusal.Goals as goal
 

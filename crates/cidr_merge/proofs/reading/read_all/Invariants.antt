@@ -7,6 +7,6 @@ use Rattle.cidr_merge.proofs.reading.read_all.Given as goal
 
 abbrev pub invariant-loop-place : goal.invariant-loop-place
 invariant-loop-place g l = record {
-  read : ReadsLists (known_of g.L.OpenLists.bytes_of g.L.OpenLists.may_open l.lists) l.from (slice_range l.words l.from l.place) (read_by l.initial.reader) (read_by l.reader);
+  read : ReadsLists (known_of g.L.OpenLists.bytes_of g.L.OpenLists.may_open g.L.OpenLists.may_fail l.lists) l.from (slice_range l.words l.from l.place) (read_by l.initial.reader) (read_by l.reader);
   memory : (read_by l.reader).is_out_of_memory ≡ false;
 }

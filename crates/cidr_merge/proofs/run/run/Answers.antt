@@ -6,24 +6,24 @@ use Rattle.cidr_merge.proofs.run.run.Goals as goal
 
 pub returns-in-Help : goal.returns-in-Help
 returns-in-Help g c =
-    ends_by _ _ _ (known_of g.L.OpenLists.bytes_of g.L.OpenLists.may_open c.args.lists.now) c.args.words.now c.command_of.result Help
+    ends_by _ _ _ (known_of g.L.OpenLists.bytes_of g.L.OpenLists.may_open g.L.OpenLists.may_fail c.args.lists.now) c.args.words.now c.command_of.result Help
     (record { holds = g.W.Write.contents; output = c.args.output.now; output_after = c.print_text.new.output; tells = g.E.Write.contents; errors = c.args.errors.now; errors_after = c.print_text.new.errors; status = c.print_text.result }) c.in-Help.is c.command_of.ensures.asked
     (c.print_text.ensures.status, c.print_text.ensures.written, c.print_text.ensures.told)
 
 pub returns-in-Version : goal.returns-in-Version
 returns-in-Version g c =
-    ends_by _ _ _ (known_of g.L.OpenLists.bytes_of g.L.OpenLists.may_open c.args.lists.now) c.args.words.now c.command_of.result Version
+    ends_by _ _ _ (known_of g.L.OpenLists.bytes_of g.L.OpenLists.may_open g.L.OpenLists.may_fail c.args.lists.now) c.args.words.now c.command_of.result Version
     (record { holds = g.W.Write.contents; output = c.args.output.now; output_after = c.print_text-in-Version.new.output; tells = g.E.Write.contents; errors = c.args.errors.now; errors_after = c.print_text-in-Version.new.errors; status = c.print_text-in-Version.result }) c.in-Version.is c.command_of.ensures.asked
     (c.print_text-in-Version.ensures.status, c.print_text-in-Version.ensures.written, c.print_text-in-Version.ensures.told)
 
 pub returns-in-Merge : goal.returns-in-Merge
 returns-in-Merge g c =
-    ends_by _ _ _ (known_of g.L.OpenLists.bytes_of g.L.OpenLists.may_open c.args.lists.now) c.args.words.now c.command_of.result (Merge c.in-Merge.request)
+    ends_by _ _ _ (known_of g.L.OpenLists.bytes_of g.L.OpenLists.may_open g.L.OpenLists.may_fail c.args.lists.now) c.args.words.now c.command_of.result (Merge c.in-Merge.request)
     (record { holds = g.W.Write.contents; output = c.args.output.now; output_after = c.merge.new.output; tells = g.E.Write.contents; errors = c.args.errors.now; errors_after = c.merge.new.errors; status = c.merge.result }) c.in-Merge.is c.command_of.ensures.asked
     c.merge.ensures
 
 pub returns-in-Usage : goal.returns-in-Usage
 returns-in-Usage g c =
-    ends_by _ _ _ (known_of g.L.OpenLists.bytes_of g.L.OpenLists.may_open c.args.lists.now) c.args.words.now c.command_of.result Usage
+    ends_by _ _ _ (known_of g.L.OpenLists.bytes_of g.L.OpenLists.may_open g.L.OpenLists.may_fail c.args.lists.now) c.args.words.now c.command_of.result Usage
     (record { holds = g.W.Write.contents; output = c.args.output.now; output_after = c.args.output.now; tells = g.E.Write.contents; errors = c.args.errors.now; errors_after = c.refuse_usage.new.errors; status = c.refuse_usage.result }) c.in-Usage.is c.command_of.ensures.asked
     ((refl, c.refuse_usage.ensures.status), c.refuse_usage.ensures.told)

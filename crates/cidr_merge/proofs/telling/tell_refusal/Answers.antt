@@ -1,5 +1,4 @@
-use Rattle.program_io.proofs.Telling.{tells_more}
-use Rattle.cidr_merge.proofs.Told.{tells_same}
+use Rattle.program_io.proofs.Told.{tells_more, tells_same}
 use Rattle.cidr_merge.proofs.telling.tell_refusal.Goals as goal
 
 pub returns : goal.returns

@@ -1,7 +1,7 @@
 use Rattle.std.proofs.Common.{◌∙◌, sym, ap}
 use Rattle.std.specs.String.{string_bytes}
-use Rattle.cidr_merge.proofs.Told.{tells_same, tells_nothing, name_within, name_past}
-use Rattle.cidr_merge.proofs.telling.tell_name.Goals as goal
+use Rattle.program_io.proofs.Told.{tells_same, tells_nothing, name_within, name_past}
+use Rattle.program_io.proofs.telling.tell_name.Goals as goal
 
 pub returns-in-Some : goal.returns-in-Some
 returns-in-Some g c =

@@ -1,9 +1,9 @@
 use Rattle.std.proofs.Common.{sym, subst}
 use Rattle.program_io.specs.Messages.{Tells}
-use Rattle.program_io.proofs.Telling.{tells_more}
-use Rattle.cidr_merge.specs.Told.{fault_text}
-use Rattle.cidr_merge.specs.declared.reading.ReadFault.{ReadFault}
-use Rattle.cidr_merge.proofs.telling.tell_fault.Goals as goal
+use Rattle.program_io.proofs.Told.{tells_more}
+use Rattle.program_io.specs.Told.{fault_text}
+use Rattle.program_io.specs.declared.reading.ReadFault.{ReadFault}
+use Rattle.program_io.proofs.telling.tell_fault.Goals as goal
 
 pub returns-in-Open : goal.returns-in-Open
 returns-in-Open g c =
@@ -16,9 +16,3 @@ returns-in-Read g c =
     let contents = g.E.Write.contents in
     subst (λ (fault : ReadFault). Tells contents c.args.errors.now c.tell-in-Read.new.errors (fault_text c.args.words.now fault)) (sym c.in-Read.is)
     (tells_more contents c.args.errors.now c.tell_name-in-Read.new.errors c.tell-in-Read.new.errors _ _ c.tell_name-in-Read.ensures c.tell-in-Read.ensures)
-
-pub returns-in-Write : goal.returns-in-Write
-returns-in-Write g c =
-    let contents = g.E.Write.contents in
-    subst (λ (fault : ReadFault). Tells contents c.args.errors.now c.tell-in-Write.new.errors (fault_text c.args.words.now fault)) (sym c.in-Write.is)
-    (tells_more contents c.args.errors.now c.tell_name-in-Write.new.errors c.tell-in-Write.new.errors _ _ c.tell_name-in-Write.ensures c.tell-in-Write.ensures)

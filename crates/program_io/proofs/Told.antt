@@ -1,15 +1,28 @@
 -- What is told, one text after the other.
-use Rattle.std.proofs.Common.{◌≡◌, ◌<◌, ◌≤◌, ◌++◌, ◌∷◌, ◌∙◌, [], ℕ, zero, suc, List, refl, sym, ap, subst, arith, length, get_or, append-nil, decimal, codes}
-use Rattle.std.specs.Prelude.{Option, String, Bool, true, nat_lt, if◌then◌else◌}
+use Rattle.std.proofs.Common.{◌≡◌, ◌<◌, ◌≤◌, ◌∙◌, ℕ, zero, suc, Bool, true, false, List, [], ◌∷◌, ◌++◌, refl, sym, ap, subst, arith, length, get_or, append-nil, decimal, codes}
+use Rattle.std.specs.Prelude.{IsTrue, IsFalse, Option, String, nat_lt, if◌then◌else◌}
 use Rattle.std.specs.List.{flat_map}
 use Rattle.std.specs.String.{string_bytes}
 use Rattle.std.proofs.lemmas.Grind.{flat_map-append}
 use Rattle.std.proofs.lemmas.Bool.Decides.{nat_tests}
 use Rattle.line_engine.specs.declared.output.Output.{Output}
-use Rattle.line_engine.proofs.Putting.{puts_nothing}
+use Rattle.line_engine.specs.Outputs.{output_failed}
+use Rattle.line_engine.proofs.Putting.{puts_more, puts_nothing}
 use Rattle.program_io.specs.Messages.{Tells}
-use Rattle.program_io.proofs.Telling.{tells_more}
-use Rattle.cidr_merge.specs.Told.{name_at, more_text}
+use Rattle.program_io.specs.Told.{name_at, more_text}
+
+works_before : (mid new : Bool) → (IsTrue mid → IsTrue new) → IsFalse new → IsFalse mid
+works_before false new kept works = refl
+works_before true true kept works = works
+works_before true false kept works = sym (kept refl)
+
+-- both texts were told, one after the other
+pub tells_more : {W : Type 0} (contents : W → Option (List ℕ)) (old mid new : Output W) (first second : List ℕ)
+    → Tells contents old mid first → Tells contents mid new second → Tells contents old new (first ++ second)
+tells_more contents old mid new first second p q = record {
+  told = λ works. puts_more _ _ _ _ _ _ _ _ (p.told (works_before (output_failed mid) (output_failed new) q.failed works)) (q.told works);
+  failed = λ h. q.failed (p.failed h);
+}
 
 pub tells_nothing : {W : Type 0} (contents : W → Option (List ℕ)) (old : Output W) → Tells contents old old []
 tells_nothing contents old = record {

@@ -1,6 +1,6 @@
-use Rattle.program_io.proofs.Telling.{tells_more}
-use Rattle.cidr_merge.proofs.Told.{tells_same, more_told}
-use Rattle.cidr_merge.proofs.telling.tell_more.Goals as goal
+use Rattle.program_io.proofs.Told.{tells_more}
+use Rattle.program_io.proofs.Told.{tells_same, more_told}
+use Rattle.program_io.proofs.telling.tell_more.Goals as goal
 
 pub returns-then-more-gt0 : goal.returns-then-more-gt0
 returns-then-more-gt0 g c =

@@ -1,0 +1,2 @@
+-- What the private functions promise each other.
+pub mod Readings

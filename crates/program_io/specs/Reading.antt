@@ -1,0 +1,32 @@
+-- What is read of lists.
+use Rattle.std.specs.Prelude.{◌≡◌, ℕ, ◌-◌, ◌^◌, ◌<◌, ◌⊎◌, List, ◌++◌, Some, true, false, length}
+use Rattle.std.specs.Str.Lines.{lines}
+use Rattle.address_lists.specs.Lists.{ReadLists, at_list, TakesLines}
+use Rattle.address_lists.specs.Refusals.{Refused}
+use Rattle.program_io.specs.Lists.{KnownLists}
+use Rattle.program_io.specs.declared.reading.ReadFault.{ReadFault}
+use Rattle.program_io.specs.declared.reading.ReadFault.TheVariants.{Open, Read, OutOfMemory}
+
+-- the list of this name was opened, and its lines are taken, if it is known what it has. Refused lines name it by the
+-- number
+abbrev pub ReadsList : KnownLists → ℕ → List ℕ → ReadLists → ReadLists → Type 0
+ReadsList known number name before after = known.may_open name true × ((input : List ℕ) → known.bytes_of name ≡ Some input → TakesLines (at_list before number) (lines input) after)
+
+-- it was opened, and some first lines of it are taken, if it is known what it has
+abbrev pub ReadsFirst : KnownLists → ℕ → List ℕ → ReadLists → ReadLists → Type 0
+ReadsFirst known number name before after = known.may_open name true × ((input : List ℕ) → known.bytes_of name ≡ Some input
+    → (first : List (List ℕ)) × (others : List (List ℕ)) × (lines input ≡ first ++ others) × TakesLines (at_list before number) first after)
+
+-- it cannot be read to its end: a read of it fails, or it has more bytes than 64 bits count
+abbrev pub FailsReading : KnownLists → List ℕ → Type 0
+FailsReading known name = known.may_fail name ⊎ ((input : List ℕ) → known.bytes_of name ≡ Some input → 2 ^ 64 - 1 < length input)
+
+-- the reading stops at the list of this name and number, and these are the refused lines then
+abbrev pub StopsAt : KnownLists → ℕ → List ℕ → ReadLists → ReadFault → Refused → Type 0
+-- the list is not opened
+StopsAt known number name before (Open place) refused = (place ≡ number) × known.may_open name false × (refused ≡ before.refused)
+-- it cannot be read to its end, but some first lines are taken
+StopsAt known number name before (Read place) refused = (place ≡ number) × FailsReading known name
+    × (after : ReadLists) × ReadsFirst known number name before after × (after.is_out_of_memory ≡ false) × (refused ≡ after.refused)
+-- there is no memory for an entry of it
+StopsAt known number name before OutOfMemory refused = (after : ReadLists) × ReadsFirst known number name before after × (after.is_out_of_memory ≡ true) × (refused ≡ after.refused)

@@ -1,0 +1,70 @@
+//! A list is read by its name.
+ghost use Rattle.std.specs.Prelude.{◌≡◌, false, OnOk, IfErr};
+ghost use Rattle.address_lists.specs.ReadBy.{read_by};
+ghost use Rattle.program_io.specs.Lists.{known_of};
+ghost use Rattle.program_io.specs.Private.Readings.{end_of};
+ghost use Rattle.program_io.specs.Reading.{ReadsList, StopsAt};
+
+use crate::lists::OpenLists;
+use address_lists::{ListReader, read_list};
+use line_engine::fault::RunFault;
+use line_engine::watched::Watched;
+
+/// Why lists were not read to their ends.
+///
+/// ```
+/// let fault = program_io::reading::ReadFault::Open(1);
+/// assert!(rt; fault != program_io::reading::ReadFault::Read(1));
+/// ```
+#[derive(Clone, Copy, Debug, PartialEq, Eq)]
+pub enum ReadFault {
+    /// The list that the word at this place names cannot be opened.
+    Open(usize),
+    /// The list that the word at this place names cannot be read.
+    Read(usize),
+    /// There is no memory for what the lists name.
+    OutOfMemory,
+}
+
+/// Opens the list of this name, which is the word at this place, reads it to its end, and closes it.
+///
+/// The refused lines are added to those of before, also if the reading ends with a fault.
+///
+/// ```
+/// use program_io::reading::{ReadFault, read_named};
+///
+/// let system = program_io::system::System::new(&rt);
+/// let mut reader = address_lists::ListReader::new(rt.alloc(), address_lists::Refusals::new());
+/// assert_eq!(rt; read_named(&system, "no such file", 1, &mut reader), Err(ReadFault::Open(1)));
+/// ```
+pub fn read_named<L: OpenLists>(
+    lists: &L,
+    name: &str,
+    place: usize,
+    reader: &mut ListReader,
+) -> Result<(), ReadFault>
+    ensures read { OnOk result (ReadsList (known_of L.bytes_of L.may_open L.may_fail lists.now) place name.now (read_by reader.old) (read_by reader.new)) }
+    ensures memory { OnOk result ((read_by reader.new).is_out_of_memory ≡ false) }
+    ensures stopped { IfErr result (λ fault. StopsAt (known_of L.bytes_of L.may_open L.may_fail lists.now) place name.now (read_by reader.old) fault (read_by reader.new).refused) }
+{
+    let Ok(list) = lists.open(name) else {
+        return Err(ReadFault::Open(place));
+    };
+    let mut list = Watched::new(list);
+    let read = read_list(reader, place, &mut list);
+    lists.close(name, list);
+    end_of(read, place, reader.is_out_of_memory())
+}
+
+// How the reading of the list at a place ends, by how its lines were taken, and whether there was no memory for one.
+fn end_of(read: Result<(), RunFault>, place: usize, is_out_of_memory: bool) -> Result<(), ReadFault>
+    ensures { result ≡ end_of read place is_out_of_memory }
+{
+    if is_out_of_memory {
+        return Err(ReadFault::OutOfMemory);
+    }
+    match read {
+        Ok(()) => Ok(()),
+        Err(_) => Err(ReadFault::Read(place)),
+    }
+}
