@@ -12,6 +12,7 @@ use crate::ipv6::*;
 use crate::lists::*;
 use crate::questions::*;
 use crate::set_calls::*;
+use crate::set_operations::*;
 use crate::structs::{IpInC, Ipv4InC, Ipv6InC};
 use crate::text_columns::*;
 use crate::{ipnetwork_abi_minor_version, ipnetwork_abi_version};
@@ -153,7 +154,7 @@ fn calls_of_either(rt: HostRuntime) -> Result<(), Fail> {
     assert_eq!(rt; told, [7, 0, 0, 7]);
     assert_eq!(rt;
         (ipnetwork_abi_version(), ipnetwork_abi_minor_version()),
-        (2, 1)
+        (2, 2)
     );
     Ok(())
 }
@@ -425,4 +426,52 @@ fn blocks_of_ranges_and_by_number(rt: HostRuntime) {
     assert_eq!(rt; (fours[1].address, fours[1].prefix), ([192, 0, 2, 2], 31));
     assert_eq!(rt; (subnet.address, subnet.prefix), ([10, 255, 0, 0], 16));
     assert_eq!(rt; (wide_subnet.address[5], wide_subnet.prefix), (255, 48));
+}
+
+#[test]
+fn operations_on_sets(rt: HostRuntime) {
+    let net = |last, prefix| Ipv4InC {
+        address: [192, 0, 2, last],
+        prefix,
+    };
+    let (first, second) = ([net(0, 25)], [net(32, 27), net(128, 25)]);
+    let halves = [net(0, 25), net(128, 25)];
+    let long = [net(0, 33)];
+    let (mut one, mut two) = ([NO_V4; 1], [NO_V4; 2]);
+    let (mut common, mut counts) = ([NO_V4; 1], [9; 6]);
+    let told = [
+        ipnetwork_v4_union(&first, &second, &mut one, &mut counts[0]),
+        ipnetwork_v4_intersection(&first, &second, &mut common, &mut counts[1]),
+        ipnetwork_v4_difference(&first, &second, &mut two, &mut counts[2]),
+        ipnetwork_v4_difference(&second, &first, &mut [], &mut counts[3]),
+        ipnetwork_v4_union(&halves, &first, &mut two, &mut counts[4]),
+        ipnetwork_v4_union(&first, &long, &mut two, &mut counts[5]),
+    ];
+    assert_eq!(rt; (told, counts), ([0, 0, 0, 4, 10, 3], [1, 1, 2, 1, 9, 9]));
+    assert_eq!(rt; (one[0].address[3], one[0].prefix), (0, 24));
+    assert_eq!(rt; (common[0].address[3], common[0].prefix), (32, 27));
+    assert_eq!(rt;
+        (two[0].prefix, two[1].address[3], two[1].prefix),
+        (27, 64, 26)
+    );
+}
+
+#[test]
+fn operations_on_wide_sets(rt: HostRuntime) {
+    let mut block = Ipv6InC {
+        address: FIRST,
+        prefix: 32,
+    };
+    block.address[15] = 0;
+    let all = [NO_V6];
+    let (mut both, mut common, mut left) = ([NO_V6; 1], [NO_V6; 1], [NO_V6; 32]);
+    let mut counts = [9; 3];
+    let told = [
+        ipnetwork_v6_union(&[block], &all, &mut both, &mut counts[0]),
+        ipnetwork_v6_intersection(&[block], &all, &mut common, &mut counts[1]),
+        ipnetwork_v6_difference(&all, &[block], &mut left, &mut counts[2]),
+    ];
+    assert_eq!(rt; (told, counts), ([0, 0, 0], [1, 1, 32]));
+    assert_eq!(rt; (both[0].prefix, common[0].prefix), (0, 32));
+    assert_eq!(rt; (left[0].prefix, left[31].prefix), (3, 1));
 }
