@@ -2,18 +2,18 @@
 use Rattle.std.proofs.Common.{◌≡◌, ◌↔◌, ℕ, ◌+◌, ◌-◌, ◌*◌, ◌/◌, ◌^◌, ◌<◌, ◌≤◌, ◌⊎◌, inl, inr, Bool, true, false, IsTrue, true≢false, ⊎_elim, refl, sym, ap, subst, ◌∙◌, arith, List, [], ◌∷◌, ◌++◌}
 use Rattle.std.proofs.lemmas.Bool.{cases_lt}
 use Rattle.ipnetwork_family.specs.Network.{Network, IsNetwork, IsCidrBlock, Member, low, high, block_size}
-use Rattle.ipnetwork_family.proofs.Blocks.{size_pos, has_ends, high_fits, within_member, member_within}
-use Rattle.ipnetwork_blocks.specs.LeastList.{LiesIn, IsLeastList}
+use Rattle.ipnetwork_family.proofs.Blocks.{size_pos, has_ends, within_member, member_within}
+use Rattle.ipnetwork_blocks.specs.LeastList.{LiesIn}
 use Rattle.ipnetwork_blocks.specs.Aggregate.{InUnion}
 use Rattle.ipnetwork_blocks.specs.AggregateLaws.{AggregateIsApart}
 use Rattle.ipnetwork_blocks.specs.Ranges.{FromTo}
 use Rattle.ipnetwork_blocks.proofs.LeastLists.{contains_head, least_of_none, least_of_same, least_of_two}
 use Rattle.ipnetwork_sets.specs.Sets.{IsAddressSet}
 use Rattle.ipnetwork_sets.proofs.Lists.{set_block}
-use Rattle.ipnetwork_sets.proofs.Steps.{tail_is_set, union_cons, union_nil, union_behind, union_from}
+use Rattle.ipnetwork_sets.proofs.Steps.{tail_is_set, union_cons, union_nil, union_from}
 use Rattle.ipnetwork_c.specs.declared.together.Operation.{Operation}
 use Rattle.ipnetwork_c.specs.declared.together.Operation.TheVariants.{Union, Intersection, Difference}
-use Rattle.ipnetwork_c.specs.Private.Writing.{HasBlocks, AddsBlocks}
+use Rattle.ipnetwork_c.specs.Private.Writing.{HasBlocks}
 use Rattle.ipnetwork_c.specs.Private.Together.{Keeps, kept_by, IsStretch, IsPart, IsRun, PutsRun, PutsKept}
 use Rattle.ipnetwork_c.proofs.BlocksPut.{nothing_put}
 
