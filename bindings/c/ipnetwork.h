@@ -34,7 +34,7 @@ extern "C" {
  * that of the library. A call that is added raises the minor version, which ipnetwork_abi_minor_version() answers: a
  * program needs a library of the version that it was compiled with, and of the same minor version or a later one. */
 #define IPNETWORK_ABI_VERSION 2
-#define IPNETWORK_ABI_MINOR_VERSION 1
+#define IPNETWORK_ABI_MINOR_VERSION 2
 
 /* Enough for every text of the family and the zero byte behind it. */
 #define IPNETWORK_V4_TEXT 19
@@ -59,7 +59,8 @@ enum {
     IPNETWORK_NO_MEMBER = 6,    /* the network has no member, or no block, of that number */
     IPNETWORK_NO_FAMILY = 7,    /* a family that is neither 4 nor 6, or an address of neither 4 nor 16 octets */
     IPNETWORK_NO_OFFSETS = 8,   /* offsets of a column that fall, or pass the end of its texts */
-    IPNETWORK_NO_RANGE = 9      /* a range whose first address comes after its last */
+    IPNETWORK_NO_RANGE = 9,     /* a range whose first address comes after its last */
+    IPNETWORK_NO_SET = 10       /* a list that is not the least one of a set, as aggregate leaves it */
 };
 
 /* IPNETWORK_CHECKED: the fault has to be looked at, and no pointer is NULL. IPNETWORK_CHECKED_AT: of these arguments
@@ -235,8 +236,10 @@ IPNETWORK_CHECKED ipnetwork_fault ipnetwork_v6_prefix_of_mask(const uint8_t mask
 IPNETWORK_CHECKED ipnetwork_fault ipnetwork_v4_size(const ipnetwork_v4 *network, uint64_t *IPNETWORK_ALONE size);
 IPNETWORK_CHECKED ipnetwork_fault ipnetwork_v6_size(const ipnetwork_v6 *network, uint8_t size[IPNETWORK_ALONE 17]);
 
-/* The member number n in order, counted from 0; for IPv6 n is 16 octets, the highest first. Every member has a number.
- * IPNETWORK_NO_MEMBER where n is not below the size. */
+/* The member number n in order, counted from 0; for IPv6 n is 16 octets, the highest first. Every member has a number, at
+ * prefix length 0 too: the last one is 2^32 - 1, or 2^128 - 1. So this is also a host by its number: number 0 is what the
+ * calls above tell as the least member, and the last number the greatest. IPNETWORK_NO_MEMBER where n is not below the
+ * size. */
 IPNETWORK_CHECKED ipnetwork_fault ipnetwork_v4_nth(const ipnetwork_v4 *network, uint32_t n,
                                                    uint8_t address[IPNETWORK_ALONE 4]);
 IPNETWORK_CHECKED ipnetwork_fault ipnetwork_v6_nth(const ipnetwork_v6 *network, const uint8_t n[16],
@@ -280,6 +283,32 @@ IPNETWORK_CHECKED_AT(3, 4) ipnetwork_fault ipnetwork_v4_set_contains(const ipnet
     const uint8_t address[4], uint8_t *IPNETWORK_ALONE answer);
 IPNETWORK_CHECKED_AT(3, 4) ipnetwork_fault ipnetwork_v6_set_contains(const ipnetwork_v6 *blocks, size_t block_count,
     const uint8_t address[16], uint8_t *IPNETWORK_ALONE answer);
+
+/* The union of two sets, what both have (intersection), and what the first has and the second has not (difference): the
+ * fewest blocks with these addresses, in ascending order and without host bits, in the front of blocks, an array of the
+ * caller's with room for room of them. Each set is given as its blocks, as a call of aggregate, or one of these calls, leaves
+ * them; that it is one is checked. *block_count is how many blocks there are: of a union at most first_count + second_count,
+ * of a difference maybe more. IPNETWORK_SHORT_BUFFER if that is more than room: then *block_count is written all the same, and
+ * blocks is not. If room is 0, blocks may be NULL. IPNETWORK_PREFIX if the prefix length of a struct is past the width, else
+ * IPNETWORK_NO_SET if one of the lists is not that of a set. Both sets may be one array; blocks is another. */
+IPNETWORK_CHECKED_AT(7) ipnetwork_fault ipnetwork_v4_union(const ipnetwork_v4 *first, size_t first_count,
+    const ipnetwork_v4 *second, size_t second_count, ipnetwork_v4 *IPNETWORK_ALONE blocks, size_t room,
+    size_t *IPNETWORK_ALONE block_count);
+IPNETWORK_CHECKED_AT(7) ipnetwork_fault ipnetwork_v6_union(const ipnetwork_v6 *first, size_t first_count,
+    const ipnetwork_v6 *second, size_t second_count, ipnetwork_v6 *IPNETWORK_ALONE blocks, size_t room,
+    size_t *IPNETWORK_ALONE block_count);
+IPNETWORK_CHECKED_AT(7) ipnetwork_fault ipnetwork_v4_intersection(const ipnetwork_v4 *first, size_t first_count,
+    const ipnetwork_v4 *second, size_t second_count, ipnetwork_v4 *IPNETWORK_ALONE blocks, size_t room,
+    size_t *IPNETWORK_ALONE block_count);
+IPNETWORK_CHECKED_AT(7) ipnetwork_fault ipnetwork_v6_intersection(const ipnetwork_v6 *first, size_t first_count,
+    const ipnetwork_v6 *second, size_t second_count, ipnetwork_v6 *IPNETWORK_ALONE blocks, size_t room,
+    size_t *IPNETWORK_ALONE block_count);
+IPNETWORK_CHECKED_AT(7) ipnetwork_fault ipnetwork_v4_difference(const ipnetwork_v4 *first, size_t first_count,
+    const ipnetwork_v4 *second, size_t second_count, ipnetwork_v4 *IPNETWORK_ALONE blocks, size_t room,
+    size_t *IPNETWORK_ALONE block_count);
+IPNETWORK_CHECKED_AT(7) ipnetwork_fault ipnetwork_v6_difference(const ipnetwork_v6 *first, size_t first_count,
+    const ipnetwork_v6 *second, size_t second_count, ipnetwork_v6 *IPNETWORK_ALONE blocks, size_t room,
+    size_t *IPNETWORK_ALONE block_count);
 
 /* The blocks whose addresses are those from first to last, both included: the fewest that there are, in ascending order
  * and without host bits, in the front of blocks, an array of the caller's with room for room of them. There are at most

@@ -162,9 +162,9 @@ static void fault_texts(void) {
     static const char *const wanted[] = {"no fault", "more than one slash", "no address",
                                          "no prefix length of the family", "no room for the text", "no mask",
                                          "no member of this number", "no family", "no offsets of the column",
-                                         "no range", "unknown fault"};
+                                         "no range", "no list of a set", "unknown fault"};
     for (uint32_t fault = 0; fault < 300; fault++) {
-        const char *text = wanted[fault < 10 ? fault : 10];
+        const char *text = wanted[fault < 11 ? fault : 11];
         char buffer[IPNETWORK_FAULT_TEXT];
         size_t length;
         CHECK(text, ipnetwork_fault_text(fault, buffer, sizeof buffer, &length) == YES);
@@ -576,6 +576,118 @@ static void sets(void) {
     CHECK("NULL", ipnetwork_v6_set_contains(NULL, 0, past_six.address, &answer) == YES && answer == 0);
 }
 
+typedef ipnetwork_fault (*operation_v4)(const ipnetwork_v4 *, size_t, const ipnetwork_v4 *, size_t, ipnetwork_v4 *, size_t, size_t *);
+typedef ipnetwork_fault (*operation_v6)(const ipnetwork_v6 *, size_t, const ipnetwork_v6 *, size_t, ipnetwork_v6 *, size_t, size_t *);
+
+static const operation_v4 operations_v4[] = {ipnetwork_v4_union, ipnetwork_v4_intersection, ipnetwork_v4_difference};
+static const operation_v6 operations_v6[] = {ipnetwork_v6_union, ipnetwork_v6_intersection, ipnetwork_v6_difference};
+
+/* A random set within 256 addresses, its blocks at the end of the memory, and a table with a byte for each address. */
+struct within_256 {
+    size_t room, count;
+    ipnetwork_v4 *four, *blocks;
+    ipnetwork_v6 *six, *blocks_six;
+    uint8_t has[256];
+};
+
+static struct within_256 random_set(size_t room) {
+    struct within_256 set = {.room = room, .four = edge(room * sizeof *set.four), .six = edge(room * sizeof *set.six)};
+    size_t again = 77;
+    for (size_t i = 0; i < room; i++) {
+        unsigned low = number() & 255, bits = number() % 7;
+        set.four[i] = (ipnetwork_v4){{192, 0, 2, (uint8_t)low}, (uint8_t)(32 - bits)};
+        set.six[i] = (ipnetwork_v6){{0x20, 1, 0x0d, 0xb8}, (uint8_t)(128 - bits)};
+        set.six[i].address[15] = (uint8_t)low;
+        memset(set.has + (low >> bits << bits), 1, 1u << bits);
+    }
+    CHECK("operands", ipnetwork_v4_aggregate(set.four, room, &set.count) == YES);
+    CHECK("operands", ipnetwork_v6_aggregate(set.six, room, &again) == YES && again == set.count);
+    set.blocks = set.four + (room - set.count);
+    set.blocks_six = set.six + (room - set.count);
+    memmove(set.blocks, set.four, set.count * sizeof *set.four);
+    memmove(set.blocks_six, set.six, set.count * sizeof *set.six);
+    return set;
+}
+
+static void leave_set(struct within_256 *set) {
+    leave_edge(set->four, set->room * sizeof *set->four);
+    leave_edge(set->six, set->room * sizeof *set->six);
+}
+
+/* One operation on two random sets: the number that is wanted, a buffer that is one short, and one of exactly its size. */
+static void operate(size_t which, const struct within_256 *a, const struct within_256 *b) {
+    uint8_t has[256];
+    size_t told = 77, again = 77;
+    for (unsigned low = 0; low < 256; low++)
+        has[low] = which == 0 ? a->has[low] || b->has[low] : which == 1 ? a->has[low] && b->has[low] : a->has[low] && !b->has[low];
+    ipnetwork_fault four = operations_v4[which](a->blocks, a->count, b->blocks, b->count, NULL, 0, &told);
+    ipnetwork_fault six = operations_v6[which](a->blocks_six, a->count, b->blocks_six, b->count, NULL, 0, &again);
+    CHECK("operation", four == (told == 0 ? YES : IPNETWORK_SHORT_BUFFER) && six == four && again == told);
+    CHECK("operation", which == 2 || told <= a->count + b->count);
+    size_t blocks = told;
+    ipnetwork_v4 *made = edge(blocks * sizeof *made);
+    ipnetwork_v6 *made_six = edge(blocks * sizeof *made_six);
+    if (blocks != 0) {
+        made[0].prefix = made_six[0].prefix = 77;
+        told = again = 77;
+        CHECK("operation", operations_v4[which](a->blocks, a->count, b->blocks, b->count, made, blocks - 1, &told) == IPNETWORK_SHORT_BUFFER);
+        CHECK("operation", operations_v6[which](a->blocks_six, a->count, b->blocks_six, b->count, made_six, blocks - 1, &again) == IPNETWORK_SHORT_BUFFER);
+        CHECK("operation", told == blocks && again == blocks && made[0].prefix == 77 && made_six[0].prefix == 77);
+    }
+    CHECK("operation", operations_v4[which](a->blocks, a->count, b->blocks, b->count, made, blocks, &told) == YES && told == blocks);
+    CHECK("operation", operations_v6[which](a->blocks_six, a->count, b->blocks_six, b->count, made_six, blocks, &again) == YES && again == blocks);
+    fewest("operation", made, made_six, blocks, has);
+    leave_edge(made, blocks * sizeof *made);
+    leave_edge(made_six, blocks * sizeof *made_six);
+}
+
+/* Each of two lists in place of the other, which is that of a set: nothing is written, and the fault is told. */
+static void refused_operands(ipnetwork_fault wanted, const ipnetwork_v4 *bad, const ipnetwork_v6 *bad_six, size_t count) {
+    ipnetwork_v4 all = v4("0.0.0.0/0"), made = {{77}, 77};
+    ipnetwork_v6 all_six = v6("::/0"), made_six = {{77}, 77};
+    size_t told = 77;
+    for (size_t which = 0; which < 3; which++) {
+        CHECK("no set", operations_v4[which](bad, count, &all, 1, &made, 1, &told) == wanted);
+        CHECK("no set", operations_v4[which](&all, 1, bad, count, &made, 1, &told) == wanted);
+        CHECK("no set", operations_v6[which](bad_six, count, &all_six, 1, &made_six, 1, &told) == wanted);
+        CHECK("no set", operations_v6[which](&all_six, 1, bad_six, count, &made_six, 1, &told) == wanted);
+        CHECK("no set", told == 77 && made.prefix == 77 && made_six.prefix == 77);
+    }
+}
+
+static void operations(void) {
+    for (size_t round = 0; round < 600; round++) {
+        struct within_256 a = random_set(round % 9), b = random_set(round / 9 % 9);
+        for (size_t which = 0; which < 3; which++) {
+            operate(which, &a, &b);
+            operate(which, &a, &a);
+        }
+        leave_set(&a);
+        leave_set(&b);
+    }
+    ipnetwork_v4 all = v4("0.0.0.0/0"), ends[2] = {v4("0.0.0.0"), v4("255.255.255.255")}, made[64];
+    ipnetwork_v6 all_six = v6("::/0"), made_six[256];
+    ipnetwork_v6 ends_six[2] = {v6("::"), v6("ffff:ffff:ffff:ffff:ffff:ffff:ffff:ffff")};
+    size_t told = 77;
+    CHECK("all", ipnetwork_v4_difference(&all, 1, ends, 2, made, 64, &told) == YES && told == 62);
+    CHECK("all", ipnetwork_v4_union(made, told, ends, 2, made + 63, 1, &told) == YES && told == 1 && made[63].prefix == 0);
+    CHECK("all", ipnetwork_v6_difference(&all_six, 1, ends_six, 2, made_six, 256, &told) == YES && told == 254);
+    CHECK("all", ipnetwork_v6_union(made_six, told, ends_six, 2, made_six + 255, 1, &told) == YES && told == 1 && made_six[255].prefix == 0);
+    CHECK("all", ipnetwork_v4_intersection(&all, 1, &all, 1, made, 64, &told) == YES && told == 1 && made[0].prefix == 0);
+    CHECK("all", ipnetwork_v6_intersection(&all_six, 1, &all_six, 1, made_six, 256, &told) == YES && told == 1 && made_six[0].prefix == 0);
+    ipnetwork_v4 halves[2] = {v4("10.0.0.0/9"), v4("10.128.0.0/9")}, turned[2] = {v4("10.0.1.0/24"), v4("10.0.0.0/25")};
+    ipnetwork_v6 halves_six[2] = {v6("2001:db8::/33"), v6("2001:db8:8000::/33")}, turned_six[2] = {v6("2001:db9::/32"), v6("2001:db8::/33")};
+    ipnetwork_v4 within[2] = {v4("10.0.0.0/8"), v4("10.1.0.0/16")}, host = v4("10.0.0.1/8"), past = v4("10.0.0.0/8");
+    ipnetwork_v6 within_six[2] = {v6("2001:db8::/32"), v6("2001:db8:1::/48")}, host_six = v6("2001:db8::1/32"), past_six = v6("2001:db8::/32");
+    past.prefix = 33;
+    past_six.prefix = 129;
+    refused_operands(IPNETWORK_NO_SET, halves, halves_six, 2);
+    refused_operands(IPNETWORK_NO_SET, turned, turned_six, 2);
+    refused_operands(IPNETWORK_NO_SET, within, within_six, 2);
+    refused_operands(IPNETWORK_NO_SET, &host, &host_six, 1);
+    refused_operands(PREF, &past, &past_six, 1);
+}
+
 /* The blocks of ranges within 256 addresses, and the longest lists that there are. */
 static void ranges(void) {
     for (unsigned first = 0; first < 256; first += 3) {
@@ -900,6 +1012,7 @@ int main(void) {
     lists();
     aggregates();
     sets();
+    operations();
     ranges();
     subnets();
     columns_of_texts();

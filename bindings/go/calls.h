@@ -102,6 +102,43 @@ static inline address_or_fault network_mask(ipnetwork_ip network) {
     return told;
 }
 
+/* The operations on two sets. */
+enum { SET_UNION, SET_INTERSECTION, SET_DIFFERENCE };
+
+static inline ipnetwork_fault operate_v4(int operation, const ipnetwork_v4 *first, size_t first_count, const ipnetwork_v4 *second,
+                                         size_t second_count, ipnetwork_v4 *blocks, size_t room, size_t *count) {
+    if (operation == SET_UNION) return ipnetwork_v4_union(first, first_count, second, second_count, blocks, room, count);
+    if (operation == SET_INTERSECTION) return ipnetwork_v4_intersection(first, first_count, second, second_count, blocks, room, count);
+    return ipnetwork_v4_difference(first, first_count, second, second_count, blocks, room, count);
+}
+
+static inline ipnetwork_fault operate_v6(int operation, const ipnetwork_v6 *first, size_t first_count, const ipnetwork_v6 *second,
+                                         size_t second_count, ipnetwork_v6 *blocks, size_t room, size_t *count) {
+    if (operation == SET_UNION) return ipnetwork_v6_union(first, first_count, second, second_count, blocks, room, count);
+    if (operation == SET_INTERSECTION) return ipnetwork_v6_intersection(first, first_count, second, second_count, blocks, room, count);
+    return ipnetwork_v6_difference(first, first_count, second, second_count, blocks, room, count);
+}
+
+/* The block number n of a prefix length, as `network_nth` has the member. */
+static inline network_or_fault network_subnet_at(ipnetwork_ip network, uint8_t prefix, ipnetwork_address n) {
+    network_or_fault told;
+    static const uint8_t zeros[12] = {0};
+    const uint8_t *low = n.octets + 12;
+    memset(&told, 0, sizeof told);
+    told.network.family = network.family;
+    if (network.family == 4) {
+        told.fault = memcmp(n.octets, zeros, 12) != 0 ? IPNETWORK_NO_MEMBER
+                     : ipnetwork_v4_subnet_at(&network.v4, prefix,
+                                              (uint32_t)low[0] << 24 | (uint32_t)low[1] << 16 | (uint32_t)low[2] << 8 | low[3],
+                                              &told.network.v4);
+    } else if (network.family == 6) {
+        told.fault = ipnetwork_v6_subnet_at(&network.v6, prefix, n.octets, &told.network.v6);
+    } else {
+        told.fault = IPNETWORK_NO_FAMILY;
+    }
+    return told;
+}
+
 /* The member number n, which is 16 octets, the highest first, as if it were an address. */
 static inline address_or_fault network_nth(ipnetwork_ip network, ipnetwork_address n) {
     address_or_fault told;

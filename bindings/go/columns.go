@@ -64,12 +64,45 @@ func (set *Set) aggregate() error {
 	return nil
 }
 
-// Union gives the addresses of both.
-func (set Set) Union(other Set) (Set, error) {
-	var both Set
-	both.fours = append(append(both.fours, set.fours...), other.fours...)
-	both.sixes = append(append(both.sixes, set.sixes...), other.sixes...)
-	return both, both.aggregate()
+// Union gives the addresses that one of the sets has, or both.
+func (set Set) Union(other Set) (Set, error) { return set.operate(C.SET_UNION, other) }
+
+// Intersection gives the addresses that both sets have.
+func (set Set) Intersection(other Set) (Set, error) { return set.operate(C.SET_INTERSECTION, other) }
+
+// Difference gives the addresses that this set has and the other has not.
+func (set Set) Difference(other Set) (Set, error) { return set.operate(C.SET_DIFFERENCE, other) }
+
+// operate asks once more if a difference has more blocks than both sets; no other operation does.
+func (set Set) operate(operation C.int, other Set) (Set, error) {
+	var made Set
+	for room := len(set.fours) + len(other.fours); ; {
+		var count C.size_t
+		made.fours = make([]C.ipnetwork_v4, room)
+		number := C.operate_v4(operation, fourth(set.fours), C.size_t(len(set.fours)), fourth(other.fours),
+			C.size_t(len(other.fours)), fourth(made.fours), C.size_t(room), &count)
+		if number == C.IPNETWORK_OK {
+			made.fours = made.fours[:count]
+			break
+		} else if number != C.IPNETWORK_SHORT_BUFFER {
+			return Set{}, Fault(number)
+		}
+		room = int(count)
+	}
+	for room := len(set.sixes) + len(other.sixes); ; {
+		var count C.size_t
+		made.sixes = make([]C.ipnetwork_v6, room)
+		number := C.operate_v6(operation, sixth(set.sixes), C.size_t(len(set.sixes)), sixth(other.sixes),
+			C.size_t(len(other.sixes)), sixth(made.sixes), C.size_t(room), &count)
+		if number == C.IPNETWORK_OK {
+			made.sixes = made.sixes[:count]
+			break
+		} else if number != C.IPNETWORK_SHORT_BUFFER {
+			return Set{}, Fault(number)
+		}
+		room = int(count)
+	}
+	return made, nil
 }
 
 // Networks gives the fewest networks that have these addresses: those of IPv4 first, in ascending order.
@@ -90,14 +123,14 @@ func Aggregate(networks []Network) ([]Network, error) {
 	return set.Networks(), err
 }
 
-// Contains tells whether an address is one of the set. None with a zone is.
+// Contains tells whether an address is one of the set, by one binary search. None with a zone is.
 func (set Set) Contains(address netip.Addr) bool {
 	held, ok := given(address)
 	var answer C.uint8_t
 	if ok && held.length == 4 {
-		C.ipnetwork_v4_list_contains(fourth(set.fours), C.size_t(len(set.fours)), &held.octets[0], &answer)
+		C.ipnetwork_v4_set_contains(fourth(set.fours), C.size_t(len(set.fours)), &held.octets[0], &answer)
 	} else if ok {
-		C.ipnetwork_v6_list_contains(sixth(set.sixes), C.size_t(len(set.sixes)), &held.octets[0], &answer)
+		C.ipnetwork_v6_set_contains(sixth(set.sixes), C.size_t(len(set.sixes)), &held.octets[0], &answer)
 	}
 	return answer == 1
 }

@@ -43,7 +43,7 @@ const (
 	NoRoom Fault = C.IPNETWORK_SHORT_BUFFER
 	// NoMask: the address is no mask.
 	NoMask Fault = C.IPNETWORK_NO_MASK
-	// NoMember: the network has no member of that number.
+	// NoMember: the network has no member, or no block, of that number.
 	NoMember Fault = C.IPNETWORK_NO_MEMBER
 	// NoFamily: the zero Network, the zero netip.Addr, an address with a zone, or one of the other family.
 	NoFamily Fault = C.IPNETWORK_NO_FAMILY
@@ -252,6 +252,20 @@ func (network Network) Nth(n *big.Int) (netip.Addr, error) {
 	n.FillBytes((*[16]byte)(unsafe.Pointer(&number.octets))[:])
 	told := C.network_nth(network.held, number)
 	return addressOf(told), faultOf(told.fault)
+}
+
+// SubnetAt gives the block number n of this prefix length within the network, counted from 0 in ascending order; Prefix if
+// the prefix length is less than the network's, or past the width, and NoMember if there is no such block.
+func (network Network) SubnetAt(prefix int, n *big.Int) (Network, error) {
+	if prefix < 0 || prefix > 255 {
+		return Network{}, Prefix
+	}
+	if n.Sign() < 0 || n.BitLen() > 128 {
+		return Network{}, NoMember
+	}
+	var number C.ipnetwork_address
+	n.FillBytes((*[16]byte)(unsafe.Pointer(&number.octets))[:])
+	return networkOf(C.network_subnet_at(network.held, C.uint8_t(prefix), number))
 }
 
 // IsSubnetOf tells whether each member of this network is a member of the other; false if the families differ.

@@ -241,6 +241,68 @@ func TestSets(t *testing.T) {
 	}
 }
 
+// blocksWithin256 gives random networks of both families within 256 addresses, and which of these they have.
+func blocksWithin256(random *rand.Rand, count int) ([]Network, [256]bool) {
+	var networks []Network
+	var has [256]bool
+	for i := 0; i < count; i++ {
+		host, bits := byte(random.Intn(256)), random.Intn(7)
+		four, _ := New(netip.AddrFrom4([4]byte{192, 0, 2, host}), 32-bits)
+		six, _ := New(netip.AddrFrom16([16]byte{0x20, 1, 15: host}), 128-bits)
+		networks = append(networks, four, six)
+		low := int(host) >> bits << bits
+		for address := low; address < low+1<<bits; address++ {
+			has[address] = true
+		}
+	}
+	return networks, has
+}
+
+func TestOperationsOnSets(t *testing.T) {
+	random := rand.New(rand.NewSource(7))
+	for round := 0; round < 300; round++ {
+		first, inFirst := blocksWithin256(random, round%9)
+		second, inSecond := blocksWithin256(random, round/9%9)
+		one, _ := NewSet(first)
+		other, _ := NewSet(second)
+		union, err := one.Union(other)
+		equal(t, "union", err, nil)
+		common, err := one.Intersection(other)
+		equal(t, "intersection", err, nil)
+		left, err := one.Difference(other)
+		equal(t, "difference", err, nil)
+		for host := 0; host < 256; host++ {
+			for _, address := range []netip.Addr{netip.AddrFrom4([4]byte{192, 0, 2, byte(host)}), netip.AddrFrom16([16]byte{0x20, 1, 15: byte(host)})} {
+				equal(t, "union", union.Contains(address), inFirst[host] || inSecond[host])
+				equal(t, "intersection", common.Contains(address), inFirst[host] && inSecond[host])
+				equal(t, "difference", left.Contains(address), inFirst[host] && !inSecond[host])
+			}
+		}
+		for _, set := range []Set{union, common, left} {
+			again, err := Aggregate(set.Networks())
+			equal(t, "fewest", fmt.Sprint(again, err), fmt.Sprint(set.Networks(), nil))
+		}
+	}
+	var none Set
+	empty, err := none.Union(none)
+	equal(t, "none", fmt.Sprint(empty.Networks(), err), "[] <nil>")
+}
+
+func TestSubnets(t *testing.T) {
+	network, err := MustParse("10.0.0.9/8").SubnetAt(16, big.NewInt(255))
+	equal(t, "subnet", fmt.Sprint(network, err), "10.255.0.0/16 <nil>")
+	network, err = MustParse("2001:db8::/32").SubnetAt(48, big.NewInt(65535))
+	equal(t, "subnet", fmt.Sprint(network, err), "2001:db8:ffff::/48 <nil>")
+	for _, text := range []string{"10.0.0.0/8", "2001:db8::/32"} {
+		_, err = MustParse(text).SubnetAt(32, new(big.Int).Lsh(big.NewInt(1), 100))
+		equal(t, text, err, NoMember)
+		_, err = MustParse(text).SubnetAt(7, big.NewInt(0))
+		equal(t, text, err, Prefix)
+	}
+	_, err = Network{}.SubnetAt(8, big.NewInt(0))
+	equal(t, "no network", err, NoFamily)
+}
+
 var sink bool
 
 func BenchmarkContains(b *testing.B) {

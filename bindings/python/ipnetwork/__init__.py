@@ -28,6 +28,7 @@ from importlib.util import find_spec
 from ipaddress import IPv4Address, IPv4Interface, IPv6Address, IPv6Interface
 from ipaddress import IPv4Network as _TheirV4
 from ipaddress import IPv6Network as _TheirV6
+from operator import index
 from typing import TYPE_CHECKING, ClassVar, Generic, SupportsIndex, TypeVar, Union
 
 from ._errors import AddressError, FormatError, MaskError, NetworkError, PrefixError, error
@@ -61,6 +62,7 @@ __all__ = [
 CORE: str = "ctypes" if _core.__name__.endswith("ctypes") else "native"
 
 Address = TypeVar("Address", IPv4Address, IPv6Address)
+_Kind = TypeVar("_Kind")
 
 
 def _packed(kind: type[Union[IPv4Address, IPv6Address]], address: Union[IPv4Address, IPv6Address]) -> bytes:
@@ -69,6 +71,13 @@ def _packed(kind: type[Union[IPv4Address, IPv6Address]], address: Union[IPv4Addr
     if getattr(address, "scope_id", None) is not None:
         raise error(2, address)
     return address.packed
+
+
+def _subnets(network: _Kind, prefix: int, count: int) -> Iterator[_Kind]:
+    for number in range(count):
+        subnet = _core.subnet_at(network, prefix, number)
+        if subnet is not None:
+            yield subnet
 
 
 class _Network(Generic[Address]):
@@ -90,6 +99,26 @@ class _Network(Generic[Address]):
     def prefix_of_mask(cls, mask: Address) -> int:
         """The prefix length of a mask; MaskError where the address is none."""
         return _core.prefix_of_mask(_packed(cls._address, mask))
+
+    def subnets(self, prefixlen_diff: SupportsIndex = 1, new_prefix: Union[SupportsIndex, None] = None) -> Iterator[Self]:
+        """The blocks of one prefix length within the network, in ascending order: of a prefix length that is
+        ``prefixlen_diff`` longer, or of ``new_prefix``, if it is given. ValueError if that is less than the network's, or
+        past the width.
+
+        >>> list(IPv4Network("10.0.0.0/8").subnets(new_prefix=9))
+        [IPv4Network('10.0.0.0/9'), IPv4Network('10.128.0.0/9')]
+        """
+        difference = index(prefixlen_diff)
+        if new_prefix is not None:
+            if difference != 1:
+                raise ValueError("cannot set prefixlen_diff and new_prefix")
+            difference = index(new_prefix) - self.prefixlen
+        elif self.prefixlen == self.max_prefixlen:
+            difference = 0
+        prefix = self.prefixlen + difference
+        if not self.prefixlen <= prefix <= self.max_prefixlen:
+            raise ValueError(f"{prefix} is no prefix length of subnets of {self!r}")
+        return _subnets(self, prefix, 2**difference)
 
     @classmethod
     def read_column(cls, texts: ReadableBuffer, offsets: ReadableBuffer) -> tuple[bytearray, bytearray]:
@@ -221,13 +250,15 @@ class AddressSet:
     """The addresses of networks of either family, in any order, host bits or not.
 
     It holds the fewest networks that have them, so that sets of the same addresses are equal, whatever networks they were
-    made of. A search looks at one network after the other.
+    made of. Whether it has an address is told by one binary search.
 
     >>> allowed = AddressSet([ip_network("10.0.0.0/9"), ip_network("2001:db8::/32")]) | AddressSet([ip_network("10.128.0.0/9")])
     >>> allowed
     AddressSet([IPv4Network('10.0.0.0/8'), IPv6Network('2001:db8::/32')])
     >>> IPv4Address("10.1.9.32") in allowed, IPv6Address("2001:db9::") in allowed
     (True, False)
+    >>> allowed - AddressSet([ip_network("10.0.0.0/10"), ip_network("::/0")])
+    AddressSet([IPv4Network('10.64.0.0/10'), IPv4Network('10.128.0.0/9')])
     """
 
     __slots__ = ("_fours", "_sixes")
@@ -242,15 +273,18 @@ class AddressSet:
                 sixes.append(network._row)
             else:
                 raise _no_network(network)
-        self._join(b"".join(fours), b"".join(sixes))
+        self._fours: bytes = _core.aggregate(4, b"".join(fours))
+        self._sixes: bytes = _core.aggregate(6, b"".join(sixes))
 
-    def _join(self, fours: bytes, sixes: bytes) -> None:
-        self._fours: bytes = _core.aggregate(4, fours)
-        self._sixes: bytes = _core.aggregate(6, sixes)
+    def _operated(self, operation: str, other: AddressSet) -> AddressSet:
+        made = AddressSet.__new__(AddressSet)
+        made._fours = _core.operate(operation, 4, self._fours, other._fours)
+        made._sixes = _core.operate(operation, 6, self._sixes, other._sixes)
+        return made
 
     def __contains__(self, address: object) -> bool:
         """Whether an address is one of the set. None with a zone is, and no network."""
-        return _core.list_contains(self._fours, self._sixes, address)
+        return _core.set_contains(self._fours, self._sixes, address)
 
     def contains_column(self, addresses: ReadableBuffer) -> bytearray:
         """For each address of a column a byte: 1 if it is one of the set, else 0. The column has 17 bytes for each address,
@@ -261,15 +295,19 @@ class AddressSet:
         >>> list(AddressSet([ip_network("8.0.0.0/8")]).contains_column(addresses))
         [1, 0, 0]
         """
-        return _core.list_contains_column(self._fours, self._sixes, addresses)
+        return _core.set_contains_column(self._fours, self._sixes, addresses)
 
     def __or__(self, other: AddressSet) -> AddressSet:
-        """The addresses of both."""
-        if not isinstance(other, AddressSet):
-            return NotImplemented
-        both = AddressSet.__new__(AddressSet)
-        both._join(self._fours + other._fours, self._sixes + other._sixes)
-        return both
+        """The addresses that one of the two has, or both."""
+        return self._operated("|", other) if isinstance(other, AddressSet) else NotImplemented
+
+    def __and__(self, other: AddressSet) -> AddressSet:
+        """The addresses that both have."""
+        return self._operated("&", other) if isinstance(other, AddressSet) else NotImplemented
+
+    def __sub__(self, other: AddressSet) -> AddressSet:
+        """The addresses that this set has and the other has not."""
+        return self._operated("-", other) if isinstance(other, AddressSet) else NotImplemented
 
     def __iter__(self) -> Iterator[_Either]:
         """The fewest networks that have these addresses: those of IPv4 first, in ascending order."""

@@ -65,7 +65,11 @@ def _load() -> ctypes.CDLL:
             ("new", [octets, ctypes.c_uint8, pointer]),
             ("canonical", [octets, pointer, size, pointer]),
             ("contains_column", [octets, pointer, size, pointer, size]),
-            ("list_contains", [octets, size, octets, pointer]),
+            ("set_contains", [octets, size, octets, pointer]),
+            ("union", [octets, size, octets, size, pointer, size, pointer]),
+            ("intersection", [octets, size, octets, size, pointer, size, pointer]),
+            ("difference", [octets, size, octets, size, pointer, size, pointer]),
+            ("subnet_at", [octets, ctypes.c_uint8, ctypes.c_uint32 if family == "v4" else octets, pointer]),
             ("aggregate", [pointer, size, pointer]),
             ("read_column", [octets, size, pointer, size, pointer, size, pointer, size]),
             ("network", [octets, pointer]),
@@ -377,29 +381,62 @@ def aggregate(version: int, rows: bytes) -> bytes:
     return room.raw[: count.value * step]
 
 
-def _list_has(fours: bytes, sixes: bytes, packed: bytes) -> bool:
+_OPERATIONS = {"|": "union", "&": "intersection", "-": "difference"}
+
+
+def operate(operation: str, version: int, first: bytes, second: bytes) -> bytes:
+    """Of two sets, given by the bytes of their blocks, those of an operation."""
+    step = 5 if version == 4 else 17
+    room = (len(first) + len(second)) // step
+    call = getattr(_library, f"ipnetwork_v{version}_{_OPERATIONS[operation]}")
+    while True:
+        place, count = ctypes.create_string_buffer(room * step), ctypes.c_size_t()
+        fault = call(first, len(first) // step, second, len(second) // step, place, room, ctypes.byref(count))
+        if fault != 4:
+            _answered(fault)
+            return place.raw[: count.value * step]
+        # A union has no more blocks than both sets, and a difference that has more is asked for once again.
+        room = count.value
+
+
+def subnet_at(network: _Kind, prefixlen: int, number: int) -> Union[_Kind, None]:
+    """The block of this number, as a network of the class; None if there is none."""
+    held = network._struct()
+    if number >= 2 ** (8 * network._width):
+        return None
+    given = number if network._width == 4 else number.to_bytes(16, "big")
+    fault = getattr(_library, f"ipnetwork_{network._family}_subnet_at")(network._row, prefixlen, given, ctypes.byref(held))
+    if fault == 6:
+        return None
+    _answered(fault)
+    subnet = type(network).__new__(type(network))
+    subnet._keep(bytes(held))
+    return subnet
+
+
+def _set_has(fours: bytes, sixes: bytes, packed: bytes) -> bool:
     answer = ctypes.c_uint8()
     if len(packed) == 4:
-        _answered(_library.ipnetwork_v4_list_contains(fours, len(fours) // 5, packed, ctypes.byref(answer)))
+        _answered(_library.ipnetwork_v4_set_contains(fours, len(fours) // 5, packed, ctypes.byref(answer)))
     elif len(packed) == 16:
-        _answered(_library.ipnetwork_v6_list_contains(sixes, len(sixes) // 17, packed, ctypes.byref(answer)))
+        _answered(_library.ipnetwork_v6_set_contains(sixes, len(sixes) // 17, packed, ctypes.byref(answer)))
     return answer.value == 1
 
 
-def list_contains(fours: bytes, sixes: bytes, address: object) -> bool:
-    """Whether an address is a member of one of the networks whose structs these bytes are."""
+def set_contains(fours: bytes, sixes: bytes, address: object) -> bool:
+    """Whether an address is one of the set whose blocks these bytes are."""
     if isinstance(address, (IPv4Address, IPv6Address)):
-        return getattr(address, "_scope_id", None) is None and _list_has(fours, sixes, address.packed)
+        return getattr(address, "_scope_id", None) is None and _set_has(fours, sixes, address.packed)
     return _no_member(address)
 
 
-def list_contains_column(fours: bytes, sixes: bytes, addresses: ReadableBuffer) -> bytearray:
+def set_contains_column(fours: bytes, sixes: bytes, addresses: ReadableBuffer) -> bytearray:
     """The same of each address of a column, which are as ``read_rows`` leaves them."""
     column = bytes(_flat(addresses))
     if len(column) % _ADDRESS:
         raise ValueError(f"{len(column)} bytes are no column of addresses of {_ADDRESS} bytes")
     rows = range(0, len(column), _ADDRESS)
-    return bytearray(_list_has(fours, sixes, column[at : at + column[at + 16]]) for at in rows)
+    return bytearray(_set_has(fours, sixes, column[at : at + column[at + 16]]) for at in rows)
 
 
 def layout(rows: list[object]) -> tuple[bytearray, bytearray]:

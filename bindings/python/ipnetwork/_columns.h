@@ -122,29 +122,65 @@ static PyObject *aggregate(PyObject *module, PyObject *arguments) {
     return blocks;
 }
 
-/* A list of both families. */
+typedef ipnetwork_fault (*operation_v4)(const ipnetwork_v4 *, size_t, const ipnetwork_v4 *, size_t, ipnetwork_v4 *, size_t, size_t *);
+typedef ipnetwork_fault (*operation_v6)(const ipnetwork_v6 *, size_t, const ipnetwork_v6 *, size_t, ipnetwork_v6 *, size_t, size_t *);
+
+/* operate(operation, version, first, second): of two sets, given by the bytes of their blocks, those of `&` or `-`. */
+static PyObject *operate(PyObject *module, PyObject *arguments) {
+    (void)module;
+    int operation, version;
+    const char *first, *second;
+    Py_ssize_t first_length, second_length;
+    if (!PyArg_ParseTuple(arguments, "Ciy#y#", &operation, &version, &first, &first_length, &second, &second_length)) return NULL;
+    operation_v4 four = operation == '&' ? ipnetwork_v4_intersection : operation == '-' ? ipnetwork_v4_difference : ipnetwork_v4_union;
+    operation_v6 six = operation == '&' ? ipnetwork_v6_intersection : operation == '-' ? ipnetwork_v6_difference : ipnetwork_v6_union;
+    size_t step = version == 4 ? sizeof(ipnetwork_v4) : sizeof(ipnetwork_v6), count = 0;
+    size_t first_count = (size_t)first_length / step, second_count = (size_t)second_length / step, room = first_count + second_count;
+    /* A union has no more blocks than both sets, and a difference that has more is asked for once again. */
+    PyObject *blocks = PyBytes_FromStringAndSize(NULL, (Py_ssize_t)(room * step));
+    for (int again = 0; blocks != NULL && again < 2; again++) {
+        void *place = PyBytes_AsString(blocks);
+        ipnetwork_fault fault;
+        Py_BEGIN_ALLOW_THREADS
+        fault = version == 4 ? four((const ipnetwork_v4 *)first, first_count, (const ipnetwork_v4 *)second, second_count, place, room, &count)
+                             : six((const ipnetwork_v6 *)first, first_count, (const ipnetwork_v6 *)second, second_count, place, room, &count);
+        Py_END_ALLOW_THREADS
+        if (fault == IPNETWORK_OK) break;
+        Py_CLEAR(blocks);
+        if (fault == IPNETWORK_SHORT_BUFFER && again == 0) blocks = PyBytes_FromStringAndSize(NULL, (Py_ssize_t)((room = count) * step));
+        else answered(fault);
+    }
+    if (blocks != NULL && count < room) {
+        PyObject *all = blocks;
+        blocks = PyBytes_FromStringAndSize(PyBytes_AsString(all), (Py_ssize_t)(count * step));
+        Py_DECREF(all);
+    }
+    return blocks;
+}
+
+/* The blocks of a set of addresses of both families, as `aggregate` and `operate` leave them. */
 typedef struct {
     const ipnetwork_v4 *fours;
     const ipnetwork_v6 *sixes;
     size_t four_count, six_count;
-} List;
+} Set;
 
-static List list_of(const char *fours, Py_ssize_t four_length, const char *sixes, Py_ssize_t six_length) {
-    List list = {(const ipnetwork_v4 *)fours, (const ipnetwork_v6 *)sixes, (size_t)four_length / sizeof(ipnetwork_v4),
+static Set set_of(const char *fours, Py_ssize_t four_length, const char *sixes, Py_ssize_t six_length) {
+    Set set = {(const ipnetwork_v4 *)fours, (const ipnetwork_v6 *)sixes, (size_t)four_length / sizeof(ipnetwork_v4),
                  (size_t)six_length / sizeof(ipnetwork_v6)};
-    return list;
+    return set;
 }
 
 /* An address of neither 4 nor 16 octets is no member. */
-static ipnetwork_fault list_has(const List *list, const ipnetwork_address *address, uint8_t *answer) {
+static ipnetwork_fault set_has(const Set *set, const ipnetwork_address *address, uint8_t *answer) {
     *answer = 0;
-    if (address->length == 4) return ipnetwork_v4_list_contains(list->fours, list->four_count, address->octets, answer);
-    if (address->length == 16) return ipnetwork_v6_list_contains(list->sixes, list->six_count, address->octets, answer);
+    if (address->length == 4) return ipnetwork_v4_set_contains(set->fours, set->four_count, address->octets, answer);
+    if (address->length == 16) return ipnetwork_v6_set_contains(set->sixes, set->six_count, address->octets, answer);
     return IPNETWORK_OK;
 }
 
-/* list_contains(fours, sixes, address) */
-static PyObject *list_contains(PyObject *module, PyObject *arguments) {
+/* set_contains(fours, sixes, address) */
+static PyObject *set_contains(PyObject *module, PyObject *arguments) {
     (void)module;
     const char *fours, *sixes;
     Py_ssize_t four_length, six_length;
@@ -152,24 +188,24 @@ static PyObject *list_contains(PyObject *module, PyObject *arguments) {
     ipnetwork_address address;
     uint8_t answer;
     if (!PyArg_ParseTuple(arguments, "y#y#O", &fours, &four_length, &sixes, &six_length, &given)) return NULL;
-    List list = list_of(fours, four_length, sixes, six_length);
+    Set set = set_of(fours, four_length, sixes, six_length);
     int kind = address_of(given, &address);
     if (kind != IS_ADDRESS) {
         int member = no_member(given, kind);
         return member < 0 ? NULL : PyBool_FromLong(member);
     }
-    return answered(list_has(&list, &address, &answer)) ? PyBool_FromLong(answer) : NULL;
+    return answered(set_has(&set, &address, &answer)) ? PyBool_FromLong(answer) : NULL;
 }
 
-/* list_contains_column(fours, sixes, addresses): a byte for each of the addresses, which are as `read_rows` leaves them. */
-static PyObject *list_contains_column(PyObject *module, PyObject *arguments) {
+/* set_contains_column(fours, sixes, addresses): a byte for each of the addresses, which are as `read_rows` leaves them. */
+static PyObject *set_contains_column(PyObject *module, PyObject *arguments) {
     (void)module;
     const char *fours, *sixes;
     Py_ssize_t four_length, six_length;
     PyObject *given, *answers = NULL;
     Py_buffer column;
     if (!PyArg_ParseTuple(arguments, "y#y#O", &fours, &four_length, &sixes, &six_length, &given)) return NULL;
-    List list = list_of(fours, four_length, sixes, six_length);
+    Set set = set_of(fours, four_length, sixes, six_length);
     if (PyObject_GetBuffer(given, &column, PyBUF_SIMPLE) < 0) return NULL;
     Py_ssize_t count = column.len / (Py_ssize_t)sizeof(ipnetwork_address);
     if (column.len % (Py_ssize_t)sizeof(ipnetwork_address) != 0) {
@@ -179,7 +215,7 @@ static PyObject *list_contains_column(PyObject *module, PyObject *arguments) {
         uint8_t *room = (uint8_t *)PyByteArray_AsString(answers);
         ipnetwork_fault fault = IPNETWORK_OK;
         Py_BEGIN_ALLOW_THREADS
-        for (Py_ssize_t row = 0; row < count && fault == IPNETWORK_OK; row++) fault = list_has(&list, &addresses[row], &room[row]);
+        for (Py_ssize_t row = 0; row < count && fault == IPNETWORK_OK; row++) fault = set_has(&set, &addresses[row], &room[row]);
         Py_END_ALLOW_THREADS
         if (!answered(fault)) Py_CLEAR(answers);
     }

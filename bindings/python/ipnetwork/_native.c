@@ -67,6 +67,23 @@ static PyObject *of_rows(PyObject *module, PyObject *arguments) {
     return list;
 }
 
+/* subnet_at(network, prefixlen, number): the block of this number, as a network of its class; None if there is none. */
+static PyObject *subnet_at(PyObject *module, PyObject *arguments) {
+    (void)module;
+    PyObject *object, *number;
+    uint8_t prefix, n[16], row[17];
+    if (!PyArg_ParseTuple(arguments, "O!bO", network_type, &object, &prefix, &number)) return NULL;
+    const ipnetwork_ip *held = &((Network *)object)->held;
+    if (!octets_of_number(number, n)) return NULL;
+    static const uint8_t zeros[12];
+    ipnetwork_fault fault = IPNETWORK_NO_MEMBER;
+    if (held->family == 6) fault = ipnetwork_v6_subnet_at(&held->v6, prefix, n, (ipnetwork_v6 *)row);
+    else if (memcmp(n, zeros, 12) == 0)
+        fault = ipnetwork_v4_subnet_at(&held->v4, prefix, (uint32_t)n[12] << 24 | (uint32_t)n[13] << 16 | (uint32_t)n[14] << 8 | n[15], (ipnetwork_v4 *)row);
+    if (fault == IPNETWORK_NO_MEMBER) return again(Py_None);
+    return answered(fault) ? network_of_row((PyObject *)Py_TYPE(object), row) : NULL;
+}
+
 /* prefix_of_mask(packed) */
 static PyObject *prefix_of_mask(PyObject *module, PyObject *packed) {
     (void)module;
@@ -102,8 +119,10 @@ static PyMethodDef calls[] = {
     {"read_rows", read_rows, METH_VARARGS, NULL},
     {"layout", layout, METH_O, NULL},
     {"aggregate", aggregate, METH_VARARGS, NULL},
-    {"list_contains", list_contains, METH_VARARGS, NULL},
-    {"list_contains_column", list_contains_column, METH_VARARGS, NULL},
+    {"operate", operate, METH_VARARGS, NULL},
+    {"set_contains", set_contains, METH_VARARGS, NULL},
+    {"set_contains_column", set_contains_column, METH_VARARGS, NULL},
+    {"subnet_at", subnet_at, METH_VARARGS, NULL},
     {"register", register_classes, METH_VARARGS, NULL},
     {NULL, NULL, 0, NULL},
 };

@@ -97,6 +97,17 @@ mod c {
     pub type V4 = Network<4>;
     pub type V6 = Network<16>;
 
+    /// An operation on two sets: the blocks of both, and room for those of the result, whose number it writes.
+    pub type Operation<const N: usize> = unsafe extern "C" fn(
+        *const Network<N>,
+        usize,
+        *const Network<N>,
+        usize,
+        *mut Network<N>,
+        usize,
+        &mut usize,
+    ) -> u32;
+
     unsafe extern "C" {
         pub safe fn ipnetwork_abi_version() -> u32;
         pub safe fn ipnetwork_abi_minor_version() -> u32;
@@ -166,6 +177,80 @@ mod c {
             count: usize,
             blocks: &mut usize,
         ) -> u32;
+        pub unsafe fn ipnetwork_v4_set_contains(
+            blocks: *const V4,
+            count: usize,
+            address: &[u8; 4],
+            answer: &mut u8,
+        ) -> u32;
+        pub unsafe fn ipnetwork_v6_set_contains(
+            blocks: *const V6,
+            count: usize,
+            address: &[u8; 16],
+            answer: &mut u8,
+        ) -> u32;
+        pub unsafe fn ipnetwork_v4_union(
+            first: *const V4,
+            first_count: usize,
+            second: *const V4,
+            second_count: usize,
+            blocks: *mut V4,
+            room: usize,
+            block_count: &mut usize,
+        ) -> u32;
+        pub unsafe fn ipnetwork_v6_union(
+            first: *const V6,
+            first_count: usize,
+            second: *const V6,
+            second_count: usize,
+            blocks: *mut V6,
+            room: usize,
+            block_count: &mut usize,
+        ) -> u32;
+        pub unsafe fn ipnetwork_v4_intersection(
+            first: *const V4,
+            first_count: usize,
+            second: *const V4,
+            second_count: usize,
+            blocks: *mut V4,
+            room: usize,
+            block_count: &mut usize,
+        ) -> u32;
+        pub unsafe fn ipnetwork_v6_intersection(
+            first: *const V6,
+            first_count: usize,
+            second: *const V6,
+            second_count: usize,
+            blocks: *mut V6,
+            room: usize,
+            block_count: &mut usize,
+        ) -> u32;
+        pub unsafe fn ipnetwork_v4_difference(
+            first: *const V4,
+            first_count: usize,
+            second: *const V4,
+            second_count: usize,
+            blocks: *mut V4,
+            room: usize,
+            block_count: &mut usize,
+        ) -> u32;
+        pub unsafe fn ipnetwork_v6_difference(
+            first: *const V6,
+            first_count: usize,
+            second: *const V6,
+            second_count: usize,
+            blocks: *mut V6,
+            room: usize,
+            block_count: &mut usize,
+        ) -> u32;
+        pub safe fn ipnetwork_v4_subnet_at(n: &V4, prefix: u8, number: u32, subnet: &mut V4)
+        -> u32;
+        pub safe fn ipnetwork_v6_subnet_at(
+            n: &V6,
+            prefix: u8,
+            number: &[u8; 16],
+            subnet: &mut V6,
+        ) -> u32;
         pub unsafe fn ipnetwork_v4_read_column(
             texts: *const u8,
             length: usize,
@@ -221,7 +306,9 @@ pub fn abi_minor_version() -> u32 {
 }
 
 const OK: u32 = 0;
+const SHORT_BUFFER: u32 = 4;
 const NO_MEMBER: u32 = 6;
+const NO_SET: u32 = 10;
 
 fn result(number: u32) -> Result<(), Fault> {
     match number {
@@ -246,7 +333,8 @@ macro_rules! family {
         $(#[$doc:meta])* $name:ident, $octets:literal, $address:ident, $text:literal,
         $read:ident, $new:ident, $canonical:ident, $contains:ident, $network:ident, $broadcast:ident, $mask:ident,
         $prefix_of_mask:ident, $is_subnet_of:ident, $overlaps:ident, $compare:ident, $contains_column:ident,
-        $list_contains:ident, $aggregate:ident, $read_column:ident, $members:ident, $index:ident, $set:ident
+        $list_contains:ident, $aggregate:ident, $read_column:ident, $members:ident, $index:ident, $set:ident,
+        $set_contains:ident, $union:ident, $intersection:ident, $difference:ident
     ) => {
         $(#[$doc])*
         #[derive(Clone, Copy, PartialEq, Eq, Hash, Debug)]
@@ -446,9 +534,68 @@ macro_rules! family {
                 self.0
             }
 
-            /// Whether an address is one of the set. It looks at one block after the other.
+            /// The set of which these are the blocks: the fewest that have its addresses, in ascending order and without
+            /// host bits. `None` if they are not.
+            pub fn from_blocks(blocks: &'a [$name]) -> Option<Self> {
+                let mut count = 0;
+                // SAFETY: a slice is never null, and has as many elements, each of which is the struct that it wraps.
+                let number = unsafe {
+                    c::$intersection(blocks.as_ptr().cast(), blocks.len(), [].as_ptr(), 0, [].as_mut_ptr(), 0, &mut count)
+                };
+                if number == NO_SET {
+                    return None;
+                }
+                answered(number);
+                Some($set(blocks))
+            }
+
+            /// Whether an address is one of the set, by one binary search.
             pub fn contains(&self, address: $address) -> bool {
-                $name::any_contains(self.0, address)
+                let mut answer = 0;
+                // SAFETY: a slice is never null, and has as many elements, each of which is the struct that it wraps.
+                answered(unsafe {
+                    c::$set_contains(self.0.as_ptr().cast(), self.0.len(), &address.octets(), &mut answer)
+                });
+                answer == 1
+            }
+
+            /// The addresses that one of the sets has, or both, with their blocks in `room`: at most as many as both sets
+            /// have. If they are more than there is room for, the error is their number.
+            pub fn union<'b>(&self, other: &$set<'_>, room: &'b mut [$name]) -> Result<$set<'b>, usize> {
+                self.operated(other, room, c::$union)
+            }
+
+            /// The addresses that both sets have, with their blocks in `room`, as of `union`.
+            pub fn intersection<'b>(&self, other: &$set<'_>, room: &'b mut [$name]) -> Result<$set<'b>, usize> {
+                self.operated(other, room, c::$intersection)
+            }
+
+            /// The addresses that this set has and the other has not, with their blocks in `room`, as of `union`; they may
+            /// be more than both sets have.
+            pub fn difference<'b>(&self, other: &$set<'_>, room: &'b mut [$name]) -> Result<$set<'b>, usize> {
+                self.operated(other, room, c::$difference)
+            }
+
+            fn operated<'b>(
+                &self,
+                other: &$set<'_>,
+                room: &'b mut [$name],
+                operation: c::Operation<$octets>,
+            ) -> Result<$set<'b>, usize> {
+                let (mut count, own, others) = (0, self.0, other.0);
+                // SAFETY: slices are never null, and have as many elements, each of which is the struct that it wraps; the
+                // exclusive one overlaps none of the others.
+                let number = unsafe {
+                    operation(
+                        own.as_ptr().cast(), own.len(), others.as_ptr().cast(), others.len(),
+                        room.as_mut_ptr().cast(), room.len(), &mut count,
+                    )
+                };
+                if number == SHORT_BUFFER {
+                    return Err(count);
+                }
+                answered(number);
+                Ok($set(&room[..count]))
             }
         }
 
@@ -509,7 +656,8 @@ family!(
     ipnetwork_v4_read, ipnetwork_v4_new, ipnetwork_v4_canonical, ipnetwork_v4_contains, ipnetwork_v4_network,
     ipnetwork_v4_broadcast, ipnetwork_v4_mask, ipnetwork_v4_prefix_of_mask, ipnetwork_v4_is_subnet_of,
     ipnetwork_v4_overlaps, ipnetwork_v4_compare, ipnetwork_v4_contains_column, ipnetwork_v4_list_contains,
-    ipnetwork_v4_aggregate, ipnetwork_v4_read_column, Ipv4Members, u32, Ipv4Set
+    ipnetwork_v4_aggregate, ipnetwork_v4_read_column, Ipv4Members, u32, Ipv4Set,
+    ipnetwork_v4_set_contains, ipnetwork_v4_union, ipnetwork_v4_intersection, ipnetwork_v4_difference
 );
 
 family!(
@@ -519,7 +667,8 @@ family!(
     ipnetwork_v6_read, ipnetwork_v6_new, ipnetwork_v6_canonical, ipnetwork_v6_contains, ipnetwork_v6_network,
     ipnetwork_v6_broadcast, ipnetwork_v6_mask, ipnetwork_v6_prefix_of_mask, ipnetwork_v6_is_subnet_of,
     ipnetwork_v6_overlaps, ipnetwork_v6_compare, ipnetwork_v6_contains_column, ipnetwork_v6_list_contains,
-    ipnetwork_v6_aggregate, ipnetwork_v6_read_column, Ipv6Members, u128, Ipv6Set
+    ipnetwork_v6_aggregate, ipnetwork_v6_read_column, Ipv6Members, u128, Ipv6Set,
+    ipnetwork_v6_set_contains, ipnetwork_v6_union, ipnetwork_v6_intersection, ipnetwork_v6_difference
 );
 
 impl Ipv4Network {
@@ -533,6 +682,16 @@ impl Ipv4Network {
         let mut size = 0;
         answered(c::ipnetwork_v4_size(&self.0, &mut size));
         size
+    }
+
+    /// The block number `number` of this prefix length within the network, counted from 0 in ascending order; `None` if
+    /// there are no more than that. `Fault::Prefix` if the prefix length is less than the network's, or past the width.
+    pub fn subnet_at(&self, prefix: u8, number: u32) -> Result<Option<Self>, Fault> {
+        let mut subnet = Self::BLANK;
+        match c::ipnetwork_v4_subnet_at(&self.0, prefix, number, &mut subnet) {
+            NO_MEMBER => Ok(None),
+            number => result(number).map(|()| Some(Ipv4Network(subnet))),
+        }
     }
 
     /// The member number `index` in order, counted from 0; `None` if there are no more than that.
@@ -560,6 +719,16 @@ impl Ipv6Network {
         answered(c::ipnetwork_v6_size(&self.0, &mut octets));
         let [carry, number @ ..] = octets;
         (carry == 0).then(|| u128::from_be_bytes(number))
+    }
+
+    /// The block number `number` of this prefix length within the network, counted from 0 in ascending order; `None` if
+    /// there are no more than that. `Fault::Prefix` if the prefix length is less than the network's, or past the width.
+    pub fn subnet_at(&self, prefix: u8, number: u128) -> Result<Option<Self>, Fault> {
+        let mut subnet = Self::BLANK;
+        match c::ipnetwork_v6_subnet_at(&self.0, prefix, &number.to_be_bytes(), &mut subnet) {
+            NO_MEMBER => Ok(None),
+            number => result(number).map(|()| Some(Ipv6Network(subnet))),
+        }
     }
 
     /// The member number `index` in order, counted from 0; `None` if there are no more than that.

@@ -574,6 +574,91 @@ fn sets_of_the_same_addresses() {
     assert!(!Ipv6Set::new(&mut []).contains(Ipv6Addr::LOCALHOST));
 }
 
+/// A random set of both families within 256 addresses, and which of these it has.
+fn random_set(
+    state: &mut u32,
+    fours: &mut [Ipv4Network; 8],
+    sixes: &mut [Ipv6Network; 8],
+) -> [bool; 256] {
+    let mut has = [false; 256];
+    for (four, six) in fours.iter_mut().zip(sixes) {
+        *state = state.wrapping_mul(1_103_515_245).wrapping_add(12_345);
+        let (host, bits) = ((*state >> 16) as u8, ((*state >> 24) % 7) as u8);
+        *four = Ipv4Network::new(Ipv4Addr::new(192, 0, 2, host), 32 - bits).unwrap();
+        *six = Ipv6Network::new(Ipv6Addr::from(u128::from(host)), 128 - bits).unwrap();
+        let low = usize::from(host >> bits << bits);
+        has[low..low + (1 << bits)].fill(true);
+    }
+    has
+}
+
+#[test]
+fn operations_on_sets() {
+    let blank = (["0.0.0.0".parse().unwrap(); 8], ["::".parse().unwrap(); 8]);
+    let mut state = 7;
+    for round in 0..300 {
+        let ((mut a, mut a6), (mut b, mut b6)) = (blank, blank);
+        let has_a = random_set(&mut state, &mut a, &mut a6);
+        let has_b = random_set(&mut state, &mut b, &mut b6);
+        let (a, b) = (Ipv4Set::new(&mut a), Ipv4Set::new(&mut b));
+        let (a6, b6) = (Ipv6Set::new(&mut a6), Ipv6Set::new(&mut b6));
+        let (mut room, mut room6) = ([blank.0[0]; 64], [blank.1[0]; 64]);
+        let (mut made, mut made6) = match round % 3 {
+            0 => (a.union(&b, &mut room), a6.union(&b6, &mut room6)),
+            1 => (
+                a.intersection(&b, &mut room),
+                a6.intersection(&b6, &mut room6),
+            ),
+            _ => (a.difference(&b, &mut room), a6.difference(&b6, &mut room6)),
+        };
+        let (made, made6) = (made.as_mut().unwrap(), made6.as_mut().unwrap());
+        for host in 0..=255 {
+            let (in_a, in_b) = (has_a[usize::from(host)], has_b[usize::from(host)]);
+            let wanted = match round % 3 {
+                0 => in_a || in_b,
+                1 => in_a && in_b,
+                _ => in_a && !in_b,
+            };
+            assert_eq!(made.contains(Ipv4Addr::new(192, 0, 2, host)), wanted);
+            assert_eq!(made6.contains(Ipv6Addr::from(u128::from(host))), wanted);
+        }
+        assert_eq!(Ipv4Set::from_blocks(made.blocks()), Some(*made));
+        assert_eq!(Ipv6Set::from_blocks(made6.blocks()), Some(*made6));
+        let (mut again, mut again6) = (made.blocks().to_vec(), made6.blocks().to_vec());
+        assert_eq!(Ipv4Set::new(&mut again), *made);
+        assert_eq!(Ipv6Set::new(&mut again6), *made6);
+    }
+}
+
+#[test]
+fn sets_by_their_blocks() {
+    let fours = ["10.0.0.0/9", "10.128.0.0/9"].map(|text| text.parse::<Ipv4Network>().unwrap());
+    let sixes = ["2001:db8::1/32"].map(|text| text.parse::<Ipv6Network>().unwrap());
+    assert_eq!(Ipv4Set::from_blocks(&fours), None);
+    assert_eq!(Ipv6Set::from_blocks(&sixes), None);
+    let (low, high) = (
+        Ipv4Set::from_blocks(&fours[..1]).unwrap(),
+        Ipv4Set::from_blocks(&fours[1..]).unwrap(),
+    );
+    assert_eq!(low.union(&high, &mut []), Err(1));
+    assert_eq!(low.intersection(&high, &mut []).unwrap().blocks(), &[]);
+    let whole: Ipv4Network = "10.0.0.0/8".parse().unwrap();
+    assert_eq!(whole.subnet_at(9, 1), Ok(Some(fours[1])));
+    assert_eq!(
+        (whole.subnet_at(9, 2), whole.subnet_at(7, 0)),
+        (Ok(None), Err(Fault::Prefix))
+    );
+    let wide: Ipv6Network = "2001:db8::/32".parse().unwrap();
+    assert_eq!(
+        wide.subnet_at(48, 0xffff),
+        Ok(Some("2001:db8:ffff::/48".parse().unwrap()))
+    );
+    assert_eq!(
+        (wide.subnet_at(48, 1 << 16), wide.subnet_at(129, 0)),
+        (Ok(None), Err(Fault::Prefix))
+    );
+}
+
 #[test]
 fn addresses_alone() {
     for text in [

@@ -9,3 +9,4 @@ pub mod DifferingBits
 pub mod Rows
 pub mod Searching
 pub mod BlocksPut
+pub mod KeptRuns

@@ -4,9 +4,7 @@ use Rattle.std.specs.Int.{from_bool}
 use Rattle.std.specs.List.{AllPairs}
 use Rattle.std.proofs.lemmas.List.{length-map}
 use Rattle.ipnetwork_family.specs.Network.{Network, Member}
-use Rattle.ipnetwork_blocks.specs.Aggregate.{InUnion}
 use Rattle.ipnetwork_blocks.specs.AggregateLaws.{AggregateHasOneBlock}
-use Rattle.ipnetwork_sets.specs.Sets.{IsAddressSet}
 use Rattle.ipnetwork_sets.specs.Private.Search.{NoneUpTo, IsLastUpTo}
 use Rattle.ipnetwork_sets.proofs.Searched.{IsSplit, split_starts, split_none_at, split_last, none_holds, holds_by_last}
 use Rattle.ipnetwork_c.specs.Lists.{FindsIn}

@@ -5,5 +5,6 @@ pub mod Either
 pub mod Columns
 pub mod Lists
 pub mod Blocks
+pub mod Sets
 pub mod TextColumns
 pub mod Private

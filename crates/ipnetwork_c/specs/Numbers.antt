@@ -45,6 +45,10 @@ no_offsets = 8
 abbrev pub no_range : ℕ
 no_range = 9
 
+-- a list that is not that of a set
+abbrev pub no_set : ℕ
+no_set = 10
+
 -- the cause for which a text is refused
 abbrev pub fault_number : CidrFault → ℕ
 fault_number Format = format
@@ -54,7 +58,7 @@ fault_number Prefix = prefix
 -- what a fault says, as bytes
 abbrev pub fault_text : ℕ → List ℕ
 fault_text fault =
-    if fault == ok then codes "no fault" else (if fault == format then codes "more than one slash" else (if fault == address then codes "no address" else (if fault == prefix then codes "no prefix length of the family" else (if fault == short_buffer then codes "no room for the text" else (if fault == no_mask then codes "no mask" else (if fault == no_member then codes "no member of this number" else (if fault == no_family then codes "no family" else (if fault == no_offsets then codes "no offsets of the column" else (if fault == no_range then codes "no range" else codes "unknown fault")))))))))
+    if fault == ok then codes "no fault" else (if fault == format then codes "more than one slash" else (if fault == address then codes "no address" else (if fault == prefix then codes "no prefix length of the family" else (if fault == short_buffer then codes "no room for the text" else (if fault == no_mask then codes "no mask" else (if fault == no_member then codes "no member of this number" else (if fault == no_family then codes "no family" else (if fault == no_offsets then codes "no offsets of the column" else (if fault == no_range then codes "no range" else (if fault == no_set then codes "no list of a set" else codes "unknown fault"))))))))))
 
 -- which of two comes first: less than 0 for the first, 0 if they are equal
 abbrev pub order_number : Ordering → ℤ

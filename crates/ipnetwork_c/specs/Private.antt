@@ -3,3 +3,4 @@ pub mod Texts
 pub mod Structs
 pub mod Sets
 pub mod Writing
+pub mod Together

@@ -26,6 +26,8 @@ pub(crate) const NO_OFFSETS: u32 = 8;
 
 pub(crate) const NO_RANGE: u32 = 9;
 
+pub(crate) const NO_SET: u32 = 10;
+
 /// The number of the cause for which a text is refused.
 pub(crate) fn number_of(fault: CidrFault) -> u32
     ensures { result ≡ fault_number fault }
@@ -52,6 +54,7 @@ fn words_of(fault: u32) -> &'static str
         NO_FAMILY => "no family",
         NO_OFFSETS => "no offsets of the column",
         NO_RANGE => "no range",
+        NO_SET => "no list of a set",
         _ => "unknown fault",
     }
 }

@@ -9,6 +9,7 @@ ghost use Rattle.std.specs.Prelude.{◌≡◌};
 mod address;
 mod aggregates;
 mod block_calls;
+mod checked;
 mod columns;
 mod either;
 mod fault;
@@ -21,11 +22,14 @@ mod lists;
 mod order;
 mod questions;
 mod set_calls;
+mod set_operations;
 mod sets;
 mod sizes;
+mod stretch;
 mod structs;
 mod text;
 mod text_columns;
+mod together;
 mod writing;
 
 pub use address::AddressInC;
@@ -42,7 +46,7 @@ pub extern "C" fn ipnetwork_abi_version() -> u32
 /// The minor version: each call that is added raises it, and a change of `ipnetwork_abi_version` begins it again at 0.
 #[unsafe(no_mangle)]
 pub extern "C" fn ipnetwork_abi_minor_version() -> u32
-    ensures { result ≡ 1 }
+    ensures { result ≡ 2 }
 {
-    1
+    2
 }

@@ -1,5 +1,6 @@
 //! The structs of C as what a list in the caller's memory holds: nothing is known of their prefix lengths.
 ghost use Rattle.std.specs.Prelude.{◌≡◌, ◌↔◌, IsTrue};
+ghost use Rattle.ipnetwork_c.specs.Held.{PrefixFits};
 
 use crate::structs::{Ipv4InC, Ipv6InC, address_of};
 use ipnetwork::{Ipv4Addr, Ipv4Network, Ipv6Addr, Ipv6Network};
@@ -14,6 +15,9 @@ pub(crate) trait Listed<N: AddressSpace>: HoldsNetwork<N> {
     /// Whether the prefix length is one of the family.
     fn fits(&self) -> bool
         ensures { IsTrue result ↔ Self.holds self.now };
+
+    // The prefix lengths of the family are those up to its width.
+    ghost fitting: { (x : Self) → Self.holds x ↔ PrefixFits N.WIDTH (Self.held x) };
 }
 
 impl Listed<Ipv4Network> for Ipv4InC {
@@ -24,6 +28,8 @@ impl Listed<Ipv4Network> for Ipv4InC {
     fn fits(&self) -> bool {
         self.prefix <= 32
     }
+
+    ghost fitting = { λ _. ((λ h. h), (λ h. h)) };
 }
 
 impl Listed<Ipv6Network> for Ipv6InC {
@@ -34,4 +40,6 @@ impl Listed<Ipv6Network> for Ipv6InC {
     fn fits(&self) -> bool {
         self.prefix <= 128
     }
+
+    ghost fitting = { λ _. ((λ h. h), (λ h. h)) };
 }

@@ -1,0 +1,70 @@
+//! Whether the lists in the caller's memory are those of sets.
+ghost use Rattle.std.specs.Prelude.{◌↔◌, ◌<◌, IsTrue, map};
+ghost use Rattle.std.specs.List.{All};
+ghost use Rattle.ipnetwork_family.specs.Network.{IsNetwork, HostBitsAreZero, high};
+ghost use Rattle.ipnetwork_blocks.specs.Private.Joining.{AreHalves, Follows};
+ghost use Rattle.ipnetwork_sets.specs.Sets.{IsAddressSet};
+
+use crate::listed::Listed;
+use ipnetwork_blocks::{AddressSpace, laws};
+
+/// Whether each prefix length is one of the family.
+pub(crate) fn all_fit<N: AddressSpace, H: Listed<N>>(list: &[H]) -> bool
+    ensures { IsTrue result ↔ All H.holds list.now }
+{
+    list.iter().all(|held| held.fits())
+}
+
+/// Whether the networks are the maximal blocks of their union, in ascending order. Goes over them once.
+pub(crate) fn is_set<N: AddressSpace, H: Listed<N>>(list: &[H]) -> bool
+    requires { All H.holds list.now }
+    ensures { IsTrue result ↔ IsAddressSet N.WIDTH (map H.held list.now) }
+{
+    laws::one_block();
+    for next in 0..list.len() {
+        let block = list[next].held_network();
+        if !has_no_host_bits(block) {
+            return false;
+        }
+        if next > 0 && !follows(list[next - 1].held_network(), block) {
+            return false;
+        }
+    }
+    true
+}
+
+// Whether the network is its own block.
+fn has_no_host_bits<N: AddressSpace>(network: N) -> bool
+    ensures told { IsTrue result ↔ HostBitsAreZero N.WIDTH (N.pair network) }
+    ensures network { IsNetwork N.WIDTH (N.pair network) }
+{
+    network.ip() == network.network()
+}
+
+// Whether the second begins after the first has ended, and they are no halves of one block.
+fn follows<N: AddressSpace>(first: N, second: N) -> bool
+    ensures { IsTrue result ↔ Follows N.WIDTH (N.pair first) (N.pair second) }
+{
+    ends_before(first, second) && !are_halves(first, second)
+}
+
+// Whether the first ends before the address of the second.
+fn ends_before<N: AddressSpace>(first: N, second: N) -> bool
+    ensures { IsTrue result ↔ (high N.WIDTH (N.pair first) < (N.pair second).address) }
+{
+    first.broadcast() < second.ip()
+}
+
+// Whether two blocks that differ are the halves of one block.
+fn are_halves<N: AddressSpace>(first: N, second: N) -> bool
+    ensures { IsTrue result ↔ AreHalves N.WIDTH (N.pair first) (N.pair second) }
+{
+    let prefix = first.prefix();
+    if prefix == 0 || second.prefix() != prefix {
+        return false;
+    }
+    match N::block(first.ip(), prefix - 1) {
+        Some(whole) => whole.contains(second.ip()),
+        None => false,
+    }
+}
