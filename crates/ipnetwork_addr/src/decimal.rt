@@ -3,7 +3,6 @@ ghost use Rattle.std.specs.Prelude.{◌≡◌, ◌+◌, ◌^◌, ◌<◌, ◌≤
 ghost use Rattle.arrayvec.specs.ArrayString.{array_string_len};
 ghost use Rattle.ipnetwork_addr.specs.Private.Decimals.{padded_decimal};
 
-use crate::decimal_word::decimal_word;
 use arrayvec::ArrayString;
 
 /// Writes the shortest decimal of a number at the end of a text: one to three bytes, for which there must be room.
@@ -13,18 +12,22 @@ use arrayvec::ArrayString;
 /// decimal::push_decimal(&mut text, 207);
 /// assert_eq!(rt; text.as_str(), "207");
 /// ```
+#[tactic(auto, using(crate::proofs::Decimals::decimals))]
 pub fn push_decimal<const N: usize>(text: &mut ArrayString<N>, number: u8)
     requires { array_string_len text.old + 3 ≤ N }
     ensures bytes { text.new.bytes ≡ text.old.bytes ++ decimal number }
     ensures room { array_string_len text.new ≤ array_string_len text.old + 3 }
 {
-    // Always three bytes, of which those past the decimal are taken back: no branch asks how long it is.
-    let start = text.len();
-    let word = decimal_word(number);
-    text.push(char::from((word % 128) as u8));
-    text.push(char::from((word / 256 % 128) as u8));
-    text.push(char::from((word / 65_536 % 128) as u8));
-    text.truncate(start + (word / 16_777_216) as usize);
+    if number >= 100 {
+        text.push(digit(number / 100));
+        text.push(digit(number / 10 % 10));
+        text.push(digit(number % 10));
+    } else if number >= 10 {
+        text.push(digit(number / 10));
+        text.push(digit(number % 10));
+    } else {
+        text.push(digit(number));
+    }
 }
 
 fn digit(value: u8) -> char

@@ -7,7 +7,6 @@ mod canonical;
 mod colons;
 pub mod decimal;
 mod decimal_value;
-mod decimal_word;
 mod error;
 pub mod first_mark;
 mod group;

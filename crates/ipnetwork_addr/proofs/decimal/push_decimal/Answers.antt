@@ -1,0 +1,16 @@
+use Rattle.std.proofs.Common.{arith}
+use Rattle.ipnetwork_addr.proofs.Decimals.{pushed_as, two_pushed, three_pushed}
+use Rattle.ipnetwork_addr.proofs.decimal.push_decimal.Goals as goal
+
+pub returns-then-number-ge10-clause-bytes : goal.returns-then-number-ge10-clause-bytes
+returns-then-number-ge10-clause-bytes g c =
+    two_pushed c.args.number (omega arith) (omega arith)
+    (pushed_as _ _ _ _ c.digit-then-number-ge10.ensures (c.push-then-number-ge10.ensures.ascii (omega arith)))
+    (pushed_as _ _ _ _ c.digit-then-number-ge10-2.ensures (c.push-then-number-ge10-2.ensures.ascii (omega arith)))
+
+pub returns-then-number-ge100-clause-bytes : goal.returns-then-number-ge100-clause-bytes
+returns-then-number-ge100-clause-bytes g c =
+    three_pushed c.args.number (omega arith) (omega arith)
+    (pushed_as _ _ _ _ c.digit.ensures (c.push.ensures.ascii (omega arith)))
+    (pushed_as _ _ _ _ c.digit-then-number-ge100.ensures (c.push-then-number-ge100.ensures.ascii (omega arith)))
+    (pushed_as _ _ _ _ c.digit-then-number-ge100-2.ensures (c.push-then-number-ge100-2.ensures.ascii (omega arith)))
