@@ -10,6 +10,7 @@ use crate::fault::ipnetwork_fault_text;
 use crate::ipv4::*;
 use crate::ipv6::*;
 use crate::lists::*;
+use crate::printed_columns::*;
 use crate::questions::*;
 use crate::set_calls::*;
 use crate::set_operations::*;
@@ -474,4 +475,39 @@ fn operations_on_wide_sets(rt: HostRuntime) {
     assert_eq!(rt; (told, counts), ([0, 0, 0], [1, 1, 32]));
     assert_eq!(rt; (both[0].prefix, common[0].prefix), (0, 32));
     assert_eq!(rt; (left[0].prefix, left[31].prefix), (3, 1));
+}
+
+#[test]
+fn columns_printed(rt: HostRuntime) {
+    let fours = [
+        Ipv4InC {
+            address: [10, 1, 9, 32],
+            prefix: 16,
+        },
+        Ipv4InC {
+            address: [192, 0, 2, 0],
+            prefix: 24,
+        },
+    ];
+    let six = [Ipv6InC {
+        address: FIRST,
+        prefix: 32,
+    }];
+    let past = [Ipv4InC {
+        address: [0; 4],
+        prefix: 33,
+    }];
+    let (mut texts, mut short, mut wide) = ([b'x'; 30], [b'x'; 23], [b'x'; 14]);
+    let (mut offsets, mut few, mut pair, mut lengths) = ([9; 4], [9; 2], [9; 2], [9; 5]);
+    let told = [
+        ipnetwork_v4_print_column(&fours, &mut texts, &mut offsets, &mut lengths[0]),
+        ipnetwork_v4_print_column(&fours, &mut short, &mut few, &mut lengths[1]),
+        ipnetwork_v4_print_column(&fours, &mut texts, &mut few, &mut lengths[2]),
+        ipnetwork_v4_print_column(&past, &mut short, &mut few, &mut lengths[3]),
+        ipnetwork_v6_print_column(&six, &mut wide, &mut pair, &mut lengths[4]),
+    ];
+    assert_eq!(rt; (told, lengths), ([0, 4, 4, 3, 0], [24, 24, 24, 9, 14]));
+    assert_eq!(rt; texts, *b"10.1.9.32/16192.0.2.0/24xxxxxx");
+    assert_eq!(rt; (offsets, few, pair), ([0, 12, 24, 9], [9, 9], [0, 14]));
+    assert_eq!(rt; (short, wide), ([b'x'; 23], *b"2001:db8::1/32"));
 }
