@@ -1,5 +1,4 @@
-use Rattle.std.proofs.Common.{◌≡◌, ◌+◌, ◌≤◌, ℕ, List, length, ◌∙◌, arith}
-use Rattle.std.specs.List.{flat_map}
+use Rattle.std.proofs.Common.{◌≡◌, ℕ, List, ◌∙◌, arith}
 use Rattle.ipnetwork_c.proofs.PrintedRows.{within_whole, row_printed, end_goes_on}
 use Rattle.ipnetwork_c.proofs.printed_columns.put_texts.Goals as goal
 
