@@ -89,6 +89,11 @@ class _Network(Generic[Address]):
     max_prefixlen: ClassVar[int]
     _address: type[Address]
 
+    if TYPE_CHECKING:
+
+        @property
+        def prefixlen(self) -> int: ...
+
     @classmethod
     def of(cls, address: Address, prefixlen: SupportsIndex) -> Self:
         """The network of this address, host bits kept, and this prefix length; PrefixError past the width, and
