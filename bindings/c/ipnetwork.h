@@ -348,6 +348,20 @@ IPNETWORK_CHECKED_FAULT ipnetwork_fault ipnetwork_address_read_column(const char
     size_t offset_count, ipnetwork_address *IPNETWORK_ALONE addresses, size_t address_count, uint8_t *IPNETWORK_ALONE faults,
     size_t fault_count);
 
+/* The networks of a column printed in the same layout: the texts, as the call for one network prints each, without a zero
+ * byte, one behind the other in the front of texts, for which there is room for room bytes, and the offsets of each and of
+ * the end, so that there is one offset more than networks. *texts_length is how many bytes they have. What stands behind
+ * the texts and behind the last offset is not written. IPNETWORK_PREFIX if the prefix length of one is past the width.
+ * IPNETWORK_SHORT_BUFFER if that is more than room, if offset_count, for how many offsets there is room, is not greater than
+ * network_count, or if the texts have more than 2147483647 bytes, which is past Arrow's offsets: then *texts_length is
+ * written all the same, and nothing else. */
+IPNETWORK_CHECKED_AT(7) ipnetwork_fault ipnetwork_v4_print_column(const ipnetwork_v4 *networks, size_t network_count,
+    char *IPNETWORK_ALONE texts, size_t room, uint32_t *IPNETWORK_ALONE offsets, size_t offset_count,
+    size_t *IPNETWORK_ALONE texts_length);
+IPNETWORK_CHECKED_AT(7) ipnetwork_fault ipnetwork_v6_print_column(const ipnetwork_v6 *networks, size_t network_count,
+    char *IPNETWORK_ALONE texts, size_t room, uint32_t *IPNETWORK_ALONE offsets, size_t offset_count,
+    size_t *IPNETWORK_ALONE texts_length);
+
 #ifdef __cplusplus
 }
 #endif

@@ -996,6 +996,63 @@ static void odd_places(void) {
     }
 }
 
+/* Random networks of both families printed as columns: each text is that of the call for one network, and the offsets lead
+ * to it. Every buffer ends where the memory does. */
+static void printed_columns(void) {
+    for (size_t rows = 0; rows < 40; rows++) {
+        ipnetwork_v4 *four = edge(rows * sizeof *four);
+        ipnetwork_v6 *six = edge(rows * sizeof *six);
+        char wanted[2][40 * IPNETWORK_V6_TEXT];
+        uint32_t starts[2][41] = {{0}};
+        for (size_t row = 0; row < rows; row++) {
+            size_t lengths[2] = {0, 0};
+            for (size_t place = 0; place < 16; place++) six[row].address[place] = (uint8_t)(number() % 3 == 0 ? number() : 0);
+            for (size_t place = 0; place < 4; place++) four[row].address[place] = (uint8_t)number();
+            four[row].prefix = (uint8_t)(number() % 33);
+            six[row].prefix = (uint8_t)(number() % 129);
+            CHECK("printed", ipnetwork_v4_canonical(&four[row], wanted[0] + starts[0][row], IPNETWORK_V4_TEXT, &lengths[0]) == YES);
+            CHECK("printed", ipnetwork_v6_canonical(&six[row], wanted[1] + starts[1][row], IPNETWORK_V6_TEXT, &lengths[1]) == YES);
+            starts[0][row + 1] = starts[0][row] + (uint32_t)lengths[0];
+            starts[1][row + 1] = starts[1][row] + (uint32_t)lengths[1];
+        }
+        for (size_t which = 0; which < 2; which++) {
+            size_t whole = starts[which][rows], told = 77;
+            char *texts = edge(whole);
+            uint32_t *offsets = edge((rows + 1) * sizeof *offsets);
+#define PRINTED(room, places)                                                                                              \
+    (which == 0 ? ipnetwork_v4_print_column(four, rows, texts, room, offsets, places, &told)                               \
+                : ipnetwork_v6_print_column(six, rows, texts, room, offsets, places, &told))
+            offsets[0] = 77;
+            if (whole != 0) {
+                texts[0] = 'x';
+                CHECK("one short", PRINTED(whole - 1, rows + 1) == IPNETWORK_SHORT_BUFFER && told == whole && texts[0] == 'x');
+                told = 77;
+            }
+            CHECK("one short", PRINTED(whole, rows) == IPNETWORK_SHORT_BUFFER && told == whole && offsets[0] == 77);
+            told = 77;
+            CHECK("printed", PRINTED(whole, rows + 1) == YES && told == whole);
+            CHECK("printed", memcmp(texts, wanted[which], whole) == 0);
+            CHECK("printed", memcmp(offsets, starts[which], (rows + 1) * sizeof *offsets) == 0);
+            if (rows != 0) {
+                uint8_t *prefix = which == 0 ? &four[rows / 2].prefix : &six[rows / 2].prefix;
+                *prefix = which == 0 ? 33 : 129;
+                told = 77;
+                texts[0] = 'x';
+                offsets[0] = 77;
+                CHECK("past", PRINTED(whole, rows + 1) == PREF && told == 77 && texts[0] == 'x' && offsets[0] == 77);
+            }
+            leave_edge(texts, whole);
+            leave_edge(offsets, (rows + 1) * sizeof *offsets);
+        }
+        leave_edge(four, rows * sizeof *four);
+        leave_edge(six, rows * sizeof *six);
+    }
+    uint32_t offset = 77;
+    size_t told = 77;
+    CHECK("NULL", ipnetwork_v4_print_column(NULL, 0, NULL, 0, &offset, 1, &told) == YES && told == 0 && offset == 0);
+    CHECK("NULL", ipnetwork_v6_print_column(NULL, 0, NULL, 0, NULL, 0, &told) == IPNETWORK_SHORT_BUFFER && told == 0);
+}
+
 int main(void) {
     CHECK("layout", sizeof(ipnetwork_v4) == 5 && sizeof(ipnetwork_v6) == 17 && sizeof(ipnetwork_ip) == 23);
     CHECK("layout", sizeof(ipnetwork_address) == 17);
@@ -1016,6 +1073,7 @@ int main(void) {
     ranges();
     subnets();
     columns_of_texts();
+    printed_columns();
     either();
     questions_of_either();
     refused_of_either();

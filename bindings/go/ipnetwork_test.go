@@ -288,6 +288,27 @@ func TestOperationsOnSets(t *testing.T) {
 	equal(t, "none", fmt.Sprint(empty.Networks(), err), "[] <nil>")
 }
 
+func TestPrintColumn(t *testing.T) {
+	for _, each := range [][]string{{}, {"10.1.9.32/16", "0.0.0.0/0"}, {"2001:db8::1/32", "::/0", "::ffff:1.2.3.4/128"}} {
+		var networks []Network
+		for _, text := range each {
+			networks = append(networks, MustParse(text))
+		}
+		texts, offsets, err := PrintColumn(networks)
+		equal(t, "printed", err, nil)
+		equal(t, "printed", len(offsets), len(each)+1)
+		for row, text := range each {
+			equal(t, text, string(texts[offsets[row]:offsets[row+1]]), text)
+		}
+		again, _, err := ParseColumn(texts, offsets)
+		equal(t, "read", fmt.Sprint(again, err), fmt.Sprint(networks, nil))
+	}
+	for _, wrong := range [][]Network{{MustParse("::/0"), MustParse("0.0.0.0/0")}, {MustParse("::/0"), {}}, {{}}} {
+		_, _, err := PrintColumn(wrong)
+		equal(t, "families", err, NoFamily)
+	}
+}
+
 func TestSubnets(t *testing.T) {
 	network, err := MustParse("10.0.0.9/8").SubnetAt(16, big.NewInt(255))
 	equal(t, "subnet", fmt.Sprint(network, err), "10.255.0.0/16 <nil>")

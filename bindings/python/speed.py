@@ -16,7 +16,7 @@ from ipaddress import IPv4Address, IPv6Address
 import ipnetwork
 from ipnetwork import AddressSet, IPv4Network, IPv6Network
 
-TURNS, COUNT, ROWS = 15, 2000, 200_000
+TURNS, COUNT, ROWS, MANY = 15, 2000, 200_000, 10_000
 
 
 def timed(call, count):
@@ -90,10 +90,18 @@ def columns(rng):
         width = 4 if name == "IPv4" else 16
         packed = b"".join(addresses[at : at + width] for at in range(0, len(addresses), 17))
         network, one = kind(net), AddressSet([kind(net)])
+        many = AddressSet(kind.of(type(network.ip)(text), network.max_prefixlen * 3 // 4) for text in texts[:MANY])
+        others = AddressSet(kind.of(type(network.ip)(text), network.max_prefixlen * 5 // 8) for text in texts[MANY // 2 : MANY * 2])
+        blocks = list(many)
+        rows = b"".join(block.ip.packed + bytes([block.prefixlen]) for block in blocks)
         yield (f"{name}: read_address_column", *least(lambda: ipnetwork.read_address_column(whole, offsets), count=ROWS))
         yield (f"{name}: read_column", *least(lambda: kind.read_column(whole, offsets), count=ROWS))
         yield (f"{name}: contains_column", *least(lambda: network.contains_column(packed), count=ROWS))
         yield (f"{name}: contains_column of a set of one", *least(lambda: one.contains_column(addresses), count=ROWS))
+        yield (f"{name}: contains_column of a set of {len(blocks)}", *least(lambda: many.contains_column(addresses), count=ROWS))
+        yield (f"{name}: print_column", *least(lambda: kind.print_column(rows), count=len(blocks)))
+        for sign, operation in (("|", many.__or__), ("&", many.__and__), ("-", many.__sub__)):
+            yield (f"{name}: {sign} of two sets, a network of both", *least(lambda: operation(others), count=len(blocks) + len(list(others))))
         try:
             from ipnetwork import columns as over_numpy
         except ImportError:

@@ -273,6 +273,69 @@ class Questions(unittest.TestCase):
         with self.assertRaises(TypeError):
             "10.0.0.1" in allowed
 
+    def test_operations_on_sets(self):
+        rng = random.Random(30)
+        for kind, address, width, base in (
+            (IPv4Network, IPv4Address, 32, int(IPv4Address("192.0.2.0"))),
+            (IPv6Network, IPv6Address, 128, int(IPv6Address("2001:db8::"))),
+        ):
+            for count in range(300):
+                networks = [
+                    [kind.of(address(base + rng.randrange(256)), width - rng.randrange(9)) for _ in range(count % size)]
+                    for size in (12, 7)
+                ]
+                one, other = map(AddressSet, networks)
+                has, others = ({each for network in side for each in network} for side in networks)
+                for made, wanted in ((one | other, has | others), (one & other, has & others), (one - other, has - others)):
+                    self.assertEqual({each for network in made for each in network}, wanted)
+                    self.assertEqual(made.num_addresses, len(wanted))
+                    self.assertEqual(list(made), list(ipnetwork.collapse_addresses(made)))
+                    self.assertTrue(all((address(base + host) in made) == (address(base + host) in wanted) for host in range(256)))
+        both, all_fours = AddressSet(map(ip_network, ("0.0.0.0/0", "::/0"))), AddressSet([ip_network("0.0.0.0/0")])
+        self.assertEqual(both - all_fours, AddressSet([ip_network("::/0")]))
+        self.assertEqual(both & all_fours, all_fours)
+        ends = AddressSet(map(ip_network, ("0.0.0.0", "255.255.255.255", "::", "ffff:ffff:ffff:ffff:ffff:ffff:ffff:ffff")))
+        self.assertEqual(len(list(both - ends)), 62 + 254)
+        self.assertEqual((both - ends) | ends, both)
+        self.assertEqual(AddressSet() | AddressSet() & both - both, AddressSet())
+        for call in (lambda: both & {}, lambda: both - [], lambda: both | "::"):
+            with self.assertRaises(TypeError):
+                call()
+
+    def test_subnets(self):
+        for text, longer in (("10.1.9.32/16", 1), ("2001:db8::7/126", 2), ("0.0.0.0/0", 8), ("::/0", 3), ("::1/128", 0)):
+            network = ip_network(text)
+            theirs = ipaddress.ip_network(text, strict=False)
+            prefix = network.prefixlen + longer
+            wanted = list(map(str, theirs.subnets(longer)))
+            self.assertEqual(list(map(str, network.subnets(longer))), wanted)
+            self.assertEqual(list(map(str, network.subnets(new_prefix=prefix))), wanted)
+            self.assertIs(type(next(iter(network.subnets(longer)))), type(network))
+        self.assertEqual(str(next(ip_network("::/0").subnets(new_prefix=128))), "::/128")
+        net = IPv4Network("10.0.0.0/8")
+        for given in ({"new_prefix": 7}, {"new_prefix": 33}, {"prefixlen_diff": 25}, {"prefixlen_diff": -1}, {"prefixlen_diff": 2, "new_prefix": 10}):
+            with self.assertRaises(ValueError):
+                net.subnets(**given)
+        with self.assertRaises(TypeError):
+            net.subnets(1.0)
+
+    def test_columns_printed(self):
+        rng = random.Random(31)
+        for kind, width in ((IPv4Network, 4), (IPv6Network, 16)):
+            rows = [bytes(rng.choice((0, rng.randrange(256))) for _ in range(width)) + bytes([rng.randrange(8 * width + 1)]) for _ in range(300)]
+            column = b"".join(rows)
+            for given in (column, bytearray(column), memoryview(column)):
+                texts, offsets = kind.print_column(given)
+            starts = memoryview(offsets).cast("I").tolist()
+            each = [texts[begin:end].decode() for begin, end in zip(starts, starts[1:])]
+            self.assertEqual(each, [str(kind.of(kind._address(row[:-1]), row[-1])) for row in rows])
+            self.assertEqual(kind.read_column(texts, memoryview(offsets).cast("I")), (column, bytes(300)))
+            self.assertEqual(kind.print_column(b""), (b"", bytes(4)))
+            with self.assertRaises(PrefixError):
+                kind.print_column(column + bytes(width) + bytes([8 * width + 1]))
+            with self.assertRaises(ValueError):
+                kind.print_column(column[1:])
+
     def test_collapse(self):
         rng = random.Random(20)
         for kind, theirs, address, width, base in (

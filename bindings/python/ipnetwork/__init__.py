@@ -89,6 +89,11 @@ class _Network(Generic[Address]):
     max_prefixlen: ClassVar[int]
     _address: type[Address]
 
+    if TYPE_CHECKING:
+
+        @property
+        def prefixlen(self) -> int: ...
+
     @classmethod
     def of(cls, address: Address, prefixlen: SupportsIndex) -> Self:
         """The network of this address, host bits kept, and this prefix length; PrefixError past the width, and
@@ -135,6 +140,18 @@ class _Network(Generic[Address]):
         ([10, 0, 0, 0, 8], [0, 2])
         """
         return _core.read_rows(cls.version, texts, offsets)
+
+    @classmethod
+    def print_column(cls, networks: ReadableBuffer) -> tuple[bytearray, bytearray]:
+        """The texts of a column of networks in Arrow's layout: their bytes, one behind the other, and the 32-bit offsets at
+        which each begins and the last ends. The column is as ``read_column`` gives it. PrefixError if the prefix length of one
+        is past the width; ValueError if the texts have 2147483648 bytes or more.
+
+        >>> texts, offsets = IPv4Network.print_column(bytes([10, 1, 9, 32, 16, 0, 0, 0, 0, 0]))
+        >>> bytes(texts), memoryview(offsets).cast("I").tolist()
+        (b'10.1.9.32/160.0.0.0/0', [0, 12, 21])
+        """
+        return _core.print_rows(cls.version, networks)
 
     def __format__(self, spec: str) -> str:
         """The canonical text, laid out as ``str`` is."""

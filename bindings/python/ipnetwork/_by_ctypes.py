@@ -72,6 +72,7 @@ def _load() -> ctypes.CDLL:
             ("subnet_at", [octets, ctypes.c_uint8, ctypes.c_uint32 if family == "v4" else octets, pointer]),
             ("aggregate", [pointer, size, pointer]),
             ("read_column", [octets, size, pointer, size, pointer, size, pointer, size]),
+            ("print_column", [octets, size, pointer, size, pointer, size, pointer]),
             ("network", [octets, pointer]),
             ("broadcast", [octets, pointer]),
             ("mask", [octets, pointer]),
@@ -467,3 +468,20 @@ def read_rows(kind: int, texts: ReadableBuffer, offsets: ReadableBuffer) -> tupl
         raise ValueError("the offsets fall, or pass the end of the texts")
     _answered(fault)
     return rows, faults
+
+
+def print_rows(version: int, rows: ReadableBuffer) -> tuple[bytearray, bytearray]:
+    """The texts of the networks whose structs these bytes are, and their offsets."""
+    given = bytes(_flat(rows))
+    step, longest = (5, 18) if version == 4 else (17, 43)
+    count, part = divmod(len(given), step)
+    if part:
+        raise ValueError(f"{len(given)} bytes are no column of networks of {step} bytes")
+    texts, starts, length = ctypes.create_string_buffer(count * longest), (ctypes.c_uint32 * (count + 1))(), ctypes.c_size_t()
+    call = getattr(_library, f"ipnetwork_v{version}_print_column")
+    fault = call(given, count, texts, count * longest, starts, count + 1, ctypes.byref(length))
+    if fault == 4:
+        raise ValueError("the texts have more than 2147483647 bytes, which is past the offsets: print them in parts")
+    if fault:
+        raise error(fault, rows)
+    return bytearray(texts.raw[: length.value]), bytearray(bytes(starts))

@@ -61,6 +61,39 @@ done:
     return both;
 }
 
+/* print_rows(version, rows): the texts of the networks whose structs these bytes are, and their offsets. */
+static PyObject *print_rows(PyObject *module, PyObject *arguments) {
+    (void)module;
+    int version;
+    PyObject *given, *texts = NULL, *offsets = NULL, *both = NULL;
+    Py_buffer rows;
+    if (!PyArg_ParseTuple(arguments, "iO", &version, &given)) return NULL;
+    if (PyObject_GetBuffer(given, &rows, PyBUF_SIMPLE) < 0) return NULL;
+    size_t step = version == 4 ? sizeof(ipnetwork_v4) : sizeof(ipnetwork_v6), count = (size_t)rows.len / step, length = 0;
+    size_t room = count * (version == 4 ? IPNETWORK_V4_TEXT - 1 : IPNETWORK_V6_TEXT - 1);
+    if ((size_t)rows.len % step != 0) {
+        PyErr_Format(PyExc_ValueError, "%zd bytes are no column of networks of %zu bytes", rows.len, step);
+        goto done;
+    }
+    texts = PyByteArray_FromStringAndSize(NULL, (Py_ssize_t)room);
+    offsets = PyByteArray_FromStringAndSize(NULL, (Py_ssize_t)((count + 1) * sizeof(uint32_t)));
+    if (texts == NULL || offsets == NULL) goto done;
+    char *text = PyByteArray_AsString(texts);
+    void *starts = PyByteArray_AsString(offsets);
+    ipnetwork_fault fault;
+    Py_BEGIN_ALLOW_THREADS
+    fault = version == 4 ? ipnetwork_v4_print_column(rows.buf, count, text, room, starts, count + 1, &length)
+                         : ipnetwork_v6_print_column(rows.buf, count, text, room, starts, count + 1, &length);
+    Py_END_ALLOW_THREADS
+    if (fault == IPNETWORK_SHORT_BUFFER) PyErr_SetString(PyExc_ValueError, "the texts have more than 2147483647 bytes, which is past the offsets: print them in parts");
+    else if (fault != IPNETWORK_OK) raise_fault(fault, given);
+    else if (PyByteArray_Resize(texts, (Py_ssize_t)length) == 0) both = PyTuple_Pack(2, texts, offsets);
+done:
+    Py_XDECREF(texts), Py_XDECREF(offsets);
+    PyBuffer_Release(&rows);
+    return both;
+}
+
 /* The bytes of a text in UTF-8, or no bytes of what is no text; NULL with UnicodeEncodeError of one that has none. */
 static const char *text_bytes(PyObject *row, Py_ssize_t *length) {
     *length = 0;

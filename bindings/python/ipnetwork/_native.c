@@ -117,6 +117,7 @@ static PyMethodDef calls[] = {
     {"of_rows", of_rows, METH_VARARGS, NULL},
     {"prefix_of_mask", prefix_of_mask, METH_O, NULL},
     {"read_rows", read_rows, METH_VARARGS, NULL},
+    {"print_rows", print_rows, METH_VARARGS, NULL},
     {"layout", layout, METH_O, NULL},
     {"aggregate", aggregate, METH_VARARGS, NULL},
     {"operate", operate, METH_VARARGS, NULL},

@@ -271,6 +271,24 @@ mod c {
             faults: *mut u8,
             fault_rows: usize,
         ) -> u32;
+        pub unsafe fn ipnetwork_v4_print_column(
+            networks: *const V4,
+            count: usize,
+            texts: *mut u8,
+            room: usize,
+            offsets: *mut u32,
+            offset_count: usize,
+            length: &mut usize,
+        ) -> u32;
+        pub unsafe fn ipnetwork_v6_print_column(
+            networks: *const V6,
+            count: usize,
+            texts: *mut u8,
+            room: usize,
+            offsets: *mut u32,
+            offset_count: usize,
+            length: &mut usize,
+        ) -> u32;
         pub safe fn ipnetwork_v4_network(n: &V4, address: &mut [u8; 4]) -> u32;
         pub safe fn ipnetwork_v6_network(n: &V6, address: &mut [u8; 16]) -> u32;
         pub safe fn ipnetwork_v4_broadcast(n: &V4, address: &mut [u8; 4]) -> u32;
@@ -334,7 +352,7 @@ macro_rules! family {
         $read:ident, $new:ident, $canonical:ident, $contains:ident, $network:ident, $broadcast:ident, $mask:ident,
         $prefix_of_mask:ident, $is_subnet_of:ident, $overlaps:ident, $compare:ident, $contains_column:ident,
         $list_contains:ident, $aggregate:ident, $read_column:ident, $members:ident, $index:ident, $set:ident,
-        $set_contains:ident, $union:ident, $intersection:ident, $difference:ident
+        $set_contains:ident, $union:ident, $intersection:ident, $difference:ident, $print_column:ident
     ) => {
         $(#[$doc])*
         #[derive(Clone, Copy, PartialEq, Eq, Hash, Debug)]
@@ -426,6 +444,26 @@ macro_rules! family {
                         networks.as_mut_ptr().cast(), networks.len(), faults.as_mut_ptr(), faults.len(),
                     )
                 })
+            }
+
+            /// Prints a column of networks in Arrow's layout: the texts in the front of `texts`, one behind the other, and the
+            /// offsets of each and of the end in the front of `offsets`. Gives how many bytes the texts have, as an error if
+            /// there is no room for them or for one offset more than networks, or if they are more than 2147483647; then
+            /// nothing is written.
+            pub fn print_column(networks: &[Self], texts: &mut [u8], offsets: &mut [u32]) -> Result<usize, usize> {
+                let mut length = 0;
+                // SAFETY: slices are never null, and have as many elements, each of which is the struct that it wraps.
+                let number = unsafe {
+                    c::$print_column(
+                        networks.as_ptr().cast(), networks.len(), texts.as_mut_ptr(), texts.len(),
+                        offsets.as_mut_ptr(), offsets.len(), &mut length,
+                    )
+                };
+                if number == SHORT_BUFFER {
+                    return Err(length);
+                }
+                answered(number);
+                Ok(length)
             }
 
             /// The least member: the address with its host bits cleared.
@@ -657,7 +695,8 @@ family!(
     ipnetwork_v4_broadcast, ipnetwork_v4_mask, ipnetwork_v4_prefix_of_mask, ipnetwork_v4_is_subnet_of,
     ipnetwork_v4_overlaps, ipnetwork_v4_compare, ipnetwork_v4_contains_column, ipnetwork_v4_list_contains,
     ipnetwork_v4_aggregate, ipnetwork_v4_read_column, Ipv4Members, u32, Ipv4Set,
-    ipnetwork_v4_set_contains, ipnetwork_v4_union, ipnetwork_v4_intersection, ipnetwork_v4_difference
+    ipnetwork_v4_set_contains, ipnetwork_v4_union, ipnetwork_v4_intersection, ipnetwork_v4_difference,
+    ipnetwork_v4_print_column
 );
 
 family!(
@@ -668,7 +707,8 @@ family!(
     ipnetwork_v6_broadcast, ipnetwork_v6_mask, ipnetwork_v6_prefix_of_mask, ipnetwork_v6_is_subnet_of,
     ipnetwork_v6_overlaps, ipnetwork_v6_compare, ipnetwork_v6_contains_column, ipnetwork_v6_list_contains,
     ipnetwork_v6_aggregate, ipnetwork_v6_read_column, Ipv6Members, u128, Ipv6Set,
-    ipnetwork_v6_set_contains, ipnetwork_v6_union, ipnetwork_v6_intersection, ipnetwork_v6_difference
+    ipnetwork_v6_set_contains, ipnetwork_v6_union, ipnetwork_v6_intersection, ipnetwork_v6_difference,
+    ipnetwork_v6_print_column
 );
 
 impl Ipv4Network {

@@ -631,6 +631,51 @@ fn operations_on_sets() {
 }
 
 #[test]
+fn columns_printed() {
+    let fours = ["10.1.9.32/16", "0.0.0.0/0", "192.0.2.0/24"]
+        .map(|text| text.parse::<Ipv4Network>().unwrap());
+    let sixes =
+        ["2001:db8::1/32", "::ffff:1.2.3.4"].map(|text| text.parse::<Ipv6Network>().unwrap());
+    let (mut texts, mut offsets) = ([b'x'; 64], [9; 5]);
+    assert_eq!(
+        Ipv4Network::print_column(&fours, &mut texts, &mut offsets),
+        Ok(33)
+    );
+    assert_eq!(
+        (&texts[..35], offsets),
+        (
+            b"10.1.9.32/160.0.0.0/0192.0.2.0/24xx".as_slice(),
+            [0, 12, 21, 33, 9]
+        )
+    );
+    assert_eq!(
+        Ipv6Network::print_column(&sixes, &mut texts, &mut offsets),
+        Ok(32)
+    );
+    assert_eq!(
+        (&texts[..33], offsets),
+        (
+            b"2001:db8::1/32::ffff:1.2.3.4/1284".as_slice(),
+            [0, 14, 32, 33, 9]
+        )
+    );
+    let mut again = sixes.map(|_| "::".parse().unwrap());
+    assert_eq!(
+        Ipv6Network::read_column(&texts[..32], &offsets[..3], &mut again, &mut [9; 2]),
+        Ok(())
+    );
+    assert_eq!(again, sixes);
+    assert_eq!(
+        Ipv4Network::print_column(&fours, &mut texts[..32], &mut offsets),
+        Err(33)
+    );
+    assert_eq!(
+        Ipv4Network::print_column(&fours, &mut texts, &mut offsets[..3]),
+        Err(33)
+    );
+}
+
+#[test]
 fn sets_by_their_blocks() {
     let fours = ["10.0.0.0/9", "10.128.0.0/9"].map(|text| text.parse::<Ipv4Network>().unwrap());
     let sixes = ["2001:db8::1/32"].map(|text| text.parse::<Ipv6Network>().unwrap());

@@ -10,3 +10,4 @@ pub mod Rows
 pub mod Searching
 pub mod BlocksPut
 pub mod KeptRuns
+pub mod PrintedRows

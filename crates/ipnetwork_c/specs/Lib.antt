@@ -7,4 +7,5 @@ pub mod Lists
 pub mod Blocks
 pub mod Sets
 pub mod TextColumns
+pub mod PrintedColumns
 pub mod Private

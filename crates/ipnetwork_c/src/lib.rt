@@ -20,6 +20,7 @@ pub mod laws;
 mod listed;
 mod lists;
 mod order;
+mod printed_columns;
 mod questions;
 mod set_calls;
 mod set_operations;

@@ -1,0 +1,155 @@
+//! Columns of networks printed in one call, in the layout of Arrow: the bytes of all texts, one behind the other, and the
+//! offsets at which each begins and the last ends.
+ghost use Rattle.std.specs.Prelude.{◌≡◌, ◌↔◌, ◌+◌, ◌^◌, ◌<◌, ◌≤◌, ◌++◌, IsTrue, length as len, take, drop, flat_map};
+ghost use Rattle.std.specs.List.{All};
+ghost use Rattle.ipnetwork_c.specs.PrintedColumns.{PrintsRows, PrintsColumn, v4_fits, v4_text, v6_fits, v6_text};
+
+use crate::fault::{OK, PREFIX, SHORT_BUFFER};
+use crate::structs::{Ipv4InC, Ipv6InC};
+use crate::writing::to_usize;
+use arrayvec::ArrayString;
+use ipnetwork::NETWORK_TEXT_CAPACITY;
+
+/// What a row is printed of.
+pub(crate) trait PrintsRow {
+    ghost use Rattle.std.specs.Prelude.{ℕ, List};
+
+    // Whether the row stands for a network.
+    ghost fits: { Self → Type 0 };
+
+    // The text of the network.
+    ghost text: { Self → List ℕ };
+
+    /// Whether the row stands for a network.
+    fn row_fits(&self) -> bool
+        ensures { IsTrue result ↔ fits self.now };
+
+    /// The text of the network.
+    fn row_text(&self) -> ArrayString<NETWORK_TEXT_CAPACITY>
+        requires { fits self.now }
+        ensures bytes { result.bytes ≡ text self.now }
+        ensures short { len result.bytes ≤ 43 };
+}
+
+impl PrintsRow for Ipv4InC {
+    ghost fits = { v4_fits };
+
+    ghost text = { v4_text };
+
+    fn row_fits(&self) -> bool {
+        self.prefix <= 32
+    }
+
+    fn row_text(&self) -> ArrayString<NETWORK_TEXT_CAPACITY> {
+        match self.network() {
+            Some(network) => network.canonical(),
+            None => unreachable!(),
+        }
+    }
+}
+
+impl PrintsRow for Ipv6InC {
+    ghost fits = { v6_fits };
+
+    ghost text = { v6_text };
+
+    fn row_fits(&self) -> bool {
+        self.prefix <= 128
+    }
+
+    fn row_text(&self) -> ArrayString<NETWORK_TEXT_CAPACITY> {
+        match self.network() {
+            Some(network) => network.canonical(),
+            None => unreachable!(),
+        }
+    }
+}
+
+// Prints each row into the texts, behind the row before it, and writes the offsets.
+fn print_rows<R: PrintsRow>(
+    rows: &[R],
+    texts: &mut [u8],
+    offsets: &mut [u32],
+    length: &mut usize,
+) -> u32
+    ensures { PrintsColumn R.fits R.text rows.now texts.old texts.new offsets.old offsets.new length.old length.new result }
+{
+    if !rows.iter().all(|row| row.row_fits()) {
+        return PREFIX;
+    }
+    let whole = texts_length(rows);
+    *length = to_usize(whole);
+    if whole > texts.len() as u128 || whole > i32::MAX as u128 || offsets.len() <= rows.len() {
+        return SHORT_BUFFER;
+    }
+    put_texts(rows, texts, offsets);
+    OK
+}
+
+// How many bytes the texts have together.
+fn texts_length<R: PrintsRow>(rows: &[R]) -> u128
+    requires { All R.fits rows.now }
+    ensures { result ≡ len (flat_map R.text rows.now) }
+{
+    let mut whole = 0;
+    for row in 0..rows.len() {
+        whole += rows[row].row_text().len() as u128;
+    }
+    whole
+}
+
+// Puts the texts into the front of a buffer that has room for them, and the offsets beside them.
+fn put_texts<R: PrintsRow>(rows: &[R], texts: &mut [u8], offsets: &mut [u32])
+    requires fit { All R.fits rows.now }
+    requires room { len (flat_map R.text rows.now) ≤ len texts.old }
+    requires short { len (flat_map R.text rows.now) < 2 ^ 31 }
+    requires offsets { len rows.now < len offsets.old }
+    ensures { PrintsRows R.text rows.now texts.old texts.new offsets.old offsets.new }
+{
+    let mut end = 0;
+    offsets[0] = 0;
+    for row in 0..rows.len() {
+        end = put_at(rows[row].row_text().as_str().as_bytes(), texts, end);
+        offsets[row + 1] = end as u32;
+    }
+}
+
+// Puts a text into a buffer from a place on, and returns the place behind it.
+fn put_at(text: &[u8], texts: &mut [u8], at: usize) -> usize
+    requires { at + len text.now ≤ len texts.old }
+    ensures end { result ≡ at + len text.now }
+    ensures put { texts.new ≡ take at texts.old ++ text.now ++ drop (at + len text.now) texts.old }
+{
+    let end = at + text.len();
+    texts[at..end].copy_from_slice(text);
+    end
+}
+
+/// Prints the IPv4 network of each row, as `ipnetwork_v4_canonical` does, into the front of `texts`, one text behind the
+/// other without a byte between them, and tells how many bytes they have. Text i goes from offset i to offset i + 1, so that
+/// there is one offset more than rows. `PREFIX` if the prefix length of a row is greater than 32. `SHORT_BUFFER` if there is
+/// room for fewer bytes, or offsets, or if the texts have more than 2^31 - 1 bytes: then only their length is written.
+#[unsafe(no_mangle)]
+pub extern "C" fn ipnetwork_v4_print_column(
+    networks: &[Ipv4InC],
+    texts: &mut [u8],
+    offsets: &mut [u32],
+    length: &mut usize,
+) -> u32
+    ensures { PrintsColumn v4_fits v4_text networks.now texts.old texts.new offsets.old offsets.new length.old length.new result }
+{
+    print_rows(networks, texts, offsets, length)
+}
+
+/// The same of IPv6 networks, for prefix lengths up to 128.
+#[unsafe(no_mangle)]
+pub extern "C" fn ipnetwork_v6_print_column(
+    networks: &[Ipv6InC],
+    texts: &mut [u8],
+    offsets: &mut [u32],
+    length: &mut usize,
+) -> u32
+    ensures { PrintsColumn v6_fits v6_text networks.now texts.old texts.new offsets.old offsets.new length.old length.new result }
+{
+    print_rows(networks, texts, offsets, length)
+}
