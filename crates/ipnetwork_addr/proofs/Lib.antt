@@ -8,6 +8,7 @@ pub mod Decimals
 pub mod EightSegments
 pub mod EitherFamily
 pub mod Examples
+mod FirstDigits
 pub mod FirstMarks
 pub mod Gaps
 pub mod Groups

@@ -17,7 +17,7 @@ use Rattle.ipnetwork_addr.proofs.PlainOctet.{plain_from_octet, octet_from_plain}
 -- ---- an octet by the values of its bytes, where a byte that is no digit has the value 256
 
 -- the value of a byte
-abbrev Value : ℕ → ℕ → Type 0
+abbrev pub Value : ℕ → ℕ → Type 0
 Value byte value = value ≡ cond (nat_lt (digit_value byte) 10) (digit_value byte) 256
 
 -- a value that is small is that of a digit

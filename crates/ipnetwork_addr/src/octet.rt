@@ -1,12 +1,12 @@
 //! Reads the octets of an IPv4 text, from left to right.
-ghost use Rattle.std.specs.Prelude.{◌≡◌, ◌<◌, ◌↔◌, [], ◌∷◌, length, slice_index, IsTrue, MatchOption};
+ghost use Rattle.std.specs.Prelude.{◌≡◌, ◌+◌, ◌<◌, ◌≤◌, ◌↔◌, [], ◌∷◌, length, take, slice_index, IsTrue, MatchOption};
 ghost use Rattle.std.specs.Int.Digits.{number_from_digits};
 ghost use Rattle.ipnetwork_addr.specs.Ipv4Text.{IsOctet, NamesV4};
 ghost use Rattle.ipnetwork_addr.specs.Private.NoAddress.{NamesNoV4};
 ghost use Rattle.ipnetwork_addr.specs.Private.OctetFront.{IsNoOctet, IsOctetEnd, HasNoOctetEnd, BeginsWithOctet, NoOctetAndDot};
 ghost use Rattle.ipnetwork_addr.specs.Texts.{dot};
 
-use crate::decimal_value::decimal_value;
+use crate::decimal_value::{decimal_value, first_value, is_no_dot};
 
 /// The greatest octet.
 const OCTET_MAX: u32 = 255;
@@ -25,6 +25,24 @@ pub(crate) fn read_octets(text: &[u8]) -> Option<[u8; 4]>
 /// The octet before the first dot, and the text after that dot.
 #[inline(always)]
 fn read_octet_and_dot(text: &[u8]) -> Option<(u8, &[u8])>
+    ensures { MatchOption result (NoOctetAndDot text.now) (λ found. BeginsWithOctet text.now found.0 (dot ∷ found.1.now)) }
+{
+    if text.len() < 4 || text[1] == b'.' {
+        return read_by_places(text);
+    }
+    // No branch asks whether there are two digits or three: that would be guessed wrongly too often.
+    let more = is_no_dot(text[2]);
+    let end = 2 + more as usize;
+    if text[end] != b'.' {
+        return None;
+    }
+    let octet = octet_of_several(text[0], text[1], text[2], more)?;
+    Some((octet, &text[end + 1..]))
+}
+
+/// The same, a place after the other.
+#[inline(always)]
+fn read_by_places(text: &[u8]) -> Option<(u8, &[u8])>
     ensures { MatchOption result (NoOctetAndDot text.now) (λ found. BeginsWithOctet text.now found.0 (dot ∷ found.1.now)) }
 {
     let end = octet_end(text)?;
@@ -62,12 +80,14 @@ fn has_dot(text: &[u8], at: usize) -> bool
 fn read_octet(text: &[u8]) -> Option<u8>
     ensures { MatchOption result (IsNoOctet text.now) (IsOctet text.now) }
 {
-    match text {
-        [a] => octet_of_one(*a),
-        [a, b] => octet_of_two(*a, *b),
-        [a, b, c] => octet_of_three(*a, *b, *c),
-        _ => None,
+    let count = text.len();
+    if count == 1 {
+        return octet_of_one(text[0]);
     }
+    if count < 2 || count > 3 {
+        return None;
+    }
+    octet_of_several(text[0], text[1], text[count - 1], (count - 2) as u32)
 }
 
 /// The octet of one digit.
@@ -82,35 +102,14 @@ fn octet_of_one(a: u8) -> Option<u8>
     Some(value as u8)
 }
 
-/// The octet of two digits, of which the first is no zero.
+/// The octet of two digits, or, if `more` is 1, of three, of which the first is no zero.
 #[inline(always)]
-fn octet_of_two(a: u8, b: u8) -> Option<u8>
-    ensures { MatchOption result (IsNoOctet (a ∷ b ∷ [])) (IsOctet (a ∷ b ∷ [])) }
+fn octet_of_several(a: u8, b: u8, c: u8, more: u32) -> Option<u8>
+    requires { more ≤ 1 }
+    ensures { MatchOption result (IsNoOctet (take (2 + more) (a ∷ b ∷ c ∷ []))) (IsOctet (take (2 + more) (a ∷ b ∷ c ∷ []))) }
 {
-    let tens = decimal_value(a);
-    let ones = decimal_value(b);
-    let value = tens * 10 + ones;
-    if value < 10 {
-        return None;
-    }
-    if value > 99 {
-        return None;
-    }
-    Some(value as u8)
-}
-
-/// The octet of three digits, of which the first is no zero.
-#[inline(always)]
-fn octet_of_three(a: u8, b: u8, c: u8) -> Option<u8>
-    ensures { MatchOption result (IsNoOctet (a ∷ b ∷ c ∷ [])) (IsOctet (a ∷ b ∷ c ∷ [])) }
-{
-    let hundreds = decimal_value(a);
-    let tens = decimal_value(b);
-    let ones = decimal_value(c);
-    let value = hundreds * 100 + tens * 10 + ones;
-    if value < 100 {
-        return None;
-    }
+    let two = first_value(a) + decimal_value(b);
+    let value = two + (two * 9 + decimal_value(c)) * more;
     if value > OCTET_MAX {
         return None;
     }

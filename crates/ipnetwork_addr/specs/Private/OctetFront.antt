@@ -1,7 +1,12 @@
 -- The octets that a text begins with.
-use Rattle.std.specs.Prelude.{◌≡◌, ◌≢◌, ℕ, ◌<◌, ◌≤◌, ◌⊎◌, List, ◌∷◌, ◌++◌, length, slice_index, decimal}
+use Rattle.std.specs.Prelude.{◌≡◌, ◌≢◌, ℕ, ◌*◌, ◌<◌, ◌≤◌, ◌⊎◌, List, ◌∷◌, ◌++◌, length, slice_index, decimal, nat_lt, if◌then◌else◌}
+use Rattle.std.specs.Char.{digit_value}
 use Rattle.ipnetwork_addr.specs.Ipv4Text.{IsOctet}
 use Rattle.ipnetwork_addr.specs.Texts.{dot}
+
+-- ten times the value of a byte as the first of several decimal digits, or 2560 if it is `0` or no digit
+abbrev pub first_value : ℕ → ℕ
+first_value byte = if nat_lt (digit_value byte) 10 then (if nat_lt 0 (digit_value byte) then digit_value byte * 10 else 2560) else 2560
 
 -- the text is no octet
 abbrev pub IsNoOctet : List ℕ → Type 0

@@ -1,4 +1,4 @@
-use Rattle.std.proofs.Common.{◌≡◌, ℕ, ◌<◌, ◌==◌, true, cond, nat_lt, get_or, refl, ap, ◌∙◌, arith, inl, inr}
+use Rattle.std.proofs.Common.{◌≡◌, ℕ, ◌+◌, ◌*◌, ◌<◌, ◌==◌, true, cond, nat_lt, get_or, refl, ap, ◌∙◌, arith, inl, inr}
 use Rattle.std.proofs.lemmas.Bool.{agree_below_at, eqb-true, cases_lt, lt-ltb, le-ltb}
 use Rattle.std.specs.Char.{digit_value}
 use Rattle.ipnetwork_addr.specs.declared.decimal_value.TheConstants.{VALUES}
@@ -8,9 +8,9 @@ use Rattle.ipnetwork_addr.proofs.decimal_value.decimal_value.Goals as goal
 abbrev entry : ℕ → ℕ
 entry byte = cond (nat_lt (digit_value byte) 10) (digit_value byte) 256
 
-here : (byte at value : ℕ) → byte < 256 → at ≡ byte → value ≡ get_or VALUES at 0 → value ≡ entry byte
+here : (byte at value : ℕ) → byte < 256 → at ≡ byte → value ≡ get_or VALUES (at * 4 + 1) 0 → value ≡ entry byte
 here byte at value fits is read =
-    read ∙ ap (λ b. get_or VALUES b 0) is ∙ eqb-true _ _ (agree_below_at (λ b. get_or VALUES b 0 == entry b) (λ _. true) 256 byte refl fits)
+    read ∙ ap (λ b. get_or VALUES (b * 4 + 1) 0) is ∙ eqb-true _ _ (agree_below_at (λ b. get_or VALUES (b * 4 + 1) 0 == entry b) (λ _. true) 256 byte refl fits)
 
 pub returns-clause-value : goal.returns-clause-value
 returns-clause-value c = here _ _ _ c.ranges.byte.fits c.from.ensures c.from-2.ensures

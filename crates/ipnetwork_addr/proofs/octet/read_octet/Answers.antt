@@ -1,8 +1,18 @@
+use Rattle.std.proofs.Common.{MatchOption, subst, arith, List, ℕ}
+use Rattle.ipnetwork_addr.specs.Ipv4Text.{IsOctet}
+use Rattle.ipnetwork_addr.specs.Private.OctetFront.{IsNoOctet}
+use Rattle.ipnetwork_addr.proofs.FirstDigits.{all_of}
 use Rattle.ipnetwork_addr.proofs.OctetFronts.{no_octet_of_none, no_octet_of_four}
+use Rattle.ipnetwork_addr.proofs.octet.read_octet.Goals.{then-count-lt2-via-then-count-lt2, then-count-lt2-via-else-count-lt2+then-count-gt3}
 use Rattle.ipnetwork_addr.proofs.octet.read_octet.Goals as goal
 
-pub returns-in_default : goal.returns-in_default
-returns-in_default c = no_octet_of_none _ c.in_default.len_below
+pub returns-then-count-lt2 : goal.returns-then-count-lt2
+returns-then-count-lt2 c = elim c.then-count-lt2.branch [
+  | then-count-lt2-via-then-count-lt2 w ↦ no_octet_of_none _ (omega (arith, w.if-count-lt2))
+  | then-count-lt2-via-else-count-lt2+then-count-gt3 w ↦ no_octet_of_four _ (omega (arith, w.if-count-gt3))
+]
 
-pub returns-in_default-2 : goal.returns-in_default-2
-returns-in_default-2 c = no_octet_of_four _ c.in_default.len_at_least
+pub returns : goal.returns
+returns c =
+    subst (λ (text : List ℕ). MatchOption c.octet_of_several.result (IsNoOctet text) (IsOctet text))
+    (all_of c.args.text.now (omega arith) (omega arith)) c.octet_of_several.ensures
