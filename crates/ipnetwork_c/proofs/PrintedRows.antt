@@ -1,12 +1,15 @@
 -- Texts printed one behind the other, with their offsets.
-use Rattle.std.proofs.Common.{◌≡◌, ◌≢◌, ℕ, ◌+◌, ◌<◌, ◌≤◌, List, [], ◌∷◌, ◌++◌, length, take, drop, get_or, slice_set, ⊎_elim, refl, sym, ap, subst, ◌∙◌, arith}
+use Rattle.std.proofs.Common.{◌≡◌, ◌≢◌, ℕ, ◌+◌, ◌-◌, ◌<◌, ◌≤◌, List, [], ◌∷◌, ◌++◌, length, take, drop, get_or, slice_set, ⊎_elim, refl, sym, ap, subst, ◌∙◌, append_assoc, arith}
 use Rattle.std.specs.List.{flat_map}
-use Rattle.std.proofs.Math.Seq.{take-append_seam, drop-append-add}
+use Rattle.std.proofs.Math.Seq.{take-append_seam, drop-append_seam, drop-append-add}
 use Rattle.std.proofs.lemmas.Bool.{cases_lt}
-use Rattle.std.proofs.lemmas.List.{length-append, length-set, append-nil, take-append-le, take_all, take_more, length-take-le, drop-drop, get_or-set_same, get_or-set_other}
+use Rattle.std.proofs.lemmas.List.{length-append, length-set, append-nil, take-append-le, take_all, take_more, take-take, take-append-drop, length-take-le, get_or-take, drop-drop, get_or-set_same, get_or-set_other}
 use Rattle.std.proofs.lemmas.List.Concat.{flat_map-append}
 use Rattle.std.proofs.lemmas.List.Folds.{length-flat_map-take}
+use Rattle.std.specs.Option.{unwrap_or}
+use Rattle.std.proofs.lemmas.Option.{slice_get_within, unwrap_or-slice_get}
 use Rattle.ipnetwork_c.specs.PrintedColumns.{PrintsRows}
+use Rattle.ipnetwork_c.specs.ColumnLaws.{PrintedRowsAreTexts, PrintedOffsetsAreOffsets}
 use Rattle.ipnetwork_c.proofs.Offsets.{got_elsewhere}
 
 -- no row is printed, and the first offset is 0
@@ -89,3 +92,60 @@ end_goes_on text rows i r t at end below is text_is at_is end_is =
     let more : take (i + 1) rows ≡ take i rows ++ r ∷ [] = take_more rows i r below ∙ ap (λ x. take i rows ++ x ∷ []) (sym is) in
     end_is ∙ ap (λ k. k + length t) at_is ∙ ap (λ x. length (flat_map text (take i rows)) + length x) text_is
     ∙ sym (length-append (flat_map text (take i rows)) (text r)) ∙ ap length (sym (one_more text (take i rows) r)) ∙ ap (λ rs. length (flat_map text rs)) (sym more)
+
+-- ---- a printed column, read
+
+split_at : {R : Type 0} (text : R → List ℕ) (rows : List R) (i : ℕ) (r : R) (rest : List ℕ) → i < length rows → r ≡ get_or rows i r
+    → flat_map text rows ++ rest ≡ flat_map text (take i rows) ++ (text r ++ (flat_map text (drop (i + 1) rows) ++ rest))
+split_at text rows i r rest below is =
+    let front : List ℕ = flat_map text (take i rows) in
+    let behind : List ℕ = flat_map text (drop (i + 1) rows) in
+    let more : take (i + 1) rows ≡ take i rows ++ r ∷ [] = take_more rows i r below ∙ ap (λ x. take i rows ++ x ∷ []) (sym is) in
+    let parts : flat_map text rows ≡ (front ++ text r) ++ behind =
+    ap (flat_map text) (sym (take-append-drop (i + 1) rows))
+    ∙ flat_map-append text (take (i + 1) rows) (drop (i + 1) rows)
+    ∙ ap (λ t. flat_map text t ++ behind) more
+    ∙ ap (λ t. t ++ behind) (one_more text (take i rows) r) in
+    ap (λ t. t ++ rest) parts ∙ append_assoc (front ++ text r) behind rest ∙ append_assoc front (text r) (behind ++ rest)
+
+pub rows_are_texts : {R : Type 0} (text : R → List ℕ) → PrintedRowsAreTexts text
+rows_are_texts {R} text rows before after offsets_before offsets i r h got =
+    let below : i < length rows = slice_get_within rows i r got in
+    let is : r ≡ get_or rows i r = sym (ap (λ o. unwrap_or o r) got) ∙ unwrap_or-slice_get rows i r in
+    let front : List ℕ = flat_map text (take i rows) in
+    let rest : List ℕ = drop (length (flat_map text rows)) before in
+    let behind : List ℕ = flat_map text (drop (i + 1) rows) ++ rest in
+    let more : take (i + 1) rows ≡ take i rows ++ r ∷ [] = take_more rows i r below ∙ ap (λ x. take i rows ++ x ∷ []) (sym is) in
+    let begins : get_or offsets i 0 ≡ length front = h.offset i (omega (arith, below)) in
+    let ends : get_or offsets (i + 1) 0 ≡ length front + length (text r) =
+    h.offset (i + 1) (omega (arith, below)) ∙ ap (λ t. length (flat_map text t)) more ∙ ap length (one_more text (take i rows) r) ∙ length-append front (text r) in
+    let size : get_or offsets (i + 1) 0 - get_or offsets i 0 ≡ length (text r) = omega (arith, begins, ends) in
+    let whole : after ≡ front ++ (text r ++ behind) = h.texts ∙ split_at text rows i r rest below is in
+    let from : drop (get_or offsets i 0) after ≡ text r ++ behind = ap (λ k. drop k after) begins ∙ ap (drop (length front)) whole ∙ drop-append_seam front (text r ++ behind) in
+    ap (λ k. take k (drop (get_or offsets i 0) after)) size ∙ ap (take (length (text r))) from ∙ take-append_seam (text r) behind
+
+pub offsets_are_offsets : {R : Type 0} (text : R → List ℕ) → PrintedOffsetsAreOffsets text
+offsets_are_offsets {R} text rows before after offsets_before offsets h room =
+    let slots = h.slots in
+    let fits = room.offsets in
+    let count : length (take (length rows + 1) offsets) ≡ length rows + 1 = length-take-le (length rows + 1) offsets (omega (arith, slots, fits)) in
+    let wide : length after ≡ length (flat_map text rows) + length (drop (length (flat_map text rows)) before) = ap length h.texts ∙ length-append (flat_map text rows) (drop (length (flat_map text rows)) before) in
+    let at : (i : ℕ) → i < length rows + 1 → get_or (take (length rows + 1) offsets) i 0 ≡ length (flat_map text (take i rows)) = λ i l. get_or-take (length rows + 1) offsets i 0 l ∙ h.offset i (omega (arith, l)) in
+    let part : (i : ℕ) → length (flat_map text rows) ≡ length (flat_map text (take i rows)) + length (flat_map text (drop i rows)) =
+    λ i. ap (λ t. length (flat_map text t)) (sym (take-append-drop i rows)) ∙ ap length (flat_map-append text (take i rows) (drop i rows)) ∙ length-append (flat_map text (take i rows)) (flat_map text (drop i rows)) in
+    record {
+      within = λ i l.
+          let is = at i (omega (arith, l, count)) in
+          let p = part i in
+          omega (arith, is, p, wide);
+      rising = λ i l.
+          let here = at i (omega (arith, l, count)) in
+          let next = at (i + 1) (omega (arith, l, count)) in
+          let front : take i (take (i + 1) rows) ≡ take i rows = take-take i (i + 1) rows (omega arith) in
+          let step : length (flat_map text (take (i + 1) rows)) ≡ length (flat_map text (take i (take (i + 1) rows))) + length (flat_map text (drop i (take (i + 1) rows))) =
+          ap (λ t. length (flat_map text t)) (sym (take-append-drop i (take (i + 1) rows)))
+          ∙ ap length (flat_map-append text (take i (take (i + 1) rows)) (drop i (take (i + 1) rows)))
+          ∙ length-append (flat_map text (take i (take (i + 1) rows))) (flat_map text (drop i (take (i + 1) rows))) in
+          let same : length (flat_map text (take i (take (i + 1) rows))) ≡ length (flat_map text (take i rows)) = ap (λ t. length (flat_map text t)) front in
+          omega (arith, here, next, step, same);
+    }

@@ -8,4 +8,5 @@ pub mod Blocks
 pub mod Sets
 pub mod TextColumns
 pub mod PrintedColumns
+pub mod ColumnLaws
 pub mod Private

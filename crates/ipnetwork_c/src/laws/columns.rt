@@ -1,0 +1,12 @@
+//! What a printed column is to the calls that read columns.
+ghost use Rattle.ipnetwork_c.specs.PrintedColumns.{v4_text, v6_text};
+ghost use Rattle.ipnetwork_c.specs.ColumnLaws.{PrintedRowsAreTexts, PrintedOffsetsAreOffsets};
+
+/// The calls that read columns take a printed one: its offsets are in order and within the texts, and the text of each
+/// row is the one that was printed of it.
+pub fn printed_columns_are_columns()
+    ensures v4_rows { PrintedRowsAreTexts v4_text }
+    ensures v4_offsets { PrintedOffsetsAreOffsets v4_text }
+    ensures v6_rows { PrintedRowsAreTexts v6_text }
+    ensures v6_offsets { PrintedOffsetsAreOffsets v6_text }
+{}
