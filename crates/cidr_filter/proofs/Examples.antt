@@ -1,6 +1,6 @@
 -- Values at which a misreading of the definitions would show.
-use Rattle.std.proofs.Common.{◌≡◌, ◌<◌, ◌≤◌, ℕ, List, [], ◌∷◌, ◌++◌, Bool, true, false, not, ◌&&◌, ◌||◌, ◌∙◌, inl, inr, refl, sym, ap, subst, arith, length}
-use Rattle.std.specs.Prelude.{codes, bytes_eq, if◌then◌else◌, String, Option, Some, None, IsSome}
+use Rattle.std.proofs.Common.{◌≡◌, ℕ, List, [], ◌∷◌, Bool, true, false, not, ◌&&◌, ◌||◌, ◌∙◌, inl, inr, refl, ap, subst, arith}
+use Rattle.std.specs.Prelude.{codes, bytes_eq, if◌then◌else◌, String, Some, None}
 use Rattle.std.specs.List.{list_all}
 use Rattle.std.specs.Fmt.{digits}
 use Rattle.std.specs.String.{string_bytes}
@@ -11,15 +11,17 @@ use Rattle.ipnetwork.specs.declared.ip_network.IpNetwork.TheVariants.{V4}
 use Rattle.list_entries.specs.declared.entry.EntryFault.TheVariants.{Prefix}
 use Rattle.address_lists.specs.Lists.{ReadLists, at_list, TakesLines}
 use Rattle.address_lists.specs.declared.fault.LineFault.TheVariants.{Entry}
+use Rattle.program_io.specs.Lists.{KnownLists}
 use Rattle.cidr_filter.specs.Fields.{field_of}
-use Rattle.cidr_filter.specs.Filters.{IsListed, Judges, is_selected, is_refused, mark_of, output_of, Filters}
+use Rattle.cidr_filter.specs.Filters.{IsListed, Judges, is_selected, is_refused, mark_of, output_of}
 use Rattle.cidr_filter.specs.Lines.{LogLine, log_lines, ended_lines, content, printed}
-use Rattle.cidr_filter.specs.Logs.{logs_of, IsAllOf, IsFirstOf, FiltersLogs, HaltsBy}
-use Rattle.cidr_filter.specs.Options.{number_of, field_option, separator_option, bad_option, letters_option, begins, in_one_word, option_of, behind_option}
-use Rattle.cidr_filter.specs.CommandLines.{Begin, files_among, inputs_among, is_plain}
+use Rattle.cidr_filter.specs.Logs.{logs_of, IsAllOf, IsFirstOf, FiltersLogs}
+use Rattle.cidr_filter.specs.Options.{number_of, field_option, separator_option, bad_option, letters_option, begins, in_one_word, option_of}
+use Rattle.cidr_filter.specs.CommandLines.{files_among, inputs_among, is_plain}
 use Rattle.cidr_filter.specs.Reading.{ReadsOptions}
-use Rattle.cidr_filter.specs.Runs.{Ending, HasTold, HasWritten, total_text, FiltersAll, StopsAtLog, EndsLogs}
-use Rattle.cidr_filter.specs.Told.{refusals_text, fault_text, more_text, log_fault_text}
+use Rattle.program_io.specs.Endings.{Ending, HasTold, HasWritten}
+use Rattle.cidr_filter.specs.Runs.{total_text, EndsLogs}
+use Rattle.cidr_filter.specs.Told.{refusals_text, log_fault_text}
 use Rattle.cidr_filter.specs.declared.filter.Bad.{Bad}
 use Rattle.cidr_filter.specs.declared.filter.Bad.TheVariants as bads
 use Rattle.cidr_filter.specs.declared.filter.Filter.{Filter}
@@ -27,9 +29,7 @@ use Rattle.cidr_filter.specs.declared.filter.Verdict.TheVariants as verdicts
 use Rattle.cidr_filter.specs.declared.listed.Listed.TheVariants.{Addresses, Blocks}
 use Rattle.cidr_filter.specs.declared.listed.Tables.{Tables}
 use Rattle.cidr_filter.specs.declared.log.LogFault.TheVariants as faults
-use Rattle.cidr_filter.specs.declared.options.Choice.{Choice}
 use Rattle.cidr_filter.specs.declared.options.Choice.TheVariants as choices
-use Rattle.cidr_filter.specs.declared.reading.ReadFault.TheVariants.{Open, Read}
 use Rattle.cidr_filter.proofs.Judging.{same_some}
 
 -- ---- fields, cut at each comma (44) or blank (32)
@@ -229,12 +229,6 @@ pub the_second_text : {Z : Type 0} (text one file list again two : String Z) →
 unfolding digits
 the_second_text text one file list again two t f l a = rw (t, f, a)
 
-pub a_list_that_is_missing : {Z : Type 0} (file list : String Z) → string_bytes list ≡ codes "x" → fault_text (file ∷ list ∷ []) (Open 1) ≡ codes "x: cannot open\n"
-a_list_that_is_missing file list l = rw l
-
-pub a_list_that_fails : {Z : Type 0} (file list : String Z) → string_bytes list ≡ codes "-" → fault_text (file ∷ list ∷ []) (Read 1) ≡ codes "-: cannot read\n"
-a_list_that_fails file list l = rw l
-
 pub a_line_that_ends_the_run : log_fault_text (codes "log") 3 faults.Address ≡ codes "log:4: refused address\n"
 unfolding digits
 a_line_that_ends_the_run = refl
@@ -268,17 +262,17 @@ pub files_in_their_order : {Z : Type 0} (one two : String Z) → logs_of (one �
 files_in_their_order one two = refl
 
 -- a list, and then an `-e`: each is taken at the place of its value
-pub lists_in_their_order : {Z : Type 0} (bytes_of : List ℕ → Option (List ℕ)) (file list text value : String Z) (before mid after : ReadLists) → string_bytes list ≡ codes "a" → string_bytes value ≡ codes "x"
-    → ((input : List ℕ) → bytes_of (codes "a") ≡ Some input → TakesLines (at_list before 1) (lines input) mid)
+pub lists_in_their_order : {Z : Type 0} (known : KnownLists) (file list text value : String Z) (before mid after : ReadLists) → string_bytes list ≡ codes "a" → string_bytes value ≡ codes "x"
+    → known.may_open (codes "a") true → ((input : List ℕ) → known.bytes_of (codes "a") ≡ Some input → TakesLines (at_list before 1) (lines input) mid)
     → TakesLines (at_list mid 3) (lines (codes "x")) after → string_bytes file ≡ codes "-f" → string_bytes text ≡ codes "-e"
-    → ReadsOptions bytes_of (file ∷ list ∷ text ∷ value ∷ []) (file ∷ list ∷ text ∷ value ∷ []) (choices.File ∷ choices.Text ∷ []) before after
-lists_in_their_order bytes_of file list text value before mid after l v first second f t = rw (f, l, v) (mid, first, (after, second, refl))
+    → ReadsOptions known (file ∷ list ∷ text ∷ value ∷ []) (file ∷ list ∷ text ∷ value ∷ []) (choices.File ∷ choices.Text ∷ []) before after
+lists_in_their_order known file list text value before mid after l v opened first second f t = rw (f, l, v) (mid, (opened, first), (after, second, refl))
 
-module _ (bytes_of : List ℕ → Option (List ℕ)) (inside : Judges (by false bads.Stop) (codes "in") (verdicts.Inside None)) (outside : Judges (by false bads.Stop) (codes "out") verdicts.Outside)
+module _ (known : KnownLists) (inside : Judges (by false bads.Stop) (codes "in") (verdicts.Inside None)) (outside : Judges (by false bads.Stop) (codes "out") verdicts.Outside)
     (bad : Judges (by false bads.Stop) (codes "bad") verdicts.Bad) where
   -- two logs, of which the second has no last line feed
-  pub two_logs : IsAllOf bytes_of (codes "a") (codes "out\nin\n") → IsAllOf bytes_of (codes "b") (codes "in")
-      → FiltersLogs (by false bads.Stop) false bytes_of (codes "a" ∷ codes "b" ∷ []) (codes "in\nin\n") 2
+  pub two_logs : IsAllOf known (codes "a") (codes "out\nin\n") → IsAllOf known (codes "b") (codes "in")
+      → FiltersLogs (by false bads.Stop) false known (codes "a" ∷ codes "b" ∷ []) (codes "in\nin\n") 2
   two_logs a b = (
     codes "out\nin\n",
     codes "in\n",
@@ -293,8 +287,8 @@ module _ (bytes_of : List ℕ → Option (List ℕ)) (inside : Judges (by false 
   )
 
   -- they are counted together
-  pub two_logs_counted : IsAllOf bytes_of (codes "a") (codes "in\n") → IsAllOf bytes_of (codes "b") (codes "in\n") → {W E : Type 0} (end : Ending W E) → HasWritten end (codes "2\n") → HasTold end [] → end.status ≡ 0
-      → EndsLogs (by false bads.Stop) true bytes_of (codes "a" ∷ codes "b" ∷ []) end
+  pub two_logs_counted : IsAllOf known (codes "a") (codes "in\n") → IsAllOf known (codes "b") (codes "in\n") → {W E : Type 0} (end : Ending W E) → HasWritten end (codes "2\n") → HasTold end [] → end.status ≡ 0
+      → EndsLogs (by false bads.Stop) true known (codes "a" ∷ codes "b" ∷ []) end
   unfolding digits
   two_logs_counted a b end written told status = inl (record {
     output = [];
@@ -315,10 +309,10 @@ module _ (bytes_of : List ℕ → Option (List ℕ)) (inside : Judges (by false 
   })
 
   -- a line that ends the run: what comes before it is written
-  pub stopped_at_the_second_line : IsFirstOf bytes_of (codes "a") (codes "in\nbad\nin\n") → {W E : Type 0} (end : Ending W E) → HasWritten end (codes "in\n") → HasTold end (codes "a:2: refused address\n")
-      → end.status ≡ 2 → EndsLogs (by false bads.Stop) false bytes_of (codes "a" ∷ codes "b" ∷ []) end
+  pub stopped_at_the_second_line : known.may_open (codes "a") true → IsFirstOf known (codes "a") (codes "in\nbad\nin\n") → {W E : Type 0} (end : Ending W E) → HasWritten end (codes "in\n") → HasTold end (codes "a:2: refused address\n")
+      → end.status ≡ 2 → EndsLogs (by false bads.Stop) false known (codes "a" ∷ codes "b" ∷ []) end
   unfolding digits
-  stopped_at_the_second_line a end written told status = inr (record {
+  stopped_at_the_second_line opened a end written told status = inr (record {
     before = [];
     name = codes "a";
     behind = codes "b" ∷ [];
@@ -331,24 +325,27 @@ module _ (bytes_of : List ℕ → Option (List ℕ)) (inside : Judges (by false 
     logs = refl;
     filters = (refl, refl);
     first = (verdicts.Inside None, [], 0, inside, refl, (refl, refl), refl, refl);
-    halts = record {
-      read = codes "in\nbad\nin\n";
-      line = ended (codes "bad");
-      others = ended (codes "in") ∷ [];
-      is_first = a;
-      are = refl;
-      is_line = inl refl;
-      judges = bad;
-      refused = refl;
-    };
+    halts = (
+      record {
+        read = codes "in\nbad\nin\n";
+        line = ended (codes "bad");
+        others = ended (codes "in") ∷ [];
+        is_first = a;
+        are = refl;
+        is_line = inl refl;
+        judges = bad;
+        refused = refl;
+      },
+      opened,
+    );
     wrote = written;
     told = told;
     status = status;
   })
 
   -- no line of a log is selected
-  pub nothing_selected : IsAllOf bytes_of (codes "-") (codes "out\n") → {W E : Type 0} (end : Ending W E) → HasWritten end [] → HasTold end [] → end.status ≡ 1
-      → EndsLogs (by false bads.Stop) false bytes_of (codes "-" ∷ []) end
+  pub nothing_selected : IsAllOf known (codes "-") (codes "out\n") → {W E : Type 0} (end : Ending W E) → HasWritten end [] → HasTold end [] → end.status ≡ 1
+      → EndsLogs (by false bads.Stop) false known (codes "-" ∷ []) end
   nothing_selected a end written told status = inl (record {
     output = [];
     selected = 0;

@@ -1,18 +1,18 @@
 -- Logs that are filtered in turn.
-use Rattle.std.proofs.Common.{◌≡◌, ◌⊎◌, ◌<◌, ◌≤◌, ◌+◌, ◌-◌, ◌^◌, ◌++◌, ◌∷◌, ◌∙◌, ◌==◌, [], ℕ, Bool, List, true, false, cond, inl, inr, refl, sym, ap, subst, arith, length, min, map, append_assoc, append-nil}
-use Rattle.std.specs.Prelude.{Option, None, Some, Result, Ok, Err, OnOk, IfErr, filter}
+use Rattle.std.proofs.Common.{◌≡◌, ◌+◌, ◌-◌, ◌^◌, ◌++◌, ◌∷◌, ◌∙◌, ◌==◌, [], ℕ, Bool, List, true, false, cond, inl, inr, refl, sym, ap, subst, arith, length, min, append_assoc, append-nil}
+use Rattle.std.specs.Prelude.{Option, None, Some, Result, Ok, Err, OnOk, IfErr, IsTrue, filter}
 use Rattle.std.specs.List.{slice_split}
 use Rattle.std.specs.Io.KnownBytes.{Appends, Consumes, IsAtEnd}
 use Rattle.std.proofs.KnownBytes.{Appends-trans}
 use Rattle.std.proofs.lemmas.Option.{none-some}
 use Rattle.line_engine.specs.Answers.{IsBeginning}
-use Rattle.line_engine.specs.Outputs.{Puts, AppendsBeginning}
-use Rattle.line_engine.proofs.Putting.{puts_nothing, puts_more, begins_after_puts}
-use Rattle.cidr_filter.specs.Filters.{Filters}
+use Rattle.line_engine.specs.Outputs.{Puts}
+use Rattle.line_engine.proofs.Putting.{puts_nothing, puts_more}
+use Rattle.program_io.specs.Lists.{KnownLists}
 use Rattle.cidr_filter.specs.Lines.{LogLine, lines_in, log_lines, ended_lines}
 use Rattle.cidr_filter.specs.Logs.{IsAllOf, IsFirstOf, FiltersLogs, RefusesAfter, HaltsBy}
-use Rattle.cidr_filter.specs.Stands.{Stand, Counts, Goes}
-use Rattle.cidr_filter.specs.Stops.{Ends, FiltersEnded, WritesBeginning, EndsAtLine, IsLine, Stops}
+use Rattle.cidr_filter.specs.Stands.{Stand, Counts}
+use Rattle.cidr_filter.specs.Stops.{Ends, EndsAtLine, Stops}
 use Rattle.cidr_filter.specs.Private.Runs.{FiltersName, FiltersNames, NameStops}
 use Rattle.cidr_filter.specs.declared.filter.Filter.{Filter}
 use Rattle.cidr_filter.specs.declared.filter.Verdict.{Verdict}
@@ -61,30 +61,30 @@ module _ where
 pub ended_first : (read : List ℕ) → (others : List LogLine) × (log_lines read ≡ ended_lines read ++ others)
 ended_first read = ended_before (slice_split (λ b. b == 10) read)
 
-module _ (filter : Filter) (counts : Bool) (bytes_of : List ℕ → Option (List ℕ)) where
+module _ (filter : Filter) (counts : Bool) (known : KnownLists) where
   -- what the first lines of a log are, whatever ends it
-  pub some_first : (name : List ℕ) (lines : List LogLine) (fault : LogFault) → HaltsBy filter bytes_of name lines fault → HaltsBy filter bytes_of name lines faults.Write
-  some_first name lines faults.Open h = ([], [], (λ input e. (input, refl)), sym (ap (λ ls. ls ++ []) h))
+  pub some_first : (name : List ℕ) (lines : List LogLine) (fault : LogFault) → HaltsBy filter known name lines fault → HaltsBy filter known name lines faults.Write
+  some_first name lines faults.Open h = ([], [], (λ input e. (input, refl)), sym (ap (λ ls. ls ++ []) h.0))
   some_first name lines faults.Read h =
       let ended = ended_first h.0 in
       (h.0, ended.0, h.1, ended.1 ∙ ap (λ ls. ls ++ ended.0) (sym h.2))
   some_first name lines faults.Write h = h
-  some_first name lines faults.Address h = (h.read, h.line ∷ h.others, h.is_first, h.are)
-  some_first name lines faults.Length h = (h.read, h.line ∷ h.others, h.is_first, h.are)
+  some_first name lines faults.Address h = (h.0.read, h.0.line ∷ h.0.others, h.0.is_first, h.0.are)
+  some_first name lines faults.Length h = (h.0.read, h.0.line ∷ h.0.others, h.0.is_first, h.0.are)
   some_first name lines faults.Endless h =
       let ended = ended_first h.0 in
       (h.0, ended.0, (λ input e. first_part h.0 h.1 input (h.2 input e)), ended.1 ∙ ap (λ ls. ls ++ ended.0) (sym h.4))
 
-  module _ (name : List ℕ) (remained remains : Option (List ℕ)) (known : (input : List ℕ) → bytes_of name ≡ Some input → remained ≡ Some input) where
-    all_of : (read : List ℕ) → Consumes remained remains read → IsAtEnd remains → IsAllOf bytes_of name read
-    all_of read took end = λ input e. known_all remained remains read input (known input e) took end
+  module _ (name : List ℕ) (remained remains : Option (List ℕ)) (has : (input : List ℕ) → known.bytes_of name ≡ Some input → remained ≡ Some input) (opened : known.may_open name true) where
+    all_of : (read : List ℕ) → Consumes remained remains read → IsAtEnd remains → IsAllOf known name read
+    all_of read took end = (opened, λ input e. known_all remained remains read input (has input e) took end)
 
-    first_of : (read : List ℕ) → Consumes remained remains read → IsFirstOf bytes_of name read
-    first_of read took = λ input e. known_first remained remains read input (known input e) took
+    first_of : (read : List ℕ) → Consumes remained remains read → IsFirstOf known name read
+    first_of read took = λ input e. known_first remained remains read input (has input e) took
 
     -- a log that was filtered to its end
     pub name_ok : {T E : Type 0} (result : Result T E) (old new : Stand) → OnOk result (Ends filter counts remained remains (record old { lines = 0 }) new)
-        → OnOk result (FiltersName filter counts bytes_of name old new)
+        → OnOk result (FiltersName filter counts known name old new)
     name_ok (Ok done) old new h = record {
       read = h.read;
       added = h.added;
@@ -96,7 +96,7 @@ module _ (filter : Filter) (counts : Bool) (bytes_of : List ℕ → Option (List
     }
     name_ok (Err fault) old new h = tt
 
-    line_halts : (verdict : Verdict) (old new : Stand) (h : EndsAtLine filter counts remained remains old new verdict) → RefusesAfter filter bytes_of name h.first verdict
+    line_halts : (verdict : Verdict) (old new : Stand) (h : EndsAtLine filter counts remained remains old new verdict) → RefusesAfter filter known name h.first verdict
     line_halts verdict old new h = record {
       read = h.read;
       line = h.line;
@@ -115,18 +115,18 @@ module _ (filter : Filter) (counts : Bool) (bytes_of : List ℕ → Option (List
     }
 
     -- or not
-    stops_by : (read_failed write_failed : Bool) (old new : Stand) (fault : LogFault) → Stops filter counts remained remains read_failed write_failed (record old { lines = 0 }) new fault
-        → NameStops filter counts bytes_of name write_failed old new fault
-    stops_by read_failed write_failed old new faults.Open h = absurd h
-    stops_by read_failed write_failed old new faults.Read h = record {
+    stops_by : (read_failed write_failed : Bool) (old new : Stand) (fault : LogFault) → (IsTrue read_failed → known.may_fail name) → Stops filter counts remained remains read_failed write_failed (record old { lines = 0 }) new fault
+        → NameStops filter counts known name write_failed old new fault
+    stops_by read_failed write_failed old new faults.Open fails h = absurd h
+    stops_by read_failed write_failed old new faults.Read fails h = record {
       lines = ended_lines h.1;
       added = h.3.added;
       count = h.3.count;
       filters = h.3.filters;
-      halts = (h.1, first_of h.1 h.2, refl);
+      halts = (h.1, first_of h.1 h.2, refl, opened, fails h.0);
       puts = (h.3.goes.0, lines_told new.lines _ h.3.goes.2);
     }
-    stops_by read_failed write_failed old new faults.Write h = record {
+    stops_by read_failed write_failed old new faults.Write fails h = record {
       lines = h.1.first;
       added = h.1.added;
       count = h.1.count;
@@ -134,51 +134,51 @@ module _ (filter : Filter) (counts : Bool) (bytes_of : List ℕ → Option (List
       halts = (h.1.read, h.1.others, first_of h.1.read h.1.reads, h.1.lines);
       puts = (h.0, h.1.beginning);
     }
-    stops_by read_failed write_failed old new faults.Address h = record {
+    stops_by read_failed write_failed old new faults.Address fails h = record {
       lines = h.first;
       added = h.added;
       count = h.count;
       filters = h.filters;
-      halts = line_halts _ _ new h;
+      halts = (line_halts _ _ new h, opened);
       puts = (h.goes.0, lines_told new.lines _ h.goes.2);
     }
-    stops_by read_failed write_failed old new faults.Length h = record {
+    stops_by read_failed write_failed old new faults.Length fails h = record {
       lines = h.first;
       added = h.added;
       count = h.count;
       filters = h.filters;
-      halts = line_halts _ _ new h;
+      halts = (line_halts _ _ new h, opened);
       puts = (h.goes.0, lines_told new.lines _ h.goes.2);
     }
-    stops_by read_failed write_failed old new faults.Endless h = record {
+    stops_by read_failed write_failed old new faults.Endless fails h = record {
       lines = ended_lines h.0;
       added = h.4.added;
       count = h.4.count;
       filters = h.4.filters;
-      halts = (h.0, h.1, first_of (h.0 ++ h.1) h.2, h.3, refl);
+      halts = (h.0, h.1, first_of (h.0 ++ h.1) h.2, h.3, refl, opened);
       puts = (h.4.goes.0, lines_told new.lines _ h.4.goes.2);
     }
 
     pub name_err : {T : Type 0} (result : Result T LogFault) (read_failed write_failed : Bool) (old new : Stand)
-        → IfErr result (Stops filter counts remained remains read_failed write_failed (record old { lines = 0 }) new)
-        → IfErr result (NameStops filter counts bytes_of name write_failed old new)
-    name_err (Ok done) read_failed write_failed old new h = tt
-    name_err (Err fault) read_failed write_failed old new h = stops_by read_failed write_failed old new fault h
+        → (IsTrue read_failed → known.may_fail name) → IfErr result (Stops filter counts remained remains read_failed write_failed (record old { lines = 0 }) new)
+        → IfErr result (NameStops filter counts known name write_failed old new)
+    name_err (Ok done) read_failed write_failed old new fails h = tt
+    name_err (Err fault) read_failed write_failed old new fails h = stops_by read_failed write_failed old new fault fails h
 
   -- a log that was not opened
-  pub name_closed : (name : List ℕ) (failed : Bool) (old : Stand) → NameStops filter counts bytes_of name failed old (record old { lines = 0 }) faults.Open
-  name_closed name failed old = record {
+  pub name_closed : (name : List ℕ) (failed : Bool) (old : Stand) → known.may_open name false → NameStops filter counts known name failed old (record old { lines = 0 }) faults.Open
+  name_closed name failed old closed = record {
     lines = [];
     added = [];
     count = 0;
     filters = (refl, refl);
-    halts = refl;
+    halts = (refl, closed);
     puts = (puts_nothing old.holds old.waits, omega arith);
   }
 
   -- ---- logs in turn
 
-  pub names_none : (old : Stand) → FiltersNames filter counts bytes_of [] old old
+  pub names_none : (old : Stand) → FiltersNames filter counts known [] old old
   names_none old = record {
     output = [];
     count = 0;
@@ -187,7 +187,7 @@ module _ (filter : Filter) (counts : Bool) (bytes_of : List ℕ → Option (List
     counted = counts_none old.selected old.selected refl;
   }
 
-  pub names_one : (name : List ℕ) (old new : Stand) → FiltersName filter counts bytes_of name old new → FiltersNames filter counts bytes_of (name ∷ []) old new
+  pub names_one : (name : List ℕ) (old new : Stand) → FiltersName filter counts known name old new → FiltersNames filter counts known (name ∷ []) old new
   names_one name old new h = record {
     output = h.added ++ [];
     count = h.count + 0;
@@ -196,13 +196,13 @@ module _ (filter : Filter) (counts : Bool) (bytes_of : List ℕ → Option (List
     counted = subst (Counts old.selected new.selected) (omega arith) h.counted;
   }
 
-  logs_both : (first second : List (List ℕ)) (a b : List ℕ) (m n : ℕ) → FiltersLogs filter counts bytes_of first a m → FiltersLogs filter counts bytes_of second b n
-      → FiltersLogs filter counts bytes_of (first ++ second) (a ++ b) (m + n)
+  logs_both : (first second : List (List ℕ)) (a b : List ℕ) (m n : ℕ) → FiltersLogs filter counts known first a m → FiltersLogs filter counts known second b n
+      → FiltersLogs filter counts known (first ++ second) (a ++ b) (m + n)
   logs_both [] second a b m n f g =
       let none = f.1 in
       let same : n ≡ m + n = omega (arith, none) in
-      subst (λ (t : List ℕ). FiltersLogs filter counts bytes_of second (t ++ b) (m + n)) (sym f.0)
-      (subst (λ (k : ℕ). FiltersLogs filter counts bytes_of second b k) same g)
+      subst (λ (t : List ℕ). FiltersLogs filter counts known second (t ++ b) (m + n)) (sym f.0)
+      (subst (λ (k : ℕ). FiltersLogs filter counts known second b k) same g)
   logs_both (name ∷ first) second a b m n f g = (
     f.0,
     f.1,
@@ -216,8 +216,8 @@ module _ (filter : Filter) (counts : Bool) (bytes_of : List ℕ → Option (List
     let e = f.9 in omega (arith, e),
   )
 
-  pub names_both : (first second : List (List ℕ)) (old mid new : Stand) → FiltersNames filter counts bytes_of first old mid → FiltersNames filter counts bytes_of second mid new
-      → FiltersNames filter counts bytes_of (first ++ second) old new
+  pub names_both : (first second : List (List ℕ)) (old mid new : Stand) → FiltersNames filter counts known first old mid → FiltersNames filter counts known second mid new
+      → FiltersNames filter counts known (first ++ second) old new
   names_both first second old mid new f g = record {
     output = f.output ++ g.output;
     count = f.count + g.count;
@@ -226,8 +226,8 @@ module _ (filter : Filter) (counts : Bool) (bytes_of : List ℕ → Option (List
     counted = counts_more old.selected mid.selected new.selected f.count g.count f.counted g.counted;
   }
 
-  pub filters_both : (first second : List (List ℕ)) (a b : List ℕ) (m n : ℕ) → FiltersLogs filter counts bytes_of first a m → FiltersLogs filter counts bytes_of second b n
-      → FiltersLogs filter counts bytes_of (first ++ second) (a ++ b) (m + n)
+  pub filters_both : (first second : List (List ℕ)) (a b : List ℕ) (m n : ℕ) → FiltersLogs filter counts known first a m → FiltersLogs filter counts known second b n
+      → FiltersLogs filter counts known (first ++ second) (a ++ b) (m + n)
   filters_both first second a b m n f g = logs_both first second a b m n f g
 
 -- ---- what was put and then written

@@ -1,43 +1,44 @@
 -- Lists that are read in turn.
-use Rattle.std.proofs.Common.{◌≡◌, ◌<◌, ◌≤◌, ◌+◌, ◌-◌, ◌++◌, ◌∷◌, ◌∙◌, [], ℕ, Bool, List, true, false, not, cond, refl, sym, ap, subst, arith, length, get_or, drop, length-drop, true≢false}
-use Rattle.std.specs.Prelude.{Option, None, Some, Result, Ok, Err, OnOk, IfOk, String, nat_lt, ◌&&◌, ◌==◌, if◌then◌else◌, codes, bytes_eq}
+use Rattle.std.proofs.Common.{◌≡◌, ◌<◌, ◌≤◌, ◌+◌, ◌++◌, ◌∷◌, ◌∙◌, [], ℕ, Bool, List, true, false, not, cond, refl, sym, ap, subst, arith, length, get_or, drop, length-drop, true≢false}
+use Rattle.std.specs.Prelude.{Option, None, Some, Result, Ok, Err, OnOk, IfOk, IfErr, String, nat_lt, ◌&&◌, ◌==◌, if◌then◌else◌, codes, bytes_eq}
 use Rattle.std.specs.List.{list_all, list_any}
 use Rattle.std.specs.String.{string_bytes}
 use Rattle.std.specs.Str.Lines.{lines}
 use Rattle.std.proofs.lemmas.List.{get_or-drop}
 use Rattle.std.proofs.lemmas.Option.{none-some}
-use Rattle.ipnetwork_blocks.specs.Aggregate.{IsAggregate}
 use Rattle.ipnetwork_family.specs.Network.{Network}
 use Rattle.address_lists.specs.Lists.{ReadLists, nothing_read, at_list, TakesLines}
 use Rattle.address_lists.specs.Refusals.{Refused, no_refusals}
+use Rattle.program_io.specs.Lists.{KnownLists}
+use Rattle.program_io.specs.Reading.{ReadsList, StopsAt, StopsAtText}
+use Rattle.program_io.specs.declared.reading.ReadFault.{ReadFault}
+use Rattle.program_io.proofs.Told.{name_within}
 use Rattle.cidr_filter.specs.CommandLines.{Begin}
 use Rattle.cidr_filter.specs.Listed.{HasBlocksOf}
 use Rattle.cidr_filter.specs.Options.{option_of, behind_option, takes_next, in_one_word, field_option, separator_option, bad_option, letters_option, is_field, is_separator, is_letter, number_of, begins, is_list}
-use Rattle.cidr_filter.specs.Reading.{ReadsList, ReadsOption, next_place, ReadsOptions, ReadsLists, IsReadOf, HoldsRead}
-use Rattle.cidr_filter.specs.Told.{name_at}
+use Rattle.cidr_filter.specs.Reading.{ReadsOption, next_place, ReadsOptions, ReadsLists, StopsAtOption, Stops, HoldsRead}
+use Rattle.program_io.specs.Told.{name_at}
 use Rattle.cidr_filter.specs.Private.Reading.{ReadsAll, HasBlocks}
 use Rattle.cidr_filter.specs.declared.filter.Bad.TheVariants as bads
 use Rattle.cidr_filter.specs.declared.listed.Listed.{Listed}
 use Rattle.cidr_filter.specs.declared.listed.Listed.TheVariants.{Addresses, Blocks}
-use Rattle.cidr_filter.specs.declared.listed.Sets.{Sets}
 use Rattle.cidr_filter.specs.declared.options.Choice.{Choice}
 use Rattle.cidr_filter.specs.declared.options.Choice.TheVariants as choices
-use Rattle.cidr_filter.proofs.Told.{name_within}
 
 -- ---- options
 
 -- an option more
-pub reads_more : {Z : Type 0} (bytes_of : List ℕ → Option (List ℕ)) (all words rest : List (String Z)) (options : List Choice) (choice : Choice) (before mid after : ReadLists)
-    → Begin words options rest → ReadsOptions bytes_of all words options before mid → ReadsOption bytes_of (next_place all rest) choice (name_at rest 1) mid after
-    → ReadsOptions bytes_of all words (options ++ choice ∷ []) before after
-reads_more {Z} bytes_of all words rest [] choice before mid after e h r = (
+pub reads_more : {Z : Type 0} (known : KnownLists) (all words rest : List (String Z)) (options : List Choice) (choice : Choice) (before mid after : ReadLists)
+    → Begin words options rest → ReadsOptions known all words options before mid → ReadsOption known (next_place all rest) choice (name_at rest 1) mid after
+    → ReadsOptions known all words (options ++ choice ∷ []) before after
+reads_more {Z} known all words rest [] choice before mid after e h r = (
   after,
-  subst (λ (w : List (String Z)). ReadsOption bytes_of (next_place all w) choice (name_at w 1) before after) (sym e)
-      (subst (λ (m : ReadLists). ReadsOption bytes_of (next_place all rest) choice (name_at rest 1) m after) h r),
+  subst (λ (w : List (String Z)). ReadsOption known (next_place all w) choice (name_at w 1) before after) (sym e)
+      (subst (λ (m : ReadLists). ReadsOption known (next_place all rest) choice (name_at rest 1) m after) h r),
   refl,
 )
-reads_more bytes_of all words rest (option ∷ options) choice before mid after begin h r =
-    (h.0, h.1, reads_more bytes_of all (behind_option words) rest options choice h.0 mid after begin.1 h.2 r)
+reads_more known all words rest (option ∷ options) choice before mid after begin h r =
+    (h.0, h.1, reads_more known all (behind_option words) rest options choice h.0 mid after begin.1 h.2 r)
 
 pub place_behind : {Z : Type 0} (words : List (String Z)) (at : ℕ) → at ≤ length words → next_place words (drop at words) ≡ at + 1
 place_behind words at within = omega (arith, within, length-drop at words)
@@ -107,40 +108,40 @@ value_is words at value within is =
 
 -- ---- what an option reads
 
-pub reads_nothing : (bytes_of : List ℕ → Option (List ℕ)) (number : ℕ) (choice : Choice) (value : List ℕ) (before : ReadLists) → is_list choice ≡ false → ReadsOption bytes_of number choice value before before
-reads_nothing bytes_of number (choices.Letters inverts counts) value before e = refl
-reads_nothing bytes_of number (choices.Field field) value before e = refl
-reads_nothing bytes_of number (choices.Separator byte) value before e = refl
-reads_nothing bytes_of number (choices.Bad bad) value before e = refl
-reads_nothing bytes_of number choices.Longest value before e = refl
-reads_nothing bytes_of number choices.File value before e = absurd (true≢false e)
-reads_nothing bytes_of number choices.Input value before e = absurd (true≢false e)
-reads_nothing bytes_of number choices.Text value before e = absurd (true≢false e)
+pub reads_nothing : (known : KnownLists) (number : ℕ) (choice : Choice) (value : List ℕ) (before : ReadLists) → is_list choice ≡ false → ReadsOption known number choice value before before
+reads_nothing known number (choices.Letters inverts counts) value before e = refl
+reads_nothing known number (choices.Field field) value before e = refl
+reads_nothing known number (choices.Separator byte) value before e = refl
+reads_nothing known number (choices.Bad bad) value before e = refl
+reads_nothing known number choices.Longest value before e = refl
+reads_nothing known number choices.File value before e = absurd (true≢false e)
+reads_nothing known number choices.Input value before e = absurd (true≢false e)
+reads_nothing known number choices.Text value before e = absurd (true≢false e)
 
 -- the value of an `-e`
-pub reads_text : {T E : Type 0} (result : Result T E) (bytes_of : List ℕ → Option (List ℕ)) (number : ℕ) (choice : Choice) (value text : List ℕ) (before after : ReadLists)
-    → choice ≡ choices.Text → value ≡ text → OnOk result (TakesLines (at_list before number) (lines text) after) → OnOk result (ReadsOption bytes_of number choice value before after)
-reads_text result bytes_of number choice value text before after is same h =
-    subst (λ (c : Choice). OnOk result (ReadsOption bytes_of number c value before after)) (sym is)
+pub reads_text : {T E : Type 0} (result : Result T E) (known : KnownLists) (number : ℕ) (choice : Choice) (value text : List ℕ) (before after : ReadLists)
+    → choice ≡ choices.Text → value ≡ text → OnOk result (TakesLines (at_list before number) (lines text) after) → OnOk result (ReadsOption known number choice value before after)
+reads_text result known number choice value text before after is same h =
+    subst (λ (c : Choice). OnOk result (ReadsOption known number c value before after)) (sym is)
     (subst (λ (t : List ℕ). OnOk result (TakesLines (at_list before number) (lines t) after)) (sym same) h)
 
-file_is : {T E : Type 0} (result : Result T E) (bytes_of : List ℕ → Option (List ℕ)) (number : ℕ) (choice : Choice) (value : List ℕ) (before after : ReadLists)
-    → is_list choice ≡ true → ¬ (choice ≡ choices.Text) → OnOk result (ReadsList bytes_of number value before after) → OnOk result (ReadsOption bytes_of number choice value before after)
-file_is result bytes_of number (choices.Letters inverts counts) value before after list not h = absurd (true≢false (sym list))
-file_is result bytes_of number (choices.Field field) value before after list not h = absurd (true≢false (sym list))
-file_is result bytes_of number (choices.Separator byte) value before after list not h = absurd (true≢false (sym list))
-file_is result bytes_of number (choices.Bad bad) value before after list not h = absurd (true≢false (sym list))
-file_is result bytes_of number choices.Longest value before after list not h = absurd (true≢false (sym list))
-file_is result bytes_of number choices.File value before after list not h = h
-file_is result bytes_of number choices.Input value before after list not h = h
-file_is result bytes_of number choices.Text value before after list not h = absurd (not refl)
+file_is : {T E : Type 0} (result : Result T E) (known : KnownLists) (number : ℕ) (choice : Choice) (value : List ℕ) (before after : ReadLists)
+    → is_list choice ≡ true → ¬ (choice ≡ choices.Text) → OnOk result (ReadsList known number value before after) → OnOk result (ReadsOption known number choice value before after)
+file_is result known number (choices.Letters inverts counts) value before after list not h = absurd (true≢false (sym list))
+file_is result known number (choices.Field field) value before after list not h = absurd (true≢false (sym list))
+file_is result known number (choices.Separator byte) value before after list not h = absurd (true≢false (sym list))
+file_is result known number (choices.Bad bad) value before after list not h = absurd (true≢false (sym list))
+file_is result known number choices.Longest value before after list not h = absurd (true≢false (sym list))
+file_is result known number choices.File value before after list not h = h
+file_is result known number choices.Input value before after list not h = h
+file_is result known number choices.Text value before after list not h = absurd (not refl)
 
 -- the list that an `-f` names
-pub reads_file : {T E : Type 0} (result : Result T E) (bytes_of : List ℕ → Option (List ℕ)) (number : ℕ) (choice : Choice) (value name : List ℕ) (before after : ReadLists)
-    → is_list choice ≡ true → ¬ (choice ≡ choices.Text) → value ≡ name → OnOk result (ReadsList bytes_of number name before after)
-    → OnOk result (ReadsOption bytes_of number choice value before after)
-reads_file result bytes_of number choice value name before after list not same h =
-    file_is result bytes_of number choice value before after list not (subst (λ (n : List ℕ). OnOk result (ReadsList bytes_of number n before after)) (sym same) h)
+pub reads_file : {T E : Type 0} (result : Result T E) (known : KnownLists) (number : ℕ) (choice : Choice) (value name : List ℕ) (before after : ReadLists)
+    → is_list choice ≡ true → ¬ (choice ≡ choices.Text) → value ≡ name → OnOk result (ReadsList known number name before after)
+    → OnOk result (ReadsOption known number choice value before after)
+reads_file result known number choice value name before after list not same h =
+    file_is result known number choice value before after list not (subst (λ (n : List ℕ). OnOk result (ReadsList known number n before after)) (sym same) h)
 
 -- ---- what was read
 
@@ -151,16 +152,51 @@ blocks_held (Ok (Blocks tables)) longest read v4 v6 e f g h =
     (e, subst (λ (n : List Network). HasBlocksOf 32 n tables.v4) f h.0, subst (λ (n : List Network). HasBlocksOf 128 n tables.v6) g h.1)
 blocks_held (Err fault) longest read v4 v6 e f g h = tt
 
-pub all_read : {Z T E F : Type 0} (result : Result T E) (bytes_of : List ℕ → Option (List ℕ)) (words : List (String Z)) (longest : Bool) (listed : Result Listed F) (start read : ReadLists)
-    (before refused : Refused) → before ≡ no_refusals → start ≡ nothing_read before → OnOk result (ReadsLists bytes_of words start read) → OnOk result (read.is_out_of_memory ≡ false)
-    → IfOk listed (HoldsRead longest read) → refused ≡ read.refused → OnOk result (ReadsAll bytes_of words longest listed refused)
-all_read (Ok done) bytes_of words longest listed start read before refused none e h m holds same = record {
+pub all_read : {Z T E F : Type 0} (result : Result T E) (known : KnownLists) (words : List (String Z)) (longest : Bool) (listed : Result Listed F) (start read : ReadLists)
+    (before refused : Refused) → before ≡ no_refusals → start ≡ nothing_read before → OnOk result (ReadsLists known words start read) → OnOk result (read.is_out_of_memory ≡ false)
+    → IfOk listed (HoldsRead longest read) → refused ≡ read.refused → OnOk result (ReadsAll known words longest listed refused)
+all_read (Ok done) known words longest listed start read before refused none e h m holds same = record {
   read = read;
   is_read = record {
-    lists = subst (λ (s : ReadLists). ReadsLists bytes_of words s read) (e ∙ ap nothing_read none) h;
+    lists = subst (λ (s : ReadLists). ReadsLists known words s read) (e ∙ ap nothing_read none) h;
     memory = m;
   };
   holds = holds;
   refused_lines = sym same;
 }
-all_read (Err fault) bytes_of words longest listed start read before refused none e h m holds same = tt
+all_read (Err fault) known words longest listed start read before refused none e h m holds same = tt
+
+-- ---- where the reading stops
+
+pub text_stops : {T : Type 0} (result : Result T ReadFault) (known : KnownLists) (number : ℕ) (choice : Choice) (value text : List ℕ) (before : ReadLists) (refused : Refused)
+    → choice ≡ choices.Text → value ≡ text → IfErr result (λ fault. StopsAtText number text before fault refused) → IfErr result (λ fault. StopsAtOption known number choice value before fault refused)
+text_stops result known number choice value text before refused is same h =
+    subst (λ (c : Choice). IfErr result (λ fault. StopsAtOption known number c value before fault refused)) (sym is)
+    (subst (λ (t : List ℕ). IfErr result (λ fault. StopsAtText number t before fault refused)) (sym same) h)
+
+file_stops_at : {T : Type 0} (result : Result T ReadFault) (known : KnownLists) (number : ℕ) (choice : Choice) (value : List ℕ) (before : ReadLists) (refused : Refused)
+    → is_list choice ≡ true → ¬ (choice ≡ choices.Text) → IfErr result (λ fault. StopsAt known number value before fault refused)
+    → IfErr result (λ fault. StopsAtOption known number choice value before fault refused)
+file_stops_at result known number (choices.Letters inverts counts) value before refused list not h = absurd (true≢false (sym list))
+file_stops_at result known number (choices.Field field) value before refused list not h = absurd (true≢false (sym list))
+file_stops_at result known number (choices.Separator byte) value before refused list not h = absurd (true≢false (sym list))
+file_stops_at result known number (choices.Bad bad) value before refused list not h = absurd (true≢false (sym list))
+file_stops_at result known number choices.Longest value before refused list not h = absurd (true≢false (sym list))
+file_stops_at result known number choices.File value before refused list not h = h
+file_stops_at result known number choices.Input value before refused list not h = h
+file_stops_at result known number choices.Text value before refused list not h = absurd (not refl)
+
+pub file_stops : {T : Type 0} (result : Result T ReadFault) (known : KnownLists) (number : ℕ) (choice : Choice) (value name : List ℕ) (before : ReadLists) (refused : Refused)
+    → is_list choice ≡ true → ¬ (choice ≡ choices.Text) → value ≡ name → IfErr result (λ fault. StopsAt known number name before fault refused)
+    → IfErr result (λ fault. StopsAtOption known number choice value before fault refused)
+file_stops result known number choice value name before refused list not same h =
+    file_stops_at result known number choice value before refused list not
+    (subst (λ (n : List ℕ). IfErr result (λ fault. StopsAt known number n before fault refused)) (sym same) h)
+
+pub all_stopped : {Z T : Type 0} (result : Result T ReadFault) (known : KnownLists) (words : List (String Z)) (before : Refused) (start read : ReadLists) (refused : Refused)
+    → before ≡ no_refusals → start ≡ nothing_read before → IfErr result (λ fault. Stops known words start fault read.refused) → refused ≡ read.refused
+    → IfErr result (λ fault. Stops known words (nothing_read no_refusals) fault refused)
+all_stopped (Ok done) known words before start read refused none e h same = tt
+all_stopped (Err fault) known words before start read refused none e h same =
+    subst (λ (r : Refused). Stops known words (nothing_read no_refusals) fault r) (sym same)
+    (subst (λ (s : ReadLists). Stops known words s fault read.refused) (e ∙ ap nothing_read none) h)

@@ -1,26 +1,28 @@
 -- How a run ends.
-use Rattle.std.proofs.Common.{◌≡◌, ◌==◌, ◌⊎◌, ◌+◌, ◌-◌, ◌^◌, ◌<◌, ◌≤◌, ◌++◌, ◌∷◌, ◌∙◌, [], ◌||◌, ℕ, zero, suc, List, Bool, true, false, true≢false, not, refl, sym, ap, subst, inl, inr, arith, length, min, map, take, drop, take-append-drop, get_or, append_assoc, append-nil, decimal, codes}
+use Rattle.std.proofs.Common.{◌≡◌, ◌==◌, ◌+◌, ◌-◌, ◌^◌, ◌<◌, ◌≤◌, ◌++◌, ◌∷◌, ◌∙◌, [], ◌||◌, ℕ, zero, suc, List, Bool, true, false, true≢false, not, refl, sym, ap, subst, inl, inr, arith, length, min, map, take, drop, take-append-drop, get_or, append_assoc, append-nil, decimal, codes}
 use Rattle.std.specs.Prelude.{Option, Result, Ok, Err, OnOk, OnErr, IfErr, IfOk, IsTrue, is_err, nat_lt, if◌then◌else◌, String}
 use Rattle.std.specs.String.{string_bytes}
 use Rattle.std.specs.Io.KnownBytes.{Appends}
 use Rattle.std.proofs.lemmas.Bool.{ne_eqb}
 use Rattle.std.proofs.lemmas.Bool.Decides.{nat_tests}
 use Rattle.std.proofs.lemmas.List.{take_all, take_more, map_push}
-use Rattle.address_lists.specs.Lists.{ReadLists}
-use Rattle.address_lists.specs.Refusals.{Refused}
+use Rattle.address_lists.specs.Lists.{ReadLists, nothing_read}
+use Rattle.address_lists.specs.Refusals.{Refused, no_refusals}
 use Rattle.line_engine.specs.declared.output.Output.{Output}
 use Rattle.line_engine.specs.Outputs.{writer_of, waits_in, output_failed, Puts, AppendsBeginning}
 use Rattle.line_engine.proofs.Putting.{begins_after_puts}
-use Rattle.program_io.specs.Endings.{status_of, end_text}
+use Rattle.program_io.specs.Endings.{Ending, HasTold, HasWritten, status_of, end_text}
 use Rattle.program_io.specs.Messages.{Tells}
+use Rattle.program_io.specs.Lists.{KnownLists}
 use Rattle.cidr_filter.specs.CommandLines.{Asks}
 use Rattle.cidr_filter.specs.Filters.{Filters}
 use Rattle.cidr_filter.specs.Lines.{LogLine}
 use Rattle.cidr_filter.specs.Logs.{logs_of, HaltsBy}
-use Rattle.cidr_filter.specs.Reading.{HoldsRead}
-use Rattle.cidr_filter.specs.Runs.{Ending, was_refused, HasTold, HasWritten, FailsWriting, Wrote, Refuses, StopsAtLog, total_text, FiltersAll, EndsLogs, filter_of, EndsFiltering, EndsRequest, EndsAs}
+use Rattle.cidr_filter.specs.Reading.{Stops, HoldsRead}
+use Rattle.cidr_filter.specs.Runs.{FailsWriting, Wrote, Refuses, StopsAtLog, total_text, FiltersAll, EndsFiltering, EndsRequest, EndsAs}
 use Rattle.cidr_filter.specs.Stands.{Stand, stand, Counts}
-use Rattle.cidr_filter.specs.Told.{refusals_text, fault_text, line_text, log_fault_text}
+use Rattle.program_io.specs.Told.{was_refused, fault_text}
+use Rattle.cidr_filter.specs.Told.{refusals_text, line_text, log_fault_text}
 use Rattle.cidr_filter.specs.Private.Reading.{ReadsAll}
 use Rattle.cidr_filter.specs.Private.Runs.{FiltersNames, PutsBy, HandsOn, StopsBy, EndsListed, EndsBy}
 use Rattle.cidr_filter.specs.declared.command_line.Command.{Command}
@@ -30,7 +32,7 @@ use Rattle.cidr_filter.specs.declared.listed.Listed.{Listed}
 use Rattle.cidr_filter.specs.declared.log.LogFault.{LogFault}
 use Rattle.cidr_filter.specs.declared.log.LogFault.TheVariants as faults
 use Rattle.cidr_filter.specs.declared.log.Tally.{Tally}
-use Rattle.cidr_filter.specs.declared.reading.ReadFault.{ReadFault}
+use Rattle.program_io.specs.declared.reading.ReadFault.{ReadFault}
 use Rattle.cidr_filter.proofs.LogsInTurn.{names_both, some_first, filters_both, puts_then_all}
 use Rattle.cidr_filter.proofs.Stopping.{failed_now}
 
@@ -54,10 +56,10 @@ tells_as : {W : Type 0} (contents : W → Option (List ℕ)) (old new : Output W
 tells_as contents old new text other e h = subst (λ (t : List ℕ). Tells contents old new t) e h
 
 -- the first lines of a log were filtered, and then it stopped
-at_log : {W E : Type 0} (filter : Filter) (counts : Bool) (bytes_of : List ℕ → Option (List ℕ)) (name : List ℕ) (fault : LogFault) (lines : List LogLine) (added : List ℕ) (more : ℕ) (end : Ending W E)
-    → end.status ≡ 2 → Filters filter counts lines added more → HaltsBy filter bytes_of name lines fault → Wrote fault end ([] ++ added)
-    → HasTold end (log_fault_text name (length lines) fault) → StopsAtLog filter counts bytes_of (name ∷ []) end
-at_log filter counts bytes_of name fault lines added more end two filters halts wrote told = record {
+at_log : {W E : Type 0} (filter : Filter) (counts : Bool) (known : KnownLists) (name : List ℕ) (fault : LogFault) (lines : List LogLine) (added : List ℕ) (more : ℕ) (end : Ending W E)
+    → end.status ≡ 2 → Filters filter counts lines added more → HaltsBy filter known name lines fault → Wrote fault end ([] ++ added)
+    → HasTold end (log_fault_text name (length lines) fault) → StopsAtLog filter counts known (name ∷ []) end
+at_log filter counts known name fault lines added more end two filters halts wrote told = record {
   before = [];
   name = name;
   behind = [];
@@ -93,29 +95,29 @@ failed_behind end mid added p h = (
       (begins_after_puts _ _ _ _ _ added [] p h.1),
 )
 
-module _ {W E : Type 0} (filter : Filter) (counts : Bool) (bytes_of : List ℕ → Option (List ℕ)) (name : List ℕ) (lines : List LogLine) (added : List ℕ) (more : ℕ)
+module _ {W E : Type 0} (filter : Filter) (counts : Bool) (known : KnownLists) (name : List ℕ) (lines : List LogLine) (added : List ℕ) (more : ℕ)
     (filters : Filters filter counts lines added more) (end : Ending W E) (two : end.status ≡ 2) (mid : Output W) (told : ℕ) where
   -- the output of these lines was put, and then what waited was written or not
-  handed : (fault : LogFault) → HaltsBy filter bytes_of name lines fault → ((text : List ℕ) → HasWritten end text → Wrote fault end text)
+  handed : (fault : LogFault) → HaltsBy filter known name lines fault → ((text : List ℕ) → HasWritten end text → Wrote fault end text)
       → Puts (end.holds (writer_of end.output)) (waits_in end.output) (end.holds (writer_of mid)) (waits_in mid) added × (told ≡ min (length lines) (2 ^ 64 - 1))
-      → HandsOn name told fault (record end { output = mid }) → StopsAtLog filter counts bytes_of (name ∷ []) end
+      → HandsOn name told fault (record end { output = mid }) → StopsAtLog filter counts known (name ∷ []) end
   handed fault halts wrote p (inl h) =
-      at_log filter counts bytes_of name fault lines added more end two filters halts (wrote ([] ++ added) (written_behind end mid added p.0 h.0))
+      at_log filter counts known name fault lines added more end two filters halts (wrote ([] ++ added) (written_behind end mid added p.0 h.0))
       (tells_as end.tells end.errors end.errors_after _ _ (told_log name told (length lines) fault p.1) h.1)
   handed fault halts wrote p (inr h) =
-      at_log filter counts bytes_of name faults.Write lines added more end two filters (some_first filter counts bytes_of name lines fault halts) (failed_behind end mid added p.0 h.0) h.1
+      at_log filter counts known name faults.Write lines added more end two filters (some_first filter counts known name lines fault halts) (failed_behind end mid added p.0 h.0) h.1
 
   -- the writer had failed
-  had_failed : HaltsBy filter bytes_of name lines faults.Write → IsTrue (output_failed mid)
+  had_failed : HaltsBy filter known name lines faults.Write → IsTrue (output_failed mid)
       × AppendsBeginning (end.holds (writer_of end.output)) (end.holds (writer_of mid)) (waits_in end.output ++ added)
-      → (end.output_after ≡ mid) × HasTold (record end { output = mid }) (codes "write error\n") → StopsAtLog filter counts bytes_of (name ∷ []) end
+      → (end.output_after ≡ mid) × HasTold (record end { output = mid }) (codes "write error\n") → StopsAtLog filter counts known (name ∷ []) end
   had_failed halts p stops =
-      at_log filter counts bytes_of name faults.Write lines added more end two filters halts
+      at_log filter counts known name faults.Write lines added more end two filters halts
       (subst (λ (o : Output W). (output_failed o ≡ true) × AppendsBeginning (end.holds (writer_of end.output)) (end.holds (writer_of o)) (waits_in end.output ++ added)) (sym stops.0) p) stops.1
 
-  pub stops_now : (fault : LogFault) (old new : Tally) → new.lines ≡ told → HaltsBy filter bytes_of name lines fault
+  pub stops_now : (fault : LogFault) (old new : Tally) → new.lines ≡ told → HaltsBy filter known name lines fault
       → PutsBy fault (output_failed mid) (stand (end.holds (writer_of end.output)) (waits_in end.output) old) (stand (end.holds (writer_of mid)) (waits_in mid) new) added (length lines)
-      → StopsBy name told fault (record end { output = mid }) → StopsAtLog filter counts bytes_of (name ∷ []) end
+      → StopsBy name told fault (record end { output = mid }) → StopsAtLog filter counts known (name ∷ []) end
   stops_now faults.Open old new same halts puts stops = handed faults.Open halts (λ text h. h) (puts.0, sym same ∙ puts.1) stops
   stops_now faults.Read old new same halts puts stops = handed faults.Read halts (λ text h. h) (puts.0, sym same ∙ puts.1) stops
   stops_now faults.Write old new same halts puts stops = had_failed halts puts stops
@@ -139,11 +141,11 @@ wrote_same : {W E : Type 0} (fault : LogFault) (end : Ending W E) (text other : 
 wrote_same fault end text other e h = subst (λ (t : List ℕ). Wrote fault end t) e h
 
 -- a log that stops behind others that were filtered
-pub stops_behind_names : {W E : Type 0} (filter : Filter) (counts : Bool) (bytes_of : List ℕ → Option (List ℕ)) (done more rest names : List (List ℕ)) (end : Ending W E) (mid : Output W) (old now : Tally)
+pub stops_behind_names : {W E : Type 0} (filter : Filter) (counts : Bool) (known : KnownLists) (done more rest names : List (List ℕ)) (end : Ending W E) (mid : Output W) (old now : Tally)
     → names ≡ done ++ (more ++ rest)
-    → FiltersNames filter counts bytes_of done (stand (end.holds (writer_of end.output)) (waits_in end.output) old) (stand (end.holds (writer_of mid)) (waits_in mid) now)
-    → StopsAtLog filter counts bytes_of more (record end { output = mid }) → StopsAtLog filter counts bytes_of names end
-stops_behind_names filter counts bytes_of done more rest names end mid old now e f s = record {
+    → FiltersNames filter counts known done (stand (end.holds (writer_of end.output)) (waits_in end.output) old) (stand (end.holds (writer_of mid)) (waits_in mid) now)
+    → StopsAtLog filter counts known more (record end { output = mid }) → StopsAtLog filter counts known names end
+stops_behind_names filter counts known done more rest names end mid old now e f s = record {
   before = done ++ s.before;
   name = s.name;
   behind = s.behind ++ rest;
@@ -154,7 +156,7 @@ stops_behind_names filter counts bytes_of done more rest names end mid old now e
   more = s.more;
   fault = s.fault;
   logs = e ∙ ap (λ l. done ++ (l ++ rest)) s.logs ∙ ap (λ l. done ++ l) (append_assoc s.before (s.name ∷ s.behind) rest) ∙ sym (append_assoc done s.before (s.name ∷ (s.behind ++ rest)));
-  filters = filters_both filter counts bytes_of done s.before f.output s.output f.count s.selected f.filters s.filters;
+  filters = filters_both filter counts known done s.before f.output s.output f.count s.selected f.filters s.filters;
   first = s.first;
   halts = s.halts;
   wrote = wrote_same s.fault end _ _ (sym (append_assoc f.output s.output s.added)) (wrote_behind s.fault end mid f.output (s.output ++ s.added) f.puts s.wrote);
@@ -189,38 +191,38 @@ names_apart files i name e =
 
 -- ---- one file more
 
-module _ {Z : Type 0} (filter : Filter) (counts : Bool) (bytes_of : List ℕ → Option (List ℕ)) (files : List (String Z)) where
+module _ {Z : Type 0} (filter : Filter) (counts : Bool) (known : KnownLists) (files : List (String Z)) where
   -- there is none
-  pub input_named : (old new : Stand) → (length files == 0) ≡ true → FiltersNames filter counts bytes_of (codes "-" ∷ []) old new → FiltersNames filter counts bytes_of (logs_of files) old new
-  input_named old new none h = subst (λ (n : List (List ℕ)). FiltersNames filter counts bytes_of n old new) (sym (logs_none files none)) h
+  pub input_named : (old new : Stand) → (length files == 0) ≡ true → FiltersNames filter counts known (codes "-" ∷ []) old new → FiltersNames filter counts known (logs_of files) old new
+  input_named old new none h = subst (λ (n : List (List ℕ)). FiltersNames filter counts known n old new) (sym (logs_none files none)) h
 
-  pub input_stops : {W E : Type 0} (end : Ending W E) → (length files == 0) ≡ true → StopsAtLog filter counts bytes_of (codes "-" ∷ []) end → StopsAtLog filter counts bytes_of (logs_of files) end
-  input_stops end none h = subst (λ (n : List (List ℕ)). StopsAtLog filter counts bytes_of n end) (sym (logs_none files none)) h
+  pub input_stops : {W E : Type 0} (end : Ending W E) → (length files == 0) ≡ true → StopsAtLog filter counts known (codes "-" ∷ []) end → StopsAtLog filter counts known (logs_of files) end
+  input_stops end none h = subst (λ (n : List (List ℕ)). StopsAtLog filter counts known n end) (sym (logs_none files none)) h
 
   -- the one at a place was filtered too
   pub one_more : (i : ℕ) (name : List ℕ) (old mid new : Stand) → map string_bytes (take (i + 1) files) ≡ map string_bytes (take i files) ++ name ∷ []
-      → FiltersNames filter counts bytes_of (map string_bytes (take i files)) old mid → FiltersNames filter counts bytes_of (name ∷ []) mid new
-      → FiltersNames filter counts bytes_of (map string_bytes (take (i + 1) files)) old new
+      → FiltersNames filter counts known (map string_bytes (take i files)) old mid → FiltersNames filter counts known (name ∷ []) mid new
+      → FiltersNames filter counts known (map string_bytes (take (i + 1) files)) old new
   one_more i name old mid new e f g =
-      subst (λ (n : List (List ℕ)). FiltersNames filter counts bytes_of n old new) (sym e) (names_both filter counts bytes_of (map string_bytes (take i files)) (name ∷ []) old mid new f g)
+      subst (λ (n : List (List ℕ)). FiltersNames filter counts known n old new) (sym e) (names_both filter counts known (map string_bytes (take i files)) (name ∷ []) old mid new f g)
 
   -- all were
-  pub all_named : (i : ℕ) (old new : Stand) → (length files == 0) ≡ false → length files ≤ i → FiltersNames filter counts bytes_of (map string_bytes (take i files)) old new
-      → FiltersNames filter counts bytes_of (logs_of files) old new
+  pub all_named : (i : ℕ) (old new : Stand) → (length files == 0) ≡ false → length files ≤ i → FiltersNames filter counts known (map string_bytes (take i files)) old new
+      → FiltersNames filter counts known (logs_of files) old new
   all_named i old new some past h =
-      subst (λ (n : List (List ℕ)). FiltersNames filter counts bytes_of n old new) (ap (map string_bytes) (take_all i files past) ∙ sym (logs_some files some)) h
+      subst (λ (n : List (List ℕ)). FiltersNames filter counts known n old new) (ap (map string_bytes) (take_all i files past) ∙ sym (logs_some files some)) h
 
   -- the one at a place stopped
   pub one_stops : {W E : Type 0} (i : ℕ) (name : List ℕ) (holds : W → Option (List ℕ)) (tells : E → Option (List ℕ)) (output mid after : Output W) (errors silent told : Output E) (old now : Tally)
       → silent ≡ errors → (length files == 0) ≡ false → map string_bytes (take (i + 1) files) ≡ map string_bytes (take i files) ++ name ∷ []
-      → FiltersNames filter counts bytes_of (map string_bytes (take i files)) (stand (holds (writer_of output)) (waits_in output) old) (stand (holds (writer_of mid)) (waits_in mid) now)
-      → StopsAtLog filter counts bytes_of (name ∷ []) (record { holds = holds; output = mid; output_after = after; tells = tells; errors = silent; errors_after = told; status = 2 })
-      → StopsAtLog filter counts bytes_of (logs_of files) (record { holds = holds; output = output; output_after = after; tells = tells; errors = errors; errors_after = told; status = 2 })
+      → FiltersNames filter counts known (map string_bytes (take i files)) (stand (holds (writer_of output)) (waits_in output) old) (stand (holds (writer_of mid)) (waits_in mid) now)
+      → StopsAtLog filter counts known (name ∷ []) (record { holds = holds; output = mid; output_after = after; tells = tells; errors = silent; errors_after = told; status = 2 })
+      → StopsAtLog filter counts known (logs_of files) (record { holds = holds; output = output; output_after = after; tells = tells; errors = errors; errors_after = told; status = 2 })
   one_stops {W} {E} i name holds tells output mid after errors silent told old now same some more f s =
       let end : Ending W E = record { holds = holds; output = output; output_after = after; tells = tells; errors = errors; errors_after = told; status = 2 } in
-      subst (λ (n : List (List ℕ)). StopsAtLog filter counts bytes_of n end) (sym (logs_some files some))
-      (stops_behind_names filter counts bytes_of (map string_bytes (take i files)) (name ∷ []) (map string_bytes (drop (i + 1) files)) (map string_bytes files) end mid old now (names_apart files i name more) f
-      (subst (λ (o : Output E). StopsAtLog filter counts bytes_of (name ∷ []) (record { holds = holds; output = mid; output_after = after; tells = tells; errors = o; errors_after = told; status = 2 })) same s))
+      subst (λ (n : List (List ℕ)). StopsAtLog filter counts known n end) (sym (logs_some files some))
+      (stops_behind_names filter counts known (map string_bytes (take i files)) (name ∷ []) (map string_bytes (drop (i + 1) files)) (map string_bytes files) end mid old now (names_apart files i name more) f
+      (subst (λ (o : Output E). StopsAtLog filter counts known (name ∷ []) (record { holds = holds; output = mid; output_after = after; tells = tells; errors = o; errors_after = told; status = 2 })) same s))
 
 -- ---- all logs
 
@@ -242,13 +244,13 @@ status_same (suc told) (suc count) e = positive (suc told) (omega arith) ∙ sym
 counted_told : (told count : ℕ) → Counts 0 told count → told ≡ min count (2 ^ 64 - 1)
 counted_told told count counted = let e = counted (omega arith) in omega (arith, e)
 
-module _ {W E T F : Type 0} (filter : Filter) (counts : Bool) (bytes_of : List ℕ → Option (List ℕ)) (names : List (List ℕ)) (end : Ending W E) (mid : Output W) (told : ℕ) where
+module _ {W E T F : Type 0} (filter : Filter) (counts : Bool) (known : KnownLists) (names : List (List ℕ)) (end : Ending W E) (mid : Output W) (told : ℕ) where
   pub all_ended : (written : Result T F) (status : ℕ) (old now : Tally) → old.selected ≡ 0 → now.selected ≡ told
-      → FiltersNames filter counts bytes_of names (stand (end.holds (writer_of end.output)) (waits_in end.output) old) (stand (end.holds (writer_of mid)) (waits_in mid) now)
+      → FiltersNames filter counts known names (stand (end.holds (writer_of end.output)) (waits_in end.output) old) (stand (end.holds (writer_of mid)) (waits_in mid) now)
       → OnOk written (Appends (end.holds (writer_of mid)) (end.holds (writer_of end.output_after)) (waits_in mid ++ total_text counts told))
       → OnErr written (AppendsBeginning (end.holds (writer_of mid)) (end.holds (writer_of end.output_after)) (waits_in mid ++ total_text counts told))
       → output_failed end.output_after ≡ (output_failed mid || is_err written) → status ≡ (if nat_lt 0 told then 0 else 1) → end.status ≡ status_of written status
-      → HasTold end (end_text written) → FiltersAll filter counts bytes_of names end
+      → HasTold end (end_text written) → FiltersAll filter counts known names end
   all_ended (Ok done) status old now none same f ok err failed st two tells =
       let counted = counted_told told f.count (subst (λ n. Counts n told f.count) none (subst (λ n. Counts old.selected n f.count) same f.counted)) in
       record {
@@ -342,33 +344,35 @@ handed_some name lines fault end failed h told =
 
 -- ---- the run
 
-pub by_listed : {W E X : Type 0} (bytes_of : List ℕ → Option (List ℕ)) (request : Request) (listed : Result Listed X) (held : Listed) (names : List (List ℕ)) (end : Ending W E)
-    → listed ≡ Ok held → EndsListed bytes_of request held names end → EndsBy bytes_of request listed names end
-by_listed {W} {E} {X} bytes_of request listed held names end is h = subst (λ (l : Result Listed X). EndsBy bytes_of request l names end) (sym is) h
+pub by_listed : {W E X : Type 0} (known : KnownLists) (request : Request) (listed : Result Listed X) (held : Listed) (names : List (List ℕ)) (end : Ending W E)
+    → listed ≡ Ok held → EndsListed known request held names end → EndsBy known request listed names end
+by_listed {W} {E} {X} known request listed held names end is h = subst (λ (l : Result Listed X). EndsBy known request l names end) (sym is) h
 
-pub by_none : {W E X : Type 0} (bytes_of : List ℕ → Option (List ℕ)) (request : Request) (listed : Result Listed X) (fault : X) (names : List (List ℕ)) (end : Ending W E)
-    → listed ≡ Err fault → Refuses (codes "out of memory\n") end → EndsBy bytes_of request listed names end
-by_none {W} {E} {X} bytes_of request listed fault names end is h = subst (λ (l : Result Listed X). EndsBy bytes_of request l names end) (sym is) h
+pub by_none : {W E X : Type 0} (known : KnownLists) (request : Request) (listed : Result Listed X) (fault : X) (names : List (List ℕ)) (end : Ending W E)
+    → listed ≡ Err fault → Refuses (codes "out of memory\n") end → EndsBy known request listed names end
+by_none {W} {E} {X} known request listed fault names end is h = subst (λ (l : Result Listed X). EndsBy known request l names end) (sym is) h
 
-filtered_by : {Z W E X : Type 0} (bytes_of : List ℕ → Option (List ℕ)) (words : List (String Z)) (request : Request) (listed : Result Listed X) (read : ReadLists) (end : Ending W E)
-    → was_refused read.refused ≡ false → IfOk listed (HoldsRead request.longest read) → EndsBy bytes_of request listed (logs_of (drop request.files words)) end
-    → EndsFiltering bytes_of words request read end
-filtered_by bytes_of words request (Ok listed) read end none holds (inl h) = inr (none, inl h)
-filtered_by bytes_of words request (Ok listed) read end none holds (inr h) = inr (none, inr (listed, holds, h))
-filtered_by bytes_of words request (Err fault) read end none holds h = inr (none, inl h)
+filtered_by : {Z W E X : Type 0} (known : KnownLists) (words : List (String Z)) (request : Request) (listed : Result Listed X) (read : ReadLists) (end : Ending W E)
+    → was_refused read.refused ≡ false → IfOk listed (HoldsRead request.longest read) → EndsBy known request listed (logs_of (drop request.files words)) end
+    → EndsFiltering known words request read end
+filtered_by known words request (Ok listed) read end none holds (inl h) = inr (none, inl h)
+filtered_by known words request (Ok listed) read end none holds (inr h) = inr (none, inr (listed, holds, h))
+filtered_by known words request (Err fault) read end none holds h = inr (none, inl h)
 
-module _ {Z W E : Type 0} (bytes_of : List ℕ → Option (List ℕ)) (words : List (String Z)) (request : Request) (refused : Refused) (end : Ending W E) (told : Output E)
+module _ {Z W E : Type 0} (known : KnownLists) (words : List (String Z)) (request : Request) (refused : Refused) (end : Ending W E) (told : Output E)
     (tells : Tells end.tells end.errors told (refusals_text words refused)) where
   -- the reading stopped
-  pub reading_stopped : (fault : ReadFault) → Refuses (fault_text words fault) (record end { errors = told }) → EndsRequest bytes_of words request end
-  reading_stopped fault h = (refused, told, tells, inl (fault, h))
+  pub reading_stopped : {T : Type 0} (result : Result T ReadFault) (fault : ReadFault) → result ≡ Err fault → IfErr result (λ f. Stops known words (nothing_read no_refusals) f refused)
+      → Refuses (fault_text words fault) (record end { errors = told }) → EndsRequest known words request end
+  reading_stopped {T} result fault is stops h =
+      (refused, told, tells, inl (fault, subst (λ (r : Result T ReadFault). IfErr r (λ f. Stops known words (nothing_read no_refusals) f refused)) is stops, h))
 
-  module _ {T F X : Type 0} (result : Result T F) (done : T) (listed : Result Listed X) (is : result ≡ Ok done) (all : OnOk result (ReadsAll bytes_of words request.longest listed refused)) where
-    was_read : ReadsAll bytes_of words request.longest listed refused
-    was_read = subst (λ (r : Result T F). OnOk r (ReadsAll bytes_of words request.longest listed refused)) is all
+  module _ {T F X : Type 0} (result : Result T F) (done : T) (listed : Result Listed X) (is : result ≡ Ok done) (all : OnOk result (ReadsAll known words request.longest listed refused)) where
+    was_read : ReadsAll known words request.longest listed refused
+    was_read = subst (λ (r : Result T F). OnOk r (ReadsAll known words request.longest listed refused)) is all
 
     -- a line was refused
-    pub line_refused : (is_empty : Bool) → is_empty ≡ (length refused.kept == 0) → is_empty ≡ false → Refuses [] (record end { errors = told }) → EndsRequest bytes_of words request end
+    pub line_refused : (is_empty : Bool) → is_empty ≡ (length refused.kept == 0) → is_empty ≡ false → Refuses [] (record end { errors = told }) → EndsRequest known words request end
     line_refused is_empty e some h = (
       refused,
       told,
@@ -378,7 +382,7 @@ module _ {Z W E : Type 0} (bytes_of : List ℕ → Option (List ℕ)) (words : L
 
     -- none was
     pub logs_filtered : (is_empty : Bool) → is_empty ≡ (length refused.kept == 0) → is_empty ≡ true
-        → EndsBy bytes_of request listed (logs_of (drop request.files words)) (record end { errors = told }) → EndsRequest bytes_of words request end
+        → EndsBy known request listed (logs_of (drop request.files words)) (record end { errors = told }) → EndsRequest known words request end
     logs_filtered is_empty e none h = (
       refused,
       told,
@@ -387,25 +391,25 @@ module _ {Z W E : Type 0} (bytes_of : List ℕ → Option (List ℕ)) (words : L
         was_read.read,
         was_read.is_read,
         was_read.refused_lines,
-        filtered_by bytes_of words request listed was_read.read (record end { errors = told }) (ap was_refused was_read.refused_lines ∙ ap not (sym e ∙ none)) was_read.holds h,
+        filtered_by known words request listed was_read.read (record end { errors = told }) (ap was_refused was_read.refused_lines ∙ ap not (sym e ∙ none)) was_read.holds h,
       ),
     )
 
 -- a command that is known
-pub ends_by : {Z W E : Type 0} (help version usage : List ℕ) (bytes_of : List ℕ → Option (List ℕ)) (words : List (String Z)) (command other : Command) (end : Ending W E) → command ≡ other
-    → Asks words command → EndsAs help version usage bytes_of words other end → (known : Command) × Asks words known × EndsAs help version usage bytes_of words known end
-ends_by help version usage bytes_of words command other end e asks ends =
-    (command, asks, subst (λ (c : Command). EndsAs help version usage bytes_of words c end) (sym e) ends)
+pub ends_by : {Z W E : Type 0} (help version usage : List ℕ) (known : KnownLists) (words : List (String Z)) (command other : Command) (end : Ending W E) → command ≡ other
+    → Asks words command → EndsAs help version usage known words other end → (asked : Command) × Asks words asked × EndsAs help version usage known words asked end
+ends_by help version usage known words command other end e asks ends =
+    (command, asks, subst (λ (c : Command). EndsAs help version usage known words c end) (sym e) ends)
 
 -- nothing was told before
-pub all_by : {W E T F : Type 0} (filter : Filter) (counts : Bool) (bytes_of : List ℕ → Option (List ℕ)) (names : List (List ℕ)) (holds : W → Option (List ℕ)) (tells : E → Option (List ℕ))
+pub all_by : {W E T F : Type 0} (filter : Filter) (counts : Bool) (known : KnownLists) (names : List (List ℕ)) (holds : W → Option (List ℕ)) (tells : E → Option (List ℕ))
     (output mid after : Output W) (errors silent told_errors : Output E) (status told : ℕ) → silent ≡ errors → (written : Result T F) (wanted : ℕ) (old now : Tally) → old.selected ≡ 0 → now.selected ≡ told
-    → FiltersNames filter counts bytes_of names (stand (holds (writer_of output)) (waits_in output) old) (stand (holds (writer_of mid)) (waits_in mid) now)
+    → FiltersNames filter counts known names (stand (holds (writer_of output)) (waits_in output) old) (stand (holds (writer_of mid)) (waits_in mid) now)
     → OnOk written (Appends (holds (writer_of mid)) (holds (writer_of after)) (waits_in mid ++ total_text counts told))
     → OnErr written (AppendsBeginning (holds (writer_of mid)) (holds (writer_of after)) (waits_in mid ++ total_text counts told))
     → output_failed after ≡ (output_failed mid || is_err written) → wanted ≡ (if nat_lt 0 told then 0 else 1) → status ≡ status_of written wanted
     → Tells tells silent told_errors (end_text written)
-    → FiltersAll filter counts bytes_of names (record { holds = holds; output = output; output_after = after; tells = tells; errors = errors; errors_after = told_errors; status = status })
-all_by {W} {E} filter counts bytes_of names holds tells output mid after errors silent told_errors status told same written wanted old now none is f ok err failed st two text =
-    all_ended filter counts bytes_of names (record { holds = holds; output = output; output_after = after; tells = tells; errors = errors; errors_after = told_errors; status = status }) mid told
+    → FiltersAll filter counts known names (record { holds = holds; output = output; output_after = after; tells = tells; errors = errors; errors_after = told_errors; status = status })
+all_by {W} {E} filter counts known names holds tells output mid after errors silent told_errors status told same written wanted old now none is f ok err failed st two text =
+    all_ended filter counts known names (record { holds = holds; output = output; output_after = after; tells = tells; errors = errors; errors_after = told_errors; status = status }) mid told
     written wanted old now none is f ok err failed st two (subst (λ (o : Output E). Tells tells o told_errors (end_text written)) same text)

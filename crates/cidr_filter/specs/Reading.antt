@@ -1,32 +1,31 @@
 -- What is read of lists.
-use Rattle.std.specs.Prelude.{◌≡◌, ℕ, ◌+◌, ◌-◌, Bool, true, false, List, [], ◌∷◌, length, Option, None, Some, String}
+use Rattle.std.specs.Prelude.{◌≡◌, ℕ, ◌+◌, ◌-◌, Bool, true, false, List, [], ◌∷◌, length, None, Some, String}
 use Rattle.std.specs.Str.Lines.{lines}
 use Rattle.ipnetwork_blocks.specs.Aggregate.{IsAggregate}
 use Rattle.address_lists.specs.Lists.{ReadLists, nothing_read, at_list, TakesLines}
-use Rattle.address_lists.specs.Refusals.{no_refusals}
+use Rattle.address_lists.specs.Refusals.{Refused, no_refusals}
+use Rattle.program_io.specs.Lists.{KnownLists}
+use Rattle.program_io.specs.Reading.{ReadsList, StopsAt, StopsAtText}
+use Rattle.program_io.specs.Told.{name_at}
+use Rattle.program_io.specs.declared.reading.ReadFault.{ReadFault}
 use Rattle.cidr_filter.specs.CommandLines.{Begin}
 use Rattle.cidr_filter.specs.Listed.{HasBlocksOf}
 use Rattle.cidr_filter.specs.Options.{option_of, behind_option}
-use Rattle.cidr_filter.specs.Told.{name_at}
 use Rattle.cidr_filter.specs.declared.listed.Listed.{Listed}
 use Rattle.cidr_filter.specs.declared.listed.Listed.TheVariants.{Addresses, Blocks}
 use Rattle.cidr_filter.specs.declared.options.Choice.{Choice}
 use Rattle.cidr_filter.specs.declared.options.Choice.TheVariants as choices
 
--- the lines of the list of this name are taken, if it is known what the list has. Refused lines name it by the number
-abbrev pub ReadsList : (List ℕ → Option (List ℕ)) → ℕ → List ℕ → ReadLists → ReadLists → Type 0
-ReadsList bytes_of number name before after = (input : List ℕ) → bytes_of name ≡ Some input → TakesLines (at_list before number) (lines input) after
-
 -- what an option of this value reads: `-f` the list of that name, `-e` the value itself, and the others nothing
-abbrev pub ReadsOption : (List ℕ → Option (List ℕ)) → ℕ → Choice → List ℕ → ReadLists → ReadLists → Type 0
-ReadsOption bytes_of number choices.File value before after = ReadsList bytes_of number value before after
-ReadsOption bytes_of number choices.Input value before after = ReadsList bytes_of number value before after
-ReadsOption bytes_of number choices.Text value before after = TakesLines (at_list before number) (lines value) after
-ReadsOption bytes_of number (choices.Letters inverts counts) value before after = after ≡ before
-ReadsOption bytes_of number (choices.Field field) value before after = after ≡ before
-ReadsOption bytes_of number (choices.Separator byte) value before after = after ≡ before
-ReadsOption bytes_of number (choices.Bad bad) value before after = after ≡ before
-ReadsOption bytes_of number choices.Longest value before after = after ≡ before
+abbrev pub ReadsOption : KnownLists → ℕ → Choice → List ℕ → ReadLists → ReadLists → Type 0
+ReadsOption known number choices.File value before after = ReadsList known number value before after
+ReadsOption known number choices.Input value before after = ReadsList known number value before after
+ReadsOption known number choices.Text value before after = TakesLines (at_list before number) (lines value) after
+ReadsOption known number (choices.Letters inverts counts) value before after = after ≡ before
+ReadsOption known number (choices.Field field) value before after = after ≡ before
+ReadsOption known number (choices.Separator byte) value before after = after ≡ before
+ReadsOption known number (choices.Bad bad) value before after = after ≡ before
+ReadsOption known number choices.Longest value before after = after ≡ before
 
 -- the place among all words of the word behind the first of the last ones
 abbrev pub next_place : {Z : Type 0} → List (String Z) → List (String Z) → ℕ
@@ -34,23 +33,46 @@ next_place all words = length all - length words + 1
 
 -- these options, with which the last words begin, are read in turn. The number of a list is the place of its value
 -- among all words
-abbrev pub ReadsOptions : {Z : Type 0} → (List ℕ → Option (List ℕ)) → List (String Z) → List (String Z) → List Choice → ReadLists → ReadLists → Type 0
-ReadsOptions bytes_of all words [] before after = after ≡ before
-ReadsOptions bytes_of all words (choice ∷ choices) before after = (between : ReadLists)
-    × ReadsOption bytes_of (next_place all words) choice (name_at words 1) before between
-    × ReadsOptions bytes_of all (behind_option words) choices between after
+abbrev pub ReadsOptions : {Z : Type 0} → KnownLists → List (String Z) → List (String Z) → List Choice → ReadLists → ReadLists → Type 0
+ReadsOptions known all words [] before after = after ≡ before
+ReadsOptions known all words (choice ∷ choices) before after = (between : ReadLists)
+    × ReadsOption known (next_place all words) choice (name_at words 1) before between
+    × ReadsOptions known all (behind_option words) choices between after
 
 -- the lists of all options are read, in their order
-pub record ReadsLists {Z : Type 0} (bytes_of : List ℕ → Option (List ℕ)) (words : List (String Z)) (before after : ReadLists) : Type 0 where
+pub record ReadsLists {Z : Type 0} (known : KnownLists) (words : List (String Z)) (before after : ReadLists) : Type 0 where
   pub options : List Choice
   pub rest : List (String Z)
   pub begin : Begin words options rest
   pub no_more : option_of rest ≡ None
-  pub in_turn : ReadsOptions bytes_of words words options before after
+  pub in_turn : ReadsOptions known words words options before after
+
+-- the reading stops at what an option of this value reads, and these are the refused lines then
+abbrev pub StopsAtOption : KnownLists → ℕ → Choice → List ℕ → ReadLists → ReadFault → Refused → Type 0
+StopsAtOption known number choices.File value before fault refused = StopsAt known number value before fault refused
+StopsAtOption known number choices.Input value before fault refused = StopsAt known number value before fault refused
+StopsAtOption known number choices.Text value before fault refused = StopsAtText number value before fault refused
+StopsAtOption known number (choices.Letters inverts counts) value before fault refused = ⊥
+StopsAtOption known number (choices.Field field) value before fault refused = ⊥
+StopsAtOption known number (choices.Separator byte) value before fault refused = ⊥
+StopsAtOption known number (choices.Bad bad) value before fault refused = ⊥
+StopsAtOption known number choices.Longest value before fault refused = ⊥
+
+-- of the options with which the words begin those before one are read in turn, and the reading stops at that one
+pub record Stops {Z : Type 0} (known : KnownLists) (words : List (String Z)) (before : ReadLists) (fault : ReadFault) (refused : Refused) : Type 0 where
+  pub options : List Choice
+  pub choice : Choice
+  pub rest : List (String Z)
+  pub between : ReadLists
+  pub begin : Begin words options rest
+  pub next : option_of rest ≡ Some choice
+  pub in_turn : ReadsOptions known words words options before between
+  pub memory : between.is_out_of_memory ≡ false
+  pub stops : StopsAtOption known (next_place words rest) choice (name_at rest 1) between fault refused
 
 -- this was read of the lists of a command line, and there was memory for all that they name
-pub record IsReadOf {Z : Type 0} (bytes_of : List ℕ → Option (List ℕ)) (words : List (String Z)) (read : ReadLists) : Type 0 where
-  pub lists : ReadsLists bytes_of words (nothing_read no_refusals) read
+pub record IsReadOf {Z : Type 0} (known : KnownLists) (words : List (String Z)) (read : ReadLists) : Type 0 where
+  pub lists : ReadsLists known words (nothing_read no_refusals) read
   pub memory : read.is_out_of_memory ≡ false
 
 -- these are the addresses of the networks that were read, or, if blocks are told, their blocks

@@ -1,17 +1,19 @@
 -- How a run ends: its exit status, what was written, and what was told.
-use Rattle.std.specs.Prelude.{◌≡◌, ℕ, ◌+◌, ◌-◌, ◌^◌, ◌<◌, min, List, [], ◌∷◌, ◌++◌, Bool, true, false, not, ◌==◌, ◌⊎◌, if◌then◌else◌, length, nat_lt, drop, codes, decimal, Option, Some, String}
-use Rattle.std.specs.Io.KnownBytes.{Appends}
-use Rattle.address_lists.specs.Lists.{ReadLists}
-use Rattle.address_lists.specs.Refusals.{Refused}
+use Rattle.std.specs.Prelude.{◌≡◌, ℕ, ◌-◌, ◌^◌, min, List, [], ◌∷◌, ◌++◌, Bool, true, false, ◌⊎◌, if◌then◌else◌, length, nat_lt, drop, codes, decimal, String}
+use Rattle.address_lists.specs.Lists.{ReadLists, nothing_read}
+use Rattle.address_lists.specs.Refusals.{Refused, no_refusals}
 use Rattle.line_engine.specs.declared.output.Output.{Output}
 use Rattle.line_engine.specs.Outputs.{writer_of, waits_in, output_failed, AppendsBeginning}
-use Rattle.program_io.specs.Endings.{failure_text}
+use Rattle.program_io.specs.Endings.{Ending, IsSilent, HasTold, HasWritten, EndsPrinting}
 use Rattle.program_io.specs.Messages.{Tells}
+use Rattle.program_io.specs.Told.{was_refused, fault_text}
+use Rattle.program_io.specs.declared.reading.ReadFault.{ReadFault}
+use Rattle.program_io.specs.Lists.{KnownLists}
 use Rattle.cidr_filter.specs.Filters.{Filters}
 use Rattle.cidr_filter.specs.Logs.{logs_of, FiltersLogs, HaltsBy}
-use Rattle.cidr_filter.specs.Reading.{IsReadOf, HoldsRead}
+use Rattle.cidr_filter.specs.Reading.{IsReadOf, Stops, HoldsRead}
 use Rattle.cidr_filter.specs.Lines.{LogLine}
-use Rattle.cidr_filter.specs.Told.{refusals_text, fault_text, log_fault_text}
+use Rattle.cidr_filter.specs.Told.{refusals_text, log_fault_text}
 use Rattle.cidr_filter.specs.declared.command_line.Command.{Command}
 use Rattle.cidr_filter.specs.declared.command_line.Command.TheVariants as commands
 use Rattle.cidr_filter.specs.declared.command_line.Request.{Request}
@@ -19,33 +21,6 @@ use Rattle.cidr_filter.specs.declared.filter.Filter.{Filter}
 use Rattle.cidr_filter.specs.declared.listed.Listed.{Listed}
 use Rattle.cidr_filter.specs.declared.log.LogFault.{LogFault}
 use Rattle.cidr_filter.specs.declared.log.LogFault.TheVariants as faults
-use Rattle.cidr_filter.specs.declared.reading.ReadFault.{ReadFault}
-
--- whether a line was refused
-abbrev pub was_refused : Refused → Bool
-was_refused refused = not (length refused.kept == 0)
-
--- the writer and the error writer of a run, before it and after it, what each says that it holds, and the exit status
-pub record Ending (W E : Type 0) : Type 0 where
-  pub holds : W → Option (List ℕ)
-  pub output : Output W
-  pub output_after : Output W
-  pub tells : E → Option (List ℕ)
-  pub errors : Output E
-  pub errors_after : Output E
-  pub status : ℕ
-
--- nothing was written, and the status is 2
-abbrev pub IsSilent : {W E : Type 0} → Ending W E → Type 0
-IsSilent end = (end.output_after ≡ end.output) × (end.status ≡ 2)
-
--- the text was told
-abbrev pub HasTold : {W E : Type 0} → Ending W E → List ℕ → Type 0
-HasTold end text = Tells end.tells end.errors end.errors_after text
-
--- the text was written after what waited
-abbrev pub HasWritten : {W E : Type 0} → Ending W E → List ℕ → Type 0
-HasWritten end text = Appends (end.holds (writer_of end.output)) (end.holds (writer_of end.output_after)) (waits_in end.output ++ text)
 
 -- the writer failed, and took a beginning of what waited and the text
 abbrev pub FailsWriting : {W E : Type 0} → Ending W E → List ℕ → Type 0
@@ -63,7 +38,7 @@ Wrote faults.Endless end text = HasWritten end text
 
 -- a log was not filtered to its end, and ended the run: those before it were filtered, and its first lines; their
 -- outputs were written, the cause was told, and the status is 2
-pub record StopsAtLog {W E : Type 0} (filter : Filter) (counts : Bool) (bytes_of : List ℕ → Option (List ℕ)) (names : List (List ℕ)) (end : Ending W E) : Type 0 where
+pub record StopsAtLog {W E : Type 0} (filter : Filter) (counts : Bool) (known : KnownLists) (names : List (List ℕ)) (end : Ending W E) : Type 0 where
   pub before : List (List ℕ)
   pub name : List ℕ
   pub behind : List (List ℕ)
@@ -74,9 +49,9 @@ pub record StopsAtLog {W E : Type 0} (filter : Filter) (counts : Bool) (bytes_of
   pub more : ℕ
   pub fault : LogFault
   pub logs : names ≡ before ++ name ∷ behind
-  pub filters : FiltersLogs filter counts bytes_of before output selected
+  pub filters : FiltersLogs filter counts known before output selected
   pub first : Filters filter counts lines added more
-  pub halts : HaltsBy filter bytes_of name lines fault
+  pub halts : HaltsBy filter known name lines fault
   pub wrote : Wrote fault end (output ++ added)
   pub told : HasTold end (log_fault_text name (length lines) fault)
   pub status : end.status ≡ 2
@@ -86,18 +61,18 @@ abbrev pub total_text : Bool → ℕ → List ℕ
 total_text counts selected = if counts then decimal (min selected (2 ^ 64 - 1)) ++ codes "\n" else []
 
 -- all logs were filtered to their ends
-pub record FiltersAll {W E : Type 0} (filter : Filter) (counts : Bool) (bytes_of : List ℕ → Option (List ℕ)) (names : List (List ℕ)) (end : Ending W E) : Type 0 where
+pub record FiltersAll {W E : Type 0} (filter : Filter) (counts : Bool) (known : KnownLists) (names : List (List ℕ)) (end : Ending W E) : Type 0 where
   pub output : List ℕ
   pub selected : ℕ
-  pub filters : FiltersLogs filter counts bytes_of names output selected
+  pub filters : FiltersLogs filter counts known names output selected
   -- their output was written and nothing told, and the status is 0 if a line was selected and else 1; or the writer
   -- failed, and that was told
   pub ends : (HasWritten end (output ++ total_text counts selected) × HasTold end [] × (end.status ≡ (if nat_lt 0 selected then 0 else 1)))
       ⊎ (FailsWriting end (output ++ total_text counts selected) × HasTold end (codes "write error\n") × (end.status ≡ 2))
 
 -- the logs were filtered, in turn
-abbrev pub EndsLogs : {W E : Type 0} → Filter → Bool → (List ℕ → Option (List ℕ)) → List (List ℕ) → Ending W E → Type 0
-EndsLogs filter counts bytes_of names end = FiltersAll filter counts bytes_of names end ⊎ StopsAtLog filter counts bytes_of names end
+abbrev pub EndsLogs : {W E : Type 0} → Filter → Bool → KnownLists → List (List ℕ) → Ending W E → Type 0
+EndsLogs filter counts known names end = FiltersAll filter counts known names end ⊎ StopsAtLog filter counts known names end
 
 -- the filter of a request
 abbrev pub filter_of : Request → Listed → Filter
@@ -109,32 +84,27 @@ Refuses text end = IsSilent end × HasTold end text
 
 -- this was read of the lists: if a line of them was refused, or there is no memory, nothing is written. Else the logs are
 -- filtered by it
-abbrev pub EndsFiltering : {Z W E : Type 0} → (List ℕ → Option (List ℕ)) → List (String Z) → Request → ReadLists → Ending W E → Type 0
-EndsFiltering bytes_of words request read end =
+abbrev pub EndsFiltering : {Z W E : Type 0} → KnownLists → List (String Z) → Request → ReadLists → Ending W E → Type 0
+EndsFiltering known words request read end =
     ((was_refused read.refused ≡ true) × Refuses [] end)
     ⊎ ((was_refused read.refused ≡ false) × (Refuses (codes "out of memory\n") end
     ⊎ ((listed : Listed) × HoldsRead request.longest read listed
-    × EndsLogs (filter_of request listed) request.counts bytes_of (logs_of (drop request.files words)) end)))
+    × EndsLogs (filter_of request listed) request.counts known (logs_of (drop request.files words)) end)))
 
--- the lists were not read to their ends: nothing was written, and it was told why
-abbrev pub StopsReading : {Z W E : Type 0} → List (String Z) → Ending W E → Type 0
-StopsReading words end = (fault : ReadFault) × Refuses (fault_text words fault) end
+-- the lists were not read to their ends, and these lines were refused before: nothing was written, and it was told why
+abbrev pub StopsReading : {Z W E : Type 0} → KnownLists → List (String Z) → Refused → Ending W E → Type 0
+StopsReading known words refused end = (fault : ReadFault) × Stops known words (nothing_read no_refusals) fault refused × Refuses (fault_text words fault) end
 
 -- the refused lines of the lists were told, and then either why the reading stopped, or the logs were filtered
-abbrev pub EndsRequest : {Z W E : Type 0} → (List ℕ → Option (List ℕ)) → List (String Z) → Request → Ending W E → Type 0
-EndsRequest {Z} {W} {E} bytes_of words request end = (refused : Refused) × (told : Output E) × Tells end.tells end.errors told (refusals_text words refused)
-    × (StopsReading words (record end { errors = told })
-    ⊎ ((read : ReadLists) × IsReadOf bytes_of words read × (read.refused ≡ refused) × EndsFiltering bytes_of words request read (record end { errors = told })))
-
--- the text was written and nothing told, or the writer failed, and that was told
-abbrev pub EndsPrinting : {W E : Type 0} → List ℕ → Ending W E → Type 0
-EndsPrinting text end = (end.status ≡ (if output_failed end.output_after then 2 else 0)) × (end.status ≡ 0 → HasWritten end text)
-    × HasTold end (failure_text (output_failed end.output_after))
+abbrev pub EndsRequest : {Z W E : Type 0} → KnownLists → List (String Z) → Request → Ending W E → Type 0
+EndsRequest {Z} {W} {E} known words request end = (refused : Refused) × (told : Output E) × Tells end.tells end.errors told (refusals_text words refused)
+    × (StopsReading known words refused (record end { errors = told })
+    ⊎ ((read : ReadLists) × IsReadOf known words read × (read.refused ≡ refused) × EndsFiltering known words request read (record end { errors = told })))
 
 -- how a run ends if the words ask for this. The three texts are those of `--help`, of `--version`, and of what is told of
 -- words that are no command
-abbrev pub EndsAs : {Z W E : Type 0} → List ℕ → List ℕ → List ℕ → (List ℕ → Option (List ℕ)) → List (String Z) → Command → Ending W E → Type 0
-EndsAs help version usage bytes_of words commands.Help end = EndsPrinting help end
-EndsAs help version usage bytes_of words commands.Version end = EndsPrinting version end
-EndsAs help version usage bytes_of words (commands.Filter request) end = EndsRequest bytes_of words request end
-EndsAs help version usage bytes_of words commands.Usage end = Refuses usage end
+abbrev pub EndsAs : {Z W E : Type 0} → List ℕ → List ℕ → List ℕ → KnownLists → List (String Z) → Command → Ending W E → Type 0
+EndsAs help version usage known words commands.Help end = EndsPrinting help end
+EndsAs help version usage known words commands.Version end = EndsPrinting version end
+EndsAs help version usage known words (commands.Filter request) end = EndsRequest known words request end
+EndsAs help version usage known words commands.Usage end = Refuses usage end

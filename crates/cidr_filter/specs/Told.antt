@@ -1,22 +1,14 @@
 -- What is told on standard error.
-use Rattle.std.specs.Prelude.{ℕ, zero, suc, ◌+◌, ◌-◌, ◌^◌, min, ◌&&◌, Bool, List, [], ◌∷◌, ◌++◌, nat_lt, if◌then◌else◌, codes, bytes_eq, decimal, take, String}
+use Rattle.std.specs.Prelude.{ℕ, ◌+◌, ◌-◌, ◌^◌, min, ◌&&◌, Bool, List, [], ◌∷◌, ◌++◌, nat_lt, if◌then◌else◌, codes, bytes_eq, decimal, take, String}
 use Rattle.std.specs.List.{flat_map}
-use Rattle.std.specs.String.{string_bytes}
 use Rattle.address_lists.specs.Faults.{line_fault_text}
 use Rattle.address_lists.specs.Refusals.{Refused}
 use Rattle.address_lists.specs.declared.refusals.Refusal.{Refusal}
+use Rattle.program_io.specs.Told.{name_at, more_text}
 use Rattle.cidr_filter.specs.Filters.{one_if}
 use Rattle.cidr_filter.specs.Options.{is, takes_next}
 use Rattle.cidr_filter.specs.declared.log.LogFault.{LogFault}
 use Rattle.cidr_filter.specs.declared.log.LogFault.TheVariants as faults
-use Rattle.cidr_filter.specs.declared.reading.ReadFault.{ReadFault}
-use Rattle.cidr_filter.specs.declared.reading.ReadFault.TheVariants.{Open, Read, OutOfMemory}
-
--- the word at a place; past them none
-abbrev pub name_at : {Z : Type 0} → List (String Z) → ℕ → List ℕ
-name_at [] place = []
-name_at (word ∷ words) zero = string_bytes word
-name_at (word ∷ words) (suc place) = name_at words place
 
 -- whether the word before a place is `-e`
 abbrev pub is_text : {Z : Type 0} → List (String Z) → ℕ → Bool
@@ -38,19 +30,9 @@ refusal_place words refusal =
 abbrev pub refusal_line : {Z : Type 0} → List (String Z) → Refusal → List ℕ
 refusal_line words refusal = refusal_place words refusal ++ codes ": refused " ++ line_fault_text refusal.fault ++ codes "\n"
 
--- what is told of those that are not kept: how many there are
-abbrev pub more_text : ℕ → List ℕ
-more_text more = if nat_lt 0 more then decimal more ++ codes " more refused lines\n" else []
-
 -- what is told of refused lines
 abbrev pub refusals_text : {Z : Type 0} → List (String Z) → Refused → List ℕ
 refusals_text words refused = flat_map (refusal_line words) refused.kept ++ more_text refused.more
-
--- what is told where the lists were not read to the end
-abbrev pub fault_text : {Z : Type 0} → List (String Z) → ReadFault → List ℕ
-fault_text words (Open place) = name_at words place ++ codes ": cannot open\n"
-fault_text words (Read place) = name_at words place ++ codes ": cannot read\n"
-fault_text words OutOfMemory = codes "out of memory\n"
 
 -- what is told of a line of a log that ends the run: the log, the number of the line, which comes after so many, and why
 abbrev pub line_text : List ℕ → ℕ → List ℕ → List ℕ

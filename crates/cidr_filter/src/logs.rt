@@ -2,6 +2,7 @@
 ghost use Rattle.std.specs.Prelude.{◌≡◌, ◌<◌, ◌++◌, ◌||◌, ◌∷◌, [], true, false, decimal, length, nat_lt, if◌then◌else◌, is_err, OnOk, OnErr, IfErr};
 ghost use Rattle.std.specs.Io.KnownBytes.{Appends};
 ghost use Rattle.line_engine.specs.Outputs.{writer_of, waits_in, output_failed, Puts, AppendsBeginning};
+ghost use Rattle.program_io.specs.Lists.{known_of};
 ghost use Rattle.cidr_filter.specs.Logs.{logs_of};
 ghost use Rattle.cidr_filter.specs.Runs.{EndsLogs, StopsAtLog, total_text};
 ghost use Rattle.cidr_filter.specs.Stands.{stand};
@@ -35,7 +36,7 @@ pub(crate) fn filter_logs<L: OpenLists, W: Write, E: Write>(
     errors: &mut Output<'_, E>,
 ) -> u8
     requires { 1048578 < length buffer.old }
-    ensures { EndsLogs filter.now counts (L.bytes_of lists.now) (logs_of files.now)
+    ensures { EndsLogs filter.now counts (known_of L.bytes_of L.may_open L.may_fail lists.now) (logs_of files.now)
         (record { holds = W.contents; output = output.old; output_after = output.new; tells = E.contents; errors = errors.old; errors_after = errors.new; status = result }) }
 {
     let mut tally = Tally {
@@ -63,10 +64,10 @@ fn filter_each<L: OpenLists, W: Write, E: Write>(
     errors: &mut Output<'_, E>,
 ) -> bool
     requires { 1048578 < length buffer.old }
-    ensures all { result ≡ true → (errors.new ≡ errors.old) × FiltersNames filter.now counts (L.bytes_of lists.now) (logs_of files.now)
+    ensures all { result ≡ true → (errors.new ≡ errors.old) × FiltersNames filter.now counts (known_of L.bytes_of L.may_open L.may_fail lists.now) (logs_of files.now)
         (stand (W.contents (writer_of output.old)) (waits_in output.old) tally.old)
         (stand (W.contents (writer_of output.new)) (waits_in output.new) tally.new) }
-    ensures stopped { result ≡ false → StopsAtLog filter.now counts (L.bytes_of lists.now) (logs_of files.now)
+    ensures stopped { result ≡ false → StopsAtLog filter.now counts (known_of L.bytes_of L.may_open L.may_fail lists.now) (logs_of files.now)
         (record { holds = W.contents; output = output.old; output_after = output.new; tells = E.contents; errors = errors.old; errors_after = errors.new; status = 2 }) }
 {
     if files.is_empty() {
@@ -94,10 +95,10 @@ fn filter_one<L: OpenLists, W: Write, E: Write>(
     errors: &mut Output<'_, E>,
 ) -> bool
     requires { 1048578 < length buffer.old }
-    ensures all { result ≡ true → (errors.new ≡ errors.old) × FiltersNames filter.now counts (L.bytes_of lists.now) (name.now ∷ [])
+    ensures all { result ≡ true → (errors.new ≡ errors.old) × FiltersNames filter.now counts (known_of L.bytes_of L.may_open L.may_fail lists.now) (name.now ∷ [])
         (stand (W.contents (writer_of output.old)) (waits_in output.old) tally.old)
         (stand (W.contents (writer_of output.new)) (waits_in output.new) tally.new) }
-    ensures stopped { result ≡ false → StopsAtLog filter.now counts (L.bytes_of lists.now) (name.now ∷ [])
+    ensures stopped { result ≡ false → StopsAtLog filter.now counts (known_of L.bytes_of L.may_open L.may_fail lists.now) (name.now ∷ [])
         (record { holds = W.contents; output = output.old; output_after = output.new; tells = E.contents; errors = errors.old; errors_after = errors.new; status = 2 }) }
 {
     match filter_named(filter, counts, name, lists, buffer, output, tally) {
@@ -120,10 +121,10 @@ fn filter_named<L: OpenLists, W: Write>(
     tally: &mut Tally,
 ) -> Result<(), LogFault>
     requires { 1048578 < length buffer.old }
-    ensures ok { OnOk result (FiltersName filter.now counts (L.bytes_of lists.now) name.now
+    ensures ok { OnOk result (FiltersName filter.now counts (known_of L.bytes_of L.may_open L.may_fail lists.now) name.now
         (stand (W.contents (writer_of output.old)) (waits_in output.old) tally.old)
         (stand (W.contents (writer_of output.new)) (waits_in output.new) tally.new)) }
-    ensures err { IfErr result (NameStops filter.now counts (L.bytes_of lists.now) name.now (output_failed output.new)
+    ensures err { IfErr result (NameStops filter.now counts (known_of L.bytes_of L.may_open L.may_fail lists.now) name.now (output_failed output.new)
         (stand (W.contents (writer_of output.old)) (waits_in output.old) tally.old)
         (stand (W.contents (writer_of output.new)) (waits_in output.new) tally.new)) }
 {
@@ -132,7 +133,9 @@ fn filter_named<L: OpenLists, W: Write>(
         return Err(LogFault::Open);
     };
     let mut log = Watched::new(log);
-    filter_log(filter, counts, buffer, &mut log, output, tally)
+    let end = filter_log(filter, counts, buffer, &mut log, output, tally);
+    lists.close(name, log);
+    end
 }
 
 // Writes what waits, and tells why a log was not filtered to its end, after so many of its lines: by a write, if one

@@ -1,32 +1,21 @@
 //! The lists of a run are read.
-ghost use Rattle.std.specs.Prelude.{◌≡◌, ◌+◌, ◌≤◌, false, true, drop, length, Some, OnOk, IfOk};
-ghost use Rattle.std.specs.String.{string_bytes};
-ghost use Rattle.std.specs.Str.Lines.{lines};
-ghost use Rattle.address_lists.specs.Lists.{at_list, TakesLines};
+ghost use Rattle.std.specs.Prelude.{◌≡◌, ◌+◌, ◌≤◌, false, true, drop, length, Some, OnOk, IfOk, IfErr};
+ghost use Rattle.address_lists.specs.Lists.{nothing_read};
+ghost use Rattle.address_lists.specs.Refusals.{no_refusals};
 ghost use Rattle.address_lists.specs.ReadBy.{read_by};
+ghost use Rattle.program_io.specs.Lists.{known_of};
+ghost use Rattle.program_io.specs.Told.{name_at};
 ghost use Rattle.cidr_filter.specs.Options.{option_of};
-ghost use Rattle.cidr_filter.specs.Reading.{ReadsList, ReadsOption, ReadsLists, HoldsRead};
-ghost use Rattle.cidr_filter.specs.Told.{name_at};
+ghost use Rattle.cidr_filter.specs.Reading.{ReadsOption, ReadsLists, StopsAtOption, Stops, HoldsRead};
 ghost use Rattle.cidr_filter.specs.Private.Reading.{ReadsAll, HasBlocks};
 
 use crate::listed::{Listed, Sets, Tables};
 use crate::options::{Choice, behind, choice_at, is_list};
-use address_lists::{ListReader, Refusals, read_list};
+use address_lists::{ListReader, Refusals};
 use ipnetwork::{Ipv4Network, Ipv6Network};
-use line_engine::watched::Watched;
 use program_io::lists::OpenLists;
+use program_io::reading::{ReadFault, read_named, read_text};
 use std::alloc::{AllocError, Global};
-
-/// Why the lists were not read to the end.
-#[derive(Clone, Copy, Debug, PartialEq, Eq)]
-pub(crate) enum ReadFault {
-    /// The list that the word at this place names cannot be opened.
-    Open(usize),
-    /// The list that the word at this place names cannot be read.
-    Read(usize),
-    /// There is no memory for what the lists name.
-    OutOfMemory,
-}
 
 /// Reads the lists that the options name, in their order. Returns the networks, of which the blocks are told if
 /// `longest`, the refused lines, and whether all lists were read to their ends.
@@ -36,7 +25,8 @@ pub(crate) fn read_listed<L: OpenLists>(
     words: &[String],
     longest: bool,
 ) -> (Result<Listed, AllocError>, Refusals, Result<(), ReadFault>)
-    ensures { OnOk result.2 (ReadsAll (L.bytes_of lists.now) words.now longest result.0 result.1) }
+    ensures read { OnOk result.2 (ReadsAll (known_of L.bytes_of L.may_open L.may_fail lists.now) words.now longest result.0 result.1) }
+    ensures stopped { IfErr result.2 (λ fault. Stops (known_of L.bytes_of L.may_open L.may_fail lists.now) words.now (nothing_read no_refusals) fault result.1) }
 {
     let mut reader = ListReader::new(alloc, Refusals::new());
     let end = read_lists(lists, words, &mut reader);
@@ -69,8 +59,9 @@ fn read_lists<L: OpenLists>(
     reader: &mut ListReader,
 ) -> Result<(), ReadFault>
     requires memory { (read_by reader.old).is_out_of_memory ≡ false }
-    ensures read { OnOk result (ReadsLists (L.bytes_of lists.now) words.now (read_by reader.old) (read_by reader.new)) }
+    ensures read { OnOk result (ReadsLists (known_of L.bytes_of L.may_open L.may_fail lists.now) words.now (read_by reader.old) (read_by reader.new)) }
     ensures memory { OnOk result ((read_by reader.new).is_out_of_memory ≡ false) }
+    ensures stopped { IfErr result (λ fault. Stops (known_of L.bytes_of L.may_open L.may_fail lists.now) words.now (read_by reader.old) fault (read_by reader.new).refused) }
 {
     let mut at = 0;
     'options: while let Some(choice) = choice_at(words, at) {
@@ -91,56 +82,17 @@ fn read_option<L: OpenLists>(
     requires within { at ≤ length words.now }
     requires option { option_of (drop at words.now) ≡ Some choice }
     requires memory { (read_by reader.old).is_out_of_memory ≡ false }
-    ensures read { OnOk result (ReadsOption (L.bytes_of lists.now) (at + 1) choice (name_at (drop at words.now) 1) (read_by reader.old) (read_by reader.new)) }
+    ensures read { OnOk result (ReadsOption (known_of L.bytes_of L.may_open L.may_fail lists.now) (at + 1) choice (name_at (drop at words.now) 1) (read_by reader.old) (read_by reader.new)) }
     ensures memory { OnOk result ((read_by reader.new).is_out_of_memory ≡ false) }
+    ensures stopped { IfErr result (λ fault. StopsAtOption (known_of L.bytes_of L.may_open L.may_fail lists.now) (at + 1) choice (name_at (drop at words.now) 1) (read_by reader.old) fault (read_by reader.new).refused) }
 {
     if !is_list(choice) {
         return Ok(());
     }
     let value = &words[at + 1];
     match choice {
-        Choice::Text => read_text(value, at + 1, reader),
-        _ => read_file(lists, value, at + 1, reader),
-    }
-}
-
-// Reads the list of this name.
-fn read_file<L: OpenLists>(
-    lists: &L,
-    name: &String,
-    place: usize,
-    reader: &mut ListReader,
-) -> Result<(), ReadFault>
-    ensures read { OnOk result (ReadsList (L.bytes_of lists.now) place (string_bytes name.now) (read_by reader.old) (read_by reader.new)) }
-    ensures memory { OnOk result ((read_by reader.new).is_out_of_memory ≡ false) }
-{
-    let Ok(list) = lists.open(name.as_str()) else {
-        return Err(ReadFault::Open(place));
-    };
-    let mut list = Watched::new(list);
-    let end = read_list(reader, place, &mut list);
-    if reader.is_out_of_memory() {
-        return Err(ReadFault::OutOfMemory);
-    }
-    match end {
-        Ok(()) => Ok(()),
-        Err(_) => Err(ReadFault::Read(place)),
-    }
-}
-
-// Reads the value of an `-e`.
-fn read_text(text: &String, place: usize, reader: &mut ListReader) -> Result<(), ReadFault>
-    ensures read { OnOk result (TakesLines (at_list (read_by reader.old) place) (lines (string_bytes text.now)) (read_by reader.new)) }
-    ensures memory { OnOk result ((read_by reader.new).is_out_of_memory ≡ false) }
-{
-    let mut list = Watched::new(text.as_bytes());
-    let end = read_list(reader, place, &mut list);
-    if reader.is_out_of_memory() {
-        return Err(ReadFault::OutOfMemory);
-    }
-    match end {
-        Ok(()) => Ok(()),
-        Err(_) => Err(ReadFault::Read(place)),
+        Choice::Text => read_text(value.as_str(), at + 1, reader),
+        _ => read_named(lists, value.as_str(), at + 1, reader),
     }
 }
 

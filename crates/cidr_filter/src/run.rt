@@ -1,6 +1,7 @@
 //! The run that the program makes.
 ghost use Rattle.std.specs.Prelude.{◌≡◌, ◌≤◌, length, codes};
 ghost use Rattle.program_io.specs.Messages.{Tells};
+ghost use Rattle.program_io.specs.Lists.{known_of};
 ghost use Rattle.cidr_filter.specs.CommandLines.{Asks};
 ghost use Rattle.cidr_filter.specs.Logs.{logs_of};
 ghost use Rattle.cidr_filter.specs.Runs.{EndsRequest, EndsAs};
@@ -12,11 +13,12 @@ use crate::help::{HELP, USAGE, VERSION};
 use crate::listed::Listed;
 use crate::logs::filter_logs;
 use crate::reading::read_listed;
-use crate::telling::{tell_fault, tell_refusals};
+use crate::telling::tell_refusals;
 use line_engine::output::Output;
 use program_io::ending::{FAILED, print_text, refuse_usage};
 use program_io::lists::OpenLists;
 use program_io::messages::tell;
+use program_io::telling::tell_fault;
 use std::alloc::{AllocError, Global};
 use std::io::Write;
 
@@ -31,7 +33,7 @@ pub(crate) fn run<L: OpenLists, W: Write, E: Write>(
     output: &mut Output<'_, W>,
     errors: &mut Output<'_, E>,
 ) -> u8
-    ensures { (command : Command) × Asks words.now command × EndsAs HELP.now VERSION.now USAGE.now (L.bytes_of lists.now) words.now command
+    ensures { (command : Command) × Asks words.now command × EndsAs HELP.now VERSION.now USAGE.now (known_of L.bytes_of L.may_open L.may_fail lists.now) words.now command
         (record { holds = W.contents; output = output.old; output_after = output.new; tells = E.contents; errors = errors.old; errors_after = errors.new; status = result }) }
 {
     match command_of(words) {
@@ -52,7 +54,7 @@ fn filter<L: OpenLists, W: Write, E: Write>(
     errors: &mut Output<'_, E>,
 ) -> u8
     requires { request.files ≤ length words.now }
-    ensures { EndsRequest (L.bytes_of lists.now) words.now request
+    ensures { EndsRequest (known_of L.bytes_of L.may_open L.may_fail lists.now) words.now request
         (record { holds = W.contents; output = output.old; output_after = output.new; tells = E.contents; errors = errors.old; errors_after = errors.new; status = result }) }
 {
     let (listed, refusals, read) = read_listed(alloc, lists, words, request.longest);
@@ -82,7 +84,7 @@ fn filter_by<L: OpenLists, W: Write, E: Write>(
     output: &mut Output<'_, W>,
     errors: &mut Output<'_, E>,
 ) -> u8
-    ensures { EndsBy (L.bytes_of lists.now) request listed (logs_of files.now)
+    ensures { EndsBy (known_of L.bytes_of L.may_open L.may_fail lists.now) request listed (logs_of files.now)
         (record { holds = W.contents; output = output.old; output_after = output.new; tells = E.contents; errors = errors.old; errors_after = errors.new; status = result }) }
 {
     match listed {
@@ -101,7 +103,7 @@ fn filter_listed<L: OpenLists, W: Write, E: Write>(
     output: &mut Output<'_, W>,
     errors: &mut Output<'_, E>,
 ) -> u8
-    ensures { EndsListed (L.bytes_of lists.now) request listed (logs_of files.now)
+    ensures { EndsListed (known_of L.bytes_of L.may_open L.may_fail lists.now) request listed (logs_of files.now)
         (record { holds = W.contents; output = output.old; output_after = output.new; tells = E.contents; errors = errors.old; errors_after = errors.new; status = result }) }
 {
     let Ok(mut buffer) = vec![in alloc; 0u8; BUFFER_LEN] else {

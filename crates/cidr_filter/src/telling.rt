@@ -3,14 +3,14 @@ ghost use Rattle.std.specs.Prelude.{◌≡◌, ◌++◌, codes, take};
 ghost use Rattle.program_io.specs.Messages.{Tells};
 ghost use Rattle.cidr_filter.specs.Filters.{one_if};
 ghost use Rattle.cidr_filter.specs.Options.{is};
-ghost use Rattle.cidr_filter.specs.Told.{name_at, is_text, texts_in, refusal_place, refusal_line, more_text, refusals_text, fault_text, line_text, log_fault_text};
+ghost use Rattle.cidr_filter.specs.Told.{is_text, texts_in, refusal_place, refusal_line, refusals_text, line_text, log_fault_text};
 
 use crate::log::LogFault;
 use crate::options::{behind, is};
-use crate::reading::ReadFault;
 use address_lists::{Refusal, Refusals};
 use line_engine::output::Output;
 use program_io::messages::{tell, tell_number};
+use program_io::telling::{tell_more, tell_name};
 use std::io::Write;
 
 /// Tells the refused lines: the first hundred, and how many more there were.
@@ -91,42 +91,6 @@ fn text_in(word: &String) -> usize
     ensures { result ≡ one_if (is (codes "-e") word.now) }
 {
     if is(word, "-e") { 1 } else { 0 }
-}
-
-// Tells how many more lines were refused, if any were.
-fn tell_more<E: Write>(more: u64, errors: &mut Output<'_, E>)
-    ensures { Tells E.contents errors.old errors.new (more_text more) }
-{
-    if more > 0 {
-        tell_number(more, errors);
-        tell(" more refused lines\n", errors);
-    }
-}
-
-/// Tells why the lists were not read to the end.
-pub(crate) fn tell_fault<E: Write>(words: &[String], fault: ReadFault, errors: &mut Output<'_, E>)
-    ensures { Tells E.contents errors.old errors.new (fault_text words.now fault) }
-{
-    match fault {
-        ReadFault::Open(place) => {
-            tell_name(words, place, errors);
-            tell(": cannot open\n", errors);
-        }
-        ReadFault::Read(place) => {
-            tell_name(words, place, errors);
-            tell(": cannot read\n", errors);
-        }
-        ReadFault::OutOfMemory => tell("out of memory\n", errors),
-    }
-}
-
-// Tells the word at a place.
-fn tell_name<E: Write>(words: &[String], place: usize, errors: &mut Output<'_, E>)
-    ensures { Tells E.contents errors.old errors.new (name_at words.now place) }
-{
-    if let Some(name) = words.get(place) {
-        tell(name.as_str(), errors);
-    }
 }
 
 /// Tells why the log of this name was not filtered to its end, after so many of its lines.

@@ -30,3 +30,11 @@ StopsAt known number name before (Read place) refused = (place ≡ number) × Fa
     × (after : ReadLists) × ReadsFirst known number name before after × (after.is_out_of_memory ≡ false) × (refused ≡ after.refused)
 -- there is no memory for an entry of it
 StopsAt known number name before OutOfMemory refused = (after : ReadLists) × ReadsFirst known number name before after × (after.is_out_of_memory ≡ true) × (refused ≡ after.refused)
+
+-- of a text it is known what it has, and it is no list that is not opened
+abbrev pub text_known : List ℕ → KnownLists
+text_known text = record { bytes_of = λ _. Some text; may_open = λ _ opened. opened ≡ true; may_fail = λ _. Unit {0} }
+
+-- the reading of the text, to which refused lines are told by the number, stops as that of a list that has it
+abbrev pub StopsAtText : ℕ → List ℕ → ReadLists → ReadFault → Refused → Type 0
+StopsAtText number text before fault refused = StopsAt (text_known text) number text before fault refused

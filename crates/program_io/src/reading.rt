@@ -1,9 +1,11 @@
 //! A list is read by its name.
 ghost use Rattle.std.specs.Prelude.{◌≡◌, false, OnOk, IfErr};
+ghost use Rattle.std.specs.Str.Lines.{lines};
+ghost use Rattle.address_lists.specs.Lists.{at_list, TakesLines};
 ghost use Rattle.address_lists.specs.ReadBy.{read_by};
 ghost use Rattle.program_io.specs.Lists.{known_of};
 ghost use Rattle.program_io.specs.Private.Readings.{end_of};
-ghost use Rattle.program_io.specs.Reading.{ReadsList, StopsAt};
+ghost use Rattle.program_io.specs.Reading.{ReadsList, StopsAt, StopsAtText};
 
 use crate::lists::OpenLists;
 use address_lists::{ListReader, read_list};
@@ -54,6 +56,24 @@ pub fn read_named<L: OpenLists>(
     let read = read_list(reader, place, &mut list);
     lists.close(name, list);
     end_of(read, place, reader.is_out_of_memory())
+}
+
+/// Reads a text, which is the word at this place, as a list to its end.
+///
+/// ```
+/// let mut reader = address_lists::ListReader::new(rt.alloc(), address_lists::Refusals::new());
+/// assert_eq!(rt; program_io::reading::read_text("10.0.0.0/8", 1, &mut reader), Ok(()));
+/// let (v4, _, _) = reader.into_sets();
+/// assert_eq!(rt; v4.blocks().len(), 1);
+/// ```
+pub fn read_text(text: &str, place: usize, reader: &mut ListReader) -> Result<(), ReadFault>
+    ensures read { OnOk result (TakesLines (at_list (read_by reader.old) place) (lines text.now) (read_by reader.new)) }
+    ensures memory { OnOk result ((read_by reader.new).is_out_of_memory ≡ false) }
+    ensures stopped { IfErr result (λ fault. StopsAtText place text.now (read_by reader.old) fault (read_by reader.new).refused) }
+{
+    let mut list = Watched::new(text.as_bytes());
+    let end = read_list(reader, place, &mut list);
+    end_of(end, place, reader.is_out_of_memory())
 }
 
 // How the reading of the list at a place ends, by how its lines were taken, and whether there was no memory for one.

@@ -1,17 +1,18 @@
 -- What is read of lists, step by step.
-use Rattle.std.specs.Prelude.{◌≡◌, ℕ, Bool, List, Option, Result, IfOk, String}
+use Rattle.std.specs.Prelude.{◌≡◌, Bool, List, Result, IfOk, String}
 use Rattle.address_lists.specs.Lists.{ReadLists}
 use Rattle.address_lists.specs.Refusals.{Refused}
 use Rattle.ipnetwork_family.specs.Network.{Network}
+use Rattle.program_io.specs.Lists.{KnownLists}
 use Rattle.cidr_filter.specs.Listed.{HasBlocksOf}
 use Rattle.cidr_filter.specs.Reading.{IsReadOf, HoldsRead}
 use Rattle.cidr_filter.specs.declared.listed.Listed.{Listed}
 use Rattle.cidr_filter.specs.declared.listed.Listed.TheVariants.{Addresses, Blocks}
 
 -- the lists were read, and with memory for the blocks that are told these are their networks
-pub record ReadsAll {Z E : Type 0} (bytes_of : List ℕ → Option (List ℕ)) (words : List (String Z)) (longest : Bool) (listed : Result Listed E) (refused : Refused) : Type 0 where
+pub record ReadsAll {Z E : Type 0} (known : KnownLists) (words : List (String Z)) (longest : Bool) (listed : Result Listed E) (refused : Refused) : Type 0 where
   pub read : ReadLists
-  pub is_read : IsReadOf bytes_of words read
+  pub is_read : IsReadOf known words read
   pub holds : IfOk listed (HoldsRead longest read)
   pub refused_lines : read.refused ≡ refused
 

@@ -1,10 +1,12 @@
 -- How a run ends, step by step.
-use Rattle.std.specs.Prelude.{◌≡◌, ℕ, ◌-◌, ◌^◌, min, ◌⊎◌, Bool, IsTrue, List, [], ◌∷◌, ◌++◌, length, codes, Option, Result, Ok, Err}
-use Rattle.line_engine.specs.Outputs.{Puts, AppendsBeginning, output_failed}
+use Rattle.std.specs.Prelude.{◌≡◌, ℕ, ◌-◌, ◌^◌, min, ◌⊎◌, Bool, IsTrue, List, [], ◌++◌, length, codes, Result, Ok, Err}
+use Rattle.line_engine.specs.Outputs.{Puts, AppendsBeginning}
+use Rattle.program_io.specs.Lists.{KnownLists}
 use Rattle.cidr_filter.specs.Filters.{Filters}
 use Rattle.cidr_filter.specs.Lines.{LogLine, log_lines}
 use Rattle.cidr_filter.specs.Logs.{FiltersLogs, IsAllOf, HaltsBy}
-use Rattle.cidr_filter.specs.Runs.{Ending, HasTold, FailsWriting, HasWritten, EndsLogs, Refuses, filter_of}
+use Rattle.program_io.specs.Endings.{Ending, HasTold, HasWritten}
+use Rattle.cidr_filter.specs.Runs.{FailsWriting, EndsLogs, Refuses, filter_of}
 use Rattle.cidr_filter.specs.Stands.{Stand, Counts}
 use Rattle.cidr_filter.specs.Told.{log_fault_text}
 use Rattle.cidr_filter.specs.declared.command_line.Request.{Request}
@@ -14,20 +16,20 @@ use Rattle.cidr_filter.specs.declared.log.LogFault.{LogFault}
 use Rattle.cidr_filter.specs.declared.log.LogFault.TheVariants as faults
 
 -- the log of this name was filtered to its end
-pub record FiltersName (filter : Filter) (counts : Bool) (bytes_of : List ℕ → Option (List ℕ)) (name : List ℕ) (old new : Stand) : Type 0 where
+pub record FiltersName (filter : Filter) (counts : Bool) (known : KnownLists) (name : List ℕ) (old new : Stand) : Type 0 where
   pub read : List ℕ
   pub added : List ℕ
   pub count : ℕ
-  pub all : IsAllOf bytes_of name read
+  pub all : IsAllOf known name read
   pub filters : Filters filter counts (log_lines read) added count
   pub puts : Puts old.holds old.waits new.holds new.waits added
   pub counted : Counts old.selected new.selected count
 
 -- so were those of these names, in turn
-pub record FiltersNames (filter : Filter) (counts : Bool) (bytes_of : List ℕ → Option (List ℕ)) (names : List (List ℕ)) (old new : Stand) : Type 0 where
+pub record FiltersNames (filter : Filter) (counts : Bool) (known : KnownLists) (names : List (List ℕ)) (old new : Stand) : Type 0 where
   pub output : List ℕ
   pub count : ℕ
-  pub filters : FiltersLogs filter counts bytes_of names output count
+  pub filters : FiltersLogs filter counts known names output count
   pub puts : Puts old.holds old.waits new.holds new.waits output
   pub counted : Counts old.selected new.selected count
 
@@ -41,12 +43,12 @@ PutsBy faults.Length failed old new added lines = Puts old.holds old.waits new.h
 PutsBy faults.Endless failed old new added lines = Puts old.holds old.waits new.holds new.waits added × (new.lines ≡ min lines (2 ^ 64 - 1))
 
 -- the log of this name was not filtered to its end, by the fault
-pub record NameStops (filter : Filter) (counts : Bool) (bytes_of : List ℕ → Option (List ℕ)) (name : List ℕ) (failed : Bool) (old new : Stand) (fault : LogFault) : Type 0 where
+pub record NameStops (filter : Filter) (counts : Bool) (known : KnownLists) (name : List ℕ) (failed : Bool) (old new : Stand) (fault : LogFault) : Type 0 where
   pub lines : List LogLine
   pub added : List ℕ
   pub count : ℕ
   pub filters : Filters filter counts lines added count
-  pub halts : HaltsBy filter bytes_of name lines fault
+  pub halts : HaltsBy filter known name lines fault
   pub puts : PutsBy fault failed old new added (length lines)
 
 -- what waited was written, and the fault told; or the writer failed, and that was told
@@ -64,10 +66,10 @@ StopsBy name lines faults.Length end = HandsOn name lines faults.Length end
 StopsBy name lines faults.Endless end = HandsOn name lines faults.Endless end
 
 -- the logs of these names were filtered by these networks, or there was no memory
-abbrev pub EndsListed : {W E : Type 0} → (List ℕ → Option (List ℕ)) → Request → Listed → List (List ℕ) → Ending W E → Type 0
-EndsListed bytes_of request listed names end = Refuses (codes "out of memory\n") end ⊎ EndsLogs (filter_of request listed) request.counts bytes_of names end
+abbrev pub EndsListed : {W E : Type 0} → KnownLists → Request → Listed → List (List ℕ) → Ending W E → Type 0
+EndsListed known request listed names end = Refuses (codes "out of memory\n") end ⊎ EndsLogs (filter_of request listed) request.counts known names end
 
 -- so they were if there are networks
-abbrev pub EndsBy : {W E X : Type 0} → (List ℕ → Option (List ℕ)) → Request → Result Listed X → List (List ℕ) → Ending W E → Type 0
-EndsBy bytes_of request (Ok listed) names end = EndsListed bytes_of request listed names end
-EndsBy bytes_of request (Err none) names end = Refuses (codes "out of memory\n") end
+abbrev pub EndsBy : {W E X : Type 0} → KnownLists → Request → Result Listed X → List (List ℕ) → Ending W E → Type 0
+EndsBy known request (Ok listed) names end = EndsListed known request listed names end
+EndsBy known request (Err none) names end = Refuses (codes "out of memory\n") end

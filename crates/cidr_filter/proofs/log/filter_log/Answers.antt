@@ -1,4 +1,4 @@
-use Rattle.std.proofs.Common.{[], ℕ, ◌+◌, ◌-◌, ◌∙◌, refl, take, arith}
+use Rattle.std.proofs.Common.{[], ◌+◌, ◌-◌, ◌∙◌, refl, take, arith}
 use Rattle.std.proofs.KnownBytes.{Consumes-nil}
 use Rattle.std.proofs.lemmas.List.{length-take-le}
 use Rattle.line_engine.specs.Watched.{device_of, has_failed}

@@ -2,7 +2,7 @@ use Rattle.std.proofs.Common.{drop, refl}
 use Rattle.line_engine.specs.Outputs.{output_failed}
 use Rattle.cidr_filter.proofs.Failing.{none_or, or_on}
 use Rattle.cidr_filter.proofs.Filtering.{advances_out}
-use Rattle.cidr_filter.proofs.Stopping.{failed_now, hands_nothing, hand_fault}
+use Rattle.cidr_filter.proofs.Stopping.{hands_nothing, hand_fault}
 use Rattle.cidr_filter.proofs.log.filter_piece.Goals as goal
 
 pub returns-in-Ok-hand_on-clause-advances : goal.returns-in-Ok-hand_on-clause-advances

@@ -1,4 +1,4 @@
-use Rattle.std.proofs.Common.{◌∙◌, ◌++◌, List, ℕ, sym, ap, subst, arith, append-nil}
+use Rattle.std.proofs.Common.{◌++◌, List, ℕ, subst, arith}
 use Rattle.line_engine.specs.Outputs.{writer_of, waits_in, AppendsBeginning}
 use Rattle.cidr_filter.proofs.Failing.{none_or, or_on}
 use Rattle.cidr_filter.proofs.Runs.{number_then_ok, number_then_err, none_then_ok, none_then_err, number_told, nothing_told}

@@ -1,4 +1,3 @@
-use Rattle.std.proofs.Common.{refl}
 use Rattle.address_lists.specs.ReadBy.{read_by}
 use Rattle.cidr_filter.proofs.ReadInTurn.{blocks_held}
 use Rattle.cidr_filter.proofs.reading.listed_by.Goals as goal

@@ -1,9 +1,10 @@
-use Rattle.std.proofs.Common.{◌++◌, ◌∷◌, ◌∙◌, [], List, refl, sym, subst, arith, drop}
-use Rattle.std.specs.Prelude.{String}
+use Rattle.std.proofs.Common.{◌++◌, ◌∷◌, ◌∙◌, [], ℕ, refl, sym, subst, arith, drop}
+use Rattle.std.proofs.lemmas.Result.{err_from_is_err_and}
 use Rattle.address_lists.specs.ReadBy.{read_by}
+use Rattle.program_io.specs.Lists.{known_of}
 use Rattle.cidr_filter.specs.CommandLines.{Begin}
-use Rattle.cidr_filter.specs.Reading.{ReadsOption}
-use Rattle.cidr_filter.specs.Told.{name_at}
+use Rattle.cidr_filter.specs.Reading.{ReadsOption, StopsAtOption}
+use Rattle.program_io.specs.Told.{name_at}
 use Rattle.cidr_filter.proofs.ReadInTurn.{reads_more, place_behind}
 use Rattle.cidr_filter.proofs.Requests.{begin_more}
 use Rattle.cidr_filter.proofs.reading.read_lists.Goals as goal
@@ -22,15 +23,15 @@ options-preserved g c =
     let choice = c.in-Some.choice in
     let at = c.options.at in
     let rest = drop at words in
-    let bytes_of = g.L.OpenLists.bytes_of c.args.lists.now in
+    let known = known_of g.L.OpenLists.bytes_of g.L.OpenLists.may_open g.L.OpenLists.may_fail c.args.lists.now in
     record {
       within = c.behind-at.ensures.within;
       memory = c.in_ok-read_option.ensures.memory;
       said = (
         said.0 ++ choice ∷ [],
         subst (λ r. Begin words (said.0 ++ choice ∷ []) r) (sym c.behind-at.ensures.rest) (begin_more words said.0 rest choice said.1 (sym c.choice_at.ensures ∙ c.in-Some.is)),
-        reads_more bytes_of words words rest said.0 choice _ _ _ said.1 said.2
-            (subst (λ n. ReadsOption bytes_of n choice (name_at rest 1) (read_by c.options.reader) (read_by c.read_option.new.reader)) (sym (place_behind words at c.options.invariant.within)) c.in_ok-read_option.ensures.read),
+        reads_more known words words rest said.0 choice _ _ _ said.1 said.2
+            (subst (λ n. ReadsOption known n choice (name_at rest 1) (read_by c.options.reader) (read_by c.read_option.new.reader)) (sym (place_behind words at c.options.invariant.within)) c.in_ok-read_option.ensures.read),
       );
     }
 
@@ -44,3 +45,23 @@ returns-clause-read g c =
       no_more = sym c.choice_at.ensures ∙ c.in_default.is;
       in_turn = said.2;
     }
+
+pub returns-in_err-read_option-clause-stopped : goal.returns-in_err-read_option-clause-stopped
+returns-in_err-read_option-clause-stopped g c =
+    let words = c.args.words.now in
+    let said = c.options.invariant.said in
+    let rest = drop c.options.at words in
+    let p = err_from_is_err_and c.from_residual.result c.from_residual.ensures.1 in
+    rw (p.1, p.2)
+    (record {
+      options = said.0;
+      choice = c.in-Some.choice;
+      rest = rest;
+      between = read_by c.options.reader;
+      begin = said.1;
+      next = sym c.choice_at.ensures ∙ c.in-Some.is;
+      in_turn = said.2;
+      memory = c.options.invariant.memory;
+      stops = subst (λ (n : ℕ). StopsAtOption (known_of g.L.OpenLists.bytes_of g.L.OpenLists.may_open g.L.OpenLists.may_fail c.args.lists.now) n c.in-Some.choice (name_at rest 1) (read_by c.options.reader) c.in_err-read_option.field-0.0 (read_by c.read_option.new.reader).refused)
+          (sym (place_behind words c.options.at c.options.invariant.within)) c.in_err-read_option.ensures.stopped;
+    })

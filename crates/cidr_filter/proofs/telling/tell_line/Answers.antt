@@ -1,6 +1,5 @@
-use Rattle.std.proofs.Common.{◌++◌, ◌∙◌, ap, decimal, codes, append_assoc}
-use Rattle.program_io.proofs.Told.{tells_more}
-use Rattle.cidr_filter.proofs.Told.{tells_same}
+use Rattle.std.proofs.Common.{ap, decimal}
+use Rattle.program_io.proofs.Told.{tells_more, tells_same}
 use Rattle.cidr_filter.proofs.telling.tell_line.Goals as goal
 
 pub returns : goal.returns

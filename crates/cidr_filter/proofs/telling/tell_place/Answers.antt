@@ -1,8 +1,8 @@
 use Rattle.std.proofs.Common.{◌++◌, ◌∙◌, sym, ap, decimal, codes, take}
 use Rattle.std.specs.Prelude.{Bool, if◌then◌else◌}
-use Rattle.program_io.proofs.Told.{tells_more}
-use Rattle.cidr_filter.proofs.Told.{tells_same}
-use Rattle.cidr_filter.specs.Told.{name_at, texts_in}
+use Rattle.program_io.proofs.Told.{tells_more, tells_same}
+use Rattle.program_io.specs.Told.{name_at}
+use Rattle.cidr_filter.specs.Told.{texts_in}
 use Rattle.cidr_filter.proofs.telling.tell_place.Goals as goal
 
 pub returns-then-is_text : goal.returns-then-is_text

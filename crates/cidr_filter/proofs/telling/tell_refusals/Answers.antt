@@ -1,9 +1,9 @@
 use Rattle.std.proofs.Common.{◌+◌, ◌∙◌, ap, take, arith}
 use Rattle.std.specs.List.{flat_map}
 use Rattle.std.proofs.lemmas.List.{take_more, take_all}
-use Rattle.program_io.proofs.Told.{tells_more}
-use Rattle.cidr_filter.specs.Told.{refusal_line, more_text}
-use Rattle.cidr_filter.proofs.Told.{tells_same, tells_nothing, tells_line}
+use Rattle.program_io.proofs.Told.{tells_more, tells_same, tells_nothing, tells_line}
+use Rattle.program_io.specs.Told.{more_text}
+use Rattle.cidr_filter.specs.Told.{refusal_line}
 use Rattle.cidr_filter.proofs.telling.tell_refusals.Goals as goal
 
 pub loop-refusal-init : goal.loop-refusal-init
