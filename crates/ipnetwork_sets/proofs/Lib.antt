@@ -1,4 +1,5 @@
 pub mod Checked
+pub mod CollectedBlocks
 pub mod CommonPart
 pub mod CountLaws
 pub mod DifferenceLaws
@@ -10,7 +11,6 @@ pub mod LeastBlocks
 pub mod LeftParts
 pub mod LeftSets
 pub mod Lists
-pub mod ReadAhead
 pub mod RunLists
 pub mod Searched
 pub mod SetLaws

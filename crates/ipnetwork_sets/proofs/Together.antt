@@ -10,7 +10,7 @@ use Rattle.ipnetwork_blocks.specs.LeastListLaws.{RangeIsShortest}
 use Rattle.ipnetwork_blocks.specs.Aggregate.{InUnion}
 use Rattle.ipnetwork_blocks.specs.AggregateLaws.{AggregateIsApart}
 use Rattle.ipnetwork_blocks.specs.Ranges.{FromTo}
-use Rattle.ipnetwork_blocks.proofs.LeastLists.{own_address, contains_head, least_of_none, least_of_two, least_unique}
+use Rattle.ipnetwork_blocks.proofs.LeastLists.{own_address, contains_head, least_of_none, least_of_one, least_of_same, least_of_two, least_unique}
 use Rattle.ipnetwork_sets.specs.Sets.{IsAddressSet, InEither}
 use Rattle.ipnetwork_sets.specs.Private.LeastBlocks.{either_blocks}
 use Rattle.ipnetwork_sets.specs.Private.Together.{at_hand, IsFirst, EndsAt, IsLater, IsRun}
@@ -70,6 +70,14 @@ either_second w b others rest x =
           (λ (m : Member w b x). inr (split.1 (inl m)))
           (λ (e : InEither w others rest x). ⊎_elim (λ (c : InUnion w others x). inl c) (λ (c : InUnion w rest x). inr (split.1 (inr c))) e) o),
     )
+
+-- the block that begins first
+pub first_is_block : (w : ℕ) (first second : List Network) (b : Network) (others rest : List Network) → IsAddressSet w first → IsAddressSet w second → IsFirst first second b others rest → IsCidrBlock w b
+first_is_block w first second b others rest hf hs is =
+    ⊎_elim
+    (λ (p : (first ≡ b ∷ others) × (second ≡ rest)). set_block w (b ∷ others) b (subst (IsAddressSet w) p.0 hf) (contains_head b others))
+    (λ (p : (first ≡ others) × (second ≡ b ∷ rest)). set_block w (b ∷ rest) b (subst (IsAddressSet w) p.1 hs) (contains_head b rest))
+    is.one
 
 -- the run so far, and what is left of both sets
 pub record IsGrowing (w : ℕ) (first second : List Network) (start last : ℕ) (others rest : List Network) : Type 0 where
@@ -316,10 +324,18 @@ module _ (w : ℕ) {X : Type 0} (pair : X → Network) (first second others rest
       let l : length now ≡ suc (length Left) = ap length (one_taken b t) in
       record { on = λ _. (tt, tt, omega (arith, l)); keeps = tt; rests = λ _. tt }
 
--- the ends of both numbers, as the addresses that were asked for them
-pub range_of : (w a b start last : ℕ) (next : Option (List Network)) → a ≡ start → b ≡ last
-    → MatchOption next (b < a) (λ blocks. (a ≤ b) × IsLeastList w (FromTo a b) blocks)
+-- a run of one block
+pub one_is_range : (w : ℕ) (b : Network) (last : ℕ) → IsCidrBlock w b → last ≡ high w b → (low w b ≤ last) × IsLeastList w (FromTo (low w b) last) (b ∷ [])
+one_is_range w b last hb e =
+    let pos = size_pos w b.prefix in (
+      omega arith,
+      least_of_same w (Member w b) (FromTo (low w b) last) (b ∷ [])
+          (λ x. let m = one_block w b hb x in ((λ i. subst (λ (k : ℕ). FromTo (low w b) k x) (sym e) (m.0 i)), (λ f. m.1 (subst (λ (k : ℕ). FromTo (low w b) k x) e f))))
+          (least_of_one w b hb.network hb.block),
+    )
+
+-- a run that begins with the address that was asked for it
+pub range_of : (w a start last : ℕ) (next : Option (List Network)) → a ≡ start
+    → MatchOption next (last < a) (λ blocks. (a ≤ last) × IsLeastList w (FromTo a last) blocks)
     → MatchOption next (last < start) (λ blocks. (start ≤ last) × IsLeastList w (FromTo start last) blocks)
-range_of w a b start last next e f h =
-    subst (λ (k : ℕ). MatchOption next (last < k) (λ blocks. (k ≤ last) × IsLeastList w (FromTo k last) blocks)) e
-    (subst (λ (k : ℕ). MatchOption next (k < a) (λ blocks. (a ≤ k) × IsLeastList w (FromTo a k) blocks)) f h)
+range_of w a start last next e h = subst (λ (k : ℕ). MatchOption next (last < k) (λ blocks. (k ≤ last) × IsLeastList w (FromTo k last) blocks)) e h

@@ -17,12 +17,12 @@ fn collected<N: AddressSpace, B: SetBlocks<N>>(
     ensures { IfOk result (λ set. set ≡ B.left blocks) }
 {
     memory.clear();
-    let mut ahead = blocks.next_block();
-    while let Some(block) = ahead {
+    loop {
+        let Some(block) = blocks.next_block() else {
+            return Ok(AddressSet::of_blocks(memory));
+        };
         memory.push(block)?;
-        ahead = blocks.next_block();
     }
-    Ok(AddressSet::of_blocks(memory))
 }
 
 impl<N: AddressSpace> AddressSet<N> {

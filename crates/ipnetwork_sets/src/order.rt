@@ -12,6 +12,13 @@ pub(crate) fn ends_before<N: AddressSpace>(first: N, second: N) -> bool
     first.broadcast() < second.ip()
 }
 
+/// Whether the network ends at the address.
+pub(crate) fn ends_at<N: AddressSpace>(network: N, last: N::Addr) -> bool
+    ensures { IsTrue result ↔ (N.number last ≡ high N.WIDTH (N.pair network)) }
+{
+    last == network.broadcast()
+}
+
 /// Whether both have the same address.
 pub(crate) fn begin_alike<N: AddressSpace>(first: N, second: N) -> bool
     ensures { IsTrue result ↔ ((N.pair first).address ≡ (N.pair second).address) }
@@ -23,16 +30,23 @@ pub(crate) fn begin_alike<N: AddressSpace>(first: N, second: N) -> bool
 pub(crate) fn touches<N: AddressSpace>(first: N, second: N) -> bool
     ensures { IsTrue result ↔ Touches N.WIDTH (N.pair first) (N.pair second) }
 {
-    let begin = second.ip();
-    match N::next_address(first.broadcast()) {
+    begins_behind(first.broadcast(), second)
+}
+
+/// Whether the network begins right behind the address.
+fn begins_behind<N: AddressSpace>(last: N::Addr, network: N) -> bool
+    ensures { IsTrue result ↔ (N.number last + 1 ≡ (N.pair network).address) }
+{
+    let begin = network.ip();
+    match N::next_address(last) {
         Some(next) => next == begin,
         None => false,
     }
 }
 
-/// Whether the second begins within the first, before it, or right behind it: no address lies between them.
-pub(crate) fn goes_on<N: AddressSpace>(first: N, second: N) -> bool
-    ensures { IsTrue result ↔ ((N.pair second).address ≤ high N.WIDTH (N.pair first) + 1) }
+/// Whether the network begins up to the address or right behind it: no address lies between them.
+pub(crate) fn goes_on<N: AddressSpace>(last: N::Addr, network: N) -> bool
+    ensures { IsTrue result ↔ ((N.pair network).address ≤ N.number last + 1) }
 {
-    second.ip() <= first.broadcast() || touches(first, second)
+    network.ip() <= last || begins_behind(last, network)
 }

@@ -1,12 +1,12 @@
 //! The union of two sets.
 ghost use Rattle.std.specs.Prelude.{◌≡◌, ◌+◌, ◌≤◌, ◌∷◌, [], MatchOption, map};
 ghost use Rattle.std.specs.Iterator.{YieldsFirstBy, item_count};
-ghost use Rattle.ipnetwork_family.specs.Network.{low, high};
+ghost use Rattle.ipnetwork_family.specs.Network.{IsCidrBlock, low};
 ghost use Rattle.ipnetwork_blocks.specs.LeastList.{IsLeastList};
 ghost use Rattle.ipnetwork_sets.specs.Sets.{IsAddressSet, InEither};
 ghost use Rattle.ipnetwork_sets.specs.Private.Together.{at_hand, IsRun, IsFirst, EndsAt, IsLater};
 
-use crate::order::goes_on;
+use crate::order::{ends_at, goes_on};
 use ipnetwork_blocks::{AddressSpace, RangeBlocks, laws, range_to_blocks};
 use std::marker::Model;
 
@@ -80,9 +80,13 @@ impl<'a, N: AddressSpace> Iterator for Union<'a, N> {
         let Some(found) = next_run(self.first, self.second) else {
             return None;
         };
-        self.run = range_to_blocks(found.0.network(), found.1.broadcast());
         self.first = found.2;
         self.second = found.3;
+        if ends_at(found.0, found.1) {
+            self.run = None;
+            return Some(found.0);
+        }
+        self.run = range_to_blocks(found.0.network(), found.1);
         next_at_hand(&mut self.run)
     }
 }
@@ -97,31 +101,33 @@ fn next_at_hand<N: AddressSpace>(run: &mut Option<RangeBlocks<N>>) -> Option<N>
     }
 }
 
-// The first run of the union without a gap, by a block that begins with it and one that ends with it, and what is left
-// of both sets behind it.
+// The first run of the union without a gap, by the block that begins with it and its last address, and what is left of
+// both sets behind it.
+#[inline(always)]
 fn next_run<'a, N: AddressSpace>(
     first: &'a [N],
     second: &'a [N],
-) -> Option<(N, N, &'a [N], &'a [N])>
+) -> Option<(N, N::Addr, &'a [N], &'a [N])>
     requires first { IsAddressSet N.WIDTH (map N.pair first.now) }
     requires second { IsAddressSet N.WIDTH (map N.pair second.now) }
     ensures { MatchOption result ((first.now ≡ []) × (second.now ≡ []))
-        (λ r. IsRun N.WIDTH (map N.pair first.now) (map N.pair second.now) (low N.WIDTH (N.pair r.0)) (high N.WIDTH (N.pair r.1)) (map N.pair r.2.now) (map N.pair r.3.now)) }
+        (λ r. IsCidrBlock N.WIDTH (N.pair r.0)
+        × IsRun N.WIDTH (map N.pair first.now) (map N.pair second.now) (low N.WIDTH (N.pair r.0)) (N.number r.1) (map N.pair r.2.now) (map N.pair r.3.now)) }
 {
     laws::one_block();
     let Some(taken) = take_first(first, second) else {
         return None;
     };
     let start = taken.0;
-    let mut last = start;
+    let mut last = start.broadcast();
     let mut first_left = taken.1;
     let mut second_left = taken.2;
     loop {
         if let Some(next) = take_next(last, first_left) {
-            last = later(last, next.0);
+            last = later::<N>(last, next.0.broadcast());
             first_left = next.1;
         } else if let Some(next) = take_next(last, second_left) {
-            last = later(last, next.0);
+            last = later::<N>(last, next.0.broadcast());
             second_left = next.1;
         } else {
             return Some((start, last, first_left, second_left));
@@ -130,9 +136,10 @@ fn next_run<'a, N: AddressSpace>(
 }
 
 // The first of the blocks and the others, if no address lies between the last one and it.
-fn take_next<'a, N: AddressSpace>(last: N, blocks: &'a [N]) -> Option<(N, &'a [N])>
-    ensures { MatchOption result (EndsAt N.WIDTH (high N.WIDTH (N.pair last)) (map N.pair blocks.now))
-        (λ r. (map N.pair blocks.now ≡ N.pair r.0 ∷ map N.pair r.1.now) × ((N.pair r.0).address ≤ high N.WIDTH (N.pair last) + 1)) }
+#[inline(always)]
+fn take_next<'a, N: AddressSpace>(last: N::Addr, blocks: &'a [N]) -> Option<(N, &'a [N])>
+    ensures { MatchOption result (EndsAt N.WIDTH (N.number last) (map N.pair blocks.now))
+        (λ r. (map N.pair blocks.now ≡ N.pair r.0 ∷ map N.pair r.1.now) × ((N.pair r.0).address ≤ N.number last + 1)) }
 {
     let Some((block, after)) = blocks.split_first() else {
         return None;
@@ -165,13 +172,9 @@ fn take_first<'a, N: AddressSpace>(first: &'a [N], second: &'a [N]) -> Option<(N
     }
 }
 
-// Of two networks the one that ends last.
-fn later<N: AddressSpace>(first: N, second: N) -> N
-    ensures { IsLater (high N.WIDTH (N.pair first)) (high N.WIDTH (N.pair second)) (high N.WIDTH (N.pair result)) }
+// Of two addresses the later one.
+fn later<N: AddressSpace>(first: N::Addr, second: N::Addr) -> N::Addr
+    ensures { IsLater (N.number first) (N.number second) (N.number result) }
 {
-    if first.broadcast() < second.broadcast() {
-        second
-    } else {
-        first
-    }
+    if first < second { second } else { first }
 }

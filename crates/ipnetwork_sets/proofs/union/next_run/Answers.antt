@@ -1,13 +1,19 @@
-use Rattle.std.proofs.Common.{◌<◌, ℕ, length, map, arith}
+use Rattle.std.proofs.Common.{◌≡◌, ◌<◌, ◌≤◌, ◌+◌, ℕ, length, map, sym, subst, arith}
 use Rattle.ipnetwork_family.specs.Network.{low, high}
-use Rattle.ipnetwork_sets.proofs.Together.{growing_starts, grows_by_first, grows_by_second, growing_ends, mapped_shorter}
+use Rattle.ipnetwork_sets.specs.Private.Together.{IsLater}
+use Rattle.ipnetwork_sets.proofs.Together.{IsGrowing, first_is_block, growing_starts, grows_by_first, grows_by_second, growing_ends, mapped_shorter}
 use Rattle.ipnetwork_sets.proofs.union.next_run.Goals as goal
 
 pub loop-next-init : goal.loop-next-init
 loop-next-init g c =
-    growing_starts g.N.CidrNetwork.WIDTH c.one_block.ensures.apart (map g.N.CidrNetwork.pair c.args.first.now) (map g.N.CidrNetwork.pair c.args.second.now)
-    (g.N.CidrNetwork.pair c.in-Some.taken.0) (map g.N.CidrNetwork.pair c.in-Some.taken.1.now) (map g.N.CidrNetwork.pair c.in-Some.taken.2.now)
-    c.requires.first c.requires.second c.in-Some.ensures
+    let w : ℕ = g.N.CidrNetwork.WIDTH in
+    let first = map g.N.CidrNetwork.pair c.args.first.now in
+    let second = map g.N.CidrNetwork.pair c.args.second.now in
+    let b = g.N.CidrNetwork.pair c.in-Some.taken.0 in
+    let others = map g.N.CidrNetwork.pair c.in-Some.taken.1.now in
+    let rest = map g.N.CidrNetwork.pair c.in-Some.taken.2.now in
+    subst (λ (k : ℕ). IsGrowing w first second (low w b) k others rest) (sym c.broadcast-last.ensures)
+    (growing_starts w c.one_block.ensures.apart first second b others rest c.requires.first c.requires.second c.in-Some.ensures)
 
 pub loop-next-smaller-in-Some-take_next : goal.loop-next-smaller-in-Some-take_next
 loop-next-smaller-in-Some-take_next g c =
@@ -17,10 +23,12 @@ loop-next-smaller-in-Some-take_next g c =
 pub loop-next-preserved-in-Some-take_next : goal.loop-next-preserved-in-Some-take_next
 loop-next-preserved-in-Some-take_next g c =
     let w : ℕ = g.N.CidrNetwork.WIDTH in
+    let last : ℕ = g.N.CidrNetwork.number c.loop-next.last in
+    let next : ℕ = g.N.CidrNetwork.number c.later-last.result in
     grows_by_first w c.one_block.ensures.apart (map g.N.CidrNetwork.pair c.args.first.now) (map g.N.CidrNetwork.pair c.args.second.now)
-    (low w (g.N.CidrNetwork.pair c.in-Some.taken.0)) (high w (g.N.CidrNetwork.pair c.loop-next.last)) (high w (g.N.CidrNetwork.pair c.later-last.result)) (g.N.CidrNetwork.pair c.in-Some-take_next.next.0)
+    (low w (g.N.CidrNetwork.pair c.in-Some.taken.0)) last next (g.N.CidrNetwork.pair c.in-Some-take_next.next.0)
     (map g.N.CidrNetwork.pair c.loop-next.first_left.now) (map g.N.CidrNetwork.pair c.loop-next.second_left.now) c.loop-next.invariant
-    c.in-Some-take_next.ensures.1 c.later-last.ensures (map g.N.CidrNetwork.pair c.in-Some-take_next.next.1.now) c.in-Some-take_next.ensures.0
+    c.in-Some-take_next.ensures.1 (subst (λ (k : ℕ). IsLater last k next) c.broadcast.ensures c.later-last.ensures) (map g.N.CidrNetwork.pair c.in-Some-take_next.next.1.now) c.in-Some-take_next.ensures.0
 
 pub loop-next-smaller : goal.loop-next-smaller
 loop-next-smaller g c =
@@ -30,15 +38,21 @@ loop-next-smaller g c =
 pub loop-next-preserved : goal.loop-next-preserved
 loop-next-preserved g c =
     let w : ℕ = g.N.CidrNetwork.WIDTH in
+    let last : ℕ = g.N.CidrNetwork.number c.loop-next.last in
+    let next : ℕ = g.N.CidrNetwork.number c.later-last-in-Some-take_next-2.result in
     grows_by_second w c.one_block.ensures.apart (map g.N.CidrNetwork.pair c.args.first.now) (map g.N.CidrNetwork.pair c.args.second.now)
-    (low w (g.N.CidrNetwork.pair c.in-Some.taken.0)) (high w (g.N.CidrNetwork.pair c.loop-next.last)) (high w (g.N.CidrNetwork.pair c.later-last-in-Some-take_next-2.result)) (g.N.CidrNetwork.pair c.in-Some-take_next-2.next.0)
+    (low w (g.N.CidrNetwork.pair c.in-Some.taken.0)) last next (g.N.CidrNetwork.pair c.in-Some-take_next-2.next.0)
     (map g.N.CidrNetwork.pair c.loop-next.first_left.now) (map g.N.CidrNetwork.pair c.loop-next.second_left.now) c.loop-next.invariant
-    c.in-Some-take_next-2.ensures.1 c.later-last-in-Some-take_next-2.ensures (map g.N.CidrNetwork.pair c.in-Some-take_next-2.next.1.now) c.in-Some-take_next-2.ensures.0
+    c.in-Some-take_next-2.ensures.1 (subst (λ (k : ℕ). IsLater last k next) c.broadcast-in-Some-take_next-2.ensures c.later-last-in-Some-take_next-2.ensures) (map g.N.CidrNetwork.pair c.in-Some-take_next-2.next.1.now) c.in-Some-take_next-2.ensures.0
 
 pub returns-in_default-take_next-2 : goal.returns-in_default-take_next-2
 returns-in_default-take_next-2 g c =
     let w : ℕ = g.N.CidrNetwork.WIDTH in
-    growing_ends w c.one_block.ensures.apart (map g.N.CidrNetwork.pair c.args.first.now) (map g.N.CidrNetwork.pair c.args.second.now)
-    (low w (g.N.CidrNetwork.pair c.in-Some.taken.0)) (high w (g.N.CidrNetwork.pair c.loop-next.last))
-    (map g.N.CidrNetwork.pair c.loop-next.first_left.now) (map g.N.CidrNetwork.pair c.loop-next.second_left.now) c.loop-next.invariant
-    c.in_default-take_next.ensures c.in_default-take_next-2.ensures
+    let first = map g.N.CidrNetwork.pair c.args.first.now in
+    let second = map g.N.CidrNetwork.pair c.args.second.now in
+    let b = g.N.CidrNetwork.pair c.in-Some.taken.0 in (
+      first_is_block w first second b (map g.N.CidrNetwork.pair c.in-Some.taken.1.now) (map g.N.CidrNetwork.pair c.in-Some.taken.2.now) c.requires.first c.requires.second c.in-Some.ensures,
+      growing_ends w c.one_block.ensures.apart first second (low w b) (g.N.CidrNetwork.number c.loop-next.last)
+          (map g.N.CidrNetwork.pair c.loop-next.first_left.now) (map g.N.CidrNetwork.pair c.loop-next.second_left.now) c.loop-next.invariant
+          c.in_default-take_next.ensures c.in_default-take_next-2.ensures,
+    )

@@ -1,8 +1,8 @@
-use Rattle.std.proofs.Common.{◌≡◌, ◌++◌, [], ℕ, List, map, sym, ap, ◌∙◌}
-use Rattle.ipnetwork_family.specs.Network.{Network, low, high}
+use Rattle.std.proofs.Common.{◌≡◌, ◌++◌, [], ◌∷◌, ℕ, List, Some, map, refl, sym, ap, ◌∙◌}
+use Rattle.ipnetwork_family.specs.Network.{Network, low}
 use Rattle.ipnetwork_sets.specs.Private.LeastBlocks.{either_blocks}
 use Rattle.ipnetwork_sets.specs.Private.Together.{at_hand}
-use Rattle.ipnetwork_sets.proofs.Together.{either_none, goes_within, range_of, next_is_set, next_steps, next_goes}
+use Rattle.ipnetwork_sets.proofs.Together.{either_none, goes_within, one_is_range, range_of, next_is_set, next_steps, next_goes}
 use Rattle.ipnetwork_sets.proofs.union.UnionIterator.next.Goals as goal
 
 pub invariant_of-self : goal.invariant_of-self
@@ -30,14 +30,14 @@ invariant_of-self-2 g c =
     let w : ℕ = g.N.CidrNetwork.WIDTH in
     let pair = g.N.CidrNetwork.pair in
     let run = c.in-Some-next_run.found in
-    let h = c.in-Some-next_run.ensures in (
+    let h = c.in-Some-next_run.ensures.1 in (
       h.others_are_set,
       h.rest_is_set,
       next_is_set w pair (map pair c.self.inside.first.now) (map pair c.self.inside.second.now) (map pair run.2.now) (map pair run.3.now) c.args.self.now (at_hand c.self.inside.run)
-          (low w (pair run.0)) (high w (pair run.1)) c.range_to_blocks-self-inside.result (at_hand c.next_at_hand-2.new.run) c.one_block.ensures.apart c.ranges_are_shortest.ensures.range
+          (low w (pair run.0)) (g.N.CidrNetwork.number run.1) c.range_to_blocks-self-inside.result (at_hand c.next_at_hand-2.new.run) c.one_block.ensures.apart c.ranges_are_shortest.ensures.range
           c.self.view_is c.in_default.ensures.0 c.self.invariant.2 h
-          (range_of w (g.N.CidrNetwork.number c.network.result) (g.N.CidrNetwork.number c.broadcast.result) (low w (pair run.0)) (high w (pair run.1)) c.range_to_blocks-self-inside.result
-          c.network.ensures c.broadcast.ensures c.range_to_blocks-self-inside.ensures.blocks)
+          (range_of w (g.N.CidrNetwork.number c.network.result) (low w (pair run.0)) (g.N.CidrNetwork.number run.1) c.range_to_blocks-self-inside.result
+          c.network.ensures c.range_to_blocks-self-inside.ensures.blocks)
           c.next_at_hand-2.result c.next_at_hand-2.ensures,
     )
 
@@ -47,10 +47,10 @@ returns-clause-steps g c =
     let pair = g.N.CidrNetwork.pair in
     let run = c.in-Some-next_run.found in
     next_steps w pair (map pair c.self.inside.first.now) (map pair c.self.inside.second.now) (map pair run.2.now) (map pair run.3.now) c.args.self.now (at_hand c.self.inside.run)
-    (low w (pair run.0)) (high w (pair run.1)) c.range_to_blocks-self-inside.result (at_hand c.next_at_hand-2.new.run) c.one_block.ensures.apart c.ranges_are_shortest.ensures.range
-    c.self.view_is c.in_default.ensures.0 c.self.invariant.2 c.in-Some-next_run.ensures
-    (range_of w (g.N.CidrNetwork.number c.network.result) (g.N.CidrNetwork.number c.broadcast.result) (low w (pair run.0)) (high w (pair run.1)) c.range_to_blocks-self-inside.result
-    c.network.ensures c.broadcast.ensures c.range_to_blocks-self-inside.ensures.blocks)
+    (low w (pair run.0)) (g.N.CidrNetwork.number run.1) c.range_to_blocks-self-inside.result (at_hand c.next_at_hand-2.new.run) c.one_block.ensures.apart c.ranges_are_shortest.ensures.range
+    c.self.view_is c.in_default.ensures.0 c.self.invariant.2 c.in-Some-next_run.ensures.1
+    (range_of w (g.N.CidrNetwork.number c.network.result) (low w (pair run.0)) (g.N.CidrNetwork.number run.1) c.range_to_blocks-self-inside.result
+    c.network.ensures c.range_to_blocks-self-inside.ensures.blocks)
     c.next_at_hand-2.result c.next_at_hand-2.ensures
 
 pub returns-clause-goes : goal.returns-clause-goes
@@ -59,8 +59,44 @@ returns-clause-goes g c =
     let pair = g.N.CidrNetwork.pair in
     let run = c.in-Some-next_run.found in
     next_goes w pair (map pair c.self.inside.first.now) (map pair c.self.inside.second.now) (map pair run.2.now) (map pair run.3.now) c.args.self.now (at_hand c.self.inside.run)
-    (low w (pair run.0)) (high w (pair run.1)) c.range_to_blocks-self-inside.result (at_hand c.next_at_hand-2.new.run) c.one_block.ensures.apart c.ranges_are_shortest.ensures.range
-    c.self.view_is c.in_default.ensures.0 c.self.invariant.2 c.in-Some-next_run.ensures
-    (range_of w (g.N.CidrNetwork.number c.network.result) (g.N.CidrNetwork.number c.broadcast.result) (low w (pair run.0)) (high w (pair run.1)) c.range_to_blocks-self-inside.result
-    c.network.ensures c.broadcast.ensures c.range_to_blocks-self-inside.ensures.blocks)
+    (low w (pair run.0)) (g.N.CidrNetwork.number run.1) c.range_to_blocks-self-inside.result (at_hand c.next_at_hand-2.new.run) c.one_block.ensures.apart c.ranges_are_shortest.ensures.range
+    c.self.view_is c.in_default.ensures.0 c.self.invariant.2 c.in-Some-next_run.ensures.1
+    (range_of w (g.N.CidrNetwork.number c.network.result) (low w (pair run.0)) (g.N.CidrNetwork.number run.1) c.range_to_blocks-self-inside.result
+    c.network.ensures c.range_to_blocks-self-inside.ensures.blocks)
     c.next_at_hand-2.result c.next_at_hand-2.ensures
+
+pub invariant_of-self-then-ends_at : goal.invariant_of-self-then-ends_at
+invariant_of-self-then-ends_at g c =
+    let w : ℕ = g.N.CidrNetwork.WIDTH in
+    let pair = g.N.CidrNetwork.pair in
+    let run = c.in-Some-next_run.found in
+    let last : ℕ = g.N.CidrNetwork.number run.1 in
+    let h = c.in-Some-next_run.ensures in (
+      h.1.others_are_set,
+      h.1.rest_is_set,
+      next_is_set w pair (map pair c.self.inside.first.now) (map pair c.self.inside.second.now) (map pair run.2.now) (map pair run.3.now) c.args.self.now (at_hand c.self.inside.run)
+          (low w (pair run.0)) last (Some (pair run.0 ∷ [])) [] c.one_block.ensures.apart c.ranges_are_shortest.ensures.range
+          c.self.view_is c.in_default.ensures.0 c.self.invariant.2 h.1 (one_is_range w (pair run.0) last h.0 (c.ends_at.ensures.0 c.if-ends_at.true)) (Some run.0) refl,
+    )
+
+pub returns-then-ends_at-clause-steps : goal.returns-then-ends_at-clause-steps
+returns-then-ends_at-clause-steps g c =
+    let w : ℕ = g.N.CidrNetwork.WIDTH in
+    let pair = g.N.CidrNetwork.pair in
+    let run = c.in-Some-next_run.found in
+    let last : ℕ = g.N.CidrNetwork.number run.1 in
+    let h = c.in-Some-next_run.ensures in
+    next_steps w pair (map pair c.self.inside.first.now) (map pair c.self.inside.second.now) (map pair run.2.now) (map pair run.3.now) c.args.self.now (at_hand c.self.inside.run)
+    (low w (pair run.0)) last (Some (pair run.0 ∷ [])) [] c.one_block.ensures.apart c.ranges_are_shortest.ensures.range
+    c.self.view_is c.in_default.ensures.0 c.self.invariant.2 h.1 (one_is_range w (pair run.0) last h.0 (c.ends_at.ensures.0 c.if-ends_at.true)) (Some run.0) refl
+
+pub returns-then-ends_at-clause-goes : goal.returns-then-ends_at-clause-goes
+returns-then-ends_at-clause-goes g c =
+    let w : ℕ = g.N.CidrNetwork.WIDTH in
+    let pair = g.N.CidrNetwork.pair in
+    let run = c.in-Some-next_run.found in
+    let last : ℕ = g.N.CidrNetwork.number run.1 in
+    let h = c.in-Some-next_run.ensures in
+    next_goes w pair (map pair c.self.inside.first.now) (map pair c.self.inside.second.now) (map pair run.2.now) (map pair run.3.now) c.args.self.now (at_hand c.self.inside.run)
+    (low w (pair run.0)) last (Some (pair run.0 ∷ [])) [] c.one_block.ensures.apart c.ranges_are_shortest.ensures.range
+    c.self.view_is c.in_default.ensures.0 c.self.invariant.2 h.1 (one_is_range w (pair run.0) last h.0 (c.ends_at.ensures.0 c.if-ends_at.true)) (Some run.0) refl
