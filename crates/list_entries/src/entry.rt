@@ -3,6 +3,7 @@ ghost use Rattle.list_entries.specs.Entries.{ReadsEntry, ReadsText};
 ghost use Rattle.list_entries.specs.Private.Parts.{ReadsNetworkText};
 
 use crate::comment::{trim, without_comment};
+use crate::laws::network_texts_are_entries;
 use crate::range::read_range;
 use byte_search::find_from;
 use ipnetwork::{CidrFault, IpAddr, IpNetwork, cause};
@@ -58,6 +59,18 @@ pub enum EntryFault {
 /// assert_eq!(rt; read_entry(b"; nothing"), Ok(None));
 /// ```
 pub fn read_entry(line: &[u8]) -> Result<Option<Entry>, EntryFault>
+    ensures { ReadsEntry line.now result }
+{
+    // Does nothing. The proof needs the law: a network text holds no mark of a comment, no blank and no `-`.
+    network_texts_are_entries();
+    if let Ok(network) = IpNetwork::read_bytes(line) {
+        return Ok(Some(Entry::Network(network)));
+    }
+    read_line(line)
+}
+
+/// What a line says.
+fn read_line(line: &[u8]) -> Result<Option<Entry>, EntryFault>
     ensures { ReadsEntry line.now result }
 {
     let text = trim(without_comment(line));

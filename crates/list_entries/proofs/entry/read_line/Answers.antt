@@ -3,7 +3,7 @@ use Rattle.list_entries.specs.Entries.{IsEntryCause, NamesEntry}
 use Rattle.list_entries.specs.declared.entry.Entry.{Entry}
 use Rattle.list_entries.specs.Lines.{trimmed}
 use Rattle.list_entries.proofs.Parts.{not_empty}
-use Rattle.list_entries.proofs.entry.read_entry.Goals as goal
+use Rattle.list_entries.proofs.entry.read_line.Goals as goal
 
 pub returns-in-Err : goal.returns-in-Err
 returns-in-Err c =
