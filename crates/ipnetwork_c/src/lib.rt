@@ -28,6 +28,7 @@ mod sets;
 mod sizes;
 mod stretch;
 mod structs;
+mod tables;
 #[cfg(test)]
 mod tests;
 mod text;

@@ -15,6 +15,7 @@ use crate::questions::*;
 use crate::set_calls::*;
 use crate::set_operations::*;
 use crate::structs::{IpInC, Ipv4InC, Ipv6InC};
+use crate::tables::*;
 use crate::text_columns::*;
 use crate::{ipnetwork_abi_minor_version, ipnetwork_abi_version};
 use std::test::Fail;
@@ -510,4 +511,38 @@ fn columns_printed(rt: HostRuntime) {
     assert_eq!(rt; texts, *b"10.1.9.32/16192.0.2.0/24xxxxxx");
     assert_eq!(rt; (offsets, few, pair), ([0, 12, 24, 9], [9, 9], [0, 14]));
     assert_eq!(rt; (short, wide), ([b'x'; 23], *b"2001:db8::1/32"));
+}
+
+#[test]
+fn longest_blocks(rt: HostRuntime) {
+    let net = |second, third, prefix| Ipv4InC {
+        address: [10, second, third, 0],
+        prefix,
+    };
+    let table = [
+        net(0, 0, 8),
+        net(0, 0, 16),
+        net(1, 0, 16),
+        net(1, 2, 24),
+        net(1, 2, 25),
+    ];
+    let past = [net(0, 0, 33)];
+    let six = [Ipv6InC {
+        address: [0; 16],
+        prefix: 0,
+    }];
+    let mut places = [9; 7];
+    let told = [
+        ipnetwork_v4_table_find(&table, &[10, 1, 2, 3], &mut places[0]),
+        ipnetwork_v4_table_find(&table, &[10, 1, 2, 128], &mut places[1]),
+        ipnetwork_v4_table_find(&table, &[10, 1, 3, 0], &mut places[2]),
+        ipnetwork_v4_table_find(&table, &[10, 255, 0, 0], &mut places[3]),
+        ipnetwork_v4_table_find(&table, &[11, 0, 0, 0], &mut places[4]),
+        ipnetwork_v4_table_find(&past, &[10, 0, 0, 0], &mut places[5]),
+        ipnetwork_v6_table_find(&six, &FIRST, &mut places[6]),
+    ];
+    assert_eq!(rt;
+        (told, places),
+        ([0, 0, 0, 0, 6, 3, 0], [4, 3, 2, 0, 9, 9, 0])
+    );
 }
