@@ -56,7 +56,7 @@ enum {
     IPNETWORK_PREFIX = 3,       /* no prefix length of the family, whether a text, an argument or a struct has it */
     IPNETWORK_SHORT_BUFFER = 4, /* no room for the text and a zero byte, or for as many rows or blocks */
     IPNETWORK_NO_MASK = 5,      /* the address is no mask */
-    IPNETWORK_NO_MEMBER = 6,    /* the network has no member, or no block, of that number */
+    IPNETWORK_NO_MEMBER = 6,    /* the network has no member, or no block, of that number; no block has the address */
     IPNETWORK_NO_FAMILY = 7,    /* a family that is neither 4 nor 6, or an address of neither 4 nor 16 octets */
     IPNETWORK_NO_OFFSETS = 8,   /* offsets of a column that fall, or pass the end of its texts */
     IPNETWORK_NO_RANGE = 9,     /* a range whose first address comes after its last */
@@ -283,6 +283,18 @@ IPNETWORK_CHECKED_AT(3, 4) ipnetwork_fault ipnetwork_v4_set_contains(const ipnet
     const uint8_t address[4], uint8_t *IPNETWORK_ALONE answer);
 IPNETWORK_CHECKED_AT(3, 4) ipnetwork_fault ipnetwork_v6_set_contains(const ipnetwork_v6 *blocks, size_t block_count,
     const uint8_t address[16], uint8_t *IPNETWORK_ALONE answer);
+
+/* The longest block that has an address, in a table: block_count blocks without host bits in ascending order, as
+ * ipnetwork_v4_compare and ipnetwork_v6_compare order them, of which some may lie in others. *index is its place, by which the
+ * caller finds what belongs to it. The last block up to the address is found by one binary search; as long as it has the
+ * address not, another one is made among those before it. IPNETWORK_NO_MEMBER if no block has the address. That the list is a
+ * table is not checked: of another list the block at *index has the address too, but there may be a longer one, and
+ * IPNETWORK_NO_MEMBER says nothing. IPNETWORK_PREFIX only if the prefix length of a struct is past the width; not every struct
+ * is looked at. */
+IPNETWORK_CHECKED_AT(3, 4) ipnetwork_fault ipnetwork_v4_table_find(const ipnetwork_v4 *blocks, size_t block_count,
+    const uint8_t address[4], size_t *IPNETWORK_ALONE index);
+IPNETWORK_CHECKED_AT(3, 4) ipnetwork_fault ipnetwork_v6_table_find(const ipnetwork_v6 *blocks, size_t block_count,
+    const uint8_t address[16], size_t *IPNETWORK_ALONE index);
 
 /* The union of two sets, what both have (intersection), and what the first has and the second has not (difference): the
  * fewest blocks with these addresses, in ascending order and without host bits, in the front of blocks, an array of the

@@ -688,6 +688,67 @@ static void operations(void) {
     refused_operands(PREF, &past, &past_six, 1);
 }
 
+static int in_order_v4(const void *one, const void *other) {
+    int32_t order = 0;
+    CHECK("order", ipnetwork_v4_compare(one, other, &order) == YES);
+    return order;
+}
+
+static int in_order_v6(const void *one, const void *other) {
+    int32_t order = 0;
+    CHECK("order", ipnetwork_v6_compare(one, other, &order) == YES);
+    return order;
+}
+
+/* Random tables within 256 addresses: of each of these the longest block that has it, found by looking at each block. */
+static void tables(void) {
+    for (size_t round = 0; round < 600; round++) {
+        size_t count = round % 40;
+        ipnetwork_v4 *four = edge(count * sizeof *four);
+        ipnetwork_v6 *six = edge(count * sizeof *six);
+        for (size_t i = 0; i < count; i++) {
+            unsigned bits = number() % 9, low = (number() & 255) >> bits << bits;
+            four[i] = (ipnetwork_v4){{192, 0, 2, (uint8_t)low}, (uint8_t)(32 - bits)};
+            six[i] = (ipnetwork_v6){{0x20, 1, 0x0d, 0xb8}, (uint8_t)(128 - bits)};
+            six[i].address[15] = (uint8_t)low;
+        }
+        qsort(four, count, sizeof *four, in_order_v4);
+        qsort(six, count, sizeof *six, in_order_v6);
+        for (unsigned host = 0; host < 256; host++) {
+            uint8_t address[4] = {192, 0, 2, (uint8_t)host}, address_six[16] = {0x20, 1, 0x0d, 0xb8}, has = 77;
+            address_six[15] = (uint8_t)host;
+            int longest = -1;
+            for (size_t i = 0; i < count; i++) {
+                CHECK("table", ipnetwork_v4_contains(&four[i], address, &has) == YES);
+                if (has == 1 && (int)four[i].prefix > longest) longest = four[i].prefix;
+            }
+            size_t index = 77, again = 77;
+            ipnetwork_fault told = ipnetwork_v4_table_find(four, count, address, &index);
+            CHECK("table", told == (longest < 0 ? IPNETWORK_NO_MEMBER : YES));
+            CHECK("table", ipnetwork_v6_table_find(six, count, address_six, &again) == told);
+            if (longest < 0) {
+                CHECK("table", index == 77 && again == 77);
+                continue;
+            }
+            CHECK("table", index < count && four[index].prefix == longest);
+            CHECK("table", again < count && six[again].prefix == longest + 96);
+            CHECK("table", ipnetwork_v4_contains(&four[index], address, &has) == YES && has == 1);
+            CHECK("table", ipnetwork_v6_contains(&six[again], address_six, &has) == YES && has == 1);
+        }
+        leave_edge(four, count * sizeof *four);
+        leave_edge(six, count * sizeof *six);
+    }
+    ipnetwork_v4 past = v4("10.0.0.0/8");
+    ipnetwork_v6 past_six = v6("::/8");
+    size_t index = 77;
+    past.prefix = 33;
+    past_six.prefix = 129;
+    CHECK("past", ipnetwork_v4_table_find(&past, 1, past.address, &index) == PREF && index == 77);
+    CHECK("past", ipnetwork_v6_table_find(&past_six, 1, past_six.address, &index) == PREF && index == 77);
+    CHECK("NULL", ipnetwork_v4_table_find(NULL, 0, past.address, &index) == IPNETWORK_NO_MEMBER && index == 77);
+    CHECK("NULL", ipnetwork_v6_table_find(NULL, 0, past_six.address, &index) == IPNETWORK_NO_MEMBER && index == 77);
+}
+
 /* The blocks of ranges within 256 addresses, and the longest lists that there are. */
 static void ranges(void) {
     for (unsigned first = 0; first < 256; first += 3) {
@@ -1070,6 +1131,7 @@ int main(void) {
     aggregates();
     sets();
     operations();
+    tables();
     ranges();
     subnets();
     columns_of_texts();

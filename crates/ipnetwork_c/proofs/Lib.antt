@@ -11,3 +11,4 @@ pub mod Searching
 pub mod BlocksPut
 pub mod KeptRuns
 pub mod PrintedRows
+pub mod TableFinding

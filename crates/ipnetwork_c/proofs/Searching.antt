@@ -1,8 +1,9 @@
 -- Where an address stands in the list of a set, and what that tells of the set.
-use Rattle.std.proofs.Common.{◌≡◌, ◌↔◌, ℕ, ◌-◌, ◌<◌, ◌≤◌, List, length, map, get_or, Bool, true, false, IsTrue, refl, sym, subst, arith}
+use Rattle.std.proofs.Common.{◌≡◌, ◌↔◌, ℕ, ◌+◌, ◌-◌, ◌<◌, ◌≤◌, List, length, map, get_or, Bool, true, false, IsTrue, refl, sym, ap, subst, ◌∙◌, ⊎_elim, arith}
 use Rattle.std.specs.Int.{from_bool}
 use Rattle.std.specs.List.{AllPairs}
-use Rattle.std.proofs.lemmas.List.{length-map}
+use Rattle.std.proofs.lemmas.Bool.{cases_lt}
+use Rattle.std.proofs.lemmas.List.{length-map, get_or_default}
 use Rattle.ipnetwork_family.specs.Network.{Network, Member}
 use Rattle.ipnetwork_blocks.specs.AggregateLaws.{AggregateHasOneBlock}
 use Rattle.ipnetwork_sets.specs.Private.Search.{NoneUpTo, IsLastUpTo}
@@ -13,6 +14,50 @@ use Rattle.ipnetwork_c.proofs.Truths.{no_true}
 
 pub search_starts : {X : Type 0} (held : X → Network) (list : List X) (x : ℕ) → IsSplit (map held list) x 0 (length list)
 search_starts held list x = subst (λ (k : ℕ). IsSplit (map held list) x 0 k) (length-map list held) (split_starts (map held list) x)
+
+-- in ascending order, strictly or not
+pub weakly : (ns : List Network) → AllPairs (λ a b. a.address < b.address) ns → AllPairs (λ a b. a.address ≤ b.address) ns
+weakly ns up i j d l m = let f : (get_or ns i d).address < (get_or ns j d).address = up i j d l m in omega arith
+
+-- the network b at the middle begins at x or before it,
+pub goes_behind : (ns : List Network) (x from to middle : ℕ) (b : Network) → AllPairs (λ a b. a.address ≤ b.address) ns → IsSplit ns x from to
+    → middle < to → b ≡ get_or ns middle b → b.address ≤ x → IsSplit ns x (middle + 1) to
+goes_behind ns x from to middle b up h l is begins =
+    let within = h.within in
+    record {
+      ordered = omega arith;
+      within = within;
+      below = λ k d m.
+          let here : get_or ns middle d ≡ b = get_or_default ns middle d b (omega arith) ∙ sym is in
+          let at : (get_or ns middle d).address ≡ b.address = ap (λ n. n.address) here in
+          ⊎_elim
+          (λ (less : k < middle). let f : (get_or ns k d).address ≤ (get_or ns middle d).address = up k middle d less (omega arith) in omega arith)
+          (λ (le : middle ≤ k).
+          let e : middle ≡ k = omega arith in
+          subst (λ (j : ℕ). (get_or ns j d).address ≤ x) e (omega arith))
+          (cases_lt k middle);
+      above = h.above;
+    }
+
+-- or after it
+pub goes_before : (ns : List Network) (x from to middle : ℕ) (b : Network) → AllPairs (λ a b. a.address ≤ b.address) ns → IsSplit ns x from to
+    → from ≤ middle → middle < to → b ≡ get_or ns middle b → x < b.address → IsSplit ns x from middle
+goes_before ns x from to middle b up h le l is begins =
+    let within = h.within in
+    record {
+      ordered = le;
+      within = omega arith;
+      below = h.below;
+      above = λ k d m n.
+          let here : get_or ns middle d ≡ b = get_or_default ns middle d b (omega arith) ∙ sym is in
+          let at : (get_or ns middle d).address ≡ b.address = ap (λ n. n.address) here in
+          ⊎_elim
+          (λ (less : middle < k). let f : (get_or ns middle d).address ≤ (get_or ns k d).address = up middle k d less n in omega arith)
+          (λ (ge : k ≤ middle).
+          let e : middle ≡ k = omega arith in
+          subst (λ (j : ℕ). x < (get_or ns j d).address) e (omega arith))
+          (cases_lt middle k);
+    }
 
 -- both ends of the search have met
 pub split_met : (ns : List Network) (x from to : ℕ) → IsSplit ns x from to → to ≤ from → SplitsAt ns x from

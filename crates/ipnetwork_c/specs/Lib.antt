@@ -6,6 +6,7 @@ pub mod Columns
 pub mod Lists
 pub mod Blocks
 pub mod Sets
+pub mod Tables
 pub mod TextColumns
 pub mod PrintedColumns
 pub mod ColumnLaws

@@ -28,6 +28,7 @@ mod sets;
 mod sizes;
 mod stretch;
 mod structs;
+mod tables;
 mod text;
 mod text_columns;
 mod together;

@@ -1,5 +1,5 @@
 //! Lists that are those of sets: the maximal blocks of their union, in ascending order, as `aggregate_held` leaves them.
-ghost use Rattle.std.specs.Prelude.{◌↔◌, ◌<◌, ◌≤◌, IsTrue, MatchOption, map, length};
+ghost use Rattle.std.specs.Prelude.{◌↔◌, ◌≤◌, IsTrue, MatchOption, map, length};
 ghost use Rattle.std.specs.List.{All, AllPairs};
 ghost use Rattle.ipnetwork_c.specs.Lists.{FindsIn};
 ghost use Rattle.ipnetwork_c.specs.Private.Sets.{SplitsAt};
@@ -27,7 +27,7 @@ pub(crate) fn contains<N: AddressSpace, H: Listed<N>>(list: &[H], addr: N::Addr)
 /// How many of a list in ascending order begin at the address or before it. As many steps as the length has bits.
 pub(crate) fn begun<N: AddressSpace, H: Listed<N>>(list: &[H], addr: N::Addr) -> usize
     ensures within { result ≤ length list.now }
-    ensures split { AllPairs (λ a b. a.address < b.address) (map H.held list.now) → SplitsAt (map H.held list.now) (N.number addr) result }
+    ensures split { AllPairs (λ a b. a.address ≤ b.address) (map H.held list.now) → SplitsAt (map H.held list.now) (N.number addr) result }
 {
     let mut from = 0;
     let mut to = list.len();

@@ -4,7 +4,7 @@ use Rattle.std.proofs.lemmas.List.{length-map}
 use Rattle.ipnetwork_family.specs.Network.{Network}
 use Rattle.ipnetwork_blocks.proofs.AggregateMapped.{read_map}
 use Rattle.ipnetwork_c.specs.Private.Sets.{SplitsAt}
-use Rattle.ipnetwork_c.proofs.Searching.{finds_none, finds_last}
+use Rattle.ipnetwork_c.proofs.Searching.{weakly, finds_none, finds_last}
 use Rattle.ipnetwork_c.proofs.sets.contains.Goals as goal
 
 pub returns-then-count-eq0 : goal.returns-then-count-eq0
@@ -12,7 +12,7 @@ returns-then-count-eq0 g c =
     let ns : List Network = map g.H.HoldsNetwork.held c.args.list.now in
     let x : ℕ = g.N.CidrNetwork.number c.args.addr in
     finds_none g.N.CidrNetwork.WIDTH ns x c.one_block.ensures.one
-    (λ up. subst (λ (i : ℕ). SplitsAt ns x i) c.if-count-eq0.true (c.begun-count.ensures.split up))
+    (λ up. subst (λ (i : ℕ). SplitsAt ns x i) c.if-count-eq0.true (c.begun-count.ensures.split (weakly ns up)))
 
 pub returns-then-not-fits : goal.returns-then-not-fits
 returns-then-not-fits g c = λ all.
@@ -28,5 +28,5 @@ returns g c =
     let within = c.begun-count.ensures.within in
     let last : Network = g.H.HoldsNetwork.held c.index-list-count.result in
     let is = read_map g.H.HoldsNetwork.held c.args.list.now (c.begun-count.result - 1) c.index-list-count.result (omega arith) c.index-list-count.is in
-    finds_last w ns x c.begun-count.result last c.contains.result c.from.result c.one_block.ensures.one c.begun-count.ensures.split (omega arith) (omega arith) is
+    finds_last w ns x c.begun-count.result last c.contains.result c.from.result c.one_block.ensures.one (λ up. c.begun-count.ensures.split (weakly ns up)) (omega arith) (omega arith) is
     (rw c.held_network.ensures at c.contains.ensures) c.from.ensures

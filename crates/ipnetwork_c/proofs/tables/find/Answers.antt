@@ -1,0 +1,77 @@
+use Rattle.std.proofs.Common.{◌≡◌, ◌-◌, ◌≤◌, ℕ, List, length, map, take, refl, sym, subst, ap, ◌∙◌, arith}
+use Rattle.std.specs.List.{AllPairs}
+use Rattle.std.proofs.lemmas.Bool.{iff_false}
+use Rattle.std.proofs.lemmas.List.{length-map, length-take-le, take-map}
+use Rattle.ipnetwork_family.specs.Bits.{SharesBits}
+use Rattle.ipnetwork_family.specs.Network.{Network, Member, block_at}
+use Rattle.ipnetwork_blocks.proofs.AggregateMapped.{read_map}
+use Rattle.ipnetwork_c.specs.Held.{PrefixFits}
+use Rattle.ipnetwork_c.specs.Tables.{IsTable}
+use Rattle.ipnetwork_c.specs.Tables.TableQuery.{Found, NotFound, Refused}
+use Rattle.ipnetwork_c.specs.Private.Sets.{SplitsAt}
+use Rattle.ipnetwork_c.proofs.TableFinding.{by_address, taken_ascends, search_begins, search_goes_on, search_finds, search_fails}
+use Rattle.ipnetwork_c.proofs.tables.find.Goals as goal
+
+pub loop-end-init : goal.loop-end-init
+loop-end-init g c =
+    let w : ℕ = g.N.CidrNetwork.WIDTH in
+    let ns : List Network = map g.H.HoldsNetwork.held c.args.blocks.now in
+    record {
+      within = c.begun-end.ensures.within;
+      searched = λ t. search_begins w ns (g.N.CidrNetwork.number c.args.address) c.begun-end.result t (c.begun-end.ensures.split (by_address w ns t));
+      index = refl;
+    }
+
+pub returns-then-not-fits : goal.returns-then-not-fits
+returns-then-not-fits g c =
+    let within = c.loop-end.invariant.within in
+    Refused
+    (λ all. iff_false c.fits.ensures c.if-not-fits.true ((g.met.H.Listed.fitting c.index-blocks-end.result).1
+    (subst (λ h. PrefixFits g.N.CidrNetwork.WIDTH (g.H.HoldsNetwork.held h)) (sym c.index-blocks-end.is) (all (c.loop-end.end - 1) c.index-blocks-end.result (omega arith)))))
+    refl c.loop-end.invariant.index
+
+pub returns-then-contains : goal.returns-then-contains
+returns-then-contains g c =
+    let w : ℕ = g.N.CidrNetwork.WIDTH in
+    let ns : List Network = map g.H.HoldsNetwork.held c.args.blocks.now in
+    let size = length-map c.args.blocks.now g.H.HoldsNetwork.held in
+    let within = c.loop-end.invariant.within in
+    let b : Network = g.H.HoldsNetwork.held c.index-blocks-end.result in
+    let is = read_map g.H.HoldsNetwork.held c.args.blocks.now (c.loop-end.end - 1) c.index-blocks-end.result (omega arith) c.index-blocks-end.is in
+    let has : Member w b (g.N.CidrNetwork.number c.args.address) = rw c.held_network-block.ensures at (c.contains.ensures.0 c.if-contains.true) in
+    Found refl (search_finds w ns (g.N.CidrNetwork.number c.args.address) c.loop-end.end b c.loop-end.invariant.searched (omega arith) (omega arith) is has)
+
+pub loop-end-preserved : goal.loop-end-preserved
+loop-end-preserved g c =
+    let w : ℕ = g.N.CidrNetwork.WIDTH in
+    let x : ℕ = g.N.CidrNetwork.number c.args.address in
+    let ns : List Network = map g.H.HoldsNetwork.held c.args.blocks.now in
+    let size = length-map c.args.blocks.now g.H.HoldsNetwork.held in
+    let within = c.loop-end.invariant.within in
+    let end : ℕ = c.loop-end.end in
+    let next : ℕ = c.begun-end-in-loop-end.result in
+    let shared : ℕ = c.shared_bits-shared.result in
+    let b : Network = g.H.HoldsNetwork.held c.index-blocks-end.result in
+    let is = read_map g.H.HoldsNetwork.held c.args.blocks.now (end - 1) c.index-blocks-end.result (omega arith) c.index-blocks-end.is in
+    let not : ¬ (Member w b x) = λ m. iff_false c.contains.ensures c.if-contains.false (rw (sym c.held_network-block.ensures) at m) in
+    let address_is : g.N.CidrNetwork.number c.ip.result ≡ b.address = c.ip.ensures.made ∙ ap (λ (n : Network). n.address) c.held_network-block.ensures in
+    let shares : SharesBits w b.address x shared = subst (λ (a : ℕ). SharesBits w a x shared) address_is c.shared_bits-shared.ensures in
+    let bound_is : g.N.CidrNetwork.number c.ip-in-loop-end.result ≡ (block_at w x shared).address = c.ip-in-loop-end.ensures.made ∙ ap (λ (n : Network). n.address) c.block_at-around.ensures.made in
+    let part : take (end - 1) ns ≡ map g.H.HoldsNetwork.held (take (end - 1) c.args.blocks.now) = take-map g.H.HoldsNetwork.held (end - 1) c.args.blocks.now in
+    let most : length (take (end - 1) c.args.blocks.now) ≡ end - 1 = length-take-le (end - 1) c.args.blocks.now (omega arith) in
+    let less : next ≤ end - 1 = omega (arith, most, c.begun-end-in-loop-end.ensures.within) in
+    let split : IsTable w ns → SplitsAt (take (end - 1) ns) (block_at w x shared).address next = λ t.
+    subst (λ (y : ℕ). SplitsAt (take (end - 1) ns) y next) bound_is
+    (subst (λ (l : List Network). SplitsAt l (g.N.CidrNetwork.number c.ip-in-loop-end.result) next) (sym part)
+    (c.begun-end-in-loop-end.ensures.split (subst (λ (l : List Network). AllPairs (λ a b. a.address ≤ b.address) l) part (taken_ascends ns (end - 1) (omega arith) (by_address w ns t))))) in
+    record {
+      within = omega (arith, less);
+      searched = λ t. search_goes_on w ns x end next shared b t (c.loop-end.invariant.searched t) c.block_at-around.ensures.address (omega arith) (omega arith) is not shares less (split t);
+      index = c.loop-end.invariant.index;
+    }
+
+pub returns : goal.returns
+returns g c =
+    NotFound refl
+    (search_fails g.N.CidrNetwork.WIDTH (map g.H.HoldsNetwork.held c.args.blocks.now) (g.N.CidrNetwork.number c.args.address) c.loop-end.end c.loop-end.invariant.searched (omega arith))
+    c.loop-end.invariant.index

@@ -1,0 +1,14 @@
+use Rattle.std.proofs.Common.{◌≡◌, ◌≤◌, length, map}
+use Rattle.ipnetwork_c.specs.Tables.{IsTable}
+use Rattle.ipnetwork_c.proofs.TableFinding.{IsSearched}
+use Rattle.ipnetwork_c.proofs.tables.find.Given as goal
+
+abbrev pub invariant-loop-end : goal.invariant-loop-end
+invariant-loop-end g l = record {
+  within : l.end ≤ length l.blocks;
+  searched : IsTable g.N.CidrNetwork.WIDTH (map g.H.HoldsNetwork.held l.blocks) → IsSearched g.N.CidrNetwork.WIDTH (map g.H.HoldsNetwork.held l.blocks) (g.N.CidrNetwork.number l.address) l.end;
+  index : l.index ≡ l.initial.index;
+}
+
+abbrev pub decreases-loop-end : goal.decreases-loop-end
+decreases-loop-end g l = l.end

@@ -1,0 +1,60 @@
+//! Tables of blocks in the caller's memory, asked for the longest block with an address.
+ghost use Rattle.ipnetwork_c.specs.Held.{v4_in, v6_in, number_of_octets};
+ghost use Rattle.ipnetwork_c.specs.Tables.{TableQuery};
+
+use crate::fault::{NO_MEMBER, OK, PREFIX};
+use crate::listed::Listed;
+use crate::sets::begun;
+use crate::structs::{Ipv4InC, Ipv6InC, address_of};
+use ipnetwork::{Ipv4Addr, Ipv4Network, Ipv6Network};
+use ipnetwork_blocks::AddressSpace;
+
+// Puts the place of the longest block with an address in `index`. Where the last block up to the address has it not, one
+// that has it lies around both, so that it begins with the bits that both share: the search goes on up to that address.
+fn find<N: AddressSpace, H: Listed<N>>(blocks: &[H], address: N::Addr, index: &mut usize) -> u32
+    ensures { TableQuery N.WIDTH H.held blocks.now (N.number address) index.old index.new result }
+{
+    let mut end = begun::<N, H>(blocks, address);
+    while end > 0 {
+        let last = blocks[end - 1];
+        if !last.fits() {
+            return PREFIX;
+        }
+        let block = last.held_network();
+        if block.contains(address) {
+            *index = end - 1;
+            return OK;
+        }
+        let shared = N::shared_bits(block.ip(), address);
+        let around = N::block_at(address, shared);
+        end = begun::<N, H>(&blocks[..end - 1], around.ip());
+    }
+    NO_MEMBER
+}
+
+/// The index of the longest block that has the address, in a table: blocks without host bits in ascending order, as
+/// `ipnetwork_v4_compare` orders them, of which some may lie in others. `NO_MEMBER` if none has it. Of another list the block
+/// at the index has the address too, but there may be a longer one, and `NO_MEMBER` says nothing. `PREFIX` if a struct that
+/// the search meets has a prefix length greater than 32, which none of a table has.
+#[unsafe(no_mangle)]
+pub extern "C" fn ipnetwork_v4_table_find(
+    blocks: &[Ipv4InC],
+    address: &[u8; 4],
+    index: &mut usize,
+) -> u32
+    ensures { TableQuery 32 v4_in blocks.now (number_of_octets address.now) index.old index.new result }
+{
+    find::<Ipv4Network, Ipv4InC>(blocks, Ipv4Addr::from(*address), index)
+}
+
+/// The same of IPv6, for prefix lengths up to 128.
+#[unsafe(no_mangle)]
+pub extern "C" fn ipnetwork_v6_table_find(
+    blocks: &[Ipv6InC],
+    address: &[u8; 16],
+    index: &mut usize,
+) -> u32
+    ensures { TableQuery 128 v6_in blocks.now (number_of_octets address.now) index.old index.new result }
+{
+    find::<Ipv6Network, Ipv6InC>(blocks, address_of(address), index)
+}
