@@ -9,20 +9,20 @@ Prints the lines of logs whose address is in a list of IP networks.
     -f LIST         the networks of a file: networks (10.0.0.0/8, 10.0.0.1, 2001:db8::/32) and ranges (A - B), one a
                     line; # and ; begin a comment; - is standard input
     -e TEXT         a network or a range
-    -k N            the address stands in the Nth field, 1 without this
-    -d CHAR         fields are cut at each single CHAR, a blank without this
+    -k N            the address is the Nth field; without this option the first
+    -d CHAR         fields are cut at each single CHAR; without this option at each space
     -v              print the lines whose address is in no network
-    -c              print how many lines there are
+    -c              print how many lines are selected
     --longest       before a line print the longest network that holds its address, and a tab; a range counts as the
                     fewest networks that make it up. Not with -v or -c
-    --bad drop      a line without an address there is not printed, also with -v (this is the default)
+    --bad drop      a line without an address is not printed, also with -v (this is the default)
     --bad keep      it is printed, after a minus sign and a tab with --longest
     --bad stop      it ends the program
     --help          print this text
     --version       print the version
 
-A FILE is - for standard input, as is no FILE at all. A line is printed as it was; a last line without a line feed
-gets one. A line has at most 1,048,576 bytes; a longer one has no address, and ends the program unless such lines are
+A FILE is a name, or - for standard input, as is no FILE at all. A line is printed as it was; a last line without a
+line feed gets one. A line has at most 1,048,576 bytes; a longer one has no address, and ends the program unless such lines are
 dropped.
 
 Status: 0 if a line was printed or counted, 1 if none was, 2 on wrong usage, a refused line, a file that cannot be

@@ -11,14 +11,14 @@ Merges lists of IP networks, and prints the shortest list with exactly the addre
 
     --ranges     print FIRST - LAST for each run of addresses
     --count      print v4 BLOCKS ADDRESSES and v6 BLOCKS ADDRESSES
-    --skip-bad   tell refused lines, and answer for the others
+    --skip-bad   report refused lines, and print the result for the others
     --help       print this text
     --version    print the version
 
-A FILE is - for standard input. A line holds a network (10.0.0.0/8, 10.0.0.1, 2001:db8::/32), a range (A - B) or
-nothing; # and ; begin a comment. Host bits are dropped. A line has at most 1,024 bytes.
-The answer is in ascending order, IPv4 first. differ puts < before what the first side has alone, and > before what
-the second has. A refused line is told as FILE:LINE: refused format, address, prefix, range or length.
+A FILE is a name, or - for standard input. A line has a network (10.0.0.0/8, 10.0.0.1, 2001:db8::/32), a range (A - B)
+or nothing; # and ; begin a comment. Host bits are dropped. A line has at most 1,024 bytes.
+The result is in ascending order, IPv4 first. differ puts < before what only the first side has, and > before what only
+the second has. A refused line is reported as FILE:LINE: refused format, address, prefix, range or length.
 
 Status: 0; 1 if the sides of differ are not equal; 2 on wrong usage, a refused line, a file that cannot be read, a
 failed write or out of memory; 3 if lines were skipped.
