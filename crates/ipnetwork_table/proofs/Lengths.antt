@@ -42,12 +42,3 @@ module _ {V : Type 0} where
         | true ↦ λ is stored. absurd (nothing (subst IsSome is stored))
         | false ↦ λ is stored. marked n (subst IsSome is stored)
       ] (get-remove total t m n)
-
-  -- a stored block gets another value
-  pub marked_again : (t : FinMap network_cmp V) (marks : List Bool) (m : Network) (v : V) → IsSome (get t m) → MarksLengths t marks → MarksLengths (insert t m v) marks
-  marked_again t marks m v there marked n =
-      elim (eq_by_cmp network_cmp n m) as (λ b. eq_by_cmp network_cmp n m ≡ b → get (insert t m v) n ≡ cond b (Some v) (get t n) → IsSome (get (insert t m v) n)
-      → get_or marks n.prefix false ≡ true) [
-        | true ↦ λ tied is stored. marked n (subst (λ (k : Network). IsSome (get t k)) (sym (one_network n m (tie_of _ tied))) there)
-        | false ↦ λ apart is stored. marked n (subst IsSome is stored)
-      ] refl (get-insert total t m v n)

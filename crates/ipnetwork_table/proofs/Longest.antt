@@ -1,8 +1,8 @@
 -- Tables of blocks, and the search for the longest block that holds an address.
-use Rattle.std.proofs.Common.{◌≡◌, ℕ, ◌-◌, ◌^◌, ◌<◌, ◌≤◌, true, false, cond, Option, Some, None, is_some, sym, refl, ap, subst, ◌∙◌, arith, ⊎_elim}
+use Rattle.std.proofs.Common.{◌≡◌, ℕ, ◌-◌, ◌^◌, ◌<◌, ◌≤◌, true, false, cond, Some, None, sym, refl, ap, subst, ◌∙◌, arith, ⊎_elim}
 use Rattle.std.specs.Prelude.{IsSome}
 use Rattle.std.specs.Ordering.{eq_by_cmp}
-use Rattle.std.specs.FinMap.{FinMap, get, insert, remove, empty, get-empty, get-insert, get-remove, same_map}
+use Rattle.std.specs.FinMap.{FinMap, get, insert, remove, empty, get-empty, get-insert, get-remove}
 use Rattle.std.proofs.lemmas.Bool.{cases_lt}
 use Rattle.ipnetwork_family.specs.Network.{Network, Member, network_cmp, block_at, IsCidrBlock}
 use Rattle.ipnetwork_family.proofs.BlocksAt.{block_at_holds, block_at_is}
@@ -15,10 +15,6 @@ Table V = FinMap network_cmp V
 
 nothing : false ≡ true → ⊥
 nothing e = cc
-
-pub no_value : {V : Type 0} (old : Option V) → is_some old ≡ false → old ≡ None
-no_value None none = refl
-no_value (Some v) none = absurd (nothing (sym none))
 
 -- ---- the tables that calls make
 
@@ -39,15 +35,6 @@ module _ {V : Type 0} (w : ℕ) where
         | true ↦ λ is stored. absurd (nothing (subst IsSome is stored))
         | false ↦ λ is stored. blocks m (subst IsSome is stored)
       ] (get-remove total t n m)
-
--- a new block that is taken out again leaves the table as it was
-pub taken_out_again : {V : Type 0} (t : Table V) (n : Network) (v : V) → get t n ≡ None → remove (insert t n v) n ≡ t
-taken_out_again t n v new = same_map total one_network _ _ (λ m.
-    elim (eq_by_cmp network_cmp m n) as (λ b. eq_by_cmp network_cmp m n ≡ b → get (insert t n v) m ≡ cond b (Some v) (get t m)
-    → get (remove (insert t n v) n) m ≡ cond b None (get (insert t n v) m) → get (remove (insert t n v) n) m ≡ get t m) [
-      | true ↦ λ tied put gone. gone ∙ sym new ∙ ap (get t) (sym (one_network m n (tie_of _ tied)))
-      | false ↦ λ apart put gone. gone ∙ put
-    ] refl (get-insert total t n v m) (get-remove total (insert t n v) n m))
 
 -- ---- the search
 

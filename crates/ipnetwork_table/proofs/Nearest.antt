@@ -1,17 +1,11 @@
 -- The stored block that is nearest to an address from below, and how many bits the two share.
-use Rattle.std.proofs.Common.{◌≡◌, ℕ, ◌-◌, ◌*◌, ◌/◌, ◌^◌, ◌<◌, ◌≤◌, true, false, cond, inl, inr, Some, None, sym, refl, ap, subst, ◌∙◌, arith, ⊎_elim}
-use Rattle.std.specs.Prelude.{◌↔◌, IsSome}
-use Rattle.std.specs.Ordering.{eq_by_cmp}
-use Rattle.std.specs.FinMap.{FinMap, get, insert, remove, get-insert, get-remove}
+use Rattle.std.proofs.Common.{◌≡◌, ℕ, ◌-◌, ◌*◌, ◌/◌, ◌^◌, ◌<◌, ◌≤◌, inl, inr, sym, ap, ◌∙◌, arith, ⊎_elim}
+use Rattle.std.specs.FinMap.{FinMap}
 use Rattle.std.proofs.lemmas.Bool.{cases_lt}
 use Rattle.ipnetwork_family.specs.Network.{Network, IsNetwork, Member, Subnet, IsNetworkAtMost, HostBitsAreZero, network_cmp, block_at}
 use Rattle.ipnetwork_family.proofs.Blocks.{block_same_set, coarser_size, member_within, within_member, subnet_from, shares_address, subnet_after}
 use Rattle.ipnetwork_table.specs.Table.{HasBlocksAlone, NoneHolds}
-use Rattle.ipnetwork_table.specs.Private.Nearest.{HaveTheSame, NoneUpTo, IsLastUpTo, NoneAbove, ShareAtMost}
-use Rattle.ipnetwork_table.proofs.Pairs.{total, one_network, tie_of}
-
-nothing : false ≡ true → ⊥
-nothing e = cc
+use Rattle.ipnetwork_table.specs.Private.Nearest.{NoneUpTo, IsLastUpTo, NoneAbove, ShareAtMost}
 
 -- ---- how many bits are shared
 
@@ -37,67 +31,35 @@ up_to_address w x n fits block holds =
 address_up_to : (m n : Network) → IsNetworkAtMost m n → m.address ≤ n.address
 address_up_to m n most = ⊎_elim (λ (less : m.address < n.address). omega (arith, less)) (λ (same : (m.address ≡ n.address) × (m.prefix ≤ n.prefix)). omega (arith, same.0)) most
 
--- ---- the blocks that are kept in order beside the values
+-- ---- the last block up to an address
 
-module _ {V W : Type 0} where
-  pub same_with : (t : FinMap network_cmp V) (s : FinMap network_cmp W) (m : Network) (u : V) (v : W) → HaveTheSame t s → HaveTheSame (insert t m u) (insert s m v)
-  same_with t s m u v same n =
-      elim (eq_by_cmp network_cmp n m) as (λ b. get (insert t m u) n ≡ cond b (Some u) (get t n) → get (insert s m v) n ≡ cond b (Some v) (get s n)
-      → IsSome (get (insert t m u) n) ↔ IsSome (get (insert s m v) n)) [
-        | true ↦ λ in_t in_s. ((λ stored. subst IsSome (sym in_s) cc), (λ stored. subst IsSome (sym in_t) cc))
-        | false ↦ λ in_t in_s.
-            ((λ stored. subst IsSome (sym in_s) ((same n).0 (subst IsSome in_t stored))), (λ stored. subst IsSome (sym in_t) ((same n).1 (subst IsSome in_s stored))))
-      ] (get-insert total t m u n) (get-insert total s m v n)
+pub none_near : {V : Type 0} (w x : ℕ) (t : FinMap network_cmp V) → HasBlocksAlone w t → NoneUpTo t (block_at w x w) → NoneHolds w t x
+none_near w x t blocks none n stored holds =
+    let key = blocks n stored in
+    none n stored (up_to_address w x n key.network key.block holds)
 
-  pub same_without : (t : FinMap network_cmp V) (s : FinMap network_cmp W) (m : Network) → HaveTheSame t s → HaveTheSame (remove t m) (remove s m)
-  same_without t s m same n =
-      elim (eq_by_cmp network_cmp n m) as (λ b. get (remove t m) n ≡ cond b None (get t n) → get (remove s m) n ≡ cond b None (get s n)
-      → IsSome (get (remove t m) n) ↔ IsSome (get (remove s m) n)) [
-        | true ↦ λ in_t in_s. ((λ stored. absurd (nothing (subst IsSome in_t stored))), (λ stored. absurd (nothing (subst IsSome in_s stored))))
-        | false ↦ λ in_t in_s.
-            ((λ stored. subst IsSome (sym in_s) ((same n).0 (subst IsSome in_t stored))), (λ stored. subst IsSome (sym in_t) ((same n).1 (subst IsSome in_s stored))))
-      ] (get-remove total t m n) (get-remove total s m n)
+-- no stored block that holds x has a longer prefix than x shares with the last one
+pub none_above_shared : {V : Type 0} (w x c : ℕ) (k : Network) (t : FinMap network_cmp V) → HasBlocksAlone w t
+    → IsLastUpTo t (block_at w x w) k → ShareAtMost w x k.address c → NoneAbove w t x c
+none_above_shared w x c k t blocks last shared n stored beyond holds =
+    let key = blocks n stored in
+    let upper : IsNetworkAtMost n (block_at w x w) = up_to_address w x n key.network key.block holds in
+    let lower : n.address ≤ k.address = address_up_to n k (last.2 n stored upper) in
+    let most : k.address ≤ x = omega (arith, address_up_to k (block_at w x w) last.1, whole w x) in
+    let ends = within_member w n x holds in
+    let inside : Member w n k.address = member_within w n key.network k.address (omega (arith, lower, key.block)) (omega (arith, most, ends.1)) in
+    shared n.prefix beyond key.network.prefix_fits (inside.0, inside.1 ∙ sym holds.1)
 
-  -- a stored block gets another value
-  pub same_keys : (t : FinMap network_cmp V) (s : FinMap network_cmp W) (m : Network) (u : V) → IsSome (get t m) → HaveTheSame t s → HaveTheSame (insert t m u) s
-  same_keys t s m u there same n =
-      elim (eq_by_cmp network_cmp n m) as (λ b. eq_by_cmp network_cmp n m ≡ b → get (insert t m u) n ≡ cond b (Some u) (get t n)
-      → IsSome (get (insert t m u) n) ↔ IsSome (get s n)) [
-        | true ↦ λ tied in_t.
-            let at : n ≡ m = one_network n m (tie_of _ tied) in
-            ((λ stored. (same n).0 (subst (λ (k : Network). IsSome (get t k)) (sym at) there)), (λ stored. subst IsSome (sym in_t) cc))
-        | false ↦ λ apart in_t. ((λ stored. (same n).0 (subst IsSome in_t stored)), (λ stored. subst IsSome (sym in_t) ((same n).1 stored)))
-      ] refl (get-insert total t m u n)
-
-  -- ---- the last block up to an address
-
-  pub none_near : (w x : ℕ) (t : FinMap network_cmp V) (s : FinMap network_cmp W) → HasBlocksAlone w t → HaveTheSame t s → NoneUpTo s (block_at w x w) → NoneHolds w t x
-  none_near w x t s blocks same none n stored holds =
-      let key = blocks n stored in
-      none n ((same n).0 stored) (up_to_address w x n key.network key.block holds)
-
-  -- no stored block that holds x has a longer prefix than x shares with the last one
-  pub none_above_shared : (w x c : ℕ) (k : Network) (t : FinMap network_cmp V) (s : FinMap network_cmp W) → HasBlocksAlone w t → HaveTheSame t s
-      → IsLastUpTo s (block_at w x w) k → ShareAtMost w x k.address c → NoneAbove w t x c
-  none_above_shared w x c k t s blocks same last shared n stored beyond holds =
-      let key = blocks n stored in
-      let upper : IsNetworkAtMost n (block_at w x w) = up_to_address w x n key.network key.block holds in
-      let lower : n.address ≤ k.address = address_up_to n k (last.2 n ((same n).0 stored) upper) in
-      let most : k.address ≤ x = omega (arith, address_up_to k (block_at w x w) last.1, whole w x) in
-      let ends = within_member w n x holds in
-      let inside : Member w n k.address = member_within w n key.network k.address (omega (arith, lower, key.block)) (omega (arith, most, ends.1)) in
-      shared n.prefix beyond key.network.prefix_fits (inside.0, inside.1 ∙ sym holds.1)
-
-  -- nor than that of the last one, where that holds x too
-  pub none_above_near : (w x : ℕ) (k : Network) (t : FinMap network_cmp V) (s : FinMap network_cmp W) → HasBlocksAlone w t → HaveTheSame t s
-      → IsLastUpTo s (block_at w x w) k → Member w k x → NoneAbove w t x k.prefix
-  none_above_near w x k t s blocks same last here n stored beyond holds =
-      let key = blocks n stored in
-      let near = blocks k ((same k).1 last.0) in
-      let inside : Subnet w n k = subnet_from w n k key.network (omega (arith, beyond)) (shares_address w n k x (omega (arith, beyond)) key.network near.network holds here) in
-      let after : IsNetworkAtMost k n = subnet_after w k n near.network key.network near.block key.block inside in
-      let upper : IsNetworkAtMost n k = last.2 n ((same n).0 stored) (up_to_address w x n key.network key.block holds) in
-      let from : k.address ≤ n.address = address_up_to k n after in
-      ⊎_elim
-      (λ (less : n.address < k.address). omega (arith, less, from))
-      (λ (same : (n.address ≡ k.address) × (n.prefix ≤ k.prefix)). omega (arith, same.1, beyond)) upper
+-- nor than that of the last one, where that holds x too
+pub none_above_near : {V : Type 0} (w x : ℕ) (k : Network) (t : FinMap network_cmp V) → HasBlocksAlone w t
+    → IsLastUpTo t (block_at w x w) k → Member w k x → NoneAbove w t x k.prefix
+none_above_near w x k t blocks last here n stored beyond holds =
+    let key = blocks n stored in
+    let near = blocks k last.0 in
+    let inside : Subnet w n k = subnet_from w n k key.network (omega (arith, beyond)) (shares_address w n k x (omega (arith, beyond)) key.network near.network holds here) in
+    let after : IsNetworkAtMost k n = subnet_after w k n near.network key.network near.block key.block inside in
+    let upper : IsNetworkAtMost n k = last.2 n stored (up_to_address w x n key.network key.block holds) in
+    let from : k.address ≤ n.address = address_up_to k n after in
+    ⊎_elim
+    (λ (less : n.address < k.address). omega (arith, less, from))
+    (λ (same : (n.address ≡ k.address) × (n.prefix ≤ k.prefix)). omega (arith, same.1, beyond)) upper

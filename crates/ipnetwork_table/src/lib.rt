@@ -7,7 +7,6 @@
 mod common_bits;
 mod entries;
 pub mod laws;
-mod ordered_keys;
 mod table;
 mod values;
 

@@ -7,7 +7,6 @@ ghost use Rattle.ipnetwork_table.specs.Private.Nearest.{NoneAbove};
 
 use crate::common_bits::shared_length;
 use crate::entries::Entries;
-use crate::ordered_keys::OrderedKeys;
 use crate::values::Values;
 use ipnetwork_family::{CidrNetwork, laws};
 use std::alloc::{AllocError, Global};
@@ -31,8 +30,6 @@ pub struct PrefixTable<N: CidrNetwork, V: Copy> {
     values: Values<N, V>,
     // `used[p]` is true if some stored block has the prefix length p, and may be true of others.
     used: [bool; 256],
-    // The blocks that have a value, and no others.
-    keys: OrderedKeys<N>,
 }
 
 // A contract sees the finite map from networks, as pairs of numbers, to values.
@@ -41,7 +38,6 @@ impl<N: CidrNetwork, V: Copy> Model for PrefixTable<N, V> {
     ghost use Rattle.ipnetwork_family.specs.Network.{network_cmp};
     ghost use Rattle.ipnetwork_table.specs.Table.{network_code, HasBlocksAlone};
     ghost use Rattle.ipnetwork_table.specs.Private.Lengths.{MarksLengths};
-    ghost use Rattle.ipnetwork_table.specs.Private.Nearest.{HaveTheSame};
 
     ghost Value = { map.FinMap network_cmp V };
 
@@ -49,7 +45,7 @@ impl<N: CidrNetwork, V: Copy> Model for PrefixTable<N, V> {
 
     ghost view = { λ t. t.values };
 
-    ghost invariant = { λ t. HasBlocksAlone N.WIDTH t.values × MarksLengths t.values t.used × HaveTheSame t.values t.keys };
+    ghost invariant = { λ t. HasBlocksAlone N.WIDTH t.values × MarksLengths t.values t.used };
 }
 
 // The block of a network.
@@ -79,7 +75,6 @@ impl<N: CidrNetwork, V: Copy> PrefixTable<N, V> {
         PrefixTable {
             values: Values::new(alloc),
             used: [false; 256],
-            keys: OrderedKeys::new(alloc),
         }
     }
 
@@ -167,7 +162,6 @@ impl<N: CidrNetwork, V: Copy> PrefixTable<N, V> {
     {
         self.values.clear();
         self.used = [false; 256];
-        self.keys.clear();
     }
 
     /// Sets the value of the block of `net`, and returns the value that it had.
@@ -189,8 +183,7 @@ impl<N: CidrNetwork, V: Copy> PrefixTable<N, V> {
         self.insert_block(key_of(net), value)
     }
 
-    // A new block is kept in order too, and its prefix length is marked. If there is no memory to keep it in order,
-    // it is taken out again.
+    // The prefix length of the block is marked.
     fn insert_block(&mut self, block: N, value: V) -> Result<Option<V>, AllocError>
         requires { HostBitsAreZero N.WIDTH (N.pair block) }
         ensures old { IfOk result (λ old. old ≡ map.get self.old (N.pair block)) }
@@ -199,15 +192,8 @@ impl<N: CidrNetwork, V: Copy> PrefixTable<N, V> {
         ensures unchanged { OnErr result (self.new ≡ self.old) }
     {
         let old = self.values.insert(block, value)?;
-        if old.is_some() {
-            return Ok(old);
-        }
-        if let Err(refused) = self.keys.insert(block) {
-            self.values.remove(block);
-            return Err(refused);
-        }
         self.used[block.prefix() as usize] = true;
-        Ok(None)
+        Ok(old)
     }
 
     /// Takes the block of `net` out, and returns the value that it had, or `None`.
@@ -229,7 +215,6 @@ impl<N: CidrNetwork, V: Copy> PrefixTable<N, V> {
         ensures old { result ≡ map.get self.old (N.pair block) }
         ensures removed { self.new ≡ map.remove self.old (N.pair block) }
     {
-        self.keys.remove(block);
         self.values.remove(block)
     }
 
@@ -244,7 +229,7 @@ impl<N: CidrNetwork, V: Copy> PrefixTable<N, V> {
         let Some(end) = N::block(addr, N::WIDTH) else {
             unreachable!()
         };
-        let near = self.keys.last_up_to(end)?;
+        let near = self.values.last_up_to(end)?;
         if near.contains(addr) {
             return Some(near.prefix());
         }

@@ -1,7 +1,8 @@
 //! The ordered map in which a table keeps its values.
-ghost use Rattle.std.specs.Prelude.{◌≡◌, ℕ, ◌+◌, ◌<◌, ◌^◌, OnOk, OnErr, IfOk, None};
+ghost use Rattle.std.specs.Prelude.{◌≡◌, ℕ, ◌+◌, ◌<◌, ◌^◌, OnOk, OnErr, IfOk, None, MatchOption};
 ghost use Rattle.std.specs.FinMap as map;
 ghost use Rattle.ipnetwork_table.specs.Table.{by_pair};
+ghost use Rattle.ipnetwork_table.specs.Private.Nearest.{IsLastUpTo, NoneUpTo};
 
 use crate::entries::Entries;
 use ipnetwork_family::CidrNetwork;
@@ -51,6 +52,15 @@ impl<N: CidrNetwork, V: Copy> Values<N, V> {
     {
         *steps += 1;
         self.tree.get(&key).copied()
+    }
+
+    /// The last network that does not come after this one, without its value.
+    pub(crate) fn last_up_to(&self, end: N) -> Option<N>
+        ensures { MatchOption result (NoneUpTo self.now (N.pair end))
+            (λ last. IsLastUpTo self.now (N.pair end) (N.pair last)) }
+    {
+        let (last, _) = self.tree.range(..=end).next_back()?;
+        Some(*last)
     }
 
     /// Sets the value of a network and returns the one that it had. An error means out of memory, which can happen

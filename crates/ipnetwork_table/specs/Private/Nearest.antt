@@ -1,11 +1,7 @@
 -- The stored block that is nearest to an address from below.
-use Rattle.std.specs.Prelude.{◌↔◌, ℕ, ◌<◌, ◌≤◌, IsSome}
+use Rattle.std.specs.Prelude.{ℕ, ◌<◌, ◌≤◌, IsSome}
 use Rattle.std.specs.FinMap.{FinMap, get}
 use Rattle.ipnetwork_family.specs.Network.{Network, Member, IsNetworkAtMost, network_cmp}
-
--- a network is in one exactly if it is in the other
-abbrev pub HaveTheSame : {V W : Type 0} → FinMap network_cmp V → FinMap network_cmp W → Type 0
-HaveTheSame t others = (n : Network) → IsSome (get t n) ↔ IsSome (get others n)
 
 -- each network that is there comes after n
 abbrev pub NoneUpTo : {V : Type 0} → FinMap network_cmp V → Network → Type 0

@@ -1,4 +1,3 @@
-use Rattle.ipnetwork_table.specs.Table.{found_by_pair}
 use Rattle.ipnetwork_table.proofs.OneAnswer.{answers_by_pair}
 use Rattle.ipnetwork_table.proofs.laws.lookups.lookups_agree.Goals as goal
 

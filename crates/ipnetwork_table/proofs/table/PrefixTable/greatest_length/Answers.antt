@@ -11,9 +11,9 @@ returns-clause-bound g c =
     let near = g.N.CidrNetwork.pair c.in_ok-near.near in (
       c.shared_length.ensures.within,
       rw (← c.self.view_is)
-          (none_above_shared w x c.shared_length.result near c.self.inside.values c.self.inside.keys c.self.invariant.0 c.self.invariant.2
-          (subst (λ length. IsLastUpTo c.self.inside.keys (block_at w x length) near) c.WIDTH.ensures
-          (subst (λ end. IsLastUpTo c.self.inside.keys end near) c.in-Some.ensures.cases.1 c.in_ok-near.ensures))
+          (none_above_shared w x c.shared_length.result near c.self.inside.values c.self.invariant.0
+          (subst (λ length. IsLastUpTo c.self.inside.values (block_at w x length) near) c.WIDTH.ensures
+          (subst (λ end. IsLastUpTo c.self.inside.values end near) c.in-Some.ensures.cases.1 c.in_ok-near.ensures))
           (subst (λ y. ShareAtMost w x y c.shared_length.result) c.ip.ensures.made c.shared_length.ensures.shared)),
     )
 
@@ -25,8 +25,8 @@ returns-then-contains-clause-bound g c =
       omega (arith, c.prefix.ensures.made, c.prefix.ensures.network.prefix_fits),
       rw (← c.self.view_is)
           (subst (NoneAbove w c.self.inside.values x) (sym c.prefix.ensures.made)
-          (none_above_near w x near c.self.inside.values c.self.inside.keys c.self.invariant.0 c.self.invariant.2
-          (subst (λ length. IsLastUpTo c.self.inside.keys (block_at w x length) near) c.WIDTH.ensures
-          (subst (λ end. IsLastUpTo c.self.inside.keys end near) c.in-Some.ensures.cases.1 c.in_ok-near.ensures))
+          (none_above_near w x near c.self.inside.values c.self.invariant.0
+          (subst (λ length. IsLastUpTo c.self.inside.values (block_at w x length) near) c.WIDTH.ensures
+          (subst (λ end. IsLastUpTo c.self.inside.values end near) c.in-Some.ensures.cases.1 c.in_ok-near.ensures))
           (c.contains.ensures.0 c.if-contains.true))),
     )

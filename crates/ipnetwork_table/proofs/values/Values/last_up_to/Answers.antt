@@ -1,7 +1,7 @@
 use Rattle.std.proofs.Common.{rules}
 use Rattle.ipnetwork_table.specs.Private.Nearest.{NoneUpTo}
 use Rattle.ipnetwork_table.proofs.Neighbours.{none_up_to, is_last_up_to}
-use Rattle.ipnetwork_table.proofs.ordered_keys.OrderedKeys.last_up_to.Goals as goal
+use Rattle.ipnetwork_table.proofs.values.Values.last_up_to.Goals as goal
 
 pub returns-in_err-last : goal.returns-in_err-last
 returns-in_err-last g c =
@@ -13,7 +13,7 @@ returns-in_err-last g c =
 
 pub returns : goal.returns
 returns g c = rw (← c.self.view_is)
-    (is_last_up_to g.N.CidrNetwork.pair g.N.Ord.cmp g.met.N.CidrNetwork.network_order c.self.inside.tree c.args.end c.in_ok-last.last.now tt
+    (is_last_up_to g.N.CidrNetwork.pair g.N.Ord.cmp g.met.N.CidrNetwork.network_order c.self.inside.tree c.args.end c.in_ok-last.last.now _
     ((c.range.ensures.in_range tt).3 _ _ c.in_ok-last.ensures.steps).0
     ((c.range.ensures.in_range tt).3 _ _ c.in_ok-last.ensures.steps).1
     ((c.range.ensures.in_range tt).4 _ _ c.in_ok-last.ensures.steps))
