@@ -1,7 +1,8 @@
 use Rattle.std.proofs.Common.{◌≡◌, ◌∷◌, ◌<◌, ◌≤◌, ℕ, true, List, map, ap, sym, subst, ◌∙◌, arith}
 use Rattle.std.proofs.lemmas.Bool.{iff_false}
 use Rattle.ipnetwork_family.specs.Network.{Network, IsCidrBlock, high}
-use Rattle.ipnetwork_sets.proofs.Lists.{no_items, not_below, not_before}
+use Rattle.ipnetwork_blocks.proofs.RangeLists.{not_before}
+use Rattle.ipnetwork_sets.proofs.Lists.{no_items, not_below}
 use Rattle.ipnetwork_c.specs.Private.Together.{IsStretch}
 use Rattle.ipnetwork_c.proofs.KeptRuns.{whole_ends, no_block_left, the_block, others_are_set, same_behind, in_block, before_block}
 use Rattle.ipnetwork_c.proofs.stretch.stretch.Goals as goal
