@@ -1,8 +1,9 @@
 -- The binary search, and what its block tells of an address and of a network.
-use Rattle.std.proofs.Common.{◌≡◌, ◌↔◌, ℕ, zero, suc, ◌+◌, ◌-◌, ◌*◌, ◌^◌, ◌<◌, ◌≤◌, ◌⊎◌, inl, inr, sym, refl, ap, subst, ◌∙◌, arith, ⊎_elim, Bool, true, false, IsTrue, if◌then◌else◌, List, length, get_or}
+use Rattle.std.proofs.Common.{◌≡◌, ◌↔◌, ℕ, zero, suc, ◌+◌, ◌-◌, ◌*◌, ◌%◌, ◌^◌, ◌<◌, ◌≤◌, ◌⊎◌, inl, inr, sym, refl, ap, subst, ◌∙◌, arith, ⊎_elim, Bool, true, false, IsTrue, if◌then◌else◌, List, length, get_or}
 use Rattle.std.proofs.Math.Nat.{pow-succ'}
 use Rattle.std.proofs.lemmas.Bool.{cases_lt, cases_order, iff_false}
 use Rattle.std.proofs.lemmas.List.{get_or_default}
+use Rattle.std.proofs.lemmas.Nat.{pow_below}
 use Rattle.std.specs.List.{AllPairs, Contains}
 use Rattle.ipnetwork_family.specs.Network.{Network, IsNetwork, Member, Subnet, Overlap, low, high}
 use Rattle.ipnetwork_family.proofs.Blocks.{size_pos, has_ends, within_member, member_within}
@@ -10,16 +11,10 @@ use Rattle.ipnetwork_blocks.specs.LeastList.{IsMaximalIn}
 use Rattle.ipnetwork_blocks.specs.Aggregate.{InUnion, LiesInUnion}
 use Rattle.ipnetwork_blocks.specs.AggregateLaws.{AggregateHasOneBlock, AggregateHasNetworks}
 use Rattle.ipnetwork_sets.specs.Sets.{IsAddressSet, MeetsUnion}
-use Rattle.ipnetwork_sets.specs.Private.Search.{NoneUpTo, IsLastUpTo}
+use Rattle.ipnetwork_sets.specs.Private.Search.{NoneUpTo, IsLastUpTo, IsSplit}
 use Rattle.ipnetwork_sets.proofs.Lists.{not_below}
 
--- ---- the loop of `last_up_to`: the blocks before `from` begin at x or before it, those at `to` and behind after it
-
-pub record IsSplit (blocks : List Network) (x from to : ℕ) : Type 0 where
-  pub ordered : from ≤ to
-  pub within : to ≤ length blocks
-  pub below : (k : ℕ) (d : Network) → k < from → (get_or blocks k d).address ≤ x
-  pub above : (k : ℕ) (d : Network) → to ≤ k → k < length blocks → x < (get_or blocks k d).address
+-- ---- the steps of the search
 
 Ascending : List Network → Type 0
 Ascending blocks = AllPairs (λ a b. a.address < b.address) blocks
@@ -106,11 +101,88 @@ split_step blocks x from to p b false up h some at is iff =
     let f : from ≡ from + 0 = omega arith in
     subst (λ (k : ℕ). IsSplit blocks x k (from + 0 + p - 1)) f (subst (λ (k : ℕ). IsSplit blocks x from k) t s)
 
+moved : (blocks : List Network) (x from to begin end : ℕ) → from ≡ begin → to ≡ end → IsSplit blocks x from to → IsSplit blocks x begin end
+moved blocks x from to begin end e f h = subst (λ (k : ℕ). IsSplit blocks x begin k) f (subst (λ (k : ℕ). IsSplit blocks x k to) e h)
+
+-- of two blocks the one that stands first begins first
+begins_first : (blocks : List Network) (i j : ℕ) (a b : Network) → AllPairs (λ a b. a.address < b.address) blocks → a ≡ get_or blocks i a → b ≡ get_or blocks j b → i < j → j < length blocks → a.address < b.address
+begins_first blocks i j a b up at_i at_j less within =
+    let here : get_or blocks i b ≡ a = get_or_default blocks i b a (omega arith) ∙ sym at_i in
+    let first : (get_or blocks i b).address ≡ a.address = ap (λ n. n.address) here in
+    let last : (get_or blocks j b).address ≡ b.address = ap (λ n. n.address) (sym at_j) in
+    let f : (get_or blocks i b).address < (get_or blocks j b).address = up i j b less within in
+    omega arith
+
+none_true : (t : Bool) → (IsTrue t → ⊥) → t ≡ false
+none_true true h = absurd (h refl)
+none_true false h = refl
+
+-- a step by quarters, where the first block begins before the second, and that before the third
+quarters : (blocks : List Network) (x from p : ℕ) (a b c : Network) (r s t : Bool) → AllPairs (λ a b. a.address < b.address) blocks → IsSplit blocks x from (from + 4 * p - 1)
+    → 0 < p → a ≡ get_or blocks (from + (p - 1)) a → b ≡ get_or blocks (from + (2 * p - 1)) b → c ≡ get_or blocks (from + (3 * p - 1)) c
+    → IsTrue r ↔ (a.address ≤ x) → IsTrue s ↔ (b.address ≤ x) → IsTrue t ↔ (c.address ≤ x) → a.address < b.address → b.address < c.address
+    → IsSplit blocks x (from + ((if r then p else 0) + (if s then p else 0) + (if t then p else 0))) (from + ((if r then p else 0) + (if s then p else 0) + (if t then p else 0)) + p - 1)
+quarters blocks x from p a b c r true t up h some at_a at_b at_c is_r is_s is_t first second =
+    let half = split_step blocks x from (from + 4 * p - 1) (2 * p) b true up h (omega arith) (omega arith) at_b is_s in
+    let at : from + (3 * p - 1) ≡ from + 2 * p + (p - 1) = omega arith in
+    let step = split_step blocks x (from + 2 * p) (from + 2 * p + 2 * p - 1) p c t up half some (omega arith) (subst (λ (k : ℕ). c ≡ get_or blocks k c) at at_c) is_t in
+    let low : IsTrue r = is_r.1 (omega (arith, is_s.0 refl)) in
+    subst (λ (v : Bool). IsSplit blocks x (from + ((if v then p else 0) + p + (if t then p else 0))) (from + ((if v then p else 0) + p + (if t then p else 0)) + p - 1)) (sym low)
+    (moved blocks x (from + 2 * p + (if t then p else 0)) (from + 2 * p + (if t then p else 0) + p - 1) (from + (p + p + (if t then p else 0))) (from + (p + p + (if t then p else 0)) + p - 1) (omega arith) (omega arith) step)
+quarters blocks x from p a b c r false t up h some at_a at_b at_c is_r is_s is_t first second =
+    let half = split_step blocks x from (from + 4 * p - 1) (2 * p) b false up h (omega arith) (omega arith) at_b is_s in
+    let here : from ≡ from + 0 = omega arith in
+    let step = split_step blocks x (from + 0) (from + 0 + 2 * p - 1) p a r up half some (omega arith) (subst (λ (k : ℕ). a ≡ get_or blocks (k + (p - 1)) a) here at_a) is_r in
+    let after : x < b.address = not_below b.address x (iff_false is_s refl) in
+    let high : t ≡ false = none_true t (λ u. let l : c.address ≤ x = is_t.0 u in absurd (omega arith)) in
+    subst (λ (v : Bool). IsSplit blocks x (from + ((if r then p else 0) + 0 + (if v then p else 0))) (from + ((if r then p else 0) + 0 + (if v then p else 0)) + p - 1)) (sym high)
+    (moved blocks x (from + 0 + (if r then p else 0)) (from + 0 + (if r then p else 0) + p - 1) (from + ((if r then p else 0) + 0 + 0)) (from + ((if r then p else 0) + 0 + 0) + p - 1) (omega arith) (omega arith) step)
+
+-- a step by quarters of p blocks, of which p - 1 blocks are left
+pub split_quarters : (blocks : List Network) (x from p : ℕ) (a b c : Network) (r s t : Bool) → AllPairs (λ a b. a.address < b.address) blocks → IsSplit blocks x from (from + 4 * p - 1)
+    → 0 < p → a ≡ get_or blocks (from + (p - 1)) a → b ≡ get_or blocks (from + (2 * p - 1)) b → c ≡ get_or blocks (from + (3 * p - 1)) c
+    → IsTrue r ↔ (a.address ≤ x) → IsTrue s ↔ (b.address ≤ x) → IsTrue t ↔ (c.address ≤ x)
+    → IsSplit blocks x (from + ((if r then p else 0) + (if s then p else 0) + (if t then p else 0))) (from + ((if r then p else 0) + (if s then p else 0) + (if t then p else 0)) + p - 1)
+split_quarters blocks x from p a b c r s t up h some at_a at_b at_c is_r is_s is_t =
+    let within = h.within in
+    let first : a.address < b.address = begins_first blocks (from + (p - 1)) (from + (2 * p - 1)) a b up at_a at_b (omega arith) (omega arith) in
+    let second : b.address < c.address = begins_first blocks (from + (2 * p - 1)) (from + (3 * p - 1)) b c up at_b at_c (omega arith) (omega arith) in
+    quarters blocks x from p a b c r s t up h some at_a at_b at_c is_r is_s is_t first second
+
+pub at_most : (holds : Bool) (n : ℕ) → (if holds then n else 0) ≤ n
+at_most true n = omega arith
+at_most false n = omega arith
+
+three_times : (r s t : Bool) (p : ℕ) → ((if r then 1 else 0) + (if s then 1 else 0) + (if t then 1 else 0)) * p ≡ (if r then p else 0) + (if s then p else 0) + (if t then p else 0)
+three_times true true true p = omega arith
+three_times true true false p = omega arith
+three_times true false true p = omega arith
+three_times true false false p = omega arith
+three_times false true true p = omega arith
+three_times false true false p = omega arith
+three_times false false true p = omega arith
+three_times false false false p = omega arith
+
+-- so many times a power that four of them fit
+pub three_powers : (r s t : Bool) (a b c e : ℕ) → e < 62 → a ≡ (if r then 1 else 0) → b ≡ (if s then 1 else 0) → c ≡ (if t then 1 else 0)
+    → (a + b + c) * 2 ^ e % 18446744073709551616 ≡ (if r then 2 ^ e else 0) + (if s then 2 ^ e else 0) + (if t then 2 ^ e else 0)
+three_powers r s t a b c e few is_a is_b is_c =
+    let fits : 2 ^ e < 2 ^ 62 = pow_below e 62 few in
+    let all : (a + b + c) * 2 ^ e ≡ (if r then 2 ^ e else 0) + (if s then 2 ^ e else 0) + (if t then 2 ^ e else 0) =
+    ap (λ n. (n + b + c) * 2 ^ e) is_a ∙ ap (λ n. ((if r then 1 else 0) + n + c) * 2 ^ e) is_b ∙ ap (λ n. ((if r then 1 else 0) + (if s then 1 else 0) + n) * 2 ^ e) is_c ∙ three_times r s t (2 ^ e) in
+    omega (arith, all, at_most r (2 ^ e), at_most s (2 ^ e), at_most t (2 ^ e), fits)
+
 pub twice : (k : ℕ) → 0 < k → 2 ^ k ≡ 2 * 2 ^ (k - 1)
 twice zero h = absurd (omega arith)
 twice (suc k) h =
     let e : k ≡ suc k - 1 = omega arith in
     pow-succ' 2 k ∙ ap (λ j. 2 * 2 ^ j) e
+
+pub fourfold : (k : ℕ) → 1 < k → 2 ^ k ≡ 4 * 2 ^ (k - 2)
+fourfold k h =
+    let one : k - 1 - 1 ≡ k - 2 = omega arith in
+    let half : 2 ^ (k - 1) ≡ 2 * 2 ^ (k - 2) = twice (k - 1) (omega arith) ∙ ap (λ j. 2 * 2 ^ j) one in
+    omega (arith, twice k (omega arith), half)
 
 -- where both meet
 split_none : (blocks : List Network) (x to : ℕ) → IsSplit blocks x 0 to → to ≤ 0 → NoneUpTo blocks x

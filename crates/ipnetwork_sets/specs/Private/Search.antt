@@ -1,5 +1,6 @@
 -- The last block up to an address.
-use Rattle.std.specs.Prelude.{ℕ, ◌<◌, ◌≤◌, List}
+use Rattle.std.specs.Prelude.{ℕ, ◌<◌, ◌≤◌, List, length}
+use Rattle.std.proofs.Common.{get_or}
 use Rattle.std.specs.List.{Contains}
 use Rattle.ipnetwork_family.specs.Network.{Network}
 
@@ -12,3 +13,10 @@ pub record IsLastUpTo (blocks : List Network) (x : ℕ) (last : Network) : Type 
   pub one : Contains blocks last
   pub begins : last.address ≤ x
   pub others : (b : Network) → Contains blocks b → b.address ≤ x → b.address ≤ last.address
+
+-- the blocks before `from` begin at the address x or before it, those at `to` and behind after it
+pub record IsSplit (blocks : List Network) (x from to : ℕ) : Type 0 where
+  pub ordered : from ≤ to
+  pub within : to ≤ length blocks
+  pub below : (k : ℕ) (d : Network) → k < from → (get_or blocks k d).address ≤ x
+  pub above : (k : ℕ) (d : Network) → to ≤ k → k < length blocks → x < (get_or blocks k d).address

@@ -1,5 +1,5 @@
-use Rattle.std.proofs.Common.{◌≡◌, ◌<◌, ◌≤◌, ◌+◌, ℕ, length, map, sym, subst, arith}
-use Rattle.ipnetwork_family.specs.Network.{low, high}
+use Rattle.std.proofs.Common.{◌<◌, ℕ, length, map, sym, subst, arith}
+use Rattle.ipnetwork_family.specs.Network.{low}
 use Rattle.ipnetwork_sets.specs.Private.Together.{IsLater}
 use Rattle.ipnetwork_sets.proofs.Together.{IsGrowing, first_is_block, growing_starts, grows_by_first, grows_by_second, growing_ends, mapped_shorter}
 use Rattle.ipnetwork_sets.proofs.union.next_run.Goals as goal
