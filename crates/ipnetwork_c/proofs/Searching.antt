@@ -6,8 +6,8 @@ use Rattle.std.proofs.lemmas.Bool.{cases_lt}
 use Rattle.std.proofs.lemmas.List.{length-map, get_or_default}
 use Rattle.ipnetwork_family.specs.Network.{Network, Member}
 use Rattle.ipnetwork_blocks.specs.AggregateLaws.{AggregateHasOneBlock}
-use Rattle.ipnetwork_sets.specs.Private.Search.{NoneUpTo, IsLastUpTo}
-use Rattle.ipnetwork_sets.proofs.Searched.{IsSplit, split_starts, split_none_at, split_last, none_holds, holds_by_last}
+use Rattle.ipnetwork_sets.specs.Private.Search.{NoneUpTo, IsLastUpTo, IsSplit}
+use Rattle.ipnetwork_sets.proofs.Searched.{split_starts, split_none_at, split_last, none_holds, holds_by_last}
 use Rattle.ipnetwork_c.specs.Lists.{FindsIn}
 use Rattle.ipnetwork_c.specs.Private.Sets.{SplitsAt}
 use Rattle.ipnetwork_c.proofs.Truths.{no_true}

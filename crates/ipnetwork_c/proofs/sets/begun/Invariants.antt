@@ -1,6 +1,6 @@
 use Rattle.std.proofs.Common.{◌-◌, ◌≤◌, length, map}
 use Rattle.std.specs.List.{AllPairs}
-use Rattle.ipnetwork_sets.proofs.Searched.{IsSplit}
+use Rattle.ipnetwork_sets.specs.Private.Search.{IsSplit}
 use Rattle.ipnetwork_c.proofs.sets.begun.Given as goal
 
 abbrev pub invariant-loop-from : goal.invariant-loop-from
