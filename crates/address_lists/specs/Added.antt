@@ -14,7 +14,7 @@ use Rattle.list_entries.specs.declared.entry.Entry.TheVariants as entries
 abbrev pub AddsBlocks : ℕ → ℕ → ℕ → List Network → List Network → Type 0
 AddsBlocks w first last before after = (blocks : List Network) × IsLeastList w (FromTo first last) blocks × (after ≡ before ++ blocks)
 
--- so to the networks of its family, and those of the other stay
+-- they were added to the networks of its family, and those of the other family are unchanged
 abbrev pub AddsRange : List Network → List Network → IpAddr → IpAddr → List Network → List Network → Type 0
 AddsRange v4 v6 (V4 first) (V4 last) new4 new6 = AddsBlocks 32 first last v4 new4 × (new6 ≡ v6) × (last < 2 ^ 32)
 AddsRange v4 v6 (V4 first) (V6 last) new4 new6 = ⊥

@@ -17,7 +17,7 @@ use Rattle.address_lists.specs.declared.fault.LineFault.{LineFault}
 use Rattle.address_lists.specs.declared.fault.LineFault.TheVariants as faults
 
 -- what was read of lists: the networks of each family, the refused lines, the number of the list and of the line that
--- was read last, and whether there was no memory for a network
+-- was read last, and whether memory ran out for a network
 pub record ReadLists : Type 0 where
   pub v4 : List Network
   pub v6 : List Network
@@ -26,7 +26,7 @@ pub record ReadLists : Type 0 where
   pub line : ℕ
   pub is_out_of_memory : Bool
 
--- nothing yet, but for lines that were refused before
+-- nothing yet, except lines that were refused before
 abbrev pub nothing_read : Refused → ReadLists
 nothing_read refused = record { v4 = []; v6 = []; refused = refused; list = 0; line = 0; is_out_of_memory = false }
 
@@ -34,7 +34,7 @@ nothing_read refused = record { v4 = []; v6 = []; refused = refused; list = 0; l
 abbrev pub at_list : ReadLists → ℕ → ReadLists
 at_list lists number = record lists { list = number; line = 0 }
 
--- the same, a line on; 64 bits count the lines
+-- the same, at the next line; the number of a line has 64 bits
 abbrev pub at_next_line : ReadLists → ReadLists
 at_next_line lists = record lists { line = min (lists.line + 1) (2 ^ 64 - 1) }
 
@@ -50,7 +50,7 @@ Names (entries.Network n) a = IpMember n a
 -- a range names the addresses from the first to the last
 Names (entries.Range first last) a = IsRange first a × IsRange a last
 
--- the second has the networks of the first, behind them those of the entry, and so the addresses of both, and nothing
+-- the second has the networks of the first and, after them, those of the entry, and so the addresses of both; nothing
 -- else has changed
 pub record Gains (before : ReadLists) (entry : Entry) (after : ReadLists) : Type 0 where
   pub networks : AddsEntry before.v4 before.v6 entry after.v4 after.v6
@@ -60,12 +60,12 @@ pub record Gains (before : ReadLists) (entry : Entry) (after : ReadLists) : Type
   pub line : after.line ≡ before.line
   pub memory : after.is_out_of_memory ≡ false
 
--- there was no memory for what the entry names
+-- memory ran out for what the entry names
 pub record RunsOut (before after : ReadLists) : Type 0 where
   pub refused : after.refused ≡ before.refused
   pub memory : after.is_out_of_memory ≡ true
 
--- the entry was taken, or there was no memory for it
+-- the entry was taken, or memory ran out for it
 abbrev pub TakesEntry : ReadLists → Entry → ReadLists → Type 0
 TakesEntry before entry after = Gains before entry after ⊎ RunsOut before after
 
@@ -84,7 +84,7 @@ abbrev pub TakesLine : ReadLists → Option (List ℕ) → ReadLists → Type 0
 TakesLine before None after = after ≡ refusing (at_next_line before) faults.Length
 TakesLine before (Some line) after = (reading : Result (Option Entry) EntryFault) × ReadsEntry line reading × TakesReading (at_next_line before) reading after
 
--- if there was no memory, nothing further is read
+-- once memory has run out, nothing more is read
 abbrev pub Takes : ReadLists → Option (List ℕ) → ReadLists → Type 0
 Takes before line after = ((before.is_out_of_memory ≡ true) × (after ≡ before)) ⊎ ((before.is_out_of_memory ≡ false) × TakesLine before line after)
 
@@ -101,7 +101,7 @@ LineNames line a = (entry : Entry) × (length line ≤ 1024) × ReadsEntry line 
 abbrev pub LinesName : List (List ℕ) → IpAddr → Type 0
 LinesName lines a = (line : List ℕ) × Contains lines line × LineNames line a
 
--- lines that are taken add the addresses that they name, and no others, unless there is no memory
+-- lines that are taken add the addresses that they name, and no others, unless memory runs out
 abbrev pub LinesAddWhatTheyName : Type 0
 LinesAddWhatTheyName = (before after : ReadLists) (lines : List (List ℕ)) → TakesLines before lines after → after.is_out_of_memory ≡ false
     → (a : IpAddr) → HasAddress after a ↔ (HasAddress before a ⊎ LinesName lines a)

@@ -4,7 +4,7 @@ use Rattle.std.specs.List.{Contains}
 use Rattle.ipnetwork_family.specs.Network.{Network}
 use Rattle.ipnetwork_blocks.specs.Aggregate.{IsAggregate}
 
--- the parts have together the networks of a list, in whatever order, and no others
+-- the parts together have the networks of a list, in any order, and no others
 abbrev pub AreParts : List Network → List (List Network) → Type 0
 AreParts networks parts = (n : Network) → Contains networks n ↔ ((part : List Network) × Contains parts part × Contains part n)
 
@@ -15,7 +15,7 @@ AreMerges w (part ∷ parts) (merge ∷ merges) = IsAggregate w part merge × Ar
 AreMerges w [] (merge ∷ merges) = ⊥
 AreMerges w (part ∷ parts) [] = ⊥
 
--- the merge of the merges of parts, in whatever order, is the merge of the whole
+-- the merge of the merges of parts, in any order, is the merge of the whole
 abbrev pub MergesOfPartsMerge : Type 0
 MergesOfPartsMerge = (w : ℕ) (networks merged whole again : List Network) (parts merges : List (List Network)) → AreParts networks parts → AreMerges w parts merges → AreParts merged merges
     → IsAggregate w networks whole → IsAggregate w merged again → again ≡ whole

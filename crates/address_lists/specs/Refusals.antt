@@ -11,7 +11,7 @@ pub record Refused : Type 0 where
 abbrev pub no_refusals : Refused
 no_refusals = record { kept = []; more = 0 }
 
--- these and one more: it is kept if fewer than a hundred are, and else counted, as far as 64 bits count
+-- these and one more, which is kept if fewer than a hundred are, and else counted, up to the greatest number of 64 bits
 abbrev pub with_refusal : Refused → Refusal → Refused
 with_refusal refused refusal =
     if nat_lt (length refused.kept) 100 then record { kept = refused.kept ++ refusal ∷ []; more = refused.more }

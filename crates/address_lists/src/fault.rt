@@ -16,7 +16,7 @@ use list_entries::EntryFault;
 pub enum LineFault {
     /// The line names no addresses.
     Entry(EntryFault),
-    /// The line has more than 1,024 bytes, its end not counted.
+    /// The line has more than 1,024 bytes, not counting its line end.
     Length,
 }
 

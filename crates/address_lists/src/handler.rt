@@ -1,4 +1,4 @@
-//! A reader of lists takes their lines.
+//! `ListReader` as a handler of lines.
 ghost use Rattle.address_lists.specs.Private.Taking.{MayTake};
 
 use crate::fault::LineFault;

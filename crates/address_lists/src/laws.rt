@@ -7,7 +7,7 @@ use ipnetwork::laws::{canonical_ip_network_bytes, canonical_ip_network_names_it}
 use ipnetwork_blocks::laws::{of_the_union, same_union};
 use list_entries::laws::{line_says_one_thing, network_texts_are_entries};
 
-/// Lines that are taken add the addresses that they name, and no others, unless there is no memory for them.
+/// Lines that are taken add the addresses that they name, and no others, unless memory runs out for them.
 pub fn lines_add_what_they_name()
     ensures { LinesAddWhatTheyName }
 {

@@ -17,8 +17,9 @@ use std::alloc::{AllocError, Global};
 
 /// The networks that the lines of lists name, by family, and the lines that are refused.
 ///
-/// It reads any number of lists, one after the other, as a handler of lines (`read_list`). Networks are kept as they
-/// come, and a range as its blocks. If there is no memory for a network, nothing further is read.
+/// It reads any number of lists, one after the other, as a handler of lines (`read_list`). Networks are kept in the
+/// order in which they are read, and a range as its blocks. Once memory has run out for a network, nothing more is
+/// read.
 ///
 /// ```
 /// let mut lists = ListReader::new(rt.alloc(), Refusals::new());
@@ -39,7 +40,7 @@ pub struct ListReader {
 }
 
 impl ListReader {
-    /// No list was read yet. These lines were refused before. Does not allocate.
+    /// A reader that has read no list yet. `refusals` has the lines that were refused before. Does not allocate.
     ///
     /// ```
     /// let lists = ListReader::new(rt.alloc(), Refusals::new());
@@ -67,7 +68,7 @@ impl ListReader {
         self.line = 0;
     }
 
-    /// Whether there was no memory for a network.
+    /// Whether memory ran out for a network.
     ///
     /// ```
     /// let mut lists = ListReader::new(rt.alloc(), Refusals::new());
@@ -99,7 +100,7 @@ impl ListReader {
 
     /// The networks of each family in the order in which they were read, and the refused lines. Does not allocate.
     ///
-    /// A range is the blocks that it was read as, the fewest that have its addresses.
+    /// A range is given as the fewest blocks that have its addresses.
     ///
     /// ```
     /// let mut lists = ListReader::new(rt.alloc(), Refusals::new());

@@ -1,4 +1,4 @@
-//! Lists are read.
+//! Reads lists.
 ghost use Rattle.std.specs.Prelude.{◌≡◌, ◌||◌, ℕ, List, Some, OnOk, IfErr, IsFalse};
 ghost use Rattle.std.specs.Str.Lines.{lines};
 ghost use Rattle.line_engine.specs.Run.{ended_by_read};
@@ -14,7 +14,7 @@ use line_engine::watched::Watched;
 use std::io;
 use std::io::Read;
 
-/// The most bytes of a line, its end not counted.
+/// The most bytes of a line, not counting its line end.
 ///
 /// ```
 /// let line = [b'#'].repeat(rt.alloc(), LINE_MAX + 1)?;
@@ -27,14 +27,14 @@ pub const LINE_MAX: usize = 1024;
 /// The most bytes that are asked for at a time.
 const PIECE_MAX: usize = 65536;
 
-/// A line of so many bytes is too long, with its carriage return or without.
+/// A line of this many bytes is too long, with or without its carriage return.
 const REST_MAX: usize = 1026;
 
-/// Reads a list to its end. The caller gives it the number `list`, by which refused lines tell it.
+/// Reads a list to its end. `list` is a number that the caller chooses, by which refused lines name the list.
 ///
-/// `RunFault::Read` if a read failed: every line that was completed before was read, and no other.
-/// `RunFault::InputTooLong` if there are more than 18,446,744,073,709,551,615 bytes. Only what the lists name
-/// allocates, unless the device does.
+/// `RunFault::Read` if a read failed: exactly the lines that were complete before were read. `RunFault::InputTooLong`
+/// if there are more than 18,446,744,073,709,551,615 bytes. Allocates only for what the list names, unless the device
+/// allocates.
 ///
 /// ```
 /// let mut lists = ListReader::new(rt.alloc(), Refusals::new());

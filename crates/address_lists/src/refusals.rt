@@ -99,7 +99,7 @@ impl Refusals {
         }
     }
 
-    /// The first hundred.
+    /// The refused lines that are kept: the first hundred.
     ///
     /// ```
     /// let mut lists = ListReader::new(rt.alloc(), Refusals::new());
@@ -114,7 +114,7 @@ impl Refusals {
         &self.slots[..self.count]
     }
 
-    /// How many more there were, up to 18,446,744,073,709,551,615.
+    /// How many more refused lines there were, up to 18,446,744,073,709,551,615.
     ///
     /// ```
     /// let list = b"x\n".repeat(rt.alloc(), 103)?;

@@ -30,8 +30,8 @@ pub fn find_from(text: &[u8], from: usize, byte: u8) -> Option<usize>
     }
 }
 
-/// `find_from` by vectors of `N` bytes, in a text that has at least one. The last vector ends where the text
-/// ends, and may overlap the one before.
+/// `find_from` for a text of at least `N` bytes, in vectors of `N` bytes. The last vector ends at the end of the text,
+/// and may overlap the one before.
 #[inline(always)]
 fn find_by<const N: usize>(text: &[u8], from: usize, byte: u8) -> Option<usize>
     requires some { 0 < N }
@@ -56,7 +56,7 @@ fn find_by<const N: usize>(text: &[u8], from: usize, byte: u8) -> Option<usize>
     Some(at + marks.trailing_zeros() as usize)
 }
 
-/// A bit for each of the `N` bytes from a place on, which is set if the byte has this value.
+/// A bit for each of the `N` bytes from an index on, set if the byte has this value.
 #[inline(always)]
 fn marks_of<const N: usize>(text: &[u8], at: usize, byte: u8) -> u64
     requires few { N ≤ 32 }

@@ -20,13 +20,13 @@ use Rattle.ipnetwork.specs.Sizes.{size_number}
 use Rattle.ipnetwork.specs.declared.ip_network.IpNetwork.{IpNetwork}
 use Rattle.cidr.specs.Words.{blank}
 
--- the answer if a text names no network or no address, and no cause is told
+-- the answer if a text names no network or no address, and no cause is given
 abbrev pub refused : List ℕ
 refused = codes "refused"
 
 -- ---- `read`, `read4` and `read6`
 
--- what is told of the network that was read
+-- the answer about the network that was read
 abbrev pub text_or_refused : (IpNetwork → List ℕ) → Result IpNetwork CidrFault → List ℕ
 text_or_refused text (Ok network) = text network
 text_or_refused text (Err fault) = refused
@@ -50,7 +50,7 @@ text_or_cause canonical (Err fault) = refusal fault
 abbrev pub read4_answer : List ℕ → List ℕ
 read4_answer text = text_or_cause canonical_v4 (v4_network_of text)
 
--- `read6 T`: the same of an IPv6 network
+-- `read6 T`: the same for an IPv6 network
 unfoldable pub read6_answer : List ℕ → List ℕ
 read6_answer text = text_or_cause canonical_v6 (v6_network_of text)
 
@@ -69,7 +69,7 @@ ends_answer text = text_or_refused ends_text (ip_network_of text)
 
 -- ---- `has` and `has4`
 
--- whether the network that was read has the address that was read as a member; the network is judged first
+-- whether the network that was read has the address that was read as a member; the network is checked first
 abbrev pub membership : {N A : Type 0} → (N → A → Bool) → Result N CidrFault → Option A → List ℕ
 membership is_in (Err fault) address = codes "refused network"
 membership is_in (Ok network) None = codes "refused address"
@@ -79,7 +79,7 @@ membership is_in (Ok network) (Some address) = if is_in network address then cod
 unfoldable pub has_answer : List ℕ → List ℕ → List ℕ
 has_answer network address = membership is_ip_member (ip_network_of network) (ip_of address)
 
--- `has4 T A`: the same of an IPv4 network and an IPv4 address
+-- `has4 T A`: the same for an IPv4 network and an IPv4 address
 abbrev pub has4_answer : List ℕ → List ℕ → List ℕ
 has4_answer network address = membership (is_member 32) (v4_network_of network) (v4_of address)
 

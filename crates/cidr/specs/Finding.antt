@@ -20,7 +20,7 @@ abbrev pub IsFound : Routes → IpAddr → Option (IpNetwork × ℕ) → Type 0
 IsFound routes (addresses.V4 address) found = (block : Option (Network × ℕ)) × Answers 32 routes.v4 address block × (found ≡ of_family V4 block)
 IsFound routes (addresses.V6 address) found = (block : Option (Network × ℕ)) × Answers 128 routes.v6 address block × (found ≡ of_family V6 block)
 
--- what is told of it: the block, a blank and its number
+-- the answer about it: the block, a blank and its number
 abbrev pub found_text : Option (IpNetwork × ℕ) → List ℕ
 found_text None = codes "none"
 found_text (Some found) = ip_network_text found.0 ++ blank ∷ decimal found.1

@@ -26,12 +26,12 @@ abbrev pub Gets : Routes → Request → List ℕ → Routes → Type 0
 Gets before (Add network number) answer after = (answer ≡ added (number_at before network)) × (after ≡ with_number before network number)
 -- the block has none from now on
 Gets before (Drop network) answer after = (answer ≡ dropped (number_at before network)) × (after ≡ without before network)
--- the routes are asked, and stay
+-- the routes are asked, and are unchanged
 Gets before (Find address) answer after = Finds before address answer × (after ≡ before)
--- the routes are not asked, and stay
+-- the routes are not asked, and are unchanged
 Gets before (Plain text) answer after = (answer ≡ text) × (after ≡ before)
 
--- it is out of memory: only an `add` of a block that had no number is, and the routes stay
+-- it is out of memory: only an `add` of a block that had no number can be, and the routes are unchanged
 abbrev pub RunsOut : Routes → Request → List ℕ → Routes → Type 0
 RunsOut before (Add network number) answer after = (number_at before network ≡ None) × (answer ≡ out_of_memory) × (after ≡ before)
 RunsOut before (Drop network) answer after = ⊥
@@ -42,7 +42,7 @@ RunsOut before (Plain text) answer after = ⊥
 abbrev pub MayGet : Routes → Request → List ℕ → Routes → Type 0
 MayGet before request answer after = Gets before request answer after ⊎ RunsOut before request answer after
 
--- from the routes before on, these lines get these answers in turn, one each, and leave the routes after
+-- starting with the routes `before`, these lines get these answers in turn, one each, and leave the routes `after`
 abbrev pub InTurn : (Routes → Request → List ℕ → Routes → Type 0) → Routes → List (List ℕ) → List (List ℕ) → Routes → Type 0
 InTurn Get = engine.InTurn (λ before line answer after. Get before (request_of line) answer after)
 
@@ -58,9 +58,9 @@ reply answer = answer ++ 10 ∷ []
 abbrev pub replies : List (List ℕ) → List ℕ
 replies answers = flat_map reply answers
 
--- what may be written for an input from the routes before on, if it leaves the routes after: a reply to each line.
--- `lines` cuts at each line feed, drops one carriage return before it, and takes what follows the last one as a line,
--- unless it is empty
+-- what may be written for an input that begins with the routes `before` and leaves the routes `after`: a reply to each
+-- line. `lines` cuts at each line feed, drops one carriage return before it, and takes what follows the last one as a
+-- line, unless it is empty
 abbrev pub IsOutputFrom : Routes → List ℕ → List ℕ → Routes → Type 0
 IsOutputFrom before input output after = (answers : List (List ℕ)) × MayAnswer before (lines input) answers after × (output ≡ replies answers)
 

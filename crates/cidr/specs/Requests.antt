@@ -28,18 +28,18 @@ within_32_bits (Some number) = if nat_le number 4294967295 then Some number else
 unfoldable pub route_number_of : List ℕ → Option ℕ
 route_number_of text = within_32_bits (prefix_number_of text)
 
--- `add T N`: the block of the network that T names gets the number that N names; T is judged first
+-- `add T N`: the block of the network that T names gets the number that N names; T is checked first
 abbrev pub adding : Result IpNetwork CidrFault → Option ℕ → Request
 adding (Err fault) number = Plain refused
 adding (Ok network) None = Plain refused
 adding (Ok network) (Some number) = Add network number
 
--- `drop T`: the block of the network that T names is taken out
+-- `drop T`: the block of the network that T names is removed
 abbrev pub dropping : Result IpNetwork CidrFault → Request
 dropping (Err fault) = Plain refused
 dropping (Ok network) = Drop network
 
--- `find A`: the longest block that holds the address that A names is told
+-- `find A`: the answer is the longest block that holds the address that A names
 abbrev pub finding : Option IpAddr → Request
 finding None = Plain refused
 finding (Some address) = Find address
@@ -54,7 +54,7 @@ unknown = Plain (codes "unknown command")
 abbrev pub too_long : Request
 too_long = Plain (codes "line too long")
 
--- the commands that are asked of one word: those that ask the routes,
+-- the commands that take one word: those that ask the routes,
 abbrev pub one_word_routing : List ℕ → List ℕ → Request
 one_word_routing command word =
     if bytes_eq command (codes "drop") then dropping (ip_network_of word)
@@ -68,7 +68,7 @@ one_word_request command word =
     else (if bytes_eq command (codes "read4") then Plain (read4_answer word)
     else (if bytes_eq command (codes "read6") then Plain (read6_answer word) else one_word_routing command word)))
 
--- the commands that are asked of two words, in the same way
+-- the commands that take two words, in the same way
 abbrev pub two_words_routing : List ℕ → List ℕ → List ℕ → Request
 two_words_routing command first second =
     if bytes_eq command (codes "add") then adding (ip_network_of first) (route_number_of second) else unknown

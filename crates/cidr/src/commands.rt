@@ -6,5 +6,5 @@ pub(crate) mod read;
 pub(crate) mod rel;
 pub(crate) mod routing;
 
-/// The answer to a text that names no network, or no address, where no cause is told.
+/// The answer to a text that names no network, or no address, if no cause is given.
 pub(crate) const REFUSED: &str = "refused";

@@ -15,11 +15,11 @@ use crate::route_tables::RouteTables;
 use crate::words::cut_word;
 use line_engine::buffer::Buffer;
 
-/// The answer to a line that is no command.
+/// The answer to a line that is not a command.
 const UNKNOWN: &str = "unknown command";
 
-/// Adds the answer to a line, whatever its length: its words are split at each blank, the first names
-/// the command, and the others are what it is asked of.
+/// Adds the answer to a line, whatever its length: its words are split at each blank, the first names the command, and
+/// the others are its arguments.
 pub(crate) fn answer(line: &[u8], routes: &mut RouteTables, replies: &mut Buffer<'_>)
     requires { HasRoom replies.old }
     ensures { RepliesTo (routes_of routes.old) (request_in (words line.now)) replies.old replies.new (routes_of routes.new) }
@@ -38,7 +38,7 @@ pub(crate) fn answer(line: &[u8], routes: &mut RouteTables, replies: &mut Buffer
     }
 }
 
-/// The answer of a command that is asked of one word.
+/// The answer of a command with one argument.
 fn answer_one(command: &[u8], word: &[u8], routes: &mut RouteTables, replies: &mut Buffer<'_>)
     requires { HasRoom replies.old }
     ensures { RepliesTo (routes_of routes.old) (one_word_request command.now word.now) replies.old replies.new (routes_of routes.new) }
@@ -75,7 +75,7 @@ fn answer_routing_one(
     }
 }
 
-/// The answer of a command that is asked of two words.
+/// The answer of a command with two arguments.
 fn answer_two(
     command: &[u8],
     first: &[u8],

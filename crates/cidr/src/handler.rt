@@ -1,4 +1,4 @@
-//! The routes answer the lines of a run.
+//! The routes as a handler of lines.
 ghost use Rattle.cidr.specs.Private.Replies.{MayReply};
 
 use crate::dispatch::answer;

@@ -26,9 +26,9 @@ impl RouteTables {
         }
     }
 
-    /// Gives the block of a network a number, and answers the one that it had.
+    /// Gives the block of a network a number, and returns the one that it had.
     ///
-    /// Allocates for a new block alone. Where that is out of memory the routes are as before.
+    /// Allocates only for a new block. If memory runs out, the routes are unchanged.
     pub(crate) fn insert(
         &mut self,
         network: IpNetwork,
@@ -44,7 +44,7 @@ impl RouteTables {
         }
     }
 
-    /// Takes the block of a network out, and answers the number that it had.
+    /// Removes the block of a network, and returns the number that it had.
     pub(crate) fn remove(&mut self, network: IpNetwork) -> Option<u32>
         ensures old { result ≡ number_at (routes_of self.old) network }
         ensures removed { routes_of self.new ≡ without (routes_of self.old) network }

@@ -17,15 +17,15 @@ use std::io::{Read, Write};
 /// The most bytes that are asked for at a time.
 const PIECE_MAX: usize = 65536;
 
-/// A line of so many bytes is too long, with its carriage return or without.
+/// A line of this many bytes is too long, with or without its carriage return.
 const REST_MAX: usize = 1026;
 
 /// The most bytes of replies that wait.
 const WAITING_MAX: usize = 65536;
 
-/// Answers each line that `reader` gives, up to 4,294,967,295 bytes, and then flushes.
+/// Answers each line of `reader`, up to 4,294,967,295 bytes of input, and then flushes `writer`.
 ///
-/// It is `run_limited` at that limit: the same clauses and errors, and the same premise for what is promised of
+/// It is `run_limited` with that limit: the same clauses and errors, and the same condition for the promises about
 /// bytes. Only the routes allocate, from `alloc`.
 pub fn run<R: Read, W: Write>(
     alloc: Global,
@@ -49,30 +49,31 @@ pub fn run<R: Read, W: Write>(
     run_limited(alloc, u32::MAX, reader, writer)
 }
 
-/// Answers each line that `reader` gives, up to `limit` bytes, and then flushes.
+/// Answers each line of `reader`, up to `limit` bytes of input, and then flushes `writer`.
 ///
-/// The errors, and what the clauses say of each:
+/// The errors, and what the clauses say about each:
 ///
-/// - `RunFault::Read`: a read failed. Each line that was completed before was answered, and no other.
+/// - `RunFault::Read`: a read failed. Exactly the lines that were complete before were answered.
 /// - `RunFault::Write`: a write or the flush failed, or a write took no byte. A beginning of the output was written.
-/// - `RunFault::InputTooLong`: a read passed the limit. Each line that some first bytes complete, no more of them than
-///   the limit, was answered, and no other.
+/// - `RunFault::InputTooLong`: a read passed the limit. Exactly the lines were answered that some first bytes complete,
+///   at most as many as the limit.
 ///
-/// If the reader failed before the run, the result is `Read`, and else, if the writer did, `Write`; neither is called.
+/// If the reader had failed before the run, the result is `Read`; otherwise, if the writer had, it is `Write`. Then
+/// neither is called.
 ///
-/// These two are no clauses but follow from them: each line that a read completes is answered before the next read;
-/// nothing is written or flushed after a read that failed or passed the limit. In a body that did otherwise the next
-/// read might fail, or that write, and then no result would meet the clauses. No call is made on a device after one
-/// that failed: each call of the engine's devices requires that none has.
+/// These two are not clauses, but follow from them: each line that a read completes is answered before the next read;
+/// nothing is written or flushed after a read that failed or passed the limit. If a body did otherwise, the next read
+/// or that write might fail, and then no result would meet the clauses. No call is made on a device after one that
+/// failed: each call of the engine's devices requires that none has.
 ///
 /// These two are only tested: if a read passes the limit, no line that it completes is answered; the writer is
 /// flushed once, after the last answer.
 ///
-/// What is promised of bytes holds of a reader and a writer whose contracts tell their bytes, as those over memory
-/// do. Standard input and output do not tell theirs.
+/// The promises about bytes apply to a reader and a writer whose contracts tell their bytes, as those over memory do.
+/// Standard input and output do not.
 ///
-/// A run begins with no routes and frees them as it ends. Only an `add` of a new block allocates, from `alloc`; where
-/// that is out of memory, its answer says so, the routes stay as they were, and the run goes on.
+/// A run begins with no routes and frees them as it ends. Only an `add` of a new block allocates, from `alloc`; if
+/// memory runs out, its answer says so, the routes are unchanged, and the run goes on.
 pub fn run_limited<R: Read, W: Write>(
     alloc: Global,
     limit: u32,
@@ -88,14 +89,15 @@ pub fn run_limited<R: Read, W: Write>(
     ensures reader_failed { has_failed reader.new ≡ (has_failed reader.old || ended_by_read result) }
     ensures writer_failed { has_failed writer.new ≡ (has_failed writer.old || ended_by_write result) }
 
-    // Where the reader had failed before, it is `Read`, whatever the writer; else where the writer had, it is `Write`;
-    // and no call is made where one had.
+    // If the reader had failed before, it is `Read`, whatever the writer; else, if the writer had, it is `Write`; and
+    // no call is made if one of them had.
     ensures reader_first { IsTrue (has_failed reader.old) → result ≡ Err RunFault.Read }
     ensures writer_next { IsFalse (has_failed reader.old) → IsTrue (has_failed writer.old) → result ≡ Err RunFault.Write }
     ensures uncalled { IsTrue (has_failed reader.old || has_failed writer.old)
         → (device_of reader.new ≡ device_of reader.old) × (device_of writer.new ≡ device_of writer.old) }
 
-    // So an output of the whole input is written, and comes where the input fits and no device fails.
+    // So `Ok` means that an output of the whole input was written, and the result is `Ok` if the input is within the
+    // limit and no device fails.
     ensures output { OnOk result (IfSome (R.remaining (device_of reader.old)) (λ input. (output : List ℕ) × IsOutput input output
         × Appends (W.contents (device_of writer.old)) (W.contents (device_of writer.new)) output)) }
     ensures succeeds { (input : List ℕ) → R.remaining (device_of reader.old) ≡ Some input → length input ≤ limit

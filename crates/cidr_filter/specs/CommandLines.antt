@@ -9,31 +9,32 @@ use Rattle.cidr_filter.specs.declared.command_line.Request.{Request}
 use Rattle.cidr_filter.specs.declared.command_line.Command.{Command}
 use Rattle.cidr_filter.specs.declared.command_line.Command.TheVariants as commands
 
--- the words begin with these options, which the rest follows
+-- the words are these options and then the rest
 abbrev pub Begin : {Z : Type 0} → List (String Z) → List Choice → List (String Z) → Type 0
 Begin words [] rest = words ≡ rest
 Begin words (choice ∷ choices) rest = (option_of words ≡ Some choice) × Begin (behind_option words) choices rest
 
--- a word is `-`, or begins with no `-`
+-- a word is `-`, or does not begin with `-`
 abbrev pub is_plain : {Z : Type 0} → String Z → Bool
 is_plain word = is (codes "-") word || not (begins (codes "-") (string_bytes word))
 
--- the FILEs among the words behind the options: all words behind a `--`, and without it all words, which have to be plain
+-- the FILEs among the words after the options: all words after a `--`, and without it all words, which have to be plain
 abbrev pub files_among : {Z : Type 0} → List (String Z) → Option (List (String Z))
 files_among [] = Some []
 files_among (word ∷ words) = if is (codes "--") word then Some words else if list_all is_plain (word ∷ words) then Some (word ∷ words) else None
 
--- how often the FILEs name standard input, which no FILE at all does too
+-- how often the FILEs name standard input, which is named once if there is no FILE
 abbrev pub inputs_among : {Z : Type 0} → List (String Z) → ℕ
 inputs_among [] = 1
 inputs_among (file ∷ files) = count_by (is (codes "-")) (file ∷ files)
 
--- `--longest` stands beside `-v` or `-c`
+-- `--longest` is given together with `-v` or `-c`
 abbrev pub is_crossed : Request → Bool
 is_crossed request = request.longest && (request.inverts || request.counts)
 
--- the words are options, as many as there are, and FILEs. There is a list, standard input is named once at most, and
--- `--longest` stands beside no `-v` and no `-c`. The request has the last of each option, and begins its FILEs there
+-- the words are options, as many as there are, and FILEs. There is a list, standard input is named at most once, and
+-- `--longest` is not given together with `-v` or `-c`. The request has the last of each option, and its FILEs begin
+-- after the options
 pub record Says {Z : Type 0} (words : List (String Z)) (request : Request) : Type 0 where
   pub options : List Choice
   pub rest : List (String Z)

@@ -2,7 +2,7 @@
 use Rattle.std.specs.Prelude.{ℕ, zero, suc, ◌-◌, List, [], ◌∷◌, Option, None, Some, ◌==◌}
 use Rattle.std.specs.List.{slice_split}
 
--- the part behind so many others
+-- the part after this many others
 abbrev pub part_behind : ℕ → List (List ℕ) → Option (List ℕ)
 part_behind count [] = None
 part_behind zero (part ∷ parts) = Some part

@@ -19,7 +19,7 @@ use Rattle.cidr_filter.specs.declared.listed.Listed.TheVariants.{Addresses, Bloc
 abbrev pub IsListed : Filter → IpAddr → Type 0
 IsListed filter address = IsIn filter.listed address
 
--- what the lists tell of an address of theirs: nothing, or the longest block that holds it
+-- what the lists say about an address of theirs: nothing, or the longest block that holds it
 abbrev pub TellsBlock : Listed → IpAddr → Option IpNetwork → Type 0
 TellsBlock (Addresses sets) address told = told ≡ None
 TellsBlock (Blocks tables) address told = (block : IpNetwork) × (told ≡ Some block) × IsLongestBlock tables address block
@@ -54,21 +54,21 @@ is_stopped bads.Drop = false
 is_stopped bads.Keep = false
 is_stopped bads.Stop = true
 
--- the lines inside are selected, or those outside; of the others those that are kept
+-- the lines inside are selected, or those outside, and of the lines without an address those that are kept
 abbrev pub is_selected : Filter → Verdict → Bool
 is_selected filter (verdicts.Inside told) = not filter.inverts
 is_selected filter verdicts.Outside = filter.inverts
 is_selected filter verdicts.Bad = is_kept filter.bad
 is_selected filter verdicts.TooLong = false
 
--- a line without an address ends the run, if it is told to, and so does one that is too long and is not dropped
+-- a line without an address ends the run if the option says so, and so does one that is too long and is not dropped
 abbrev pub is_refused : Filter → Verdict → Bool
 is_refused filter (verdicts.Inside told) = false
 is_refused filter verdicts.Outside = false
 is_refused filter verdicts.Bad = is_stopped filter.bad
 is_refused filter verdicts.TooLong = not (is_dropped filter.bad)
 
--- the block that is told of a line of this verdict
+-- the block that is printed before a line of this verdict
 abbrev pub block_in : Verdict → Option IpNetwork
 block_in (verdicts.Inside told) = told
 block_in verdicts.Outside = None
@@ -80,7 +80,7 @@ abbrev pub block_text : Option IpNetwork → List ℕ
 block_text None = codes "-"
 block_text (Some block) = ip_network_text block
 
--- what stands before a line of this verdict: that and a tab, if blocks are told
+-- what stands before a line of this verdict: that and a tab, with `--longest`
 abbrev pub mark_of : Listed → Verdict → List ℕ
 mark_of (Addresses sets) verdict = []
 mark_of (Blocks tables) verdict = block_text (block_in verdict) ++ 9 ∷ []
@@ -93,7 +93,7 @@ output_of filter counts verdict line = if is_selected filter verdict && not coun
 abbrev pub one_if : Bool → ℕ
 one_if selected = if selected then 1 else 0
 
--- for these lines in turn this is written, so many are selected, and none ends the run
+-- for these lines in turn this is written, this many are selected, and none ends the run
 abbrev pub Filters : Filter → Bool → List LogLine → List ℕ → ℕ → Type 0
 Filters filter counts [] output count = (output ≡ []) × (count ≡ 0)
 Filters filter counts (line ∷ lines) output count = (verdict : Verdict) × (others : List ℕ) × (more : ℕ) × Judges filter (content line) verdict

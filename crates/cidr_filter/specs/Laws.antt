@@ -14,7 +14,7 @@ abbrev pub LogsHaveOneOutput : Type 0
 LogsHaveOneOutput = (filter : Filter) (counts : Bool) (log : List ℕ) (a b : List ℕ) (m n : ℕ) → Filters filter counts (log_lines log) a m → Filters filter counts (log_lines log) b n
     → (a ≡ b) × (m ≡ n)
 
--- a log that is cut behind a line feed gives what its two parts give, one after the other
+-- a log that is cut after a line feed gives what its two parts give, one after the other
 abbrev pub OutputsOfPartsFollow : Type 0
 OutputsOfPartsFollow = (filter : Filter) (counts : Bool) (first second a b : List ℕ) (m n : ℕ) → Filters filter counts (log_lines (first ++ 10 ∷ [])) a m
     → Filters filter counts (log_lines second) b n → Filters filter counts (log_lines (first ++ 10 ∷ second)) (a ++ b) (m + n)

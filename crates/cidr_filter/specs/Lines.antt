@@ -8,7 +8,7 @@ pub record LogLine : Type 0 where
   pub bytes : List ℕ
   pub is_ended : Bool
 
--- the lines in the parts between line feeds: each part but the last is ended, and an empty last part is no line
+-- the lines in the parts between line feeds: each part but the last is ended, and an empty last part is not a line
 abbrev pub lines_in : List (List ℕ) → List LogLine
 lines_in [] = []
 lines_in (part ∷ []) = if length part == 0 then [] else record { bytes = part; is_ended = false } ∷ []
@@ -18,7 +18,7 @@ lines_in (part ∷ next ∷ parts) = record { bytes = part; is_ended = true } �
 abbrev pub log_lines : List ℕ → List LogLine
 log_lines log = lines_in (slice_split (λ b. b == 10) log)
 
--- those whose line feed is there
+-- those that have their line feed
 abbrev pub ended_lines : List ℕ → List LogLine
 ended_lines log = filter (λ line. line.is_ended) (log_lines log)
 

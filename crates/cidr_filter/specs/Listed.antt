@@ -1,4 +1,4 @@
--- The networks of the lists, and what they tell of an address.
+-- The networks of the lists, and what they say about an address.
 use Rattle.std.specs.Prelude.{◌≡◌, ◌≤◌, ◌↔◌, ℕ, List, IsSome}
 use Rattle.std.specs.FinMap.{FinMap, get}
 use Rattle.std.specs.List.{Contains}

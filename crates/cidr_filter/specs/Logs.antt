@@ -16,7 +16,7 @@ abbrev pub logs_of : {Z : Type 0} → List (String Z) → List (List ℕ)
 logs_of [] = codes "-" ∷ []
 logs_of (file ∷ files) = map string_bytes (file ∷ files)
 
--- the log of this name was opened, and these bytes are all of it, if it is known what it has
+-- the log of this name was opened, and these bytes are all of it, if its bytes are known
 abbrev pub IsAllOf : KnownLists → List ℕ → List ℕ → Type 0
 IsAllOf known name read = known.may_open name true × ((input : List ℕ) → known.bytes_of name ≡ Some input → read ≡ input)
 
@@ -24,7 +24,7 @@ IsAllOf known name read = known.may_open name true × ((input : List ℕ) → kn
 abbrev pub IsFirstOf : KnownLists → List ℕ → List ℕ → Type 0
 IsFirstOf known name read = (input : List ℕ) → known.bytes_of name ≡ Some input → IsBeginning read input
 
--- the logs of these names were read to their ends: this is the output of their lines, one log after the other, and so
+-- the logs of these names were read to their ends: this is the output of their lines, one log after the other, and this
 -- many lines of all of them were selected
 abbrev pub FiltersLogs : Filter → Bool → KnownLists → List (List ℕ) → List ℕ → ℕ → Type 0
 FiltersLogs filter counts known [] output selected = (output ≡ []) × (selected ≡ 0)
@@ -32,8 +32,8 @@ FiltersLogs filter counts known (name ∷ names) output selected = (read : List 
     × IsAllOf known name read × Filters filter counts (log_lines read) added one × FiltersLogs filter counts known names others more
     × (output ≡ added ++ others) × (selected ≡ one + more)
 
--- of the log of this name some bytes were read; behind these first lines of them a line of this verdict ends the run.
--- It is ended, or the log is, or it is too long without its end
+-- of the log of this name some bytes were read; after these first lines of them a line of this verdict ends the run. It
+-- is ended, or the log is, or it is too long without its end
 pub record RefusesAfter (filter : Filter) (known : KnownLists) (name : List ℕ) (lines : List LogLine) (verdict : Verdict) : Type 0 where
   pub read : List ℕ
   pub line : LogLine

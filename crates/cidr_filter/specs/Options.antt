@@ -70,7 +70,8 @@ in_two_words name value =
     else if is (codes "-d") name then separator_option value
     else bad_option value
 
--- others are one word, in which the value of `-k` and of `-d` may stand behind the letter, and that of `--bad` behind a `=`
+-- others are one word, in which the value of `-k` and of `-d` may stand after the letter, and that of `--bad` after a
+-- `=`
 abbrev pub in_one_word : List ℕ → Option Choice
 in_one_word word =
     if begins (codes "-k") word then field_option (drop 2 word)
@@ -89,7 +90,7 @@ abbrev pub option_of : {Z : Type 0} → List (String Z) → Option Choice
 option_of [] = None
 option_of (word ∷ others) = if takes_next word then with_next word others else in_one_word (string_bytes word)
 
--- the words behind it
+-- the words after it
 abbrev pub behind_option : {Z : Type 0} → List (String Z) → List (String Z)
 behind_option [] = []
 behind_option (word ∷ others) = if takes_next word then drop 1 others else others

@@ -27,7 +27,7 @@ ReadsOption known number (choices.Separator byte) value before after = after ≡
 ReadsOption known number (choices.Bad bad) value before after = after ≡ before
 ReadsOption known number choices.Longest value before after = after ≡ before
 
--- the place among all words of the word behind the first of the last ones
+-- the place among all words of the word after the first of the last ones
 abbrev pub next_place : {Z : Type 0} → List (String Z) → List (String Z) → ℕ
 next_place all words = length all - length words + 1
 
@@ -75,7 +75,7 @@ pub record IsReadOf {Z : Type 0} (known : KnownLists) (words : List (String Z)) 
   pub lists : ReadsLists known words (nothing_read no_refusals) read
   pub memory : read.is_out_of_memory ≡ false
 
--- these are the addresses of the networks that were read, or, if blocks are told, their blocks
+-- these are the addresses of the networks that were read or, with `--longest`, their blocks
 abbrev pub HoldsRead : Bool → ReadLists → Listed → Type 0
 HoldsRead longest read (Addresses sets) = (longest ≡ false) × IsAggregate 32 read.v4 sets.v4 × IsAggregate 128 read.v6 sets.v6
 HoldsRead longest read (Blocks tables) = (longest ≡ true) × HasBlocksOf 32 read.v4 tables.v4 × HasBlocksOf 128 read.v6 tables.v6

@@ -1,4 +1,4 @@
--- How a run ends: its exit status, what was written, and what was told.
+-- How a run ends: its exit status, what was written, and what was reported.
 use Rattle.std.specs.Prelude.{◌≡◌, ℕ, ◌-◌, ◌^◌, min, List, [], ◌∷◌, ◌++◌, Bool, true, false, ◌⊎◌, if◌then◌else◌, length, nat_lt, drop, codes, decimal, String}
 use Rattle.address_lists.specs.Lists.{ReadLists, nothing_read}
 use Rattle.address_lists.specs.Refusals.{Refused, no_refusals}
@@ -37,7 +37,7 @@ Wrote faults.Length end text = HasWritten end text
 Wrote faults.Endless end text = HasWritten end text
 
 -- a log was not filtered to its end, and ended the run: those before it were filtered, and its first lines; their
--- outputs were written, the cause was told, and the status is 2
+-- outputs were written, the cause was reported, and the status is 2
 pub record StopsAtLog {W E : Type 0} (filter : Filter) (counts : Bool) (known : KnownLists) (names : List (List ℕ)) (end : Ending W E) : Type 0 where
   pub before : List (List ℕ)
   pub name : List ℕ
@@ -56,7 +56,7 @@ pub record StopsAtLog {W E : Type 0} (filter : Filter) (counts : Bool) (known : 
   pub told : HasTold end (log_fault_text name (length lines) fault)
   pub status : end.status ≡ 2
 
--- if lines are counted, one line tells how many of all logs were selected, as far as 64 bits count
+-- if lines are counted, one line says how many lines of all logs were selected, up to the greatest number of 64 bits
 abbrev pub total_text : Bool → ℕ → List ℕ
 total_text counts selected = if counts then decimal (min selected (2 ^ 64 - 1)) ++ codes "\n" else []
 
@@ -65,8 +65,8 @@ pub record FiltersAll {W E : Type 0} (filter : Filter) (counts : Bool) (known : 
   pub output : List ℕ
   pub selected : ℕ
   pub filters : FiltersLogs filter counts known names output selected
-  -- their output was written and nothing told, and the status is 0 if a line was selected and else 1; or the writer
-  -- failed, and that was told
+  -- their output was written and nothing reported, and the status is 0 if a line was selected and else 1; or the writer
+  -- failed, and that was reported
   pub ends : (HasWritten end (output ++ total_text counts selected) × HasTold end [] × (end.status ≡ (if nat_lt 0 selected then 0 else 1)))
       ⊎ (FailsWriting end (output ++ total_text counts selected) × HasTold end (codes "write error\n") × (end.status ≡ 2))
 
@@ -78,7 +78,7 @@ EndsLogs filter counts known names end = FiltersAll filter counts known names en
 abbrev pub filter_of : Request → Listed → Filter
 filter_of request listed = record { listed = listed; field = request.field; separator = request.separator; inverts = request.inverts; bad = request.bad }
 
--- nothing was written, and this was told
+-- nothing was written, and this was reported
 abbrev pub Refuses : {W E : Type 0} → List ℕ → Ending W E → Type 0
 Refuses text end = IsSilent end × HasTold end text
 
@@ -91,18 +91,19 @@ EndsFiltering known words request read end =
     ⊎ ((listed : Listed) × HoldsRead request.longest read listed
     × EndsLogs (filter_of request listed) request.counts known (logs_of (drop request.files words)) end)))
 
--- the lists were not read to their ends, and these lines were refused before: nothing was written, and it was told why
+-- the lists were not read to their ends, and these lines were refused before: nothing was written, and the cause was
+-- reported
 abbrev pub StopsReading : {Z W E : Type 0} → KnownLists → List (String Z) → Refused → Ending W E → Type 0
 StopsReading known words refused end = (fault : ReadFault) × Stops known words (nothing_read no_refusals) fault refused × Refuses (fault_text words fault) end
 
--- the refused lines of the lists were told, and then either why the reading stopped, or the logs were filtered
+-- the refused lines of the lists were reported, and then either why the reading stopped, or the logs were filtered
 abbrev pub EndsRequest : {Z W E : Type 0} → KnownLists → List (String Z) → Request → Ending W E → Type 0
 EndsRequest {Z} {W} {E} known words request end = (refused : Refused) × (told : Output E) × Tells end.tells end.errors told (refusals_text words refused)
     × (StopsReading known words refused (record end { errors = told })
     ⊎ ((read : ReadLists) × IsReadOf known words read × (read.refused ≡ refused) × EndsFiltering known words request read (record end { errors = told })))
 
--- how a run ends if the words ask for this. The three texts are those of `--help`, of `--version`, and of what is told of
--- words that are no command
+-- how a run ends if the words ask for this. The three texts are those of `--help` and of `--version`, and what is
+-- reported for words that are not a command
 abbrev pub EndsAs : {Z W E : Type 0} → List ℕ → List ℕ → List ℕ → KnownLists → List (String Z) → Command → Ending W E → Type 0
 EndsAs help version usage known words commands.Help end = EndsPrinting help end
 EndsAs help version usage known words commands.Version end = EndsPrinting version end

@@ -13,10 +13,11 @@ pub record Stand : Type 0 where
 abbrev pub stand : Option (List ℕ) → List ℕ → Tally → Stand
 stand holds waits tally = record { holds = holds; waits = waits; selected = tally.selected; lines = tally.lines }
 
--- 64 bits count so many more
+-- 64 bits count this many more
 abbrev pub Counts : ℕ → ℕ → ℕ → Type 0
 Counts old new more = old ≤ 2 ^ 64 - 1 → new ≡ min (old + more) (2 ^ 64 - 1)
 
--- from one stand to the next these bytes were added to the output, so many lines were selected, and so many filtered
+-- from one stand to the next these bytes were added to the output, this many lines were selected, and this many
+-- filtered
 abbrev pub Goes : Stand → Stand → List ℕ → ℕ → ℕ → Type 0
 Goes old new added selected lines = Puts old.holds old.waits new.holds new.waits added × Counts old.selected new.selected selected × Counts old.lines new.lines lines

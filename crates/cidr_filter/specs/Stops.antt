@@ -40,7 +40,7 @@ pub record WritesBeginning (filter : Filter) (counts : Bool) (remained remains :
   pub filters : Filters filter counts first added count
   pub beginning : AppendsBeginning old.holds new.holds (old.waits ++ added)
 
--- whatever is read behind it, this is a line: it is ended, or the log is, or it is too long without its end
+-- whatever is read after it, this is a line: it is ended, or the log is, or it is too long without its end
 abbrev pub IsLine : Option (List ℕ) → LogLine → Type 0
 IsLine remains line = (line.is_ended ≡ true) ⊎ (IsAtEnd remains ⊎ (1048577 < length line.bytes))
 

@@ -1,4 +1,4 @@
--- What is told on standard error.
+-- What is reported on standard error.
 use Rattle.std.specs.Prelude.{ℕ, ◌+◌, ◌-◌, ◌^◌, min, ◌&&◌, Bool, List, [], ◌∷◌, ◌++◌, nat_lt, if◌then◌else◌, codes, bytes_eq, decimal, take, String}
 use Rattle.std.specs.List.{flat_map}
 use Rattle.address_lists.specs.Faults.{line_fault_text}
@@ -26,19 +26,20 @@ refusal_place words refusal =
     if is_text words refusal.list then codes "-e:" ++ decimal (texts_in (take refusal.list words))
     else name_at words refusal.list ++ codes ":" ++ decimal refusal.line
 
--- what is told of a refused line: where it stands, and why it is refused
+-- what is reported about a refused line: where it stands, and why it is refused
 abbrev pub refusal_line : {Z : Type 0} → List (String Z) → Refusal → List ℕ
 refusal_line words refusal = refusal_place words refusal ++ codes ": refused " ++ line_fault_text refusal.fault ++ codes "\n"
 
--- what is told of refused lines
+-- what is reported about refused lines
 abbrev pub refusals_text : {Z : Type 0} → List (String Z) → Refused → List ℕ
 refusals_text words refused = flat_map (refusal_line words) refused.kept ++ more_text refused.more
 
--- what is told of a line of a log that ends the run: the log, the number of the line, which comes after so many, and why
+-- what is reported about a line of a log that ends the run: the log, the number of the line, which comes after this
+-- many lines, and why
 abbrev pub line_text : List ℕ → ℕ → List ℕ → List ℕ
 line_text name before cause = name ++ codes ":" ++ decimal (min (before + 1) (2 ^ 64 - 1)) ++ codes ": refused " ++ cause ++ codes "\n"
 
--- what is told where a log was not filtered to its end, after so many of its lines
+-- what is reported if a log was not filtered to its end, after this many of its lines
 abbrev pub log_fault_text : List ℕ → ℕ → LogFault → List ℕ
 log_fault_text name before faults.Open = name ++ codes ": cannot open\n"
 log_fault_text name before faults.Read = name ++ codes ": cannot read\n"

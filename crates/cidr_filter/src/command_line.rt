@@ -15,7 +15,7 @@ pub struct Request {
     pub field: u32,
     /// The byte between fields.
     pub separator: u8,
-    /// Whether the lines are selected whose address is in no network.
+    /// Whether the lines whose address is in no network are selected.
     pub inverts: bool,
     /// Whether lines are counted.
     pub counts: bool,
@@ -23,7 +23,7 @@ pub struct Request {
     pub longest: bool,
     /// What becomes of a line without an address.
     pub bad: Bad,
-    /// The place of the first FILE among the words.
+    /// The index of the first FILE among the words.
     pub files: usize,
 }
 
@@ -36,11 +36,11 @@ pub enum Command {
     Version,
     /// Lines of logs.
     Filter(Request),
-    /// Nothing: the words are no command.
+    /// Nothing: the words are not a command.
     Usage,
 }
 
-/// What the words behind the program's name ask for. Does not allocate.
+/// What the words after the program's name ask for. Does not allocate.
 pub fn command_of(words: &[String]) -> Command
     ensures within { IfFilter (λ request. request.files ≤ length words.now) result }
     ensures asked { Asks words.now result }
@@ -102,14 +102,14 @@ fn request_of(words: &[String]) -> Option<Request>
     }
 }
 
-// Whether `--longest` stands beside `-v` or `-c`.
+// Whether `--longest` is given together with `-v` or `-c`.
 fn is_crossed(request: Request) -> bool
     ensures { result ≡ is_crossed request }
 {
     request.longest && (request.inverts || request.counts)
 }
 
-// What is asked for by an option too.
+// The request with an option added.
 fn with_choice(request: Request, choice: Choice) -> Request
     ensures field { result.field ≡ field_said request.field choice }
     ensures separator { result.separator ≡ separator_said request.separator choice }
@@ -155,7 +155,7 @@ fn at_most_one(first: usize, second: usize) -> bool
     first <= 1 && second <= 1 - first
 }
 
-// How often the FILEs name standard input, which no FILE at all does too.
+// How often the FILEs name standard input, which is named once if there is no FILE.
 fn inputs_among(files: &[String]) -> usize
     ensures { result ≡ inputs_among files.now }
 {
@@ -171,7 +171,7 @@ fn inputs_among(files: &[String]) -> usize
     count
 }
 
-// The place of the first FILE, of words from a place on that begin with no option.
+// The index of the first FILE, among words from an index on that do not begin with an option.
 fn files_from(words: &[String], at: usize) -> Option<usize>
     requires { at ≤ length words.now }
     ensures within { IfSome result (λ place. place ≤ length words.now) }

@@ -1,4 +1,4 @@
-//! What is told of a line, and whether it is selected.
+//! What a line is to the lists, and whether it is selected.
 ghost use Rattle.std.specs.Prelude.{◌≡◌, ◌≤◌};
 ghost use Rattle.cidr_filter.specs.Filters.{Judges, is_selected, is_refused};
 ghost use Rattle.cidr_filter.specs.Private.Judging.{JudgesField, JudgesAddress};
@@ -7,7 +7,7 @@ use crate::field::field_of;
 use crate::listed::Listed;
 use ipnetwork::{IpAddr, IpNetwork};
 
-/// The most bytes of a line, its end not counted.
+/// The most bytes of a line, not counting its line end.
 pub(crate) const LINE_MAX: usize = 1_048_576;
 
 /// What becomes of a line without an address.
@@ -24,17 +24,17 @@ pub enum Bad {
 /// What a line is to a list.
 #[derive(Clone, Copy, Debug, PartialEq, Eq)]
 pub enum Verdict {
-    /// Its field holds an address of the lists. If they tell blocks, this is the longest that holds it.
+    /// Its field holds an address of the lists. With `--longest`, this is the longest block that holds the address.
     Inside(Option<IpNetwork>),
     /// Its field holds another address.
     Outside,
     /// Its field holds no address.
     Bad,
-    /// It has more than 1,048,576 bytes, its end not counted.
+    /// It has more than 1,048,576 bytes, not counting its line end.
     TooLong,
 }
 
-/// By what lines are selected.
+/// What decides which lines are selected.
 #[derive(Debug, Drop)]
 pub struct Filter {
     pub(crate) listed: Listed,

@@ -1,4 +1,4 @@
-//! What the program tells of itself.
+//! What the program prints about itself.
 
 /// What `--help` prints.
 pub(crate) const HELP: &str = "\
@@ -37,6 +37,6 @@ Examples:
 /// What `--version` prints.
 pub(crate) const VERSION: &str = "cidr_filter 0.1.0\n";
 
-/// What is told of arguments that are no command.
+/// What is reported for arguments that are not a command.
 pub(crate) const USAGE: &str =
     "usage: cidr_filter [-v] [-c] [-k N] [-d CHAR] [--bad drop|keep|stop] [--longest] (-f LIST | -e TEXT).. [FILE..]; try --help\n";

@@ -14,7 +14,7 @@ pub fn a_log_has_one_output()
     blocks_of_any_width_that_meet();
 }
 
-/// If a log is cut directly behind a line feed, its output is that of the first part and then that of the second.
+/// If a log is cut directly after a line feed, its output is that of the first part and then that of the second.
 pub fn outputs_of_parts_follow()
     ensures { OutputsOfPartsFollow }
 {}

@@ -1,4 +1,4 @@
-//! The networks of the lists, and what they tell of an address.
+//! The networks of the lists, and what they say about an address.
 ghost use Rattle.std.specs.Prelude.{◌↔◌, IsTrue, map, IfOk, MatchOption};
 ghost use Rattle.cidr_filter.specs.Listed.{HasAddress, HasBlocksOf, IsLongestBlock, NoBlockHolds};
 

@@ -1,4 +1,4 @@
-//! The lines of a log are filtered.
+//! Filters the lines of a log.
 ghost use Rattle.std.specs.Prelude.{◌≡◌, ◌||◌, ◌<◌, ◌≤◌, ◌++◌, ◌∷◌, ◌-◌, [], if◌then◌else◌, length, take, drop, false, IsTrue, OnOk, OnErr, IfOk, IfErr, IsOkUnless, Err, is_err};
 ghost use Rattle.std.specs.Str.Lines.{strip_carriage_return};
 ghost use Rattle.byte_search.specs.Bytes.{IsAbsent};
@@ -98,7 +98,7 @@ pub fn filter_log<R: Read, W: Write>(
     }
 }
 
-// Reads behind the bytes that are held, and returns how many bytes came.
+// Reads bytes after those that are held, and returns how many were read.
 fn read_behind<R: Read>(
     reader: &mut Watched<R>,
     buffer: &mut [u8],
@@ -127,8 +127,8 @@ fn keep(buffer: &mut [u8], start: usize, end: usize)
     buffer.copy_within(start..end, 0);
 }
 
-// How many bytes are held of so many that no line feed follows. Of a line that is too long no more are needed than
-// tell so.
+// How many of these bytes, which no line feed follows, are held. Of a line that is too long, only as many are needed as
+// show that.
 fn held_of(filter: &Filter, count: usize) -> Result<usize, LogFault>
     ensures held { IfOk result (IsHeld filter.now count) }
     ensures stopped { OnErr result ((1048577 < count) × (is_dropped filter.now.bad ≡ false)) }
@@ -143,7 +143,7 @@ fn held_of(filter: &Filter, count: usize) -> Result<usize, LogFault>
     Ok(LINE_MAX + 2)
 }
 
-// Filters the lines that a piece completes, writes, and returns the place behind the last of them.
+// Filters the lines that a piece completes, writes, and returns the place after the last of them.
 fn filter_piece<W: Write>(
     filter: &Filter,
     counts: bool,
@@ -175,7 +175,7 @@ fn filter_piece<W: Write>(
     }
 }
 
-// Filters the lines that a piece completes, and returns the place behind the last of them. No line feed is among the
+// Filters the lines that a piece completes, and returns the place after the last of them. No line feed is among the
 // first `held` bytes.
 fn filter_lines<W: Write>(
     filter: &Filter,

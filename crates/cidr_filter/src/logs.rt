@@ -1,4 +1,4 @@
-//! The logs of a run are filtered in turn.
+//! Filters the logs of a run in turn.
 ghost use Rattle.std.specs.Prelude.{◌≡◌, ◌<◌, ◌++◌, ◌||◌, ◌∷◌, [], true, false, decimal, length, nat_lt, if◌then◌else◌, is_err, OnOk, OnErr, IfErr};
 ghost use Rattle.std.specs.Io.KnownBytes.{Appends};
 ghost use Rattle.line_engine.specs.Outputs.{writer_of, waits_in, output_failed, Puts, AppendsBeginning};
@@ -52,7 +52,8 @@ pub(crate) fn filter_logs<L: OpenLists, W: Write, E: Write>(
     end(written, status(tally.selected), errors)
 }
 
-// Filters the logs of these names, or standard input, and returns whether all came to their ends. If not, it is told why.
+// Filters the logs of these names, or standard input, and returns whether all came to their ends. If not, the cause is
+// reported.
 fn filter_each<L: OpenLists, W: Write, E: Write>(
     filter: &Filter,
     counts: bool,
@@ -83,7 +84,7 @@ fn filter_each<L: OpenLists, W: Write, E: Write>(
     true
 }
 
-// Filters the log of this name, and returns whether it came to its end. If not, it is told why.
+// Filters the log of this name, and returns whether it came to its end. If not, the cause is reported.
 fn filter_one<L: OpenLists, W: Write, E: Write>(
     filter: &Filter,
     counts: bool,
@@ -138,8 +139,8 @@ fn filter_named<L: OpenLists, W: Write>(
     end
 }
 
-// Writes what waits, and tells why a log was not filtered to its end, after so many of its lines: by a write, if one
-// fails now.
+// Writes what waits, and reports why a log was not filtered to its end, after this many of its lines: a failed write,
+// if one fails now.
 fn stop<W: Write, E: Write>(
     name: &str,
     fault: LogFault,

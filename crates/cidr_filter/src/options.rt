@@ -32,7 +32,7 @@ pub enum Choice {
     Text,
 }
 
-/// The place behind the option at a place: an option may take the next word too.
+/// The index after the option at an index: an option may take the next word too.
 pub(crate) fn behind(words: &[String], at: usize) -> usize
     requires { at ≤ length words.now }
     ensures within { result ≤ length words.now }
@@ -46,7 +46,7 @@ pub(crate) fn behind(words: &[String], at: usize) -> usize
     }
 }
 
-/// The option at a place, if there is one.
+/// The option at an index, if there is one.
 pub(crate) fn choice_at(words: &[String], at: usize) -> Option<Choice>
     requires { at ≤ length words.now }
     ensures { result ≡ option_of (drop at words.now) }
@@ -188,7 +188,7 @@ fn number_of(digits: &[u8]) -> u64
     number
 }
 
-// `-d` with this value: a byte of ASCII, no LF, CR or NUL.
+// `-d` with this value: a byte of ASCII other than LF, CR and NUL.
 fn separator_choice(value: &[u8]) -> Option<Choice>
     ensures { result ≡ separator_option value.now }
 {

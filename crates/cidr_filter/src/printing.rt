@@ -1,4 +1,4 @@
-//! A line is printed.
+//! Prints a line.
 ghost use Rattle.std.specs.Prelude.{◌≡◌, ◌||◌, ◌++◌, ◌∷◌, [], OnOk, OnErr, is_err};
 ghost use Rattle.line_engine.specs.Outputs.{writer_of, waits_in, output_failed, Puts, AppendsBeginning};
 ghost use Rattle.cidr_filter.specs.Filters.{mark_of, block_text, block_in};
@@ -10,8 +10,7 @@ use line_engine::fault::RunFault;
 use line_engine::output::Output;
 use std::io::Write;
 
-/// Writes a line of this verdict and a line feed, and before it the block that holds its address, if the lists tell
-/// blocks.
+/// Writes a line of this verdict and a line feed, and before it, with `--longest`, the block that holds its address.
 pub(crate) fn print_line<W: Write>(
     listed: &Listed,
     verdict: &Verdict,
@@ -76,7 +75,7 @@ fn put_text<W: Write>(block: Option<IpNetwork>, output: &mut Output<'_, W>) -> R
     }
 }
 
-// The block that the lists tell of a line of this verdict.
+// The block that is printed before a line of this verdict.
 fn block_in(verdict: &Verdict) -> Option<IpNetwork>
     ensures { result ≡ block_in verdict.now }
 {

@@ -1,4 +1,4 @@
-//! The lists of a run are read.
+//! Reads the lists of a run.
 ghost use Rattle.std.specs.Prelude.{◌≡◌, ◌+◌, ◌≤◌, false, true, drop, length, Some, OnOk, IfOk, IfErr};
 ghost use Rattle.address_lists.specs.Lists.{nothing_read};
 ghost use Rattle.address_lists.specs.Refusals.{no_refusals};
@@ -17,8 +17,8 @@ use program_io::lists::OpenLists;
 use program_io::reading::{ReadFault, read_named, read_text};
 use std::alloc::{AllocError, Global};
 
-/// Reads the lists that the options name, in their order. Returns the networks, of which the blocks are told if
-/// `longest`, the refused lines, and whether all lists were read to their ends.
+/// Reads the lists that the options name, in their order. Returns the networks (as blocks if `longest`, and else as a
+/// set of addresses), the refused lines, and whether all lists were read to the end.
 pub(crate) fn read_listed<L: OpenLists>(
     alloc: Global,
     lists: &L,
@@ -34,7 +34,7 @@ pub(crate) fn read_listed<L: OpenLists>(
     (listed, refusals, end)
 }
 
-// The networks that were read, and the refused lines: the blocks of the networks if blocks are told, and else their
+// The networks that were read, and the refused lines: the blocks of the networks if `longest`, and else their
 // addresses.
 fn listed_by(
     alloc: Global,

@@ -25,7 +25,7 @@ use std::io::Write;
 /// The bytes of the longest line, and those that are read beside it.
 const BUFFER_LEN: usize = LINE_MAX + 2 + 262_144;
 
-/// Does what the words behind the program's name ask for, and returns the exit status.
+/// Does what the words after the program's name ask for, and returns the exit status.
 pub(crate) fn run<L: OpenLists, W: Write, E: Write>(
     alloc: Global,
     words: &[String],
@@ -44,7 +44,7 @@ pub(crate) fn run<L: OpenLists, W: Write, E: Write>(
     }
 }
 
-// Reads the lists, tells the refused lines, and then filters the logs.
+// Reads the lists, reports the refused lines, and then filters the logs.
 fn filter<L: OpenLists, W: Write, E: Write>(
     alloc: Global,
     request: Request,
@@ -74,7 +74,7 @@ fn filter<L: OpenLists, W: Write, E: Write>(
     }
 }
 
-// Filters the logs by what was read, if there is memory.
+// Filters the logs by what was read, unless memory ran out.
 fn filter_by<L: OpenLists, W: Write, E: Write>(
     alloc: Global,
     request: Request,
@@ -128,7 +128,7 @@ fn filter_listed<L: OpenLists, W: Write, E: Write>(
     )
 }
 
-// Tells that there is no memory, and returns the exit status of that.
+// Reports that memory ran out, and returns the exit status for that.
 fn refuse_memory<E: Write>(errors: &mut Output<'_, E>) -> u8
     ensures status { result ≡ 2 }
     ensures told { Tells E.contents errors.old errors.new (codes "out of memory\n") }

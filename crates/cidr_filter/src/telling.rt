@@ -1,4 +1,4 @@
-//! What is told on the error writer. That a write of it fails changes nothing.
+//! Messages on the error writer. If a write of one fails, nothing else changes.
 ghost use Rattle.std.specs.Prelude.{◌≡◌, ◌++◌, codes, take};
 ghost use Rattle.program_io.specs.Messages.{Tells};
 ghost use Rattle.cidr_filter.specs.Filters.{one_if};
@@ -13,7 +13,7 @@ use program_io::messages::{tell, tell_number};
 use program_io::telling::{tell_more, tell_name};
 use std::io::Write;
 
-/// Tells the refused lines: the first hundred, and how many more there were.
+/// Reports the refused lines: the first hundred, and how many more there were.
 pub(crate) fn tell_refusals<E: Write>(
     words: &[String],
     refusals: &Refusals,
@@ -28,7 +28,7 @@ pub(crate) fn tell_refusals<E: Write>(
     tell_more(refusals.more(), errors);
 }
 
-// Tells a refused line.
+// Reports a refused line.
 fn tell_refusal<E: Write>(words: &[String], refusal: Refusal, errors: &mut Output<'_, E>)
     ensures { Tells E.contents errors.old errors.new (refusal_line words.now refusal) }
 {
@@ -38,7 +38,7 @@ fn tell_refusal<E: Write>(words: &[String], refusal: Refusal, errors: &mut Outpu
     tell("\n", errors);
 }
 
-// Tells where a refused line stands: the list and the line, or which `-e` it is.
+// Reports where a refused line stands: the list and the line, or which `-e` it is.
 fn tell_place<E: Write>(words: &[String], refusal: Refusal, errors: &mut Output<'_, E>)
     ensures { Tells E.contents errors.old errors.new (refusal_place words.now refusal) }
 {
@@ -93,7 +93,7 @@ fn text_in(word: &String) -> usize
     if is(word, "-e") { 1 } else { 0 }
 }
 
-/// Tells why the log of this name was not filtered to its end, after so many of its lines.
+/// Reports why the log of this name was not filtered to its end, after this many of its lines.
 pub(crate) fn tell_log_fault<E: Write>(
     name: &str,
     fault: LogFault,
@@ -112,7 +112,7 @@ pub(crate) fn tell_log_fault<E: Write>(
     }
 }
 
-// Tells a name, and then a text.
+// Reports a name, and then a text.
 fn tell_of<E: Write>(name: &str, text: &str, errors: &mut Output<'_, E>)
     ensures { Tells E.contents errors.old errors.new (name.now ++ text.now) }
 {
@@ -120,7 +120,7 @@ fn tell_of<E: Write>(name: &str, text: &str, errors: &mut Output<'_, E>)
     tell(text, errors);
 }
 
-// Tells which line is refused, and why.
+// Reports which line is refused, and why.
 fn tell_line<E: Write>(name: &str, lines: u64, cause: &str, errors: &mut Output<'_, E>)
     ensures { Tells E.contents errors.old errors.new (line_text name.now lines cause.now) }
 {

@@ -98,7 +98,7 @@ AreCountLines sign set4 set6 = AreBoth (IsCountLine 32 (sign ++ codes "v4 ") set
 abbrev pub AreCountsLeft : Operation → List ℕ → Sets → Sets → List ℕ → Type 0
 AreCountsLeft operation sign first second = AreCountLines sign (IsLeft operation 32 first.v4 second.v4) (IsLeft operation 128 first.v6 second.v6)
 
--- the lines of the counts; those of `differ` tell what the first side has alone, and then what the second has
+-- the lines of the counts; those of `differ` count what only the first side has, and then what only the second side has
 abbrev pub AreCounts : Operation → Sets → Sets → List ℕ → Type 0
 AreCounts Union first second text = AreCountsLeft Union [] first second text
 AreCounts Common first second text = AreCountsLeft Common [] first second text

@@ -38,11 +38,11 @@ begins_dashed (byte ∷ bytes) = nat_lt 0 (length bytes) && byte == 45
 abbrev pub is_dashed : {Z : Type 0} → String Z → Bool
 is_dashed word = begins_dashed (string_bytes word)
 
--- after the operation stand its options: the words before the first that is `-` or begins with none
+-- the options follow the operation: the words before the first that is `-` or does not begin with `-`
 abbrev pub options_of : {Z : Type 0} → List (String Z) → List (String Z)
 options_of words = take (prefix_len is_dashed (drop 1 words)) (drop 1 words)
 
--- from there on stand its lists
+-- from there on, its lists
 abbrev pub lists_of : {Z : Type 0} → List (String Z) → List (String Z)
 lists_of words = drop (prefix_len is_dashed (drop 1 words)) (drop 1 words)
 
@@ -53,22 +53,22 @@ before_dashes lists = take (position_or_len (is (codes "--")) lists) lists
 abbrev pub behind_dashes : {Z : Type 0} → List (String Z) → List (String Z)
 behind_dashes lists = drop (position_or_len (is (codes "--")) lists + 1) lists
 
--- there are three options, and the two that say how to print do not stand together
+-- there are three options, and the two that say how to print exclude each other
 abbrev pub is_option : {Z : Type 0} → String Z → Bool
 is_option word = is (codes "--ranges") word || is (codes "--count") word || is (codes "--skip-bad") word
 
 abbrev pub are_options : {Z : Type 0} → List (String Z) → Bool
 are_options options = list_all is_option options && not (has (codes "--ranges") options && has (codes "--count") options)
 
--- a list has a name, which begins with no `-` unless it is `-`, standard input; that is named once at most, and one
--- `--` may stand among them
+-- a list has a name, which does not begin with `-` unless it is `-`, standard input; that is named at most once, and
+-- one `--` may stand among the names
 abbrev pub is_name : {Z : Type 0} → String Z → Bool
 is_name word = not (length (string_bytes word) == 0) && (not (is_dashed word) || is (codes "--") word)
 
 abbrev pub are_lists : {Z : Type 0} → List (String Z) → Bool
 are_lists lists = list_all is_name lists && nat_le (count (codes "-") lists) 1 && nat_le (count (codes "--") lists) 1
 
--- the union wants a list and no `--`, each other operation a list before a `--` and one after it
+-- the union needs a list and no `--`, and each other operation a list before a `--` and one after it
 abbrev pub are_two_sides : {Z : Type 0} → List (String Z) → Bool
 are_two_sides lists = nat_lt 0 (length (before_dashes lists)) && nat_lt 0 (length (behind_dashes lists))
 

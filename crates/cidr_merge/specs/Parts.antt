@@ -29,7 +29,7 @@ UnionsPrint (list ∷ lists) (text ∷ texts) = UnionPrints list text × UnionsP
 UnionsPrint [] (text ∷ texts) = ⊥
 UnionsPrint (list ∷ lists) [] = ⊥
 
--- these lists have together the lines of one, in whatever order, and no others
+-- these lists have together the lines of one, in any order, and no others
 abbrev pub HaveLines : List (List (List ℕ)) → List (List ℕ) → Type 0
 HaveLines lists whole = (line : List ℕ) → Contains whole line ↔ ((list : List (List ℕ)) × Contains lists list × Contains list line)
 
@@ -37,8 +37,8 @@ HaveLines lists whole = (line : List ℕ) → Contains whole line ↔ ((list : L
 abbrev pub AreShort : List (List ℕ) → Type 0
 AreShort list = (line : List ℕ) → Contains list line → length line ≤ 1024
 
--- if a list is cut into parts, and what the unions of the parts print is joined, in whatever order, then the union of
--- that prints what the union of the list does
+-- if a list is cut into parts, and what the unions of the parts print is joined, in any order, then the union of that
+-- prints what the union of the list does
 abbrev pub UnionsOfPartsPrintTheSame : Type 0
 UnionsOfPartsPrintTheSame = (whole joined : List (List ℕ)) (parts : List (List (List ℕ))) (texts : List (List ℕ)) (text again : List ℕ) → HaveLines parts whole → UnionsPrint parts texts
     → HaveLines (map lines texts) joined → AreShort joined → UnionPrints whole text → UnionPrints joined again → again ≡ text

@@ -1,4 +1,4 @@
--- How a run ends: its exit status, what was written, and what was told.
+-- How a run ends: its exit status, what was written, and what was reported.
 use Rattle.std.specs.Prelude.{◌≡◌, ℕ, List, [], Bool, true, false, not, ◌&&◌, ◌⊎◌, if◌then◌else◌, codes, String}
 use Rattle.address_lists.specs.Refusals.{Refused}
 use Rattle.ipnetwork_sets.specs.Equality.{same_blocks}
@@ -35,7 +35,7 @@ answer_status operation skips first second = if skips then 3 else if are_unequal
 abbrev pub FailsToWrite : {W E : Type 0} → Ending W E → Type 0
 FailsToWrite end = (output_failed end.output_after ≡ true) × HasTold end (codes "write error\n") × (end.status ≡ 2)
 
--- the answer was written, and nothing more told
+-- the answer was written, and nothing more was reported
 abbrev pub WritesAnswer : {W E : Type 0} → Request → Bool → Sets → Sets → Ending W E → Type 0
 WritesAnswer request skips first second end = (text : List ℕ) × IsAnswer request.operation request.form first second text × HasWritten end text × HasTold end []
     × (end.status ≡ answer_status request.operation skips first second)
@@ -46,18 +46,19 @@ abbrev pub EndsAnswering : {W E : Type 0} → Request → Bool → Sets → Sets
 EndsAnswering request skips first second end =
     ((skips && not request.skips_bad ≡ true) × IsSilent end × HasTold end []) ⊎ ((skips && not request.skips_bad ≡ false) × (FailsToWrite end ⊎ WritesAnswer request skips first second end))
 
--- the lists were not read to their ends, and these lines were refused before: nothing was written, and it was told why
+-- the lists were not read to their ends, and these lines were refused before: nothing was written, and the cause was
+-- reported
 abbrev pub StopsReading : {Z W E : Type 0} → KnownLists → List (String Z) → Request → Refused → Ending W E → Type 0
 StopsReading known words request refused end = (fault : ReadFault) × StopsInSides known words request fault refused × IsSilent end × HasTold end (fault_text words fault)
 
--- the refused lines were told, and then either why the reading stopped or the answer was given
+-- the refused lines were reported, and then either why the reading stopped, or the answer was given
 abbrev pub EndsMerging : {Z W E : Type 0} → KnownLists → List (String Z) → Request → Ending W E → Type 0
 EndsMerging {Z} {W} {E} known words request end = (refused : Refused) × (told : Output E) × Tells end.tells end.errors told (refusals_text words refused)
     × (StopsReading known words request refused (record end { errors = told })
     ⊎ ((first second : Sets) × ReadsSides known words request first second refused × EndsAnswering request (was_refused refused) first second (record end { errors = told })))
 
--- how a run ends if the words ask for this. The three texts are those of `--help`, of `--version`, and of what is told of
--- words that are no command
+-- how a run ends if the words ask for this. The three texts are those of `--help` and of `--version`, and what is
+-- reported for words that are not a command
 abbrev pub EndsAs : {Z W E : Type 0} → List ℕ → List ℕ → List ℕ → KnownLists → List (String Z) → Command → Ending W E → Type 0
 EndsAs help version usage known words Help end = EndsPrinting help end
 EndsAs help version usage known words Version end = EndsPrinting version end

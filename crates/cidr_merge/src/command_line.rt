@@ -7,13 +7,13 @@ ghost use Rattle.cidr_merge.specs.Private.Words.{IsWithin, AsksWithin};
 /// What is done with the lists.
 #[derive(Clone, Copy, Debug, PartialEq, Eq)]
 pub enum Operation {
-    /// The addresses of any list.
+    /// The addresses that are in any of the lists.
     Union,
-    /// The addresses that both sides have.
+    /// The addresses that are in both sides.
     Common,
-    /// The addresses that the first side has and the second has not.
+    /// The addresses that are in the first side and not in the second.
     Minus,
-    /// The addresses that one side has and the other has not.
+    /// The addresses that are in one side and not in the other.
     Differ,
 }
 
@@ -28,7 +28,7 @@ pub enum Form {
     Counts,
 }
 
-/// What the lists are merged by. The lists of a side are the words from one place on, up to another.
+/// How the lists are merged. The lists of a side are a range of the words.
 #[derive(Clone, Copy, Debug, PartialEq, Eq)]
 pub struct Request {
     /// What is done.
@@ -37,11 +37,11 @@ pub struct Request {
     pub form: Form,
     /// Whether refused lines are skipped.
     pub skips_bad: bool,
-    /// The place of the first list among the words.
+    /// The index of the first list among the words.
     pub first: usize,
-    /// The place behind the lists of the first side.
+    /// The index after the lists of the first side.
     pub middle: usize,
-    /// The place of the first list of the second side: that of the last word behind a `--`, else the number of words.
+    /// The index of the first list of the second side: it comes after a `--`; without one it is the number of words.
     pub second: usize,
 }
 
@@ -54,11 +54,11 @@ pub enum Command {
     Version,
     /// An operation on lists.
     Merge(Request),
-    /// Nothing: the words are no command.
+    /// Nothing: the words are not a command.
     Usage,
 }
 
-/// What the words behind the program's name ask for. Does not allocate.
+/// What the words after the program's name ask for. Does not allocate.
 pub fn command_of(words: &[String]) -> Command
     ensures within { AsksWithin (length words.now) result }
     ensures asked { Asks words.now result }
@@ -124,7 +124,7 @@ fn operation_of(word: &String) -> Option<Operation>
     }
 }
 
-// How many words stand before the first that is `-` or begins with none.
+// How many words stand before the first that is `-` or does not begin with `-`.
 fn options_count(words: &[String]) -> usize
     ensures within { result ≤ length words.now }
     ensures count { result ≡ prefix_len is_dashed words.now }
@@ -208,7 +208,7 @@ fn are_sides(operation: Operation, lists: &[String]) -> bool
     }
 }
 
-// Whether there are lists before a `--` and behind it.
+// Whether there are lists before a `--` and after it.
 fn are_two_sides(lists: &[String]) -> bool
     ensures { result ≡ are_two_sides lists.now }
 {

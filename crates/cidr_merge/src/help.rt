@@ -1,4 +1,4 @@
-//! What the program tells of itself.
+//! What the program prints about itself.
 
 /// What `--help` prints.
 pub(crate) const HELP: &str = "\
@@ -32,6 +32,6 @@ Examples:
 /// What `--version` prints.
 pub(crate) const VERSION: &str = "cidr_merge 0.1.0\n";
 
-/// What is told of arguments that are no command.
+/// What is reported for arguments that are not a command.
 pub(crate) const USAGE: &str =
     "usage: cidr_merge union|common|minus|differ [OPTION..] FILE.. [-- FILE..]; try --help\n";

@@ -22,10 +22,10 @@ use program_io::ending::refuse_arguments;
 use program_io::system::System;
 use std::process::ExitCode;
 
-/// The most bytes that wait to be written.
+/// The most bytes that wait to be written to standard output.
 const WAITING_MAX: usize = 65536;
 
-/// The most bytes that wait to be told.
+/// The most bytes that wait to be written to standard error.
 const TOLD_MAX: usize = 1024;
 
 fn main(rt: HostRuntime) -> ExitCode {

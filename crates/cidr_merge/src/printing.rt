@@ -1,4 +1,4 @@
-//! The answer is printed.
+//! Prints the answer.
 ghost use Rattle.std.specs.Prelude.{◌≡◌, ◌≤◌, ◌++◌, ◌∷◌, ◌||◌, [], ℕ, List, OnOk, is_err};
 ghost use Rattle.cidr_merge.specs.Answers.{sign_of, block_line, range_line, AreBlockLines, AreRangeLines, IsCountLine, AreCountsLeft, AreCounts, IsAnswer, IsLeft};
 ghost use Rattle.line_engine.specs.Outputs.{writer_of, waits_in, output_failed, Puts};

@@ -10,7 +10,7 @@ use ipnetwork_blocks::AddressSpace;
 use ipnetwork_sets::laws::shortest;
 use ipnetwork_sets::{AddressSet, Blocks, Difference, Intersection, Ranges};
 
-/// The ranges that are still to come, in ascending order: of each its first and its last address.
+/// The ranges that are still to come, in ascending order: the first and the last address of each.
 #[derive(Drop)]
 pub(crate) enum RangeSweep<'a, N: AddressSpace> {
     Whole(Ranges<N, Blocks<'a, N>>),

@@ -1,4 +1,4 @@
-//! The lists of a side are read.
+//! Reads the lists of a side.
 ghost use Rattle.std.specs.Prelude.{◌≡◌, ◌≤◌, false, length, slice_range, OnOk, IfErr};
 ghost use Rattle.address_lists.specs.Lists.{nothing_read};
 ghost use Rattle.address_lists.specs.ReadBy.{read_by};
@@ -22,7 +22,7 @@ pub(crate) struct Sets {
 
 /// Reads the lists at the places from `from` up to `to` among the words, in that order.
 ///
-/// The refused lines are added to those of before, also where the reading ends with a fault.
+/// The refused lines are added to the earlier ones, even if the reading ends with a fault.
 pub(crate) fn read_side<L: OpenLists>(
     alloc: Global,
     lists: &L,

@@ -34,7 +34,7 @@ const UNEQUAL: u8 = 1;
 /// The exit status of an answer if lines were skipped.
 const SKIPPED: u8 = 3;
 
-/// Does what the words behind the program's name ask for, and returns the exit status.
+/// Does what the words after the program's name ask for, and returns the exit status.
 pub(crate) fn run<L: OpenLists, W: Write, E: Write>(
     alloc: Global,
     words: &[String],

@@ -1,4 +1,4 @@
-//! What is told on the error writer. That a write of it fails changes nothing.
+//! Messages on the error writer. If a write of one fails, nothing else changes.
 ghost use Rattle.program_io.specs.Messages.{Tells};
 ghost use Rattle.cidr_merge.specs.Told.{refusal_line, refusals_text};
 
@@ -8,7 +8,7 @@ use program_io::messages::{tell, tell_number};
 use program_io::telling::{tell_more, tell_name};
 use std::io::Write;
 
-/// Tells the refused lines: the first hundred, and how many more there were.
+/// Reports the refused lines: the first hundred, and how many more there were.
 pub(crate) fn tell_refusals<E: Write>(
     words: &[String],
     refusals: &Refusals,
@@ -23,7 +23,7 @@ pub(crate) fn tell_refusals<E: Write>(
     tell_more(refusals.more(), errors);
 }
 
-// Tells a refused line.
+// Reports a refused line.
 fn tell_refusal<E: Write>(words: &[String], refusal: Refusal, errors: &mut Output<'_, E>)
     ensures { Tells E.contents errors.old errors.new (refusal_line words.now refusal) }
 {

@@ -1,4 +1,4 @@
-//! Which addresses are let in: those of an allow list that no deny list takes out.
+//! Which addresses are admitted: those of an allow list that are in no deny list.
 #![tactic(auto)]
 
 use ipnetwork::{Ipv4Addr, Ipv4Network};

@@ -1,4 +1,4 @@
-//! Code that is generic over both families: whether one of some networks holds an address.
+//! Code that is generic over both families: whether one of some networks contains an address.
 #![tactic(auto)]
 
 ghost use Rattle.std.specs.Prelude.{◌↔◌, Any, IsTrue};
@@ -7,7 +7,7 @@ ghost use Rattle.ipnetwork_family.specs.Network.{Member};
 use ipnetwork::{CidrNetwork, Ipv4Addr, Ipv4Network, Ipv6Addr, Ipv6Network};
 use std::io;
 
-/// Whether one of these networks holds the address.
+/// Whether one of these networks contains the address.
 fn admits<N: CidrNetwork>(allowed: &[N], client: N::Addr) -> bool
     ensures { IsTrue result ↔ Any (λ n. Member N.WIDTH (N.pair n) (N.number client)) allowed.now }
 {

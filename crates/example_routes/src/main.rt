@@ -1,4 +1,4 @@
-//! A routing table: an address goes by the longest block that holds it.
+//! A routing table: an address is routed by the longest block that contains it.
 #![tactic(auto)]
 
 use ipnetwork::{Ipv4Addr, Ipv4Network};

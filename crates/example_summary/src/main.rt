@@ -1,4 +1,4 @@
-//! A summary of networks: the least list of blocks with the same addresses.
+//! A summary of networks: the shortest list of blocks with the same addresses.
 #![tactic(auto)]
 
 use ipnetwork::Ipv4Network;

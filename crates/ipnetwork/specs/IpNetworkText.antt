@@ -35,16 +35,16 @@ abbrev pub IsIpSuffix : IpAddr → List ℕ → ℕ → Type 0
 IsIpSuffix (addresses.V4 a) text p = IsV4Suffix text p
 IsIpSuffix (addresses.V6 a) text p = IsV6Suffix text p
 
--- why a text names no network of either family. The first that holds is the cause
+-- why a text names no network of either family. The first that applies is the cause
 abbrev pub IsIpCause : List ℕ → CidrFault → Type 0
--- it holds two or more `/`
+-- it contains two or more `/`
 IsIpCause text Format = HasSeveralSlashes text
 -- else what stands before the `/` is an address of neither family
 IsIpCause text Addr = (slashes text ≤ 1) × ((a : IpAddr) → ¬ (NamesIp (before_slash text) a))
--- else what stands after the `/` is no suffix of that address's family
+-- else what stands after the `/` is not a suffix of that address's family
 IsIpCause text Prefix = (slashes text ≤ 1) × ((a : IpAddr) × NamesIp (before_slash text) a × HasNoSuffix (IsIpSuffix a) text)
 
--- no cause exactly of a text that names a network, and else the cause
+-- `None` exactly for a text that names a network, and else the cause
 abbrev pub TellsIpCause : List ℕ → Option CidrFault → Type 0
 TellsIpCause text result =
     MatchOption result ((n : IpNetwork) × NamesIpNetwork text n) (λ fault. IsIpCause text fault × ((n : IpNetwork) → ¬ (NamesIpNetwork text n)))

@@ -97,7 +97,7 @@ abbrev pub IsIpMask : IpAddr → ℕ → Type 0
 IsIpMask (addresses.V4 mask) p = (p ≤ 32) × (mask ≡ mask_of 32 p)
 IsIpMask (addresses.V6 mask) p = (p ≤ 128) × (mask ≡ mask_of 128 p)
 
--- what the conversion of a mask returns: its prefix length, or `InvalidPrefix` if it is no mask
+-- what the conversion of a mask returns: its prefix length, or `InvalidPrefix` if it is not a mask
 abbrev pub GivesMaskPrefix : IpAddr → Result ℕ IpNetworkError → Type 0
 GivesMaskPrefix mask result =
     MatchResult result (IsIpMask mask) (λ fault. (fault ≡ InvalidPrefix) × ((p : ℕ) → ¬ (IsIpMask mask p)))

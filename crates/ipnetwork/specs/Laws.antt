@@ -51,7 +51,7 @@ abbrev pub MaskedIsMade : Type 0
 MaskedIsMade = (ip mask : IpAddr) (p : ℕ) (result : Result IpNetwork IpNetworkError) → IsIpMask mask p
     → MakesWithMask ip mask result ↔ Makes ip p result
 
--- and it is refused if the address is no mask
+-- and it is refused if the address is not a mask
 abbrev pub NoMaskIsRefused : Type 0
 NoMaskIsRefused = (ip mask : IpAddr) (result : Result IpNetwork IpNetworkError) → ((p : ℕ) → ¬ (IsIpMask mask p))
     → MakesWithMask ip mask result ↔ (result ≡ Err InvalidPrefix)

@@ -5,7 +5,7 @@ use ipnetwork_family::{Ipv4NetworkIterator, Ipv6NetworkIterator};
 use std::alloc::AllocError;
 use std::marker::Model;
 
-/// The members of a network that are still to come, in ascending order.
+/// An iterator over the members of a network of either family, in ascending order.
 ///
 /// ```
 /// let mut members = "192.0.2.7/30".parse::<IpNetwork>()?.iter();

@@ -30,8 +30,8 @@ pub enum IpNetwork {
     V6(Ipv6Network),
 }
 
-// The clause `network` tells a proof in another crate what holds of each network: its fields are private, so
-// nothing else says it.
+// The clause `network` tells a proof in another crate what is true of each network: its fields are private, so nothing
+// else says it.
 impl IpNetwork {
     ghost use Rattle.std.specs.Prelude.{◌≡◌, ◌≤◌, ◌↔◌, IsTrue, IfOk, string_bytes};
     ghost use Rattle.ipnetwork.specs.IpNetworks.{IsIpNetwork, address_of, prefix_of, ip_mask_of, ip_low, ip_high, ip_size, ip_members, IpMember, IpSubnet, IpOverlap, Makes, MakesWithMask, IsV4, IsV6};
@@ -53,9 +53,9 @@ impl IpNetwork {
         }
     }
 
-    /// The network of this address, host bits kept, and the prefix length of this mask; `InvalidPrefix` if the mask
-    /// is none of its family's, or its prefix length is greater than the number of bits of the address. The two need
-    /// not be of one family: the mask only gives a prefix length.
+    /// The network of this address, host bits kept, and the prefix length of this mask; `InvalidPrefix` if the mask is
+    /// not one of its family's masks, or its prefix length is greater than the number of bits of the address. The two
+    /// need not be of one family: the mask only gives a prefix length.
     ///
     /// ```
     /// let network = IpNetwork::with_netmask("10.1.9.32".parse()?, "255.0.0.0".parse()?)?;
@@ -225,8 +225,8 @@ impl IpNetwork {
         }
     }
 
-    /// Whether each member of this network is a member of `other`. Host bits change nothing. `false` if the two are
-    /// of different families.
+    /// Whether each member of this network is a member of `other`. Host bits are ignored. `false` if the two are of
+    /// different families.
     ///
     /// ```
     /// let network: IpNetwork = "2001:db8::7/126".parse()?;
@@ -251,8 +251,8 @@ impl IpNetwork {
         }
     }
 
-    /// Whether each member of `other` is a member of this network. Host bits change nothing. `false` if the two are
-    /// of different families.
+    /// Whether each member of `other` is a member of this network. Host bits are ignored. `false` if the two are of
+    /// different families.
     ///
     /// ```
     /// let network: IpNetwork = "10.0.0.0/8".parse()?;
@@ -439,7 +439,7 @@ impl IntoIterator for &IpNetwork {
 
     ghost into_iter_gives = { λ network left. left ≡ ip_members network.now };
 
-    /// As `iter`.
+    /// The same as `iter`.
     fn into_iter(self) -> IpNetworkIterator {
         self.iter()
     }
@@ -452,7 +452,7 @@ impl FromStr for IpNetwork {
 
     ghost from_str_gives = { ReadsIpNetwork };
 
-    /// As `read_bytes`.
+    /// The same as `read_bytes`.
     fn from_str(text: &str) -> Result<Self, CidrFault> {
         IpNetwork::read_bytes(text.as_bytes())
     }
@@ -465,7 +465,7 @@ impl TryFrom<&str> for IpNetwork {
 
     ghost try_from_gives = { λ text result. ReadsIpNetwork text.now result };
 
-    /// As `read_bytes`.
+    /// The same as `read_bytes`.
     fn try_from(text: &str) -> Result<Self, CidrFault> {
         IpNetwork::from_str(text)
     }

@@ -3,8 +3,8 @@
 //!
 //! Only calls that are given an allocator allocate.
 //!
-//! This crate shows the crates below it at its root: `ipnetwork_addr`, the addresses, and
-//! `ipnetwork_family`, the networks of one family.
+//! This crate re-exports the crates below it at its root: `ipnetwork_addr`, the addresses, and `ipnetwork_family`, the
+//! networks of one family.
 #![tactic(auto)]
 
 mod error;

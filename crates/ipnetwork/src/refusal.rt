@@ -7,9 +7,8 @@ use ipnetwork_family::{CidrFault, Ipv4Network, Ipv6Network};
 
 /// Why a text names no network of either family, or `None` if it names one.
 ///
-/// `Format` if the text has two or more `/`; else `Addr` if what stands before the `/` is an address of neither
-/// family; else `Prefix`. `IpNetwork::read_bytes` returns `Addr` for every text that names none: this call tells
-/// more.
+/// `Format` if the text has two or more `/`; else `Addr` if what stands before the `/` is an address of neither family;
+/// else `Prefix`. `IpNetwork::read_bytes` returns `Addr` for every text that names none: this call says more.
 ///
 /// ```
 /// assert_eq!(rt; cause(b"10.0.0.0/33"), Some(CidrFault::Prefix));

@@ -1,4 +1,4 @@
--- What relations of the folder above say, as functions. The laws say that each is the same.
+-- Functions that compute what relations of the folder above say. The laws say that the two agree.
 pub mod Either
 pub mod Ipv4Text
 pub mod Ipv6Canonical

@@ -48,7 +48,7 @@ fn read_right(text: &[u8], room: usize) -> Option<u128>
     }
 }
 
-/// The number of so many groups, moved to the front of eight.
+/// The number of this many groups, moved to the front of eight.
 fn shift(number: u128, count: usize) -> u128
     requires counted { count ≤ 7 }
     requires small { number < (2 ^ 16) ^ count }

@@ -4,7 +4,7 @@ ghost use Rattle.std.specs.Char.{digit_value};
 ghost use Rattle.ipnetwork_addr.specs.Private.OctetFront.{first_value};
 ghost use Rattle.ipnetwork_addr.specs.Texts.{dot};
 
-/// The value of a byte as a decimal digit, or 256 if it is none, so that an octet with such a byte is greater than
+/// The value of a byte as a decimal digit, or 256 if it is not one, so that an octet with such a byte is greater than
 /// 255.
 #[inline(always)]
 pub(crate) fn decimal_value(byte: u8) -> u32
@@ -32,7 +32,7 @@ pub(crate) fn is_no_dot(byte: u8) -> u32
     u32::from(VALUES[usize::from(byte) * 4 + 2])
 }
 
-/// Four numbers for each byte: its `first_value`, its `decimal_value`, whether it is no dot, and 0.
+/// Four numbers for each byte: its `first_value`, its `decimal_value`, whether it is not a dot, and 0.
 const VALUES: [u16; 1024] = [
     2560, 256, 1, 0, 2560, 256, 1, 0, 2560, 256, 1, 0, 2560, 256, 1, 0, 2560, 256, 1, 0, 2560, 256,
     1, 0, 2560, 256, 1, 0, 2560, 256, 1, 0, 2560, 256, 1, 0, 2560, 256, 1, 0, 2560, 256, 1, 0,

@@ -3,7 +3,7 @@
 use std::error::Error;
 use std::fmt;
 
-/// A text was refused, and this is what it was read as. Says nothing of where the text goes wrong.
+/// The error for a text that names no address: what it was read as. It does not say where the text is wrong.
 ///
 /// ```
 /// assert_eq!(rt; Ipv4Addr::read_bytes(b"192.0.2.01"), Err(AddrParseError::Ipv4));

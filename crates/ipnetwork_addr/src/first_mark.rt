@@ -2,8 +2,8 @@
 ghost use Rattle.std.specs.Prelude.{◌≡◌};
 ghost use Rattle.ipnetwork_addr.specs.Texts.{colon_first};
 
-/// Whether of the dots and colons of a text the first is a colon, as in each IPv6 text; in an IPv4 text a dot comes
-/// first. So a text has to be read in one family only.
+/// Whether the first dot or colon of a text is a colon, as in every IPv6 text; in an IPv4 text a dot comes first. So a
+/// text has to be read in one family only.
 ///
 /// ```
 /// assert!(rt; first_mark::has_colon_first(b"::ffff:192.0.2.1"));

@@ -77,8 +77,7 @@ fn read_v4(text: &[u8]) -> Option<u32>
     }
 }
 
-/// The group that the text begins with, up to the first byte that is no hex digit, and the text from
-/// there.
+/// The group that the text begins with, up to the first byte that is not a hex digit, and the text from there.
 fn read_group(text: &[u8]) -> Option<(u16, &[u8])>
     ensures { MatchOption result (NoGroup text.now) (λ found. BeginsWithGroup text.now found.0 found.1.now) }
 {

@@ -2,7 +2,7 @@
 ghost use Rattle.std.specs.Prelude.{◌≡◌, ◌<◌, ◌≤◌, MatchOption};
 ghost use Rattle.std.specs.Char.{digit_value};
 
-/// What stands in the table for a byte that is no hex digit.
+/// What stands in the table for a byte that is not a hex digit.
 const NO_DIGIT: u8 = 16;
 
 /// The value of a byte as a hex digit of either case, if it is one.

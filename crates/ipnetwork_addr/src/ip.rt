@@ -75,7 +75,7 @@ impl FromStr for IpAddr {
 
     ghost from_str_gives = { Reads NamesIp faults.Ip };
 
-    /// As `read_bytes`.
+    /// The same as `read_bytes`.
     fn from_str(text: &str) -> Result<Self, AddrParseError> {
         IpAddr::read_bytes(text.as_bytes())
     }

@@ -134,7 +134,7 @@ impl FromStr for Ipv4Addr {
 
     ghost from_str_gives = { Reads NamesV4 faults.Ipv4 };
 
-    /// As `read_bytes`.
+    /// The same as `read_bytes`.
     fn from_str(text: &str) -> Result<Self, AddrParseError> {
         Ipv4Addr::read_bytes(text.as_bytes())
     }

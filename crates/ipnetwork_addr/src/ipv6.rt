@@ -198,7 +198,7 @@ impl FromStr for Ipv6Addr {
 
     ghost from_str_gives = { Reads NamesV6 faults.Ipv6 };
 
-    /// As `read_bytes`.
+    /// The same as `read_bytes`.
     fn from_str(text: &str) -> Result<Self, AddrParseError> {
         Ipv6Addr::read_bytes(text.as_bytes())
     }

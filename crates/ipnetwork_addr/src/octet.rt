@@ -40,7 +40,7 @@ fn read_octet_and_dot(text: &[u8]) -> Option<(u8, &[u8])>
     Some((octet, &text[end + 1..]))
 }
 
-/// The same, a place after the other.
+/// The same, with one place tried after the other.
 #[inline(always)]
 fn read_by_places(text: &[u8]) -> Option<(u8, &[u8])>
     ensures { MatchOption result (NoOctetAndDot text.now) (λ found. BeginsWithOctet text.now found.0 (dot ∷ found.1.now)) }
@@ -102,7 +102,7 @@ fn octet_of_one(a: u8) -> Option<u8>
     Some(value as u8)
 }
 
-/// The octet of two digits, or, if `more` is 1, of three, of which the first is no zero.
+/// The octet of two digits, or, if `more` is 1, of three, of which the first is not a zero.
 #[inline(always)]
 fn octet_of_several(a: u8, b: u8, c: u8, more: u32) -> Option<u8>
     requires { more ≤ 1 }

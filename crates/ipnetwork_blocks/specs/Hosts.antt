@@ -3,14 +3,14 @@ use Rattle.std.specs.Prelude.{◌≡◌, ◌≢◌, ℕ, ◌≤◌, ◌↔◌, L
 use Rattle.std.specs.List.Sorted.{IsStrictlyIncreasing}
 use Rattle.ipnetwork_family.specs.Network.{Network, IsNetwork, Member, members, low, high}
 
--- up to prefix length 30 the members of an IPv4 network less the first and the last; at 31 and 32 all members
--- (RFC 3021)
+-- the members of an IPv4 network: up to prefix length 30 all except the first and the last, and at 31 and 32 all (RFC
+-- 3021)
 pub record AreIpv4Hosts (n : Network) (hosts : List ℕ) : Type 0 where
   pub inner : n.prefix ≤ 30 → members 32 n ≡ low 32 n ∷ hosts ++ high 32 n ∷ []
   pub whole : 31 ≤ n.prefix → members 32 n ≡ hosts
 
--- up to prefix length 126 the members of an IPv6 network less the first (RFC 4291, section 2.6.1); at 127 and 128 all
--- members (RFC 6164)
+-- the members of an IPv6 network: up to prefix length 126 all except the first (RFC 4291, section 2.6.1), and at 127
+-- and 128 all (RFC 6164)
 pub record AreIpv6Hosts (n : Network) (hosts : List ℕ) : Type 0 where
   pub inner : n.prefix ≤ 126 → members 128 n ≡ low 128 n ∷ hosts
   pub whole : 127 ≤ n.prefix → members 128 n ≡ hosts

@@ -52,7 +52,7 @@ pub trait AddressSpace: CidrNetwork {
     fn previous_address(addr: Self::Addr) -> Option<Self::Addr>
         ensures { MatchOption result (Self.number addr ≡ 0) (λ previous. Self.number previous + 1 ≡ Self.number addr) };
 
-    /// The address `offset` addresses after this one, which is not past the last.
+    /// The address `offset` addresses after this one. It must not be past the last address of the family.
     ///
     /// ```
     /// let addr = Ipv4Network::plus(Ipv4Addr::new(10, 0, 0, 255), 257);
@@ -71,7 +71,7 @@ pub trait AddressSpace: CidrNetwork {
     fn shared_bits(addr: Self::Addr, other: Self::Addr) -> u8
         ensures { SharesBits Self.WIDTH (Self.number addr) (Self.number other) result };
 
-    /// How many zeros the bits of the address end with; `WIDTH` for the address 0.
+    /// The number of trailing zero bits of the address; `WIDTH` for the address 0.
     ///
     /// ```
     /// assert_eq!(rt; Ipv4Network::trailing_zeros(Ipv4Addr::new(10, 0, 1, 0)), 8);

@@ -10,9 +10,9 @@ use crate::held_network::HoldsNetwork;
 use crate::supernets::block;
 use ipnetwork_family::CidrNetwork;
 
-/// Puts the aggregate of the networks, host bits or not, in front, and answers how many blocks it has: the
-/// blocks of the networks' union that lie in no greater block of it, in ascending order. No list of networks with the
-/// same union is shorter (`laws::least`). The rest of the slice holds unspecified networks.
+/// Replaces the networks, which may have host bits, by their aggregate, at the front of the slice, and returns how many
+/// blocks it has: the blocks of the networks' union that lie in no larger block of it, in ascending order. No list of
+/// networks with the same union is shorter (`laws::least`). The rest of the slice holds unspecified networks.
 ///
 /// Sorts the slice and goes over it once. Does not allocate.
 ///
@@ -28,8 +28,8 @@ pub fn aggregate_in_place<N: CidrNetwork>(networks: &mut [N]) -> usize
     aggregate_held::<N, N>(networks)
 }
 
-/// Puts the aggregate of the networks in their place: what `aggregate_in_place` puts in front, and nothing
-/// behind it. Does not allocate, and frees no memory.
+/// Replaces the networks by their aggregate: the blocks that `aggregate_in_place` puts at the front, and nothing after
+/// them. Does not allocate, and frees no memory.
 ///
 /// ```
 /// let mut networks = vec![in rt.alloc(); "10.128.0.0/9".parse::<Ipv4Network>()?, "10.0.0.0/9".parse()?]?;
@@ -43,8 +43,8 @@ pub fn aggregate_vec<N: CidrNetwork>(networks: &mut Vec<N>)
     networks.truncate(count);
 }
 
-/// Puts values that hold the aggregate of the networks that the values hold in front, and answers how many: what
-/// `aggregate_in_place` does, for networks that stand in memory in a form of their own. The rest of the slice holds
+/// Does what `aggregate_in_place` does, for values that hold networks in a form of their own: replaces them by values
+/// that hold the aggregate, at the front of the slice, and returns how many these are. The rest of the slice holds
 /// unspecified networks.
 ///
 /// Sorts the slice and goes over it once. Does not allocate.
@@ -111,8 +111,8 @@ fn lies_in_last<N: CidrNetwork, H: HoldsNetwork<N>>(front: &[H], block: N) -> bo
     }
 }
 
-// Joins the block with the last of those in front, and what comes of it with the one before, for as long as the two
-// are the halves of one block: how many in front are left, and what to put behind them.
+// Joins the block with the last of those in front, and what comes of it with the one before, for as long as the two are
+// the halves of one block: how many in front are left, and what to put after them.
 fn join_back<N: CidrNetwork, H: HoldsNetwork<N>>(front: &[H], block: N) -> (usize, N)
     requires held { All H.holds front.now }
     requires joined { AreJoined N.WIDTH (map H.held front.now) }

@@ -8,9 +8,9 @@ ghost use Rattle.ipnetwork_blocks.specs.AggregateIp.{IsIpAggregate};
 use crate::aggregate::aggregate_held;
 use ipnetwork::{IpNetwork, Ipv4Network, Ipv6Network};
 
-/// Puts the aggregate of the IPv4 networks in front, and behind it that of the IPv6 networks, and answers how many
-/// blocks these are: for each family what `aggregate_in_place` makes of its networks. The rest of the slice holds
-/// unspecified networks.
+/// Replaces the networks by the aggregate of the IPv4 networks and, after it, that of the IPv6 networks, at the front
+/// of the slice, and returns how many blocks these are: for each family what `aggregate_in_place` makes of its
+/// networks. The rest of the slice holds unspecified networks.
 ///
 /// Sorts each family and goes over it once. Does not allocate.
 ///
@@ -31,8 +31,8 @@ pub fn aggregate_ip_in_place(networks: &mut [IpNetwork]) -> usize
     v4_blocks + v6_blocks
 }
 
-/// Puts the aggregate of the IPv4 networks, and behind it that of the IPv6 networks, in the place of the networks:
-/// what `aggregate_ip_in_place` puts in front, and nothing behind it. Does not allocate, and frees no memory.
+/// Replaces the networks by the aggregate of the IPv4 networks and, after it, that of the IPv6 networks: the blocks
+/// that `aggregate_ip_in_place` puts at the front, and nothing after them. Does not allocate, and frees no memory.
 ///
 /// ```
 /// let mut networks = vec![in rt.alloc(); "2001:db8::/32".parse::<IpNetwork>()?, "10.0.0.0/8".parse()?]?;
@@ -46,7 +46,7 @@ pub fn aggregate_ip_vec(networks: &mut Vec<IpNetwork>)
     networks.truncate(count);
 }
 
-// Puts the IPv4 networks before the IPv6 networks, and answers how many there are.
+// Puts the IPv4 networks before the IPv6 networks, and returns how many there are.
 fn put_v4_first(networks: &mut [IpNetwork]) -> usize
     ensures within { result ≤ length networks.old }
     ensures same { IsPermutation networks.old networks.new }

@@ -11,7 +11,7 @@ use crate::range_blocks::RangeBlocks;
 use std::alloc::AllocError;
 use std::marker::Model;
 
-/// The blocks of what one network has and another has not that are still to come, in ascending order.
+/// An iterator over the blocks of the addresses of a network that are not in another, in ascending order.
 ///
 /// ```
 /// let network: Ipv4Network = "192.0.2.0/24".parse()?;
@@ -35,12 +35,12 @@ impl<N: AddressSpace> Model for Exclusion<N> {
     ghost view = { λ e. e.below ++ e.above };
 }
 
-/// The blocks of the addresses of `network` that are not in `inner`: the fewest that there are, in ascending
-/// order. Host bits of either change nothing.
+/// The blocks of the addresses of `network` that are not in `inner`: the fewest possible, in ascending order. Host bits
+/// of either are ignored.
 ///
-/// Where `inner` has all addresses of `network` there is no block, and where it has none of them the only one is
-/// the block of `network`. Else `inner` lies within the network, and there is one block for each bit by which its
-/// prefix length is greater. Does not allocate, nor does the iterator.
+/// If `inner` has all addresses of `network`, there is no block, and if it has none of them, the only one is the block
+/// of `network`. Otherwise `inner` lies within the network, and there is one block for each bit by which its prefix
+/// length is greater. Does not allocate, nor does the iterator.
 ///
 /// ```
 /// let network: Ipv4Network = "10.0.0.0/30".parse()?;
@@ -83,7 +83,7 @@ fn blocks_before<N: AddressSpace>(first: N::Addr, network: N) -> RangeBlocks<N>
     }
 }
 
-// The blocks of the addresses from the first one behind the network to `last`.
+// The blocks of the addresses from the first one after the network to `last`.
 fn blocks_behind<N: AddressSpace>(network: N, last: N::Addr) -> RangeBlocks<N>
     ensures { IsLeastList N.WIDTH (Behind N.WIDTH (N.pair network) (N.number last)) result }
 {

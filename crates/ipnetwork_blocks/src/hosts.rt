@@ -1,4 +1,4 @@
-//! The hosts of a network: its members, less those that are set aside for other uses.
+//! The hosts of a network: its members, except those that are reserved for other uses.
 ghost use Rattle.std.specs.Prelude.{◌≡◌, ℕ, ◌+◌, ◌-◌, ◌≤◌};
 ghost use Rattle.std.specs.Iterator.{YieldsFirst, item_count};
 ghost use Rattle.ipnetwork_family.specs.Network.{count_up};
@@ -9,7 +9,7 @@ use ipnetwork_family::{Ipv4Network, Ipv6Network, Ipv6NetworkIterator};
 use std::alloc::AllocError;
 use std::marker::Model;
 
-/// The hosts of an IPv4 network that are still to come, in ascending order.
+/// An iterator over the hosts of an IPv4 network, in ascending order.
 ///
 /// ```
 /// let mut hosts: Ipv4HostIterator = ipv4_hosts("192.0.2.0/24".parse()?);
@@ -34,9 +34,9 @@ impl Model for Ipv4HostIterator {
     ghost invariant = { λ i. i.count ≤ i.last + 1 };
 }
 
-/// The addresses of an IPv4 network that hosts may have, each once, in ascending order: up to prefix length 30
-/// the members less the first and the last, whose host bits are all zeros and all ones (RFC 1122, section
-/// 3.2.1.3); at 31 both members (RFC 3021), and at 32 the one. Does not allocate.
+/// The addresses of an IPv4 network that hosts may have, each once, in ascending order: up to prefix length 30 all
+/// members except the first and the last, whose host bits are all zeros and all ones (RFC 1122, section 3.2.1.3); at 31
+/// both members (RFC 3021), and at 32 the one. Does not allocate.
 ///
 /// ```
 /// let mut hosts = ipv4_hosts("10.0.0.4/30".parse()?);
@@ -59,9 +59,9 @@ pub fn ipv4_hosts(network: Ipv4Network) -> Ipv4HostIterator
     }
 }
 
-/// The addresses of an IPv6 network that hosts may have, each once, in ascending order: up to prefix length 126
-/// the members less the first, the anycast address of its routers (RFC 4291, section 2.6.1); at 127 both members
-/// (RFC 6164), and at 128 the one. Does not allocate.
+/// The addresses of an IPv6 network that hosts may have, each once, in ascending order: up to prefix length 126 all
+/// members except the first, the anycast address of its routers (RFC 4291, section 2.6.1); at 127 both members (RFC
+/// 6164), and at 128 the one. Does not allocate.
 ///
 /// ```
 /// let mut hosts = ipv6_hosts("2001:db8::/64".parse()?);

@@ -9,7 +9,7 @@ use crate::address_space::AddressSpace;
 use std::alloc::AllocError;
 use std::marker::Model;
 
-/// The blocks of a range of addresses that are still to come, in ascending order.
+/// An iterator over the blocks of a range of addresses, in ascending order.
 ///
 /// ```
 /// let (first, last) = (Ipv4Addr::new(192, 0, 2, 1), Ipv4Addr::new(192, 0, 2, 4));
@@ -37,8 +37,8 @@ impl<N: AddressSpace> Model for RangeBlocks<N> {
     ghost invariant = { λ r. (N.number r.next ≤ N.number r.last) × (N.number r.last < 2 ^ N.WIDTH) };
 }
 
-/// The blocks whose addresses are those from `first` to `last`, both included: the fewest that there are, in
-/// ascending order. `None` if `first` comes after `last`.
+/// The blocks whose addresses are those from `first` to `last`, both included: the fewest possible, in ascending order.
+/// `None` if `first` comes after `last`.
 ///
 /// For addresses of W bits there are at most 2 W - 2 blocks: 62 for IPv4 and 254 for IPv6. The whole address
 /// space is one block, of prefix length 0. Does not allocate, nor does the iterator.
@@ -77,7 +77,7 @@ impl<N: AddressSpace> RangeBlocks<N> {
         }
     }
 
-    /// No blocks. Any address serves.
+    /// No blocks. Any address will do.
     pub(crate) fn none(address: N::Addr) -> Self
         ensures none { result ≡ [] }
         ensures address { N.number address < 2 ^ N.WIDTH }

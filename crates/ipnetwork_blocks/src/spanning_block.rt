@@ -5,7 +5,7 @@ ghost use Rattle.ipnetwork_blocks.specs.Spanning.{IsSpanning};
 use crate::address_space::AddressSpace;
 use crate::supernets::block;
 
-/// The smallest one block that has all members of each of the networks: it lies in every other network that has them.
+/// The smallest block that has all members of each of the networks: it lies in every other network that has them.
 /// `None` if there are no networks. Does not allocate.
 ///
 /// ```
@@ -25,7 +25,7 @@ pub fn spanning<N: AddressSpace>(networks: &[N]) -> Option<N>
     Some(around)
 }
 
-// The smallest one block that has all members of both networks.
+// The smallest block that has all members of both networks.
 fn around_both<N: AddressSpace>(first: N, second: N) -> N
     ensures { IsSpanning N.WIDTH (N.pair first ∷ N.pair second ∷ []) (N.pair result) }
 {

@@ -8,7 +8,7 @@ use crate::following_block::following;
 use std::alloc::AllocError;
 use std::marker::Model;
 
-/// The blocks of a network that are still to come, in ascending order.
+/// An iterator over the blocks of one prefix length within a network, in ascending order.
 ///
 /// ```
 /// let mut blocks: SubnetIterator<Ipv4Network> = subnets("10.0.0.0/23".parse()?, 24).unwrap();
@@ -35,9 +35,9 @@ impl<N: AddressSpace> Model for SubnetIterator<N> {
     ghost invariant = { λ s. AreEnds N.WIDTH (option_map N.pair s.next) (N.pair s.last) };
 }
 
-/// The blocks of this prefix length within the network, each once, in ascending order: 2^(`prefix` - n) of them,
-/// where n is the network's own prefix length. At that prefix length it is the network's block alone. `None` for a
-/// prefix length that is shorter than the network's or greater than `WIDTH`. Does not allocate.
+/// The blocks of this prefix length within the network, each once, in ascending order: 2^(`prefix` - n) of them, where
+/// n is the network's own prefix length. If `prefix` is n, that is only the network's own block. `None` for a prefix
+/// length that is shorter than the network's or greater than `WIDTH`. Does not allocate.
 ///
 /// ```
 /// let network: Ipv4Network = "10.0.0.0/8".parse()?;

@@ -22,8 +22,8 @@ pub fn block<N: CidrNetwork>(network: N) -> N
     block
 }
 
-/// The block of this prefix length around the network: it has no host bits, and holds each member. At the
-/// network's own prefix length that is its `block`; `None` where the prefix length is longer. Does not allocate.
+/// The block of this prefix length around the network: it has no host bits, and holds each member. At the network's own
+/// prefix length that is its `block`; `None` if the prefix length is longer. Does not allocate.
 ///
 /// ```
 /// let network: Ipv4Network = "192.0.2.129/25".parse()?;

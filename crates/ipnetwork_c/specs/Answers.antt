@@ -6,17 +6,17 @@ use Rattle.ipnetwork_family.specs.declared.error.CidrFault.{CidrFault}
 use Rattle.ipnetwork_c.specs.Numbers.{ok, prefix, short_buffer, no_mask, no_member, fault_number}
 use Rattle.ipnetwork_c.specs.Held.{PrefixFits}
 
--- a reading is told: the struct holds the network, or the number is that of the cause
+-- a reading is returned: the struct holds the network, or the number is that of the cause
 abbrev pub WritesReading : {N C : Type 0} → (C → N → Type 0) → C → C → ℕ → Result N CidrFault → Type 0
 WritesReading Holds before after code (Ok n) = (code ≡ ok) × Holds after n
 WritesReading Holds before after code (Err fault) = (code ≡ fault_number fault) × (after ≡ before)
 
--- what reading the text returns is told
+-- what reading the text returns is returned
 abbrev pub ReadsInto : {N C : Type 0} → (List ℕ → Result N CidrFault → Type 0) → (C → N → Type 0) → List ℕ → C → C → ℕ → Type 0
 ReadsInto {N} Reads Holds text before after code =
     (read : Result N CidrFault) × Reads text read × WritesReading Holds before after code read
 
--- what is asked of networks whose prefix lengths fit is answered; if they do not fit, the number is `prefix`
+-- what is asked of networks whose prefix lengths fit is answered; if one does not fit, the number is `prefix`
 pub data QueryResult {A : Type 0} (AllFit : Type 0) (Answers : A → Type 0) (before after : A) (code : ℕ) : Type 0 where
   Answered : AllFit → code ≡ ok → Answers after → QueryResult AllFit Answers before after code
   Refused : ¬ AllFit → code ≡ prefix → after ≡ before → QueryResult AllFit Answers before after code
@@ -34,13 +34,13 @@ pub data CopyResult (text before after : List ℕ) (code : ℕ) : Type 0 where
   Room : length text < length before → code ≡ ok → StandsIn text before after → CopyResult text before after code
   NoRoom : length before ≤ length text → code ≡ short_buffer → after ≡ before → CopyResult text before after code
 
--- the text of a network is put into a buffer, and its length is told, even if the buffer is too short
+-- the text of a network is put into a buffer, and its length is returned, even if the buffer is too short
 pub data WritesText (w : ℕ) (n : Network) (text before after : List ℕ) (told_before told code : ℕ) : Type 0 where
   Put : PrefixFits w n → length text < length before → code ≡ ok → told ≡ length text → StandsIn text before after → WritesText w n text before after told_before told code
   TooShort : PrefixFits w n → length before ≤ length text → code ≡ short_buffer → told ≡ length text → after ≡ before → WritesText w n text before after told_before told code
   NoNetwork : ¬ (PrefixFits w n) → code ≡ prefix → told ≡ told_before → after ≡ before → WritesText w n text before after told_before told code
 
--- the prefix length of a mask is told, or the number is `no_mask`
+-- the prefix length of a mask is returned, or the number is `no_mask`
 pub data WritesPrefix (w mask before after code : ℕ) : Type 0 where
   Mask : after ≤ w → mask ≡ mask_of w after → code ≡ ok → WritesPrefix w mask before after code
   NoMask : IsNoMask w mask → code ≡ no_mask → after ≡ before → WritesPrefix w mask before after code
@@ -53,7 +53,7 @@ HasSize w n size = size ≡ length (members w n)
 abbrev pub IsNth : ℕ → Network → ℕ → ℕ → Type 0
 IsNth w n i x = slice_get (members w n) i ≡ Some x
 
--- the octets of the member number i are told; if the network has no more than i members, the number is `no_member`
+-- the octets of the member number i are returned; if the network has no more than i members, the number is `no_member`
 pub data WritesMember (w : ℕ) (octets_of : ℕ → List ℕ) (n : Network) (i : ℕ) (before after : List ℕ) (code : ℕ) : Type 0 where
   Member : (x : ℕ) → PrefixFits w n → IsNth w n i x → code ≡ ok → after ≡ octets_of x → WritesMember w octets_of n i before after code
   NoMember : PrefixFits w n → length (members w n) ≤ i → code ≡ no_member → after ≡ before → WritesMember w octets_of n i before after code

@@ -10,7 +10,8 @@ use Rattle.ipnetwork_c.specs.Held.{PrefixFits, number_of_octets}
 abbrev pub member_flag : ℕ → Network → List ℕ → ℕ
 member_flag w n octets = from_bool (is_member w n (number_of_octets octets))
 
--- each row is answered as the call for one address answers it, and answers behind the rows stay; or nothing is written
+-- each row is answered as the call for one address answers it, and answers after those of the rows are unchanged; or
+-- nothing is written
 pub data AnswersRows (w : ℕ) (n : Network) (rows : List (List ℕ)) (before after : List ℕ) (code : ℕ) : Type 0 where
   Answered : PrefixFits w n → length rows ≤ length before → code ≡ ok → after ≡ map (member_flag w n) rows ++ drop (length rows) before → AnswersRows w n rows before after code
   NoRoom : PrefixFits w n → length before < length rows → code ≡ short_buffer → after ≡ before → AnswersRows w n rows before after code

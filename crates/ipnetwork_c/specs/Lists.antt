@@ -8,14 +8,14 @@ use Rattle.ipnetwork_sets.specs.Sets.{IsAddressSet}
 use Rattle.ipnetwork_c.specs.Numbers.{ok, prefix, short_buffer}
 use Rattle.ipnetwork_c.specs.Held.{PrefixFits}
 
--- the aggregate of the networks of a list is put in its front, and its length is told; behind it are networks still. If
--- the prefix length of one does not fit, nothing is written
+-- the aggregate of the networks of a list is put in its front, and its length is returned; after it are networks still.
+-- If the prefix length of one does not fit, nothing is written
 pub data Aggregates {C : Type 0} (w : ℕ) (held : C → Network) (before after : List C) (told_before told code : ℕ) : Type 0 where
   Done : All (λ c. PrefixFits w (held c)) before → code ≡ ok → told ≤ length before → IsAggregate w (map held before) (map held (take told after)) → All (λ c. PrefixFits w (held c)) after → Aggregates w held before after told_before told code
   Refused : ¬ (All (λ c. PrefixFits w (held c)) before) → code ≡ prefix → told ≡ told_before → after ≡ before → Aggregates w held before after told_before told code
 
--- the byte tells whether an address lies in the union of the networks: it is 1 only if it does, and always then if the
--- networks are the blocks of a set
+-- the byte says whether an address lies in the union of the networks: it is 1 only if it does, and if the networks are
+-- the blocks of a set, always then
 pub record FindsIn (w : ℕ) (networks : List Network) (x byte : ℕ) : Type 0 where
   pub flag : byte ≤ 1
   pub found : byte ≡ 1 → InUnion w networks x
@@ -32,8 +32,8 @@ pub record StandInFront {C : Type 0} (held : C → Network) (blocks : List Netwo
   pub blocks_are : map held front ≡ blocks
   pub list : after ≡ front ++ drop (length blocks) before
 
--- the least list of blocks of a set is put in the front of a list, and its length is told; if there is no room, only
--- that length is told, or the greatest number of 64 bits if it is greater
+-- the least list of blocks of a set is put in the front of a list, and its length is returned; if there is no room,
+-- only that length is returned, or the greatest number of 64 bits if it is greater
 pub data PutsBlocks {C : Type 0} (w : ℕ) (held : C → Network) (set : ℕ → Type 0) (before after : List C) (told code : ℕ) : Type 0 where
   Put : (blocks : List Network) → IsLeastList w set blocks → length blocks ≤ length before → code ≡ ok → told ≡ length blocks → StandInFront held blocks before after → PutsBlocks w held set before after told code
   TooShort : (blocks : List Network) → IsLeastList w set blocks → length before < length blocks → code ≡ short_buffer → told ≡ min (length blocks) (2 ^ 64 - 1) → after ≡ before → PutsBlocks w held set before after told code

@@ -1,4 +1,4 @@
--- The numbers by which C is told of faults and orders. The header has a name for each.
+-- The numbers that stand for faults and orders in C. The header has a name for each.
 use Rattle.std.specs.Prelude.{ℕ, ℤ, pos, negsuc, List, codes, ◌==◌, if◌then◌else◌}
 use Rattle.std.specs.declared.cmp.Ordering.{Ordering}
 use Rattle.std.specs.declared.cmp.Ordering.TheVariants.{Less, Equal, Greater}
@@ -13,11 +13,11 @@ ok = 0
 abbrev pub format : ℕ
 format = 1
 
--- what stands before the `/` is no address
+-- what stands before the `/` is not an address
 abbrev pub address : ℕ
 address = 2
 
--- no prefix length of the family
+-- not a prefix length of the family
 abbrev pub prefix : ℕ
 prefix = 3
 
@@ -25,7 +25,7 @@ prefix = 3
 abbrev pub short_buffer : ℕ
 short_buffer = 4
 
--- an address that is no mask
+-- an address that is not a mask
 abbrev pub no_mask : ℕ
 no_mask = 5
 

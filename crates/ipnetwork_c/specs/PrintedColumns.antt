@@ -1,5 +1,5 @@
--- Columns of networks printed: the bytes of all texts, one behind the other, and the offsets at which each begins and the
--- last ends.
+-- Columns of networks printed: the bytes of all texts, one after the other, and the offsets at which each begins and
+-- the last ends.
 use Rattle.std.specs.Prelude.{◌≡◌, ℕ, ◌-◌, ◌^◌, ◌<◌, ◌≤◌, min, List, ◌++◌, drop, take, length, get_or, slice_get, flat_map}
 use Rattle.std.specs.List.{All}
 use Rattle.ipnetwork_addr.specs.Ipv4Text.{canonical_v4}
@@ -10,8 +10,8 @@ use Rattle.ipnetwork_c.specs.declared.structs.Ipv6InC.{Ipv6InC}
 use Rattle.ipnetwork_c.specs.Numbers.{ok, prefix, short_buffer}
 use Rattle.ipnetwork_c.specs.Held.{PrefixFits, v4_in, v6_in}
 
--- the texts of rows stand in the front of a buffer, one behind the other, and the offset of each place is the number of the
--- bytes before it, that behind the last too; nothing else of the buffer or of the offsets has changed
+-- the texts of rows stand in the front of a buffer, one after the other, and the offset of each place is the number of
+-- the bytes before it, that after the last too; nothing else of the buffer or of the offsets has changed
 pub record PrintsRows {R : Type 0} (text : R → List ℕ) (rows : List R) (before after offsets_before offsets : List ℕ) : Type 0 where
   pub texts : after ≡ flat_map text rows ++ drop (length (flat_map text rows)) before
   pub slots : length offsets ≡ length offsets_before
@@ -25,8 +25,9 @@ pub record HasColumnRoom {R : Type 0} (text : R → List ℕ) (rows : List R) (b
   pub short : length (flat_map text rows) < 2 ^ 31
   pub offsets : length rows < length offsets_before
 
--- a column is printed, row by row, and the number of its bytes is told; if there is no room, only that number is told, or
--- the greatest one of 64 bits if it is greater; if the prefix length of a row does not fit, nothing is written
+-- a column is printed, row by row, and the number of its bytes is returned; if there is no room, only that number is
+-- returned, or the greatest one of 64 bits if it is greater; if the prefix length of a row does not fit, nothing is
+-- written
 pub data PrintsColumn {R : Type 0} (Fits : R → Type 0) (text : R → List ℕ) (rows : List R) (before after offsets_before offsets : List ℕ) (told_before told code : ℕ) : Type 0 where
   Printed : All Fits rows → HasColumnRoom text rows before offsets_before → code ≡ ok → told ≡ length (flat_map text rows) → PrintsRows text rows before after offsets_before offsets → PrintsColumn Fits text rows before after offsets_before offsets told_before told code
   NoRoom : All Fits rows → ¬ (HasColumnRoom text rows before offsets_before) → code ≡ short_buffer → told ≡ min (length (flat_map text rows)) (2 ^ 64 - 1) → after ≡ before → offsets ≡ offsets_before → PrintsColumn Fits text rows before after offsets_before offsets told_before told code

@@ -17,7 +17,7 @@ pub record FindsLongest (w : ℕ) (networks : List Network) (x i : ℕ) : Type 0
   pub one : (d : Network) → Member w (slice_index_or networks i d) x
   pub longest : IsTable w networks → (k : ℕ) (d : Network) → k < length networks → Member w (slice_index_or networks k d) x → (slice_index_or networks k d).prefix ≤ (slice_index_or networks i d).prefix
 
--- the index of the longest block with an address is told; if there is none, the number is `no_member`
+-- the index of the longest block with an address is returned; if there is none, the number is `no_member`
 pub data TableQuery {C : Type 0} (w : ℕ) (held : C → Network) (list : List C) (x before after code : ℕ) : Type 0 where
   Found : code ≡ ok → FindsLongest w (map held list) x after → TableQuery w held list x before after code
   NotFound : code ≡ no_member → (IsTable w (map held list) → ¬ (InUnion w (map held list) x)) → after ≡ before → TableQuery w held list x before after code

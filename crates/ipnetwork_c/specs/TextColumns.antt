@@ -1,4 +1,5 @@
--- Columns of texts: the bytes of all texts, one behind the other, and the offsets at which each begins and the last ends.
+-- Columns of texts: the bytes of all texts, one after the other, and the offsets at which each begins and the last
+-- ends.
 use Rattle.std.specs.Prelude.{◌≡◌, ◌⊎◌, ℕ, ◌+◌, ◌-◌, ◌<◌, ◌≤◌, List, length, get_or, slice_get, slice_range, Some}
 use Rattle.ipnetwork_family.specs.Ipv4NetworkText.{ReadsV4Network}
 use Rattle.ipnetwork_family.specs.Ipv6NetworkText.{ReadsV6Network}
@@ -32,7 +33,8 @@ pub record ReadsRows {R : Type 0} (Reads : List ℕ → R → R → ℕ → Type
   pub rest : (i : ℕ) → count ≤ i → slice_get after i ≡ slice_get before i
   pub fault_rest : (i : ℕ) → count ≤ i → slice_get faults i ≡ slice_get faults_before i
 
--- a column is read, row by row; or nothing is written, since the offsets are none, or there is no room for as many rows
+-- a column is read, row by row; or nothing is written, since the offsets are not offsets of the texts, or there is no
+-- room for as many rows
 pub data ReadsColumn {R : Type 0} (Reads : List ℕ → R → R → ℕ → Type 0) (texts offsets : List ℕ) (before after : List R) (faults_before faults : List ℕ) (code : ℕ) : Type 0 where
   Read : AreOffsets texts offsets → code ≡ ok → row_count offsets ≤ length before → row_count offsets ≤ length faults_before → ReadsRows Reads texts offsets (row_count offsets) before after faults_before faults → ReadsColumn Reads texts offsets before after faults_before faults code
   NoRoom : AreOffsets texts offsets → code ≡ short_buffer → (length before < row_count offsets) ⊎ (length faults_before < row_count offsets) → after ≡ before → faults ≡ faults_before → ReadsColumn Reads texts offsets before after faults_before faults code

@@ -11,7 +11,7 @@ use ipnetwork::{IpAddr, Ipv4Addr};
 #[repr(C)]
 #[derive(Clone, Copy)]
 pub struct AddressInC {
-    /// The octets, the highest first, and zeros behind those of an IPv4 address.
+    /// The octets, the highest first, and zeros after those of an IPv4 address.
     pub octets: [u8; 16],
     /// 4 or 16.
     pub length: u8,
@@ -37,7 +37,7 @@ impl AddressInC {
         }
     }
 
-    /// The address, if 4 or 16 octets are told.
+    /// The address, if it has 4 or 16 octets.
     pub(crate) fn address(&self) -> Option<IpAddr>
         ensures { result ≡ held_address self.now }
     {
@@ -52,8 +52,8 @@ impl AddressInC {
     }
 }
 
-/// The address of either family that a text of this many bytes names, as `IpAddr::read_bytes` reads it: `OK`, and the
-/// address is written. Any other text is `ADDRESS`.
+/// Reads the address of either family that a text names, as `IpAddr::read_bytes` does: `OK`, and the address is written
+/// to `address`. Any other text is `ADDRESS`.
 #[unsafe(no_mangle)]
 pub extern "C" fn ipnetwork_address_read(text: &[u8], address: &mut AddressInC) -> u32
     ensures { ReadsAddress text.now address.old address.new result }
@@ -67,9 +67,9 @@ pub extern "C" fn ipnetwork_address_read(text: &[u8], address: &mut AddressInC) 
     }
 }
 
-/// The canonical text of an address and a zero byte behind it, in a buffer of this many bytes, of which 40 are enough.
-/// The length of the text, without the zero byte, is told too. `SHORT_BUFFER` if the buffer has no room for both: then
-/// the length is told and nothing else is written. `NO_FAMILY` if the struct tells neither 4 nor 16 octets.
+/// Writes the canonical text of an address and a zero byte after it to `buffer`, of which 40 bytes are enough, and the
+/// length of the text, without the zero byte, to `length`. `SHORT_BUFFER` if the buffer has no room for both: then only
+/// the length is written. `NO_FAMILY` if the number of octets in the struct is neither 4 nor 16.
 #[unsafe(no_mangle)]
 pub extern "C" fn ipnetwork_address_canonical(
     address: &AddressInC,

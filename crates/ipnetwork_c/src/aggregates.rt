@@ -1,4 +1,4 @@
-//! Lists of networks made the least list of blocks, where they stand.
+//! Lists of networks are replaced by the least list of blocks, in place.
 ghost use Rattle.ipnetwork_c.specs.Held.{v4_in, v6_in};
 ghost use Rattle.ipnetwork_c.specs.Lists.{Aggregates};
 
@@ -8,9 +8,9 @@ use crate::structs::{Ipv4InC, Ipv6InC};
 use ipnetwork::{Ipv4Network, Ipv6Network};
 use ipnetwork_blocks::aggregate_held;
 
-/// Puts the aggregate of the networks, host bits or not, in front, and tells how many blocks it has: the fewest blocks
-/// with the same addresses, in ascending order. Behind them stand unspecified networks. `PREFIX` where the prefix length
-/// of one is greater than 32.
+/// Replaces the networks, which may have host bits, by their aggregate, at the front of the list: the fewest blocks
+/// with the same addresses, in ascending order. `count` is their number. The networks after them are unspecified.
+/// `PREFIX` if the prefix length of one is greater than 32.
 #[unsafe(no_mangle)]
 pub extern "C" fn ipnetwork_v4_aggregate(networks: &mut [Ipv4InC], count: &mut usize) -> u32
     ensures { Aggregates 32 v4_in networks.old networks.new count.old count.new result }
@@ -22,7 +22,7 @@ pub extern "C" fn ipnetwork_v4_aggregate(networks: &mut [Ipv4InC], count: &mut u
     OK
 }
 
-/// The same of IPv6, for prefix lengths up to 128.
+/// The same for IPv6, for prefix lengths up to 128.
 #[unsafe(no_mangle)]
 pub extern "C" fn ipnetwork_v6_aggregate(networks: &mut [Ipv6InC], count: &mut usize) -> u32
     ensures { Aggregates 128 v6_in networks.old networks.new count.old count.new result }

@@ -34,8 +34,8 @@ fn range<N: AddressSpace, H: HoldsNetwork<N>>(
 }
 
 /// Writes the blocks whose addresses are those from the first to the last, both included, to the front of `blocks`: the
-/// fewest that there are, in ascending order, and at most 62. `count` is their number. `SHORT_BUFFER` if there is no room
-/// for them, and then only `count` is written. `NO_RANGE` if the first comes after the last.
+/// fewest possible, in ascending order, and at most 62. `count` is their number. `SHORT_BUFFER` if there is no room for
+/// them, and then only `count` is written. `NO_RANGE` if the first comes after the last.
 #[unsafe(no_mangle)]
 pub extern "C" fn ipnetwork_v4_range_to_blocks(
     first: &[u8; 4],
@@ -48,7 +48,7 @@ pub extern "C" fn ipnetwork_v4_range_to_blocks(
     range::<Ipv4Network, Ipv4InC>(Ipv4Addr::from(*first), Ipv4Addr::from(*last), blocks, count)
 }
 
-/// The same of IPv6, with at most 254 blocks.
+/// The same for IPv6, with at most 254 blocks.
 #[unsafe(no_mangle)]
 pub extern "C" fn ipnetwork_v6_range_to_blocks(
     first: &[u8; 16],
@@ -88,7 +88,7 @@ pub extern "C" fn ipnetwork_v4_subnet_at(
     }
 }
 
-/// The same of IPv6, for prefix lengths up to 128. The number is 16 octets, the highest first.
+/// The same for IPv6, for prefix lengths up to 128. The number is 16 octets, the highest first.
 #[unsafe(no_mangle)]
 pub extern "C" fn ipnetwork_v6_subnet_at(
     network: &Ipv6InC,

@@ -7,8 +7,8 @@ use crate::fault::{OK, PREFIX, SHORT_BUFFER};
 use crate::structs::{Ipv4InC, Ipv6InC};
 use ipnetwork::{Ipv4Addr, Ipv4Network};
 
-/// Whether each of these addresses lies in the network's set, as 1 or 0 in the answer of the same place. Answers behind
-/// these stay as they are. `PREFIX` where the prefix length is greater than 32, else `SHORT_BUFFER` where there are
+/// Writes for each of these addresses whether it lies in the network's set: 1 or 0, in `answers` at the same index. The
+/// rest of `answers` is unchanged. `PREFIX` if the prefix length is greater than 32, else `SHORT_BUFFER` if there are
 /// fewer answers than addresses.
 #[unsafe(no_mangle)]
 pub extern "C" fn ipnetwork_v4_contains_column(
@@ -37,7 +37,7 @@ fn v4_flag(network: &Ipv4Network, address: &[u8; 4]) -> u8
     u8::from(network.contains(Ipv4Addr::from(*address)))
 }
 
-/// The same of IPv6, for prefix lengths up to 128.
+/// The same for IPv6, for prefix lengths up to 128.
 #[unsafe(no_mangle)]
 pub extern "C" fn ipnetwork_v6_contains_column(
     network: &Ipv6InC,

@@ -8,8 +8,8 @@ use crate::fault::{self, NO_FAMILY, OK, PREFIX};
 use crate::structs::{IpInC, V4, V6, address_of};
 use ipnetwork::{IpAddr, IpNetwork, Ipv4Addr};
 
-/// The network that a text of this many bytes names, of the family that the text has, as `IpNetwork::read_bytes`
-/// reads it: `OK`, and the network is written, the struct of the other family all zeros. Any other text is `ADDRESS`.
+/// Reads the network of either family that a text names, as `IpNetwork::read_bytes` does: `OK`, and the network is
+/// written, with the struct of the other family all zeros. Any other text is `ADDRESS`.
 #[unsafe(no_mangle)]
 pub extern "C" fn ipnetwork_read(text: &[u8], network: &mut IpInC) -> u32
     ensures { ReadsInto ReadsIpNetwork HoldsIp text.now network.old network.new result }
@@ -24,8 +24,8 @@ pub extern "C" fn ipnetwork_read(text: &[u8], network: &mut IpInC) -> u32
 }
 
 /// Whether an address of 4 or 16 octets lies in the network's set, as 1 or 0. No address of the other family does.
-/// `NO_FAMILY` where the family of the struct is neither 4 nor 6, or the address has neither 4 nor 16 octets; else
-/// `PREFIX` where the prefix length is greater than the family's width.
+/// `NO_FAMILY` if the family of the struct is neither 4 nor 6, or the address has neither 4 nor 16 octets; else
+/// `PREFIX` if the prefix length is greater than the family's width.
 #[unsafe(no_mangle)]
 pub extern "C" fn ipnetwork_contains(network: &IpInC, address: &[u8], answer: &mut u8) -> u32
     ensures { MemberQuery network.now address.now answer.old answer.new result }

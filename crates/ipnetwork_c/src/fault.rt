@@ -39,7 +39,7 @@ pub(crate) fn number_of(fault: CidrFault) -> u32
     }
 }
 
-/// What a fault says.
+/// The text of a fault.
 fn words_of(fault: u32) -> &'static str
     ensures { result.now ≡ fault_text fault }
 {
@@ -59,9 +59,9 @@ fn words_of(fault: u32) -> &'static str
     }
 }
 
-/// What a fault says, `unknown fault` if no call returns it, and a zero byte behind it, in a buffer of this many bytes,
-/// of which 40 are enough. The length of the text, without the zero byte, is told too. `SHORT_BUFFER` if the buffer has
-/// no room for both: then the length is told and nothing else is written.
+/// Writes the text of a fault, `unknown fault` for a number that no call returns, and a zero byte after it to `buffer`,
+/// of which 40 bytes are enough, and the length of the text, without the zero byte, to `length`. `SHORT_BUFFER` if the
+/// buffer has no room for both: then only the length is written.
 #[unsafe(no_mangle)]
 pub extern "C" fn ipnetwork_fault_text(fault: u32, buffer: &mut [u8], length: &mut usize) -> u32
     ensures told { length.new ≡ len (fault_text fault) }

@@ -1,4 +1,4 @@
-//! The structs of C in order, and as holders of networks, so that lists of them are aggregated where they stand.
+//! The structs of C in order, and as holders of networks, so that lists of them are aggregated in place.
 ghost use Rattle.std.proofs.Common.{rules};
 ghost use Rattle.std.specs.Cmp.{partial_order_from_own_ties};
 ghost use Rattle.std.specs.Cmp.Rules.{comparing};

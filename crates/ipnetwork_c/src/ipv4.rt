@@ -15,8 +15,8 @@ use crate::structs::Ipv4InC;
 use crate::{sizes, text};
 use ipnetwork::{Ipv4Addr, Ipv4Network, ipv4_mask_to_prefix};
 
-/// The network that a text of this many bytes names, as `Ipv4Network::read_bytes` reads it: `OK`, and the network is
-/// written. Else `FORMAT`, `ADDRESS` or `PREFIX`, the first that holds.
+/// Reads the network that a text names, as `Ipv4Network::read_bytes` does: `OK`, and the network is written. Else
+/// `FORMAT`, `ADDRESS` or `PREFIX`, the first that applies.
 #[unsafe(no_mangle)]
 pub extern "C" fn ipnetwork_v4_read(text: &[u8], network: &mut Ipv4InC) -> u32
     ensures { ReadsInto ReadsV4Network HoldsV4 text.now network.old network.new result }
@@ -30,7 +30,7 @@ pub extern "C" fn ipnetwork_v4_read(text: &[u8], network: &mut Ipv4InC) -> u32
     }
 }
 
-/// The network of this address, host bits kept, and this prefix length; `PREFIX` where that is greater than 32.
+/// The network of this address, host bits kept, and this prefix length; `PREFIX` if that is greater than 32.
 #[unsafe(no_mangle)]
 pub extern "C" fn ipnetwork_v4_new(address: &[u8; 4], prefix: u8, network: &mut Ipv4InC) -> u32
     ensures { QueryResult (prefix ≤ 32) (λ held. (held.address ≡ address.now) × (held.prefix ≡ prefix)) network.old network.new result }
@@ -45,9 +45,9 @@ pub extern "C" fn ipnetwork_v4_new(address: &[u8; 4], prefix: u8, network: &mut 
     OK
 }
 
-/// The canonical text and a zero byte behind it, in a buffer of this many bytes, of which 19 are enough. The length
-/// of the text, without the zero byte, is told too. Where the buffer has no room for both it is `SHORT_BUFFER`, the
-/// length is told and nothing else is written. `PREFIX` where the prefix length is greater than 32.
+/// Writes the canonical text and a zero byte after it to `buffer`, of which 19 bytes are enough, and the length of the
+/// text, without the zero byte, to `length`. `SHORT_BUFFER` if the buffer has no room for both: then only the length is
+/// written. `PREFIX` if the prefix length is greater than 32.
 #[unsafe(no_mangle)]
 pub extern "C" fn ipnetwork_v4_canonical(
     network: &Ipv4InC,
@@ -62,7 +62,7 @@ pub extern "C" fn ipnetwork_v4_canonical(
     }
 }
 
-/// Whether an address lies in the network's set, as 1 or 0. `PREFIX` where the prefix length is greater than 32.
+/// Whether an address lies in the network's set, as 1 or 0. `PREFIX` if the prefix length is greater than 32.
 #[unsafe(no_mangle)]
 pub extern "C" fn ipnetwork_v4_contains(
     network: &Ipv4InC,
@@ -80,7 +80,7 @@ pub extern "C" fn ipnetwork_v4_contains(
     }
 }
 
-/// The least member: the address with its host bits cleared. `PREFIX` where the prefix length is greater than 32.
+/// The least member: the address with its host bits cleared. `PREFIX` if the prefix length is greater than 32.
 #[unsafe(no_mangle)]
 pub extern "C" fn ipnetwork_v4_network(network: &Ipv4InC, address: &mut [u8; 4]) -> u32
     ensures { QueryResult (PrefixFits 32 (v4_in network.now)) (λ octets. octets ≡ octets_of (low 32 (v4_in network.now))) address.old address.new result }
@@ -94,7 +94,7 @@ pub extern "C" fn ipnetwork_v4_network(network: &Ipv4InC, address: &mut [u8; 4])
     }
 }
 
-/// The greatest member: the address with its host bits set. `PREFIX` where the prefix length is greater than 32.
+/// The greatest member: the address with its host bits set. `PREFIX` if the prefix length is greater than 32.
 #[unsafe(no_mangle)]
 pub extern "C" fn ipnetwork_v4_broadcast(network: &Ipv4InC, address: &mut [u8; 4]) -> u32
     ensures { QueryResult (PrefixFits 32 (v4_in network.now)) (λ octets. octets ≡ octets_of (high 32 (v4_in network.now))) address.old address.new result }
@@ -108,8 +108,8 @@ pub extern "C" fn ipnetwork_v4_broadcast(network: &Ipv4InC, address: &mut [u8; 4
     }
 }
 
-/// The mask: as many ones in front as the prefix length says, and zeros behind them. `PREFIX` where the prefix
-/// length is greater than 32.
+/// The mask: as many ones at the front as the prefix length says, and zeros after them. `PREFIX` if the prefix length
+/// is greater than 32.
 #[unsafe(no_mangle)]
 pub extern "C" fn ipnetwork_v4_mask(network: &Ipv4InC, mask: &mut [u8; 4]) -> u32
     ensures { QueryResult (PrefixFits 32 (v4_in network.now)) (λ octets. octets ≡ octets_of (mask_of 32 network.now.prefix)) mask.old mask.new result }
@@ -123,7 +123,7 @@ pub extern "C" fn ipnetwork_v4_mask(network: &Ipv4InC, mask: &mut [u8; 4]) -> u3
     }
 }
 
-/// The prefix length of a mask; `NO_MASK` where the address is none of the 33 masks.
+/// The prefix length of a mask; `NO_MASK` if the address is not one of the 33 masks.
 #[unsafe(no_mangle)]
 pub extern "C" fn ipnetwork_v4_prefix_of_mask(mask: &[u8; 4], prefix: &mut u8) -> u32
     ensures { WritesPrefix 32 (number_of_octets mask.now) prefix.old prefix.new result }
@@ -137,7 +137,7 @@ pub extern "C" fn ipnetwork_v4_prefix_of_mask(mask: &[u8; 4], prefix: &mut u8) -
     }
 }
 
-/// The number of members, 2^32 at prefix length 0. `PREFIX` where the prefix length is greater than 32.
+/// The number of members, 2^32 at prefix length 0. `PREFIX` if the prefix length is greater than 32.
 #[unsafe(no_mangle)]
 pub extern "C" fn ipnetwork_v4_size(network: &Ipv4InC, size: &mut u64) -> u32
     ensures { QueryResult (PrefixFits 32 (v4_in network.now)) (HasSize 32 (v4_in network.now)) size.old size.new result }
@@ -151,8 +151,8 @@ pub extern "C" fn ipnetwork_v4_size(network: &Ipv4InC, size: &mut u64) -> u32
     }
 }
 
-/// The member number `n` in order, counted from 0; `NO_MEMBER` where there are no more than `n`. `PREFIX` where the
-/// prefix length is greater than 32.
+/// The member number `n`, counted from 0 in ascending order; `NO_MEMBER` if the network has no more than `n` members.
+/// `PREFIX` if the prefix length is greater than 32.
 #[unsafe(no_mangle)]
 pub extern "C" fn ipnetwork_v4_nth(network: &Ipv4InC, n: u32, address: &mut [u8; 4]) -> u32
     ensures { WritesMember 32 octets_of (v4_in network.now) n address.old address.new result }
@@ -169,8 +169,8 @@ pub extern "C" fn ipnetwork_v4_nth(network: &Ipv4InC, n: u32, address: &mut [u8;
     }
 }
 
-/// Whether each member of the first network is a member of the second, as 1 or 0. Host bits change nothing. `PREFIX`
-/// where a prefix length is greater than 32.
+/// Whether each member of the first network is a member of the second, as 1 or 0. Host bits are ignored. `PREFIX` if a
+/// prefix length is greater than 32.
 #[unsafe(no_mangle)]
 pub extern "C" fn ipnetwork_v4_is_subnet_of(
     inner: &Ipv4InC,
@@ -188,7 +188,7 @@ pub extern "C" fn ipnetwork_v4_is_subnet_of(
     }
 }
 
-/// Whether some address is a member of both, as 1 or 0. `PREFIX` where a prefix length is greater than 32.
+/// Whether some address is a member of both, as 1 or 0. `PREFIX` if a prefix length is greater than 32.
 #[unsafe(no_mangle)]
 pub extern "C" fn ipnetwork_v4_overlaps(one: &Ipv4InC, other: &Ipv4InC, answer: &mut u8) -> u32
     ensures { QueryResult (PrefixFits 32 (v4_in one.now) × PrefixFits 32 (v4_in other.now)) (IsFlag (Overlap 32 (v4_in one.now) (v4_in other.now))) answer.old answer.new result }
@@ -202,8 +202,8 @@ pub extern "C" fn ipnetwork_v4_overlaps(one: &Ipv4InC, other: &Ipv4InC, answer: 
     }
 }
 
-/// Which of two networks comes first, by address and then by prefix length: -1 the first, 1 the second, 0 where they
-/// are equal. `PREFIX` where a prefix length is greater than 32.
+/// Which of two networks comes first, by address and then by prefix length: -1 the first, 1 the second, 0 if they are
+/// equal. `PREFIX` if a prefix length is greater than 32.
 #[unsafe(no_mangle)]
 pub extern "C" fn ipnetwork_v4_compare(one: &Ipv4InC, other: &Ipv4InC, order: &mut i32) -> u32
     ensures { QueryResult (PrefixFits 32 (v4_in one.now) × PrefixFits 32 (v4_in other.now)) (λ told. told ≡ order_number (network_cmp (v4_in one.now) (v4_in other.now))) order.old order.new result }

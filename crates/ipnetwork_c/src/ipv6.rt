@@ -15,8 +15,8 @@ use crate::structs::{Ipv6InC, address_of};
 use crate::{sizes, text};
 use ipnetwork::{Ipv6Addr, Ipv6Network, ipv6_mask_to_prefix};
 
-/// The network that a text of this many bytes names, as `Ipv6Network::read_bytes` reads it: `OK`, and the network is
-/// written. Else `FORMAT`, `ADDRESS` or `PREFIX`, the first that holds.
+/// Reads the network that a text names, as `Ipv6Network::read_bytes` does: `OK`, and the network is written. Else
+/// `FORMAT`, `ADDRESS` or `PREFIX`, the first that applies.
 #[unsafe(no_mangle)]
 pub extern "C" fn ipnetwork_v6_read(text: &[u8], network: &mut Ipv6InC) -> u32
     ensures { ReadsInto ReadsV6Network HoldsV6 text.now network.old network.new result }
@@ -30,7 +30,7 @@ pub extern "C" fn ipnetwork_v6_read(text: &[u8], network: &mut Ipv6InC) -> u32
     }
 }
 
-/// The network of this address, host bits kept, and this prefix length; `PREFIX` where that is greater than 128.
+/// The network of this address, host bits kept, and this prefix length; `PREFIX` if that is greater than 128.
 #[unsafe(no_mangle)]
 pub extern "C" fn ipnetwork_v6_new(address: &[u8; 16], prefix: u8, network: &mut Ipv6InC) -> u32
     ensures { QueryResult (prefix ≤ 128) (λ held. (held.address ≡ address.now) × (held.prefix ≡ prefix)) network.old network.new result }
@@ -45,9 +45,9 @@ pub extern "C" fn ipnetwork_v6_new(address: &[u8; 16], prefix: u8, network: &mut
     OK
 }
 
-/// The canonical text and a zero byte behind it, in a buffer of this many bytes, of which 44 are enough. The length
-/// of the text, without the zero byte, is told too. Where the buffer has no room for both it is `SHORT_BUFFER`, the
-/// length is told and nothing else is written. `PREFIX` where the prefix length is greater than 128.
+/// Writes the canonical text and a zero byte after it to `buffer`, of which 44 bytes are enough, and the length of the
+/// text, without the zero byte, to `length`. `SHORT_BUFFER` if the buffer has no room for both: then only the length is
+/// written. `PREFIX` if the prefix length is greater than 128.
 #[unsafe(no_mangle)]
 pub extern "C" fn ipnetwork_v6_canonical(
     network: &Ipv6InC,
@@ -62,7 +62,7 @@ pub extern "C" fn ipnetwork_v6_canonical(
     }
 }
 
-/// Whether an address lies in the network's set, as 1 or 0. `PREFIX` where the prefix length is greater than 128.
+/// Whether an address lies in the network's set, as 1 or 0. `PREFIX` if the prefix length is greater than 128.
 #[unsafe(no_mangle)]
 pub extern "C" fn ipnetwork_v6_contains(
     network: &Ipv6InC,
@@ -80,7 +80,7 @@ pub extern "C" fn ipnetwork_v6_contains(
     }
 }
 
-/// The least member: the address with its host bits cleared. `PREFIX` where the prefix length is greater than 128.
+/// The least member: the address with its host bits cleared. `PREFIX` if the prefix length is greater than 128.
 #[unsafe(no_mangle)]
 pub extern "C" fn ipnetwork_v6_network(network: &Ipv6InC, address: &mut [u8; 16]) -> u32
     ensures { QueryResult (PrefixFits 128 (v6_in network.now)) (λ octets. octets ≡ octets_of_v6 (low 128 (v6_in network.now))) address.old address.new result }
@@ -94,7 +94,7 @@ pub extern "C" fn ipnetwork_v6_network(network: &Ipv6InC, address: &mut [u8; 16]
     }
 }
 
-/// The greatest member: the address with its host bits set. `PREFIX` where the prefix length is greater than 128.
+/// The greatest member: the address with its host bits set. `PREFIX` if the prefix length is greater than 128.
 #[unsafe(no_mangle)]
 pub extern "C" fn ipnetwork_v6_broadcast(network: &Ipv6InC, address: &mut [u8; 16]) -> u32
     ensures { QueryResult (PrefixFits 128 (v6_in network.now)) (λ octets. octets ≡ octets_of_v6 (high 128 (v6_in network.now))) address.old address.new result }
@@ -108,8 +108,8 @@ pub extern "C" fn ipnetwork_v6_broadcast(network: &Ipv6InC, address: &mut [u8; 1
     }
 }
 
-/// The mask: as many ones in front as the prefix length says, and zeros behind them. `PREFIX` where the prefix
-/// length is greater than 128.
+/// The mask: as many ones at the front as the prefix length says, and zeros after them. `PREFIX` if the prefix length
+/// is greater than 128.
 #[unsafe(no_mangle)]
 pub extern "C" fn ipnetwork_v6_mask(network: &Ipv6InC, mask: &mut [u8; 16]) -> u32
     ensures { QueryResult (PrefixFits 128 (v6_in network.now)) (λ octets. octets ≡ octets_of_v6 (mask_of 128 network.now.prefix)) mask.old mask.new result }
@@ -123,7 +123,7 @@ pub extern "C" fn ipnetwork_v6_mask(network: &Ipv6InC, mask: &mut [u8; 16]) -> u
     }
 }
 
-/// The prefix length of a mask; `NO_MASK` where the address is none of the 129 masks.
+/// The prefix length of a mask; `NO_MASK` if the address is not one of the 129 masks.
 #[unsafe(no_mangle)]
 pub extern "C" fn ipnetwork_v6_prefix_of_mask(mask: &[u8; 16], prefix: &mut u8) -> u32
     ensures { WritesPrefix 128 (number_of_octets mask.now) prefix.old prefix.new result }
@@ -137,8 +137,8 @@ pub extern "C" fn ipnetwork_v6_prefix_of_mask(mask: &[u8; 16], prefix: &mut u8) 
     }
 }
 
-/// The number of members, 2^128 at prefix length 0, as 17 octets, the highest first. `PREFIX` where the prefix length
-/// is greater than 128.
+/// The number of members, 2^128 at prefix length 0, as 17 octets, the highest first. `PREFIX` if the prefix length is
+/// greater than 128.
 #[unsafe(no_mangle)]
 pub extern "C" fn ipnetwork_v6_size(network: &Ipv6InC, size: &mut [u8; 17]) -> u32
     ensures { QueryResult (PrefixFits 128 (v6_in network.now)) (λ octets. HasSize 128 (v6_in network.now) (number_of_octets octets)) size.old size.new result }
@@ -152,8 +152,8 @@ pub extern "C" fn ipnetwork_v6_size(network: &Ipv6InC, size: &mut [u8; 17]) -> u
     }
 }
 
-/// The member number `n`, 16 octets, the highest first, in order, counted from 0; `NO_MEMBER` where there are no more
-/// than `n`. `PREFIX` where the prefix length is greater than 128.
+/// The member number `n`, as 16 octets, the highest first, counted from 0 in ascending order; `NO_MEMBER` if the
+/// network has no more than `n` members. `PREFIX` if the prefix length is greater than 128.
 #[unsafe(no_mangle)]
 pub extern "C" fn ipnetwork_v6_nth(network: &Ipv6InC, n: &[u8; 16], address: &mut [u8; 16]) -> u32
     ensures { WritesMember 128 octets_of_v6 (v6_in network.now) (number_of_octets n.now) address.old address.new result }
@@ -170,8 +170,8 @@ pub extern "C" fn ipnetwork_v6_nth(network: &Ipv6InC, n: &[u8; 16], address: &mu
     }
 }
 
-/// Whether each member of the first network is a member of the second, as 1 or 0. Host bits change nothing. `PREFIX`
-/// where a prefix length is greater than 128.
+/// Whether each member of the first network is a member of the second, as 1 or 0. Host bits are ignored. `PREFIX` if a
+/// prefix length is greater than 128.
 #[unsafe(no_mangle)]
 pub extern "C" fn ipnetwork_v6_is_subnet_of(
     inner: &Ipv6InC,
@@ -189,7 +189,7 @@ pub extern "C" fn ipnetwork_v6_is_subnet_of(
     }
 }
 
-/// Whether some address is a member of both, as 1 or 0. `PREFIX` where a prefix length is greater than 128.
+/// Whether some address is a member of both, as 1 or 0. `PREFIX` if a prefix length is greater than 128.
 #[unsafe(no_mangle)]
 pub extern "C" fn ipnetwork_v6_overlaps(one: &Ipv6InC, other: &Ipv6InC, answer: &mut u8) -> u32
     ensures { QueryResult (PrefixFits 128 (v6_in one.now) × PrefixFits 128 (v6_in other.now)) (IsFlag (Overlap 128 (v6_in one.now) (v6_in other.now))) answer.old answer.new result }
@@ -203,8 +203,8 @@ pub extern "C" fn ipnetwork_v6_overlaps(one: &Ipv6InC, other: &Ipv6InC, answer: 
     }
 }
 
-/// Which of two networks comes first, by address and then by prefix length: -1 the first, 1 the second, 0 where they
-/// are equal. `PREFIX` where a prefix length is greater than 128.
+/// Which of two networks comes first, by address and then by prefix length: -1 the first, 1 the second, 0 if they are
+/// equal. `PREFIX` if a prefix length is greater than 128.
 #[unsafe(no_mangle)]
 pub extern "C" fn ipnetwork_v6_compare(one: &Ipv6InC, other: &Ipv6InC, order: &mut i32) -> u32
     ensures { QueryResult (PrefixFits 128 (v6_in one.now) × PrefixFits 128 (v6_in other.now)) (λ told. told ≡ order_number (network_cmp (v6_in one.now) (v6_in other.now))) order.old order.new result }

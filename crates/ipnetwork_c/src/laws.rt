@@ -1,5 +1,5 @@
-//! The laws of the structs and columns for C. Each function's contract is a law. It takes nothing and does nothing. They
-//! are not for C.
+//! The laws of the structs and columns for C. Each function's contract is a law. It takes nothing and does nothing.
+//! They are not called from C.
 
 mod columns;
 mod structs;

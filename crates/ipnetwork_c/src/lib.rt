@@ -1,7 +1,7 @@
 //! The library for C: each call of networks of either family as a function that C can call.
 //!
-//! Nothing here allocates. A call that is given a struct whose prefix length is greater than the width answers
-//! `PREFIX`, or `NO_FAMILY` where that holds too, and writes nothing.
+//! Nothing here allocates. A call that is given a struct whose prefix length is greater than the width returns
+//! `PREFIX`, or `NO_FAMILY` if the family is wrong too, and writes nothing.
 #![tactic(auto)]
 
 ghost use Rattle.std.specs.Prelude.{◌≡◌};

@@ -7,8 +7,8 @@ ghost use Rattle.ipnetwork_c.specs.Held.{v4_in, v6_in, PrefixFits, number_of_oct
 use crate::fault::{OK, PREFIX};
 use crate::structs::{Ipv4InC, Ipv6InC};
 
-/// Whether an address lies in the set of one of these networks, as 1 or 0: in that of none if there are no networks.
-/// `PREFIX` where the prefix length of one is greater than 32.
+/// Whether an address lies in the set of one of these networks, as 1 or 0: 0 if there are no networks. `PREFIX` if the
+/// prefix length of one is greater than 32.
 #[unsafe(no_mangle)]
 pub extern "C" fn ipnetwork_v4_list_contains(
     networks: &[Ipv4InC],
@@ -44,7 +44,7 @@ fn v4_any_has(networks: &[Ipv4InC], address: &[u8; 4]) -> bool
     false
 }
 
-/// The same of IPv6, for prefix lengths up to 128.
+/// The same for IPv6, for prefix lengths up to 128.
 #[unsafe(no_mangle)]
 pub extern "C" fn ipnetwork_v6_list_contains(
     networks: &[Ipv6InC],

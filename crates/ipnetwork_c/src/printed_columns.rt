@@ -1,5 +1,5 @@
-//! Columns of networks printed in one call, in the layout of Arrow: the bytes of all texts, one behind the other, and the
-//! offsets at which each begins and the last ends.
+//! Columns of networks printed in one call, in the layout of Arrow: the bytes of all texts, one after the other, and
+//! the offsets at which each begins and the last ends.
 ghost use Rattle.std.specs.Prelude.{◌≡◌, ◌↔◌, ◌+◌, ◌^◌, ◌<◌, ◌≤◌, ◌++◌, IsTrue, length as len, take, drop, flat_map};
 ghost use Rattle.std.specs.List.{All};
 ghost use Rattle.ipnetwork_c.specs.PrintedColumns.{PrintsRows, PrintsColumn, v4_fits, v4_text, v6_fits, v6_text};
@@ -65,7 +65,7 @@ impl PrintsRow for Ipv6InC {
     }
 }
 
-// Prints each row into the texts, behind the row before it, and writes the offsets.
+// Prints each row into the texts, after the row before it, and writes the offsets.
 fn print_rows<R: PrintsRow>(
     rows: &[R],
     texts: &mut [u8],
@@ -114,7 +114,7 @@ fn put_texts<R: PrintsRow>(rows: &[R], texts: &mut [u8], offsets: &mut [u32])
     }
 }
 
-// Puts a text into a buffer from a place on, and returns the place behind it.
+// Puts a text into a buffer from a place on, and returns the place after it.
 fn put_at(text: &[u8], texts: &mut [u8], at: usize) -> usize
     requires { at + len text.now ≤ len texts.old }
     ensures end { result ≡ at + len text.now }
@@ -125,10 +125,11 @@ fn put_at(text: &[u8], texts: &mut [u8], at: usize) -> usize
     end
 }
 
-/// Prints the IPv4 network of each row, as `ipnetwork_v4_canonical` does, into the front of `texts`, one text behind the
-/// other without a byte between them, and tells how many bytes they have. Text i goes from offset i to offset i + 1, so that
-/// there is one offset more than rows. `PREFIX` if the prefix length of a row is greater than 32. `SHORT_BUFFER` if there is
-/// room for fewer bytes, or offsets, or if the texts have more than 2^31 - 1 bytes: then only their length is written.
+/// Prints the IPv4 network of each row, as `ipnetwork_v4_canonical` does, to the front of `texts`, one text directly
+/// after the other, and returns how many bytes they have in all. Text i goes from offset i to offset i + 1, so that
+/// there is one offset more than rows. `PREFIX` if the prefix length of a row is greater than 32. `SHORT_BUFFER` if
+/// there is room for fewer bytes, or offsets, or if the texts have more than 2^31 - 1 bytes: then only their length is
+/// written.
 #[unsafe(no_mangle)]
 pub extern "C" fn ipnetwork_v4_print_column(
     networks: &[Ipv4InC],
@@ -141,7 +142,7 @@ pub extern "C" fn ipnetwork_v4_print_column(
     print_rows(networks, texts, offsets, length)
 }
 
-/// The same of IPv6 networks, for prefix lengths up to 128.
+/// The same for IPv6 networks, for prefix lengths up to 128.
 #[unsafe(no_mangle)]
 pub extern "C" fn ipnetwork_v6_print_column(
     networks: &[Ipv6InC],

@@ -12,9 +12,9 @@ use crate::order::number_between;
 use crate::structs::IpInC;
 use crate::text;
 
-/// The canonical text and a zero byte behind it, in a buffer of this many bytes, of which 44 are enough. The length of
-/// the text, without the zero byte, is told too. `SHORT_BUFFER` if the buffer has no room for both: then the length is
-/// told and nothing else is written.
+/// Writes the canonical text and a zero byte after it to `buffer`, of which 44 bytes are enough, and the length of the
+/// text, without the zero byte, to `length`. `SHORT_BUFFER` if the buffer has no room for both: then only the length is
+/// written.
 #[unsafe(no_mangle)]
 pub extern "C" fn ipnetwork_canonical(network: &IpInC, buffer: &mut [u8], length: &mut usize) -> u32
     ensures { WritesIpText network.now buffer.old buffer.new length.old length.new result }
@@ -68,7 +68,7 @@ pub extern "C" fn ipnetwork_mask(network: &IpInC, mask: &mut AddressInC) -> u32
 }
 
 /// Whether each member of the first network is a member of the second, as 1 or 0: 0 if they are of different families.
-/// Host bits change nothing. The first struct is judged first.
+/// Host bits are ignored. The first struct is checked first.
 #[unsafe(no_mangle)]
 pub extern "C" fn ipnetwork_is_subnet_of(inner: &IpInC, outer: &IpInC, answer: &mut u8) -> u32
     ensures { IpPairQuery inner.now outer.now (λ a b. IsFlag (IpSubnet a b)) answer.old answer.new result }
@@ -86,7 +86,7 @@ pub extern "C" fn ipnetwork_is_subnet_of(inner: &IpInC, outer: &IpInC, answer: &
     }
 }
 
-/// Whether some address is a member of both, as 1 or 0. The first struct is judged first.
+/// Whether some address is a member of both, as 1 or 0. The first struct is checked first.
 #[unsafe(no_mangle)]
 pub extern "C" fn ipnetwork_overlaps(one: &IpInC, other: &IpInC, answer: &mut u8) -> u32
     ensures { IpPairQuery one.now other.now (λ a b. IsFlag (IpOverlap a b)) answer.old answer.new result }
@@ -105,7 +105,7 @@ pub extern "C" fn ipnetwork_overlaps(one: &IpInC, other: &IpInC, answer: &mut u8
 }
 
 /// Which of two networks comes first: -1 the first, 1 the second, 0 if they are equal. Each IPv4 network is before each
-/// IPv6 network; in a family the address decides, then the prefix length. The first struct is judged first.
+/// IPv6 network; in a family the address decides, then the prefix length. The first struct is checked first.
 #[unsafe(no_mangle)]
 pub extern "C" fn ipnetwork_compare(one: &IpInC, other: &IpInC, order: &mut i32) -> u32
     ensures { IpPairQuery one.now other.now (λ a b told. told ≡ order_number (ip_network_cmp a b)) order.old order.new result }

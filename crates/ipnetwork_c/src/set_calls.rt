@@ -7,9 +7,9 @@ use crate::sets;
 use crate::structs::{Ipv4InC, Ipv6InC, address_of};
 use ipnetwork::{Ipv4Addr, Ipv4Network, Ipv6Network};
 
-/// Whether an address lies in the set of a list that is that of a set, as `ipnetwork_v4_aggregate` leaves it: 1 or 0, by
-/// one binary search. Of another list 1 is right too, and 0 says nothing. `PREFIX` if the search ends at a struct whose
-/// prefix length is greater than 32, which that of no set's is.
+/// Whether an address lies in the set of a list that is that of a set, as `ipnetwork_v4_aggregate` leaves it: 1 or 0,
+/// by one binary search. For any other list, 1 is right too, but 0 says nothing. `PREFIX` if the search ends at a
+/// struct whose prefix length is greater than 32, as none in the list of a set is.
 #[unsafe(no_mangle)]
 pub extern "C" fn ipnetwork_v4_set_contains(
     blocks: &[Ipv4InC],
@@ -27,7 +27,7 @@ pub extern "C" fn ipnetwork_v4_set_contains(
     }
 }
 
-/// The same of IPv6, for prefix lengths up to 128.
+/// The same for IPv6, for prefix lengths up to 128.
 #[unsafe(no_mangle)]
 pub extern "C" fn ipnetwork_v6_set_contains(
     blocks: &[Ipv6InC],

@@ -38,10 +38,10 @@ fn operate<N: AddressSpace, H: Listed<N>>(
     OK
 }
 
-/// Writes the blocks of the addresses that one of two sets has, or both, to the front of `blocks`: the fewest that there
-/// are, in ascending order. `count` is their number, at most that of both lists together. `SHORT_BUFFER` if there is no
-/// room for them, and then only `count` is written. `PREFIX` if a prefix length of one list is greater than 32, else
-/// `NO_SET` if one of the lists is not that of a set, as `ipnetwork_v4_aggregate` leaves it.
+/// Writes the blocks of the addresses that are in one of two sets or in both, to the front of `blocks`: the fewest
+/// possible, in ascending order. `count` is their number, at most that of both lists together. `SHORT_BUFFER` if there
+/// is no room for them, and then only `count` is written. `PREFIX` if a prefix length of one list is greater than 32,
+/// else `NO_SET` if one of the lists is not that of a set, as `ipnetwork_v4_aggregate` leaves it.
 #[unsafe(no_mangle)]
 pub extern "C" fn ipnetwork_v4_union(
     first: &[Ipv4InC],
@@ -54,7 +54,7 @@ pub extern "C" fn ipnetwork_v4_union(
     operate::<Ipv4Network, Ipv4InC>(Operation::Union, first, second, blocks, count)
 }
 
-/// The same of IPv6, for prefix lengths up to 128.
+/// The same for IPv6, for prefix lengths up to 128.
 #[unsafe(no_mangle)]
 pub extern "C" fn ipnetwork_v6_union(
     first: &[Ipv6InC],
@@ -67,7 +67,7 @@ pub extern "C" fn ipnetwork_v6_union(
     operate::<Ipv6Network, Ipv6InC>(Operation::Union, first, second, blocks, count)
 }
 
-/// Writes the blocks of the addresses that both sets have, as `ipnetwork_v4_union` writes those of its own.
+/// Writes the blocks of the addresses that are in both sets, as `ipnetwork_v4_union` writes those of its own.
 #[unsafe(no_mangle)]
 pub extern "C" fn ipnetwork_v4_intersection(
     first: &[Ipv4InC],
@@ -80,7 +80,7 @@ pub extern "C" fn ipnetwork_v4_intersection(
     operate::<Ipv4Network, Ipv4InC>(Operation::Intersection, first, second, blocks, count)
 }
 
-/// The same of IPv6, for prefix lengths up to 128.
+/// The same for IPv6, for prefix lengths up to 128.
 #[unsafe(no_mangle)]
 pub extern "C" fn ipnetwork_v6_intersection(
     first: &[Ipv6InC],
@@ -93,8 +93,8 @@ pub extern "C" fn ipnetwork_v6_intersection(
     operate::<Ipv6Network, Ipv6InC>(Operation::Intersection, first, second, blocks, count)
 }
 
-/// Writes the blocks of the addresses that the first set has and the second has not, as `ipnetwork_v4_union` writes those
-/// of its own. They may be more than both lists have.
+/// Writes the blocks of the addresses that are in the first set and not in the second, as `ipnetwork_v4_union` writes
+/// those of its own. There may be more of them than both lists have together.
 #[unsafe(no_mangle)]
 pub extern "C" fn ipnetwork_v4_difference(
     first: &[Ipv4InC],
@@ -107,7 +107,7 @@ pub extern "C" fn ipnetwork_v4_difference(
     operate::<Ipv4Network, Ipv4InC>(Operation::Difference, first, second, blocks, count)
 }
 
-/// The same of IPv6, for prefix lengths up to 128.
+/// The same for IPv6, for prefix lengths up to 128.
 #[unsafe(no_mangle)]
 pub extern "C" fn ipnetwork_v6_difference(
     first: &[Ipv6InC],

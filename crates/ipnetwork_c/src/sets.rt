@@ -7,8 +7,8 @@ ghost use Rattle.ipnetwork_c.specs.Private.Sets.{SplitsAt};
 use crate::listed::Listed;
 use ipnetwork_blocks::{AddressSpace, laws};
 
-/// Whether an address lies in the set of a list, as 1 or 0, by one binary search. Of a list that is not that of a set it
-/// may be missed. `None` if the prefix length of the struct that the search ends at is none of the family.
+/// Whether an address lies in the set of a list, as 1 or 0, by one binary search. If the list is not that of a set, an
+/// address may be missed. `None` if the prefix length of the struct that the search ends at is not one of the family.
 pub(crate) fn contains<N: AddressSpace, H: Listed<N>>(list: &[H], addr: N::Addr) -> Option<u8>
     ensures { MatchOption result (¬ (All H.holds list.now)) (λ answer. FindsIn N.WIDTH (map H.held list.now) (N.number addr) answer) }
 {

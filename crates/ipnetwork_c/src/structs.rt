@@ -37,7 +37,7 @@ impl Ipv4InC {
         Ipv4Network::new_checked(Ipv4Addr::from(self.address), self.prefix)
     }
 
-    /// Whether an address of 4 octets lies in the network's set, of a struct whose prefix length was looked at.
+    /// Whether an address of 4 octets lies in the network's set, of a struct whose prefix length was checked.
     pub(crate) fn has(&self, address: &[u8; 4]) -> bool
         requires { PrefixFits 32 (v4_in self.now) }
         ensures { IsTrue result ↔ Member 32 (v4_in self.now) (number_of_octets address.now) }
@@ -78,7 +78,7 @@ impl Ipv6InC {
     }
 
     /// Whether an address of 16 octets lies in the network's set, if the prefix length is at most 128: whether the two
-    /// numbers differ in host bits alone. For `Ipv6Network::contains` an address would be made of each number first.
+    /// numbers differ only in host bits. For `Ipv6Network::contains` an address would be made of each number first.
     pub(crate) fn contains(&self, address: &[u8; 16]) -> Option<bool>
         ensures { MatchOption result (¬ (PrefixFits 128 (v6_in self.now))) (λ answer. PrefixFits 128 (v6_in self.now) × (IsTrue answer ↔ Member 128 (v6_in self.now) (number_of_octets address.now))) }
     {
@@ -88,7 +88,7 @@ impl Ipv6InC {
         Some(self.has(address))
     }
 
-    /// The same of a struct whose prefix length was looked at.
+    /// The same for a struct whose prefix length was checked.
     pub(crate) fn has(&self, address: &[u8; 16]) -> bool
         requires { PrefixFits 128 (v6_in self.now) }
         ensures { IsTrue result ↔ Member 128 (v6_in self.now) (number_of_octets address.now) }
@@ -98,10 +98,10 @@ impl Ipv6InC {
     }
 }
 
-/// The number by which `IpInC` tells that its network is an IPv4 network.
+/// The family of an `IpInC` whose network is an IPv4 network.
 pub(crate) const V4: u8 = 4;
 
-/// The number by which it tells that its network is an IPv6 network.
+/// The family of an `IpInC` whose network is an IPv6 network.
 pub(crate) const V6: u8 = 6;
 
 /// A network of either family as C holds it: the struct of its family. Nothing is known of the family.
@@ -110,9 +110,9 @@ pub(crate) const V6: u8 = 6;
 pub struct IpInC {
     /// 4 or 6.
     pub family: u8,
-    /// The network, where the family is 4.
+    /// The network, if the family is 4.
     pub v4: Ipv4InC,
-    /// The network, where the family is 6.
+    /// The network, if the family is 6.
     pub v6: Ipv6InC,
 }
 
@@ -141,7 +141,7 @@ impl IpInC {
         }
     }
 
-    /// The network of the family that the struct tells. `NO_FAMILY` if that is neither 4 nor 6, else `PREFIX` if the
+    /// The network of the family that the struct names. `NO_FAMILY` if that is neither 4 nor 6, else `PREFIX` if the
     /// prefix length is greater than the family's width.
     pub(crate) fn network(&self) -> Result<IpNetwork, u32>
         ensures { HeldNetwork self.now result }

@@ -9,8 +9,9 @@ use crate::structs::{Ipv4InC, Ipv6InC, address_of};
 use ipnetwork::{Ipv4Addr, Ipv4Network, Ipv6Network};
 use ipnetwork_blocks::AddressSpace;
 
-// Puts the place of the longest block with an address in `index`. Where the last block up to the address has it not, one
-// that has it lies around both, so that it begins with the bits that both share: the search goes on up to that address.
+// Puts the index of the longest block with an address in `index`. If the last block up to the address does not have it,
+// a block that does lies around both, so that it begins with the bits that both share: the search goes on up to that
+// address.
 fn find<N: AddressSpace, H: Listed<N>>(blocks: &[H], address: N::Addr, index: &mut usize) -> u32
     ensures { TableQuery N.WIDTH H.held blocks.now (N.number address) index.old index.new result }
 {
@@ -33,9 +34,9 @@ fn find<N: AddressSpace, H: Listed<N>>(blocks: &[H], address: N::Addr, index: &m
 }
 
 /// The index of the longest block that has the address, in a table: blocks without host bits in ascending order, as
-/// `ipnetwork_v4_compare` orders them, of which some may lie in others. `NO_MEMBER` if none has it. Of another list the block
-/// at the index has the address too, but there may be a longer one, and `NO_MEMBER` says nothing. `PREFIX` if a struct that
-/// the search meets has a prefix length greater than 32, which none of a table has.
+/// `ipnetwork_v4_compare` orders them, of which some may lie in others. `NO_MEMBER` if none has it. For any other list,
+/// the block at the index has the address too, but there may be a longer one, and `NO_MEMBER` says nothing. `PREFIX` if
+/// a struct that the search meets has a prefix length greater than 32, as none in a table has.
 #[unsafe(no_mangle)]
 pub extern "C" fn ipnetwork_v4_table_find(
     blocks: &[Ipv4InC],
@@ -47,7 +48,7 @@ pub extern "C" fn ipnetwork_v4_table_find(
     find::<Ipv4Network, Ipv4InC>(blocks, Ipv4Addr::from(*address), index)
 }
 
-/// The same of IPv6, for prefix lengths up to 128.
+/// The same for IPv6, for prefix lengths up to 128.
 #[unsafe(no_mangle)]
 pub extern "C" fn ipnetwork_v6_table_find(
     blocks: &[Ipv6InC],

@@ -8,8 +8,8 @@ ghost use Rattle.ipnetwork.specs.IpNetworkText.{ip_network_text};
 use crate::fault::{OK, SHORT_BUFFER};
 use ipnetwork::{IpAddr, IpNetwork};
 
-/// Puts a text into the front of a buffer, with a zero byte behind it. Nothing else changes; `false` where there is
-/// no room, and then nothing changes.
+/// Puts a text at the front of a buffer, with a zero byte after it. Nothing else changes. `false` if there is no room,
+/// and then nothing changes.
 pub(crate) fn put(text: &[u8], buffer: &mut [u8]) -> bool
     ensures { CopiesText text.now buffer.old buffer.new result }
 {
@@ -22,7 +22,7 @@ pub(crate) fn put(text: &[u8], buffer: &mut [u8]) -> bool
     true
 }
 
-/// The text of a network put into a buffer, and its length told; `SHORT_BUFFER` where there is no room.
+/// Puts a text into a buffer, and its length into `length`. `SHORT_BUFFER` if there is no room for the text.
 pub(crate) fn tell(text: &[u8], buffer: &mut [u8], length: &mut usize) -> u32
     ensures told { length.new ≡ len text.now }
     ensures put { CopyResult text.now buffer.old buffer.new result }

@@ -1,4 +1,4 @@
-//! Columns of texts read in one call, in the layout of Arrow: the bytes of all texts, one behind the other, and the
+//! Columns of texts read in one call, in the layout of Arrow: the bytes of all texts, one after the other, and the
 //! offsets at which each begins and the last ends.
 ghost use Rattle.std.specs.Prelude.{◌↔◌, ◌<◌, IsTrue};
 ghost use Rattle.ipnetwork_c.specs.Either.{ReadsAddress};
@@ -18,7 +18,7 @@ pub(crate) trait ReadsRow {
     // What the call for one text leaves, and the number of its fault.
     ghost reads: { List ℕ → Self → Self → ℕ → Type 0 };
 
-    /// Reads a text, and tells the fault.
+    /// Reads a text, and returns the number of its fault.
     fn read_row(&mut self, text: &[u8]) -> u32
         ensures read { reads text.now self.old self.new result }
         ensures byte { result < 256 };
@@ -90,10 +90,10 @@ fn read_rows<R: ReadsRow>(texts: &[u8], offsets: &[u32], rows: &mut [R], faults:
     OK
 }
 
-/// The IPv4 network of each text of a column: row i and fault i are what `ipnetwork_v4_read` leaves and returns of text
-/// i, and a text that names none stops nothing. There are as many texts as offsets but one; text i goes from offset i to
-/// the next. `NO_OFFSETS` where an offset is less than the one before, or greater than the length of the texts; else
-/// `SHORT_BUFFER` where there are fewer rows or faults than texts.
+/// Reads the IPv4 network of each text of a column: row i and fault i are what `ipnetwork_v4_read` writes and returns
+/// for text i. A text that names no network does not stop the reading. There is one text less than offsets; text i goes
+/// from offset i to the next. `NO_OFFSETS` if an offset is less than the one before, or greater than the length of the
+/// texts; else `SHORT_BUFFER` if there are fewer rows or faults than texts.
 #[unsafe(no_mangle)]
 pub extern "C" fn ipnetwork_v4_read_column(
     texts: &[u8],
@@ -106,7 +106,7 @@ pub extern "C" fn ipnetwork_v4_read_column(
     read_rows(texts, offsets, networks, faults)
 }
 
-/// The same of IPv6 networks, as `ipnetwork_v6_read` reads them.
+/// The same for IPv6 networks, as `ipnetwork_v6_read` reads them.
 #[unsafe(no_mangle)]
 pub extern "C" fn ipnetwork_v6_read_column(
     texts: &[u8],
@@ -119,7 +119,7 @@ pub extern "C" fn ipnetwork_v6_read_column(
     read_rows(texts, offsets, networks, faults)
 }
 
-/// The same of networks of either family, as `ipnetwork_read` reads them.
+/// The same for networks of either family, as `ipnetwork_read` reads them.
 #[unsafe(no_mangle)]
 pub extern "C" fn ipnetwork_read_column(
     texts: &[u8],
@@ -132,7 +132,7 @@ pub extern "C" fn ipnetwork_read_column(
     read_rows(texts, offsets, networks, faults)
 }
 
-/// The same of addresses of either family, as `ipnetwork_address_read` reads them.
+/// The same for addresses of either family, as `ipnetwork_address_read` reads them.
 #[unsafe(no_mangle)]
 pub extern "C" fn ipnetwork_address_read_column(
     texts: &[u8],

@@ -11,11 +11,11 @@ use ipnetwork_blocks::{AddressSpace, range_to_blocks};
 /// An operation on two sets.
 #[derive(Clone, Copy)]
 pub(crate) enum Operation {
-    /// What one of the two has, or both.
+    /// What is in one of the two sets or in both.
     Union,
-    /// What both have.
+    /// What is in both sets.
     Intersection,
-    /// What the first has and the second has not.
+    /// What is in the first set and not in the second.
     Difference,
 }
 
@@ -65,8 +65,8 @@ pub(crate) fn put_kept<N: AddressSpace, H: Listed<N>>(
     }
 }
 
-// Puts the blocks of the addresses from `at` to `last` behind the `begun` ones that were put, if they are kept. Returns how
-// many there are then.
+// Puts the blocks of the addresses from `at` to `last` after the `begun` ones that were put, if they are kept. Returns
+// how many there are then.
 fn put_run<N: AddressSpace, H: Listed<N>>(
     kept: bool,
     at: N::Addr,
@@ -87,7 +87,7 @@ fn put_run<N: AddressSpace, H: Listed<N>>(
 }
 
 // The run that begins at an address: whether the operation keeps its addresses, or none of them; its last address, with
-// which it ends; and what is left of both lists behind it.
+// which it ends; and what is left of both lists after it.
 fn run<'a, N: AddressSpace, H: Listed<N>>(
     operation: Operation,
     first: &'a [H],
@@ -121,7 +121,7 @@ fn run<'a, N: AddressSpace, H: Listed<N>>(
     }
 }
 
-// A part that begins at an address: the same of it as of a run, but for its end.
+// A part that begins at an address: the same for it as of a run, but for its end.
 fn part<'a, N: AddressSpace, H: Listed<N>>(
     operation: Operation,
     first: &'a [H],

@@ -14,7 +14,7 @@ pub(crate) fn to_usize(number: u128) -> usize
     number as usize
 }
 
-// Puts the block behind the `count` ones that were put, if there is room.
+// Puts the block after the `count` ones that were put, if there is room.
 fn put<N: AddressSpace, H: HoldsNetwork<N>>(list: &mut [H], count: u128, block: N)
     ensures { AddsBlock H.held (N.pair block) list.old list.new count }
 {
@@ -24,7 +24,7 @@ fn put<N: AddressSpace, H: HoldsNetwork<N>>(list: &mut [H], count: u128, block: 
     list[count as usize] = H::holding(block);
 }
 
-/// Puts the blocks behind the `begun` ones that were put, as far as there is room. Returns how many there are then, and
+/// Puts the blocks after the `begun` ones that were put, as far as there is room. Returns how many there are then, and
 /// 2^128 - 1 if there are more.
 pub(crate) fn put_blocks<N: AddressSpace, H: HoldsNetwork<N>>(
     mut blocks: RangeBlocks<N>,

@@ -38,7 +38,7 @@ refusal_text (BadFormat text) = codes "invalid cidr format: " ++ text
 refusal_text (BadSize error) = codes "network size error: " ++ size_error_text error
 refusal_text RanOutOfMemory = codes "out of memory"
 
--- its kind in a few words
+-- the kind of a refusal in a few words
 abbrev pub description_of : Refusal → List ℕ
 description_of (BadAddress text) = codes "address is invalid"
 description_of BadPrefix = codes "prefix is invalid"

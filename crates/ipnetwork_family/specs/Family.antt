@@ -1,5 +1,5 @@
 -- What a family of addresses brings to its networks: how its addresses and its prefix lengths are spelled, and which
--- error tells of a text that spells none.
+-- error a text gets that spells none.
 use Rattle.std.specs.Prelude.{ℕ, ◌+◌, List, Result}
 use Rattle.ipnetwork_addr.specs.Ipv4Text.{NamesV4, canonical_v4}
 use Rattle.ipnetwork_addr.specs.Ipv6Text.{NamesV6}

@@ -9,7 +9,7 @@ use Rattle.ipnetwork_family.specs.declared.json.JsonFault.TheVariants.{NotAStrin
 abbrev pub SameError : IpNetworkError → IpNetworkError → Type 0
 SameError a b = refusal_of a ≡ refusal_of b
 
--- the same of refusals of a value
+-- the same for refusals of a value
 abbrev pub SameJsonFault : JsonFault → JsonFault → Type 0
 SameJsonFault NotAString NotAString = ⊤
 SameJsonFault (Refused a) (Refused b) = SameError a b

@@ -9,7 +9,7 @@ use Rattle.ipnetwork_family.specs.Faults.{SameError}
 use Rattle.ipnetwork_family.specs.Masks.{GivesPrefixOfMask}
 use Rattle.ipnetwork_family.specs.declared.error.IpNetworkError.{IpNetworkError}
 
--- the ends are the least and the greatest member, and the address is a member
+-- the ends are the least and the greatest member, and the address of the network is a member
 pub record HasEnds (w : ℕ) (n : Network) : Type 0 where
   pub low_is_member : Member w n (low w n)
   pub high_is_member : Member w n (high w n)

@@ -84,6 +84,6 @@ IsNetworkAtMost a b = (a.address < b.address) ⊎ ((a.address ≡ b.address) × 
 abbrev pub network_cmp : Network → Network → Ordering
 network_cmp a b = ordering_then (nat_cmp a.address b.address) (nat_cmp a.prefix b.prefix)
 
--- the number is no mask
+-- the number is not a mask
 abbrev pub IsNoMask : ℕ → ℕ → Type 0
 IsNoMask w mask = (p : ℕ) → p ≤ w → mask ≢ mask_of w p

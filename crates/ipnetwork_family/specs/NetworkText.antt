@@ -11,7 +11,7 @@ use Rattle.ipnetwork_family.specs.declared.error.CidrFault.TheVariants.{Format, 
 abbrev pub slash : ℕ
 slash = 47
 
--- how many `/` a text holds
+-- how many `/` a text contains
 abbrev pub slashes : List ℕ → ℕ
 slashes text = count_by (λ byte. byte == slash) text
 
@@ -33,17 +33,17 @@ pub data NamesNetwork (w : ℕ) (NamesAddress IsSuffix : List ℕ → ℕ → Ty
   Alone : NamesAddress text n.address → n.prefix ≡ w → NamesNetwork w NamesAddress IsSuffix text n
   Suffixed : (address suffix : List ℕ) → text ≡ address ++ slash ∷ suffix → NamesAddress address n.address → IsSuffix suffix n.prefix → NamesNetwork w NamesAddress IsSuffix text n
 
--- a `/` stands in the text, and what stands after the first one is no suffix
+-- the text contains a `/`, and what stands after the first one is not a suffix
 abbrev pub HasNoSuffix : (List ℕ → ℕ → Type 0) → List ℕ → Type 0
 HasNoSuffix IsSuffix text = (suffix : List ℕ) × (text ≡ before_slash text ++ slash ∷ suffix) × ((p : ℕ) → ¬ (IsSuffix suffix p))
 
--- why a text that names nothing is refused. The first that holds is the cause
+-- why a text that names nothing is refused. The first that applies is the cause
 abbrev pub IsCause : (List ℕ → ℕ → Type 0) → (List ℕ → ℕ → Type 0) → List ℕ → CidrFault → Type 0
--- it holds two or more `/`
+-- it contains two or more `/`
 IsCause NamesAddress IsSuffix text Format = HasSeveralSlashes text
--- else what stands before the `/` is no address
+-- else what stands before the `/` is not an address
 IsCause NamesAddress IsSuffix text Addr = (slashes text ≤ 1) × ((a : ℕ) → ¬ (NamesAddress (before_slash text) a))
--- else what stands after the `/` is no suffix
+-- else what stands after the `/` is not a suffix
 IsCause NamesAddress IsSuffix text Prefix = (slashes text ≤ 1) × ((a : ℕ) × NamesAddress (before_slash text) a) × HasNoSuffix IsSuffix text
 
 -- the network that the text names, or the cause if it names none

@@ -1,4 +1,4 @@
-//! What networks ask of an address.
+//! What networks need of an address.
 ghost use Rattle.std.specs.Prelude.{◌≡◌, ◌↔◌, ℕ, ◌+◌, ◌-◌, ◌/◌, ◌^◌, ◌<◌, ◌≤◌, List, length, IsTrue, MatchOption};
 ghost use Rattle.std.specs.Ordering.{nat_cmp};
 ghost use Rattle.ipnetwork_addr.specs.Reading.{Reads};
@@ -13,7 +13,7 @@ use std::fmt::Debug;
 use std::hash::Hash;
 
 /// The addresses of one family. An address means a number of `WIDTH` bits and is ordered by it; a prefix length says
-/// how many of the first of these bits are looked at. No call allocates.
+/// how many of its first bits are compared. No call allocates.
 ///
 /// ```
 /// assert_eq!(rt; <Ipv4Addr as Address>::WIDTH, 32);
@@ -78,7 +78,7 @@ pub trait Address: Copy + Ord + Hash + Debug {
         ensures bytes { result.bytes ≡ family.canonical (number self.now) }
         ensures short { (length result.bytes ≤ family.address_length) × (family.address_length ≤ ADDRESS_TEXT_CAPACITY) };
 
-    /// Does nothing. A proof learns from it that no address and no suffix holds a `/`.
+    /// Does nothing. A proof learns from it that no address and no suffix contains a `/`.
     #[doc(hidden)]
     fn texts_hold_no_slash()
         ensures addresses { (text : List ℕ) (address : ℕ) → family.NamesAddress text address → slashes text ≡ 0 }
@@ -98,7 +98,7 @@ pub trait Address: Copy + Ord + Hash + Debug {
         requires { prefix ≤ WIDTH }
         ensures { number result ≡ mask_of WIDTH prefix };
 
-    /// The prefix length of a mask; `None` if the address is no mask.
+    /// The prefix length of a mask; `None` if the address is not a mask.
     ///
     /// ```
     /// assert_eq!(rt; Ipv4Addr::new(255, 255, 240, 0).prefix_of_mask(), Some(20));
@@ -136,7 +136,7 @@ pub trait Address: Copy + Ord + Hash + Debug {
         requires { prefix ≤ WIDTH }
         ensures { IsTrue result ↔ (number self / block_size WIDTH prefix ≡ number other / block_size WIDTH prefix) };
 
-    /// The address after this one, which is not the last.
+    /// The address after this one, which must not be the last.
     ///
     /// ```
     /// assert_eq!(rt; Ipv4Addr::new(192, 0, 2, 255).next(), Ipv4Addr::new(192, 0, 3, 0));
@@ -145,7 +145,7 @@ pub trait Address: Copy + Ord + Hash + Debug {
         requires { number self + 1 < 2 ^ WIDTH }
         ensures { number result ≡ number self + 1 };
 
-    /// The address before this one, which is not the first.
+    /// The address before this one, which must not be the first.
     ///
     /// ```
     /// assert_eq!(rt; Ipv4Addr::new(192, 0, 3, 0).previous(), Ipv4Addr::new(192, 0, 2, 255));
@@ -154,7 +154,7 @@ pub trait Address: Copy + Ord + Hash + Debug {
         requires { 0 < number self }
         ensures { number result ≡ number self - 1 };
 
-    /// The address `offset` addresses after this one, which is not past the last.
+    /// The address `offset` addresses after this one. It must not be past the last address of the family.
     ///
     /// ```
     /// assert_eq!(rt; Ipv4Addr::new(192, 0, 2, 255).plus(257), Ipv4Addr::new(192, 0, 4, 0));
@@ -172,7 +172,7 @@ pub trait Address: Copy + Ord + Hash + Debug {
     fn shared_bits(self, other: Self) -> u8
         ensures { SharesBits WIDTH (number self) (number other) result };
 
-    /// How many zeros the bits end with; `WIDTH` for the address 0.
+    /// The number of trailing zero bits; `WIDTH` for the address 0.
     ///
     /// ```
     /// assert_eq!(rt; Ipv4Addr::new(255, 255, 240, 0).trailing_zeros(), 12);

@@ -79,7 +79,7 @@ pub trait CidrNetwork: Copy + Ord {
     fn contains(&self, ip: Self::Addr) -> bool
         ensures { IsTrue result ↔ Member WIDTH (pair self.now) (number ip) };
 
-    /// Whether each member of this network is a member of `other`. Host bits change nothing.
+    /// Whether each member of this network is a member of `other`. Host bits are ignored.
     ///
     /// ```
     /// let network: Ipv6Network = "2001:db8::7/126".parse()?;

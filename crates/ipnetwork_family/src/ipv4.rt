@@ -1,4 +1,4 @@
-//! IPv4 addresses as networks ask them, and what only IPv4 networks have.
+//! IPv4 addresses as networks need them, and what only IPv4 networks have.
 ghost use Rattle.std.specs.Prelude.{◌≡◌, ℕ, ◌+◌, ◌-◌, ◌^◌, ◌<◌, ◌≤◌};
 ghost use Rattle.std.specs.Option.{SomeIff};
 ghost use Rattle.ipnetwork_family.specs.Family.{v4_family};
@@ -125,7 +125,7 @@ fn host_ones(prefix: u8) -> u32
 }
 
 impl Network<Ipv4Addr> {
-    /// The number of members, and at prefix length 0, where that needs 33 bits, one less: 4,294,967,295.
+    /// The number of members. At prefix length 0, where that would need 33 bits, it is one less: 4,294,967,295.
     ///
     /// ```
     /// let network: Ipv4Network = "192.0.2.77/26".parse()?;
@@ -137,7 +137,7 @@ impl Network<Ipv4Addr> {
         host_ones(self.prefix()).saturating_add(1)
     }
 
-    /// The member number `n` in order, counted from 0; `None` if `n` is not below `size`.
+    /// The member number `n`, counted from 0 in ascending order; `None` if `n` is not less than `size`.
     ///
     /// ```
     /// let network: Ipv4Network = "192.0.2.77/26".parse()?;
@@ -155,7 +155,7 @@ impl Network<Ipv4Addr> {
     }
 }
 
-/// The prefix length of a mask, or `InvalidPrefix` if the address is none of the 33 masks.
+/// The prefix length of a mask, or `InvalidPrefix` if the address is not one of the 33 masks.
 ///
 /// ```
 /// assert_eq!(rt; ipv4_mask_to_prefix(Ipv4Addr::new(255, 255, 240, 0)), Ok(20));

@@ -1,4 +1,4 @@
-//! IPv6 addresses as networks ask them, and what only IPv6 networks have.
+//! IPv6 addresses as networks need them, and what only IPv6 networks have.
 ghost use Rattle.std.specs.Prelude.{◌≡◌, ℕ, ◌+◌, ◌-◌, ◌^◌, ◌<◌, ◌≤◌};
 ghost use Rattle.std.specs.Option.{SomeIff};
 ghost use Rattle.ipnetwork_family.specs.Family.{v6_family};
@@ -117,7 +117,7 @@ fn host_ones(prefix: u8) -> u128
 }
 
 impl Network<Ipv6Addr> {
-    /// The number of members, and at prefix length 0, where that needs 129 bits, one less: 2^128 - 1.
+    /// The number of members. At prefix length 0, where that would need 129 bits, it is one less: 2^128 - 1.
     ///
     /// ```
     /// let network: Ipv6Network = "2001:db8::/64".parse()?;
@@ -129,7 +129,7 @@ impl Network<Ipv6Addr> {
         host_ones(self.prefix()).saturating_add(1)
     }
 
-    /// The member number `n` in order, counted from 0; `None` if `n` is not below `size`.
+    /// The member number `n`, counted from 0 in ascending order; `None` if `n` is not less than `size`.
     ///
     /// ```
     /// let network: Ipv6Network = "2001:db8::1/64".parse()?;
@@ -146,7 +146,7 @@ impl Network<Ipv6Addr> {
     }
 }
 
-/// The prefix length of a mask, or `InvalidPrefix` if the address is none of the 129 masks.
+/// The prefix length of a mask, or `InvalidPrefix` if the address is not one of the 129 masks.
 ///
 /// ```
 /// let mask: Ipv6Addr = "ffff:ffff:ffff:ffff::".parse()?;

@@ -17,7 +17,7 @@ use std::alloc::{AllocError, Global};
 /// ```
 #[derive(Debug, PartialEq, Eq, Drop)]
 pub enum JsonFault {
-    /// The value is no string: null, a boolean, a number, a list or an object.
+    /// The value is not a string: null, a boolean, a number, a list or an object.
     NotAString,
     /// The value is a string, and parsing refuses it with this error.
     Refused(IpNetworkError),

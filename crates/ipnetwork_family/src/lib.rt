@@ -41,7 +41,7 @@ pub type Ipv4Network = Network<Ipv4Addr>;
 /// ```
 pub type Ipv6Network = Network<Ipv6Addr>;
 
-/// The members of an IPv4 network that are still to come, in ascending order.
+/// An iterator over the members of an IPv4 network, in ascending order.
 ///
 /// ```
 /// let members: Ipv4NetworkIterator = "192.0.2.0/24".parse::<Ipv4Network>()?.iter();
@@ -49,7 +49,7 @@ pub type Ipv6Network = Network<Ipv6Addr>;
 /// ```
 pub type Ipv4NetworkIterator = NetworkIterator<Ipv4Addr>;
 
-/// The members of an IPv6 network that are still to come, in ascending order.
+/// An iterator over the members of an IPv6 network, in ascending order.
 ///
 /// ```
 /// let members: Ipv6NetworkIterator = "2001:db8::/120".parse::<Ipv6Network>()?.iter();

@@ -55,8 +55,8 @@ impl<A: Address> Clone for Network<A> {
     }
 }
 
-// The clause `network` tells a proof in another crate what holds of each network: both fields are private,
-// so nothing else says it. It stands on the calls that such proofs begin with.
+// The clause `network` tells a proof in another crate what is true of each network: both fields are private, so nothing
+// else says it. It stands on the calls that such proofs begin with.
 impl<A: Address> Network<A> {
     /// The network of this address, host bits kept, and this prefix length; `None` if that is greater than
     /// `A::WIDTH`.
@@ -113,8 +113,8 @@ impl<A: Address> Network<A> {
         }
     }
 
-    /// The network of this address, host bits kept, and the prefix length of this mask; `InvalidPrefix` if that is
-    /// none of the `A::WIDTH` + 1 masks.
+    /// The network of this address, host bits kept, and the prefix length of this mask; `InvalidPrefix` if that is not
+    /// one of the `A::WIDTH` + 1 masks.
     ///
     /// ```
     /// let mask = Ipv4Addr::new(255, 255, 240, 0);
@@ -208,7 +208,7 @@ impl<A: Address> Network<A> {
         ip.agrees(self.address, self.prefix)
     }
 
-    /// Whether each member of this network is a member of `other`. Host bits change nothing.
+    /// Whether each member of this network is a member of `other`. Host bits are ignored.
     ///
     /// ```
     /// let network: Ipv4Network = "192.0.2.77/26".parse()?;
@@ -220,7 +220,7 @@ impl<A: Address> Network<A> {
         other.prefix() <= self.prefix() && other.contains(self.ip())
     }
 
-    /// Whether each member of `other` is a member of this network. Host bits change nothing.
+    /// Whether each member of `other` is a member of this network. Host bits are ignored.
     ///
     /// ```
     /// let network: Ipv4Network = "192.0.2.77/26".parse()?;
@@ -283,10 +283,10 @@ impl<A: Address> Network<A> {
         Ok(Network { address, prefix })
     }
 
-    /// The network that a text names, as `read_bytes` reads it; if it names none, the error for its cause, as
-    /// `IpNetworkError::from_fault` of the text and of the family's error gives it, which is `AddrParseError::Ipv4`
-    /// or `Ipv6`. Allocates at most once, for a refusal that carries a text, and returns `OutOfMemory` only in place
-    /// of one.
+    /// The network that a text names, as `read_bytes` reads it. If it names none, the error is what
+    /// `IpNetworkError::from_fault` returns for the cause, for the family's address error (`AddrParseError::Ipv4` or
+    /// `Ipv6`) and for the text. Allocates at most once, for an error that carries a text, and returns `OutOfMemory`
+    /// only in place of one.
     ///
     /// ```
     /// let network = Ipv6Network::parse(rt.alloc(), "2001:db8::1/64")?;
@@ -344,7 +344,7 @@ fn prefix_length<A: Address>(suffix: Option<&[u8]>) -> Option<u8>
     }
 }
 
-/// The prefix length of a mask, or `InvalidPrefix` if the address is no mask.
+/// The prefix length of a mask, or `InvalidPrefix` if the address is not a mask.
 pub(crate) fn mask_to_prefix<A: Address>(mask: A) -> Result<u8, IpNetworkError>
     ensures { GivesPrefixOfMask A.WIDTH (A.number mask) result }
 {
@@ -374,7 +374,7 @@ impl<A: Address> IntoIterator for &Network<A> {
 
     ghost into_iter_gives = { λ network left. left ≡ members A.WIDTH network.now };
 
-    /// As `iter`.
+    /// The same as `iter`.
     fn into_iter(self) -> NetworkIterator<A> {
         self.iter()
     }
@@ -385,7 +385,7 @@ impl<A: Address> FromStr for Network<A> {
 
     ghost from_str_gives = { ReadsNetworkOf A.family };
 
-    /// As `read_bytes`.
+    /// The same as `read_bytes`.
     fn from_str(text: &str) -> Result<Self, CidrFault> {
         Network::<A>::read_bytes(text.as_bytes())
     }
@@ -396,7 +396,7 @@ impl<A: Address> TryFrom<&str> for Network<A> {
 
     ghost try_from_gives = { λ text result. ReadsNetworkOf A.family text.now result };
 
-    /// As `read_bytes`.
+    /// The same as `read_bytes`.
     fn try_from(text: &str) -> Result<Self, CidrFault> {
         Network::<A>::from_str(text)
     }

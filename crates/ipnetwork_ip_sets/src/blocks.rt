@@ -7,9 +7,9 @@ use ipnetwork::{IpNetwork, Ipv4Network, Ipv6Network};
 use ipnetwork_sets::SetBlocks;
 use std::marker::Model;
 
-/// The blocks of a set that are still to come: those of IPv4, and after them those of IPv6, each in ascending order.
-/// `V4` and `V6` give those of each family: the iterators of `ipnetwork_sets` over a set, a common part, a difference
-/// or a union.
+/// An iterator over the blocks of a set: those of IPv4, and after them those of IPv6, each in ascending order. `V4` and
+/// `V6` give those of each family: the iterators of `ipnetwork_sets` over a set, a common part, a difference or a
+/// union.
 ///
 /// ```
 /// let v4 = vec![in rt.alloc(); "192.0.2.0/24".parse::<Ipv4Network>()?]?;

@@ -9,7 +9,7 @@ use std::alloc::AllocError;
 
 impl IpAddressSet {
     /// A set with the same addresses. The lists of the families are put into `v4_memory` and `v6_memory`, whose content
-    /// is dropped first; an error means that one had to grow, and that there was no memory for that.
+    /// is dropped first. `AllocError` means that one of them had to grow and memory ran out.
     ///
     /// ```
     /// let set = IpAddressSet::from_lists(vec![in rt.alloc(); "192.0.2.0/25".parse::<Ipv4Network>()?]?, Vec::new(rt.alloc()));
@@ -27,9 +27,8 @@ impl IpAddressSet {
 }
 
 impl<'a> IpBlocks<Blocks<'a, Ipv4Network>, Blocks<'a, Ipv6Network>> {
-    /// The set of the blocks that are still to come. The lists of the families are put into `v4_memory` and
-    /// `v6_memory`, whose content is dropped first; an error means that one had to grow, and that there was no memory for
-    /// that.
+    /// The set of the remaining blocks. The lists of the families are put into `v4_memory` and `v6_memory`, whose
+    /// content is dropped first. `AllocError` means that one of them had to grow and memory ran out.
     ///
     /// ```
     /// let set = IpAddressSet::from_lists(vec![in rt.alloc(); "192.0.2.0/25".parse::<Ipv4Network>()?]?, Vec::new(rt.alloc()));
@@ -50,9 +49,8 @@ impl<'a> IpBlocks<Blocks<'a, Ipv4Network>, Blocks<'a, Ipv6Network>> {
 }
 
 impl<'a> IpBlocks<Intersection<'a, Ipv4Network>, Intersection<'a, Ipv6Network>> {
-    /// The set of the blocks that are still to come. The lists of the families are put into `v4_memory` and
-    /// `v6_memory`, whose content is dropped first; an error means that one had to grow, and that there was no memory for
-    /// that.
+    /// The set of the remaining blocks. The lists of the families are put into `v4_memory` and `v6_memory`, whose
+    /// content is dropped first. `AllocError` means that one of them had to grow and memory ran out.
     ///
     /// ```
     /// let set = IpAddressSet::from_lists(vec![in rt.alloc(); "192.0.2.0/25".parse::<Ipv4Network>()?]?, Vec::new(rt.alloc()));
@@ -73,9 +71,8 @@ impl<'a> IpBlocks<Intersection<'a, Ipv4Network>, Intersection<'a, Ipv6Network>> 
 }
 
 impl<'a> IpBlocks<Difference<'a, Ipv4Network>, Difference<'a, Ipv6Network>> {
-    /// The set of the blocks that are still to come. The lists of the families are put into `v4_memory` and
-    /// `v6_memory`, whose content is dropped first; an error means that one had to grow, and that there was no memory for
-    /// that.
+    /// The set of the remaining blocks. The lists of the families are put into `v4_memory` and `v6_memory`, whose
+    /// content is dropped first. `AllocError` means that one of them had to grow and memory ran out.
     ///
     /// ```
     /// let set = IpAddressSet::from_lists(vec![in rt.alloc(); "192.0.2.0/25".parse::<Ipv4Network>()?]?, Vec::new(rt.alloc()));
@@ -96,9 +93,8 @@ impl<'a> IpBlocks<Difference<'a, Ipv4Network>, Difference<'a, Ipv6Network>> {
 }
 
 impl<'a> IpBlocks<Union<'a, Ipv4Network>, Union<'a, Ipv6Network>> {
-    /// The set of the blocks that are still to come. The lists of the families are put into `v4_memory` and
-    /// `v6_memory`, whose content is dropped first; an error means that one had to grow, and that there was no memory for
-    /// that.
+    /// The set of the remaining blocks. The lists of the families are put into `v4_memory` and `v6_memory`, whose
+    /// content is dropped first. `AllocError` means that one of them had to grow and memory ran out.
     ///
     /// ```
     /// let set = IpAddressSet::from_lists(vec![in rt.alloc(); "192.0.2.0/25".parse::<Ipv4Network>()?]?, Vec::new(rt.alloc()));

@@ -14,7 +14,7 @@ use std::marker::Model;
 
 /// A set of addresses of either family: the maximal blocks of its IPv4 addresses, in ascending order, and after them
 /// those of its IPv6 addresses. Each set has one such list, and no list of networks with the same addresses is shorter.
-/// An IPv4-mapped IPv6 address is an IPv6 address, and no IPv4 address.
+/// An IPv4-mapped IPv6 address is an IPv6 address, not an IPv4 address.
 ///
 /// ```
 /// let networks = ["2001:db8::/32".parse::<IpNetwork>()?, "192.0.2.0/25".parse()?, "192.0.2.128/25".parse()?];
@@ -42,9 +42,9 @@ impl Model for IpAddressSet {
 }
 
 impl IpAddressSet {
-    /// The set of the addresses of the networks of either family, host bits or not, in any order. Those of each family
-    /// are put into a list of the caller's, whose content is dropped first; an error means that one had to grow, and
-    /// that there was no memory for that.
+    /// The set of the addresses of the networks of either family, which may have host bits and stand in any order. The
+    /// networks of each family are put into a list of the caller's, whose content is dropped first. `AllocError` means
+    /// that one of the lists had to grow and memory ran out.
     ///
     /// Sorts each family and goes over it once.
     ///
@@ -68,7 +68,7 @@ impl IpAddressSet {
         Ok(IpAddressSet::from_lists(v4_memory, v6_memory))
     }
 
-    /// The set of the addresses of the networks of both lists, host bits or not, in any order.
+    /// The set of the addresses of the networks of both lists, which may have host bits and stand in any order.
     ///
     /// Sorts each list and goes over it once. Keeps their memory, and does not allocate.
     ///
@@ -184,8 +184,8 @@ impl IpAddressSet {
         }
     }
 
-    /// Whether each address of the network is in the set. Host bits change nothing. One binary search over the blocks
-    /// of its family.
+    /// Whether each address of the network is in the set. Host bits are ignored. One binary search over the blocks of
+    /// its family.
     ///
     /// ```
     /// let v6 = vec![in rt.alloc(); "2001:db8::/33".parse::<Ipv6Network>()?]?;
@@ -202,8 +202,8 @@ impl IpAddressSet {
         }
     }
 
-    /// Whether some address of the network is in the set. Host bits change nothing. One binary search over the blocks
-    /// of its family.
+    /// Whether some address of the network is in the set. Host bits are ignored. One binary search over the blocks of
+    /// its family.
     ///
     /// ```
     /// let v4 = vec![in rt.alloc(); "192.0.2.0/25".parse::<Ipv4Network>()?]?;

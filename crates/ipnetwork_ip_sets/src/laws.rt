@@ -24,7 +24,7 @@ pub fn shortest()
     blocks::ip_least();
 }
 
-/// Two sets are equal exactly if they have the same addresses, and `==` tells it.
+/// Two sets are equal exactly if they have the same addresses, and `==` says so.
 pub fn equality()
     ensures test { SameIpBlocksAreEqual }
     ensures addresses { SameIpAddressesAreOneSet }

@@ -9,8 +9,8 @@ use ipnetwork_sets::{Difference, Intersection, Union};
 use std::alloc::AllocError;
 
 impl IpAddressSet {
-    /// The blocks of the addresses that both sets have. Goes over the lists of both once, as the iterator is asked, and
-    /// does not allocate.
+    /// The blocks of the addresses that are in both sets. Goes over the lists of both once, as the iterator advances,
+    /// and does not allocate.
     ///
     /// ```
     /// let set = IpAddressSet::from_lists(vec![in rt.alloc(); "192.0.2.0/25".parse::<Ipv4Network>()?]?, Vec::new(rt.alloc()));
@@ -29,8 +29,8 @@ impl IpAddressSet {
         )
     }
 
-    /// The blocks of the addresses that this set has and the other has not. Goes over the lists of both once, as the
-    /// iterator is asked, and does not allocate.
+    /// The blocks of the addresses that are in this set and not in the other. Goes over the lists of both once, as the
+    /// iterator advances, and does not allocate.
     ///
     /// ```
     /// let set = IpAddressSet::from_lists(vec![in rt.alloc(); "192.0.2.0/25".parse::<Ipv4Network>()?]?, Vec::new(rt.alloc()));
@@ -50,7 +50,7 @@ impl IpAddressSet {
     }
 
     /// The blocks of all addresses of either family that are not in the set. Goes over both its lists once, as the
-    /// iterator is asked, and does not allocate.
+    /// iterator advances, and does not allocate.
     ///
     /// ```
     /// let set = IpAddressSet::from_lists(vec![in rt.alloc(); "0.0.0.0/1".parse::<Ipv4Network>()?]?, Vec::new(rt.alloc()));
@@ -62,8 +62,8 @@ impl IpAddressSet {
         IpBlocks::of(self.v4().complement(), self.v6().complement())
     }
 
-    /// The blocks of the addresses that one of the two has, or both. Goes over the lists of both once, as the iterator is
-    /// asked, and does not allocate.
+    /// The blocks of the addresses that are in one of the two sets or in both. Goes over the lists of both once, as the
+    /// iterator advances, and does not allocate.
     ///
     /// ```
     /// let set = IpAddressSet::from_lists(vec![in rt.alloc(); "192.0.2.0/25".parse::<Ipv4Network>()?]?, Vec::new(rt.alloc()));
@@ -82,9 +82,9 @@ impl IpAddressSet {
         )
     }
 
-    /// The set of the addresses that one of the two has, or both. Goes over the lists of both once. The lists of the
-    /// families are put into `v4_memory` and `v6_memory`, whose content is dropped first; an error means that one had to
-    /// grow, and that there was no memory for that.
+    /// The set of the addresses that are in one of the two sets or in both. Goes over the lists of both once. The lists
+    /// of the families are put into `v4_memory` and `v6_memory`, whose content is dropped first. `AllocError` means
+    /// that one of them had to grow and memory ran out.
     ///
     /// ```
     /// let set = IpAddressSet::from_lists(vec![in rt.alloc(); "192.0.2.0/25".parse::<Ipv4Network>()?]?, Vec::new(rt.alloc()));
@@ -103,7 +103,7 @@ impl IpAddressSet {
         self.union_blocks(other).into_set(v4_memory, v6_memory)
     }
 
-    /// Whether each address of this set is in the other. Goes over the lists of both once at the most, and does not
+    /// Whether each address of this set is in the other. Goes over the lists of both at most once, and does not
     /// allocate.
     ///
     /// ```
@@ -118,7 +118,7 @@ impl IpAddressSet {
         self.v4().is_subset_of(other.v4()) && self.v6().is_subset_of(other.v6())
     }
 
-    /// Whether no address is in both sets. Goes over the lists of both once at the most, and does not allocate.
+    /// Whether no address is in both sets. Goes over the lists of both at most once, and does not allocate.
     ///
     /// ```
     /// let set = IpAddressSet::from_lists(vec![in rt.alloc(); "0.0.0.0/0".parse::<Ipv4Network>()?]?, Vec::new(rt.alloc()));

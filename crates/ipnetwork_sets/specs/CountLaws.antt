@@ -46,6 +46,6 @@ UnionAddsUp = (w : ℕ) (a b blocks : List Network) → IsLeastList w (InEither 
 abbrev pub TotalGoesOn : Type 0
 TotalGoesOn = (w : ℕ) (before : List Network) (n : Network) → min (min (total w before) (2 ^ 128) + block_size w n.prefix) (2 ^ 128) ≡ min (total w (before ++ n ∷ [])) (2 ^ 128)
 
--- where addresses have one bit or more, a set has fewer blocks than there are addresses
+-- if addresses have one bit or more, a set has fewer blocks than there are addresses
 abbrev pub SetHasFewerBlocks : Type 0
 SetHasFewerBlocks = (w : ℕ) (blocks : List Network) → 1 ≤ w → IsAddressSet w blocks → length blocks < 2 ^ w

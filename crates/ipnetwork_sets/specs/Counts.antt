@@ -15,7 +15,7 @@ count_number AllOfIpv6 = 2 ^ 128
 abbrev pub FitsNumber : AddressCount → Result ℕ NetworkSizeError → Type 0
 FitsNumber count result = MatchResult result (λ n. (count_number count < 2 ^ 128) × (n ≡ count_number count)) (λ _. 2 ^ 128 ≤ count_number count)
 
--- a set has n addresses: as long is the ascending list of them
+-- a set has n addresses: the ascending list of them has this length
 pub record HasCount (set : ℕ → Type 0) (n : ℕ) : Type 0 where
   pub addresses : List ℕ
   pub ascending : AllPairs (λ x y. x < y) addresses

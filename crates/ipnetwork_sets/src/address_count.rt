@@ -42,7 +42,7 @@ impl AddressCount {
     /// ```
     pub const ZERO: AddressCount = AddressCount::Number(0);
 
-    /// The count and the number of addresses of the network together; 2^128 if that is more. Host bits change nothing.
+    /// The count plus the number of addresses of the network, or 2^128 if the sum is greater. Host bits are ignored.
     ///
     /// Added up over blocks that share no address, of one family, the count is exact.
     ///

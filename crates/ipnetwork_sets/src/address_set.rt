@@ -35,7 +35,7 @@ impl<N: AddressSpace> Model for AddressSet<N> {
 }
 
 impl<N: AddressSpace> AddressSet<N> {
-    /// The set of the addresses of the networks, host bits or not, in any order.
+    /// The set of the addresses of the networks, which may have host bits and stand in any order.
     ///
     /// Sorts the networks and goes over them once. Keeps their memory, and does not allocate.
     ///
@@ -51,8 +51,8 @@ impl<N: AddressSpace> AddressSet<N> {
         AddressSet { blocks: networks }
     }
 
-    /// The set of which these are the blocks: maximal in it, without host bits, and in ascending order. The list is
-    /// given back if they are not, and `from_networks` makes them so.
+    /// The set with these blocks, if they are maximal in it, without host bits, and in ascending order. If they are
+    /// not, the list is returned as the error; `from_networks` takes any list.
     ///
     /// Goes over the list once. Keeps its memory, and does not allocate.
     ///
@@ -118,8 +118,7 @@ impl<N: AddressSpace> AddressSet<N> {
         search::contains(self.blocks.as_slice(), addr)
     }
 
-    /// Whether each address of the network is in the set. Host bits change nothing. One binary search over the
-    /// blocks.
+    /// Whether each address of the network is in the set. Host bits are ignored. One binary search over the blocks.
     ///
     /// ```
     /// let set = AddressSet::from_networks(vec![in rt.alloc(); "192.0.2.0/25".parse::<Ipv4Network>()?]?);
@@ -132,8 +131,7 @@ impl<N: AddressSpace> AddressSet<N> {
         search::covers(self.blocks.as_slice(), network)
     }
 
-    /// Whether some address of the network is in the set. Host bits change nothing. One binary search over the
-    /// blocks.
+    /// Whether some address of the network is in the set. Host bits are ignored. One binary search over the blocks.
     ///
     /// ```
     /// let set = AddressSet::from_networks(vec![in rt.alloc(); "192.0.2.0/25".parse::<Ipv4Network>()?]?);

@@ -13,8 +13,8 @@ use crate::union::Union;
 use ipnetwork_blocks::AddressSpace;
 use std::marker::Model;
 
-/// A set of addresses of one family over a borrowed list: its maximal blocks, in ascending order. It asks and answers what
-/// an `AddressSet` does, of a list that stands elsewhere, such as in a table or an array.
+/// A set of addresses of one family over a borrowed list: its maximal blocks, in ascending order. It can be asked what
+/// an `AddressSet` can, for a list that is stored elsewhere, such as in a table or an array.
 ///
 /// ```
 /// let blocks: [Ipv4Network; 2] = ["10.0.0.0/8".parse()?, "192.0.2.0/24".parse()?];
@@ -40,8 +40,8 @@ impl<'a, N: AddressSpace> Model for AddressSlice<'a, N> {
 }
 
 impl<'a, N: AddressSpace> AddressSlice<'a, N> {
-    /// The set of which these are the blocks: maximal in it, without host bits, and in ascending order; `None` if they are
-    /// not. Goes over the list once, and does not allocate.
+    /// The set with these blocks, if they are maximal in it, without host bits, and in ascending order; `None` if they
+    /// are not. Goes over the list once, and does not allocate.
     ///
     /// ```
     /// let halves: [Ipv4Network; 2] = ["192.0.2.0/25".parse()?, "192.0.2.128/25".parse()?];
@@ -103,7 +103,7 @@ impl<'a, N: AddressSpace> AddressSlice<'a, N> {
         search::contains(self.blocks, addr)
     }
 
-    /// Whether each address of the network is in the set. Host bits change nothing. One binary search over the blocks.
+    /// Whether each address of the network is in the set. Host bits are ignored. One binary search over the blocks.
     ///
     /// ```
     /// let list: [Ipv4Network; 1] = ["192.0.2.0/25".parse()?];
@@ -116,7 +116,7 @@ impl<'a, N: AddressSpace> AddressSlice<'a, N> {
         search::covers(self.blocks, network)
     }
 
-    /// Whether some address of the network is in the set. Host bits change nothing. One binary search over the blocks.
+    /// Whether some address of the network is in the set. Host bits are ignored. One binary search over the blocks.
     ///
     /// ```
     /// let list: [Ipv4Network; 1] = ["192.0.2.0/25".parse()?];
@@ -129,8 +129,8 @@ impl<'a, N: AddressSpace> AddressSlice<'a, N> {
         search::overlaps(self.blocks, network)
     }
 
-    /// The blocks of the addresses that both sets have, in ascending order. Goes over both lists once, as the iterator
-    /// is asked, and does not allocate.
+    /// The blocks of the addresses that are in both sets, in ascending order. Goes over both lists once, as the
+    /// iterator advances, and does not allocate.
     ///
     /// ```
     /// let list: [Ipv4Network; 1] = ["192.0.2.0/25".parse()?];
@@ -144,8 +144,8 @@ impl<'a, N: AddressSpace> AddressSlice<'a, N> {
         Intersection::of(self.blocks(), other.blocks())
     }
 
-    /// The blocks of the addresses that this set has and the other has not, in ascending order. Goes over both lists
-    /// once, as the iterator is asked, and does not allocate.
+    /// The blocks of the addresses that are in this set and not in the other, in ascending order. Goes over both lists
+    /// once, as the iterator advances, and does not allocate.
     ///
     /// ```
     /// let list: [Ipv4Network; 1] = ["192.0.2.0/25".parse()?];
@@ -159,8 +159,8 @@ impl<'a, N: AddressSpace> AddressSlice<'a, N> {
         Difference::of(self.blocks(), other.blocks())
     }
 
-    /// The blocks of the addresses that the network has and the set has not, in ascending order: what is free in the
-    /// network. Host bits change nothing. Goes over the list once, as the iterator is asked, and does not allocate.
+    /// The blocks of the addresses that are in the network and not in the set, in ascending order: what is free in the
+    /// network. Host bits are ignored. Goes over the list once, as the iterator advances, and does not allocate.
     ///
     /// ```
     /// let list: [Ipv4Network; 1] = ["192.0.2.0/25".parse()?];
@@ -173,8 +173,8 @@ impl<'a, N: AddressSpace> AddressSlice<'a, N> {
         Difference::within(network, self.blocks())
     }
 
-    /// The blocks of the addresses that one of the two has, or both, in ascending order. Goes over both lists once, as
-    /// the iterator is asked, and does not allocate.
+    /// The blocks of the addresses that are in one of the two sets or in both, in ascending order. Goes over both lists
+    /// once, as the iterator advances, and does not allocate.
     ///
     /// ```
     /// let list: [Ipv4Network; 1] = ["192.0.2.0/25".parse()?];
@@ -188,7 +188,7 @@ impl<'a, N: AddressSpace> AddressSlice<'a, N> {
         Union::of(self.blocks(), other.blocks())
     }
 
-    /// Whether each address of this set is in the other. Goes over both lists once at the most, and does not allocate.
+    /// Whether each address of this set is in the other. Goes over both lists at most once, and does not allocate.
     ///
     /// ```
     /// let list: [Ipv4Network; 1] = ["192.0.2.0/25".parse()?];
@@ -203,7 +203,7 @@ impl<'a, N: AddressSpace> AddressSlice<'a, N> {
         left.next().is_none()
     }
 
-    /// Whether no address is in both sets. Goes over both lists once at the most, and does not allocate.
+    /// Whether no address is in both sets. Goes over both lists at most once, and does not allocate.
     ///
     /// ```
     /// let list: [Ipv4Network; 1] = ["192.0.2.0/25".parse()?];

@@ -12,7 +12,7 @@ use crate::union::Union;
 use ipnetwork_blocks::{AddressSpace, laws};
 use std::marker::Model;
 
-/// What gives the blocks of a set one after the other, in ascending order.
+/// An iterator over the blocks of a set, in ascending order.
 ///
 /// ```
 /// let set = AddressSet::from_networks(vec![in rt.alloc(); "192.0.2.0/25".parse::<Ipv4Network>()?]?);
@@ -24,7 +24,7 @@ pub trait SetBlocks<N: AddressSpace>: Drop {
     // The blocks that are still to come.
     ghost left: { Self → List Network };
 
-    /// The next block; `None` behind the last.
+    /// The next block; `None` after the last.
     ///
     /// ```
     /// let set = AddressSet::from_networks(vec![in rt.alloc(); "192.0.2.0/25".parse::<Ipv4Network>()?]?);
@@ -37,7 +37,7 @@ pub trait SetBlocks<N: AddressSpace>: Drop {
         ensures set { IsAddressSet N.WIDTH (left self.old) };
 }
 
-/// The blocks of a set that are still to come, in ascending order.
+/// The iterator over the blocks of an `AddressSet` or an `AddressSlice`, in ascending order.
 ///
 /// ```
 /// let set = AddressSet::from_networks(vec![in rt.alloc(); "192.0.2.0/25".parse::<Ipv4Network>()?]?);

@@ -32,7 +32,7 @@ fn has_no_host_bits<N: AddressSpace>(network: N) -> bool
     network.ip() == network.network()
 }
 
-// Whether the second begins after the first has ended, and they are no halves of one block.
+// Whether the second begins after the first has ended, and they are not the halves of one block.
 fn follows<N: AddressSpace>(first: N, second: N) -> bool
     ensures { IsTrue result ↔ Follows N.WIDTH (N.pair first) (N.pair second) }
 {

@@ -26,8 +26,8 @@ fn collected<N: AddressSpace, B: SetBlocks<N>>(
 }
 
 impl<N: AddressSpace> AddressSet<N> {
-    /// A set with the same addresses. The list is put into `memory`, whose content is dropped first; an error means that
-    /// it had to grow, and that there was no memory for that.
+    /// A set with the same addresses. The list is put into `memory`, whose content is dropped first. `AllocError` means
+    /// that it had to grow and memory ran out.
     ///
     /// ```
     /// let set = AddressSet::from_networks(vec![in rt.alloc(); "192.0.2.0/25".parse::<Ipv4Network>()?]?);
@@ -41,8 +41,8 @@ impl<N: AddressSpace> AddressSet<N> {
 }
 
 impl<'a, N: AddressSpace> Blocks<'a, N> {
-    /// The set of the blocks that are still to come. The list is put into `memory`, whose content is dropped first; an
-    /// error means that it had to grow, and that there was no memory for that.
+    /// The set of the remaining blocks. The list is put into `memory`, whose content is dropped first. `AllocError`
+    /// means that it had to grow and memory ran out.
     ///
     /// ```
     /// let networks = vec![in rt.alloc(); "192.0.2.0/25".parse::<Ipv4Network>()?, "198.51.100.0/24".parse()?]?;
@@ -60,8 +60,8 @@ impl<'a, N: AddressSpace> Blocks<'a, N> {
 }
 
 impl<'a, N: AddressSpace> Intersection<'a, N> {
-    /// The set of the blocks that are still to come. The list is put into `memory`, whose content is dropped first; an
-    /// error means that it had to grow, and that there was no memory for that.
+    /// The set of the remaining blocks. The list is put into `memory`, whose content is dropped first. `AllocError`
+    /// means that it had to grow and memory ran out.
     ///
     /// ```
     /// let set = AddressSet::from_networks(vec![in rt.alloc(); "192.0.2.0/25".parse::<Ipv4Network>()?]?);
@@ -77,8 +77,8 @@ impl<'a, N: AddressSpace> Intersection<'a, N> {
 }
 
 impl<'a, N: AddressSpace> Difference<'a, N> {
-    /// The set of the blocks that are still to come. The list is put into `memory`, whose content is dropped first; an
-    /// error means that it had to grow, and that there was no memory for that.
+    /// The set of the remaining blocks. The list is put into `memory`, whose content is dropped first. `AllocError`
+    /// means that it had to grow and memory ran out.
     ///
     /// ```
     /// let set = AddressSet::from_networks(vec![in rt.alloc(); "192.0.2.0/25".parse::<Ipv4Network>()?]?);
@@ -94,8 +94,8 @@ impl<'a, N: AddressSpace> Difference<'a, N> {
 }
 
 impl<'a, N: AddressSpace> Union<'a, N> {
-    /// The set of the blocks that are still to come. The list is put into `memory`, whose content is dropped first; an
-    /// error means that it had to grow, and that there was no memory for that.
+    /// The set of the remaining blocks. The list is put into `memory`, whose content is dropped first. `AllocError`
+    /// means that it had to grow and memory ran out.
     ///
     /// ```
     /// let set = AddressSet::from_networks(vec![in rt.alloc(); "192.0.2.0/25".parse::<Ipv4Network>()?]?);

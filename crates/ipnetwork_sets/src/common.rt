@@ -9,7 +9,7 @@ use crate::order::ends_before;
 use ipnetwork_blocks::{AddressSpace, laws};
 use std::marker::Model;
 
-/// The blocks of the common part of two sets that are still to come, in ascending order.
+/// An iterator over the blocks of the common part of two sets, in ascending order.
 ///
 /// ```
 /// let set = AddressSet::from_networks(vec![in rt.alloc(); "192.0.2.0/25".parse::<Ipv4Network>()?]?);
@@ -38,7 +38,7 @@ impl<'a, N: AddressSpace> Model for Intersection<'a, N> {
 }
 
 impl<'a, N: AddressSpace> Intersection<'a, N> {
-    /// The blocks of the addresses that both sets have.
+    /// The blocks of the addresses that are in both sets.
     pub(crate) fn of(first: &'a [N], second: &'a [N]) -> Self
         requires first { IsAddressSet N.WIDTH (map N.pair first.now) }
         requires second { IsAddressSet N.WIDTH (map N.pair second.now) }

@@ -10,7 +10,7 @@ use crate::pieces::{first_free, piece_behind};
 use ipnetwork_blocks::{AddressSpace, block, laws};
 use std::marker::Model;
 
-/// The blocks of a difference of sets that are still to come, in ascending order.
+/// An iterator over the blocks of a difference of sets, in ascending order.
 ///
 /// ```
 /// let set = AddressSet::from_networks(vec![in rt.alloc(); "192.0.2.0/25".parse::<Ipv4Network>()?]?);
@@ -100,7 +100,7 @@ impl<'a, N: AddressSpace> Iterator for Difference<'a, N> {
     }
 }
 
-// The first block that is left, and the state behind it.
+// The first block that is left, and the state after it.
 fn next_left<'a, N: AddressSpace>(
     mut at_hand: Option<Part<N>>,
     mut rest: &'a [N],
@@ -152,7 +152,7 @@ fn take_part<'a, N: AddressSpace>(
     }
 }
 
-// The piece behind this one, if the whole goes on behind it.
+// The piece after this one, if the whole goes on after it.
 fn part_behind<N: AddressSpace>(whole: N, piece: N) -> Option<Part<N>>
     requires { IsPiece N.WIDTH (N.pair whole) (N.pair piece) }
     ensures { IsNextPart N.WIDTH (N.pair whole) (N.pair piece) (option_map (λ p. (N.pair p.whole, N.pair p.piece)) result) }

@@ -10,9 +10,9 @@ use ipnetwork_blocks::{AddressSpace, laws, range_to_blocks};
 use std::alloc::AllocError;
 
 impl<N: AddressSpace> AddressSet<N> {
-    /// The set of the addresses of the ranges, of each its first and its last address, in any order: they may overlap. A
-    /// range whose first address comes after its last has no addresses. The list is put into `memory`, whose content is
-    /// dropped first; an error means that it had to grow, and that there was no memory for that.
+    /// The set of the addresses of the ranges, each given by its first and its last address. They may stand in any
+    /// order and overlap. A range whose first address comes after its last has no addresses. The list is put into
+    /// `memory`, whose content is dropped first. `AllocError` means that it had to grow and memory ran out.
     ///
     /// ```
     /// let ranges = [(Ipv4Addr::new(192, 0, 2, 0), Ipv4Addr::new(192, 0, 2, 127))];
@@ -34,9 +34,9 @@ impl<N: AddressSpace> AddressSet<N> {
     }
 }
 
-/// Adds the blocks whose addresses are those from `first` to `last`, both included, to the networks: the fewest that
-/// there are, and none where `first` comes after `last`. An error means that the list had to grow, and that there was
-/// no memory for that; some of the blocks may have been added.
+/// Adds the blocks whose addresses are those from `first` to `last`, both included, to the networks: the fewest
+/// possible, and none if `first` comes after `last`. `AllocError` means that the list had to grow and memory ran out;
+/// some of the blocks may have been added.
 ///
 /// ```
 /// let mut networks = Vec::<Ipv4Network>::new(rt.alloc());

@@ -19,7 +19,7 @@ pub fn shortest()
     ensures union { UnionIsShortest }
 {}
 
-/// Two sets are equal exactly if they have the same addresses, and `==` tells it.
+/// Two sets are equal exactly if they have the same addresses, and `==` says so.
 pub fn equality()
     ensures test { SameBlocksAreEqual }
     ensures addresses { SameAddressesAreOneSet }

@@ -11,8 +11,8 @@ use ipnetwork_blocks::AddressSpace;
 use std::alloc::AllocError;
 
 impl<N: AddressSpace> AddressSet<N> {
-    /// The blocks of the addresses that both sets have, in ascending order. Goes over both lists once, as the iterator
-    /// is asked, and does not allocate.
+    /// The blocks of the addresses that are in both sets, in ascending order. Goes over both lists once, as the
+    /// iterator advances, and does not allocate.
     ///
     /// ```
     /// let set = AddressSet::from_networks(vec![in rt.alloc(); "192.0.2.0/25".parse::<Ipv4Network>()?]?);
@@ -25,8 +25,8 @@ impl<N: AddressSpace> AddressSet<N> {
         Intersection::of(self.blocks(), other.blocks())
     }
 
-    /// The blocks of the addresses that this set has and the other has not, in ascending order. Goes over both lists
-    /// once, as the iterator is asked, and does not allocate.
+    /// The blocks of the addresses that are in this set and not in the other, in ascending order. Goes over both lists
+    /// once, as the iterator advances, and does not allocate.
     ///
     /// ```
     /// let set = AddressSet::from_networks(vec![in rt.alloc(); "192.0.2.0/25".parse::<Ipv4Network>()?]?);
@@ -39,8 +39,8 @@ impl<N: AddressSpace> AddressSet<N> {
         Difference::of(self.blocks(), other.blocks())
     }
 
-    /// The blocks of the addresses that the network has and the set has not, in ascending order: what is free in the
-    /// network. Host bits change nothing. Goes over the list once, as the iterator is asked, and does not allocate.
+    /// The blocks of the addresses that are in the network and not in the set, in ascending order: what is free in the
+    /// network. Host bits are ignored. Goes over the list once, as the iterator advances, and does not allocate.
     ///
     /// Of the network of prefix length 0, these are the blocks of all addresses that are not in the set.
     ///
@@ -54,8 +54,8 @@ impl<N: AddressSpace> AddressSet<N> {
         Difference::within(network, self.blocks())
     }
 
-    /// The blocks of the addresses that one of the two has, or both, in ascending order. Goes over both lists once, as
-    /// the iterator is asked, and does not allocate.
+    /// The blocks of the addresses that are in one of the two sets or in both, in ascending order. Goes over both lists
+    /// once, as the iterator advances, and does not allocate.
     ///
     /// ```
     /// let set = AddressSet::from_networks(vec![in rt.alloc(); "192.0.2.0/25".parse::<Ipv4Network>()?]?);
@@ -68,9 +68,8 @@ impl<N: AddressSpace> AddressSet<N> {
         Union::of(self.blocks(), other.blocks())
     }
 
-    /// The set of the addresses that one of the two has, or both. Goes over both lists once. The list is put into
-    /// `memory`, whose content is dropped first; an error means that it had to grow, and that there was no memory for
-    /// that.
+    /// The set of the addresses that are in one of the two sets or in both. Goes over both lists once. The list is put
+    /// into `memory`, whose content is dropped first. `AllocError` means that it had to grow and memory ran out.
     ///
     /// ```
     /// let set = AddressSet::from_networks(vec![in rt.alloc(); "192.0.2.0/25".parse::<Ipv4Network>()?]?);
@@ -83,7 +82,7 @@ impl<N: AddressSpace> AddressSet<N> {
         self.union_blocks(other).into_set(memory)
     }
 
-    /// Whether each address of this set is in the other. Goes over both lists once at the most, and does not allocate.
+    /// Whether each address of this set is in the other. Goes over both lists at most once, and does not allocate.
     ///
     /// ```
     /// let set = AddressSet::from_networks(vec![in rt.alloc(); "192.0.2.0/25".parse::<Ipv4Network>()?]?);
@@ -97,7 +96,7 @@ impl<N: AddressSpace> AddressSet<N> {
         self.as_slice().is_subset_of(&other.as_slice())
     }
 
-    /// Whether no address is in both sets. Goes over both lists once at the most, and does not allocate.
+    /// Whether no address is in both sets. Goes over both lists at most once, and does not allocate.
     ///
     /// ```
     /// let set = AddressSet::from_networks(vec![in rt.alloc(); "192.0.2.0/25".parse::<Ipv4Network>()?]?);

@@ -26,14 +26,14 @@ pub(crate) fn begin_alike<N: AddressSpace>(first: N, second: N) -> bool
     first.ip() == second.ip()
 }
 
-/// Whether the second begins right behind the first.
+/// Whether the second begins right after the first.
 pub(crate) fn touches<N: AddressSpace>(first: N, second: N) -> bool
     ensures { IsTrue result ↔ Touches N.WIDTH (N.pair first) (N.pair second) }
 {
     begins_behind(first.broadcast(), second)
 }
 
-/// Whether the network begins right behind the address.
+/// Whether the network begins right after the address.
 fn begins_behind<N: AddressSpace>(last: N::Addr, network: N) -> bool
     ensures { IsTrue result ↔ (N.number last + 1 ≡ (N.pair network).address) }
 {
@@ -44,7 +44,7 @@ fn begins_behind<N: AddressSpace>(last: N::Addr, network: N) -> bool
     }
 }
 
-/// Whether the network begins up to the address or right behind it: no address lies between them.
+/// Whether the network begins up to the address or right after it: no address lies between them.
 pub(crate) fn goes_on<N: AddressSpace>(last: N::Addr, network: N) -> bool
     ensures { IsTrue result ↔ ((N.pair network).address ≤ N.number last + 1) }
 {

@@ -9,8 +9,8 @@ use crate::order::{begin_alike, ends_before};
 use ipnetwork_blocks::{AddressSpace, laws};
 
 /// The first piece of the whole, from this piece on, that has no address of the cut set, and what is left of that set;
-/// `None` where there is no such piece. Passes the cut blocks that end before the piece, goes on behind a piece that lies in
-/// a cut block, and to the lower half of one that has such a block in it.
+/// `None` if there is no such piece. Passes the cut blocks that end before the piece, goes on after a piece that lies
+/// in a cut block, and to the lower half of one that has such a block in it.
 pub(crate) fn first_free<'a, N: AddressSpace>(
     whole: N,
     from: N,
@@ -47,7 +47,7 @@ pub(crate) fn first_free<'a, N: AddressSpace>(
     }
 }
 
-/// The widest piece of the whole that begins right behind this one; `None` where the whole ends with it.
+/// The widest piece of the whole that begins right after this one; `None` if the whole ends with it.
 pub(crate) fn piece_behind<N: AddressSpace>(whole: N, piece: N) -> Option<N>
     requires { IsPiece N.WIDTH (N.pair whole) (N.pair piece) }
     ensures { MatchOption result (high N.WIDTH (N.pair piece) ≡ high N.WIDTH (N.pair whole))

@@ -17,8 +17,8 @@ use crate::union::Union;
 use ipnetwork_blocks::{AddressSpace, laws};
 use std::marker::Model;
 
-/// The ranges of a set that are still to come, in ascending order: of each its first and its last address. They are the
-/// longest that there are, so at least one address that is not in the set lies between two of them.
+/// An iterator over the ranges of a set, in ascending order: the first and the last address of each. The ranges are as
+/// long as possible, so between two of them lies at least one address that is not in the set.
 ///
 /// ```
 /// let set = AddressSet::from_networks(vec![in rt.alloc(); "10.0.0.0/31".parse::<Ipv4Network>()?, "10.0.0.2/32".parse()?]?);
@@ -69,7 +69,7 @@ impl<N: AddressSpace, B: SetBlocks<N>> Iterator for Ranges<N, B> {
     }
 }
 
-// The last block of the run that begins with this one, and the block behind the run.
+// The last block of the run that begins with this one, and the block after the run.
 fn last_of_run<N: AddressSpace, B: SetBlocks<N>>(first: N, blocks: &mut B) -> (N, Option<N>)
     requires { IsAddressSet N.WIDTH (N.pair first ∷ B.left blocks.old) }
     ensures ahead { IsAhead N.WIDTH (option_map N.pair result.1) (B.left blocks.new) }
@@ -89,8 +89,8 @@ fn last_of_run<N: AddressSpace, B: SetBlocks<N>>(first: N, blocks: &mut B) -> (N
 }
 
 impl<N: AddressSpace> AddressSet<N> {
-    /// The first and the last address of each range of the set, in ascending order: the fewest ranges that there are.
-    /// Goes over the blocks once, as the iterator is asked, and does not allocate.
+    /// The first and the last address of each range of the set, in ascending order: the fewest ranges possible. Goes
+    /// over the blocks once, as the iterator advances, and does not allocate.
     ///
     /// ```
     /// let set = AddressSet::from_networks(vec![in rt.alloc(); "192.0.2.0/25".parse::<Ipv4Network>()?, "192.0.2.128/25".parse()?]?);
@@ -105,8 +105,8 @@ impl<N: AddressSpace> AddressSet<N> {
 }
 
 impl<'a, N: AddressSpace> AddressSlice<'a, N> {
-    /// The first and the last address of each range of the set, in ascending order: the fewest ranges that there are.
-    /// Goes over the blocks once, as the iterator is asked, and does not allocate.
+    /// The first and the last address of each range of the set, in ascending order: the fewest ranges possible. Goes
+    /// over the blocks once, as the iterator advances, and does not allocate.
     ///
     /// ```
     /// let list: [Ipv4Network; 1] = ["192.0.2.0/24".parse()?];
@@ -121,7 +121,7 @@ impl<'a, N: AddressSpace> AddressSlice<'a, N> {
 }
 
 impl<'a, N: AddressSpace> Intersection<'a, N> {
-    /// The ranges of the blocks that are still to come. Does not allocate.
+    /// The ranges of the remaining blocks. Does not allocate.
     ///
     /// ```
     /// let set = AddressSet::from_networks(vec![in rt.alloc(); "192.0.2.0/25".parse::<Ipv4Network>()?]?);
@@ -137,7 +137,7 @@ impl<'a, N: AddressSpace> Intersection<'a, N> {
 }
 
 impl<'a, N: AddressSpace> Difference<'a, N> {
-    /// The ranges of the blocks that are still to come. Does not allocate.
+    /// The ranges of the remaining blocks. Does not allocate.
     ///
     /// ```
     /// let set = AddressSet::from_networks(vec![in rt.alloc(); "192.0.2.0/25".parse::<Ipv4Network>()?]?);
@@ -153,7 +153,7 @@ impl<'a, N: AddressSpace> Difference<'a, N> {
 }
 
 impl<'a, N: AddressSpace> Union<'a, N> {
-    /// The ranges of the blocks that are still to come. Does not allocate.
+    /// The ranges of the remaining blocks. Does not allocate.
     ///
     /// ```
     /// let set = AddressSet::from_networks(vec![in rt.alloc(); "192.0.2.0/25".parse::<Ipv4Network>()?]?);

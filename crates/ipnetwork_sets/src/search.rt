@@ -132,7 +132,7 @@ fn power(exponent: u32) -> usize
     1 << exponent
 }
 
-// 2^`exponent` if the condition holds, and 0 if not. A shift is no branch; a product could be compiled to one.
+// 2^`exponent` if the condition holds, and 0 if not. A shift is not a branch; a product could be compiled to one.
 fn power_if(holds: bool, exponent: u32) -> usize
     requires { exponent < 64 }
     ensures { result ≡ (if holds then 2 ^ exponent else 0) }

@@ -10,7 +10,7 @@ use crate::order::{ends_at, goes_on};
 use ipnetwork_blocks::{AddressSpace, RangeBlocks, laws, range_to_blocks};
 use std::marker::Model;
 
-/// The blocks of the union of two sets that are still to come, in ascending order.
+/// An iterator over the blocks of the union of two sets, in ascending order.
 ///
 /// ```
 /// let set = AddressSet::from_networks(vec![in rt.alloc(); "192.0.2.0/25".parse::<Ipv4Network>()?]?);
@@ -26,7 +26,7 @@ pub struct Union<'a, N: AddressSpace> {
 }
 
 // A contract sees an iterator as the list of the blocks still to come: those of the run at hand, and those of what both
-// sets have behind it.
+// sets have after it.
 impl<'a, N: AddressSpace> Model for Union<'a, N> {
     ghost use Rattle.std.specs.Prelude.{List, ◌++◌, map};
     ghost use Rattle.ipnetwork_family.specs.Network.{Network};
@@ -102,7 +102,7 @@ fn next_at_hand<N: AddressSpace>(run: &mut Option<RangeBlocks<N>>) -> Option<N>
 }
 
 // The first run of the union without a gap, by the block that begins with it and its last address, and what is left of
-// both sets behind it.
+// both sets after it.
 #[inline(always)]
 fn next_run<'a, N: AddressSpace>(
     first: &'a [N],

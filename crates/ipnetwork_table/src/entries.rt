@@ -7,7 +7,7 @@ use std::alloc::AllocError;
 use std::collections::btree_map::Iter;
 use std::marker::Model;
 
-/// The blocks of a table that are still to come, each with its value, in the order of networks.
+/// An iterator over the blocks of a table, each with its value, in the order of networks.
 ///
 /// ```
 /// let mut table = PrefixTable::new(rt.alloc());

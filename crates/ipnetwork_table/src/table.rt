@@ -61,7 +61,7 @@ fn key_of<N: CidrNetwork>(net: N) -> N
 }
 
 // The clause `blocks` tells a proof in another crate that each key is a network without host bits: the fields are
-// private, so what holds of them is seen by no clause that does not say it.
+// private, so a proof knows of them only what a clause says.
 impl<N: CidrNetwork, V: Copy> PrefixTable<N, V> {
     /// The empty table.
     ///
@@ -149,7 +149,7 @@ impl<N: CidrNetwork, V: Copy> PrefixTable<N, V> {
         self.values.entries()
     }
 
-    /// Takes every block out, and frees the memory.
+    /// Removes every block, and frees the memory.
     ///
     /// ```
     /// let mut table = PrefixTable::new(rt.alloc());
@@ -166,8 +166,7 @@ impl<N: CidrNetwork, V: Copy> PrefixTable<N, V> {
 
     /// Sets the value of the block of `net`, and returns the value that it had.
     ///
-    /// Allocates only for a new block. If that is out of memory, the result is an error and the table is as it was:
-    /// nothing of the block is kept.
+    /// Allocates only for a new block. If memory runs out, the result is an error and the table is unchanged.
     ///
     /// ```
     /// let mut table = PrefixTable::new(rt.alloc());
@@ -196,7 +195,7 @@ impl<N: CidrNetwork, V: Copy> PrefixTable<N, V> {
         Ok(old)
     }
 
-    /// Takes the block of `net` out, and returns the value that it had, or `None`.
+    /// Removes the block of `net`, and returns the value that it had, or `None` if it had none.
     ///
     /// ```
     /// let mut table = PrefixTable::new(rt.alloc());
@@ -313,7 +312,7 @@ impl<'a, N: CidrNetwork, V: Copy> IntoIterator for &'a PrefixTable<N, V> {
 }
 
 impl<N: CidrNetwork + Debug, V: Copy + Debug> Debug for PrefixTable<N, V> {
-    /// The blocks and their values, in order. Nothing is promised of the text.
+    /// Prints the blocks and their values, in order. The text is unspecified.
     fn fmt<W: Write>(&self, f: &mut Formatter<W>) -> fmt::Result {
         let mut out = f.debug_map();
         for (network, value) in self {

@@ -10,7 +10,7 @@ use std::alloc::{AllocError, Global};
 use std::collections::BTreeMap;
 use std::marker::Model;
 
-/// Values by network. A value can be looked up in only one way, which counts itself.
+/// Values by network. The only way to look up a value counts the look-up.
 #[derive(Drop)]
 pub(crate) struct Values<N: CidrNetwork, V: Copy> {
     tree: BTreeMap<N, V>,
@@ -44,7 +44,7 @@ impl<N: CidrNetwork, V: Copy> Values<N, V> {
         self.tree.len()
     }
 
-    /// The value of one network, at the price of one step.
+    /// The value of one network. Counts one step.
     pub(crate) fn probe(&self, steps: &mut u32, key: N) -> Option<V>
         requires { steps.old + 1 < 2 ^ 32 }
         ensures found { result ≡ map.get self.now (N.pair key) }
@@ -74,7 +74,7 @@ impl<N: CidrNetwork, V: Copy> Values<N, V> {
         Ok(self.tree.insert(key, value)?)
     }
 
-    /// Takes every network out and frees the memory.
+    /// Removes every network and frees the memory.
     pub(crate) fn clear(&mut self)
         ensures { self.new ≡ map.empty }
     {
@@ -88,7 +88,7 @@ impl<N: CidrNetwork, V: Copy> Values<N, V> {
         Entries::new(self.tree.iter())
     }
 
-    /// Takes a network out and returns the value that it had.
+    /// Removes a network and returns the value that it had.
     pub(crate) fn remove(&mut self, key: N) -> Option<V>
         ensures old { result ≡ map.get self.old (N.pair key) }
         ensures removed { self.new ≡ map.remove self.old (N.pair key) }

@@ -16,7 +16,7 @@ SameV4 ours theirs = (ours < 2 ^ 32) × IsIpv4OfBits theirs ours
 abbrev pub SameV6 : ℕ → Ipv6Addr → Type 0
 SameV6 ours theirs = (ours < 2 ^ 128) × IsIpv6OfBits theirs ours
 
--- the same of either family
+-- the same for either family
 abbrev pub SameIp : IpAddr → std.IpAddr → Type 0
 SameIp (V4 ours) (std_family.V4 theirs) = SameV4 ours theirs
 SameIp (V4 ours) (std_family.V6 theirs) = ⊥

@@ -1,11 +1,11 @@
 //! A second witness of the definitions of IP addresses.
 //!
-//! std's addresses are proved against a grammar that other hands wrote. Here the definitions of `ipnetwork_addr` are
-//! checked against it: the laws say that both name the same addresses and print the same texts, and `same_v4` and
-//! `same_v6` read a text with both readers. No other crate uses this one.
+//! std's addresses are proved against a grammar that was written independently. Here the definitions of
+//! `ipnetwork_addr` are checked against it: the laws say that both name the same addresses and print the same texts,
+//! and `same_v4` and `same_v6` read a text with both readers. No other crate uses this one.
 //!
-//! Both sides take the text of a decimal number, and what a numeral is and its value, from the same
-//! definitions of std. An error in those would pass here.
+//! Both sides take the text of a decimal number, the definition of a numeral and its value from std. An error in those
+//! would not be noticed here.
 //!
 //! Nothing here allocates.
 #![tactic(auto)]

@@ -34,7 +34,7 @@ impl<'a> Model for Buffer<'a> {
 impl<'a> Buffer<'a> {
     ghost use Rattle.line_engine.specs.Buffers.{HasRoom, Adds, IsCleared};
 
-    /// A buffer in the slice, which holds no byte yet.
+    /// An empty buffer in the slice.
     ///
     /// ```
     /// let mut slice = [0; 9];
@@ -48,7 +48,7 @@ impl<'a> Buffer<'a> {
         Buffer { slice, count: 0 }
     }
 
-    /// Whether it holds no byte.
+    /// Whether the buffer is empty.
     ///
     /// ```
     /// let mut slice = [0; 9];
@@ -63,7 +63,7 @@ impl<'a> Buffer<'a> {
         self.count == 0
     }
 
-    /// How many bytes more it can hold.
+    /// How many more bytes fit.
     ///
     /// ```
     /// let mut slice = [0; 9];
@@ -77,7 +77,7 @@ impl<'a> Buffer<'a> {
         self.slice.len() - self.count
     }
 
-    /// The bytes that it holds.
+    /// The bytes in the buffer.
     ///
     /// ```
     /// let mut slice = [0; 9];
@@ -92,7 +92,7 @@ impl<'a> Buffer<'a> {
         &self.slice[..self.count]
     }
 
-    /// Drops all bytes.
+    /// Removes all bytes.
     ///
     /// ```
     /// let mut slice = [0; 9];

@@ -19,7 +19,7 @@ pub enum RunFault {
 }
 
 impl RunFault {
-    /// The fault in words, as a program may tell it. Does not allocate.
+    /// The text of the fault, for a program to print. Does not allocate.
     ///
     /// ```
     /// let fault = line_engine::fault::RunFault::InputTooLong;

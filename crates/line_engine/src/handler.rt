@@ -1,12 +1,12 @@
-//! What answers lines.
+//! What answers the lines of a run.
 ghost use Rattle.std.specs.Prelude.{ℕ, List, Option, None, Some, ◌≤◌, length};
 ghost use Rattle.line_engine.specs.Buffers.{HasRoom, Adds};
 
 use crate::buffer::Buffer;
 
-/// Answers lines, one after the other, and may keep what they told it.
+/// Answers lines, one after the other, and may keep state from one line to the next.
 ///
-/// A reply is bytes, none or some, with the line feeds that are to be in them: nothing else is written for a line.
+/// A reply is any number of bytes, including its line feeds: nothing else is written for a line.
 ///
 /// ```
 /// use line_engine::buffer::Buffer;
@@ -45,14 +45,14 @@ pub trait LineHandler {
 
     ghost REPLY_MAX: { ℕ };
 
-    /// The most bytes of a line, its end not counted. A longer one is too long.
+    /// The most bytes of a line, not counting its line end. A longer line is too long.
     const LINE_MAX: usize;
 
     /// The most bytes of a reply.
     const REPLY_MAX: usize;
 
-    // What may be: over the state before, a line gets these bytes and leaves the state after. Where the line is too
-    // long there is none.
+    // Whether a line may, in the state before, get these bytes and leave the state after. `None` stands for a line that
+    // is too long.
     ghost may_get: { Self → Option (List ℕ) → List ℕ → Self → Type 0 };
 
     /// Adds the reply to a line, which is given without its end.

@@ -1,8 +1,9 @@
 //! Answers the lines that a reader gives on a writer, piece by piece.
 //!
-//! What a line gets is a [`handler::LineHandler`]'s to say, which may keep what earlier lines told it.
-//! [`run::answer_lines`] reads pieces, hands the handler each line in turn, gathers the replies, and writes those to
-//! the lines of a piece before it reads on. It works in slices that the caller lends, and allocates nothing.
+//! A [`handler::LineHandler`] decides what a line gets, and may keep state from one line to the next.
+//! [`run::answer_lines`] reads pieces, hands the handler each line in turn, gathers the replies, and writes those for
+//! the lines of a piece before it reads the next piece. It works in slices that the caller lends, and does not
+//! allocate.
 #![tactic(auto)]
 
 pub mod buffer;

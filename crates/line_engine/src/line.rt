@@ -1,11 +1,11 @@
-//! The line that goes on past a piece of the input.
+//! A line that continues past a piece of the input.
 ghost use Rattle.std.specs.Prelude.{◌≡◌, ◌==◌, ◌+◌, ◌≤◌, List, ℕ, [], ◌++◌, length};
 ghost use Rattle.std.specs.Str.Lines.{strip_carriage_return};
 ghost use Rattle.line_engine.specs.Answers.{asked};
 
 use crate::buffer::Buffer;
 
-/// The line that is being read: its bytes, or of one that is too long so many that this is known.
+/// The line that is being read: its bytes, or, if it is too long, enough of them to know that.
 #[derive(Drop)]
 pub(crate) struct Line<'a> {
     kept: Buffer<'a>,
@@ -14,9 +14,10 @@ pub(crate) struct Line<'a> {
 impl<'a> Line<'a> {
     ghost use Rattle.line_engine.specs.Private.Line.{Holds};
 
-    /// A line of which nothing was read yet, whose bytes are kept in this slice.
+    /// An empty line, whose bytes are kept in this slice.
     ///
-    /// A line of two bytes more than the most is too long, with its carriage return or without: so many have to fit.
+    /// A line of two bytes more than the maximum is too long, with or without its carriage return, so that many bytes
+    /// have to fit.
     pub(crate) fn new(slice: &'a mut [u8]) -> Line<'a>
         ensures { (max : ℕ) → max + 2 ≤ length slice.old → Holds max result [] }
     {
@@ -39,7 +40,7 @@ impl<'a> Line<'a> {
         self.kept.clear();
     }
 
-    /// Goes on by these bytes, and keeps as many as fit.
+    /// Adds these bytes to the line, and keeps as many as fit.
     pub(crate) fn push(&mut self, bytes: &[u8])
         ensures { (max : ℕ) (pending : List ℕ) → Holds max self.old pending → Holds max self.new (pending ++ bytes.now) }
     {
@@ -47,7 +48,7 @@ impl<'a> Line<'a> {
         self.kept.push_bytes(&bytes[..count]);
     }
 
-    /// What is asked where a line feed ends the line.
+    /// What the handler is asked if a line feed ends the line.
     pub(crate) fn at_line_feed(&self) -> &[u8]
         ensures { (max : ℕ) (pending : List ℕ) → Holds max self.now pending
             → asked max result.now ≡ asked max (strip_carriage_return pending) }
@@ -55,7 +56,7 @@ impl<'a> Line<'a> {
         without_carriage_return(self.kept.as_slice())
     }
 
-    /// What is asked where the input ends.
+    /// What the handler is asked if the input ends here.
     pub(crate) fn at_end(&self) -> &[u8]
         ensures { (max : ℕ) (pending : List ℕ) → Holds max self.now pending → asked max result.now ≡ asked max pending }
     {

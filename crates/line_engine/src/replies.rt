@@ -1,4 +1,4 @@
-//! Replies are gathered, and handed on to the writer where one more might not fit.
+//! Gathers replies, and writes them if another one might not fit.
 ghost use Rattle.std.specs.Prelude.{◌≡◌, ◌||◌, ◌≤◌, ℕ, List, [], ◌∷◌, false, is_err, length, OnOk, OnErr, IsOkUnless, IsFalse};
 ghost use Rattle.std.specs.Io.KnownBytes.{Appends};
 ghost use Rattle.line_engine.specs.Answers.{LineGets, asked};
@@ -49,7 +49,7 @@ fn reply_to<H: LineHandler>(handler: &mut H, line: &[u8], replies: &mut Buffer<'
     handler.answer(line, replies);
 }
 
-/// Hands the gathered replies on where so many bytes more might not fit.
+/// Writes the gathered replies if this many more bytes might not fit.
 fn make_room<W: Write>(
     writer: &mut Device<W>,
     replies: &mut Buffer<'_>,

@@ -9,10 +9,10 @@ use crate::watched::device::Device;
 use std::io;
 use std::io::{Read, Write};
 
-/// A reader or a writer, and whether a call of it through this has failed.
+/// A reader or a writer, and whether a call of it through this value has failed.
 ///
-/// A read, a write or a flush fails where it answers an error, of whatever kind. A write also fails where it takes no
-/// byte of some. Once a call has failed, `failed` stays true, and the device can still be asked.
+/// A read, a write or a flush fails if it returns an error, of any kind. A write also fails if it is given bytes and
+/// takes none. Once a call has failed, `failed` stays true, and the device can still be called.
 ///
 /// ```
 /// let mut room = [0; 1];
@@ -28,7 +28,7 @@ pub struct Watched<D> {
 impl<D> Watched<D> {
     ghost use Rattle.line_engine.specs.Watched.{device_of, has_failed};
 
-    /// Takes a device, no call of which has failed yet. Does not allocate.
+    /// Wraps a device, no call of which has failed yet. Does not allocate.
     ///
     /// ```
     /// let reader = line_engine::watched::Watched::new(b"10.0.0.0/8".as_slice());
@@ -56,7 +56,7 @@ impl<D> Watched<D> {
         self.device.failed()
     }
 
-    /// Gives the device back.
+    /// Returns the device.
     ///
     /// ```
     /// let mut writer = line_engine::watched::Watched::new(Vec::new(rt.alloc()));
@@ -73,9 +73,9 @@ impl<D> Watched<D> {
 impl<D: Read> Watched<D> {
     ghost use Rattle.line_engine.specs.Watched.{device_of, has_failed};
 
-    /// Asks the device for bytes, once, and returns its answer.
+    /// Reads from the device, in one call, and returns its result.
     ///
-    /// Answers how many bytes it put at the front of `buf`, and 0 only at the end of the input or where `buf` is
+    /// `Ok` has the number of bytes put at the front of `buf`, which is 0 only at the end of the input or if `buf` is
     /// empty. The error is the device's. Does not allocate, unless the device does.
     ///
     /// ```
@@ -96,10 +96,10 @@ impl<D: Read> Watched<D> {
 impl<D: Write> Watched<D> {
     ghost use Rattle.line_engine.specs.Watched.{device_of, has_failed, write_fails};
 
-    /// Offers the device these bytes, once, and returns its answer.
+    /// Writes these bytes to the device, in one call, and returns its result.
     ///
-    /// Answers how many of the first bytes the device took. The error is the device's. Does not allocate, unless the
-    /// device does.
+    /// `Ok` has the number of first bytes that the device took. The error is the device's. Does not allocate, unless
+    /// the device does.
     ///
     /// ```
     /// let mut room = [0; 2];
@@ -114,8 +114,8 @@ impl<D: Write> Watched<D> {
         self.device.try_write(buf)
     }
 
-    /// Asks the device to pass on what it took, once, and returns its answer. The error is the device's. Does not
-    /// allocate, unless the device does.
+    /// Flushes the device, in one call, and returns its result. The error is the device's. Does not allocate, unless
+    /// the device does.
     ///
     /// ```
     /// let mut writer = line_engine::watched::Watched::new(std::io::sink());

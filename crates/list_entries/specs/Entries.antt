@@ -16,7 +16,7 @@ use Rattle.list_entries.specs.declared.entry.EntryFault.TheVariants as faults
 abbrev pub is_dash : ℕ → Bool
 is_dash byte = byte == 45
 
--- the text holds a `-`
+-- the text contains a `-`
 abbrev pub HasDash : List ℕ → Type 0
 HasDash text = position_or_len is_dash text < length text
 
@@ -44,11 +44,11 @@ NamesEntry text (entries.Range first last) = HasDash text × NamesBoth text firs
 
 -- why a text names no entry
 abbrev pub IsEntryCause : List ℕ → EntryFault → Type 0
--- it holds two or more `/`
+-- it contains two or more `/`
 IsEntryCause text faults.Format = ¬ (HasDash text) × IsIpCause text causes.Format
--- else what stands before the `/` is an address of neither family; or an end of a range is none
+-- else what stands before the `/` is an address of neither family; or an end of a range is not an address
 IsEntryCause text faults.Address = (¬ (HasDash text) × IsIpCause text causes.Addr) ⊎ (HasDash text × ((first last : IpAddr) → ¬ (NamesBoth text first last)))
--- else what stands after the `/` is no suffix of that address's family
+-- else what stands after the `/` is not a suffix of that address's family
 IsEntryCause text faults.Prefix = ¬ (HasDash text) × IsIpCause text causes.Prefix
 -- both ends are addresses, of two families, or the last before the first
 IsEntryCause text faults.Range = HasDash text × ((first : IpAddr) × (last : IpAddr) × NamesBoth text first last × ¬ (IsRange first last))

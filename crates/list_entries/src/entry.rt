@@ -17,7 +17,7 @@ use ipnetwork_addr::laws;
 /// ```
 #[derive(Clone, Copy, Debug, PartialEq, Eq)]
 pub enum Entry {
-    /// A network, host bits as given. Its addresses are those of its set.
+    /// A network, host bits kept. Its addresses are those of its set.
     Network(IpNetwork),
     /// The addresses from `first` to `last`, both included, of one family. `first` is not after `last`.
     Range {
@@ -38,20 +38,21 @@ pub enum Entry {
 pub enum EntryFault {
     /// A network text with two or more `/`.
     Format,
-    /// What stands before a `/`, or the whole entry if it has none, is no address, or an end of a range is none.
+    /// What stands before a `/`, or the whole entry if it has none, is not an address, or an end of a range is not an
+    /// address.
     Address,
-    /// What stands after a `/` is no suffix of that address's family.
+    /// What stands after a `/` is not a suffix of that address's family.
     Prefix,
     /// The ends of a range are of two families, or its last address is before its first.
     Range,
 }
 
-/// What a line says, without its line end: `None` if it is empty but for blanks and a comment.
+/// What a line says, which is given without its line end: `None` if there is nothing but blanks and a comment.
 ///
-/// An entry is what stands before the first `#` or `;`, without the blanks (spaces and tabs) around it. If it holds a
-/// `-` it is a range: what stands before the first `-` and what stands after it, without the blanks around each, are
-/// its first and its last address. Any other entry is a network text, as `IpNetwork::read_bytes` reads it. Every
-/// other byte belongs to the entry.
+/// An entry is what stands before the first `#` or `;`, without the blanks (spaces and tabs) around it. If it contains
+/// a `-`, it is a range: what stands before the first `-` and what stands after it, without the blanks around each, are
+/// its first and its last address. Any other entry is a network text, as `IpNetwork::read_bytes` reads it. Every other
+/// byte belongs to the entry.
 ///
 /// ```
 /// let (first, last) = ("10.0.0.1".parse()?, "10.0.0.9".parse()?);
@@ -61,7 +62,7 @@ pub enum EntryFault {
 pub fn read_entry(line: &[u8]) -> Result<Option<Entry>, EntryFault>
     ensures { ReadsEntry line.now result }
 {
-    // Does nothing. The proof needs the law: a network text holds no mark of a comment, no blank and no `-`.
+    // Does nothing. The proof needs the law: a network text contains no mark of a comment, no blank and no `-`.
     network_texts_are_entries();
     if let Ok(network) = IpNetwork::read_bytes(line) {
         return Ok(Some(Entry::Network(network)));

@@ -12,7 +12,7 @@ pub fn line_says_one_thing()
     addresses::ip_text_names_one();
 }
 
-/// A line that is the text of a network, and nothing else, names that network: no text of a network holds a `-`, a
+/// A line that is the text of a network, and nothing else, names that network: no text of a network contains a `-`, a
 /// blank or a mark of a comment.
 pub fn network_texts_are_entries()
     ensures { NetworkTextsAreEntries }

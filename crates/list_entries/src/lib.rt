@@ -1,6 +1,6 @@
 //! The entries of lists of networks: what one line of such a list means.
 //!
-//! A line holds a network, a range of addresses, or nothing. A comment begins with `#` or `;`. Nothing here allocates.
+//! A line is a network, a range of addresses, or empty. A comment begins with `#` or `;`. Nothing here allocates.
 #![tactic(auto)]
 
 mod comment;

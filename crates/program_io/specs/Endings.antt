@@ -7,23 +7,23 @@ use Rattle.program_io.specs.Messages.{Tells}
 use Rattle.program_io.specs.declared.arguments.ArgumentsFault.{ArgumentsFault}
 use Rattle.program_io.specs.declared.arguments.ArgumentsFault.TheVariants.{NotText, OutOfMemory}
 
--- the exit status of a program whose output was written or not: 2 if not
+-- the exit status of a program: this one if its output was written, and 2 if not
 abbrev pub status_of : {T E : Type 0} → Result T E → ℕ → ℕ
 status_of written status = if is_err written then 2 else status
 
--- what is told if a write failed, and else nothing
+-- what is reported if a write failed, and else nothing
 abbrev pub failure_text : Bool → List ℕ
 failure_text failed = if failed then codes "write error\n" else []
 
--- what is told of that output
+-- what is reported about that output
 abbrev pub end_text : {T E : Type 0} → Result T E → List ℕ
 end_text written = failure_text (is_err written)
 
--- what is told if there are no arguments
+-- what is reported if the arguments cannot be read
 abbrev pub arguments_text : ArgumentsFault → List ℕ → List ℕ
 -- how the program is used
 arguments_text NotText usage = usage
--- that there is no memory for them
+-- that memory ran out
 arguments_text OutOfMemory usage = codes "out of memory\n"
 
 -- the writer and the error writer of a run, before it and after it, what each says that it holds, and the exit status
@@ -40,7 +40,7 @@ pub record Ending (W E : Type 0) : Type 0 where
 abbrev pub IsSilent : {W E : Type 0} → Ending W E → Type 0
 IsSilent end = (end.output_after ≡ end.output) × (end.status ≡ 2)
 
--- the text was told
+-- the text was reported on the error writer
 abbrev pub HasTold : {W E : Type 0} → Ending W E → List ℕ → Type 0
 HasTold end text = Tells end.tells end.errors end.errors_after text
 
@@ -48,7 +48,7 @@ HasTold end text = Tells end.tells end.errors end.errors_after text
 abbrev pub HasWritten : {W E : Type 0} → Ending W E → List ℕ → Type 0
 HasWritten end text = Appends (end.holds (writer_of end.output)) (end.holds (writer_of end.output_after)) (waits_in end.output ++ text)
 
--- the text was written and nothing told, or the writer failed, and that was told
+-- the text was written and nothing reported, or the writer failed, and that was reported
 abbrev pub EndsPrinting : {W E : Type 0} → List ℕ → Ending W E → Type 0
 EndsPrinting text end = (end.status ≡ (if output_failed end.output_after then 2 else 0)) × (end.status ≡ 0 → HasWritten end text)
     × HasTold end (failure_text (output_failed end.output_after))

@@ -7,12 +7,12 @@ use Rattle.program_io.specs.Lists.{KnownLists}
 use Rattle.program_io.specs.declared.reading.ReadFault.{ReadFault}
 use Rattle.program_io.specs.declared.reading.ReadFault.TheVariants.{Open, Read, OutOfMemory}
 
--- the list of this name was opened, and its lines are taken, if it is known what it has. Refused lines name it by the
--- number
+-- the list of this name was opened, and, if its bytes are known, its lines are taken. Refused lines name the list by
+-- the number
 abbrev pub ReadsList : KnownLists → ℕ → List ℕ → ReadLists → ReadLists → Type 0
 ReadsList known number name before after = known.may_open name true × ((input : List ℕ) → known.bytes_of name ≡ Some input → TakesLines (at_list before number) (lines input) after)
 
--- it was opened, and some first lines of it are taken, if it is known what it has
+-- it was opened, and, if its bytes are known, some first lines of it are taken
 abbrev pub ReadsFirst : KnownLists → ℕ → List ℕ → ReadLists → ReadLists → Type 0
 ReadsFirst known number name before after = known.may_open name true × ((input : List ℕ) → known.bytes_of name ≡ Some input
     → (first : List (List ℕ)) × (others : List (List ℕ)) × (lines input ≡ first ++ others) × TakesLines (at_list before number) first after)
@@ -28,13 +28,13 @@ StopsAt known number name before (Open place) refused = (place ≡ number) × kn
 -- it cannot be read to its end, but some first lines are taken
 StopsAt known number name before (Read place) refused = (place ≡ number) × FailsReading known name
     × (after : ReadLists) × ReadsFirst known number name before after × (after.is_out_of_memory ≡ false) × (refused ≡ after.refused)
--- there is no memory for an entry of it
+-- memory runs out for an entry of it
 StopsAt known number name before OutOfMemory refused = (after : ReadLists) × ReadsFirst known number name before after × (after.is_out_of_memory ≡ true) × (refused ≡ after.refused)
 
--- of a text it is known what it has, and it is no list that is not opened
+-- what is known of a text that is read as a list: its bytes, and that opening it does not fail
 abbrev pub text_known : List ℕ → KnownLists
 text_known text = record { bytes_of = λ _. Some text; may_open = λ _ opened. opened ≡ true; may_fail = λ _. Unit {0} }
 
--- the reading of the text, to which refused lines are told by the number, stops as that of a list that has it
+-- the reading of the text, which refused lines name by the number, stops like that of a list with the same bytes
 abbrev pub StopsAtText : ℕ → List ℕ → ReadLists → ReadFault → Refused → Type 0
 StopsAtText number text before fault refused = StopsAt (text_known text) number text before fault refused

@@ -4,7 +4,7 @@ use std::env;
 use std::io::ErrorKind;
 use std::rt::Env;
 
-/// Why there are no arguments to read.
+/// Why the arguments cannot be read.
 ///
 /// ```
 /// let fault = program_io::arguments::ArgumentsFault::NotText;
@@ -12,13 +12,13 @@ use std::rt::Env;
 /// ```
 #[derive(Clone, Copy, Debug, PartialEq, Eq)]
 pub enum ArgumentsFault {
-    /// One is no UTF-8.
+    /// An argument is not UTF-8.
     NotText,
-    /// There is no memory for them.
+    /// Out of memory.
     OutOfMemory,
 }
 
-/// The words after the program's name, in their order. Each is a `String` of its own, in memory of the program's
+/// The arguments after the program's name, in order. Each is a `String` of its own, in memory of the program's
 /// allocator.
 ///
 /// ```

@@ -1,4 +1,4 @@
-//! How a program ends: its exit status, and what it tells of that.
+//! How a program ends: its exit status, and what it reports on the error writer.
 ghost use Rattle.std.specs.Prelude.{◌≡◌, ◌++◌, if◌then◌else◌, OnOk, is_err};
 ghost use Rattle.std.specs.Io.KnownBytes.{Appends};
 ghost use Rattle.line_engine.specs.Outputs.{writer_of, waits_in, output_failed};
@@ -11,14 +11,14 @@ use line_engine::fault::RunFault;
 use line_engine::output::Output;
 use std::io::Write;
 
-/// The exit status of a program that does not come to its end.
+/// The exit status of a program that could not do what it was asked.
 ///
 /// ```
 /// assert_eq!(rt; program_io::ending::FAILED, 2);
 /// ```
 pub const FAILED: u8 = 2;
 
-/// Returns this exit status if the output was written, and else tells `write error` and returns 2.
+/// Returns `status` if the output was written; otherwise reports `write error` and returns 2.
 ///
 /// ```
 /// let mut slice = [0; 64];
@@ -38,7 +38,7 @@ pub fn end<E: Write>(written: Result<(), RunFault>, status: u8, errors: &mut Out
     status
 }
 
-/// Writes a text and what waits before it, and returns the exit status: 0, or 2 if it was not written, which is told as
+/// Writes what waits and then a text, and returns the exit status: 0, or 2 if a write failed, which is reported as
 /// `write error`.
 ///
 /// ```
@@ -60,7 +60,7 @@ pub fn print_text<W: Write, E: Write>(
     end(written, 0, errors)
 }
 
-// Writes a text and what waits before it.
+// Writes what waits and then a text.
 fn write_text<W: Write>(text: &str, output: &mut Output<'_, W>) -> Result<(), RunFault>
     ensures written { OnOk result (Appends (W.contents (writer_of output.old)) (W.contents (writer_of output.new)) (waits_in output.old ++ text.now)) }
     ensures failed { output_failed output.new ≡ is_err result }
@@ -69,7 +69,7 @@ fn write_text<W: Write>(text: &str, output: &mut Output<'_, W>) -> Result<(), Ru
     output.finish()
 }
 
-/// Tells how the program is used, and returns the exit status of that, 2.
+/// Reports how the program is used, and returns the exit status 2.
 ///
 /// ```
 /// let mut slice = [0; 64];
@@ -84,7 +84,7 @@ pub fn refuse_usage<E: Write>(usage: &str, errors: &mut Output<'_, E>) -> u8
     FAILED
 }
 
-/// Tells why there are no arguments, and returns the exit status of that, 2.
+/// Reports why the arguments cannot be read, and returns the exit status 2.
 ///
 /// ```
 /// let mut slice = [0; 64];

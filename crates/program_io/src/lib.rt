@@ -1,4 +1,4 @@
-//! What programs that read lists share: their arguments, the files they open, and what they tell on standard error.
+//! What programs that read lists share: their arguments, the files they open, and what they report on standard error.
 #![tactic(auto)]
 
 pub mod arguments;

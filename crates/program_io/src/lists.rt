@@ -20,13 +20,13 @@ pub trait OpenLists {
     /// A list that was opened.
     type List: Read + Drop;
 
-    // The bytes of the list of a name, where it is known what it has.
+    // The bytes of the list of a name, if they are known.
     ghost bytes_of: { Self → Bytes ℕ → Option (Bytes ℕ) } = { λ _ _. None };
 
-    // What may be: the list of a name is opened, or it is not.
+    // Whether opening the list of a name may succeed, and whether it may fail.
     ghost may_open: { Self → Bytes ℕ → Bool → Type 0 } = { λ _ _ _. Unit {0} };
 
-    // What may be: a read of the list of a name fails.
+    // Whether a read of the list of a name may fail.
     ghost may_fail: { Self → Bytes ℕ → Type 0 } = { λ _ _. Unit {0} };
 
     /// Opens the list of this name. The error is the system's.
@@ -42,7 +42,7 @@ pub trait OpenLists {
         ensures bytes { IfOk result (λ list. (bytes : Bytes ℕ) → bytes_of self.now name.now ≡ Some bytes → Self.List.remaining list ≡ Some bytes) }
         ensures opened { may_open self.now name.now (is_ok result) };
 
-    /// Closes the list of this name. That a read of it failed is known from here on.
+    /// Closes the list of this name. The contract records whether a read of it failed.
     ///
     /// ```
     /// use line_engine::watched::Watched;

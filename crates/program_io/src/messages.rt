@@ -1,4 +1,4 @@
-//! What is told on standard error. That a write of it fails changes nothing else.
+//! Messages on the error writer. If a write of one fails, nothing else changes.
 ghost use Rattle.std.specs.Prelude.{◌≡◌, decimal};
 ghost use Rattle.program_io.specs.Messages.{Tells};
 
@@ -7,7 +7,7 @@ use ipnetwork_addr::decimal::push_number;
 use line_engine::output::Output;
 use std::io::Write;
 
-/// Tells a text. If the writer fails, now or earlier, the text is not told, and nothing else comes of it.
+/// Writes a text to the error writer. If that fails, now or earlier, the text is lost, and nothing else happens.
 ///
 /// ```
 /// let mut slice = [0; 64];
@@ -21,7 +21,7 @@ pub fn tell<E: Write>(text: &str, errors: &mut Output<'_, E>)
     let _ = errors.put(text.as_bytes());
 }
 
-/// Tells a number in decimal.
+/// Writes a number in decimal to the error writer.
 ///
 /// ```
 /// let mut slice = [0; 64];

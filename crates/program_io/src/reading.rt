@@ -1,4 +1,4 @@
-//! A list is read by its name.
+//! Reads a list by its name.
 ghost use Rattle.std.specs.Prelude.{◌≡◌, false, OnOk, IfErr};
 ghost use Rattle.std.specs.Str.Lines.{lines};
 ghost use Rattle.address_lists.specs.Lists.{at_list, TakesLines};
@@ -12,7 +12,7 @@ use address_lists::{ListReader, read_list};
 use line_engine::fault::RunFault;
 use line_engine::watched::Watched;
 
-/// Why lists were not read to their ends.
+/// Why lists were not read to the end.
 ///
 /// ```
 /// let fault = program_io::reading::ReadFault::Open(1);
@@ -20,17 +20,17 @@ use line_engine::watched::Watched;
 /// ```
 #[derive(Clone, Copy, Debug, PartialEq, Eq)]
 pub enum ReadFault {
-    /// The list that the word at this place names cannot be opened.
+    /// The list that is named by the word at this index cannot be opened.
     Open(usize),
-    /// The list that the word at this place names cannot be read.
+    /// The list that is named by the word at this index cannot be read.
     Read(usize),
-    /// There is no memory for what the lists name.
+    /// Out of memory for what the lists name.
     OutOfMemory,
 }
 
-/// Opens the list of this name, which is the word at this place, reads it to its end, and closes it.
+/// Opens the list of this name, which is the word at the index `place`, reads it to the end, and closes it.
 ///
-/// The refused lines are added to those of before, also if the reading ends with a fault.
+/// The refused lines are added to the earlier ones, even if the reading ends with a fault.
 ///
 /// ```
 /// use program_io::reading::{ReadFault, read_named};
@@ -58,7 +58,7 @@ pub fn read_named<L: OpenLists>(
     end_of(read, place, reader.is_out_of_memory())
 }
 
-/// Reads a text, which is the word at this place, as a list to its end.
+/// Reads a text, which is the word at the index `place`, as a list to its end.
 ///
 /// ```
 /// let mut reader = address_lists::ListReader::new(rt.alloc(), address_lists::Refusals::new());
@@ -76,7 +76,7 @@ pub fn read_text(text: &str, place: usize, reader: &mut ListReader) -> Result<()
     end_of(end, place, reader.is_out_of_memory())
 }
 
-// How the reading of the list at a place ends, by how its lines were taken, and whether there was no memory for one.
+// How the reading of the list at a place ends, by how its lines were taken, and whether memory ran out.
 fn end_of(read: Result<(), RunFault>, place: usize, is_out_of_memory: bool) -> Result<(), ReadFault>
     ensures { result ≡ end_of read place is_out_of_memory }
 {

@@ -1,4 +1,4 @@
-//! What is told of lists on the error writer. That a write of it fails changes nothing.
+//! Messages about lists on the error writer. If a write of one fails, nothing else changes.
 ghost use Rattle.program_io.specs.Messages.{Tells};
 ghost use Rattle.program_io.specs.Told.{name_at, more_text, fault_text};
 
@@ -7,7 +7,7 @@ use crate::reading::ReadFault;
 use line_engine::output::Output;
 use std::io::Write;
 
-/// Tells the word at a place.
+/// Writes the word at an index to the error writer, and nothing if there is no such word.
 ///
 /// ```
 /// let mut slice = [0; 64];
@@ -23,7 +23,7 @@ pub fn tell_name<E: Write>(words: &[String], place: usize, errors: &mut Output<'
     }
 }
 
-/// Tells how many more lines were refused, if any were.
+/// Reports how many more lines were refused, if any were.
 ///
 /// ```
 /// let mut slice = [0; 64];
@@ -40,7 +40,7 @@ pub fn tell_more<E: Write>(more: u64, errors: &mut Output<'_, E>)
     }
 }
 
-/// Tells why lists were not read to their ends.
+/// Reports why lists were not read to the end.
 ///
 /// ```
 /// let mut slice = [0; 64];

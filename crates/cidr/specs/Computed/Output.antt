@@ -11,7 +11,7 @@ use Rattle.cidr.specs.Output.{added, dropped, replies}
 use Rattle.cidr.specs.Requests.{Request, Add, Drop, Find, Plain, request_of}
 use Rattle.cidr.specs.Routes.{Routes, no_routes, number_at, with_number, without}
 
--- what is told of the longest of the entries whose block holds the address
+-- the answer about the longest of the entries whose block holds the address
 abbrev pub find_answer : Routes → IpAddr → List ℕ
 find_answer routes (V4 address) = found_text (of_family networks.V4 (longest_of 32 address (entries routes.v4)))
 find_answer routes (V6 address) = found_text (of_family networks.V6 (longest_of 128 address (entries routes.v6)))

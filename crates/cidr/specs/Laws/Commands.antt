@@ -32,11 +32,11 @@ IsAnswered line text = (before after : Routes) (answer : List ℕ) → MayGet be
 -- the canonical text of the network that T names in the family; if it names none, the first cause that is so
 pub record AnswersRead (w : ℕ) (NamesAddress IsSuffix : List ℕ → ℕ → Type 0) (canonical : ℕ → List ℕ) (line text : List ℕ) : Type 0 where
   pub network : (n : Network) → NamesNetwork w NamesAddress IsSuffix text n → IsAnswered line (network_text canonical n)
-  -- T holds two or more `/`
+  -- T contains two or more `/`
   pub format : HasSeveralSlashes text → IsAnswered line (codes "refused format")
-  -- else what stands before the `/` is no address
+  -- else what stands before the `/` is not an address
   pub address : slashes text ≤ 1 → ((a : ℕ) → ¬ (NamesAddress (before_slash text) a)) → IsAnswered line (codes "refused address")
-  -- else, since T names nothing, what stands after it is no suffix
+  -- else, since T names nothing, what stands after it is not a suffix
   pub prefix : slashes text ≤ 1 → (a : ℕ) → NamesAddress (before_slash text) a → ((n : Network) → ¬ (NamesNetwork w NamesAddress IsSuffix text n))
       → IsAnswered line (codes "refused prefix")
 
@@ -48,7 +48,7 @@ Read6Law = (line text : List ℕ) → HasWords line (codes "read6" ∷ text ∷ 
 
 -- ---- `read T` and `ends T`
 
--- what is told of the network that T names, of either family; `refused` if it names none
+-- the answer about the network that T names, of either family; `refused` if it names none
 pub record AnswersNetwork (IsTold : IpNetwork → List ℕ → Type 0) (line text : List ℕ) : Type 0 where
   pub network : (n : IpNetwork) → IsIpNetwork n → NamesIpNetwork text n → (told : List ℕ) × IsTold n told × IsAnswered line told
   pub none : ((n : IpNetwork) → ¬ (NamesIpNetwork text n)) → IsAnswered line (codes "refused")
@@ -68,7 +68,7 @@ pub record TellsEnds (n : IpNetwork) (told : List ℕ) : Type 0 where
   pub is_greatest : IpMember n greatest × ((x : IpAddr) → IpMember n x → IsAddrAtMost x greatest)
   pub is_mask : IsIpMask mask (prefix_of n) × (width_of mask ≡ width_of (address_of n))
   pub is_number : prefix_of n ≢ 0 → length (ip_members n) ≡ number
-  -- at prefix length 0 one less is told
+  -- at prefix length 0 it is one less
   pub is_one_less : prefix_of n ≡ 0 → length (ip_members n) ≡ number + 1
 
 abbrev pub EndsLaw : Type 0
@@ -76,7 +76,7 @@ EndsLaw = (line text : List ℕ) → HasWords line (codes "ends" ∷ text ∷ []
 
 -- ---- `has4 T A` and `has T A`
 
--- whether the set of the network that T names has the address that A names; T is judged first
+-- whether the set of the network that T names has the address that A names; T is checked first
 pub record AnswersMembership {N A : Type 0} (Names : List ℕ → N → Type 0) (NamesAddress : List ℕ → A → Type 0) (Holds : N → A → Type 0) (line text word : List ℕ) : Type 0 where
   pub yes : (n : N) (a : A) → Names text n → NamesAddress word a → Holds n a → IsAnswered line (codes "yes")
   pub no : (n : N) (a : A) → Names text n → NamesAddress word a → ¬ (Holds n a) → IsAnswered line (codes "no")
@@ -127,14 +127,14 @@ FindLaw = (line word : List ℕ) → HasWords line (codes "find" ∷ word ∷ []
 
 -- ---- all other lines
 
--- the names of the commands that are asked of one word, and of two
+-- the names of the commands that take one word, and of those that take two
 abbrev pub names_before_one : List (List ℕ)
 names_before_one = codes "read" ∷ codes "read4" ∷ codes "read6" ∷ codes "ends" ∷ codes "drop" ∷ codes "find" ∷ []
 
 abbrev pub names_before_two : List (List ℕ)
 names_before_two = codes "has" ∷ codes "has4" ∷ codes "rel" ∷ codes "add" ∷ []
 
--- the words are a command's name and as many words as it is asked of
+-- the words are a command's name and as many words as it takes
 abbrev pub IsCommand : List (List ℕ) → Type 0
 IsCommand (name ∷ word ∷ []) = Contains names_before_one name
 IsCommand (name ∷ first ∷ second ∷ []) = Contains names_before_two name

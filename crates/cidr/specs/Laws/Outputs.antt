@@ -37,7 +37,7 @@ UnrefusedLinesAreComputed = (input output : List ℕ) → IsOutput input output 
 
 -- ---- the commands that ask nothing of the routes
 
--- the line's first word is none of `add`, `drop` and `find`
+-- the line's first word is not `add`, `drop` or `find`
 pub record IsPlainLine (line : List ℕ) : Type 0 where
   pub command : List ℕ
   pub others : List (List ℕ)

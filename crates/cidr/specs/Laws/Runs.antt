@@ -25,8 +25,8 @@ AfterWriteFault = (limit : ℕ) (read rest held holds : List ℕ)
     → Ran limit (Some (read ++ rest)) (Some rest) (Some held) (Some holds) (Err Write)
     → (length read ≤ limit) × (written : List ℕ) × BeginsOutput read written × (holds ≡ held ++ written)
 
--- if the input is too long, more than the limit was read, and exactly the lines were answered that its first
--- bytes complete, so many of them, and no more than the limit
+-- if the input is too long, more than the limit was read, and exactly the lines were answered that some first bytes of
+-- it complete, at most as many as the limit
 abbrev pub AfterTooLong : Type 0
 AfterTooLong = (limit : ℕ) (read rest held holds : List ℕ)
     → Ran limit (Some (read ++ rest)) (Some rest) (Some held) (Some holds) (Err InputTooLong)

@@ -10,13 +10,13 @@ use Rattle.ipnetwork.specs.IpNetworkText.{NamesIpNetwork}
 use Rattle.ipnetwork.specs.declared.ip_network.IpNetwork.{IpNetwork}
 use Rattle.cidr.specs.Commands.{has4_answer, has_answer, rel_answer}
 
--- of texts that name a network and an address, `has4` answers `yes` exactly if the address is a member of the
--- network's set, and `no` exactly if it is none
+-- of texts that name a network and an address, `has4` answers `yes` exactly if the address is a member of the network's
+-- set, and `no` exactly if it is not
 abbrev pub Has4AnswersMembership : Type 0
 Has4AnswersMembership = (text word : List ℕ) (n : Network) (a : ℕ) → NamesV4Network text n → NamesV4 word a
     → ((has4_answer text word ≡ codes "yes") ↔ Member 32 n a) × ((has4_answer text word ≡ codes "no") ↔ ¬ (Member 32 n a))
 
--- the same of `has`, over both families
+-- the same for `has`, over both families
 abbrev pub HasAnswersMembership : Type 0
 HasAnswersMembership = (text word : List ℕ) (n : IpNetwork) (a : IpAddr) → NamesIpNetwork text n → NamesIp word a
     → ((has_answer text word ≡ codes "yes") ↔ IpMember n a) × ((has_answer text word ≡ codes "no") ↔ ¬ (IpMember n a))

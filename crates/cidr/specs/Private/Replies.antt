@@ -1,4 +1,4 @@
--- What a clause reads of the replies that wait.
+-- What contracts see of the replies that wait.
 use Rattle.std.specs.Prelude.{◌≡◌, ℕ, List, Option, None, Some}
 use Rattle.line_engine.specs.Buffers as engine
 use Rattle.line_engine.specs.Buffers.{Filled}

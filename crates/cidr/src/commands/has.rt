@@ -1,4 +1,4 @@
-//! `has` and `has4`: whether a network holds an address.
+//! `has` and `has4`: whether a network contains an address.
 ghost use Rattle.cidr.specs.Commands.{has_answer, has4_answer};
 ghost use Rattle.cidr.specs.Private.Replies.{HasRoom, Adds};
 
@@ -6,17 +6,17 @@ use crate::replies::reply;
 use ipnetwork::{IpAddr, IpNetwork, Ipv4Addr, Ipv4Network, laws};
 use line_engine::buffer::Buffer;
 
-/// The answers where a text names no network, or no address.
+/// The answers if a text names no network, or no address.
 const NO_NETWORK: &str = "refused network";
 
 const NO_ADDRESS: &str = "refused address";
 
-/// The answers where the network holds the address, and where it does not.
+/// The answers if the network contains the address, and if it does not.
 const YES: &str = "yes";
 
 const NO: &str = "no";
 
-/// `has`: whether a network holds an address, each of either family.
+/// `has`: whether a network contains an address, each of either family.
 pub(crate) fn has(network: &[u8], address: &[u8], replies: &mut Buffer<'_>)
     requires { HasRoom replies.old }
     ensures { Adds replies.old replies.new (has_answer network.now address.now) }
@@ -40,7 +40,7 @@ pub(crate) fn has(network: &[u8], address: &[u8], replies: &mut Buffer<'_>)
     }
 }
 
-/// `has4`: whether an IPv4 network holds an IPv4 address.
+/// `has4`: whether an IPv4 network contains an IPv4 address.
 pub(crate) fn has4(network: &[u8], address: &[u8], replies: &mut Buffer<'_>)
     requires { HasRoom replies.old }
     ensures { Adds replies.old replies.new (has4_answer network.now address.now) }

@@ -16,7 +16,7 @@ use ipnetwork::parse::read_number;
 use ipnetwork::{IpAddr, IpNetwork, laws};
 use line_engine::buffer::Buffer;
 
-/// The answer where no block holds an address.
+/// The answer if no block holds the address.
 const NONE: &str = "none";
 
 // The calls of these three commands stay calls: in place they would make the code around them, which every other
@@ -43,7 +43,7 @@ pub(crate) fn add(network: &[u8], number: &[u8], routes: &mut RouteTables, repli
     reply(replies, insert(network, number, routes));
 }
 
-/// Gives the block of a network a number, and answers whether it had one.
+/// Gives the block of a network a number, and returns the answer: whether it had one.
 fn insert(network: IpNetwork, number: u32, routes: &mut RouteTables) -> &'static str
     ensures text { MayGet (routes_of routes.old) (Add network number) result.now (routes_of routes.new) }
     ensures short { length result.now ≤ 15 }
@@ -55,7 +55,7 @@ fn insert(network: IpNetwork, number: u32, routes: &mut RouteTables) -> &'static
     }
 }
 
-/// `drop`: takes the block of a network out.
+/// `drop`: removes the block of a network.
 #[inline(never)]
 pub(crate) fn drop(network: &[u8], routes: &mut RouteTables, replies: &mut Buffer<'_>)
     requires { HasRoom replies.old }
@@ -70,7 +70,7 @@ pub(crate) fn drop(network: &[u8], routes: &mut RouteTables, replies: &mut Buffe
     reply(replies, remove(network, routes));
 }
 
-/// Takes the block of a network out, and answers whether it had a number.
+/// Removes the block of a network, and returns the answer: whether it had a number.
 fn remove(network: IpNetwork, routes: &mut RouteTables) -> &'static str
     ensures text { MayGet (routes_of routes.old) (Drop network) result.now (routes_of routes.new) }
     ensures short { length result.now ≤ 15 }

@@ -1,4 +1,4 @@
-//! The laws of commands: what a line of each gets, and that there is no further command.
+//! The laws of commands: what a line of each gets, and that there are no other commands.
 ghost use Rattle.cidr.specs.Laws.Commands.{Read4Law, Read6Law, ReadLaw, EndsLaw, Has4Law, HasLaw, RelLaw, AddLaw, DropLaw, FindLaw, UnknownLaw, LongLaw};
 
 use crate::laws::sets::rel_answers_sets;

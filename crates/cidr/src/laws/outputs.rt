@@ -3,8 +3,8 @@ ghost use Rattle.cidr.specs.Laws.Outputs.{FullIsComputed, ComputedIsAllowed, Unr
 
 use ipnetwork_table::laws as tables;
 
-/// Where no `add` is out of memory, an input has one output, `output_of` of it; and each output that may be written
-/// is that one, unless one of its answers, and so one of its lines, is `out of memory`.
+/// If no `add` is out of memory, an input has one output, `output_of` of it; and each output that may be written is
+/// that one, unless one of its answers, and so one of its lines, is `out of memory`.
 pub fn output_without_refusals()
     ensures full { FullIsComputed }
     ensures computed { ComputedIsAllowed }
@@ -17,18 +17,18 @@ pub fn output_without_refusals()
 }
 
 /// A line of any command but `add`, `drop` and `find` has one answer, whatever the routes are, and leaves them; each
-/// other line begins with one of the three. So an input of such lines alone has one output: for each line its answer
-/// and a line feed.
+/// other line begins with one of the three. So an input of only such lines has one output: for each line its answer and
+/// a line feed.
 pub fn plain_lines_ask_nothing()
     ensures line { PlainLinesAskNothing }
     ensures others { OthersAreRouting }
     ensures output { PlainInputsHaveOneOutput }
 {}
 
-/// Where an input is cut directly behind a line feed, its outputs are those of the first part, and then those of the
-/// second part from the routes on that the first leaves. Where no line of the first part is `add`, `drop` or `find`,
-/// each part may be run by itself, and the outputs put together. Where the first lines are the routes, and no line of
-/// the parts behind them is `add` or `drop`, each part may be run by itself if it gets the routes first.
+/// If an input is cut directly after a line feed, its outputs are those of the first part, and then those of the second
+/// part from the routes on that the first leaves. If no line of the first part is `add`, `drop` or `find`, each part
+/// may be run by itself, and the outputs put together. If the first lines are the routes, and no line of the parts
+/// after them is `add` or `drop`, each part may be run by itself if it gets the routes first.
 pub fn split_at_line_ends()
     ensures parts { SplitsAtLineEnds }
     ensures alone { PlainPartsRunAlone }

@@ -6,8 +6,8 @@ use ipnetwork::laws;
 use ipnetwork_table::laws as tables;
 
 /// `add` and `drop` answer by the number that the block had, and change the number of the networks with the same set
-/// and of no other. `find` tells the longest block that holds the address. Only an `add` of a block without a number
-/// can be out of memory, and then the routes stay.
+/// and of no other. `find` answers with the longest block that holds the address. Only an `add` of a block without a
+/// number can be out of memory, and then the routes are unchanged.
 pub fn routes_by_sets()
     ensures add { AddsGet }
     ensures drop { DropsGet }

@@ -20,8 +20,8 @@ pub fn after_a_write_fault()
     ensures { AfterWriteFault }
 {}
 
-/// Where the input is too long, exactly the lines were answered that some of its first bytes, no more than the limit,
-/// complete.
+/// If the input is too long, exactly the lines were answered that some first bytes of it complete, at most as many as
+/// the limit.
 pub fn after_too_long_an_input()
     ensures { AfterTooLong }
 {}

@@ -43,7 +43,8 @@ Alike filter [] (other ∷ others) = ⊥
 Alike filter (line ∷ lines) [] = ⊥
 Alike filter (line ∷ lines) (other ∷ others) = AlikeLine filter line other × Alike filter lines others
 
--- these bytes were filtered up to those that are left: whatever comes behind, these lines come before those of what is left
+-- these bytes were filtered up to those that are left: whatever comes after, these lines come before those of what is
+-- left
 pub record Advances (filter : Filter) (counts : Bool) (old new : Stand) (bytes left : List ℕ) : Type 0 where
   pub first : List LogLine
   pub added : List ℕ
@@ -89,11 +90,12 @@ StopsIn filter counts ends bytes write_failed old new faults.Endless = ⊥
 abbrev pub FiltersRest : Filter → Bool → List ℕ → Stand → Stand → Type 0
 FiltersRest filter counts bytes old new = (added : List ℕ) × (count : ℕ) × Goes old new added count (length (log_lines bytes)) × Filters filter counts (log_lines bytes) added count
 
--- a read put so many bytes behind those that are held
+-- a read put this many bytes after those that are held
 abbrev pub ReadsBehind : Option (List ℕ) → Option (List ℕ) → List ℕ → List ℕ → ℕ → ℕ → Type 0
 ReadsBehind remained remains old new held count = (held + count ≤ length new) × (chunk : List ℕ) × (length chunk ≡ count) × Consumes remained remains chunk
     × (take (held + count) new ≡ take held old ++ chunk) × (count ≡ 0 → IsAtEnd remains)
 
--- of so many bytes so many are held: all, or one more than tell that a line is too long, where such lines are dropped
+-- of this many bytes this many are held: all, or, if lines that are too long are dropped, enough to know that a line is
+-- too long
 abbrev pub IsHeld : Filter → ℕ → ℕ → Type 0
 IsHeld filter count held = ((count ≤ 1048577) × (held ≡ count)) ⊎ ((1048577 < count) × (held ≡ 1048578) × (is_dropped filter.bad ≡ true))

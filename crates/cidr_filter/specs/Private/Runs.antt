@@ -33,7 +33,8 @@ pub record FiltersNames (filter : Filter) (counts : Bool) (known : KnownLists) (
   pub puts : Puts old.holds old.waits new.holds new.waits output
   pub counted : Counts old.selected new.selected count
 
--- the output of the first lines was put, of which there were so many, or the writer failed, which took a beginning of it
+-- the output of the first lines was put, of which there were this many, or the writer failed, which took a beginning of
+-- it
 abbrev pub PutsBy : LogFault → Bool → Stand → Stand → List ℕ → ℕ → Type 0
 PutsBy faults.Open failed old new added lines = Puts old.holds old.waits new.holds new.waits added × (new.lines ≡ min lines (2 ^ 64 - 1))
 PutsBy faults.Read failed old new added lines = Puts old.holds old.waits new.holds new.waits added × (new.lines ≡ min lines (2 ^ 64 - 1))
@@ -51,7 +52,7 @@ pub record NameStops (filter : Filter) (counts : Bool) (known : KnownLists) (nam
   pub halts : HaltsBy filter known name lines fault
   pub puts : PutsBy fault failed old new added (length lines)
 
--- what waited was written, and the fault told; or the writer failed, and that was told
+-- what waited was written, and the fault reported; or the writer failed, and that was reported
 abbrev pub HandsOn : {W E : Type 0} → List ℕ → ℕ → LogFault → Ending W E → Type 0
 HandsOn name lines fault end = (HasWritten end [] × HasTold end (log_fault_text name lines fault))
     ⊎ (FailsWriting end [] × HasTold end (log_fault_text name lines faults.Write))

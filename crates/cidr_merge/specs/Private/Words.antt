@@ -4,7 +4,7 @@ use Rattle.cidr_merge.specs.declared.command_line.Request.{Request}
 use Rattle.cidr_merge.specs.declared.command_line.Command.{Command}
 use Rattle.cidr_merge.specs.declared.command_line.Command.TheVariants.{Help, Version, Merge, Usage}
 
--- the places of a request are places among so many words
+-- the places of a request are places among this many words
 abbrev pub IsWithin : ℕ → Request → Type 0
 IsWithin count request = (request.first ≤ request.middle) × (request.middle ≤ count) × (request.second ≤ count)
 

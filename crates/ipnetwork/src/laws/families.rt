@@ -1,4 +1,4 @@
-//! Laws of the families: each question and each call is that of the network's own family.
+//! Laws of the families: each call returns what the call of the network's own family does.
 ghost use Rattle.std.specs.Prelude.{◌≡◌, ◌<◌, Result, Ok};
 ghost use Rattle.ipnetwork.specs.IpNetworks.{prefix_of, IsV4, IsV6, TakesV4, TakesV6};
 ghost use Rattle.ipnetwork.specs.IpNetworkText.{ReadsIpNetwork, ParsesIpNetwork};
@@ -16,15 +16,15 @@ ghost use Rattle.ipnetwork.specs.declared.ip_network.IpNetwork.TheVariants as ne
 use crate::{IpNetwork, IpNetworkError, ip_mask_to_prefix};
 use ipnetwork_family::laws as families;
 
-/// Each question of a network of either family is the question of its own family.
+/// Each call that asks about a network of either family returns what that of its own family does.
 pub fn each_asks_its_family()
     ensures v4 { AsksItsFamily 32 networks.V4 ips.V4 sizes.V4 }
     ensures v6 { AsksItsFamily 128 networks.V6 ips.V6 sizes.V6 }
 {}
 
-/// Each call that makes a network of either family is the call of its own family. Making one with a mask is making it
-/// with the prefix length to which the mask converts, in whichever family. What converts to a network of one family is a
-/// network of that family, and converts to itself.
+/// Each call that makes a network of either family returns what that of its own family does. Making one with a mask is
+/// making it with the prefix length to which the mask converts, in whichever family. What converts to a network of one
+/// family is a network of that family, and converts to itself.
 pub fn each_is_made_in_its_family()
     ensures v4 { MakesInItsFamily 32 networks.V4 ips.V4 }
     ensures v6 { MakesInItsFamily 128 networks.V6 ips.V6 }

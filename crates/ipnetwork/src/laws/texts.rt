@@ -1,4 +1,4 @@
-//! Laws of texts: which network a text names, how it is printed, and which refusal tells of one that names none.
+//! Laws of texts: which network a text names, how it is printed, and which error a text gets that names none.
 ghost use Rattle.std.specs.Prelude.{◌≡◌, ◌↔◌, ℕ, List, Result, Ok};
 ghost use Rattle.std.specs.List.{AllByRecursion};
 ghost use Rattle.ipnetwork_family.specs.NetworkText.{IsNetworkByte};

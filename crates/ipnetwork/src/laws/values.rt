@@ -44,8 +44,8 @@ pub fn network_size_order(a: NetworkSize, b: NetworkSize) -> (bool, bool, Orderi
     (a < b, a <= b, a.cmp(&b))
 }
 
-/// A size feeds a hasher its number as one of 128 bits, whatever its variant. So two hashers in one state
-/// that are fed equal sizes are in one state afterwards.
+/// A size feeds a hasher its number as one of 128 bits, whatever its variant. So two hashers in the same state that are
+/// fed equal sizes are in the same state afterwards.
 pub fn network_size_hash<H: Hasher>(size: NetworkSize, state: &mut H)
     ensures { state.new ≡ fold H.write state.old (fed.u128 (size_number size)) }
 {
@@ -59,8 +59,8 @@ pub fn network_size_clone(size: NetworkSize) -> Result<NetworkSize, AllocError>
     size.clone()
 }
 
-/// A network feeds a hasher its family, its address and its prefix length. So two hashers in one state
-/// that are fed equal networks are in one state afterwards.
+/// A network feeds a hasher its family, its address and its prefix length. So two hashers in the same state that are
+/// fed equal networks are in the same state afterwards.
 pub fn ip_network_hash<H: Hasher>(a: IpNetwork, b: IpNetwork, first: &mut H, second: &mut H)
     ensures first { first.new ≡ fold H.write first.old (ip_network_writes a) }
     ensures second { second.new ≡ fold H.write second.old (ip_network_writes b) }
@@ -77,7 +77,7 @@ pub fn ip_network_clone(network: IpNetwork) -> Result<IpNetwork, AllocError>
     network.clone()
 }
 
-/// `==` of `WrongFamily`, which has one value, always holds.
+/// `==` of `WrongFamily`, which has one value, is always true.
 pub fn wrong_family_equality(a: WrongFamily, b: WrongFamily) -> bool
     ensures { IsTrue result ↔ (a ≡ b) }
 {

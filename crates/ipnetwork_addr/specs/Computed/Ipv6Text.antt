@@ -67,7 +67,7 @@ gap_number (Some left) (Some right) =
     then Some (number_from_digits (2 ^ 16) (left ++ replicate (8 - length left - length right) 0 ++ right))
     else None
 
--- the number where a `::` stands after so many bytes
+-- the number if a `::` stands after this many bytes
 abbrev pub gap_at : List ℕ → ℕ → Option ℕ
 gap_at text i =
     if bytes_eq (take 2 (drop i text)) (codes "::")

@@ -29,8 +29,8 @@ abbrev pub NoGroup : List ℕ → Type 0
 NoGroup text = (group : ℕ) (rest : List ℕ) → ¬ (BeginsWithGroup text group rest)
 
 -- A part of an IPv6 text is one group or more, joined by colons, up to the end of the text, which may come after an
--- IPv4 text in place of the last two groups, or up to a `::`. The end is what follows the `::`, if there is one.
--- Here: the first group of a part, where More says the rest of the part of the text behind its colon.
+-- IPv4 text in place of the last two groups, or up to a `::`. The end is what follows the `::`, if there is one. Here:
+-- the first group of a part, if More says the rest of the part about the text after its colon.
 pub data IsPartFrom (More : List ℕ → Type 0) (text : List ℕ) (group : ℕ) (groups : List ℕ) (end : Option (List ℕ)) : Type 0 where
   Last : BeginsWithGroup text group [] → groups ≡ [] → end ≡ None → IsPartFrom More text group groups end
   Dotted : (address : ℕ) → NamesV4 text address → group ∷ groups ≡ two_groups address → end ≡ None → IsPartFrom More text group groups end
@@ -42,7 +42,7 @@ abbrev pub IsTextPart : List ℕ → List ℕ → Option (List ℕ) → Type 0
 IsTextPart [] text end = ⊥
 IsTextPart (group ∷ groups) text end = IsPartFrom (λ next. IsTextPart groups next end) text group groups end
 
--- the text begins with a part of so many groups, up to the room, of this number and this end
+-- the text begins with a part of this many groups, up to the room, of this number and this end
 pub record BeginsWithPart (room : ℕ) (text : List ℕ) (count number : ℕ) (end : Option (List ℕ)) : Type 0 where
   pub groups : List ℕ
   pub part : IsTextPart groups text end
@@ -62,11 +62,11 @@ pub record IsNoLeft (groups text : List ℕ) (end : Option (List ℕ)) : Type 0 
   pub spelled : text ≡ colon ∷ colon ∷ next
   pub ends : end ≡ Some next
 
--- the text begins with groups up to an end, none of them where it begins with `::`
+-- the text begins with groups up to an end, none of them if it begins with `::`
 abbrev pub IsLeft : List ℕ → List ℕ → Option (List ℕ) → Type 0
 IsLeft groups text end = IsTextPart groups text end ⊎ IsNoLeft groups text end
 
--- so many, up to eight
+-- this many, up to eight
 pub record BeginsWithLeft (text : List ℕ) (count number : ℕ) (end : Option (List ℕ)) : Type 0 where
   pub groups : List ℕ
   pub left : IsLeft groups text end
@@ -83,7 +83,7 @@ NoLeft text = (groups : List ℕ) (end : Option (List ℕ)) → IsLeft groups te
 abbrev pub IsRight : List ℕ → List ℕ → Type 0
 IsRight groups text = IsTextPart groups text None ⊎ ((groups ≡ []) × (text ≡ []))
 
--- so many, up to the room
+-- this many, up to the room
 pub record EndsWithRight (room : ℕ) (text : List ℕ) (number : ℕ) : Type 0 where
   pub groups : List ℕ
   pub right : IsRight groups text

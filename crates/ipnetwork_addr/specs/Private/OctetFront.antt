@@ -8,11 +8,11 @@ use Rattle.ipnetwork_addr.specs.Texts.{dot}
 abbrev pub first_value : ℕ → ℕ
 first_value byte = if nat_lt (digit_value byte) 10 then (if nat_lt 0 (digit_value byte) then digit_value byte * 10 else 2560) else 2560
 
--- the text is no octet
+-- the text is not an octet
 abbrev pub IsNoOctet : List ℕ → Type 0
 IsNoOctet text = (octet : ℕ) → ¬ (IsOctet text octet)
 
--- the first dot that stands behind one, two or three bytes is here
+-- the first dot that stands after one, two or three bytes is here
 pub record IsOctetEnd (text : List ℕ) (end : ℕ) : Type 0 where
   pub some : 1 ≤ end
   pub few : end ≤ 3
@@ -20,7 +20,7 @@ pub record IsOctetEnd (text : List ℕ) (end : ℕ) : Type 0 where
   pub here : slice_index text end ≡ dot
   pub first : (i : ℕ) → 1 ≤ i → i < end → slice_index text i ≢ dot
 
--- no dot stands behind one, two or three bytes
+-- no dot stands after one, two or three bytes
 abbrev pub HasNoOctetEnd : List ℕ → Type 0
 HasNoOctetEnd text = (i : ℕ) → 1 ≤ i → i ≤ 3 → slice_index text i ≢ dot
 

@@ -9,28 +9,28 @@ use std::alloc::AllocError;
 use std::cmp::Ordering;
 use std::hash::{Hash, Hasher};
 
-/// `==` holds exactly of equal addresses.
+/// `==` is true exactly for equal addresses.
 pub fn v4_equality(a: Ipv4Addr, b: Ipv4Addr) -> bool
     ensures { IsTrue result ↔ (a ≡ b) }
 {
     a == b
 }
 
-/// `==` holds exactly of equal addresses.
+/// `==` is true exactly for equal addresses.
 pub fn v6_equality(a: Ipv6Addr, b: Ipv6Addr) -> bool
     ensures { IsTrue result ↔ (a ≡ b) }
 {
     a == b
 }
 
-/// `==` holds exactly of equal addresses, which have one family and one number.
+/// `==` is true exactly for equal addresses, which have one family and one number.
 pub fn ip_equality(a: IpAddr, b: IpAddr) -> bool
     ensures { IsTrue result ↔ (a ≡ b) }
 {
     a == b
 }
 
-/// `==` holds exactly of equal errors.
+/// `==` is true exactly for equal errors.
 pub fn addr_parse_error_equality(a: AddrParseError, b: AddrParseError) -> bool
     ensures { IsTrue result ↔ (a ≡ b) }
 {
@@ -65,8 +65,8 @@ pub fn ip_order(a: IpAddr, b: IpAddr) -> (bool, bool, Ordering)
     (a < b, a <= b, a.cmp(&b))
 }
 
-/// An IPv4 address is hashed as its number is, so that equal addresses take two hashers from one
-/// state to one state.
+/// An IPv4 address is hashed as its number is, so that equal addresses take two hashers in the same state to the same
+/// state.
 pub fn v4_hash<H: Hasher>(a: Ipv4Addr, b: Ipv4Addr, first: &mut H, second: &mut H)
     ensures fed { first.new ≡ fold H.write first.old (writes.u32 a) }
     ensures alike { a ≡ b → first.old ≡ second.old → first.new ≡ second.new }
@@ -75,8 +75,8 @@ pub fn v4_hash<H: Hasher>(a: Ipv4Addr, b: Ipv4Addr, first: &mut H, second: &mut 
     b.hash(second);
 }
 
-/// An IPv6 address is hashed as its number is, so that equal addresses take two hashers from one
-/// state to one state.
+/// An IPv6 address is hashed as its number is, so that equal addresses take two hashers in the same state to the same
+/// state.
 pub fn v6_hash<H: Hasher>(a: Ipv6Addr, b: Ipv6Addr, first: &mut H, second: &mut H)
     ensures fed { first.new ≡ fold H.write first.old (writes.u128 a) }
     ensures alike { a ≡ b → first.old ≡ second.old → first.new ≡ second.new }
@@ -85,8 +85,8 @@ pub fn v6_hash<H: Hasher>(a: Ipv6Addr, b: Ipv6Addr, first: &mut H, second: &mut 
     b.hash(second);
 }
 
-/// An address of either family is hashed as its family and then its number, so that equal addresses
-/// take two hashers from one state to one state.
+/// An address of either family is hashed as its family and then its number, so that equal addresses take two hashers in
+/// the same state to the same state.
 pub fn ip_hash<H: Hasher>(a: IpAddr, b: IpAddr, first: &mut H, second: &mut H)
     ensures fed { first.new ≡ fold H.write first.old (ip_writes a) }
     ensures alike { a ≡ b → first.old ≡ second.old → first.new ≡ second.new }

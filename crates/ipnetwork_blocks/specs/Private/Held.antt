@@ -11,7 +11,7 @@ abbrev pub the_network : IpNetwork → Network
 the_network (V4 n) = n
 the_network (V6 n) = n
 
--- an order of IPv4 networks, told by the networks alone
+-- an order of IPv4 networks, by the networks only
 pub v4_order : (cmp : IpNetwork → IpNetwork → Ordering) → ((a b : Network) → cmp (V4 a) (V4 b) ≡ network_cmp a b)
     → (x y : IpNetwork) → IsV4 x → IsV4 y → cmp x y ≡ network_cmp (the_network x) (the_network y)
 v4_order cmp h (V4 a) (V4 b) v w = h a b

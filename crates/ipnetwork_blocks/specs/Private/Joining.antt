@@ -8,7 +8,7 @@ use Rattle.ipnetwork_blocks.specs.Supernets.{parent}
 abbrev pub AreHalves : ℕ → Network → Network → Type 0
 AreHalves w a b = (a.prefix ≡ b.prefix) × (0 < a.prefix) × Member w (parent w a) b.address
 
--- b begins after a has ended, and they are no halves of one block
+-- b begins after a has ended, and they are not the halves of one block
 abbrev pub Follows : ℕ → Network → Network → Type 0
 Follows w a b = (high w a < b.address) × ¬ (AreHalves w a b)
 

@@ -7,8 +7,8 @@ use Rattle.ipnetwork_family.specs.Network.{Network}
 abbrev pub has_all : ℕ → ℕ → ℕ → ℕ → Bool
 has_all base size first last = nat_le first base && nat_le (base + size) (last + 1)
 
--- those in the block of k host bits that begins at base: the block where it lies in the range, else those in its
--- two halves
+-- those in the block of k host bits that begins at base: the block if it lies in the range, else those in its two
+-- halves
 unfoldable pub blocks_within : ℕ → ℕ → ℕ → ℕ → ℕ → List Network
 blocks_within w zero base first last = cond (has_all base 1 first last) (record { address = base; prefix = w } ∷ []) []
 blocks_within w (suc k) base first last =

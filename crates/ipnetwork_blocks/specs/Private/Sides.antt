@@ -6,6 +6,6 @@ use Rattle.ipnetwork_family.specs.Network.{Network, low, high}
 abbrev pub Before : ℕ → ℕ → Network → ℕ → Type 0
 Before w first n x = (first ≤ x) × (x < low w n)
 
--- x is one of the addresses from the first one behind the network to last
+-- x is one of the addresses from the first one after the network to last
 abbrev pub Behind : ℕ → Network → ℕ → ℕ → Type 0
 Behind w n last x = (high w n < x) × (x ≤ last)

@@ -1,9 +1,9 @@
 //! The laws of the blocks of ranges and of exclusions, for addresses of any number of bits.
 ghost use Rattle.ipnetwork_blocks.specs.LeastListLaws.{RangeIsShortest, ExclusionIsShortest, NetworkIsOneBlock};
 
-/// The blocks of a range, or of an exclusion, have its addresses and no others; each ends before the next begins;
-/// no networks with the same addresses are fewer; and no other list is the least. From the least to the greatest
-/// address of a network there is its block alone, and so that of prefix length 0 for all addresses.
+/// The blocks of a range, or of an exclusion, have its addresses and no others; each ends before the next begins; no
+/// networks with the same addresses are fewer; and no other list is the least. The range from the least to the greatest
+/// address of a network is only its block, and so that of all addresses is the block of prefix length 0.
 pub fn ranges_are_shortest()
     ensures range { RangeIsShortest }
     ensures exclusion { ExclusionIsShortest }

@@ -19,8 +19,8 @@ pub fn siblings()
     ensures back { SiblingBack }
 {}
 
-/// The hosts of a network are listed in ascending order, each once: its members, less the least and the greatest of
-/// an IPv4 network up to prefix length 30, less the least of an IPv6 network up to 126.
+/// The hosts of a network are listed in ascending order, each once: its members, except the least and the greatest of
+/// an IPv4 network up to prefix length 30, and except the least of an IPv6 network up to 126.
 pub fn hosts()
     ensures v4 { Ipv4HostsLaw }
     ensures v6 { Ipv6HostsLaw }

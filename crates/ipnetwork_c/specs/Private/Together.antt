@@ -26,7 +26,7 @@ pub record IsStretch (w : ℕ) (list : List Network) (at : ℕ) (inside : Bool) 
   pub alike : (x : ℕ) → at ≤ x → x ≤ last → IsTrue inside ↔ InUnion w list x
   pub same : (x : ℕ) → at ≤ x → InUnion w list x ↔ InUnion w left x
 
--- from an address to a last one, all are kept of two sets, or none is; and behind it, the same are kept of what is left
+-- from an address to a last one, all are kept of two sets, or none is; and after it, the same are kept of what is left
 pub record IsPart (w : ℕ) (Kept : List Network → List Network → ℕ → Type 0) (first second : List Network) (at : ℕ) (kept : Bool) (last : ℕ) (first_left second_left : List Network) : Type 0 where
   pub reaches : at ≤ last
   pub first_set : IsAddressSet w first_left
@@ -39,11 +39,11 @@ pub record IsRun (w : ℕ) (Kept : List Network → List Network → ℕ → Typ
   pub part : IsPart w Kept first second at kept last first_left second_left
   pub ends : IsTrue kept → ¬ (Kept first second (last + 1))
 
--- the least list of the addresses from one to another is put behind what was put before, if they are kept
+-- the least list of the addresses from one to another is put after what was put before, if they are kept
 abbrev pub PutsRun : {C : Type 0} → ℕ → (C → Network) → Bool → ℕ → ℕ → List C → List C → ℕ → ℕ → Type 0
 PutsRun w held true at last before after begun count = (blocks : List Network) × IsLeastList w (FromTo at last) blocks × AddsBlocks held blocks before after begun count
 PutsRun w held false at last before after begun count = (after ≡ before) × (count ≡ begun)
 
--- the least list of a set is put in the front of a list, and its length is told
+-- the least list of a set is put in the front of a list, and its length is returned
 abbrev pub PutsKept : {C : Type 0} → ℕ → (C → Network) → (ℕ → Type 0) → List C → List C → ℕ → Type 0
 PutsKept w held set before after count = (blocks : List Network) × IsLeastList w set blocks × HasBlocks held blocks before after count

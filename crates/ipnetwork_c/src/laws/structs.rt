@@ -1,4 +1,4 @@
-//! What one call writes, another reads as the same.
+//! What one call writes, another reads back.
 ghost use Rattle.std.specs.Prelude.{◌≡◌, ℕ, ◌^◌, ◌<◌};
 ghost use Rattle.ipnetwork_addr.specs.Digits.{digits_in};
 ghost use Rattle.ipnetwork_family.specs.Network.{Network, IsNetwork};

@@ -2,7 +2,7 @@
 use Rattle.std.specs.Prelude.{◌≡◌, ℕ, List, Option, None, Some}
 use Rattle.ipnetwork_family.specs.Ipv4NetworkText.{IsV4Suffix}
 
--- the prefix length that a suffix gives, or w where there is none
+-- the prefix length that a suffix gives, or w if there is none
 abbrev pub GivesPrefix : ℕ → (List ℕ → ℕ → Type 0) → Option (List ℕ) → ℕ → Type 0
 GivesPrefix w IsSuffix None p = p ≡ w
 GivesPrefix w IsSuffix (Some suffix) p = IsSuffix suffix p

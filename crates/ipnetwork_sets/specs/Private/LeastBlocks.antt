@@ -10,7 +10,7 @@ unfoldable pub all_from : (ℕ → Bool) → ℕ → ℕ → Bool
 all_from test start zero = true
 all_from test start (suc count) = test (start + count) && all_from test start count
 
--- the blocks in that of k host bits that begins at base: itself where it passes the test, else those in its two halves
+-- the blocks in that of k host bits that begins at base: itself if it passes the test, else those in its two halves
 unfoldable pub least_within : (ℕ → Bool) → ℕ → ℕ → ℕ → List Network
 least_within test w zero base = cond (all_from test base (2 ^ zero)) (record { address = base; prefix = w } ∷ []) []
 least_within test w (suc k) base =

@@ -20,15 +20,15 @@ IsLeftIn w whole from cut x = Member w whole x × (from ≤ x) × ¬ (InUnion w 
 abbrev pub IsWidest : ℕ → Network → Network → List Network → Type 0
 IsWidest w whole piece cut = (piece.prefix ≡ whole.prefix) ⊎ ¬ (LiesIn w (IsLeftIn w whole piece.address cut) (parent w piece))
 
--- the piece behind another: it begins right behind it, and the block around it of one bit less begins before it
+-- the piece after another: it begins right after it, and the block around it of one bit less begins before it
 pub record IsBehind (w : ℕ) (whole piece next : Network) : Type 0 where
   pub part : IsPiece w whole next
   pub begins : next.address ≡ high w piece + 1
   pub longer : 0 < next.prefix
   pub upper : low w (parent w next) < next.address
 
--- from one address and cut set to others: the addresses of the block that are passed are all cut, and behind them
--- both cut the same
+-- from one address and cut set to others: the addresses of the block that are passed are all cut, and after them both
+-- cut the same
 pub record Skips (w : ℕ) (whole : Network) (from : ℕ) (cut : List Network) (next : ℕ) (left : List Network) : Type 0 where
   pub forward : from ≤ next
   pub passed : (x : ℕ) → Member w whole x → from ≤ x → x < next → InUnion w cut x
@@ -68,7 +68,7 @@ abbrev pub count_at_hand : {X : Type 0} → Option X → ℕ
 count_at_hand None = 0
 count_at_hand (Some p) = 1
 
--- the part behind a piece of the whole, if the whole goes on behind it
+-- the part after a piece of the whole, if the whole goes on after it
 abbrev pub IsNextPart : ℕ → Network → Network → Option (Network × Network) → Type 0
 IsNextPart w whole piece None = high w piece ≡ high w whole
 IsNextPart w whole piece (Some p) = (p.0 ≡ whole) × IsBehind w whole piece p.1

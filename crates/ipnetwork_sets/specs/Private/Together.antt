@@ -14,7 +14,7 @@ pub record IsFirst (first second : List Network) (b : Network) (others rest : Li
   pub one : ((first ≡ b ∷ others) × (second ≡ rest)) ⊎ ((first ≡ others) × (second ≡ b ∷ rest))
   pub lowest : (c : Network) (more : List Network) → (first ≡ c ∷ more) ⊎ (second ≡ c ∷ more) → b.address ≤ c.address
 
--- no block of the list begins up to the address behind this one
+-- no block of the list begins up to the address after this one
 abbrev pub EndsAt : ℕ → ℕ → List Network → Type 0
 EndsAt w last [] = Unit {0}
 EndsAt w last (b ∷ bs) = last + 1 < b.address
@@ -25,7 +25,7 @@ pub record IsLater (a b last : ℕ) : Type 0 where
   pub second : b ≤ last
   pub one : (last ≡ a) ⊎ (last ≡ b)
 
--- the addresses of the union are those from the first to the last, and, behind a gap, those of what is left of both sets
+-- the addresses of the union are those from the first to the last, and, after a gap, those of what is left of both sets
 pub record IsRun (w : ℕ) (first second : List Network) (start last : ℕ) (others rest : List Network) : Type 0 where
   pub ordered : start ≤ last
   pub fits : last < 2 ^ w

@@ -3,7 +3,7 @@ use Rattle.std.specs.Prelude.{ℕ, ◌<◌, ◌≤◌, IsSome}
 use Rattle.std.specs.FinMap.{FinMap, get}
 use Rattle.ipnetwork_family.specs.Network.{Network, Member, IsNetworkAtMost, network_cmp}
 
--- each network that is there comes after n
+-- each network that is stored comes after n
 abbrev pub NoneUpTo : {V : Type 0} → FinMap network_cmp V → Network → Type 0
 NoneUpTo t n = (m : Network) → IsSome (get t m) → ¬ (IsNetworkAtMost m n)
 

@@ -4,8 +4,8 @@ ghost use Rattle.ipnetwork_table.specs.Laws.{EmptyHasNoHostBits, InsertAddsNoHos
 
 use ipnetwork_family::laws;
 
-/// No key of a table has host bits: none of the empty table has, and none gets any where the block of a network is
-/// inserted or a network is removed.
+/// No key of a table has host bits: the empty table has no keys, and neither inserting the block of a network nor
+/// removing a network adds a key with host bits.
 pub fn keys_without_host_bits<V: Copy>()
     ensures empty { EmptyHasNoHostBits V }
     ensures insert { InsertAddsNoHostBits V }

@@ -50,7 +50,7 @@ pub fn v6_texts_are_shared()
         → (ours : ℕ) × SameV6 ours theirs × NamesV6 text ours }
 {}
 
-/// The same of either family: a text names or spells one address in both, and of one family.
+/// The same for either family: a text names or spells one address in both, and of the same family.
 pub fn ip_texts_are_shared()
     ensures ours { (text : List ℕ) (ours : either.IpAddr) → NamesIp text ours
         → (theirs : std_ip.IpAddr) × SameIp ours theirs × IsIpText text theirs }

@@ -24,16 +24,16 @@ pending_from pending [] = pending
 -- after a line feed nothing is pending; any other byte becomes pending
 pending_from pending (byte ∷ piece) = if byte == 10 then pending_from [] piece else pending_from (pending ++ byte ∷ []) piece
 
--- the line that is pending where the input ends, if there is one
+-- the line that is pending at the end of the input, if there is one
 unfoldable pub last_line : List ℕ → List (List ℕ)
--- where nothing is pending there is no line
+-- if nothing is pending, there is no line
 last_line [] = []
 -- and else what is pending is the last line, whole
 last_line (byte ∷ bytes) = (byte ∷ bytes) ∷ []
 
--- where a run stands on the side of its replies
+-- how far a run has come with its replies
 pub record Stand (S : Type 0) : Type 0 where
-  -- what the writer holds, where it tells
+  -- what the writer holds, if it tells
   pub holds : Option (List ℕ)
   -- the replies that were gathered and not written yet
   pub waits : List ℕ

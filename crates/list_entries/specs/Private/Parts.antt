@@ -1,4 +1,4 @@
--- The two kinds of entries, apart.
+-- The two kinds of entries, each by itself.
 use Rattle.std.specs.Prelude.{ℕ, List, Result, MatchResult}
 use Rattle.ipnetwork.specs.IpNetworkText.{NamesIpNetwork, IsIpCause}
 use Rattle.ipnetwork.specs.declared.ip_network.IpNetwork.{IpNetwork}
