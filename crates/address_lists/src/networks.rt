@@ -48,7 +48,7 @@ impl<N: AddressSpace> Networks<N> {
         ensures pushed { OnOk result (AddsBlocks N.WIDTH (N.number first) (N.number last) self.old self.new) }
         ensures address { N.number last < 2 ^ N.WIDTH }
     {
-        // The clause `address` of this call tells that `last` is an address of the family.
+        // The clause `address` of this call says that `last` is an address of the family.
         let _ = N::block(last, N::WIDTH);
         let Some(mut blocks) = range_to_blocks::<N>(first, last) else {
             unreachable!()

@@ -98,6 +98,6 @@ related (Err fault) other = refused
 related (Ok a) (Err fault) = refused
 related (Ok a) (Ok b) = relation a b
 
--- `rel T U`: how the sets of the networks that T and U name lie to each other
+-- `rel T U`: how the sets of the networks that T and U name relate to each other
 unfoldable pub rel_answer : List ℕ → List ℕ → List ℕ
 rel_answer first second = related (ip_network_of first) (ip_network_of second)

@@ -25,6 +25,6 @@ abbrev pub found_text : Option (IpNetwork × ℕ) → List ℕ
 found_text None = codes "none"
 found_text (Some found) = ip_network_text found.0 ++ blank ∷ decimal found.1
 
--- the answer tells it
+-- the answer says what was found
 abbrev pub Finds : Routes → IpAddr → List ℕ → Type 0
 Finds routes address answer = (found : Option (IpNetwork × ℕ)) × IsFound routes address found × (answer ≡ found_text found)

@@ -24,11 +24,11 @@ abbrev pub TellsBlock : Listed → IpAddr → Option IpNetwork → Type 0
 TellsBlock (Addresses sets) address told = told ≡ None
 TellsBlock (Blocks tables) address told = (block : IpNetwork) × (told ≡ Some block) × IsLongestBlock tables address block
 
--- the field of the line holds the address, and nothing else
+-- the field of the line is the address, and nothing else
 abbrev pub Holds : Filter → List ℕ → IpAddr → Type 0
 Holds filter line address = (field : List ℕ) × (field_of filter.field filter.separator line ≡ Some field) × NamesIp field address
 
--- what a line, without its end, is to the list. One of more than 1,048,576 bytes is too long whatever it holds
+-- what a line, without its end, is to the list. One of more than 1,048,576 bytes is too long, whatever is in it
 abbrev pub Judges : Filter → List ℕ → Verdict → Type 0
 Judges filter line (verdicts.Inside told) =
     (length line ≤ 1048576) × ((address : IpAddr) × Holds filter line address × IsListed filter address × TellsBlock filter.listed address told)

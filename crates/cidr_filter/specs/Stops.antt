@@ -60,7 +60,7 @@ pub record EndsAtLine (filter : Filter) (counts : Bool) (remained remains : Opti
   pub judges : Judges filter (content line) verdict
   pub refused : is_refused filter verdict ≡ true
 
--- what holds if a log is not filtered to its end, by the fault
+-- what is true if a log is not filtered to its end, by the fault
 abbrev pub Stops : Filter → Bool → Option (List ℕ) → Option (List ℕ) → Bool → Bool → Stand → Stand → LogFault → Type 0
 -- it was opened
 Stops filter counts remained remains read_failed write_failed old new Open = ⊥

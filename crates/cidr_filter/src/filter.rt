@@ -24,11 +24,11 @@ pub enum Bad {
 /// What a line is to a list.
 #[derive(Clone, Copy, Debug, PartialEq, Eq)]
 pub enum Verdict {
-    /// Its field holds an address of the lists. With `--longest`, this is the longest block that holds the address.
+    /// Its field is an address of the lists. With `--longest`, this is the longest block that holds the address.
     Inside(Option<IpNetwork>),
-    /// Its field holds another address.
+    /// Its field is another address.
     Outside,
-    /// Its field holds no address.
+    /// Its field is not an address.
     Bad,
     /// It has more than 1,048,576 bytes, not counting its line end.
     TooLong,

@@ -64,8 +64,8 @@ pub fn filter_log<R: Read, W: Write>(
         (has_failed reader.new) (output_failed output.new)
         (stand (W.contents (writer_of output.old)) (waits_in output.old) tally.old)
         (stand (W.contents (writer_of output.new)) (waits_in output.new) tally.new)) }
-    // A device has failed exactly if it had failed before, or its failure ended the log. So none writes after a read that
-    // failed.
+    // A device has failed exactly if it had failed before, or its failure ended the log. So nothing is written after a
+    // read that failed.
     ensures reader_failed { has_failed reader.new ≡ (has_failed reader.old || ended_by_read result) }
     ensures writer_failed { output_failed output.new ≡ (output_failed output.old || ended_by_write result) }
     ensures written { OnOk result (waits_in output.new ≡ []) }
@@ -321,7 +321,7 @@ fn refusal_of(verdict: &Verdict) -> LogFault
     }
 }
 
-// The line less one carriage return at its end.
+// The line without one carriage return at its end.
 fn without_carriage_return(line: &[u8]) -> &[u8]
     ensures { result.now ≡ strip_carriage_return line.now }
 {

@@ -1,4 +1,4 @@
--- Networks of either family: a network of one of the two, whose set holds only addresses of that family.
+-- Networks of either family: a network of one of the two, whose set has only addresses of that family.
 use Rattle.std.specs.Prelude.{⊤, ◌≡◌, ◌<◌, ◌≤◌, ℕ, pos, List, ◌++◌, map, Result, Ok, IsErr, MatchResult}
 use Rattle.std.specs.Hash.{HashWrites, isize, u8, u32, u128}
 use Rattle.std.specs.declared.cmp.Ordering.{Ordering}

@@ -15,8 +15,8 @@ use std::alloc::{AllocError, Global};
 use std::fmt;
 use std::str::FromStr;
 
-/// A network of either family. Its set holds only addresses of its family. Each IPv4 network is before each IPv6
-/// network.
+/// A network of either family. Its set has only addresses of its family. Every IPv4 network is ordered before every
+/// IPv6 network.
 ///
 /// ```
 /// let network: IpNetwork = "10.1.9.32/8".parse()?;
@@ -195,7 +195,7 @@ impl IpNetwork {
         }
     }
 
-    /// The number of members, in the variant of the network's family; at prefix length 0 one less.
+    /// The number of members, in the variant of the network's family; at prefix length 0 it is one less.
     ///
     /// ```
     /// let network: IpNetwork = "192.0.2.77/26".parse()?;
@@ -236,7 +236,7 @@ impl IpNetwork {
     pub fn is_subnet_of(self, other: IpNetwork) -> bool
         ensures { IsTrue result ↔ IpSubnet self other }
     {
-        // The clause `network` of `ip` tells that the address fits its family, so it is a member and the set is not
+        // The clause `network` of `ip` says that the address fits its family, so it is a member and the set is not
         // empty.
         let _ = self.ip();
         match self {

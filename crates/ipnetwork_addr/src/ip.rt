@@ -6,7 +6,7 @@ use arrayvec::ArrayString;
 use std::fmt;
 use std::str::FromStr;
 
-/// An address of either family. Each IPv4 address is before each IPv6 address.
+/// An address of either family. Every IPv4 address is ordered before every IPv6 address.
 ///
 /// ```
 /// let v4: IpAddr = "255.255.255.255".parse()?;

@@ -8,7 +8,7 @@ pub record IsAround (w : ℕ) (n : Network) (p : ℕ) (b : Network) : Type 0 whe
   pub as_long : b.prefix ≡ p
   pub around : Subnet w n b
 
--- the block of one bit less around the network
+-- the block around the network whose prefix is one bit shorter
 abbrev pub parent : ℕ → Network → Network
 parent w n = block_of w (record { address = n.address; prefix = n.prefix - 1 })
 

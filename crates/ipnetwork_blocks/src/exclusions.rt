@@ -56,7 +56,7 @@ pub fn exclude<N: AddressSpace>(network: N, inner: N) -> Exclusion<N>
     ensures some { Subnet N.WIDTH (N.pair inner) (N.pair network)
         → length result ≡ (N.pair inner).prefix - (N.pair network).prefix }
 {
-    // The clauses of these calls tell that both are networks of addresses of WIDTH bits.
+    // The clauses of these calls say that both are networks of addresses of WIDTH bits.
     let _ = network.ip();
     let _ = inner.ip();
     let first = network.network();

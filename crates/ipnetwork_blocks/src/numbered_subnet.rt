@@ -38,7 +38,7 @@ fn is_below_power(number: u128, exponent: u8) -> bool
     exponent >= 128 || number >> exponent == 0
 }
 
-// The number times 2^`exponent`, which 128 bits hold. Zero is asked for first: 128 bits cannot be shifted by 128.
+// The number times 2^`exponent`, which 128 bits hold. Zero is tested first: 128 bits cannot be shifted by 128.
 fn times_power(number: u128, exponent: u8) -> u128
     requires { number * 2 ^ exponent < 2 ^ 128 }
     ensures { result ≡ number * 2 ^ exponent }

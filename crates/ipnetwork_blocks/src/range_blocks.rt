@@ -68,7 +68,7 @@ impl<N: AddressSpace> RangeBlocks<N> {
         ensures blocks { IsLeastList N.WIDTH (FromTo (N.number first) (N.number last)) result }
         ensures count { 2 ≤ N.WIDTH → length result ≤ 2 * N.WIDTH - 2 }
     {
-        // The clause `address` of this call tells that `last` is an address of the family.
+        // The clause `address` of this call says that `last` is an address of the family.
         let _ = N::block_at(last, N::WIDTH);
         RangeBlocks {
             next: first,

@@ -6,12 +6,12 @@ use Rattle.ipnetwork_family.specs.declared.error.CidrFault.{CidrFault}
 use Rattle.ipnetwork_c.specs.Numbers.{ok, prefix, short_buffer, no_mask, no_member, fault_number}
 use Rattle.ipnetwork_c.specs.Held.{PrefixFits}
 
--- a reading is returned: the struct holds the network, or the number is that of the cause
+-- the result of reading is returned: the struct holds the network, or the number is that of the cause
 abbrev pub WritesReading : {N C : Type 0} → (C → N → Type 0) → C → C → ℕ → Result N CidrFault → Type 0
 WritesReading Holds before after code (Ok n) = (code ≡ ok) × Holds after n
 WritesReading Holds before after code (Err fault) = (code ≡ fault_number fault) × (after ≡ before)
 
--- what reading the text returns is returned
+-- the result of reading the text is returned
 abbrev pub ReadsInto : {N C : Type 0} → (List ℕ → Result N CidrFault → Type 0) → (C → N → Type 0) → List ℕ → C → C → ℕ → Type 0
 ReadsInto {N} Reads Holds text before after code =
     (read : Result N CidrFault) × Reads text read × WritesReading Holds before after code read

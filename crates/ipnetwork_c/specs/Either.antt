@@ -59,7 +59,7 @@ abbrev pub held_address : AddressInC → Option IpAddr
 held_address held =
     if held.length == 4 then Some (addresses.V4 (number_of_octets (take 4 held.octets))) else (if held.length == 16 then Some (addresses.V6 (number_of_octets held.octets)) else None)
 
--- reading the address that a text names is returned
+-- the result of reading the address that a text names is returned
 pub data ReadsAddress (text : List ℕ) (before after : AddressInC) (code : ℕ) : Type 0 where
   Named : (a : IpAddr) → NamesIp text a → code ≡ ok → HoldsAddress after a → ReadsAddress text before after code
   NoAddress : ((a : IpAddr) → ¬ (NamesIp text a)) → code ≡ address → after ≡ before → ReadsAddress text before after code
@@ -86,7 +86,7 @@ pub data IpQuery {A : Type 0} (held : IpInC) (Answers : IpNetwork → A → Type
   Answered : (n : IpNetwork) → StandsForIp held n → code ≡ ok → Answers n after → IpQuery held Answers before after code
   Refused : NoIpNetwork held code → after ≡ before → IpQuery held Answers before after code
 
--- the same for two networks; the first struct is judged first
+-- the same for two networks; the first struct is checked first
 pub data IpPairQuery {A : Type 0} (one other : IpInC) (Answers : IpNetwork → IpNetwork → A → Type 0) (before after : A) (code : ℕ) : Type 0 where
   Answered : (a b : IpNetwork) → StandsForIp one a → StandsForIp other b → code ≡ ok → Answers a b after → IpPairQuery one other Answers before after code
   FirstRefused : NoIpNetwork one code → after ≡ before → IpPairQuery one other Answers before after code

@@ -25,7 +25,8 @@ pub record AreOffsets (texts offsets : List ℕ) : Type 0 where
   pub within : (i : ℕ) → i < length offsets → get_or offsets i 0 ≤ length texts
   pub rising : (i : ℕ) → i + 1 < length offsets → get_or offsets i 0 ≤ get_or offsets (i + 1) 0
 
--- each of the first rows is read as the call for one text reads it, with a fault of its own, and the others stay
+-- each of the first rows is read as the call for one text reads it, with a fault of its own, and the others are
+-- unchanged
 pub record ReadsRows {R : Type 0} (Reads : List ℕ → R → R → ℕ → Type 0) (texts offsets : List ℕ) (count : ℕ) (before after : List R) (faults_before faults : List ℕ) : Type 0 where
   pub rows : length after ≡ length before
   pub fault_rows : length faults ≡ length faults_before

@@ -126,10 +126,10 @@ fn put_at(text: &[u8], texts: &mut [u8], at: usize) -> usize
 }
 
 /// Prints the IPv4 network of each row, as `ipnetwork_v4_canonical` does, to the front of `texts`, one text directly
-/// after the other, and returns how many bytes they have in all. Text i goes from offset i to offset i + 1, so that
-/// there is one offset more than rows. `PREFIX` if the prefix length of a row is greater than 32. `SHORT_BUFFER` if
-/// there is room for fewer bytes, or offsets, or if the texts have more than 2^31 - 1 bytes: then only their length is
-/// written.
+/// after the other, and writes how many bytes they have in all to `length`. Text i goes from offset i to offset i + 1,
+/// so that there is one offset more than rows. `PREFIX` if the prefix length of a row is greater than 32.
+/// `SHORT_BUFFER` if there is room for fewer bytes, or offsets, or if the texts have more than 2^31 - 1 bytes: then
+/// only their length is written.
 #[unsafe(no_mangle)]
 pub extern "C" fn ipnetwork_v4_print_column(
     networks: &[Ipv4InC],

@@ -121,7 +121,7 @@ fn run<'a, N: AddressSpace, H: Listed<N>>(
     }
 }
 
-// A part that begins at an address: the same for it as of a run, but for its end.
+// A part that begins at an address: the same as for a run, except for its end.
 fn part<'a, N: AddressSpace, H: Listed<N>>(
     operation: Operation,
     first: &'a [H],

@@ -4,7 +4,7 @@ ghost use Rattle.ipnetwork_c.specs.Private.Writing.{AddsBlock, AddsBlocks};
 
 use ipnetwork_blocks::{AddressSpace, HoldsNetwork, RangeBlocks};
 
-/// The number, or the greatest one of 64 bits if it is less.
+/// The number, or the greatest one of 64 bits if that is less.
 pub(crate) fn to_usize(number: u128) -> usize
     ensures { result ≡ min number (2 ^ 64 - 1) }
 {

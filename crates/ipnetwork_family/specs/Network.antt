@@ -31,7 +31,7 @@ mask_of w p = 2 ^ w - block_size w p
 abbrev pub low : ℕ → Network → ℕ
 low w n = n.address / block_size w n.prefix * block_size w n.prefix
 
--- the greatest address of the set: the least and as many more as the block has, less one
+-- the greatest address of the set: the least plus the size of the block, minus one
 abbrev pub high : ℕ → Network → ℕ
 high w n = low w n + block_size w n.prefix - 1
 
@@ -60,7 +60,7 @@ count_up start count = range_with_len start count
 abbrev pub members : ℕ → Network → List ℕ
 members w n = count_up (low w n) (block_size w n.prefix)
 
--- the number of members, and one less if that needs w + 1 bits
+-- the number of members, or one less if that needs w + 1 bits
 abbrev pub size_of : ℕ → Network → ℕ
 size_of w n = min (block_size w n.prefix) (2 ^ w - 1)
 

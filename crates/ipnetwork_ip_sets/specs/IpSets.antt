@@ -37,7 +37,7 @@ InIpBoth first second x = InIpUnion first x × InIpUnion second x
 abbrev pub InIpFirstAlone : List IpNetwork → List IpNetwork → IpAddr → Type 0
 InIpFirstAlone first second x = InIpUnion first x × ¬ (InIpUnion second x)
 
--- x is an address of its family, and none of the set
+-- x is an address of its family, and not one of the set
 abbrev pub InIpComplement : List IpNetwork → IpAddr → Type 0
 InIpComplement networks x = FitsIp x × ¬ (InIpUnion networks x)
 

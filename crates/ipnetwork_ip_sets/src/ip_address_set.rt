@@ -93,7 +93,7 @@ impl IpAddressSet {
     pub fn from_parts(v4: AddressSet<Ipv4Network>, v6: AddressSet<Ipv6Network>) -> Self
         ensures { result ≡ v4_then_v6 v4 v6 }
     {
-        // The clauses of these calls tell that they are lists of sets.
+        // The clauses of these calls say that they are lists of sets.
         let _ = v4.blocks();
         let _ = v6.blocks();
         IpAddressSet { v4, v6 }

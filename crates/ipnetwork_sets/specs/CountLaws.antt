@@ -42,7 +42,7 @@ FreePartAddsUp = (w : ℕ) (n : Network) (a blocks : List Network) → IsLeastLi
 abbrev pub UnionAddsUp : Type 0
 UnionAddsUp = (w : ℕ) (a b blocks : List Network) → IsLeastList w (InEither w a b) blocks → HasCount (InEither w a b) (total w blocks) × (total w blocks ≤ 2 ^ w)
 
--- a total that is kept to 2^128 and goes on with one network more is kept to 2^128
+-- a total that is capped at 2^128 stays the capped total if one more network is added to it
 abbrev pub TotalGoesOn : Type 0
 TotalGoesOn = (w : ℕ) (before : List Network) (n : Network) → min (min (total w before) (2 ^ 128) + block_size w n.prefix) (2 ^ 128) ≡ min (total w (before ++ n ∷ [])) (2 ^ 128)
 

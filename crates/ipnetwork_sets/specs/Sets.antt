@@ -20,11 +20,11 @@ InBoth w first second x = InUnion w first x × InUnion w second x
 abbrev pub InFirstAlone : ℕ → List Network → List Network → ℕ → Type 0
 InFirstAlone w first second x = InUnion w first x × ¬ (InUnion w second x)
 
--- x is an address of the network, and none of the set
+-- x is an address of the network, and not one of the set
 abbrev pub InNetworkAlone : ℕ → Network → List Network → ℕ → Type 0
 InNetworkAlone w n networks x = Member w n x × ¬ (InUnion w networks x)
 
--- x is an address, and none of the set
+-- x is an address, and not one of the set
 abbrev pub InComplement : ℕ → List Network → ℕ → Type 0
 InComplement w networks x = (x < 2 ^ w) × ¬ (InUnion w networks x)
 

@@ -1,4 +1,4 @@
-//! Sets made of what gives blocks, in a list of the caller's.
+//! Sets made from iterators over blocks, in a list of the caller's.
 ghost use Rattle.std.specs.Prelude.{◌≡◌, IfOk};
 
 use crate::address_set::AddressSet;

@@ -51,7 +51,7 @@ pub fn push_range<N: AddressSpace>(
     ensures address { N.number last < 2 ^ N.WIDTH }
     ensures added { IfOk result (λ _. AddsLeastList N.WIDTH (FromTo (N.number first) (N.number last)) (map N.pair networks.old.items) (map N.pair networks.new.items)) }
 {
-    // The clause `address` of this call tells that `last` is an address of the family.
+    // The clause `address` of this call says that `last` is an address of the family.
     let _ = N::block(last, N::WIDTH);
     let Some(mut blocks) = range_to_blocks::<N>(first, last) else {
         return Ok(());

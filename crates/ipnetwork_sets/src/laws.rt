@@ -71,8 +71,8 @@ pub fn one_count_and_ranges()
     ensures union_ranges { UnionHasOneRangeList }
 {}
 
-/// The numbers of addresses of a set's blocks, added up, are the count of the set, and so of what each operation gives;
-/// a sum that is kept to 2^128 goes on with one block more (`AddressCount::add_block`).
+/// The numbers of addresses of a set's blocks, added up, are the count of the set, and so of what each operation
+/// returns; a sum that is capped at 2^128 stays the capped sum if one more block is added (`AddressCount::add_block`).
 pub fn sums()
     ensures set { SetAddsUp }
     ensures common { CommonPartAddsUp }
@@ -91,7 +91,7 @@ pub fn fewer_blocks()
     laws::one_block();
 }
 
-/// The addresses of the sets settle the blocks that each operation gives.
+/// The addresses of the sets determine the blocks that each operation returns.
 pub fn settled()
     ensures common { CommonPartIsSettled }
     ensures difference { DifferenceIsSettled }
@@ -99,8 +99,8 @@ pub fn settled()
     ensures union { UnionIsSettled }
 {}
 
-/// Of a set less itself nothing is left. Less a union it is the common part of the set less the one and less the other,
-/// and less a common part the union of these two (De Morgan's laws).
+/// A set minus itself is empty. A set minus a union is the common part of the set minus the one and the set minus the
+/// other, and a set minus a common part is the union of these two (De Morgan's laws).
 pub fn differences()
     ensures of_one { DifferenceOfOne }
     ensures of_union { DifferenceOfUnion }

@@ -25,7 +25,7 @@ pub(crate) fn covers<N: AddressSpace>(blocks: &[N], network: N) -> bool
     ensures { IsTrue result ↔ LiesInUnion N.WIDTH (N.pair network) (map N.pair blocks.now) }
 {
     laws::one_block();
-    // The clauses of this call tell that it is a network of addresses of WIDTH bits.
+    // The clauses of this call say that it is a network of addresses of WIDTH bits.
     let _ = network.ip();
     match last_up_to(blocks, network.network()) {
         Some(block) => network.is_subnet_of(block),
@@ -39,7 +39,7 @@ pub(crate) fn overlaps<N: AddressSpace>(blocks: &[N], network: N) -> bool
     ensures { IsTrue result ↔ MeetsUnion N.WIDTH (N.pair network) (map N.pair blocks.now) }
 {
     laws::one_block();
-    // The clauses of this call tell that it is a network of addresses of WIDTH bits.
+    // The clauses of this call say that it is a network of addresses of WIDTH bits.
     let _ = network.ip();
     match last_up_to(blocks, network.broadcast()) {
         Some(block) => network.overlaps(block),

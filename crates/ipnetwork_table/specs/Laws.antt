@@ -5,7 +5,7 @@ use Rattle.ipnetwork_family.specs.Network.{Network, HostBitsAreZero, Member, Sub
 use Rattle.ipnetwork_table.specs.Table.{HasBlocksAlone, HasNoHostBits, Answers}
 use Rattle.ipnetwork_table.specs.Computed.Longest.{longest_of}
 
--- two blocks of one prefix length that share an address are the same, whatever the number of bits
+-- two blocks of one prefix length that share an address are the same, for any number of bits
 abbrev pub BlocksOfAnyWidthThatMeet : Type 0
 BlocksOfAnyWidthThatMeet = (w : ℕ) (m n : Network) (x : ℕ) → HostBitsAreZero w m → HostBitsAreZero w n → m.prefix ≡ n.prefix → Member w m x → Member w n x → m ≡ n
 

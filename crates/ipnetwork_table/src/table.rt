@@ -217,9 +217,9 @@ impl<N: CidrNetwork, V: Copy> PrefixTable<N, V> {
         self.values.remove(block)
     }
 
-    // A prefix length that no stored block that holds the address is longer than; `None` if no stored block holds it.
-    // A block that does holds the stored block nearest below the address too, so it is no longer than what the two
-    // share.
+    // An upper bound of the prefix lengths of the stored blocks that hold the address; `None` if no stored block holds
+    // it. A block that does also holds the nearest stored block below the address, so its prefix is no longer than what
+    // the two share.
     fn greatest_length(&self, addr: N::Addr) -> Option<u8>
         ensures bound { MatchOption result (NoneHolds N.WIDTH self.now (N.number addr))
             (λ length. (length ≤ N.WIDTH) × NoneAbove N.WIDTH self.now (N.number addr) length) }

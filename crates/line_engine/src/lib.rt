@@ -1,4 +1,4 @@
-//! Answers the lines that a reader gives on a writer, piece by piece.
+//! Answers the lines of a reader on a writer, piece by piece.
 //!
 //! A [`handler::LineHandler`] decides what a line gets, and may keep state from one line to the next.
 //! [`run::answer_lines`] reads pieces, hands the handler each line in turn, gathers the replies, and writes those for

@@ -47,7 +47,7 @@ pub enum EntryFault {
     Range,
 }
 
-/// What a line says, which is given without its line end: `None` if there is nothing but blanks and a comment.
+/// What a line says. The line is given without its line end. `None` if there is nothing but blanks and a comment.
 ///
 /// An entry is what stands before the first `#` or `;`, without the blanks (spaces and tabs) around it. If it contains
 /// a `-`, it is a range: what stands before the first `-` and what stands after it, without the blanks around each, are

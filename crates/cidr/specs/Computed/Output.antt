@@ -36,7 +36,7 @@ answers_from routes [] = []
 answers_from routes (line ∷ lines) =
     request_answer routes (request_of line) ∷ answers_from (next_routes routes (request_of line)) lines
 
--- what is written for them, from no routes on
+-- what is written for them, starting with no routes
 abbrev pub output_of : List ℕ → List ℕ
 output_of input = replies (answers_from no_routes (lines input))
 

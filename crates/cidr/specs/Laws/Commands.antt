@@ -29,7 +29,7 @@ IsAnswered line text = (before after : Routes) (answer : List ℕ) → MayGet be
 
 -- ---- `read4 T` and `read6 T`
 
--- the canonical text of the network that T names in the family; if it names none, the first cause that is so
+-- the canonical text of the network that T names in the family; if it names none, the first cause that applies
 pub record AnswersRead (w : ℕ) (NamesAddress IsSuffix : List ℕ → ℕ → Type 0) (canonical : ℕ → List ℕ) (line text : List ℕ) : Type 0 where
   pub network : (n : Network) → NamesNetwork w NamesAddress IsSuffix text n → IsAnswered line (network_text canonical n)
   -- T contains two or more `/`
@@ -91,7 +91,7 @@ HasLaw = (line text word : List ℕ) → HasWords line (codes "has" ∷ text ∷
 
 -- ---- `rel T U`
 
--- how the sets of the networks that T and U name lie to each other
+-- how the sets of the networks that T and U name relate to each other
 pub record AnswersRelation (line text other : List ℕ) : Type 0 where
   pub sets : (a b : IpNetwork) → IsIpNetwork a → IsIpNetwork b → NamesIpNetwork text a → NamesIpNetwork other b
       → (told : List ℕ) × Relates told a b × IsAnswered line told
@@ -140,7 +140,7 @@ IsCommand (name ∷ word ∷ []) = Contains names_before_one name
 IsCommand (name ∷ first ∷ second ∷ []) = Contains names_before_two name
 IsCommand _ = ⊥
 
--- no line is a command but those of the ten names with their number of words
+-- no line is a command except those of the ten names with their number of words
 abbrev pub UnknownLaw : Type 0
 UnknownLaw = (line : List ℕ) → length line ≤ 1024 → ¬ (IsCommand (words line)) → IsAnswered line (codes "unknown command")
 

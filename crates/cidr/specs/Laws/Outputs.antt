@@ -69,8 +69,8 @@ PlainInputsHaveOneOutput = (input output : List ℕ) → AllByRecursion IsPlainL
 abbrev pub EndsALine : List ℕ → Type 0
 EndsALine front = (text : List ℕ) × (front ≡ text ++ 10 ∷ [])
 
--- what may be written for both parts is what may be written for the first, and then what may be written for the
--- second from the routes on that the first leaves
+-- what may be written for both parts is what may be written for the first, and then what may be written for the second
+-- starting with the routes that the first leaves
 abbrev pub IsOutputInParts : Routes → List ℕ → List ℕ → List ℕ → Routes → Type 0
 IsOutputInParts before front back output after = (between : Routes) × (one : List ℕ) × (two : List ℕ)
     × IsOutputFrom before front one between × IsOutputFrom between back two after × (output ≡ one ++ two)

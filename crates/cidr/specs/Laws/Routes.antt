@@ -37,7 +37,7 @@ pub data GetsDrop (before : Routes) (n : IpNetwork) (answer : List ℕ) (after :
 abbrev pub DropsGet : Type 0
 DropsGet = (before after : Routes) (n : IpNetwork) (answer : List ℕ) → IsIpNetwork n → MayGet before (Drop n) answer after → GetsDrop before n answer after
 
--- some lines leave these routes, from none on
+-- some lines leave these routes, starting with none
 abbrev pub AreLeft : Routes → Type 0
 AreLeft routes = (before answers : List (List ℕ)) × MayAnswer no_routes before answers routes
 

@@ -1,4 +1,4 @@
-//! `rel`: how the sets of two networks lie to each other.
+//! `rel`: how the sets of two networks relate to each other.
 ghost use Rattle.std.specs.Prelude.{◌≡◌, ◌≤◌, length};
 ghost use Rattle.cidr.specs.Commands.{rel_answer, relation};
 ghost use Rattle.cidr.specs.Private.Replies.{HasRoom, Adds};
@@ -8,7 +8,7 @@ use crate::replies::reply;
 use ipnetwork::{IpNetwork, laws};
 use line_engine::buffer::Buffer;
 
-/// `rel`: how the sets of two networks lie to each other.
+/// `rel`: how the sets of two networks relate to each other.
 pub(crate) fn rel(first: &[u8], second: &[u8], replies: &mut Buffer<'_>)
     requires { HasRoom replies.old }
     ensures { Adds replies.old replies.new (rel_answer first.now second.now) }
@@ -26,7 +26,7 @@ pub(crate) fn rel(first: &[u8], second: &[u8], replies: &mut Buffer<'_>)
     reply(replies, relation(first, second));
 }
 
-/// How the sets of two networks lie to each other.
+/// How the sets of two networks relate to each other.
 fn relation(first: IpNetwork, second: IpNetwork) -> &'static str
     ensures text { result.now ≡ relation first second }
     ensures short { length result.now ≤ 15 }

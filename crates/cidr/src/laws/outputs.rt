@@ -26,8 +26,8 @@ pub fn plain_lines_ask_nothing()
 {}
 
 /// If an input is cut directly after a line feed, its outputs are those of the first part, and then those of the second
-/// part from the routes on that the first leaves. If no line of the first part is `add`, `drop` or `find`, each part
-/// may be run by itself, and the outputs put together. If the first lines are the routes, and no line of the parts
+/// part starting with the routes that the first leaves. If no line of the first part is `add`, `drop` or `find`, each
+/// part may be run by itself, and the outputs put together. If the first lines are the routes, and no line of the parts
 /// after them is `add` or `drop`, each part may be run by itself if it gets the routes first.
 pub fn split_at_line_ends()
     ensures parts { SplitsAtLineEnds }

@@ -9,7 +9,7 @@ use Rattle.cidr_filter.specs.Reading.{IsReadOf, HoldsRead}
 use Rattle.cidr_filter.specs.declared.listed.Listed.{Listed}
 use Rattle.cidr_filter.specs.declared.listed.Listed.TheVariants.{Addresses, Blocks}
 
--- the lists were read, and with memory for the blocks that are told these are their networks
+-- the lists were read, and, if there was memory for the blocks that are asked for, these are their networks
 pub record ReadsAll {Z E : Type 0} (known : KnownLists) (words : List (String Z)) (longest : Bool) (listed : Result Listed E) (refused : Refused) : Type 0 where
   pub read : ReadLists
   pub is_read : IsReadOf known words read

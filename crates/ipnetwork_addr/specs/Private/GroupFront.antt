@@ -30,7 +30,7 @@ NoGroup text = (group : ℕ) (rest : List ℕ) → ¬ (BeginsWithGroup text grou
 
 -- A part of an IPv6 text is one group or more, joined by colons, up to the end of the text, which may come after an
 -- IPv4 text in place of the last two groups, or up to a `::`. The end is what follows the `::`, if there is one. Here:
--- the first group of a part, if More says the rest of the part about the text after its colon.
+-- the first group of a part; More says that the text after its colon is the rest of the part.
 pub data IsPartFrom (More : List ℕ → Type 0) (text : List ℕ) (group : ℕ) (groups : List ℕ) (end : Option (List ℕ)) : Type 0 where
   Last : BeginsWithGroup text group [] → groups ≡ [] → end ≡ None → IsPartFrom More text group groups end
   Dotted : (address : ℕ) → NamesV4 text address → group ∷ groups ≡ two_groups address → end ≡ None → IsPartFrom More text group groups end

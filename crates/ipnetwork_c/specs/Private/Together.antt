@@ -9,7 +9,7 @@ use Rattle.ipnetwork_c.specs.declared.together.Operation.{Operation}
 use Rattle.ipnetwork_c.specs.declared.together.Operation.TheVariants.{Union, Intersection, Difference}
 use Rattle.ipnetwork_c.specs.Private.Writing.{HasBlocks, AddsBlocks}
 
--- what an operation keeps, by what holds of both sets
+-- what an operation keeps, by what is true of both sets
 abbrev pub Keeps : Operation → Type 0 → Type 0 → Type 0
 Keeps Union P Q = P ⊎ Q
 Keeps Intersection P Q = P × Q

@@ -14,7 +14,7 @@ pub record IsLastUpTo (blocks : List Network) (x : ℕ) (last : Network) : Type 
   pub begins : last.address ≤ x
   pub others : (b : Network) → Contains blocks b → b.address ≤ x → b.address ≤ last.address
 
--- the blocks before `from` begin at the address x or before it, those at `to` and after after it
+-- the blocks before `from` begin at the address x or before it, and those at `to` and later begin after it
 pub record IsSplit (blocks : List Network) (x from to : ℕ) : Type 0 where
   pub ordered : from ≤ to
   pub within : to ≤ length blocks

@@ -1,4 +1,4 @@
--- Numbers of addresses that are kept to a greatest number.
+-- Numbers of addresses that are capped.
 use Rattle.std.specs.Prelude.{ℕ, ◌^◌, min}
 
 -- a number, or 2^128 in place of a greater one
