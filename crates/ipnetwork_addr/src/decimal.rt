@@ -5,7 +5,7 @@ ghost use Rattle.ipnetwork_addr.specs.Private.Decimals.{padded_decimal};
 
 use arrayvec::ArrayString;
 
-/// Writes the shortest decimal of a number at the end of a text: one to three bytes, for which there must be room.
+/// Writes the shortest decimal of a number at the end of a text: one to three bytes. There must be room for three.
 ///
 /// ```
 /// let mut text = arrayvec::ArrayString::<8>::new();
@@ -43,7 +43,7 @@ const CHUNK: u128 = 10_000_000_000_000_000_000;
 /// How many digits of a large number are written at a time.
 const CHUNK_DIGITS: u8 = 19;
 
-/// Writes the shortest decimal of a number at the end of a text: one to 39 bytes, for which there must be room.
+/// Writes the shortest decimal of a number at the end of a text: one to 39 bytes. There must be room for 39.
 ///
 /// ```
 /// let mut text = arrayvec::ArrayString::<39>::new();

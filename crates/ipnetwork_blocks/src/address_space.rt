@@ -22,7 +22,7 @@ pub trait AddressSpace: CidrNetwork {
     fn whole() -> Self
         ensures { Self.pair result ≡ record { address = 0; prefix = 0 } };
 
-    /// The network without host bits of this prefix length that holds the address.
+    /// The network without host bits of this prefix length, which must be at most `WIDTH`, that holds the address.
     ///
     /// ```
     /// let block = Ipv4Network::block_at(Ipv4Addr::new(192, 0, 2, 130), 25);

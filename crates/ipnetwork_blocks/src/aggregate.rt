@@ -44,8 +44,8 @@ pub fn aggregate_vec<N: CidrNetwork>(networks: &mut Vec<N>)
 }
 
 /// Does what `aggregate_in_place` does, for values that hold networks in a form of their own: replaces them by values
-/// that hold the aggregate, at the front of the slice, and returns how many these are. The rest of the slice holds
-/// unspecified networks.
+/// that hold the aggregate, at the front of the slice, and returns how many these are. Each value must hold a network
+/// of the family of `N`. The rest of the slice holds unspecified networks.
 ///
 /// Sorts the slice and goes over it once. Does not allocate.
 ///

@@ -22,7 +22,7 @@ pub trait HoldsNetwork<N: CidrNetwork>: Copy + Ord {
     // The address and the prefix length of the network that it holds.
     ghost held: { Self → Network };
 
-    /// The network that the value holds.
+    /// The network that the value holds; it must hold one of the family of `N`.
     ///
     /// ```
     /// let value: Ipv6Network = "2001:db8::/32".parse()?;

@@ -89,7 +89,7 @@ pub trait Address: Copy + Ord + Hash + Debug {
     fn is_of_width(self)
         ensures { number self < 2 ^ WIDTH };
 
-    /// The mask of a prefix length: as many ones in front, and zeros after them.
+    /// The mask of a prefix length, which must be at most `WIDTH`: as many ones in front, and zeros after them.
     ///
     /// ```
     /// assert_eq!(rt; Ipv4Addr::mask(20), Ipv4Addr::new(255, 255, 240, 0));
@@ -107,7 +107,7 @@ pub trait Address: Copy + Ord + Hash + Debug {
     fn prefix_of_mask(self) -> Option<u8>
         ensures { MatchOption result (IsNoMask WIDTH (number self)) (λ prefix. (prefix ≤ WIDTH) × (number self ≡ mask_of WIDTH prefix)) };
 
-    /// The address with the bits after the first `prefix` cleared.
+    /// The address with the bits after the first `prefix` cleared. `prefix` must be at most `WIDTH`.
     ///
     /// ```
     /// assert_eq!(rt; Ipv4Addr::new(192, 0, 2, 77).least(26), Ipv4Addr::new(192, 0, 2, 64));
@@ -116,7 +116,7 @@ pub trait Address: Copy + Ord + Hash + Debug {
         requires { prefix ≤ WIDTH }
         ensures { number result ≡ low WIDTH (record { address = number self; prefix = prefix }) };
 
-    /// The address with the bits after the first `prefix` set.
+    /// The address with the bits after the first `prefix` set. `prefix` must be at most `WIDTH`.
     ///
     /// ```
     /// assert_eq!(rt; Ipv4Addr::new(192, 0, 2, 77).greatest(26), Ipv4Addr::new(192, 0, 2, 127));
@@ -125,7 +125,7 @@ pub trait Address: Copy + Ord + Hash + Debug {
         requires { prefix ≤ WIDTH }
         ensures { number result ≡ high WIDTH (record { address = number self; prefix = prefix }) };
 
-    /// Whether two addresses agree in their first `prefix` bits.
+    /// Whether two addresses agree in their first `prefix` bits. `prefix` must be at most `WIDTH`.
     ///
     /// ```
     /// let address = Ipv4Addr::new(192, 0, 2, 77);
