@@ -1,16 +1,16 @@
 /* IP networks in CIDR notation, IPv4 and IPv6: read from texts, printed, and asked about their sets of addresses.
  *
- * Every call but the two that tell a version answers an ipnetwork_fault: IPNETWORK_OK, which is 0, or why there is no
- * answer. Answers go where the last pointers say. After a fault nothing has been written, but for the length that a
- * call which writes a text tells with IPNETWORK_SHORT_BUFFER, and the number that one which writes blocks does. A struct
+ * Every call except the two that tell a version returns an ipnetwork_fault: IPNETWORK_OK, which is 0, or why there is no
+ * result. Results are written through the last pointers. After a fault nothing has been written, except that after
+ * IPNETWORK_SHORT_BUFFER a call that writes a text tells its length, and one that writes blocks their number. A struct
  * that the caller has filled is checked: a prefix length past the width is IPNETWORK_PREFIX, and never trusted.
  *
  * No call allocates or keeps anything. Each may be made from any thread, and from several at once, as long as no
  * other thread writes what it reads or touches what it writes.
  *
- * What the caller has to see to, since no call can check it:
+ * What the caller must ensure, since no call can check it:
  *   - no pointer is NULL, except beside a length of 0: that is an empty text, or a buffer of no bytes;
- *   - behind a pointer lies what its type says, or as many bytes as the length beside it says, at most PTRDIFF_MAX;
+ *   - a pointer points to what its type says, or to as many bytes as the length beside it says, at most PTRDIFF_MAX;
  *   - what a call writes does not overlap anything else that the same call is given. No object is both input and
  *     output: the functions are compiled as if no other pointer reached what they write, which is what restrict says.
  *     Use a second object, and copy it.
@@ -30,13 +30,13 @@
 extern "C" {
 #endif
 
-/* The version of the names, structs and numbers below: it changes with any of them. ipnetwork_abi_version() answers
- * that of the library. A call that is added raises the minor version, which ipnetwork_abi_minor_version() answers: a
+/* The version of the names, structs and numbers below: it changes with any of them. ipnetwork_abi_version() returns
+ * that of the library. A call that is added raises the minor version, which ipnetwork_abi_minor_version() returns: a
  * program needs a library of the version that it was compiled with, and of the same minor version or a later one. */
 #define IPNETWORK_ABI_VERSION 2
 #define IPNETWORK_ABI_MINOR_VERSION 2
 
-/* Enough for every text of the family and the zero byte behind it. */
+/* Enough for every text of the family and the zero byte after it. */
 #define IPNETWORK_V4_TEXT 19
 #define IPNETWORK_V6_TEXT 44
 
@@ -51,7 +51,7 @@ typedef uint32_t ipnetwork_fault;
 enum {
     IPNETWORK_OK = 0,
     IPNETWORK_FORMAT = 1,       /* the text holds two or more '/' */
-    IPNETWORK_ADDRESS = 2,      /* what stands before the '/', or the whole text where there is none, is no address of
+    IPNETWORK_ADDRESS = 2,      /* what stands before the '/', or the whole text if there is none, is no address of
                                    the family; of ipnetwork_read: the text is no network of either family */
     IPNETWORK_PREFIX = 3,       /* no prefix length of the family, whether a text, an argument or a struct has it */
     IPNETWORK_SHORT_BUFFER = 4, /* no room for the text and a zero byte, or for as many rows or blocks */
@@ -101,7 +101,7 @@ typedef struct ipnetwork_ip {
 } ipnetwork_ip;
 
 /* An address of either family: its octets, the highest first, and how many they are, 4 or 16. The calls that write one
- * put zeros behind those of an IPv4 address; the calls that read one do not look at them. */
+ * put zeros after those of an IPv4 address; the calls that read one do not look at them. */
 typedef struct ipnetwork_address {
     uint8_t octets[16];
     uint8_t length;
@@ -110,7 +110,7 @@ typedef struct ipnetwork_address {
 uint32_t ipnetwork_abi_version(void);
 uint32_t ipnetwork_abi_minor_version(void);
 
-/* What a fault says in a few words, "unknown fault" for a number that is none, and a zero byte behind it, in the front
+/* What a fault says in a few words, "unknown fault" for a number that is none, and a zero byte after it, in the front
  * of a buffer of buffer_length bytes, of which IPNETWORK_FAULT_TEXT are enough. *text_length and
  * IPNETWORK_SHORT_BUFFER are as in the canonical calls. */
 IPNETWORK_CHECKED_AT(4) ipnetwork_fault ipnetwork_fault_text(ipnetwork_fault fault, char *IPNETWORK_ALONE buffer,
@@ -118,10 +118,10 @@ IPNETWORK_CHECKED_AT(4) ipnetwork_fault ipnetwork_fault_text(ipnetwork_fault fau
                                                               size_t *IPNETWORK_ALONE text_length);
 
 /* The network that a text names: an address, and after a '/' a prefix length (an optional '+' and decimal digits,
- * leading zeros too) or, for IPv4 alone, one of the 33 masks as an address. Without a '/' the prefix length is the
+ * leading zeros too) or, only for IPv4, one of the 33 masks as an address. Without a '/' the prefix length is the
  * full width, 32 or 128. An IPv4 address is four decimals without leading zeros (RFC 3986, section 3.2.2), an IPv6
  * address has the forms of RFC 4291, section 2.2. Host bits are kept. For any other text the fault is
- * IPNETWORK_FORMAT, IPNETWORK_ADDRESS or IPNETWORK_PREFIX, the first that holds. */
+ * IPNETWORK_FORMAT, IPNETWORK_ADDRESS or IPNETWORK_PREFIX, the first that applies. */
 IPNETWORK_CHECKED_AT(3) ipnetwork_fault ipnetwork_v4_read(const char *text, size_t text_length,
                                                            ipnetwork_v4 *IPNETWORK_ALONE network);
 IPNETWORK_CHECKED_AT(3) ipnetwork_fault ipnetwork_v6_read(const char *text, size_t text_length,
@@ -139,10 +139,10 @@ IPNETWORK_CHECKED ipnetwork_fault ipnetwork_v6_new(const uint8_t address[16], ui
                                                    ipnetwork_v6 *IPNETWORK_ALONE network);
 
 /* The canonical text, host bits kept (an IPv6 address as RFC 5952, section 4, says, and of the addresses of section 5
- * the IPv4-mapped ones dotted), and a zero byte behind it, in the front of a buffer of buffer_length bytes.
- * *text_length is the length of the text, without the zero byte. IPNETWORK_SHORT_BUFFER where buffer_length is not
- * greater than that: then *text_length is told all the same, and the buffer is not written. A buffer of no bytes, at
- * any pointer or NULL, asks for the length alone. */
+ * the IPv4-mapped ones dotted), and a zero byte after it, in the front of a buffer of buffer_length bytes.
+ * *text_length is the length of the text, without the zero byte. IPNETWORK_SHORT_BUFFER if buffer_length is not
+ * greater than that: then *text_length is written all the same, and the buffer is not. A buffer of no bytes, at
+ * any pointer or NULL, asks only for the length. */
 IPNETWORK_CHECKED_AT(1, 4) ipnetwork_fault ipnetwork_v4_canonical(const ipnetwork_v4 *network,
                                                                    char *IPNETWORK_ALONE buffer, size_t buffer_length,
                                                                    size_t *IPNETWORK_ALONE text_length);
@@ -157,9 +157,9 @@ IPNETWORK_CHECKED ipnetwork_fault ipnetwork_v4_contains(const ipnetwork_v4 *netw
 IPNETWORK_CHECKED ipnetwork_fault ipnetwork_v6_contains(const ipnetwork_v6 *network, const uint8_t address[16],
                                                         uint8_t *IPNETWORK_ALONE answer);
 
-/* The same of many addresses in one call: answers[i] is what ipnetwork_v4_contains or ipnetwork_v6_contains answers of
- * the address number i. There are address_count addresses, of 4 or 16 octets each, one behind the other.
- * IPNETWORK_SHORT_BUFFER where answer_count, for how many answers there is room, is less than address_count. Answers
+/* The same of many addresses in one call: answers[i] is what ipnetwork_v4_contains or ipnetwork_v6_contains writes for
+ * the address number i. There are address_count addresses, of 4 or 16 octets each, one after the other.
+ * IPNETWORK_SHORT_BUFFER if answer_count, for how many answers there is room, is less than address_count. Answers
  * past address_count are not written. */
 IPNETWORK_CHECKED_AT(1) ipnetwork_fault ipnetwork_v4_contains_column(const ipnetwork_v4 *network,
                                                                      const uint8_t *addresses,
@@ -173,7 +173,7 @@ IPNETWORK_CHECKED_AT(1) ipnetwork_fault ipnetwork_v6_contains_column(const ipnet
                                                                      size_t answer_count);
 
 /* Whether an address is a member of one of network_count networks, in any order, host bits or not: *answer is 1 or 0,
- * and 0 if there are none. IPNETWORK_PREFIX where the prefix length of one is past the width. */
+ * and 0 if there are none. IPNETWORK_PREFIX if the prefix length of one is past the width. */
 IPNETWORK_CHECKED_AT(3, 4) ipnetwork_fault ipnetwork_v4_list_contains(const ipnetwork_v4 *networks,
                                                                       size_t network_count, const uint8_t address[4],
                                                                       uint8_t *IPNETWORK_ALONE answer);
@@ -210,7 +210,7 @@ IPNETWORK_CHECKED ipnetwork_fault ipnetwork_compare(const ipnetwork_ip *one, con
 IPNETWORK_CHECKED_AT(3) ipnetwork_fault ipnetwork_address_read(const char *text, size_t text_length,
                                                                 ipnetwork_address *IPNETWORK_ALONE address);
 
-/* The canonical text of an address, and a zero byte behind it: as ipnetwork_canonical prints the address of a network,
+/* The canonical text of an address, and a zero byte after it: as ipnetwork_canonical prints the address of a network,
  * into a buffer of which IPNETWORK_ADDRESS_TEXT bytes are enough. IPNETWORK_NO_FAMILY if the struct's length is neither
  * 4 nor 16. */
 IPNETWORK_CHECKED_AT(1, 4) ipnetwork_fault ipnetwork_address_canonical(const ipnetwork_address *address,
@@ -227,7 +227,7 @@ IPNETWORK_CHECKED ipnetwork_fault ipnetwork_v6_broadcast(const ipnetwork_v6 *net
 IPNETWORK_CHECKED ipnetwork_fault ipnetwork_v4_mask(const ipnetwork_v4 *network, uint8_t mask[IPNETWORK_ALONE 4]);
 IPNETWORK_CHECKED ipnetwork_fault ipnetwork_v6_mask(const ipnetwork_v6 *network, uint8_t mask[IPNETWORK_ALONE 16]);
 
-/* The prefix length of a mask. IPNETWORK_NO_MASK where the address is none of the 33, or 129, masks. */
+/* The prefix length of a mask. IPNETWORK_NO_MASK if the address is none of the 33, or 129, masks. */
 IPNETWORK_CHECKED ipnetwork_fault ipnetwork_v4_prefix_of_mask(const uint8_t mask[4], uint8_t *IPNETWORK_ALONE prefix);
 IPNETWORK_CHECKED ipnetwork_fault ipnetwork_v6_prefix_of_mask(const uint8_t mask[16], uint8_t *IPNETWORK_ALONE prefix);
 
@@ -237,9 +237,8 @@ IPNETWORK_CHECKED ipnetwork_fault ipnetwork_v4_size(const ipnetwork_v4 *network,
 IPNETWORK_CHECKED ipnetwork_fault ipnetwork_v6_size(const ipnetwork_v6 *network, uint8_t size[IPNETWORK_ALONE 17]);
 
 /* The member number n in order, counted from 0; for IPv6 n is 16 octets, the highest first. Every member has a number, at
- * prefix length 0 too: the last one is 2^32 - 1, or 2^128 - 1. So this is also a host by its number: number 0 is what the
- * calls above tell as the least member, and the last number the greatest. IPNETWORK_NO_MEMBER where n is not below the
- * size. */
+ * prefix length 0 too: the last one is 2^32 - 1, or 2^128 - 1. So this is also a host by its number: number 0 is the least
+ * member and the last number the greatest. IPNETWORK_NO_MEMBER if n is not below the size. */
 IPNETWORK_CHECKED ipnetwork_fault ipnetwork_v4_nth(const ipnetwork_v4 *network, uint32_t n,
                                                    uint8_t address[IPNETWORK_ALONE 4]);
 IPNETWORK_CHECKED ipnetwork_fault ipnetwork_v6_nth(const ipnetwork_v6 *network, const uint8_t n[16],
@@ -258,7 +257,7 @@ IPNETWORK_CHECKED ipnetwork_fault ipnetwork_v6_overlaps(const ipnetwork_v6 *one,
                                                         uint8_t *IPNETWORK_ALONE answer);
 
 /* Which comes first, by address, host bits included, and then by prefix length: *order is -1 for one, 1 for other, 0
- * where they are equal. */
+ * if they are equal. */
 IPNETWORK_CHECKED ipnetwork_fault ipnetwork_v4_compare(const ipnetwork_v4 *one, const ipnetwork_v4 *other,
                                                        int32_t *IPNETWORK_ALONE order);
 IPNETWORK_CHECKED ipnetwork_fault ipnetwork_v6_compare(const ipnetwork_v6 *one, const ipnetwork_v6 *other,
@@ -266,8 +265,8 @@ IPNETWORK_CHECKED ipnetwork_fault ipnetwork_v6_compare(const ipnetwork_v6 *one, 
 
 /* The aggregate of network_count networks, in any order, host bits or not, put into the front of their own array: the
  * fewest blocks with the same addresses, in ascending order and without host bits. *block_count is how many they are;
- * behind them stand networks, whichever. The union of lists is the aggregate of one array that has them all.
- * IPNETWORK_PREFIX where the prefix length of one is past the width. */
+ * which networks stand after them is not specified. The union of lists is the aggregate of one array that has them all.
+ * IPNETWORK_PREFIX if the prefix length of one is past the width. */
 IPNETWORK_CHECKED_AT(3) ipnetwork_fault ipnetwork_v4_aggregate(ipnetwork_v4 *IPNETWORK_ALONE networks,
                                                                 size_t network_count,
                                                                 size_t *IPNETWORK_ALONE block_count);
