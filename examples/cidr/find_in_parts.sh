@@ -10,6 +10,10 @@
 set -eu -o pipefail
 program=$(cd "$(dirname "$0")/../.." && pwd)/crates/cidr/out/cidr
 routes=$1
+if [ ! -r "$routes" ]; then
+    echo "$routes: cannot read" >&2
+    exit 2
+fi
 if [ -n "$(tail -c 1 "$routes")" ]; then
     echo "$routes: the last line has no line feed" >&2
     exit 2
