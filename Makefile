@@ -15,9 +15,10 @@ MANDIR = $(PREFIX)/share/man
 DESTDIR =
 INSTALL = install
 
-# IPNETWORK_ABI_VERSION of bindings/c/ipnetwork.h
+# IPNETWORK_ABI_VERSION and IPNETWORK_ABI_MINOR_VERSION of bindings/c/ipnetwork.h
 MAJOR := $(shell sed -n 's/^.define IPNETWORK_ABI_VERSION //p' bindings/c/ipnetwork.h)
-VERSION = $(MAJOR).0
+MINOR := $(shell sed -n 's/^.define IPNETWORK_ABI_MINOR_VERSION //p' bindings/c/ipnetwork.h)
+VERSION = $(MAJOR).$(MINOR)
 OUT = bindings/out
 ARCHIVE = crates/ipnetwork_c/out/libipnetwork_c.a
 SHARED = $(OUT)/libipnetwork_c.so.$(VERSION)
