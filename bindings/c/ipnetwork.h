@@ -34,7 +34,7 @@ extern "C" {
  * that of the library. A call that is added raises the minor version, which ipnetwork_abi_minor_version() returns: a
  * program needs a library of the version that it was compiled with, and of the same minor version or a later one. */
 #define IPNETWORK_ABI_VERSION 2
-#define IPNETWORK_ABI_MINOR_VERSION 2
+#define IPNETWORK_ABI_MINOR_VERSION 3
 
 /* Enough for every text of the family and the zero byte after it. */
 #define IPNETWORK_V4_TEXT 19
@@ -283,9 +283,20 @@ IPNETWORK_CHECKED_AT(3, 4) ipnetwork_fault ipnetwork_v4_set_contains(const ipnet
 IPNETWORK_CHECKED_AT(3, 4) ipnetwork_fault ipnetwork_v6_set_contains(const ipnetwork_v6 *blocks, size_t block_count,
     const uint8_t address[16], uint8_t *IPNETWORK_ALONE answer);
 
+/* A table of network_count networks, in any order, host bits or not, for the next calls: the block of each in the front of
+ * blocks, in ascending order, and in the front of places, beside each block, the number of its network, counted from 0. So
+ * networks[places[i]] is the network of blocks[i], and what belongs to a network is found by its place. Blocks that are equal
+ * come in the order of their networks: of these the next calls find the last one. What comes after the table is not written.
+ * IPNETWORK_PREFIX if the prefix length of a network is past the width; else IPNETWORK_SHORT_BUFFER if block_count or
+ * place_count, for how many there is room, is less than network_count. */
+IPNETWORK_CHECKED_FAULT ipnetwork_fault ipnetwork_v4_table_make(const ipnetwork_v4 *networks, size_t network_count,
+    ipnetwork_v4 *IPNETWORK_ALONE blocks, size_t block_count, size_t *IPNETWORK_ALONE places, size_t place_count);
+IPNETWORK_CHECKED_FAULT ipnetwork_fault ipnetwork_v6_table_make(const ipnetwork_v6 *networks, size_t network_count,
+    ipnetwork_v6 *IPNETWORK_ALONE blocks, size_t block_count, size_t *IPNETWORK_ALONE places, size_t place_count);
+
 /* The longest block that has an address, in a table: block_count blocks without host bits in ascending order, as
- * ipnetwork_v4_compare and ipnetwork_v6_compare order them, of which some may lie in others. *index is its place, by which the
- * caller finds what belongs to it. The last block up to the address is found by one binary search; as long as it has the
+ * ipnetwork_v4_compare and ipnetwork_v6_compare order them, of which some may lie in others, as table_make leaves them. *index
+ * is its place, by which the caller finds what belongs to it; of equal blocks it is that of the last one. The last block up to the address is found by one binary search; as long as it has the
  * address not, another one is made among those before it. IPNETWORK_NO_MEMBER if no block has the address. That the list is a
  * table is not checked: of another list the block at *index has the address too, but there may be a longer one, and
  * IPNETWORK_NO_MEMBER says nothing. IPNETWORK_PREFIX only if the prefix length of a struct is past the width; not every struct
@@ -294,6 +305,18 @@ IPNETWORK_CHECKED_AT(3, 4) ipnetwork_fault ipnetwork_v4_table_find(const ipnetwo
     const uint8_t address[4], size_t *IPNETWORK_ALONE index);
 IPNETWORK_CHECKED_AT(3, 4) ipnetwork_fault ipnetwork_v6_table_find(const ipnetwork_v6 *blocks, size_t block_count,
     const uint8_t address[16], size_t *IPNETWORK_ALONE index);
+
+/* The same of many addresses in one call: indexes[i] and faults[i] are what ipnetwork_v4_table_find or ipnetwork_v6_table_find
+ * leaves and returns of the address number i, so that an address without a block leaves its index as it was, and stops nothing.
+ * There are address_count addresses, of 4 or 16 octets each, one after the other. What comes after the last of the indexes and
+ * faults is not written. IPNETWORK_SHORT_BUFFER if index_count or fault_count, for how many there is room, is less than
+ * address_count: then nothing is written. */
+IPNETWORK_CHECKED_FAULT ipnetwork_fault ipnetwork_v4_table_find_column(const ipnetwork_v4 *blocks, size_t block_count,
+    const uint8_t *addresses, size_t address_count, size_t *IPNETWORK_ALONE indexes, size_t index_count,
+    uint8_t *IPNETWORK_ALONE faults, size_t fault_count);
+IPNETWORK_CHECKED_FAULT ipnetwork_fault ipnetwork_v6_table_find_column(const ipnetwork_v6 *blocks, size_t block_count,
+    const uint8_t *addresses, size_t address_count, size_t *IPNETWORK_ALONE indexes, size_t index_count,
+    uint8_t *IPNETWORK_ALONE faults, size_t fault_count);
 
 /* The union of two sets, what both have (intersection), and what the first has and the second has not (difference): the
  * fewest blocks with these addresses, in ascending order and without host bits, in the front of blocks, an array of the
@@ -370,6 +393,16 @@ IPNETWORK_CHECKED_AT(7) ipnetwork_fault ipnetwork_v4_print_column(const ipnetwor
     char *IPNETWORK_ALONE texts, size_t room, uint32_t *IPNETWORK_ALONE offsets, size_t offset_count,
     size_t *IPNETWORK_ALONE texts_length);
 IPNETWORK_CHECKED_AT(7) ipnetwork_fault ipnetwork_v6_print_column(const ipnetwork_v6 *networks, size_t network_count,
+    char *IPNETWORK_ALONE texts, size_t room, uint32_t *IPNETWORK_ALONE offsets, size_t offset_count,
+    size_t *IPNETWORK_ALONE texts_length);
+
+/* The same of networks of either family, as ipnetwork_canonical prints each, and of addresses, as ipnetwork_address_canonical
+ * does. If a row is refused by that call, the fault is that of the first such row, IPNETWORK_NO_FAMILY or IPNETWORK_PREFIX, and
+ * nothing is written. */
+IPNETWORK_CHECKED_AT(7) ipnetwork_fault ipnetwork_print_column(const ipnetwork_ip *networks, size_t network_count,
+    char *IPNETWORK_ALONE texts, size_t room, uint32_t *IPNETWORK_ALONE offsets, size_t offset_count,
+    size_t *IPNETWORK_ALONE texts_length);
+IPNETWORK_CHECKED_AT(7) ipnetwork_fault ipnetwork_address_print_column(const ipnetwork_address *addresses, size_t address_count,
     char *IPNETWORK_ALONE texts, size_t room, uint32_t *IPNETWORK_ALONE offsets, size_t offset_count,
     size_t *IPNETWORK_ALONE texts_length);
 

@@ -1,6 +1,7 @@
 /* Nanoseconds a call of read and contains, of both families, beside inet_pton and its address alone, and nanoseconds a
  * row of a column. The texts are random networks with random prefix lengths; the address asked for lies in the network
- * every other time. */
+ * every other time. Searches in a set and in a table of 10,000 random networks are measured beside a plain binary search in
+ * C over the same array. */
 #define _POSIX_C_SOURCE 200809L
 #include "ipnetwork.h"
 
@@ -83,6 +84,64 @@ static uint64_t column_v6(size_t i) {
 static uint64_t pton_v4(size_t i) { return (uint64_t)inet_pton(AF_INET, addresses_v4[i], octets) + octets[0]; }
 static uint64_t pton_v6(size_t i) { return (uint64_t)inet_pton(AF_INET6, addresses_v6[i], octets) + octets[0]; }
 
+/* A set of random networks of 20 to 28 bits, and the table of them, asked for addresses of which every other one lies in one. */
+enum { MANY = 10000 };
+static ipnetwork_v4 many[MANY], set_blocks[MANY], table_blocks[MANY];
+static size_t set_count, places[MANY], indexes[COUNT];
+static uint8_t searched[COUNT][4], faults[COUNT];
+
+static void make_lists(void) {
+    for (size_t i = 0; i < MANY; i++) {
+        for (size_t at = 0; at < 4; at++)
+            many[i].address[at] = random_byte();
+        many[i].prefix = (uint8_t)(20 + next() % 9);
+    }
+    memcpy(set_blocks, many, sizeof many);
+    if (ipnetwork_v4_aggregate(set_blocks, MANY, &set_count) != IPNETWORK_OK ||
+        ipnetwork_v4_table_make(many, MANY, table_blocks, MANY, places, MANY) != IPNETWORK_OK)
+        abort();
+    for (size_t i = 0; i < COUNT; i++) {
+        for (size_t at = 0; at < 4; at++)
+            searched[i][at] = random_byte();
+        if (next() & 1)
+            memcpy(searched[i], many[next() % MANY].address, 4);
+    }
+}
+
+static uint32_t number_of(const uint8_t octets[4]) {
+    return (uint32_t)octets[0] << 24 | (uint32_t)octets[1] << 16 | (uint32_t)octets[2] << 8 | octets[3];
+}
+
+/* The same question as ipnetwork_v4_set_contains, as one would write it. */
+__attribute__((noinline)) static ipnetwork_fault plain_contains(const ipnetwork_v4 *blocks, size_t count, const uint8_t address[4], uint8_t *has) {
+    uint32_t number = number_of(address);
+    size_t from = 0, to = count;
+    while (from < to) {
+        size_t middle = from + (to - from) / 2;
+        if (number_of(blocks[middle].address) <= number)
+            from = middle + 1;
+        else
+            to = middle;
+    }
+    *has = 0;
+    if (from == 0)
+        return IPNETWORK_OK;
+    const ipnetwork_v4 *last = &blocks[from - 1];
+    if (last->prefix > 32)
+        return IPNETWORK_PREFIX;
+    *has = (uint64_t)(number_of(last->address) ^ number) >> (32 - last->prefix) == 0;
+    return IPNETWORK_OK;
+}
+
+static uint64_t set_v4(size_t i) { return ipnetwork_v4_set_contains(set_blocks, set_count, searched[i], &answer) + answer; }
+static uint64_t plain_set_v4(size_t i) { return plain_contains(set_blocks, set_count, searched[i], &answer) + answer; }
+static uint64_t table_v4(size_t i) {
+    return ipnetwork_v4_table_find(table_blocks, MANY, searched[i], indexes) + indexes[0];
+}
+static uint64_t table_column_v4(size_t i) {
+    return i != 0 ? 0 : ipnetwork_v4_table_find_column(table_blocks, MANY, searched[0], COUNT, indexes, COUNT, faults, COUNT) + indexes[1];
+}
+
 /* The least of several measurements. */
 static void measure(const char *name, uint64_t (*call)(size_t)) {
     double least = 1e300;
@@ -110,5 +169,10 @@ int main(void) {
     measure("ipnetwork_v6_contains", has_v6);
     measure("ipnetwork_v4_contains_column", column_v4);
     measure("ipnetwork_v6_contains_column", column_v6);
+    make_lists();
+    measure("ipnetwork_v4_set_contains", set_v4);
+    measure("a plain binary search in C", plain_set_v4);
+    measure("ipnetwork_v4_table_find", table_v4);
+    measure("ipnetwork_v4_table_find_column", table_column_v4);
     return 0;
 }

@@ -749,6 +749,106 @@ static void tables(void) {
     CHECK("NULL", ipnetwork_v6_table_find(NULL, 0, past_six.address, &index) == IPNETWORK_NO_MEMBER && index == 77);
 }
 
+/* A random network within 256 addresses, of either family, with host bits. */
+static void random_network(ipnetwork_v4 *four, ipnetwork_v6 *six) {
+    unsigned bits = number() % 9, host = number() & 255;
+    *four = (ipnetwork_v4){{192, 0, 2, (uint8_t)host}, (uint8_t)(32 - bits)};
+    *six = (ipnetwork_v6){{0x20, 1, 0x0d, 0xb8}, (uint8_t)(128 - bits)};
+    six->address[15] = (uint8_t)host;
+}
+
+/* Tables of random networks: each has its block, these ascend, and those that are equal come in the order of the networks. */
+static void tables_made(void) {
+    for (size_t round = 0; round < 600; round++) {
+        size_t count = round % 40, room = count + round % 3;
+        ipnetwork_v4 *four = edge(count * sizeof *four), *fours = edge(room * sizeof *fours), block;
+        ipnetwork_v6 *six = edge(count * sizeof *six), *sixes = edge(room * sizeof *sixes), block_six;
+        size_t *places = edge(room * sizeof *places), *places_six = edge(room * sizeof *places_six);
+        for (size_t i = 0; i < count; i++) random_network(&four[i], &six[i]);
+        memset(fours, 77, room * sizeof *fours);
+        memset(sixes, 77, room * sizeof *sixes);
+        memset(places, 77, room * sizeof *places);
+        memset(places_six, 77, room * sizeof *places_six);
+        CHECK("made", ipnetwork_v4_table_make(four, count, fours, room, places, room) == YES);
+        CHECK("made", ipnetwork_v6_table_make(six, count, sixes, room, places_six, room) == YES);
+        for (size_t i = 0; i < count; i++) {
+            size_t place = places[i];
+            int32_t order = 77;
+            CHECK("made", place < count && places_six[i] == place);
+            CHECK("made", ipnetwork_v4_network(&four[place], block.address) == YES);
+            CHECK("made", ipnetwork_v6_network(&six[place], block_six.address) == YES);
+            block.prefix = four[place].prefix;
+            block_six.prefix = six[place].prefix;
+            CHECK("made", memcmp(&fours[i], &block, sizeof block) == 0 && memcmp(&sixes[i], &block_six, sizeof block_six) == 0);
+            if (i == 0) continue;
+            CHECK("made", ipnetwork_v4_compare(&fours[i - 1], &fours[i], &order) == YES);
+            CHECK("made", order < 0 || (order == 0 && places[i - 1] < place));
+        }
+        for (size_t i = count * sizeof *fours; i < room * sizeof *fours; i++) CHECK("past", ((uint8_t *)fours)[i] == 77);
+        for (size_t i = count * sizeof *places; i < room * sizeof *places; i++) CHECK("past", ((uint8_t *)places)[i] == 77);
+        /* Of each address the last network of the greatest prefix length that has it. */
+        uint8_t addresses[256][4], addresses_six[256][16] = {{0}}, faults[258], faults_six[258];
+        size_t *indexes = edge(257 * sizeof *indexes), *indexes_six = edge(257 * sizeof *indexes_six);
+        memset(indexes, 77, 257 * sizeof *indexes);
+        memset(indexes_six, 77, 257 * sizeof *indexes_six);
+        memset(faults, 77, sizeof faults);
+        memset(faults_six, 77, sizeof faults_six);
+        for (unsigned host = 0; host < 256; host++) {
+            memcpy(addresses[host], ((uint8_t[]){192, 0, 2, (uint8_t)host}), 4);
+            memcpy(addresses_six[host], ((uint8_t[]){0x20, 1, 0x0d, 0xb8}), 4);
+            addresses_six[host][15] = (uint8_t)host;
+        }
+        CHECK("column", ipnetwork_v4_table_find_column(fours, count, addresses[0], 256, indexes, 255, faults, 257) == IPNETWORK_SHORT_BUFFER);
+        CHECK("column", ipnetwork_v6_table_find_column(sixes, count, addresses_six[0], 256, indexes, 257, faults, 255) == IPNETWORK_SHORT_BUFFER);
+        for (size_t i = 0; i < 257 * sizeof *indexes; i++) CHECK("written", ((uint8_t *)indexes)[i] == 77);
+        for (size_t i = 0; i < sizeof faults; i++) CHECK("written", faults[i] == 77);
+        CHECK("column", ipnetwork_v4_table_find_column(fours, count, addresses[0], 256, indexes, 257, faults, 257) == YES);
+        CHECK("column", ipnetwork_v6_table_find_column(sixes, count, addresses_six[0], 256, indexes_six, 257, faults_six, 257) == YES);
+        CHECK("past", faults[256] == 77 && faults_six[256] == 77 && memcmp(&indexes[256], &indexes_six[256], sizeof *indexes) == 0);
+        for (unsigned host = 0; host < 256; host++) {
+            size_t wanted = count, alone = 77;
+            for (size_t i = 0; i < count; i++) {
+                uint8_t has = 77;
+                CHECK("made", ipnetwork_v4_contains(&four[i], addresses[host], &has) == YES);
+                if (has == 1 && (wanted == count || four[i].prefix >= four[wanted].prefix)) wanted = i;
+            }
+            CHECK("column", ipnetwork_v4_table_find(fours, count, addresses[host], &alone) == faults[host]);
+            CHECK("column", faults[host] == (wanted == count ? IPNETWORK_NO_MEMBER : YES) && faults_six[host] == faults[host]);
+            CHECK("column", indexes_six[host] == indexes[host]);
+            if (wanted == count) CHECK("column", ((uint8_t *)&indexes[host])[0] == 77);
+            else CHECK("column", indexes[host] == alone && places[alone] == wanted);
+        }
+        if (count > 0) {
+            CHECK("made", ipnetwork_v4_table_make(four, count, fours, count - 1, places, count) == IPNETWORK_SHORT_BUFFER);
+            CHECK("made", ipnetwork_v6_table_make(six, count, sixes, count, places_six, count - 1) == IPNETWORK_SHORT_BUFFER);
+            four[round % count].prefix = 33;
+            six[round % count].prefix = 129;
+            CHECK("made", ipnetwork_v4_table_make(four, count, fours, 0, places, count) == PREF);
+            CHECK("made", ipnetwork_v6_table_make(six, count, sixes, count, places_six, count) == PREF);
+            CHECK("made", places[0] < count && places_six[0] == places[0]);
+        }
+        leave_edge(four, count * sizeof *four);
+        leave_edge(six, count * sizeof *six);
+        leave_edge(fours, room * sizeof *fours);
+        leave_edge(sixes, room * sizeof *sixes);
+        leave_edge(places, room * sizeof *places);
+        leave_edge(places_six, room * sizeof *places_six);
+        leave_edge(indexes, 257 * sizeof *indexes);
+        leave_edge(indexes_six, 257 * sizeof *indexes_six);
+    }
+    CHECK("NULL", ipnetwork_v4_table_make(NULL, 0, NULL, 0, NULL, 0) == YES);
+    CHECK("NULL", ipnetwork_v6_table_make(NULL, 0, NULL, 0, NULL, 0) == YES);
+    CHECK("NULL", ipnetwork_v4_table_find_column(NULL, 0, NULL, 0, NULL, 0, NULL, 0) == YES);
+    CHECK("NULL", ipnetwork_v6_table_find_column(NULL, 0, NULL, 0, NULL, 0, NULL, 0) == YES);
+    /* A row that meets a prefix length past the width tells it, and stops no other. */
+    ipnetwork_v4 bad[2] = {v4("10.0.0.0/8"), v4("192.0.2.0/24")};
+    uint8_t asked[3][4] = {{10, 0, 0, 1}, {192, 0, 2, 1}, {9, 0, 0, 1}}, told[3] = {77, 77, 77};
+    size_t found[3] = {77, 77, 77};
+    bad[1].prefix = 33;
+    CHECK("past", ipnetwork_v4_table_find_column(bad, 2, asked[0], 3, found, 3, told, 3) == YES);
+    CHECK("past", told[0] == YES && told[1] == PREF && told[2] == IPNETWORK_NO_MEMBER && found[0] == 0 && found[1] == 77 && found[2] == 77);
+}
+
 /* The blocks of ranges within 256 addresses, and the longest lists that there are. */
 static void ranges(void) {
     for (unsigned first = 0; first < 256; first += 3) {
@@ -1114,6 +1214,71 @@ static void printed_columns(void) {
     CHECK("NULL", ipnetwork_v6_print_column(NULL, 0, NULL, 0, NULL, 0, &told) == IPNETWORK_SHORT_BUFFER && told == 0);
 }
 
+/* Columns of either family, of networks and of addresses: each text as by one call, and the fault of the first bad row. */
+static void printed_columns_of_either(void) {
+    for (size_t rows = 0; rows < 40; rows++) {
+        ipnetwork_ip *ips = edge(rows * sizeof *ips);
+        ipnetwork_address *addresses = edge(rows * sizeof *addresses);
+        char wanted[2][40 * IPNETWORK_V6_TEXT];
+        uint32_t starts[2][41] = {{0}};
+        for (size_t row = 0; row < rows; row++) {
+            size_t lengths[2] = {0, 0};
+            memset(&ips[row], 0, sizeof ips[row]);
+            for (size_t place = 0; place < 16; place++) ips[row].v6.address[place] = (uint8_t)(number() % 3 == 0 ? number() : 0);
+            memcpy(ips[row].v4.address, ips[row].v6.address + 4, 4);
+            ips[row].family = number() % 2 == 0 ? 4 : 6;
+            ips[row].v4.prefix = (uint8_t)(number() % 33);
+            ips[row].v6.prefix = (uint8_t)(number() % 129);
+            memcpy(addresses[row].octets, ips[row].v6.address, 16);
+            addresses[row].length = number() % 2 == 0 ? 4 : 16;
+            CHECK("printed", ipnetwork_canonical(&ips[row], wanted[0] + starts[0][row], IPNETWORK_V6_TEXT, &lengths[0]) == YES);
+            CHECK("printed", ipnetwork_address_canonical(&addresses[row], wanted[1] + starts[1][row], IPNETWORK_V6_TEXT, &lengths[1]) == YES);
+            starts[0][row + 1] = starts[0][row] + (uint32_t)lengths[0];
+            starts[1][row + 1] = starts[1][row] + (uint32_t)lengths[1];
+        }
+        for (size_t which = 0; which < 2; which++) {
+            size_t whole = starts[which][rows], told = 77;
+            char *texts = edge(whole);
+            uint32_t *offsets = edge((rows + 1) * sizeof *offsets);
+#define PRINTED_OF_EITHER(room, places)                                                                                    \
+    (which == 0 ? ipnetwork_print_column(ips, rows, texts, room, offsets, places, &told)                                   \
+                : ipnetwork_address_print_column(addresses, rows, texts, room, offsets, places, &told))
+            offsets[0] = 77;
+            CHECK("one short", PRINTED_OF_EITHER(whole, rows) == IPNETWORK_SHORT_BUFFER && told == whole && offsets[0] == 77);
+            told = 77;
+            CHECK("printed", PRINTED_OF_EITHER(whole, rows + 1) == YES && told == whole);
+            CHECK("printed", memcmp(texts, wanted[which], whole) == 0);
+            CHECK("printed", memcmp(offsets, starts[which], (rows + 1) * sizeof *offsets) == 0);
+            if (rows > 1) {
+                ipnetwork_ip *first = &ips[rows / 3];
+                told = 77;
+                texts[0] = 'x';
+                offsets[0] = 77;
+                CHECK("one short", PRINTED_OF_EITHER(whole - 1, rows + 1) == IPNETWORK_SHORT_BUFFER && told == whole);
+                told = 77;
+                first->v4.prefix = 33;
+                first->v6.prefix = 129;
+                ips[rows - 1].family = 5;
+                addresses[rows / 2].length = 15;
+                CHECK("past", PRINTED_OF_EITHER(whole, rows + 1) == (which == 0 ? PREF : IPNETWORK_NO_FAMILY));
+                first->family = 0;
+                ips[rows - 1].family = 4;
+                ips[rows - 1].v4.prefix = 33;
+                CHECK("past", PRINTED_OF_EITHER(whole, rows + 1) == IPNETWORK_NO_FAMILY);
+                CHECK("past", told == 77 && texts[0] == 'x' && offsets[0] == 77);
+            }
+            leave_edge(texts, whole);
+            leave_edge(offsets, (rows + 1) * sizeof *offsets);
+        }
+        leave_edge(ips, rows * sizeof *ips);
+        leave_edge(addresses, rows * sizeof *addresses);
+    }
+    uint32_t offset = 77;
+    size_t told = 77;
+    CHECK("NULL", ipnetwork_print_column(NULL, 0, NULL, 0, &offset, 1, &told) == YES && told == 0 && offset == 0);
+    CHECK("NULL", ipnetwork_address_print_column(NULL, 0, NULL, 0, NULL, 0, &told) == IPNETWORK_SHORT_BUFFER && told == 0);
+}
+
 int main(void) {
     CHECK("layout", sizeof(ipnetwork_v4) == 5 && sizeof(ipnetwork_v6) == 17 && sizeof(ipnetwork_ip) == 23);
     CHECK("layout", sizeof(ipnetwork_address) == 17);
@@ -1132,10 +1297,12 @@ int main(void) {
     sets();
     operations();
     tables();
+    tables_made();
     ranges();
     subnets();
     columns_of_texts();
     printed_columns();
+    printed_columns_of_either();
     either();
     questions_of_either();
     refused_of_either();

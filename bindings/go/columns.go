@@ -240,33 +240,41 @@ func ParseAddrColumn(texts []byte, offsets []uint32) ([]netip.Addr, error) {
 	return addresses, nil
 }
 
-// PrintColumn prints networks of one family in the same layout by one call: the texts, one behind the other, and the offsets
-// at which each begins and the last ends. NoFamily if they are not of one family, or one is the zero Network; NoRoom if the
-// texts have more than 2147483647 bytes.
+// PrintColumn prints networks in the same layout by one call: the texts, one behind the other, and the offsets at which each
+// begins and the last ends. NoFamily if one is the zero Network; NoRoom if the texts have more than 2147483647 bytes.
 func PrintColumn(networks []Network) ([]byte, []uint32, error) {
-	var fours []C.ipnetwork_v4
-	var sixes []C.ipnetwork_v6
-	for _, network := range networks {
-		switch network.held.family {
-		case 4:
-			fours = append(fours, network.held.v4)
-		case 6:
-			sixes = append(sixes, network.held.v6)
-		}
+	texts, offsets := make([]byte, len(networks)*(C.IPNETWORK_V6_TEXT-1)), make([]uint32, len(networks)+1)
+	var place *C.ipnetwork_ip
+	if len(networks) > 0 {
+		place = &networks[0].held
 	}
-	if len(fours) != len(networks) && len(sixes) != len(networks) {
-		return nil, nil, NoFamily
-	}
-	texts := make([]byte, len(fours)*(C.IPNETWORK_V4_TEXT-1)+len(sixes)*(C.IPNETWORK_V6_TEXT-1))
-	offsets := make([]uint32, len(networks)+1)
 	var length C.size_t
-	place, room, starts := (*C.char)(first(texts)), C.size_t(len(texts)), C.size_t(len(offsets))
-	number := C.ipnetwork_fault(C.IPNETWORK_OK)
-	if len(sixes) > 0 {
-		number = C.ipnetwork_v6_print_column(sixth(sixes), C.size_t(len(sixes)), place, room, offsetsOf(offsets), starts, &length)
-	} else {
-		number = C.ipnetwork_v4_print_column(fourth(fours), C.size_t(len(fours)), place, room, offsetsOf(offsets), starts, &length)
+	number := C.ipnetwork_print_column(place, C.size_t(len(networks)), (*C.char)(first(texts)), C.size_t(len(texts)),
+		offsetsOf(offsets), C.size_t(len(offsets)), &length)
+	if number != C.IPNETWORK_OK {
+		return nil, nil, Fault(number)
 	}
+	return texts[:length], offsets, nil
+}
+
+// PrintAddrColumn prints addresses, as PrintColumn prints networks; NoFamily if one is the zero Addr or has a zone.
+func PrintAddrColumn(addresses []netip.Addr) ([]byte, []uint32, error) {
+	texts, offsets := make([]byte, len(addresses)*(C.IPNETWORK_ADDRESS_TEXT-1)), make([]uint32, len(addresses)+1)
+	rows := make([]C.ipnetwork_address, len(addresses))
+	for row, address := range addresses {
+		held, ok := given(address)
+		if !ok {
+			return nil, nil, NoFamily
+		}
+		rows[row] = held
+	}
+	var place *C.ipnetwork_address
+	if len(rows) > 0 {
+		place = &rows[0]
+	}
+	var length C.size_t
+	number := C.ipnetwork_address_print_column(place, C.size_t(len(rows)), (*C.char)(first(texts)), C.size_t(len(texts)),
+		offsetsOf(offsets), C.size_t(len(offsets)), &length)
 	if number != C.IPNETWORK_OK {
 		return nil, nil, Fault(number)
 	}

@@ -288,8 +288,38 @@ func TestOperationsOnSets(t *testing.T) {
 	equal(t, "none", fmt.Sprint(empty.Networks(), err), "[] <nil>")
 }
 
+// Tables of random networks: of each address the last network of the greatest prefix length that has it.
+func TestTables(t *testing.T) {
+	random := rand.New(rand.NewSource(31))
+	for round := 0; round < 100; round++ {
+		networks, _ := blocksWithin256(random, round%20)
+		table, err := NewTable(networks)
+		equal(t, "table", err, nil)
+		var addresses []netip.Addr
+		for host := 0; host < 256; host++ {
+			addresses = append(addresses, netip.AddrFrom4([4]byte{192, 0, 2, byte(host)}), netip.AddrFrom16([16]byte{0x20, 1, 15: byte(host)}))
+		}
+		addresses = append(addresses, netip.Addr{}, netip.MustParseAddr("2001::1%eth0"))
+		found := table.FindEach(addresses)
+		for row, address := range addresses {
+			wanted := -1
+			for number, network := range networks {
+				if network.Contains(address) && (wanted < 0 || network.Bits() >= networks[wanted].Bits()) {
+					wanted = number
+				}
+			}
+			equal(t, "found", found[row], wanted)
+			equal(t, "found", table.Find(address), wanted)
+		}
+	}
+	_, err := NewTable([]Network{MustParse("::/0"), {}})
+	equal(t, "zero", err, NoFamily)
+	var none Table
+	equal(t, "none", none.Find(netip.MustParseAddr("10.0.0.1")), -1)
+}
+
 func TestPrintColumn(t *testing.T) {
-	for _, each := range [][]string{{}, {"10.1.9.32/16", "0.0.0.0/0"}, {"2001:db8::1/32", "::/0", "::ffff:1.2.3.4/128"}} {
+	for _, each := range [][]string{{}, {"10.1.9.32/16", "0.0.0.0/0"}, {"2001:db8::1/32", "::/0", "::ffff:1.2.3.4/128"}, {"::/0", "0.0.0.0/0", "10.1.9.32/16"}} {
 		var networks []Network
 		for _, text := range each {
 			networks = append(networks, MustParse(text))
@@ -303,9 +333,18 @@ func TestPrintColumn(t *testing.T) {
 		again, _, err := ParseColumn(texts, offsets)
 		equal(t, "read", fmt.Sprint(again, err), fmt.Sprint(networks, nil))
 	}
-	for _, wrong := range [][]Network{{MustParse("::/0"), MustParse("0.0.0.0/0")}, {MustParse("::/0"), {}}, {{}}} {
+	for _, wrong := range [][]Network{{MustParse("::/0"), {}}, {{}}} {
 		_, _, err := PrintColumn(wrong)
 		equal(t, "families", err, NoFamily)
+	}
+	addresses := []netip.Addr{netip.MustParseAddr("10.1.9.32"), netip.MustParseAddr("::1"), netip.MustParseAddr("2001:db8::1:0:0:1")}
+	whole, offsets, err := PrintAddrColumn(addresses)
+	equal(t, "printed", fmt.Sprint(string(whole), offsets, err), "10.1.9.32::12001:db8::1:0:0:1 [0 9 12 29] <nil>")
+	none, offsets, err := PrintAddrColumn(nil)
+	equal(t, "printed", fmt.Sprint(none, offsets, err), "[] [0] <nil>")
+	for _, wrong := range []netip.Addr{{}, netip.MustParseAddr("fe80::1%eth0")} {
+		_, _, err := PrintAddrColumn([]netip.Addr{wrong})
+		equal(t, "no address", err, NoFamily)
 	}
 }
 

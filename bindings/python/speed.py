@@ -99,6 +99,9 @@ def columns(rng):
         yield (f"{name}: contains_column", *least(lambda: network.contains_column(packed), count=ROWS))
         yield (f"{name}: contains_column of a set of one", *least(lambda: one.contains_column(addresses), count=ROWS))
         yield (f"{name}: contains_column of a set of {len(blocks)}", *least(lambda: many.contains_column(addresses), count=ROWS))
+        table = ipnetwork.Table(blocks)
+        yield (f"{name}: find_column of a table of {len(blocks)}", *least(lambda: table.find_column(addresses), count=ROWS))
+        yield (f"{name}: print_address_column", *least(lambda: ipnetwork.print_address_column(addresses), count=ROWS))
         yield (f"{name}: print_column", *least(lambda: kind.print_column(rows), count=len(blocks)))
         for sign, operation in (("|", many.__or__), ("&", many.__and__), ("-", many.__sub__)):
             yield (f"{name}: {sign} of two sets, a network of both", *least(lambda: operation(others), count=len(blocks) + len(list(others))))

@@ -18,6 +18,7 @@ from ipnetwork import (
     IPv6Network,
     MaskError,
     PrefixError,
+    Table,
     ip_network,
 )
 
@@ -302,6 +303,44 @@ class Questions(unittest.TestCase):
             with self.assertRaises(TypeError):
                 call()
 
+    def test_tables(self):
+        rng = random.Random(31)
+        for count in range(60):
+            hosts = [rng.randrange(256) for _ in range(count)]
+            networks = [
+                IPv4Network.of(IPv4Address(f"192.0.2.{host}"), 32 - rng.randrange(9))
+                if rng.randrange(2)
+                else IPv6Network.of(IPv6Address(f"2001:db8::{host:x}"), 128 - rng.randrange(9))
+                for host in hosts
+            ]
+            table = Table(networks)
+            self.assertEqual(len(table), count)
+            asked = [text for host in range(256) for text in (f"192.0.2.{host}", f"2001:db8::{host:x}", f"x{host}")]
+            offsets = array.array("I", itertools.accumulate(map(len, asked), initial=0))
+            addresses, _ = ipnetwork.read_address_column("".join(asked).encode(), offsets)
+            numbers = memoryview(table.find_column(addresses)).cast("q").tolist()
+            for text, number in zip(asked, numbers):
+                if text.startswith("x"):
+                    self.assertEqual(number, -1)
+                    continue
+                address = ipaddress.ip_address(text)
+                having = [place for place, network in enumerate(networks) if address in network]
+                wanted = max(having, key=lambda place: (networks[place].prefixlen, place), default=None)
+                self.assertEqual(table.find(address), wanted)
+                self.assertEqual(number, -1 if wanted is None else wanted)
+        again = pickle.loads(pickle.dumps(table))
+        self.assertEqual((len(again), again.find_column(addresses)), (len(table), table.find_column(addresses)))
+        self.assertIsNone(Table([ip_network("::/0")]).find(IPv6Address("fe80::1%eth0")))
+        self.assertIsNone(Table([]).find(IPv4Address("10.0.0.1")))
+        self.assertIsNone(Table([ip_network("::/0")]).find(ip_network("::/0")))
+        self.assertEqual(Table([]).find_column(b""), b"")
+        with self.assertRaises(ValueError):
+            table.find_column(bytes(16))
+        with self.assertRaises(TypeError):
+            table.find("10.0.0.1")
+        with self.assertRaises(TypeError):
+            Table(["10.0.0.0/8"])
+
     def test_subnets(self):
         for text, longer in (("10.1.9.32/16", 1), ("2001:db8::7/126", 2), ("0.0.0.0/0", 8), ("::/0", 3), ("::1/128", 0)):
             network = ip_network(text)
@@ -335,6 +374,20 @@ class Questions(unittest.TestCase):
                 kind.print_column(column + bytes(width) + bytes([8 * width + 1]))
             with self.assertRaises(ValueError):
                 kind.print_column(column[1:])
+
+    def test_columns_of_addresses_printed(self):
+        rng = random.Random(32)
+        each = [rng.choice((IPv4Address(rng.getrandbits(32)), IPv6Address(rng.getrandbits(128)), IPv6Address(rng.getrandbits(16)))) for _ in range(300)]
+        column = b"".join(address.packed.ljust(16, b"\0") + bytes([len(address.packed)]) for address in each)
+        texts, offsets = ipnetwork.print_address_column(column)
+        starts = memoryview(offsets).cast("I").tolist()
+        self.assertEqual([texts[begin:end].decode() for begin, end in zip(starts, starts[1:])], list(map(str, each)))
+        self.assertEqual(ipnetwork.read_address_column(texts, memoryview(offsets).cast("I")), (column, bytes(300)))
+        self.assertEqual(ipnetwork.print_address_column(b""), (b"", bytes(4)))
+        with self.assertRaises(AddressError):
+            ipnetwork.print_address_column(column + bytes(17))
+        with self.assertRaises(ValueError):
+            ipnetwork.print_address_column(column[1:])
 
     def test_collapse(self):
         rng = random.Random(20)

@@ -23,6 +23,7 @@ IPNETWORK_LIBRARY names a shared library, it is used, by ``ctypes``.
 from __future__ import annotations
 
 import os
+from array import array
 from collections.abc import Iterable, Iterator
 from importlib.util import find_spec
 from ipaddress import IPv4Address, IPv4Interface, IPv6Address, IPv6Interface
@@ -53,8 +54,10 @@ __all__ = [
     "MaskError",
     "NetworkError",
     "PrefixError",
+    "Table",
     "collapse_addresses",
     "ip_network",
+    "print_address_column",
     "read_address_column",
 ]
 
@@ -354,6 +357,68 @@ class AddressSet:
         return AddressSet, (list(self),)
 
 
+class Table:
+    """Networks of either family, in any order, host bits or not, asked for the longest one that has an address.
+
+    A network is told by its number: 0 for the first that was given. If some have the same addresses, the last one is told.
+
+    >>> networks = [ip_network("10.0.0.0/8"), ip_network("2001:db8::/32"), ip_network("10.1.9.32/16")]
+    >>> table = Table(networks)
+    >>> table.find(IPv4Address("10.1.2.3")), table.find(IPv4Address("10.2.0.0")), table.find(IPv4Address("8.8.8.8"))
+    (2, 0, None)
+    """
+
+    __slots__ = ("_fours", "_four_numbers", "_sixes", "_six_numbers")
+
+    def __init__(self, networks: Iterable[_Either]) -> None:
+        fours: list[bytes] = []
+        sixes: list[bytes] = []
+        four_numbers: list[int] = []
+        six_numbers: list[int] = []
+        for number, network in enumerate(networks):
+            if isinstance(network, IPv4Network):
+                fours.append(network._row)
+                four_numbers.append(number)
+            elif isinstance(network, IPv6Network):
+                sixes.append(network._row)
+                six_numbers.append(number)
+            else:
+                raise _no_network(network)
+        self._fours, self._four_numbers = _made(4, fours, four_numbers)
+        self._sixes, self._six_numbers = _made(6, sixes, six_numbers)
+
+    def find(self, address: object) -> Union[int, None]:
+        """The number of the longest network that has an address; None if none has it, as none has one with a zone."""
+        number = _core.table_find(self._fours, self._four_numbers, self._sixes, self._six_numbers, address)
+        return None if number < 0 else number
+
+    def find_column(self, addresses: ReadableBuffer) -> bytearray:
+        """For each address of a column the number of the longest network that has it, or -1 if none has it, as numbers of 64
+        bits with a sign. The column has 17 bytes for each address, as ``read_address_column`` gives it; no network has what is
+        no address.
+
+        >>> import array
+        >>> addresses, faults = read_address_column(b"8.8.8.8::1x", array.array("I", [0, 7, 10, 11]))
+        >>> memoryview(Table([ip_network("::/0"), ip_network("8.0.0.0/8")]).find_column(addresses)).cast("q").tolist()
+        [1, 0, -1]
+        """
+        return _core.table_find_column(self._fours, self._four_numbers, self._sixes, self._six_numbers, addresses)
+
+    def __len__(self) -> int:
+        return (len(self._four_numbers) + len(self._six_numbers)) // 8
+
+    def __reduce__(self) -> tuple[type[Table], tuple[list[_Either]]]:
+        rows = [*_core.of_rows(IPv4Network, self._fours), *_core.of_rows(IPv6Network, self._sixes)]
+        numbers = [*memoryview(self._four_numbers).cast("q"), *memoryview(self._six_numbers).cast("q")]
+        return Table, ([network for _, network in sorted(zip(numbers, rows), key=lambda pair: pair[0])],)
+
+
+def _made(version: int, rows: list[bytes], numbers: list[int]) -> tuple[bytes, bytes]:
+    """The blocks of networks in the order of a table, and beside each the number of its network, in 64 bits."""
+    blocks, places = _core.table_make(version, b"".join(rows))
+    return blocks, array("q", [numbers[place] for place in memoryview(places).cast("N")]).tobytes()
+
+
 def read_address_column(texts: ReadableBuffer, offsets: ReadableBuffer) -> tuple[bytearray, bytearray]:
     """The addresses of either family of a column of texts in Arrow's layout, as ``IPv4Network.read_column`` has it, and for
     each a byte that is 0 if its text is one. Each address is 17 bytes: its octets, zeros behind those of an IPv4 address,
@@ -365,3 +430,15 @@ def read_address_column(texts: ReadableBuffer, offsets: ReadableBuffer) -> tuple
     ([4, 16, 0], [0, 0, 2])
     """
     return _core.read_rows(0, texts, offsets)
+
+
+def print_address_column(addresses: ReadableBuffer) -> tuple[bytearray, bytearray]:
+    """The texts of a column of addresses in Arrow's layout, as ``IPv4Network.print_column`` has it. The column has 17 bytes for
+    each address, as ``read_address_column`` gives it; AddressError if a row is no address.
+
+    >>> column = bytes([8, 8, 8, 8, *bytes(12), 4, *bytes(15), 1, 16])
+    >>> texts, offsets = print_address_column(column)
+    >>> bytes(texts), memoryview(offsets).cast("I").tolist()
+    (b'8.8.8.8::1', [0, 7, 10])
+    """
+    return _core.print_rows(0, addresses)

@@ -59,6 +59,8 @@ def _load() -> ctypes.CDLL:
     library.ipnetwork_read.restype = word
     library.ipnetwork_address_read_column.argtypes = [octets, size, pointer, size, pointer, size, pointer, size]
     library.ipnetwork_address_read_column.restype = word
+    library.ipnetwork_address_print_column.argtypes = [octets, size, pointer, size, pointer, size, pointer]
+    library.ipnetwork_address_print_column.restype = word
     for family in ("v4", "v6"):
         for name, arguments in (
             ("read", [octets, size, pointer]),
@@ -66,6 +68,8 @@ def _load() -> ctypes.CDLL:
             ("canonical", [octets, pointer, size, pointer]),
             ("contains_column", [octets, pointer, size, pointer, size]),
             ("set_contains", [octets, size, octets, pointer]),
+            ("table_make", [octets, size, pointer, size, pointer, size]),
+            ("table_find_column", [octets, size, octets, size, pointer, size, pointer, size]),
             ("union", [octets, size, octets, size, pointer, size, pointer]),
             ("intersection", [octets, size, octets, size, pointer, size, pointer]),
             ("difference", [octets, size, octets, size, pointer, size, pointer]),
@@ -440,6 +444,52 @@ def set_contains_column(fours: bytes, sixes: bytes, addresses: ReadableBuffer) -
     return bytearray(_set_has(fours, sixes, column[at : at + column[at + 16]]) for at in rows)
 
 
+def table_make(version: int, rows: bytes) -> tuple[bytes, bytes]:
+    """The blocks of the networks whose structs these bytes are, in the order of a table, and beside each the place of its
+    network, as a number of the size of a pointer."""
+    step = 5 if version == 4 else 17
+    count = len(rows) // step
+    blocks, places = ctypes.create_string_buffer(count * step), (ctypes.c_size_t * count)()
+    _answered(getattr(_library, f"ipnetwork_v{version}_table_make")(rows, count, blocks, count, places, count))
+    return blocks.raw, bytes(places)
+
+
+def _found(version: int, blocks: bytes, numbers: bytes, packed: list[bytes]) -> list[int]:
+    """Of each packed address the number beside the longest block that has it, or -1."""
+    step, count = 5 if version == 4 else 17, len(packed)
+    indexes, faults = (ctypes.c_size_t * count)(), (ctypes.c_ubyte * count)()
+    call = getattr(_library, f"ipnetwork_v{version}_table_find_column")
+    _answered(call(blocks, len(blocks) // step, b"".join(packed), count, indexes, count, faults, count))
+    told = memoryview(numbers).cast("q")
+    return [-1 if fault else told[index] for index, fault in zip(indexes, faults)]
+
+
+def table_find(fours: bytes, four_numbers: bytes, sixes: bytes, six_numbers: bytes, address: object) -> int:
+    """The number beside the longest block that has an address, or -1."""
+    if not isinstance(address, (IPv4Address, IPv6Address)):
+        _no_member(address)
+        return -1
+    if getattr(address, "_scope_id", None) is not None:
+        return -1
+    if isinstance(address, IPv4Address):
+        return _found(4, fours, four_numbers, [address.packed])[0]
+    return _found(6, sixes, six_numbers, [address.packed])[0]
+
+
+def table_find_column(fours: bytes, four_numbers: bytes, sixes: bytes, six_numbers: bytes, addresses: ReadableBuffer) -> bytearray:
+    """The same of each address of a column, which are as ``read_rows`` leaves them, as numbers of 64 bits."""
+    column = bytes(_flat(addresses))
+    if len(column) % _ADDRESS:
+        raise ValueError(f"{len(column)} bytes are no column of addresses of {_ADDRESS} bytes")
+    told = array.array("q", [-1]) * (len(column) // _ADDRESS)
+    for width, blocks, numbers in ((4, fours, four_numbers), (16, sixes, six_numbers)):
+        rows = [row for row in range(len(told)) if column[row * _ADDRESS + 16] == width]
+        packed = [column[row * _ADDRESS : row * _ADDRESS + width] for row in rows]
+        for row, number in zip(rows, _found(4 if width == 4 else 6, blocks, numbers, packed)):
+            told[row] = number
+    return bytearray(told.tobytes())
+
+
 def layout(rows: list[object]) -> tuple[bytearray, bytearray]:
     """The texts of a list in Arrow's layout, the bytes and the offsets; a row that is no text is empty."""
     each = [row.encode("utf-8") if isinstance(row, str) else b"" for row in rows]
@@ -470,18 +520,19 @@ def read_rows(kind: int, texts: ReadableBuffer, offsets: ReadableBuffer) -> tupl
     return rows, faults
 
 
-def print_rows(version: int, rows: ReadableBuffer) -> tuple[bytearray, bytearray]:
-    """The texts of the networks whose structs these bytes are, and their offsets."""
+def print_rows(kind: int, rows: ReadableBuffer) -> tuple[bytearray, bytearray]:
+    """The texts of the networks of the family 4 or 6, or of the addresses, if the kind is 0, whose structs these bytes are, and
+    their offsets."""
     given = bytes(_flat(rows))
-    step, longest = (5, 18) if version == 4 else (17, 43)
+    step, longest = {4: (5, 18), 6: (17, 43), 0: (_ADDRESS, 39)}[kind]
     count, part = divmod(len(given), step)
     if part:
-        raise ValueError(f"{len(given)} bytes are no column of networks of {step} bytes")
+        raise ValueError(f"{len(given)} bytes are no column of {'networks' if kind else 'addresses'} of {step} bytes")
     texts, starts, length = ctypes.create_string_buffer(count * longest), (ctypes.c_uint32 * (count + 1))(), ctypes.c_size_t()
-    call = getattr(_library, f"ipnetwork_v{version}_print_column")
+    call = getattr(_library, f"ipnetwork_v{kind}_print_column") if kind else _library.ipnetwork_address_print_column
     fault = call(given, count, texts, count * longest, starts, count + 1, ctypes.byref(length))
     if fault == 4:
         raise ValueError("the texts have more than 2147483647 bytes, which is past the offsets: print them in parts")
     if fault:
-        raise error(fault, rows)
+        raise error(fault if kind else 2, rows)
     return bytearray(texts.raw[: length.value]), bytearray(bytes(starts))

@@ -26,6 +26,11 @@ static PyObject *network_column(PyObject *object, PyObject *given) {
     return answers;
 }
 
+/* The bytes of a row: of a network of the family 4 or 6, or of an address, if the kind is 0. */
+static size_t row_size(int kind) {
+    return kind == 4 ? sizeof(ipnetwork_v4) : kind == 6 ? sizeof(ipnetwork_v6) : sizeof(ipnetwork_address);
+}
+
 /* read_rows(kind, texts, offsets): kind 4 or 6 for networks of a family, 0 for addresses. */
 static PyObject *read_rows(PyObject *module, PyObject *arguments) {
     (void)module;
@@ -36,7 +41,7 @@ static PyObject *read_rows(PyObject *module, PyObject *arguments) {
     if (PyObject_GetBuffer(given_texts, &texts, PyBUF_SIMPLE) < 0) return NULL;
     if (PyObject_GetBuffer(given_offsets, &offsets, PyBUF_ND) < 0) return PyBuffer_Release(&texts), NULL;
     size_t starts = (size_t)offsets.len / 4, count = starts == 0 ? 0 : starts - 1;
-    size_t step = kind == 4 ? sizeof(ipnetwork_v4) : kind == 6 ? sizeof(ipnetwork_v6) : sizeof(ipnetwork_address);
+    size_t step = row_size(kind);
     if (offsets.itemsize != 4) {
         PyErr_Format(PyExc_ValueError, "offsets are numbers of 32 bits, not of %zd", offsets.itemsize * 8);
         goto done;
@@ -61,18 +66,19 @@ done:
     return both;
 }
 
-/* print_rows(version, rows): the texts of the networks whose structs these bytes are, and their offsets. */
+/* print_rows(kind, rows): the texts of the networks of the family 4 or 6, or of the addresses, if the kind is 0, whose structs
+ * these bytes are, and their offsets. */
 static PyObject *print_rows(PyObject *module, PyObject *arguments) {
     (void)module;
-    int version;
+    int kind;
     PyObject *given, *texts = NULL, *offsets = NULL, *both = NULL;
     Py_buffer rows;
-    if (!PyArg_ParseTuple(arguments, "iO", &version, &given)) return NULL;
+    if (!PyArg_ParseTuple(arguments, "iO", &kind, &given)) return NULL;
     if (PyObject_GetBuffer(given, &rows, PyBUF_SIMPLE) < 0) return NULL;
-    size_t step = version == 4 ? sizeof(ipnetwork_v4) : sizeof(ipnetwork_v6), count = (size_t)rows.len / step, length = 0;
-    size_t room = count * (version == 4 ? IPNETWORK_V4_TEXT - 1 : IPNETWORK_V6_TEXT - 1);
+    size_t step = row_size(kind), count = (size_t)rows.len / step, length = 0;
+    size_t room = count * (kind == 4 ? IPNETWORK_V4_TEXT - 1 : kind == 6 ? IPNETWORK_V6_TEXT - 1 : IPNETWORK_ADDRESS_TEXT - 1);
     if ((size_t)rows.len % step != 0) {
-        PyErr_Format(PyExc_ValueError, "%zd bytes are no column of networks of %zu bytes", rows.len, step);
+        PyErr_Format(PyExc_ValueError, "%zd bytes are no column of %s of %zu bytes", rows.len, kind == 0 ? "addresses" : "networks", step);
         goto done;
     }
     texts = PyByteArray_FromStringAndSize(NULL, (Py_ssize_t)room);
@@ -82,11 +88,12 @@ static PyObject *print_rows(PyObject *module, PyObject *arguments) {
     void *starts = PyByteArray_AsString(offsets);
     ipnetwork_fault fault;
     Py_BEGIN_ALLOW_THREADS
-    fault = version == 4 ? ipnetwork_v4_print_column(rows.buf, count, text, room, starts, count + 1, &length)
-                         : ipnetwork_v6_print_column(rows.buf, count, text, room, starts, count + 1, &length);
+    fault = kind == 4   ? ipnetwork_v4_print_column(rows.buf, count, text, room, starts, count + 1, &length)
+            : kind == 6 ? ipnetwork_v6_print_column(rows.buf, count, text, room, starts, count + 1, &length)
+                        : ipnetwork_address_print_column(rows.buf, count, text, room, starts, count + 1, &length);
     Py_END_ALLOW_THREADS
     if (fault == IPNETWORK_SHORT_BUFFER) PyErr_SetString(PyExc_ValueError, "the texts have more than 2147483647 bytes, which is past the offsets: print them in parts");
-    else if (fault != IPNETWORK_OK) raise_fault(fault, given);
+    else if (fault != IPNETWORK_OK) raise_fault(kind == 0 ? IPNETWORK_ADDRESS : fault, given);
     else if (PyByteArray_Resize(texts, (Py_ssize_t)length) == 0) both = PyTuple_Pack(2, texts, offsets);
 done:
     Py_XDECREF(texts), Py_XDECREF(offsets);

@@ -7,6 +7,7 @@
 #include "_addresses.h"
 #include "_columns.h"
 #include "_networks.h"
+#include "_tables.h"
 
 /* ip_network(text), of the classes that `register` was given. */
 static PyObject *either_network(PyObject *module, PyObject *text) {
@@ -123,6 +124,9 @@ static PyMethodDef calls[] = {
     {"operate", operate, METH_VARARGS, NULL},
     {"set_contains", set_contains, METH_VARARGS, NULL},
     {"set_contains_column", set_contains_column, METH_VARARGS, NULL},
+    {"table_make", table_make, METH_VARARGS, NULL},
+    {"table_find", table_find, METH_VARARGS, NULL},
+    {"table_find_column", table_find_column, METH_VARARGS, NULL},
     {"subnet_at", subnet_at, METH_VARARGS, NULL},
     {"register", register_classes, METH_VARARGS, NULL},
     {NULL, NULL, 0, NULL},

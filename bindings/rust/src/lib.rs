@@ -189,6 +189,54 @@ mod c {
             address: &[u8; 16],
             answer: &mut u8,
         ) -> u32;
+        pub unsafe fn ipnetwork_v4_table_make(
+            networks: *const V4,
+            network_count: usize,
+            blocks: *mut V4,
+            block_count: usize,
+            places: *mut usize,
+            place_count: usize,
+        ) -> u32;
+        pub unsafe fn ipnetwork_v6_table_make(
+            networks: *const V6,
+            network_count: usize,
+            blocks: *mut V6,
+            block_count: usize,
+            places: *mut usize,
+            place_count: usize,
+        ) -> u32;
+        pub unsafe fn ipnetwork_v4_table_find(
+            blocks: *const V4,
+            block_count: usize,
+            address: &[u8; 4],
+            index: &mut usize,
+        ) -> u32;
+        pub unsafe fn ipnetwork_v6_table_find(
+            blocks: *const V6,
+            block_count: usize,
+            address: &[u8; 16],
+            index: &mut usize,
+        ) -> u32;
+        pub unsafe fn ipnetwork_v4_table_find_column(
+            blocks: *const V4,
+            block_count: usize,
+            addresses: *const [u8; 4],
+            address_count: usize,
+            indexes: *mut usize,
+            index_count: usize,
+            faults: *mut u8,
+            fault_count: usize,
+        ) -> u32;
+        pub unsafe fn ipnetwork_v6_table_find_column(
+            blocks: *const V6,
+            block_count: usize,
+            addresses: *const [u8; 16],
+            address_count: usize,
+            indexes: *mut usize,
+            index_count: usize,
+            faults: *mut u8,
+            fault_count: usize,
+        ) -> u32;
         pub unsafe fn ipnetwork_v4_union(
             first: *const V4,
             first_count: usize,
@@ -352,7 +400,8 @@ macro_rules! family {
         $read:ident, $new:ident, $canonical:ident, $contains:ident, $network:ident, $broadcast:ident, $mask:ident,
         $prefix_of_mask:ident, $is_subnet_of:ident, $overlaps:ident, $compare:ident, $contains_column:ident,
         $list_contains:ident, $aggregate:ident, $read_column:ident, $members:ident, $index:ident, $set:ident,
-        $set_contains:ident, $union:ident, $intersection:ident, $difference:ident, $print_column:ident
+        $set_contains:ident, $union:ident, $intersection:ident, $difference:ident, $print_column:ident, $table:ident,
+        $table_make:ident, $table_find:ident, $table_find_column:ident
     ) => {
         $(#[$doc])*
         #[derive(Clone, Copy, PartialEq, Eq, Hash, Debug)]
@@ -637,6 +686,73 @@ macro_rules! family {
             }
         }
 
+        /// Networks in the order in which they are searched, in the memory of the caller: asked for the longest one that has
+        /// an address.
+        #[derive(Clone, Copy, Debug)]
+        pub struct $table<'a> {
+            blocks: &'a [$name],
+            places: &'a [usize],
+        }
+
+        impl<'a> $table<'a> {
+            /// The table of these networks, in any order, host bits or not, with the block of each in `blocks`, and in
+            /// `places` which of the networks it is the block of. Panics if there is room for fewer than there are networks.
+            pub fn new(networks: &[$name], blocks: &'a mut [$name], places: &'a mut [usize]) -> Self {
+                let count = networks.len();
+                assert!(blocks.len() >= count && places.len() >= count, "room for each network");
+                // SAFETY: slices are never null, and have as many elements, each of which is the struct that it wraps; the
+                // exclusive ones overlap none of the others.
+                answered(unsafe {
+                    c::$table_make(
+                        networks.as_ptr().cast(), count, blocks.as_mut_ptr().cast(), blocks.len(),
+                        places.as_mut_ptr(), places.len(),
+                    )
+                });
+                $table { blocks: &blocks[..count], places: &places[..count] }
+            }
+
+            /// The blocks of the networks, in ascending order.
+            pub fn blocks(&self) -> &'a [$name] {
+                self.blocks
+            }
+
+            /// Which of the networks, counted from 0, is the longest one that has an address: the last one, if some have
+            /// the same block. `None` if none has it.
+            pub fn find(&self, address: $address) -> Option<usize> {
+                let mut index = 0;
+                // SAFETY: a slice is never null, and has as many elements, each of which is the struct that it wraps.
+                let number = unsafe {
+                    c::$table_find(self.blocks.as_ptr().cast(), self.blocks.len(), &address.octets(), &mut index)
+                };
+                if number == NO_MEMBER {
+                    return None;
+                }
+                answered(number);
+                Some(self.places[index])
+            }
+
+            /// The same of each of these addresses, as octets: number i is the network of address i, and fault i is 0; if no
+            /// network has it, the number stays as it is, and the fault is not 0. Panics if there are not as many numbers
+            /// and faults as addresses.
+            pub fn find_column(&self, addresses: &[[u8; $octets]], numbers: &mut [usize], faults: &mut [u8]) {
+                let count = addresses.len();
+                assert!(numbers.len() == count && faults.len() == count, "a number and a fault for each address");
+                // SAFETY: slices are never null, and have as many elements, each of which is the struct that it wraps; the
+                // exclusive ones overlap none of the others.
+                answered(unsafe {
+                    c::$table_find_column(
+                        self.blocks.as_ptr().cast(), self.blocks.len(), addresses.as_ptr(), count,
+                        numbers.as_mut_ptr(), count, faults.as_mut_ptr(), count,
+                    )
+                });
+                for (number, fault) in numbers.iter_mut().zip(faults) {
+                    if u32::from(*fault) == OK {
+                        *number = self.places[*number];
+                    }
+                }
+            }
+        }
+
         impl From<$address> for $name {
             /// The network of this address alone, whose prefix length is the full width.
             fn from(address: $address) -> Self {
@@ -696,7 +812,8 @@ family!(
     ipnetwork_v4_overlaps, ipnetwork_v4_compare, ipnetwork_v4_contains_column, ipnetwork_v4_list_contains,
     ipnetwork_v4_aggregate, ipnetwork_v4_read_column, Ipv4Members, u32, Ipv4Set,
     ipnetwork_v4_set_contains, ipnetwork_v4_union, ipnetwork_v4_intersection, ipnetwork_v4_difference,
-    ipnetwork_v4_print_column
+    ipnetwork_v4_print_column, Ipv4Table, ipnetwork_v4_table_make, ipnetwork_v4_table_find,
+    ipnetwork_v4_table_find_column
 );
 
 family!(
@@ -708,7 +825,8 @@ family!(
     ipnetwork_v6_overlaps, ipnetwork_v6_compare, ipnetwork_v6_contains_column, ipnetwork_v6_list_contains,
     ipnetwork_v6_aggregate, ipnetwork_v6_read_column, Ipv6Members, u128, Ipv6Set,
     ipnetwork_v6_set_contains, ipnetwork_v6_union, ipnetwork_v6_intersection, ipnetwork_v6_difference,
-    ipnetwork_v6_print_column
+    ipnetwork_v6_print_column, Ipv6Table, ipnetwork_v6_table_make, ipnetwork_v6_table_find,
+    ipnetwork_v6_table_find_column
 );
 
 impl Ipv4Network {

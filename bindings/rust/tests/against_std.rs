@@ -1,7 +1,10 @@
 //! Every answer compared with `std::net` and plain arithmetic, on random texts and networks, and on mutated ones.
 //! `IPNETWORK_ROWS` is how many of each, a million where it is not set; `IPNETWORK_SEED` chooses others.
 
-use ipnetwork_c::{Fault, IpNetwork, Ipv4Network, Ipv4Set, Ipv6Network, Ipv6Set, read_address};
+use ipnetwork_c::{
+    Fault, IpNetwork, Ipv4Network, Ipv4Set, Ipv4Table, Ipv6Network, Ipv6Set, Ipv6Table,
+    read_address,
+};
 use std::env;
 use std::net::{IpAddr, Ipv4Addr, Ipv6Addr};
 
@@ -627,6 +630,52 @@ fn operations_on_sets() {
         let (mut again, mut again6) = (made.blocks().to_vec(), made6.blocks().to_vec());
         assert_eq!(Ipv4Set::new(&mut again), *made);
         assert_eq!(Ipv6Set::new(&mut again6), *made6);
+    }
+}
+
+/// Tables of random networks within 256 addresses: of each address the last network of the greatest prefix length that has it.
+#[test]
+fn tables() {
+    let mut random = Random(seed(31));
+    for count in 0..200 {
+        let count = count % 40;
+        let mut fours: Vec<Ipv4Network> = Vec::new();
+        let mut sixes: Vec<Ipv6Network> = Vec::new();
+        for _ in 0..count {
+            let (host, bits) = (random.below(256) as u8, random.below(9) as u8);
+            fours.push(Ipv4Network::new(Ipv4Addr::new(192, 0, 2, host), 32 - bits).unwrap());
+            sixes.push(Ipv6Network::new(Ipv6Addr::from(u128::from(host)), 128 - bits).unwrap());
+        }
+        let (mut blocks, mut blocks6) = (fours.clone(), sixes.clone());
+        let (mut places, mut places6) = (vec![0; count], vec![0; count + 1]);
+        let table = Ipv4Table::new(&fours, &mut blocks, &mut places);
+        let table6 = Ipv6Table::new(&sixes, &mut blocks6, &mut places6);
+        assert!(table.blocks().is_sorted() && table6.blocks().is_sorted());
+        let asked: Vec<[u8; 4]> = (0..=255).map(|host| [192, 0, 2, host]).collect();
+        let asked6: Vec<[u8; 16]> = (0..256u128).map(u128::to_be_bytes).collect();
+        let (mut numbers, mut numbers6) = ([77; 256], [77; 256]);
+        let (mut faults, mut faults6) = ([77; 256], [77; 256]);
+        table.find_column(&asked, &mut numbers, &mut faults);
+        table6.find_column(&asked6, &mut numbers6, &mut faults6);
+        for host in 0..256 {
+            let address = Ipv4Addr::from(asked[host]);
+            let having = fours
+                .iter()
+                .enumerate()
+                .filter(|(_, network)| network.contains(address));
+            let wanted = having.max_by_key(|(place, network)| (network.prefix(), *place));
+            let wanted = wanted.map(|(place, _)| place);
+            assert_eq!(table.find(address), wanted);
+            assert_eq!(table6.find(Ipv6Addr::from(asked6[host])), wanted);
+            assert_eq!(
+                (faults[host] == 0, faults6[host] == 0),
+                (wanted.is_some(), wanted.is_some())
+            );
+            assert_eq!(
+                (numbers[host], numbers6[host]),
+                (wanted.unwrap_or(77), wanted.unwrap_or(77))
+            );
+        }
     }
 }
 

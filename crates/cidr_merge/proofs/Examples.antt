@@ -9,7 +9,7 @@ use Rattle.ipnetwork_blocks.specs.Aggregate.{InUnion}
 use Rattle.list_entries.specs.declared.entry.EntryFault.TheVariants.{Prefix}
 use Rattle.address_lists.specs.declared.fault.LineFault.TheVariants.{Entry}
 use Rattle.cidr_merge.specs.Answers.{IsLeft, IsLeftOfSecond, AreBoth, merged, merged_ranges, block_line, range_line}
-use Rattle.cidr_merge.specs.CommandLines.{is, begins_dashed, is_dashed, is_name, operation_named, options_of, lists_of, are_options, are_lists, are_sides, before_dashes, behind_dashes, form_of}
+use Rattle.cidr_merge.specs.CommandLines.{is, begins_dashed, is_dashed, is_name, is_option, operation_named, options_of, lists_of, are_options, are_lists, are_sides, before_dashes, behind_dashes, form_of}
 use Rattle.cidr_merge.specs.Runs.{answer_status}
 use Rattle.cidr_merge.specs.Told.{refusals_text}
 use Rattle.cidr_merge.specs.declared.command_line.Operation.TheVariants.{Union, Common, Minus, Differ}
@@ -101,6 +101,12 @@ sides_of_minus = refl
 pub skipped_before_unequal : answer_status Differ true one none ≡ 3
 skipped_before_unequal = refl
 
+pub skipped_in_equal_sides : answer_status Differ true none none ≡ 3
+skipped_in_equal_sides = refl
+
+pub skipped_in_a_union : answer_status Union true one none ≡ 3
+skipped_in_a_union = refl
+
 -- ---- what is told
 
 pub a_refused_line : {Z : Type 0} (union list : String Z) → string_bytes list ≡ codes "a.txt"
@@ -133,6 +139,15 @@ an_empty_name word e = rw e
 
 pub an_option_is_no_name : {Z : Type 0} (word : String Z) → string_bytes word ≡ codes "--count" → is_name word ≡ false
 an_option_is_no_name word e = rw e
+
+pub lines_are_skipped : {Z : Type 0} (word : String Z) → string_bytes word ≡ codes "--skip-bad" → is_option word ≡ true
+lines_are_skipped word e = rw e
+
+pub no_option_among_others : {Z : Type 0} (word : String Z) → string_bytes word ≡ codes "--help" → is_option word ≡ false
+no_option_among_others word e = rw e
+
+pub standard_input_is_a_name : {Z : Type 0} (word : String Z) → string_bytes word ≡ codes "-" → is_name word ≡ true
+standard_input_is_a_name word e = rw e
 
 pub two_ways_to_print : {Z : Type 0} (ranges count : String Z) → string_bytes ranges ≡ codes "--ranges" → string_bytes count ≡ codes "--count" → are_options (ranges ∷ count ∷ []) ≡ false
 two_ways_to_print ranges count r c = rw (r, c)

@@ -29,5 +29,6 @@ pub mod Runs
 pub mod SpanningBlock
 pub mod SpanningExamples
 pub mod SubnetLaws
+pub mod UnionLaws
 pub mod WiderBlocks
 pub mod WidestBlock

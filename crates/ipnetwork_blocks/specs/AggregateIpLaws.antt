@@ -1,5 +1,5 @@
 -- The laws of aggregation of networks of either family: those of one family, over the sets of either.
-use Rattle.std.specs.Prelude.{◌≡◌, ◌≤◌, ◌↔◌, List, length}
+use Rattle.std.specs.Prelude.{◌≡◌, ◌≤◌, ◌↔◌, ◌⊎◌, List, [], ◌∷◌, length}
 use Rattle.std.specs.List.{All, AllPairs, Contains}
 use Rattle.ipnetwork_addr.specs.Either.{IsAddrBefore}
 use Rattle.ipnetwork_addr.specs.declared.ip.IpAddr.{IpAddr}
@@ -18,6 +18,14 @@ LiesInIpUnion n networks = (x : IpAddr) → IpMember n x → InIpUnion networks 
 -- the unions of two lists have the same addresses
 abbrev pub SameIpUnion : List IpNetwork → List IpNetwork → Type 0
 SameIpUnion networks others = (x : IpAddr) → InIpUnion networks x ↔ InIpUnion others x
+
+-- no address lies in the union of no networks,
+abbrev pub IpUnionOfNone : Type 0
+IpUnionOfNone = (x : IpAddr) → ¬ (InIpUnion [] x)
+
+-- and in that of a list lie the members of its first network, and the addresses of the union of the others
+abbrev pub IpUnionOfList : Type 0
+IpUnionOfList = (n : IpNetwork) (others : List IpNetwork) (x : IpAddr) → InIpUnion (n ∷ others) x ↔ (IpMember n x ⊎ InIpUnion others x)
 
 -- the aggregate of networks has the same addresses in its union as they have
 abbrev pub IpAggregateHasUnion : Type 0

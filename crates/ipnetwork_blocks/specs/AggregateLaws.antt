@@ -1,8 +1,16 @@
 -- The laws of aggregation, for addresses of any number of bits.
-use Rattle.std.specs.Prelude.{◌≡◌, ℕ, ◌<◌, ◌≤◌, ◌↔◌, List, length}
+use Rattle.std.specs.Prelude.{◌≡◌, ℕ, ◌<◌, ◌≤◌, ◌↔◌, ◌⊎◌, List, [], ◌∷◌, length}
 use Rattle.std.specs.List.{All, AllPairs, Contains}
 use Rattle.ipnetwork_family.specs.Network.{Network, IsNetwork, Member, Subnet, high}
-use Rattle.ipnetwork_blocks.specs.Aggregate.{LiesInUnion, SameUnion, IsAggregate}
+use Rattle.ipnetwork_blocks.specs.Aggregate.{InUnion, LiesInUnion, SameUnion, IsAggregate}
+
+-- no address lies in the union of no networks,
+abbrev pub UnionOfNone : Type 0
+UnionOfNone = (w x : ℕ) → ¬ (InUnion w [] x)
+
+-- and in that of a list lie the members of its first network, and the addresses of the union of the others
+abbrev pub UnionOfList : Type 0
+UnionOfList = (w : ℕ) (n : Network) (others : List Network) (x : ℕ) → InUnion w (n ∷ others) x ↔ (Member w n x ⊎ InUnion w others x)
 
 -- the aggregate of networks has the same addresses in its union as they have
 abbrev pub AggregateHasUnion : Type 0

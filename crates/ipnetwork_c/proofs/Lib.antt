@@ -12,3 +12,5 @@ pub mod BlocksPut
 pub mod KeptRuns
 pub mod PrintedRows
 pub mod TableFinding
+pub mod TableMaking
+pub mod TableExamples

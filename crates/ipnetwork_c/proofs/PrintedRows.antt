@@ -10,7 +10,7 @@ use Rattle.std.specs.Option.{unwrap_or}
 use Rattle.std.proofs.lemmas.Option.{slice_get_within, unwrap_or-slice_get}
 use Rattle.ipnetwork_c.specs.PrintedColumns.{PrintsRows}
 use Rattle.ipnetwork_c.specs.ColumnLaws.{PrintedRowsAreTexts, PrintedOffsetsAreOffsets}
-use Rattle.ipnetwork_c.proofs.Offsets.{got_elsewhere}
+use Rattle.ipnetwork_c.proofs.Rows.{got_elsewhere}
 
 -- no row is printed, and the first offset is 0
 pub none_printed : {R : Type 0} (text : R → List ℕ) (before offsets : List ℕ) → 0 < length offsets → PrintsRows text [] before before offsets (slice_set offsets 0 0)
@@ -149,3 +149,9 @@ offsets_are_offsets {R} text rows before after offsets_before offsets h room =
           let same : length (flat_map text (take i (take (i + 1) rows))) ≡ length (flat_map text (take i rows)) = ap (λ t. length (flat_map text t)) front in
           omega (arith, here, next, step, same);
     }
+
+-- ---- rows that are refused
+
+-- the row at i fits
+abbrev pub FitsAt : {R : Type 0} → (R → Type 0) → List R → ℕ → Type 0
+FitsAt {R} Fits rows i = (d : R) → Fits (get_or rows i d)

@@ -1,7 +1,10 @@
 -- Answers written row by row.
-use Rattle.std.proofs.Common.{◌≡◌, ℕ, ◌+◌, ◌<◌, ◌≤◌, List, [], ◌∷◌, ◌++◌, length, map, take, drop, get_or, slice_set, ap, sym, add-one, append_assoc, drop-cons, ◌∙◌, arith}
+use Rattle.std.proofs.Common.{◌≡◌, ◌≢◌, ◌⊎◌, ℕ, zero, suc, ◌+◌, ◌<◌, ◌≤◌, List, [], ◌∷◌, ◌++◌, length, map, take, drop, get_or, slice_get, slice_set, Some, ⊎_elim, ap, refl, sym, subst, add-one, append_assoc, drop-cons, ◌∙◌, arith}
 use Rattle.std.proofs.Math.Seq.{take-suc, set-append_seam}
-use Rattle.std.proofs.lemmas.List.{map-append, length-map, length-take-le}
+use Rattle.std.proofs.lemmas.Bool.{cases_lt}
+use Rattle.std.proofs.lemmas.List.{map-append, length-map, length-set, length-take-le}
+use Rattle.std.proofs.lemmas.Option.{slice_get-get_or}
+use Rattle.ipnetwork_c.specs.Columns.{AnswersEach}
 
 -- the answers to the rows so far, and behind them what was there: with the next answer
 pub row_written : (f : List ℕ → ℕ) (rows : List (List ℕ)) (before answers : List ℕ) (row value : ℕ) → row < length rows → length rows ≤ length before → answers ≡ map f (take row rows) ++ drop row before → value ≡ f (get_or rows row []) → slice_set answers row value ≡ map f (take (row + 1) rows) ++ drop (row + 1) before
@@ -20,3 +23,41 @@ row_written f rows before answers row value below room is value_is =
     ∙ ap (λ v. front ++ v ∷ behind) value_is
     ∙ sym (append_assoc front (f x ∷ []) behind)
     ∙ ap (λ xs. xs ++ behind) (sym mapped)
+
+-- ---- rows with a fault of their own
+
+pub got_where_set : {X : Type 0} (xs : List X) (i : ℕ) (x : X) → i < length xs → slice_get (slice_set xs i x) i ≡ Some x
+got_where_set [] i x below = absurd (omega (arith, below))
+got_where_set (y ∷ xs) zero x below = refl
+got_where_set (y ∷ xs) (suc i) x below = got_where_set xs i x (omega (arith, below))
+
+pub got_elsewhere : {X : Type 0} (xs : List X) (i j : ℕ) (x : X) → j ≢ i → slice_get (slice_set xs i x) j ≡ slice_get xs j
+got_elsewhere [] i j x apart = refl
+got_elsewhere (y ∷ xs) zero zero x apart = absurd (apart refl)
+got_elsewhere (y ∷ xs) zero (suc j) x apart = refl
+got_elsewhere (y ∷ xs) (suc i) zero x apart = refl
+got_elsewhere (y ∷ xs) (suc i) (suc j) x apart = got_elsewhere xs i j x (λ e. apart (ap suc e))
+
+-- one row more is answered
+pub one_row_more : {R : Type 0} (Answers : ℕ → R → R → ℕ → Type 0) (n : ℕ) (before after : List R) (faults_before faults : List ℕ) (d new : R) (fault : ℕ) → AnswersEach Answers n before after faults_before faults → n < length before → n < length faults_before → Answers n (get_or after n d) new fault → AnswersEach Answers (n + 1) before (slice_set after n new) faults_before (slice_set faults n fault)
+one_row_more {R} Answers n before after faults_before faults d new fault so_far room fault_room answered =
+    let old : R = get_or after n d in
+    let within : n < length after = omega (arith, room, so_far.rows) in
+    let fault_within : n < length faults = omega (arith, fault_room, so_far.fault_rows) in
+    let was : slice_get before n ≡ Some old = sym (so_far.rest n (omega arith)) ∙ slice_get-get_or after n d within in
+    record {
+      rows = length-set after n new ∙ so_far.rows;
+      fault_rows = length-set faults n fault ∙ so_far.fault_rows;
+      row = λ i below. ⊎_elim
+          (λ (less : i < n).
+          let apart : i ≢ n = λ e. omega (arith, e, less) in
+          let r = so_far.row i less in
+          (r.0, r.1, r.2, r.3, got_elsewhere after n i new apart ∙ r.4, got_elsewhere faults n i fault apart ∙ r.5, r.6))
+          (λ (more : n ≤ i).
+          let here : n ≡ i = omega (arith, below, more) in
+          subst (λ (k : ℕ). (o w : R) × (f : ℕ) × (slice_get before k ≡ Some o) × (slice_get (slice_set after n new) k ≡ Some w) × (slice_get (slice_set faults n fault) k ≡ Some f) × Answers k o w f) here
+          (old, new, fault, was, got_where_set after n new within, got_where_set faults n fault fault_within, answered))
+          (cases_lt i n);
+      rest = λ i behind. let apart : i ≢ n = λ e. omega (arith, e, behind) in got_elsewhere after n i new apart ∙ so_far.rest i (omega (arith, behind));
+      fault_rest = λ i behind. let apart : i ≢ n = λ e. omega (arith, e, behind) in got_elsewhere faults n i fault apart ∙ so_far.fault_rest i (omega (arith, behind));
+    }

@@ -9,7 +9,8 @@ use Rattle.ipnetwork_family.proofs.Blocks.{size_pos, within_member, member_withi
 use Rattle.ipnetwork_family.proofs.BlocksAt.{block_at_network, block_at_holds, block_at_subnet}
 use Rattle.ipnetwork_blocks.specs.Aggregate.{InUnion}
 use Rattle.ipnetwork_blocks.proofs.LeastLists.{own_address}
-use Rattle.ipnetwork_c.specs.Tables.{IsTable, FindsLongest}
+use Rattle.ipnetwork_c.specs.Tables.{IsTable, FindsLongest, TableQuery}
+use Rattle.ipnetwork_c.specs.Tables.TableQuery.{Found, NotFound, Refused}
 use Rattle.ipnetwork_c.specs.Private.Sets.{SplitsAt}
 
 pub by_address : (w : ℕ) (ns : List Network) → IsTable w ns → AllPairs (λ a b. a.address ≤ b.address) ns
@@ -101,6 +102,7 @@ search_finds w ns x end b h some within is has =
           (λ (before : k + 2 ≤ end). no_longer (get_or ns k d) (get_or ns (end - 1) d) (t.blocks k d m) (t.blocks (end - 1) d (omega arith)) (t.ascending k (end - 1) d (omega arith) (omega arith)) c (subst (λ (n : Network). Member w n x) (at d) has))
           (cases_lt end (k + 2)))
           (cases_lt end (k + 1));
+      last = λ t k d after m. (h t).behind k d (omega arith) m;
     }
   where
     no_longer : (a b : Network) → IsCidrBlock w a → IsCidrBlock w b → IsNetworkAtMost a b → Member w a x → Member w b x → a.prefix ≤ b.prefix
@@ -121,3 +123,9 @@ pub search_fails : (w : ℕ) (ns : List Network) (x end : ℕ) → (IsTable w ns
 search_fails w ns x end h none t u =
     let k : ℕ = u.1.0 in
     (h t).behind k u.0 (omega arith) u.1.1 (subst (λ (n : Network). Member w n x) (sym u.1.2) u.2)
+
+-- the number of a fault that a search returns is that of a byte
+pub fault_is_byte : {C : Type 0} {w : ℕ} {held : C → Network} {list : List C} {x before after code : ℕ} → TableQuery w held list x before after code → code < 256
+fault_is_byte (Found is _) = omega (arith, is)
+fault_is_byte (NotFound is _ _) = omega (arith, is)
+fault_is_byte (Refused _ is _) = omega (arith, is)

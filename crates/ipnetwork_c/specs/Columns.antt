@@ -1,5 +1,5 @@
 -- What is asked of many rows in one call.
-use Rattle.std.specs.Prelude.{◌≡◌, ℕ, ◌<◌, ◌≤◌, List, ◌++◌, drop, length, map}
+use Rattle.std.specs.Prelude.{◌≡◌, ℕ, ◌<◌, ◌≤◌, List, ◌++◌, drop, length, map, slice_get, Some}
 use Rattle.std.specs.Int.{from_bool}
 use Rattle.ipnetwork_family.specs.Network.{Network}
 use Rattle.ipnetwork_family.specs.Computed.Network.{is_member}
@@ -16,3 +16,11 @@ pub data AnswersRows (w : ℕ) (n : Network) (rows : List (List ℕ)) (before af
   Answered : PrefixFits w n → length rows ≤ length before → code ≡ ok → after ≡ map (member_flag w n) rows ++ drop (length rows) before → AnswersRows w n rows before after code
   NoRoom : PrefixFits w n → length before < length rows → code ≡ short_buffer → after ≡ before → AnswersRows w n rows before after code
   NoNetwork : ¬ (PrefixFits w n) → code ≡ prefix → after ≡ before → AnswersRows w n rows before after code
+
+-- each of the first rows is answered as the call for one answers it, with a fault of its own, and the others stay
+pub record AnswersEach {R : Type 0} (Answers : ℕ → R → R → ℕ → Type 0) (count : ℕ) (before after : List R) (faults_before faults : List ℕ) : Type 0 where
+  pub rows : length after ≡ length before
+  pub fault_rows : length faults ≡ length faults_before
+  pub row : (i : ℕ) → i < count → (old new : R) × (fault : ℕ) × (slice_get before i ≡ Some old) × (slice_get after i ≡ Some new) × (slice_get faults i ≡ Some fault) × Answers i old new fault
+  pub rest : (i : ℕ) → count ≤ i → slice_get after i ≡ slice_get before i
+  pub fault_rest : (i : ℕ) → count ≤ i → slice_get faults i ≡ slice_get faults_before i

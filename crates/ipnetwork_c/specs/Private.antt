@@ -4,3 +4,4 @@ pub mod Structs
 pub mod Sets
 pub mod Writing
 pub mod Together
+pub mod Tables

@@ -1,6 +1,5 @@
--- Columns of texts: the bytes of all texts, one after the other, and the offsets at which each begins and the last
--- ends.
-use Rattle.std.specs.Prelude.{◌≡◌, ◌⊎◌, ℕ, ◌+◌, ◌-◌, ◌<◌, ◌≤◌, List, length, get_or, slice_get, slice_range, Some}
+-- Columns of texts: the bytes of all texts, one after the other, and the offsets at which each begins and the last ends.
+use Rattle.std.specs.Prelude.{◌≡◌, ◌⊎◌, ℕ, ◌+◌, ◌-◌, ◌<◌, ◌≤◌, List, length, get_or, slice_range}
 use Rattle.ipnetwork_family.specs.Ipv4NetworkText.{ReadsV4Network}
 use Rattle.ipnetwork_family.specs.Ipv6NetworkText.{ReadsV6Network}
 use Rattle.ipnetwork.specs.IpNetworkText.{ReadsIpNetwork}
@@ -10,6 +9,7 @@ use Rattle.ipnetwork_c.specs.declared.structs.IpInC.{IpInC}
 use Rattle.ipnetwork_c.specs.Numbers.{ok, short_buffer, no_offsets}
 use Rattle.ipnetwork_c.specs.Held.{HoldsV4, HoldsV6}
 use Rattle.ipnetwork_c.specs.Answers.{ReadsInto}
+use Rattle.ipnetwork_c.specs.Columns.{AnswersEach}
 use Rattle.ipnetwork_c.specs.Either.{HoldsIp}
 
 -- how many texts there are: one less than offsets
@@ -25,14 +25,9 @@ pub record AreOffsets (texts offsets : List ℕ) : Type 0 where
   pub within : (i : ℕ) → i < length offsets → get_or offsets i 0 ≤ length texts
   pub rising : (i : ℕ) → i + 1 < length offsets → get_or offsets i 0 ≤ get_or offsets (i + 1) 0
 
--- each of the first rows is read as the call for one text reads it, with a fault of its own, and the others are
--- unchanged
-pub record ReadsRows {R : Type 0} (Reads : List ℕ → R → R → ℕ → Type 0) (texts offsets : List ℕ) (count : ℕ) (before after : List R) (faults_before faults : List ℕ) : Type 0 where
-  pub rows : length after ≡ length before
-  pub fault_rows : length faults ≡ length faults_before
-  pub row : (i : ℕ) → i < count → (old new : R) × (fault : ℕ) × (slice_get before i ≡ Some old) × (slice_get after i ≡ Some new) × (slice_get faults i ≡ Some fault) × Reads (row_text texts offsets i) old new fault
-  pub rest : (i : ℕ) → count ≤ i → slice_get after i ≡ slice_get before i
-  pub fault_rest : (i : ℕ) → count ≤ i → slice_get faults i ≡ slice_get faults_before i
+-- each of the first texts is read into the row of its place, as the call for one text reads it
+abbrev pub ReadsRows : {R : Type 0} → (List ℕ → R → R → ℕ → Type 0) → List ℕ → List ℕ → ℕ → List R → List R → List ℕ → List ℕ → Type 0
+ReadsRows Reads texts offsets = AnswersEach (λ i. Reads (row_text texts offsets i))
 
 -- a column is read, row by row; or nothing is written, since the offsets are not offsets of the texts, or there is no
 -- room for as many rows

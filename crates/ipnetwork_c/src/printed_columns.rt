@@ -1,11 +1,13 @@
-//! Columns of networks printed in one call, in the layout of Arrow: the bytes of all texts, one after the other, and
-//! the offsets at which each begins and the last ends.
-ghost use Rattle.std.specs.Prelude.{◌≡◌, ◌↔◌, ◌+◌, ◌^◌, ◌<◌, ◌≤◌, ◌++◌, IsTrue, length as len, take, drop, flat_map};
+//! Columns of networks and addresses printed in one call, in the layout of Arrow: the bytes of all texts, one after the other, and the
+//! offsets at which each begins and the last ends.
+ghost use Rattle.std.specs.Prelude.{◌≡◌, ◌≢◌, ℕ, Some, ◌+◌, ◌^◌, ◌<◌, ◌≤◌, ◌++◌, length as len, take, drop, flat_map, slice_get};
 ghost use Rattle.std.specs.List.{All};
-ghost use Rattle.ipnetwork_c.specs.PrintedColumns.{PrintsRows, PrintsColumn, v4_fits, v4_text, v6_fits, v6_text};
+ghost use Rattle.ipnetwork_c.specs.PrintedColumns.{PrintsRows, PrintsColumn, v4_fits, v4_refused, v4_text, v6_fits, v6_refused, v6_text, ip_fits, ip_text, address_fits, address_refused, address_text};
+ghost use Rattle.ipnetwork_c.specs.Either.{NoIpNetwork};
 
-use crate::fault::{OK, PREFIX, SHORT_BUFFER};
-use crate::structs::{Ipv4InC, Ipv6InC};
+use crate::address::AddressInC;
+use crate::fault::{NO_FAMILY, OK, PREFIX, SHORT_BUFFER};
+use crate::structs::{IpInC, Ipv4InC, Ipv6InC, V4};
 use crate::writing::to_usize;
 use arrayvec::ArrayString;
 use ipnetwork::NETWORK_TEXT_CAPACITY;
@@ -14,17 +16,21 @@ use ipnetwork::NETWORK_TEXT_CAPACITY;
 pub(crate) trait PrintsRow {
     ghost use Rattle.std.specs.Prelude.{ℕ, List};
 
-    // Whether the row stands for a network.
+    // Whether the row stands for something to print.
     ghost fits: { Self → Type 0 };
 
-    // The text of the network.
+    // By which faults it is refused if it does not.
+    ghost refused: { Self → ℕ → Type 0 };
+
+    // The text of what it stands for.
     ghost text: { Self → List ℕ };
 
-    /// Whether the row stands for a network.
-    fn row_fits(&self) -> bool
-        ensures { IsTrue result ↔ fits self.now };
+    /// The fault by which the row is refused, or 0.
+    fn row_fault(&self) -> u32
+        ensures fits { result ≡ 0 → fits self.now }
+        ensures refused { result ≢ 0 → refused self.now result };
 
-    /// The text of the network.
+    /// The text of what it stands for.
     fn row_text(&self) -> ArrayString<NETWORK_TEXT_CAPACITY>
         requires { fits self.now }
         ensures bytes { result.bytes ≡ text self.now }
@@ -34,10 +40,12 @@ pub(crate) trait PrintsRow {
 impl PrintsRow for Ipv4InC {
     ghost fits = { v4_fits };
 
+    ghost refused = { v4_refused };
+
     ghost text = { v4_text };
 
-    fn row_fits(&self) -> bool {
-        self.prefix <= 32
+    fn row_fault(&self) -> u32 {
+        if self.prefix <= 32 { OK } else { PREFIX }
     }
 
     fn row_text(&self) -> ArrayString<NETWORK_TEXT_CAPACITY> {
@@ -51,10 +59,12 @@ impl PrintsRow for Ipv4InC {
 impl PrintsRow for Ipv6InC {
     ghost fits = { v6_fits };
 
+    ghost refused = { v6_refused };
+
     ghost text = { v6_text };
 
-    fn row_fits(&self) -> bool {
-        self.prefix <= 128
+    fn row_fault(&self) -> u32 {
+        if self.prefix <= 128 { OK } else { PREFIX }
     }
 
     fn row_text(&self) -> ArrayString<NETWORK_TEXT_CAPACITY> {
@@ -65,6 +75,66 @@ impl PrintsRow for Ipv6InC {
     }
 }
 
+impl PrintsRow for IpInC {
+    ghost fits = { ip_fits };
+
+    ghost refused = { NoIpNetwork };
+
+    ghost text = { ip_text };
+
+    fn row_fault(&self) -> u32 {
+        match self.network() {
+            Ok(_) => OK,
+            Err(fault) => fault,
+        }
+    }
+
+    fn row_text(&self) -> ArrayString<NETWORK_TEXT_CAPACITY> {
+        if self.family == V4 {
+            return self.v4.row_text();
+        }
+        self.v6.row_text()
+    }
+}
+
+impl PrintsRow for AddressInC {
+    ghost fits = { address_fits };
+
+    ghost refused = { address_refused };
+
+    ghost text = { address_text };
+
+    fn row_fault(&self) -> u32 {
+        match self.address() {
+            Some(_) => OK,
+            None => NO_FAMILY,
+        }
+    }
+
+    fn row_text(&self) -> ArrayString<NETWORK_TEXT_CAPACITY> {
+        let Some(address) = self.address() else {
+            unreachable!()
+        };
+        let mut text = ArrayString::new();
+        text.push_str(address.canonical().as_str());
+        text
+    }
+}
+
+// The fault of the first row that is refused; 0 if none is.
+fn first_fault<R: PrintsRow>(rows: &[R]) -> u32
+    ensures none { result ≡ 0 → All R.fits rows.now }
+    ensures one { result ≢ 0 → (i : ℕ) × (r : R) × (slice_get rows.now i ≡ Some r) × All R.fits (take i rows.now) × R.refused r result }
+{
+    for row in 0..rows.len() {
+        let fault = rows[row].row_fault();
+        if fault != OK {
+            return fault;
+        }
+    }
+    OK
+}
+
 // Prints each row into the texts, after the row before it, and writes the offsets.
 fn print_rows<R: PrintsRow>(
     rows: &[R],
@@ -72,10 +142,11 @@ fn print_rows<R: PrintsRow>(
     offsets: &mut [u32],
     length: &mut usize,
 ) -> u32
-    ensures { PrintsColumn R.fits R.text rows.now texts.old texts.new offsets.old offsets.new length.old length.new result }
+    ensures { PrintsColumn R.fits R.refused R.text rows.now texts.old texts.new offsets.old offsets.new length.old length.new result }
 {
-    if !rows.iter().all(|row| row.row_fits()) {
-        return PREFIX;
+    let fault = first_fault(rows);
+    if fault != OK {
+        return fault;
     }
     let whole = texts_length(rows);
     *length = to_usize(whole);
@@ -137,7 +208,7 @@ pub extern "C" fn ipnetwork_v4_print_column(
     offsets: &mut [u32],
     length: &mut usize,
 ) -> u32
-    ensures { PrintsColumn v4_fits v4_text networks.now texts.old texts.new offsets.old offsets.new length.old length.new result }
+    ensures { PrintsColumn v4_fits v4_refused v4_text networks.now texts.old texts.new offsets.old offsets.new length.old length.new result }
 {
     print_rows(networks, texts, offsets, length)
 }
@@ -150,7 +221,35 @@ pub extern "C" fn ipnetwork_v6_print_column(
     offsets: &mut [u32],
     length: &mut usize,
 ) -> u32
-    ensures { PrintsColumn v6_fits v6_text networks.now texts.old texts.new offsets.old offsets.new length.old length.new result }
+    ensures { PrintsColumn v6_fits v6_refused v6_text networks.now texts.old texts.new offsets.old offsets.new length.old length.new result }
 {
     print_rows(networks, texts, offsets, length)
+}
+
+/// The same of networks of either family, as `ipnetwork_canonical` prints them. If one is refused, the fault is that of the
+/// first: `NO_FAMILY` if the struct tells neither family, else `PREFIX`.
+#[unsafe(no_mangle)]
+pub extern "C" fn ipnetwork_print_column(
+    networks: &[IpInC],
+    texts: &mut [u8],
+    offsets: &mut [u32],
+    length: &mut usize,
+) -> u32
+    ensures { PrintsColumn ip_fits NoIpNetwork ip_text networks.now texts.old texts.new offsets.old offsets.new length.old length.new result }
+{
+    print_rows(networks, texts, offsets, length)
+}
+
+/// The same of addresses of either family, as `ipnetwork_address_canonical` prints them. `NO_FAMILY` if a struct tells
+/// neither 4 nor 16 octets.
+#[unsafe(no_mangle)]
+pub extern "C" fn ipnetwork_address_print_column(
+    addresses: &[AddressInC],
+    texts: &mut [u8],
+    offsets: &mut [u32],
+    length: &mut usize,
+) -> u32
+    ensures { PrintsColumn address_fits address_refused address_text addresses.now texts.old texts.new offsets.old offsets.new length.old length.new result }
+{
+    print_rows(addresses, texts, offsets, length)
 }

@@ -4,6 +4,7 @@ pub mod CommonPart
 pub mod CountLaws
 pub mod DifferenceLaws
 pub mod Equal
+pub mod Examples
 pub mod FewerBlocks
 pub mod FreeBlocks
 pub mod FromRanges
@@ -11,6 +12,7 @@ pub mod LeastBlocks
 pub mod LeftParts
 pub mod LeftSets
 pub mod Lists
+pub mod QuestionLaws
 pub mod RunLists
 pub mod Searched
 pub mod SetLaws

@@ -1,9 +1,7 @@
 -- The binary search, and what its block tells of an address and of a network.
-use Rattle.std.proofs.Common.{◌≡◌, ◌↔◌, ℕ, zero, suc, ◌+◌, ◌-◌, ◌*◌, ◌%◌, ◌^◌, ◌<◌, ◌≤◌, ◌⊎◌, inl, inr, sym, refl, ap, subst, ◌∙◌, arith, ⊎_elim, Bool, true, false, IsTrue, if◌then◌else◌, List, length, get_or}
-use Rattle.std.proofs.Math.Nat.{pow-succ'}
+use Rattle.std.proofs.Common.{◌≡◌, ◌↔◌, ℕ, ◌+◌, ◌-◌, ◌*◌, ◌<◌, ◌≤◌, ◌⊎◌, inl, inr, sym, refl, ap, subst, ◌∙◌, arith, ⊎_elim, Bool, true, false, IsTrue, if◌then◌else◌, List, length, get_or}
 use Rattle.std.proofs.lemmas.Bool.{cases_lt, cases_order, iff_false}
 use Rattle.std.proofs.lemmas.List.{get_or_default}
-use Rattle.std.proofs.lemmas.Nat.{pow_below}
 use Rattle.std.specs.List.{AllPairs, Contains}
 use Rattle.ipnetwork_family.specs.Network.{Network, IsNetwork, Member, Subnet, Overlap, low, high}
 use Rattle.ipnetwork_family.proofs.Blocks.{size_pos, has_ends, within_member, member_within}
@@ -67,42 +65,29 @@ split_before blocks x from to middle b up h le l is begins =
           (cases_lt middle k);
     }
 
--- the first step: the first p - 1 blocks are left, or the last p - 1
-pub split_first : (blocks : List Network) (x p : ℕ) (b : Network) → AllPairs (λ a b. a.address < b.address) blocks → 0 < p → p ≤ length blocks → length blocks < 2 * p
-    → b ≡ get_or blocks (p - 1) b → b.address ≤ x → IsSplit blocks x (length blocks + 1 - p) (length blocks + 1 - p + p - 1)
-split_first blocks x p b up some fits most is begins =
-    let h = split_behind blocks x 0 (length blocks) (p - 1) b up (split_starts blocks x) (omega arith) is begins in
-    record {
+-- the end may lie further on, and so does what follows it
+placed : (blocks : List Network) (x from to begin end : ℕ) → from ≡ begin → to ≤ end → end ≤ length blocks → IsSplit blocks x from to → IsSplit blocks x begin end
+placed blocks x from to begin end e le fits h =
+    let ordered = h.ordered in
+    subst (λ (k : ℕ). IsSplit blocks x k end) e (record {
       ordered = omega arith;
-      within = omega arith;
-      below = λ k d l. h.below k d (omega arith);
-      above = λ k d l m. absurd (omega arith);
-    }
+      within = fits;
+      below = h.below;
+      above = λ k d m n. h.above k d (omega arith) n;
+    })
 
-pub split_first_before : (blocks : List Network) (x p : ℕ) (b : Network) → AllPairs (λ a b. a.address < b.address) blocks → 0 < p → p ≤ length blocks
-    → b ≡ get_or blocks (p - 1) b → x < b.address → IsSplit blocks x 0 (0 + p - 1)
-split_first_before blocks x p b up some fits is after =
-    let h = split_before blocks x 0 (length blocks) (p - 1) b up (split_starts blocks x) (omega arith) (omega arith) is after in
-    subst (λ (k : ℕ). IsSplit blocks x 0 k) (omega arith) h
-
--- a step, of which p - 1 blocks are left
-pub split_step : (blocks : List Network) (x from to p : ℕ) (b : Network) (begins : Bool) → AllPairs (λ a b. a.address < b.address) blocks → IsSplit blocks x from to
-    → 0 < p → to + 1 ≡ from + 2 * p → b ≡ get_or blocks (from + (p - 1)) b → IsTrue begins ↔ (b.address ≤ x)
-    → IsSplit blocks x (from + (if begins then p else 0)) (from + (if begins then p else 0) + p - 1)
-split_step blocks x from to p b true up h some at is iff =
-    let f : from + (p - 1) + 1 ≡ from + p = omega arith in
-    let t : to ≡ from + p + p - 1 = omega arith in
-    let s = split_behind blocks x from to (from + (p - 1)) b up h (omega arith) is (iff.0 refl) in
-    subst (λ (k : ℕ). IsSplit blocks x (from + p) k) t (subst (λ (k : ℕ). IsSplit blocks x k to) f s)
-split_step blocks x from to p b false up h some at is iff =
-    let after : x < b.address = not_below b.address x (iff_false iff refl) in
-    let t : from + (p - 1) ≡ from + 0 + p - 1 = omega arith in
-    let s = split_before blocks x from to (from + (p - 1)) b up h (omega arith) (omega arith) is after in
-    let f : from ≡ from + 0 = omega arith in
-    subst (λ (k : ℕ). IsSplit blocks x k (from + 0 + p - 1)) f (subst (λ (k : ℕ). IsSplit blocks x from k) t s)
-
-moved : (blocks : List Network) (x from to begin end : ℕ) → from ≡ begin → to ≡ end → IsSplit blocks x from to → IsSplit blocks x begin end
-moved blocks x from to begin end e f h = subst (λ (k : ℕ). IsSplit blocks x begin k) f (subst (λ (k : ℕ). IsSplit blocks x k to) e h)
+-- a step by one block
+pub split_one : (blocks : List Network) (x from left : ℕ) (b : Network) (begins : Bool) → AllPairs (λ a b. a.address < b.address) blocks → IsSplit blocks x from (from + left)
+    → 0 < left → b ≡ get_or blocks from b → IsTrue begins ↔ (b.address ≤ x)
+    → IsSplit blocks x (from + (if begins then 1 else 0)) (from + (if begins then 1 else 0) + (left - 1))
+split_one blocks x from left b true up h some at iff =
+    let within = h.within in
+    placed blocks x (from + 1) (from + left) (from + 1) (from + 1 + (left - 1)) refl (omega arith) (omega arith)
+    (split_behind blocks x from (from + left) from b up h (omega arith) at (iff.0 refl))
+split_one blocks x from left b false up h some at iff =
+    let within = h.within in
+    placed blocks x from from (from + 0) (from + 0 + (left - 1)) (omega arith) (omega arith) (omega arith)
+    (split_before blocks x from (from + left) from b up h (omega arith) (omega arith) at (not_below b.address x (iff_false iff refl)))
 
 -- of two blocks the one that stands first begins first
 begins_first : (blocks : List Network) (i j : ℕ) (a b : Network) → AllPairs (λ a b. a.address < b.address) blocks → a ≡ get_or blocks i a → b ≡ get_or blocks j b → i < j → j < length blocks → a.address < b.address
@@ -113,46 +98,48 @@ begins_first blocks i j a b up at_i at_j less within =
     let f : (get_or blocks i b).address < (get_or blocks j b).address = up i j b less within in
     omega arith
 
-none_true : (t : Bool) → (IsTrue t → ⊥) → t ≡ false
-none_true true h = absurd (h refl)
-none_true false h = refl
-
 -- a step by quarters, where the first block begins before the second, and that before the third
-quarters : (blocks : List Network) (x from p : ℕ) (a b c : Network) (r s t : Bool) → AllPairs (λ a b. a.address < b.address) blocks → IsSplit blocks x from (from + 4 * p - 1)
-    → 0 < p → a ≡ get_or blocks (from + (p - 1)) a → b ≡ get_or blocks (from + (2 * p - 1)) b → c ≡ get_or blocks (from + (3 * p - 1)) c
+quarters : (blocks : List Network) (x from left p : ℕ) (a b c : Network) (r s t : Bool) → AllPairs (λ a b. a.address < b.address) blocks → IsSplit blocks x from (from + left)
+    → 0 < p → 4 * p ≤ left + 1 → a ≡ get_or blocks (from + (p - 1)) a → b ≡ get_or blocks (from + (2 * p - 1)) b → c ≡ get_or blocks (from + (3 * p - 1)) c
     → IsTrue r ↔ (a.address ≤ x) → IsTrue s ↔ (b.address ≤ x) → IsTrue t ↔ (c.address ≤ x) → a.address < b.address → b.address < c.address
-    → IsSplit blocks x (from + ((if r then p else 0) + (if s then p else 0) + (if t then p else 0))) (from + ((if r then p else 0) + (if s then p else 0) + (if t then p else 0)) + p - 1)
-quarters blocks x from p a b c r true t up h some at_a at_b at_c is_r is_s is_t first second =
-    let half = split_step blocks x from (from + 4 * p - 1) (2 * p) b true up h (omega arith) (omega arith) at_b is_s in
-    let at : from + (3 * p - 1) ≡ from + 2 * p + (p - 1) = omega arith in
-    let step = split_step blocks x (from + 2 * p) (from + 2 * p + 2 * p - 1) p c t up half some (omega arith) (subst (λ (k : ℕ). c ≡ get_or blocks k c) at at_c) is_t in
-    let low : IsTrue r = is_r.1 (omega (arith, is_s.0 refl)) in
-    subst (λ (v : Bool). IsSplit blocks x (from + ((if v then p else 0) + p + (if t then p else 0))) (from + ((if v then p else 0) + p + (if t then p else 0)) + p - 1)) (sym low)
-    (moved blocks x (from + 2 * p + (if t then p else 0)) (from + 2 * p + (if t then p else 0) + p - 1) (from + (p + p + (if t then p else 0))) (from + (p + p + (if t then p else 0)) + p - 1) (omega arith) (omega arith) step)
-quarters blocks x from p a b c r false t up h some at_a at_b at_c is_r is_s is_t first second =
-    let half = split_step blocks x from (from + 4 * p - 1) (2 * p) b false up h (omega arith) (omega arith) at_b is_s in
-    let here : from ≡ from + 0 = omega arith in
-    let step = split_step blocks x (from + 0) (from + 0 + 2 * p - 1) p a r up half some (omega arith) (subst (λ (k : ℕ). a ≡ get_or blocks (k + (p - 1)) a) here at_a) is_r in
-    let after : x < b.address = not_below b.address x (iff_false is_s refl) in
-    let high : t ≡ false = none_true t (λ u. let l : c.address ≤ x = is_t.0 u in absurd (omega arith)) in
-    subst (λ (v : Bool). IsSplit blocks x (from + ((if r then p else 0) + 0 + (if v then p else 0))) (from + ((if r then p else 0) + 0 + (if v then p else 0)) + p - 1)) (sym high)
-    (moved blocks x (from + 0 + (if r then p else 0)) (from + 0 + (if r then p else 0) + p - 1) (from + ((if r then p else 0) + 0 + 0)) (from + ((if r then p else 0) + 0 + 0) + p - 1) (omega arith) (omega arith) step)
+    → IsSplit blocks x (from + ((if r then p else 0) + (if s then p else 0) + (if t then p else 0))) (from + ((if r then p else 0) + (if s then p else 0) + (if t then p else 0)) + (left - 3 * p))
+quarters blocks x from left p a b c true true true up h some fits at_a at_b at_c is_r is_s is_t first second =
+    let within = h.within in
+    placed blocks x (from + (3 * p - 1) + 1) (from + left) (from + (p + p + p)) (from + (p + p + p) + (left - 3 * p)) (omega arith) (omega arith) (omega arith)
+    (split_behind blocks x from (from + left) (from + (3 * p - 1)) c up h (omega arith) at_c (is_t.0 refl))
+quarters blocks x from left p a b c true true false up h some fits at_a at_b at_c is_r is_s is_t first second =
+    let within = h.within in
+    let low = split_behind blocks x from (from + left) (from + (2 * p - 1)) b up h (omega arith) at_b (is_s.0 refl) in
+    placed blocks x (from + (2 * p - 1) + 1) (from + (3 * p - 1)) (from + (p + p + 0)) (from + (p + p + 0) + (left - 3 * p)) (omega arith) (omega arith) (omega arith)
+    (split_before blocks x (from + (2 * p - 1) + 1) (from + left) (from + (3 * p - 1)) c up low (omega arith) (omega arith) at_c (not_below c.address x (iff_false is_t refl)))
+quarters blocks x from left p a b c true false false up h some fits at_a at_b at_c is_r is_s is_t first second =
+    let within = h.within in
+    let low = split_behind blocks x from (from + left) (from + (p - 1)) a up h (omega arith) at_a (is_r.0 refl) in
+    placed blocks x (from + (p - 1) + 1) (from + (2 * p - 1)) (from + (p + 0 + 0)) (from + (p + 0 + 0) + (left - 3 * p)) (omega arith) (omega arith) (omega arith)
+    (split_before blocks x (from + (p - 1) + 1) (from + left) (from + (2 * p - 1)) b up low (omega arith) (omega arith) at_b (not_below b.address x (iff_false is_s refl)))
+quarters blocks x from left p a b c false false false up h some fits at_a at_b at_c is_r is_s is_t first second =
+    let within = h.within in
+    placed blocks x from (from + (p - 1)) (from + (0 + 0 + 0)) (from + (0 + 0 + 0) + (left - 3 * p)) (omega arith) (omega arith) (omega arith)
+    (split_before blocks x from (from + left) (from + (p - 1)) a up h (omega arith) (omega arith) at_a (not_below a.address x (iff_false is_r refl)))
+quarters blocks x from left p a b c false true t up h some fits at_a at_b at_c is_r is_s is_t first second =
+    let begins : b.address ≤ x = is_s.0 refl in
+    absurd (iff_false is_r refl (omega arith))
+quarters blocks x from left p a b c r false true up h some fits at_a at_b at_c is_r is_s is_t first second =
+    let begins : c.address ≤ x = is_t.0 refl in
+    absurd (iff_false is_s refl (omega arith))
 
--- a step by quarters of p blocks, of which p - 1 blocks are left
-pub split_quarters : (blocks : List Network) (x from p : ℕ) (a b c : Network) (r s t : Bool) → AllPairs (λ a b. a.address < b.address) blocks → IsSplit blocks x from (from + 4 * p - 1)
-    → 0 < p → a ≡ get_or blocks (from + (p - 1)) a → b ≡ get_or blocks (from + (2 * p - 1)) b → c ≡ get_or blocks (from + (3 * p - 1)) c
+-- a step by quarters of p blocks: what is left is no less than the last of them
+pub split_quarters : (blocks : List Network) (x from left p : ℕ) (a b c : Network) (r s t : Bool) → AllPairs (λ a b. a.address < b.address) blocks → IsSplit blocks x from (from + left)
+    → 0 < p → 4 * p ≤ left + 1 → a ≡ get_or blocks (from + (p - 1)) a → b ≡ get_or blocks (from + (2 * p - 1)) b → c ≡ get_or blocks (from + (3 * p - 1)) c
     → IsTrue r ↔ (a.address ≤ x) → IsTrue s ↔ (b.address ≤ x) → IsTrue t ↔ (c.address ≤ x)
-    → IsSplit blocks x (from + ((if r then p else 0) + (if s then p else 0) + (if t then p else 0))) (from + ((if r then p else 0) + (if s then p else 0) + (if t then p else 0)) + p - 1)
-split_quarters blocks x from p a b c r s t up h some at_a at_b at_c is_r is_s is_t =
+    → IsSplit blocks x (from + ((if r then p else 0) + (if s then p else 0) + (if t then p else 0))) (from + ((if r then p else 0) + (if s then p else 0) + (if t then p else 0)) + (left - 3 * p))
+split_quarters blocks x from left p a b c r s t up h some fits at_a at_b at_c is_r is_s is_t =
     let within = h.within in
     let first : a.address < b.address = begins_first blocks (from + (p - 1)) (from + (2 * p - 1)) a b up at_a at_b (omega arith) (omega arith) in
     let second : b.address < c.address = begins_first blocks (from + (2 * p - 1)) (from + (3 * p - 1)) b c up at_b at_c (omega arith) (omega arith) in
-    quarters blocks x from p a b c r s t up h some at_a at_b at_c is_r is_s is_t first second
+    quarters blocks x from left p a b c r s t up h some fits at_a at_b at_c is_r is_s is_t first second
 
-pub at_most : (holds : Bool) (n : ℕ) → (if holds then n else 0) ≤ n
-at_most true n = omega arith
-at_most false n = omega arith
-
+-- the length once for each condition
 three_times : (r s t : Bool) (p : ℕ) → ((if r then 1 else 0) + (if s then 1 else 0) + (if t then 1 else 0)) * p ≡ (if r then p else 0) + (if s then p else 0) + (if t then p else 0)
 three_times true true true p = omega arith
 three_times true true false p = omega arith
@@ -163,26 +150,14 @@ three_times false true false p = omega arith
 three_times false false true p = omega arith
 three_times false false false p = omega arith
 
--- so many times a power that four of them fit
-pub three_powers : (r s t : Bool) (a b c e : ℕ) → e < 62 → a ≡ (if r then 1 else 0) → b ≡ (if s then 1 else 0) → c ≡ (if t then 1 else 0)
-    → (a + b + c) * 2 ^ e % 18446744073709551616 ≡ (if r then 2 ^ e else 0) + (if s then 2 ^ e else 0) + (if t then 2 ^ e else 0)
-three_powers r s t a b c e few is_a is_b is_c =
-    let fits : 2 ^ e < 2 ^ 62 = pow_below e 62 few in
-    let all : (a + b + c) * 2 ^ e ≡ (if r then 2 ^ e else 0) + (if s then 2 ^ e else 0) + (if t then 2 ^ e else 0) =
-    ap (λ n. (n + b + c) * 2 ^ e) is_a ∙ ap (λ n. ((if r then 1 else 0) + n + c) * 2 ^ e) is_b ∙ ap (λ n. ((if r then 1 else 0) + (if s then 1 else 0) + n) * 2 ^ e) is_c ∙ three_times r s t (2 ^ e) in
-    omega (arith, all, at_most r (2 ^ e), at_most s (2 ^ e), at_most t (2 ^ e), fits)
+pub sum_times : (r s t : Bool) (a b c p : ℕ) → a ≡ (if r then 1 else 0) → b ≡ (if s then 1 else 0) → c ≡ (if t then 1 else 0)
+    → (a + b + c) * p ≡ (if r then p else 0) + (if s then p else 0) + (if t then p else 0)
+sum_times r s t a b c p is_a is_b is_c =
+    ap (λ n. (n + b + c) * p) is_a ∙ ap (λ n. ((if r then 1 else 0) + n + c) * p) is_b ∙ ap (λ n. ((if r then 1 else 0) + (if s then 1 else 0) + n) * p) is_c ∙ three_times r s t p
 
-pub twice : (k : ℕ) → 0 < k → 2 ^ k ≡ 2 * 2 ^ (k - 1)
-twice zero h = absurd (omega arith)
-twice (suc k) h =
-    let e : k ≡ suc k - 1 = omega arith in
-    pow-succ' 2 k ∙ ap (λ j. 2 * 2 ^ j) e
-
-pub fourfold : (k : ℕ) → 1 < k → 2 ^ k ≡ 4 * 2 ^ (k - 2)
-fourfold k h =
-    let one : k - 1 - 1 ≡ k - 2 = omega arith in
-    let half : 2 ^ (k - 1) ≡ 2 * 2 ^ (k - 2) = twice (k - 1) (omega arith) ∙ ap (λ j. 2 * 2 ^ j) one in
-    omega (arith, twice k (omega arith), half)
+pub at_most : (holds : Bool) (n : ℕ) → (if holds then n else 0) ≤ n
+at_most true n = omega arith
+at_most false n = omega arith
 
 -- where both meet
 split_none : (blocks : List Network) (x to : ℕ) → IsSplit blocks x 0 to → to ≤ 0 → NoneUpTo blocks x

@@ -9,7 +9,7 @@ use Rattle.ipnetwork_sets.specs.Sets.{InNetworkAlone, InComplement}
 abbrev pub whole : Network
 whole = record { address = 0; prefix = 0 }
 
-whole_quotient : (w x : ℕ) → x < 2 ^ w → x / block_size w 0 ≡ 0
+pub whole_quotient : (w x : ℕ) → x < 2 ^ w → x / block_size w 0 ≡ 0
 whole_quotient w x l =
     let bits : w - 0 ≡ w = omega arith in
     let size : block_size w 0 ≡ 2 ^ w = ap (λ k. 2 ^ k) bits in

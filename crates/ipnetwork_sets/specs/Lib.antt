@@ -6,6 +6,7 @@ pub mod Equality
 pub mod FreeBlocks
 pub mod Laws
 pub mod Private
+pub mod QuestionLaws
 pub mod RangeLists
 pub mod Sets
 pub mod Texts

@@ -3,6 +3,7 @@
 ghost use Rattle.ipnetwork_sets.specs.CountLaws.{AscendingIsOneList, UnionHasOneCount, RangesAreOneList, UnionHasOneRangeList, SetAddsUp, CommonPartAddsUp, DifferenceAddsUp, FreePartAddsUp, UnionAddsUp, TotalGoesOn, SetHasFewerBlocks};
 ghost use Rattle.ipnetwork_sets.specs.DifferenceLaws.{CommonPartIsSettled, DifferenceIsSettled, FreePartIsSettled, UnionIsSettled, DifferenceOfOne, DifferenceOfUnion, DifferenceOfCommonPart};
 ghost use Rattle.ipnetwork_sets.specs.Equality.{SameBlocksAreEqual};
+ghost use Rattle.ipnetwork_sets.specs.QuestionLaws.{NetworkMeetsUnion, WithinIfNothingIsLeft, DisjointIfNothingIsCommon, ComplementIsDisjoint, ComplementMakesTheWhole, FreePartIsADifference, ExclusionIsADifference, FreeBlockLiesInFreePart, AllAddressesAreCounted};
 ghost use Rattle.ipnetwork_family.specs.Family.{text_of, v4_family, v6_family};
 ghost use Rattle.ipnetwork_sets.specs.Texts.{LinesTellSets};
 ghost use Rattle.ipnetwork_sets.specs.Laws.{CommonPartIsShortest, DifferenceIsShortest, FreePartIsShortest, UnionIsShortest, SameAddressesAreOneSet, CommonPartCommutes, UnionCommutes, CommonPartOfOne, UnionOfOne, DifferenceIsDisjoint, PartsMakeTheWhole, FreeOfUnion, FreeOfCommonPart};
@@ -62,6 +63,28 @@ pub fn free_of_both()
     ensures common { FreeOfCommonPart }
 {}
 
+/// A network meets a set exactly if it overlaps one of its blocks; a set is within another exactly if nothing is left of it
+/// without the other; and two sets are disjoint exactly if they have no common part.
+pub fn questions()
+    ensures meets { NetworkMeetsUnion }
+    ensures within { WithinIfNothingIsLeft }
+    ensures disjoint { DisjointIfNothingIsCommon }
+{}
+
+/// The complement of a set has no address of the set, and together they have all addresses.
+pub fn complements()
+    ensures disjoint { ComplementIsDisjoint }
+    ensures whole { ComplementMakesTheWhole }
+{}
+
+/// What is free within a network is the difference of the network and the set, as an exclusion is that of two networks;
+/// and a block is free exactly if it lies in what is free.
+pub fn free_parts()
+    ensures free { FreePartIsADifference }
+    ensures exclusion { ExclusionIsADifference }
+    ensures block { FreeBlockLiesInFreePart }
+{}
+
 /// A set has one count and one list of ranges: sets with the same addresses have the same. Of any set it follows from
 /// the laws of lists, `ascending` and `ranges`.
 pub fn one_count_and_ranges()
@@ -72,13 +95,15 @@ pub fn one_count_and_ranges()
 {}
 
 /// The numbers of addresses of a set's blocks, added up, are the count of the set, and so of what each operation
-/// returns; a sum that is capped at 2^128 stays the capped sum if one more block is added (`AddressCount::add_block`).
+/// returns; those of all addresses of w bits are 2^w, and a sum that is capped at 2^128 stays the capped sum if one more
+/// block is added (`AddressCount::add_block`).
 pub fn sums()
     ensures set { SetAddsUp }
     ensures common { CommonPartAddsUp }
     ensures difference { DifferenceAddsUp }
     ensures free { FreePartAddsUp }
     ensures union { UnionAddsUp }
+    ensures all { AllAddressesAreCounted }
     ensures goes_on { TotalGoesOn }
 {
     laws::one_block();

@@ -47,26 +47,17 @@ pub(crate) fn overlaps<N: AddressSpace>(blocks: &[N], network: N) -> bool
     }
 }
 
-// The last of the blocks that begins at the address or before it. Half as many steps as the length has bits, each of
-// which reads three blocks at once, and no branch in them depends on what the blocks are: each would be mispredicted
-// every other time.
+// The last of the blocks that begins at the address or before it. No branch depends on what the blocks are: it would be
+// mispredicted every other time.
 fn last_up_to<N: AddressSpace>(blocks: &[N], addr: N::Addr) -> Option<N>
     requires { AllPairs (λ a b. a.address < b.address) (map N.pair blocks.now) }
     ensures { MatchOption result (NoneUpTo (map N.pair blocks.now) (N.number addr))
         (λ last. IsLastUpTo (map N.pair blocks.now) (N.number addr) (N.pair last)) }
 {
-    let Some(most) = blocks.len().checked_ilog2() else {
-        return None;
-    };
-    let (mut from, mut exponent) = with_even_exponent(
-        blocks,
-        addr,
-        first_part(blocks, addr, most),
-        most,
-    );
-    while exponent > 0 {
-        exponent -= 2;
-        from = quarter_from(blocks, addr, from, exponent);
+    let (mut from, mut left) = by_quarters(blocks, addr);
+    while left > 0 {
+        from += one_if(begins_up_to(blocks[from], addr));
+        left -= 1;
     }
     if from == 0 {
         return None;
@@ -74,70 +65,51 @@ fn last_up_to<N: AddressSpace>(blocks: &[N], addr: N::Addr) -> Option<N>
     Some(blocks[from - 1])
 }
 
-// Where the 2^`most` - 1 blocks begin among which the search goes on: the first of all blocks, or the last.
-fn first_part<N: AddressSpace>(blocks: &[N], addr: N::Addr, most: u32) -> usize
-    requires ordered { AllPairs (λ a b. a.address < b.address) (map N.pair blocks.now) }
-    requires few { most < 64 }
-    requires fits { 2 ^ most ≤ length blocks.now }
-    requires most { length blocks.now < 2 * 2 ^ most }
-    ensures { IsSplit (map N.pair blocks.now) (N.number addr) result (result + 2 ^ most - 1) }
+// Where the blocks begin among which the search goes on, and how many they are: two at the most.
+fn by_quarters<N: AddressSpace>(blocks: &[N], addr: N::Addr) -> (usize, usize)
+    requires { AllPairs (λ a b. a.address < b.address) (map N.pair blocks.now) }
+    ensures { IsSplit (map N.pair blocks.now) (N.number addr) result.0 (result.0 + result.1) }
 {
-    let before = power(most) - 1;
-    if begins_up_to(blocks[before], addr) {
-        return blocks.len() - before;
+    let mut from = 0;
+    let mut left = blocks.len();
+    while left >= 3 {
+        (from, left) = quarter_of(blocks, addr, from, left);
     }
-    0
+    (from, left)
 }
 
-// The same for an even exponent: this one, or after a step by halves the one before it.
-fn with_even_exponent<N: AddressSpace>(
+// One step of the search among the `left` blocks from `from` on. It reads the last blocks of the first three quarters, all
+// at once, and goes on in one quarter: where that begins, and how many blocks are searched there, as many as the last
+// quarter has.
+fn quarter_of<N: AddressSpace>(
     blocks: &[N],
     addr: N::Addr,
     from: usize,
-    exponent: u32,
-) -> (usize, u32)
+    left: usize,
+) -> (usize, usize)
     requires ordered { AllPairs (λ a b. a.address < b.address) (map N.pair blocks.now) }
-    requires few { exponent < 64 }
-    requires split { IsSplit (map N.pair blocks.now) (N.number addr) from (from + 2 ^ exponent - 1) }
-    ensures even { (result.1 % 2 ≡ 0) × (result.1 < 64) }
-    ensures split { IsSplit (map N.pair blocks.now) (N.number addr) result.0 (result.0 + 2 ^ result.1 - 1) }
+    requires some { 3 ≤ left }
+    requires split { IsSplit (map N.pair blocks.now) (N.number addr) from (from + left) }
+    ensures fewer { result.1 < left }
+    ensures split { IsSplit (map N.pair blocks.now) (N.number addr) result.0 (result.0 + result.1) }
 {
-    if exponent % 2 == 0 {
-        return (from, exponent);
-    }
-    let half = exponent - 1;
-    let begins = begins_up_to(blocks[from + (power(half) - 1)], addr);
-    (from + power_if(begins, half), half)
-}
-
-// Of the four times 2^`exponent` blocks from `from` on, less one, where those begin among which the search goes on.
-fn quarter_from<N: AddressSpace>(blocks: &[N], addr: N::Addr, from: usize, exponent: u32) -> usize
-    requires ordered { AllPairs (λ a b. a.address < b.address) (map N.pair blocks.now) }
-    requires few { exponent < 62 }
-    requires split { IsSplit (map N.pair blocks.now) (N.number addr) from (from + 4 * 2 ^ exponent - 1) }
-    ensures { IsSplit (map N.pair blocks.now) (N.number addr) result (result + 2 ^ exponent - 1) }
-{
-    let quarter = power(exponent);
+    let quarter = (left - 3) / 4 + 1;
     let first = begins_up_to(blocks[from + (quarter - 1)], addr);
     let second = begins_up_to(blocks[from + (2 * quarter - 1)], addr);
     let third = begins_up_to(blocks[from + (3 * quarter - 1)], addr);
-    from + powers_if(first, second, third, exponent)
+    (
+        from + times_if(first, second, third, quarter),
+        left - 3 * quarter,
+    )
 }
 
-// 2^`exponent`.
-fn power(exponent: u32) -> usize
-    requires { exponent < 64 }
-    ensures { result ≡ 2 ^ exponent }
+// The size once for each condition that holds. A sum of three is multiplied, since a compiler makes a branch of a
+// product with a single condition.
+fn times_if(first: bool, second: bool, third: bool, size: usize) -> usize
+    requires { 3 * size < 2 ^ 64 }
+    ensures { result ≡ (if first then size else 0) + (if second then size else 0) + (if third then size else 0) }
 {
-    1 << exponent
-}
-
-// 2^`exponent` if the condition holds, and 0 if not. A shift is not a branch; a product could be compiled to one.
-fn power_if(holds: bool, exponent: u32) -> usize
-    requires { exponent < 64 }
-    ensures { result ≡ (if holds then 2 ^ exponent else 0) }
-{
-    usize::from(holds) << exponent
+    (one_if(first) + one_if(second) + one_if(third)) * size
 }
 
 // 1 if the condition holds, and 0 if not.
@@ -145,14 +117,6 @@ fn one_if(holds: bool) -> usize
     ensures { result ≡ (if holds then 1 else 0) }
 {
     usize::from(holds)
-}
-
-// 2^`exponent` for each condition that holds.
-fn powers_if(first: bool, second: bool, third: bool, exponent: u32) -> usize
-    requires { exponent < 62 }
-    ensures { result ≡ (if first then 2 ^ exponent else 0) + (if second then 2 ^ exponent else 0) + (if third then 2 ^ exponent else 0) }
-{
-    (one_if(first) + one_if(second) + one_if(third)) << exponent
 }
 
 // Whether the network's own address is this one, or comes before it.

@@ -1,8 +1,17 @@
 //! The laws of aggregation, for addresses of any number of bits and for networks of either family.
-ghost use Rattle.ipnetwork_blocks.specs.AggregateIpLaws.{IpAggregateHasUnion, IpAggregateIsApart, IpAggregateHasOneBlock, IpAggregateHasNetworks, IpAggregateBlocksAreNeeded, IpAggregateIsLeast, IpAggregateIsOfUnion, IpAggregateIsItsOwn};
-ghost use Rattle.ipnetwork_blocks.specs.AggregateLaws.{AggregateHasUnion, AggregateIsApart, AggregateHasOneBlock, AggregateHasNetworks, AggregateBlocksAreNeeded, AggregateIsLeast, AggregateIsOfUnion, AggregateIsItsOwn};
+ghost use Rattle.ipnetwork_blocks.specs.AggregateIpLaws.{IpUnionOfNone, IpUnionOfList, IpAggregateHasUnion, IpAggregateIsApart, IpAggregateHasOneBlock, IpAggregateHasNetworks, IpAggregateBlocksAreNeeded, IpAggregateIsLeast, IpAggregateIsOfUnion, IpAggregateIsItsOwn};
+ghost use Rattle.ipnetwork_blocks.specs.AggregateLaws.{UnionOfNone, UnionOfList, AggregateHasUnion, AggregateIsApart, AggregateHasOneBlock, AggregateHasNetworks, AggregateBlocksAreNeeded, AggregateIsLeast, AggregateIsOfUnion, AggregateIsItsOwn};
 
 use ipnetwork::laws;
+
+/// No address lies in the union of no networks; in that of a list lie the members of its first network, and the addresses
+/// of the union of the others. So it is with networks of one family, and of either.
+pub fn unions()
+    ensures none { UnionOfNone }
+    ensures list { UnionOfList }
+    ensures ip_none { IpUnionOfNone }
+    ensures ip_list { IpUnionOfList }
+{}
 
 /// The aggregate has the union of the networks.
 pub fn same_union()

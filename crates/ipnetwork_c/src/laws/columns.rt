@@ -1,5 +1,5 @@
 //! What a printed column is to the calls that read columns.
-ghost use Rattle.ipnetwork_c.specs.PrintedColumns.{v4_text, v6_text};
+ghost use Rattle.ipnetwork_c.specs.PrintedColumns.{v4_text, v6_text, ip_text, address_text};
 ghost use Rattle.ipnetwork_c.specs.ColumnLaws.{PrintedRowsAreTexts, PrintedOffsetsAreOffsets};
 
 /// The calls that read columns take a printed one: its offsets are in order and within the texts, and the text of each
@@ -9,4 +9,8 @@ pub fn printed_columns_are_columns()
     ensures v4_offsets { PrintedOffsetsAreOffsets v4_text }
     ensures v6_rows { PrintedRowsAreTexts v6_text }
     ensures v6_offsets { PrintedOffsetsAreOffsets v6_text }
+    ensures ip_rows { PrintedRowsAreTexts ip_text }
+    ensures ip_offsets { PrintedOffsetsAreOffsets ip_text }
+    ensures address_rows { PrintedRowsAreTexts address_text }
+    ensures address_offsets { PrintedOffsetsAreOffsets address_text }
 {}

@@ -1,4 +1,5 @@
 use Rattle.ipnetwork_sets.proofs.CountLaws.{set_adds_up, common_part_adds_up, difference_adds_up, free_part_adds_up, union_adds_up, total_goes_on}
+use Rattle.ipnetwork_sets.proofs.QuestionLaws.{all_addresses_are_counted}
 use Rattle.ipnetwork_sets.proofs.laws.sums.Goals as goal
 
 pub returns-clause-set : goal.returns-clause-set
@@ -18,3 +19,6 @@ returns-clause-union c = union_adds_up c.one_block.ensures.apart
 
 pub returns-clause-goes_on : goal.returns-clause-goes_on
 returns-clause-goes_on c = total_goes_on
+
+pub returns-clause-all : goal.returns-clause-all
+returns-clause-all c = all_addresses_are_counted c.one_block.ensures.apart

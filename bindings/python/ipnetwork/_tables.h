@@ -1,0 +1,96 @@
+/* The tables of the extension, each the bytes of structs, and of a number of 64 bits beside each. */
+#ifndef IPNETWORK_TABLES_H
+#define IPNETWORK_TABLES_H
+
+#include "_addresses.h"
+
+/* table_make(version, rows): the blocks of the networks, and beside each the place of its network, as a size_t. */
+static PyObject *table_make(PyObject *module, PyObject *arguments) {
+    (void)module;
+    int version;
+    const char *rows;
+    Py_ssize_t length;
+    if (!PyArg_ParseTuple(arguments, "iy#", &version, &rows, &length)) return NULL;
+    size_t step = version == 4 ? sizeof(ipnetwork_v4) : sizeof(ipnetwork_v6), count = (size_t)length / step;
+    PyObject *blocks = PyBytes_FromStringAndSize(NULL, (Py_ssize_t)(count * step)), *both = NULL;
+    PyObject *places = PyBytes_FromStringAndSize(NULL, (Py_ssize_t)(count * sizeof(size_t)));
+    if (blocks != NULL && places != NULL) {
+        void *block = PyBytes_AsString(blocks), *place = PyBytes_AsString(places);
+        ipnetwork_fault fault;
+        Py_BEGIN_ALLOW_THREADS
+        fault = version == 4 ? ipnetwork_v4_table_make((const ipnetwork_v4 *)rows, count, block, count, place, count)
+                             : ipnetwork_v6_table_make((const ipnetwork_v6 *)rows, count, block, count, place, count);
+        Py_END_ALLOW_THREADS
+        if (answered(fault)) both = PyTuple_Pack(2, blocks, places);
+    }
+    Py_XDECREF(blocks), Py_XDECREF(places);
+    return both;
+}
+
+/* The blocks of a table of both families, as `table_make` leaves them, and the number beside each. */
+typedef struct {
+    const char *fours, *four_numbers, *sixes, *six_numbers;
+    Py_ssize_t four_length, four_numbers_length, six_length, six_numbers_length;
+} Table;
+
+/* The number beside the longest block that has an address, or -1; an address of neither 4 nor 16 octets has none. */
+static ipnetwork_fault table_has(const Table *table, const ipnetwork_address *address, int64_t *number) {
+    size_t index = 0;
+    const char *numbers = address->length == 4 ? table->four_numbers : table->six_numbers;
+    ipnetwork_fault fault = IPNETWORK_NO_MEMBER;
+    if (address->length == 4)
+        fault = ipnetwork_v4_table_find((const ipnetwork_v4 *)table->fours, (size_t)table->four_length / sizeof(ipnetwork_v4), address->octets, &index);
+    else if (address->length == 16)
+        fault = ipnetwork_v6_table_find((const ipnetwork_v6 *)table->sixes, (size_t)table->six_length / sizeof(ipnetwork_v6), address->octets, &index);
+    *number = -1;
+    if (fault == IPNETWORK_OK) memcpy(number, numbers + index * sizeof *number, sizeof *number);
+    return fault == IPNETWORK_NO_MEMBER ? IPNETWORK_OK : fault;
+}
+
+static int parse_table(PyObject *arguments, Table *table, PyObject **given) {
+    return PyArg_ParseTuple(arguments, "y#y#y#y#O", &table->fours, &table->four_length, &table->four_numbers, &table->four_numbers_length,
+                            &table->sixes, &table->six_length, &table->six_numbers, &table->six_numbers_length, given);
+}
+
+/* table_find(fours, four_numbers, sixes, six_numbers, address) */
+static PyObject *table_find(PyObject *module, PyObject *arguments) {
+    (void)module;
+    Table table;
+    PyObject *given;
+    ipnetwork_address address;
+    int64_t number;
+    if (!parse_table(arguments, &table, &given)) return NULL;
+    int kind = address_of(given, &address);
+    if (kind != IS_ADDRESS) return no_member(given, kind) < 0 ? NULL : PyLong_FromLong(-1);
+    return answered(table_has(&table, &address, &number)) ? PyLong_FromLongLong(number) : NULL;
+}
+
+/* table_find_column(fours, four_numbers, sixes, six_numbers, addresses): a number for each of the addresses, which are as
+ * `read_rows` leaves them. */
+static PyObject *table_find_column(PyObject *module, PyObject *arguments) {
+    (void)module;
+    Table table;
+    PyObject *given, *numbers = NULL;
+    Py_buffer column;
+    if (!parse_table(arguments, &table, &given) || PyObject_GetBuffer(given, &column, PyBUF_SIMPLE) < 0) return NULL;
+    Py_ssize_t count = column.len / (Py_ssize_t)sizeof(ipnetwork_address);
+    if (column.len % (Py_ssize_t)sizeof(ipnetwork_address) != 0) {
+        PyErr_Format(PyExc_ValueError, "%zd bytes are no column of addresses of 17 bytes", column.len);
+    } else if ((numbers = PyByteArray_FromStringAndSize(NULL, count * (Py_ssize_t)sizeof(int64_t))) != NULL) {
+        const ipnetwork_address *addresses = column.buf;
+        char *room = PyByteArray_AsString(numbers);
+        ipnetwork_fault fault = IPNETWORK_OK;
+        Py_BEGIN_ALLOW_THREADS
+        for (Py_ssize_t row = 0; row < count && fault == IPNETWORK_OK; row++) {
+            int64_t number;
+            fault = table_has(&table, &addresses[row], &number);
+            memcpy(room + (size_t)row * sizeof number, &number, sizeof number);
+        }
+        Py_END_ALLOW_THREADS
+        if (!answered(fault)) Py_CLEAR(numbers);
+    }
+    PyBuffer_Release(&column);
+    return numbers;
+}
+
+#endif

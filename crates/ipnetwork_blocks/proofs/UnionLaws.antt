@@ -1,0 +1,31 @@
+-- What the union of a list of networks is, by the list.
+use Rattle.std.proofs.Common.{◌≡◌, ◌↔◌, ◌⊎◌, inl, inr, sym, subst, ⊎_elim, List, ◌∷◌}
+use Rattle.std.specs.List.{Contains}
+use Rattle.ipnetwork_family.specs.Network.{Member}
+use Rattle.ipnetwork.specs.IpNetworks.{IpMember}
+use Rattle.ipnetwork_blocks.specs.AggregateIpLaws.{IpUnionOfNone, IpUnionOfList}
+use Rattle.ipnetwork_blocks.specs.AggregateLaws.{UnionOfNone, UnionOfList}
+use Rattle.ipnetwork_blocks.proofs.LeastLists.{contains_cons, contains_head, contains_nil, contains_tail}
+
+-- one of a list has it exactly if the first or one of the others does
+one_has : {X : Type 0} (Has : X → Type 0) (first : X) (others : List X) → ((n : X) × Contains (first ∷ others) n × Has n) ↔ (Has first ⊎ ((n : X) × Contains others n × Has n))
+one_has {X} Has first others = (
+  (λ c. ⊎_elim
+      (λ (e : first ≡ c.0). inl (subst Has (sym e) c.2))
+      (λ (k : Contains others c.0). inr (c.0, k, c.2)) (contains_cons first others c.0 c.1)),
+  (λ p. ⊎_elim
+      (λ (h : Has first). (first, contains_head first others, h))
+      (λ (c : (n : X) × Contains others n × Has n). (c.0, contains_tail first others c.0 c.1, c.2)) p),
+)
+
+pub union_of_none : UnionOfNone
+union_of_none w x c = contains_nil c.0 c.1
+
+pub union_of_list : UnionOfList
+union_of_list w n others x = one_has (λ m. Member w m x) n others
+
+pub ip_union_of_none : IpUnionOfNone
+ip_union_of_none x c = contains_nil c.0 c.1
+
+pub ip_union_of_list : IpUnionOfList
+ip_union_of_list n others x = one_has (λ m. IpMember m x) n others

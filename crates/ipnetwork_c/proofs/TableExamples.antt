@@ -1,0 +1,71 @@
+-- Tables at which a misreading of `IsTable`, `FindsLongest` or `IsTableOf` would show: 10.0.0.0/8, and 10.1.0.0/16 twice.
+use Rattle.std.proofs.Common.{◌≡◌, ℕ, zero, suc, ◌+◌, ◌<◌, ◌≤◌, List, [], ◌∷◌, length, get_or, refl, inl, inr, lit<, lit≤, arith, ⊎_elim}
+use Rattle.ipnetwork_family.specs.Network.{Network, IsNetwork, IsCidrBlock, IsNetworkAtMost, Member}
+use Rattle.ipnetwork_c.specs.Tables.{IsTable, FindsLongest, row_block}
+
+abbrev wide : Network
+wide = record { address = 0x0a000000; prefix = 8 }
+
+abbrev narrow : Network
+narrow = record { address = 0x0a010000; prefix = 16 }
+
+abbrev nested : List Network
+nested = wide ∷ narrow ∷ narrow ∷ []
+
+are_blocks : (k : ℕ) (d : Network) → k < 3 → IsCidrBlock 32 (get_or nested k d)
+are_blocks zero d l = record { network = record { address_fits = lit< tt; prefix_fits = lit≤ tt }; block = refl }
+are_blocks (suc zero) d l = record { network = record { address_fits = lit< tt; prefix_fits = lit≤ tt }; block = refl }
+are_blocks (suc (suc zero)) d l = record { network = record { address_fits = lit< tt; prefix_fits = lit≤ tt }; block = refl }
+are_blocks (suc (suc (suc k))) d l = absurd (omega (arith, l))
+
+ascend : (i j : ℕ) (d : Network) → i < j → j < 3 → IsNetworkAtMost (get_or nested i d) (get_or nested j d)
+ascend zero zero d l m = absurd (omega (arith, l))
+ascend zero (suc zero) d l m = inl (lit< tt)
+ascend zero (suc (suc zero)) d l m = inl (lit< tt)
+ascend (suc zero) zero d l m = absurd (omega (arith, l))
+ascend (suc zero) (suc zero) d l m = absurd (omega (arith, l))
+ascend (suc zero) (suc (suc zero)) d l m = inr (refl, lit≤ tt)
+ascend (suc (suc i)) (suc (suc zero)) d l m = absurd (omega (arith, l))
+ascend (suc (suc i)) zero d l m = absurd (omega (arith, l))
+ascend (suc (suc i)) (suc zero) d l m = absurd (omega (arith, l))
+ascend i (suc (suc (suc j))) d l m = absurd (omega (arith, m))
+
+-- a block may lie in another, and stand there twice
+pub nested_is_a_table : IsTable 32 nested
+nested_is_a_table = record { blocks = are_blocks; ascending = ascend }
+
+pub host_bits_are_in_no_table : ¬ (IsTable 32 (record { address = 0x0a000001; prefix = 8 } ∷ []))
+host_bits_are_in_no_table t = let h : 0x0a000001 ≡ 0x0a000000 = (t.blocks 0 wide (lit< tt)).block in omega (arith, h)
+
+pub the_wider_block_comes_first : ¬ (IsTable 32 (record { address = 0x0a000000; prefix = 16 } ∷ wide ∷ []))
+the_wider_block_comes_first t =
+    ⊎_elim
+    (λ (less : 0x0a000000 < 0x0a000000). omega (arith, less))
+    (λ (e : (0x0a000000 ≡ 0x0a000000) × (16 ≤ 8)). let h = e.1 in omega (arith, h))
+    (t.ascending 0 1 wide (lit< tt) (lit< tt))
+
+at_most_sixteen : (k : ℕ) (d : Network) → k < 3 → (get_or nested k d).prefix ≤ 16
+at_most_sixteen zero d l = lit≤ tt
+at_most_sixteen (suc zero) d l = lit≤ tt
+at_most_sixteen (suc (suc zero)) d l = lit≤ tt
+at_most_sixteen (suc (suc (suc k))) d l = absurd (omega (arith, l))
+
+-- of 10.1.2.3 the last of the longest is found,
+pub the_last_of_the_longest_is_found : FindsLongest 32 nested 0x0a010203 2
+the_last_of_the_longest_is_found = record {
+  within = lit< tt;
+  one = λ d. (lit< tt, refl);
+  longest = λ t k d l m. at_most_sixteen k d l;
+  last = λ t k d after l. absurd (omega (arith, after, l));
+}
+
+-- and no other
+pub no_wider_block_is_found : ¬ (FindsLongest 32 nested 0x0a010203 0)
+no_wider_block_is_found f = let h : 16 ≤ 8 = f.longest nested_is_a_table 1 wide (lit< tt) (lit< tt, refl) in omega (arith, h)
+
+pub none_before_an_equal_one_is_found : ¬ (FindsLongest 32 nested 0x0a010203 1)
+none_before_an_equal_one_is_found f = f.last nested_is_a_table 2 wide (lit< tt) (lit< tt) (lit< tt, refl)
+
+-- a table has the blocks of its networks, by their places
+pub a_row_is_the_block_of_its_network : row_block 32 (record { address = 0x0a010203; prefix = 16 } ∷ wide ∷ []) 0 ≡ narrow
+a_row_is_the_block_of_its_network = refl

@@ -1,0 +1,122 @@
+//! Tables made of networks in any order.
+ghost use Rattle.std.specs.Prelude.{◌≡◌, ℕ, ◌<◌, length, map, slice_index, slice_index_or};
+ghost use Rattle.std.specs.List.{All, range_with_len};
+ghost use Rattle.std.specs.List.Sorted.{IsPermutation, IsSorted};
+ghost use Rattle.ipnetwork_family.specs.Network.{Network, IsCidrBlock};
+ghost use Rattle.ipnetwork_c.specs.Held.{v4_in, v6_in};
+ghost use Rattle.ipnetwork_c.specs.Tables.{MakesTable, row_block};
+ghost use Rattle.ipnetwork_c.specs.Private.Tables.{place_cmp};
+
+use crate::checked::all_fit;
+use crate::fault::{OK, PREFIX, SHORT_BUFFER};
+use crate::listed::Listed;
+use crate::structs::{Ipv4InC, Ipv6InC};
+use ipnetwork::{Ipv4Network, Ipv6Network};
+use ipnetwork_blocks::AddressSpace;
+use std::cmp::Ordering;
+
+/// Makes a table of networks in any order, host bits or not: their blocks in ascending order to the front of `blocks`, and
+/// to the front of `places` the index in `networks` of each. Blocks that are equal come in the order of their networks, so
+/// that `ipnetwork_v4_table_find` finds that of the last one. What comes after them stays as it is. `PREFIX` if the prefix
+/// length of a network is greater than 32, else `SHORT_BUFFER` if there is room for fewer blocks or places than networks.
+#[unsafe(no_mangle)]
+pub extern "C" fn ipnetwork_v4_table_make(
+    networks: &[Ipv4InC],
+    blocks: &mut [Ipv4InC],
+    places: &mut [usize],
+) -> u32
+    ensures { MakesTable 32 v4_in networks.now blocks.old blocks.new places.old places.new result }
+{
+    make::<Ipv4Network, Ipv4InC>(networks, blocks, places)
+}
+
+/// The same of IPv6, for prefix lengths up to 128.
+#[unsafe(no_mangle)]
+pub extern "C" fn ipnetwork_v6_table_make(
+    networks: &[Ipv6InC],
+    blocks: &mut [Ipv6InC],
+    places: &mut [usize],
+) -> u32
+    ensures { MakesTable 128 v6_in networks.now blocks.old blocks.new places.old places.new result }
+{
+    make::<Ipv6Network, Ipv6InC>(networks, blocks, places)
+}
+
+// Sorts the places of the networks by their blocks, and puts these in that order.
+fn make<N: AddressSpace, H: Listed<N>>(
+    networks: &[H],
+    blocks: &mut [H],
+    places: &mut [usize],
+) -> u32
+    ensures { MakesTable N.WIDTH H.held networks.now blocks.old blocks.new places.old places.new result }
+{
+    if !all_fit::<N, H>(networks) {
+        return PREFIX;
+    }
+    let count = networks.len();
+    if blocks.len() < count || places.len() < count {
+        return SHORT_BUFFER;
+    }
+    put_places(&mut places[..count]);
+    sort_places::<N, H>(networks, &mut places[..count]);
+    put_rows::<N, H>(networks, &places[..count], &mut blocks[..count]);
+    OK
+}
+
+// Puts the number of each place into it.
+fn put_places(places: &mut [usize])
+    ensures { places.new ≡ range_with_len 0 (length places.old) }
+{
+    for place in 0..places.len() {
+        places[place] = place;
+    }
+}
+
+// Sorts places by the blocks of the networks that stand there.
+fn sort_places<N: AddressSpace, H: Listed<N>>(networks: &[H], places: &mut [usize])
+    requires { All H.holds networks.now }
+    ensures permutation { IsPermutation places.old places.new }
+    ensures sorted { IsSorted (place_cmp N.WIDTH (map H.held networks.now)) places.new }
+{
+    places.sort_unstable_by(|first, second| order_between::<N, H>(networks, *first, *second));
+}
+
+// Which of two places comes first: by the blocks of their networks, and where these are equal, by the places.
+fn order_between<N: AddressSpace, H: Listed<N>>(
+    networks: &[H],
+    first: usize,
+    second: usize,
+) -> Ordering
+    requires { All H.holds networks.now }
+    ensures { result ≡ place_cmp N.WIDTH (map H.held networks.now) first second }
+{
+    let one = block_in::<N, H>(networks, first);
+    let other = block_in::<N, H>(networks, second);
+    one.cmp(&other).then(first.cmp(&second))
+}
+
+// The block of the network at a place; of a place past the last the network of all addresses.
+fn block_in<N: AddressSpace, H: Listed<N>>(networks: &[H], place: usize) -> N
+    requires { All H.holds networks.now }
+    ensures made { N.pair result ≡ row_block N.WIDTH (map H.held networks.now) place }
+    ensures block { IsCidrBlock N.WIDTH (N.pair result) }
+{
+    let network = match networks.get(place) {
+        Some(held) => (*held).held_network(),
+        None => N::whole(),
+    };
+    N::block_at(network.ip(), network.prefix())
+}
+
+// Puts the blocks of the networks at these places, one after the other.
+fn put_rows<N: AddressSpace, H: Listed<N>>(networks: &[H], places: &[usize], blocks: &mut [H])
+    requires held { All H.holds networks.now }
+    requires room { length blocks.old ≡ length places.now }
+    ensures rows { length blocks.new ≡ length blocks.old }
+    ensures put { (k : ℕ) (d : Network) → k < length places.now → slice_index_or (map H.held blocks.new) k d ≡ row_block N.WIDTH (map H.held networks.now) (slice_index places.now k) }
+    ensures blocks { All (IsCidrBlock N.WIDTH) (map H.held blocks.new) }
+{
+    for row in 0..places.len() {
+        blocks[row] = H::holding(block_in::<N, H>(networks, places[row]));
+    }
+}
