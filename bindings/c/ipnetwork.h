@@ -363,12 +363,12 @@ IPNETWORK_CHECKED ipnetwork_fault ipnetwork_v6_subnet_at(const ipnetwork_v6 *net
                                                          const uint8_t n[16], ipnetwork_v6 *IPNETWORK_ALONE subnet);
 
 /* The networks, or the addresses, of a column of texts, in the layout of Arrow: texts_length bytes with all texts, one
- * behind the other, and offset_count offsets. Text i goes from offsets[i] to offsets[i + 1], so that there is one text
+ * after the other, and offset_count offsets. Text i goes from offsets[i] to offsets[i + 1], so that there is one text
  * less than offsets, and none if there are none; Arrow's offsets are of 32 bits with a sign, and none is negative.
  * networks[i] and faults[i] are what the call for one text leaves and returns of text i: a text that names no network
- * leaves its struct as it was, and stops nothing. What stands behind the last of them is not written.
- * IPNETWORK_NO_OFFSETS where an offset is less than the one before, or greater than texts_length; else
- * IPNETWORK_SHORT_BUFFER where there is room for fewer networks, or faults, than texts: then nothing is written. */
+ * leaves its struct as it was, and stops nothing. What comes after the last of them is not written.
+ * IPNETWORK_NO_OFFSETS if an offset is less than the one before, or greater than texts_length; else
+ * IPNETWORK_SHORT_BUFFER if there is room for fewer networks, or faults, than texts: then nothing is written. */
 IPNETWORK_CHECKED_FAULT ipnetwork_fault ipnetwork_v4_read_column(const char *texts, size_t texts_length, const uint32_t *offsets,
     size_t offset_count, ipnetwork_v4 *IPNETWORK_ALONE networks, size_t network_count, uint8_t *IPNETWORK_ALONE faults,
     size_t fault_count);
@@ -383,9 +383,9 @@ IPNETWORK_CHECKED_FAULT ipnetwork_fault ipnetwork_address_read_column(const char
     size_t fault_count);
 
 /* The networks of a column printed in the same layout: the texts, as the call for one network prints each, without a zero
- * byte, one behind the other in the front of texts, for which there is room for room bytes, and the offsets of each and of
- * the end, so that there is one offset more than networks. *texts_length is how many bytes they have. What stands behind
- * the texts and behind the last offset is not written. IPNETWORK_PREFIX if the prefix length of one is past the width.
+ * byte, one after the other in the front of texts, for which there is room for room bytes, and the offsets of each and of
+ * the end, so that there is one offset more than networks. *texts_length is how many bytes they have. What comes after
+ * the texts and after the last offset is not written. IPNETWORK_PREFIX if the prefix length of one is past the width.
  * IPNETWORK_SHORT_BUFFER if that is more than room, if offset_count, for how many offsets there is room, is not greater than
  * network_count, or if the texts have more than 2147483647 bytes, which is past Arrow's offsets: then *texts_length is
  * written all the same, and nothing else. */

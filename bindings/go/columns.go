@@ -136,7 +136,7 @@ func (set Set) Contains(address netip.Addr) bool {
 }
 
 // ContainsColumn puts for each address of a column 1 or 0 into answers: whether it is a member of the network. The column
-// has packed addresses of the network's family, one behind the other. NoFamily of the zero Network and if the column ends
+// has packed addresses of the network's family, one after the other. NoFamily of the zero Network and if the column ends
 // within an address, NoRoom if there are fewer answers than addresses.
 func (network Network) ContainsColumn(packed []byte, answers []byte) error {
 	width := len(network.held.v4.address)
@@ -217,7 +217,7 @@ func ParseColumn(texts []byte, offsets []uint32) ([]Network, []Fault, error) {
 	return networks, faults, nil
 }
 
-// ParseAddrColumn reads a column of texts as addresses, as ParseColumn reads networks; where there is none, the address is
+// ParseAddrColumn reads a column of texts as addresses, as ParseColumn reads networks; if there is none, the address is
 // the zero netip.Addr.
 func ParseAddrColumn(texts []byte, offsets []uint32) ([]netip.Addr, error) {
 	rows := rowsOf(offsets)
@@ -240,7 +240,7 @@ func ParseAddrColumn(texts []byte, offsets []uint32) ([]netip.Addr, error) {
 	return addresses, nil
 }
 
-// PrintColumn prints networks in the same layout by one call: the texts, one behind the other, and the offsets at which each
+// PrintColumn prints networks in the same layout by one call: the texts, one after the other, and the offsets at which each
 // begins and the last ends. NoFamily if one is the zero Network; NoRoom if the texts have more than 2147483647 bytes.
 func PrintColumn(networks []Network) ([]byte, []uint32, error) {
 	texts, offsets := make([]byte, len(networks)*(C.IPNETWORK_V6_TEXT-1)), make([]uint32, len(networks)+1)

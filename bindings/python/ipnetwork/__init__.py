@@ -11,7 +11,7 @@ True
 
 A network keeps the host bits of its address, as ``ipaddress.ip_interface`` does. Its members are the addresses that
 share the first bits of its address, as many as the prefix length says, and the questions are about the members.
-Networks are hashable, equal where address and prefix length are, and ordered by address and then by prefix length, so
+Networks are hashable, equal if address and prefix length are, and ordered by address and then by prefix length, so
 that they can be sorted. ``a <= b`` is that order, as in ``ipaddress``; whether a is part of b is ``a.subnet_of(b)``.
 Addresses are those of ``ipaddress``.
 
@@ -105,7 +105,7 @@ class _Network(Generic[Address]):
 
     @classmethod
     def prefix_of_mask(cls, mask: Address) -> int:
-        """The prefix length of a mask; MaskError where the address is none."""
+        """The prefix length of a mask; MaskError if the address is none."""
         return _core.prefix_of_mask(_packed(cls._address, mask))
 
     def subnets(self, prefixlen_diff: SupportsIndex = 1, new_prefix: Union[SupportsIndex, None] = None) -> Iterator[Self]:
@@ -132,8 +132,8 @@ class _Network(Generic[Address]):
     def read_column(cls, texts: ReadableBuffer, offsets: ReadableBuffer) -> tuple[bytearray, bytearray]:
         """The networks of a column of texts in Arrow's layout, and for each a byte that is 0 if its text names one.
 
-        ``texts`` has the bytes of all texts, one behind the other, and ``offsets`` 32-bit numbers: text i goes from
-        offset i to the next. Each network is its packed address and its prefix length; where there is none, zeros. A byte
+        ``texts`` has the bytes of all texts, one after the other, and ``offsets`` 32-bit numbers: text i goes from
+        offset i to the next. Each network is its packed address and its prefix length; if there is none, zeros. A byte
         other than 0 is 1, 2 or 3, for FormatError, AddressError or PrefixError. A text that names none stops nothing.
         ValueError if the offsets fall, or pass the end.
 
@@ -146,7 +146,7 @@ class _Network(Generic[Address]):
 
     @classmethod
     def print_column(cls, networks: ReadableBuffer) -> tuple[bytearray, bytearray]:
-        """The texts of a column of networks in Arrow's layout: their bytes, one behind the other, and the 32-bit offsets at
+        """The texts of a column of networks in Arrow's layout: their bytes, one after the other, and the 32-bit offsets at
         which each begins and the last ends. The column is as ``read_column`` gives it. PrefixError if the prefix length of one
         is past the width; ValueError if the texts have 2147483648 bytes or more.
 
@@ -231,7 +231,7 @@ if TYPE_CHECKING:
 
     def ip_network(text: Union[str, bytes]) -> _Either:
         """The network of either family that a text names, or that of the packed address of 4 or 16 bytes alone;
-        AddressError where there is none, whatever is wrong with it."""
+        AddressError if there is none, whatever is wrong with it."""
 else:
     ip_network = _core.ip_network
 
@@ -421,8 +421,8 @@ def _made(version: int, rows: list[bytes], numbers: list[int]) -> tuple[bytes, b
 
 def read_address_column(texts: ReadableBuffer, offsets: ReadableBuffer) -> tuple[bytearray, bytearray]:
     """The addresses of either family of a column of texts in Arrow's layout, as ``IPv4Network.read_column`` has it, and for
-    each a byte that is 0 if its text is one. Each address is 17 bytes: its octets, zeros behind those of an IPv4 address,
-    and how many they are, 4 or 16, or 0 where there is none.
+    each a byte that is 0 if its text is one. Each address is 17 bytes: its octets, zeros after those of an IPv4 address,
+    and how many they are, 4 or 16, or 0 if there is none.
 
     >>> import array
     >>> addresses, faults = read_address_column(b"8.8.8.8::1x", array.array("I", [0, 7, 10, 11]))

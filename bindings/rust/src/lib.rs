@@ -29,7 +29,7 @@ use core::str::FromStr;
 pub enum Fault {
     /// The text holds two or more `/`.
     Format,
-    /// What stands before the `/`, or the whole text where there is none, is no address of the family. Of
+    /// What stands before the `/`, or the whole text if there is none, is no address of the family. Of
     /// `IpNetwork`: the text names no network of either family, whatever is wrong with it.
     Address,
     /// The prefix length is none of the family.
@@ -475,7 +475,7 @@ macro_rules! family {
             }
 
             /// Reads a column of texts in Arrow's layout: text i goes from offset i to the next. Network i is the one that
-            /// text i names, and fault i is 0; where it names none the network stays as it is, and `Fault::of_row` says
+            /// text i names, and fault i is 0; if it names none the network stays as it is, and `Fault::of_row` says
             /// why. `Fault::Offsets` if the offsets fall, or pass the end. Panics if there are fewer networks or faults
             /// than texts.
             pub fn read_column(
@@ -495,7 +495,7 @@ macro_rules! family {
                 })
             }
 
-            /// Prints a column of networks in Arrow's layout: the texts in the front of `texts`, one behind the other, and the
+            /// Prints a column of networks in Arrow's layout: the texts in the front of `texts`, one after the other, and the
             /// offsets of each and of the end in the front of `offsets`. Gives how many bytes the texts have, as an error if
             /// there is no room for them or for one offset more than networks, or if they are more than 2147483647; then
             /// nothing is written.
@@ -536,7 +536,7 @@ macro_rules! family {
                 $address::from(octets)
             }
 
-            /// The prefix length of a mask; `Fault::NoMask` where the address is none.
+            /// The prefix length of a mask; `Fault::NoMask` if the address is none.
             pub fn prefix_of_mask(mask: $address) -> Result<u8, Fault> {
                 let mut prefix = 0;
                 result(c::$prefix_of_mask(&mask.octets(), &mut prefix))?;
@@ -1043,7 +1043,7 @@ impl IpNetwork {
         }
     }
 
-    /// The prefix length of a mask; `Fault::NoMask` where the address is none.
+    /// The prefix length of a mask; `Fault::NoMask` if the address is none.
     pub fn prefix_of_mask(mask: IpAddr) -> Result<u8, Fault> {
         match mask {
             IpAddr::V4(mask) => Ipv4Network::prefix_of_mask(mask),
