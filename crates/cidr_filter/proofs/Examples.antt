@@ -147,6 +147,9 @@ greatest_field = refl
 pub field_too_great : field_option (codes "4294967296") ≡ None
 field_too_great = refl
 
+pub first_field : field_option (codes "01") ≡ Some (choices.Field 1)
+first_field = refl
+
 pub no_field_zero : field_option (codes "0") ≡ None
 no_field_zero = refl
 
@@ -155,6 +158,15 @@ no_signed_field = refl
 
 pub comma : separator_option (codes ",") ≡ Some (choices.Separator 44)
 comma = refl
+
+pub tab : separator_option (9 ∷ []) ≡ Some (choices.Separator 9)
+tab = refl
+
+pub last_byte_of_ascii : separator_option (127 ∷ []) ≡ Some (choices.Separator 127)
+last_byte_of_ascii = refl
+
+pub no_zero_byte : separator_option (0 ∷ []) ≡ None
+no_zero_byte = refl
 
 pub no_line_feed : separator_option (10 ∷ []) ≡ None
 no_line_feed = refl
