@@ -1,6 +1,6 @@
 -- Tables at which a misreading of `IsTable`, `FindsLongest` or `IsTableOf` would show: 10.0.0.0/8, and 10.1.0.0/16 twice.
-use Rattle.std.proofs.Common.{◌≡◌, ℕ, zero, suc, ◌+◌, ◌<◌, ◌≤◌, List, [], ◌∷◌, length, get_or, refl, inl, inr, lit<, lit≤, arith, ⊎_elim}
-use Rattle.ipnetwork_family.specs.Network.{Network, IsNetwork, IsCidrBlock, IsNetworkAtMost, Member}
+use Rattle.std.proofs.Common.{◌≡◌, ℕ, zero, suc, ◌<◌, ◌≤◌, List, [], ◌∷◌, get_or, refl, inl, inr, lit<, lit≤, arith, ⊎_elim}
+use Rattle.ipnetwork_family.specs.Network.{Network, IsCidrBlock, IsNetworkAtMost}
 use Rattle.ipnetwork_c.specs.Tables.{IsTable, FindsLongest, row_block}
 
 abbrev wide : Network
