@@ -296,11 +296,11 @@ IPNETWORK_CHECKED_FAULT ipnetwork_fault ipnetwork_v6_table_make(const ipnetwork_
 
 /* The longest block that has an address, in a table: block_count blocks without host bits in ascending order, as
  * ipnetwork_v4_compare and ipnetwork_v6_compare order them, of which some may lie in others, as table_make leaves them. *index
- * is its place, by which the caller finds what belongs to it; of equal blocks it is that of the last one. The last block up to the address is found by one binary search; as long as it has the
- * address not, another one is made among those before it. IPNETWORK_NO_MEMBER if no block has the address. That the list is a
- * table is not checked: of another list the block at *index has the address too, but there may be a longer one, and
- * IPNETWORK_NO_MEMBER says nothing. IPNETWORK_PREFIX only if the prefix length of a struct is past the width; not every struct
- * is looked at. */
+ * is its place, by which the caller finds what belongs to it; of equal blocks it is that of the last one. The last block up to
+ * the address is found by one binary search; as long as it does not have the address, another one is made among those before
+ * it. IPNETWORK_NO_MEMBER if no block has the address. That the list is a table is not checked: of another list the block at
+ * *index has the address too, but there may be a longer one, and IPNETWORK_NO_MEMBER says nothing. IPNETWORK_PREFIX only if the
+ * prefix length of a struct is past the width; not every struct is looked at. */
 IPNETWORK_CHECKED_AT(3, 4) ipnetwork_fault ipnetwork_v4_table_find(const ipnetwork_v4 *blocks, size_t block_count,
     const uint8_t address[4], size_t *IPNETWORK_ALONE index);
 IPNETWORK_CHECKED_AT(3, 4) ipnetwork_fault ipnetwork_v6_table_find(const ipnetwork_v6 *blocks, size_t block_count,

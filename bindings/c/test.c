@@ -1259,7 +1259,7 @@ static void printed_columns_of_either(void) {
                 first->v4.prefix = 33;
                 first->v6.prefix = 129;
                 ips[rows - 1].family = 5;
-                addresses[rows / 2].length = 15;
+                if (which == 1) addresses[rows / 2].length = 15;
                 CHECK("past", PRINTED_OF_EITHER(whole, rows + 1) == (which == 0 ? PREF : IPNETWORK_NO_FAMILY));
                 first->family = 0;
                 ips[rows - 1].family = 4;

@@ -339,7 +339,7 @@ func TestPrintColumn(t *testing.T) {
 	}
 	addresses := []netip.Addr{netip.MustParseAddr("10.1.9.32"), netip.MustParseAddr("::1"), netip.MustParseAddr("2001:db8::1:0:0:1")}
 	whole, offsets, err := PrintAddrColumn(addresses)
-	equal(t, "printed", fmt.Sprint(string(whole), offsets, err), "10.1.9.32::12001:db8::1:0:0:1 [0 9 12 29] <nil>")
+	equal(t, "printed", fmt.Sprint(string(whole), offsets, err), "10.1.9.32::12001:db8::1:0:0:1[0 9 12 29] <nil>")
 	none, offsets, err := PrintAddrColumn(nil)
 	equal(t, "printed", fmt.Sprint(none, offsets, err), "[] [0] <nil>")
 	for _, wrong := range []netip.Addr{{}, netip.MustParseAddr("fe80::1%eth0")} {

@@ -6,8 +6,8 @@ import unittest
 
 import numpy
 
-from ipnetwork import AddressSet, IPv4Network, ip_network
-from ipnetwork.columns import is_member, layout, read_addresses
+from ipnetwork import AddressSet, IPv4Network, Table, ip_network
+from ipnetwork.columns import find, is_member, layout, read_addresses
 
 try:
     import pandas
@@ -72,6 +72,18 @@ class Columns(unittest.TestCase):
             is_member(TEXTS, network).tolist(), [address(text) is not None and address(text) in network for text in TEXTS]
         )
         self.assertEqual(is_member([], WHICH).tolist(), [])
+
+    def test_found(self):
+        table = Table(map(ip_network, ("0.0.0.0/0", "::/0", "128.0.0.0/1", "8000::/1")))
+        wanted = []
+        for text in TEXTS:
+            each = address(text) if "%" not in text else None
+            wanted.append(-1 if each is None else (each.version == 6) + 2 * (int(each) >> each.max_prefixlen - 1))
+        for texts in self.columns():
+            self.assertEqual(find(texts, table).tolist(), wanted)
+        addresses, _ = read_addresses(TEXTS)
+        self.assertEqual(find(addresses[::2], table).tolist(), wanted[::2])
+        self.assertEqual(find([], table).tolist(), [])
 
     def test_rows_without_a_text(self):
         rows = ["10.0.0.1", None, float("nan"), 7, "::1"]

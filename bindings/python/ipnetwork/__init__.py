@@ -408,9 +408,9 @@ class Table:
         return (len(self._four_numbers) + len(self._six_numbers)) // 8
 
     def __reduce__(self) -> tuple[type[Table], tuple[list[_Either]]]:
-        rows = [*_core.of_rows(IPv4Network, self._fours), *_core.of_rows(IPv6Network, self._sixes)]
+        rows: list[_Either] = [*_core.of_rows(IPv4Network, self._fours), *_core.of_rows(IPv6Network, self._sixes)]
         numbers = [*memoryview(self._four_numbers).cast("q"), *memoryview(self._six_numbers).cast("q")]
-        return Table, ([network for _, network in sorted(zip(numbers, rows), key=lambda pair: pair[0])],)
+        return Table, ([rows[place] for place in sorted(range(len(rows)), key=numbers.__getitem__)],)
 
 
 def _made(version: int, rows: list[bytes], numbers: list[int]) -> tuple[bytes, bytes]:

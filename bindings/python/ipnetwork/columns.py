@@ -1,4 +1,4 @@
-"""Columns over NumPy: texts of addresses read, and asked of a set, in a few calls for all rows.
+"""Columns over NumPy: texts of addresses read, and asked of a set or a table, in a few calls for all rows.
 
 >>> from ipnetwork import AddressSet, ip_network
 >>> is_member(["10.1.9.32", "8.8.8.8", "no address"], AddressSet([ip_network("10.0.0.0/8")])).tolist()
@@ -16,12 +16,12 @@ from typing import TYPE_CHECKING, Union
 
 import numpy
 
-from . import AddressSet, IPv4Network, IPv6Network, _core, read_address_column
+from . import AddressSet, IPv4Network, IPv6Network, Table, _core, read_address_column
 
 if TYPE_CHECKING:
     from numpy.typing import NDArray
 
-__all__ = ["is_member", "layout", "read_addresses"]
+__all__ = ["find", "is_member", "layout", "read_addresses"]
 
 
 def layout(texts: Iterable[object]) -> tuple[bytearray, NDArray[numpy.uint32]]:
@@ -55,12 +55,28 @@ def read_addresses(texts: Iterable[object]) -> tuple[NDArray[numpy.uint8], NDArr
     return numpy.frombuffer(addresses, numpy.uint8).reshape(-1, 17), numpy.frombuffer(faults, numpy.uint8) == 0
 
 
+def _addresses(given: Iterable[object]) -> NDArray[numpy.uint8]:
+    """The addresses of a column of texts, or of addresses as ``read_addresses`` gives them."""
+    read = isinstance(given, numpy.ndarray) and given.dtype == numpy.uint8 and given.ndim == 2
+    return numpy.ascontiguousarray(given) if read else read_addresses(given)[0]
+
+
 def is_member(
     given: Iterable[object], which: Union[AddressSet, IPv4Network, IPv6Network]
 ) -> NDArray[numpy.bool_]:
     """Whether each row of a column is an address of a set, or of a network. The column is of texts, or of addresses as
     ``read_addresses`` gives them."""
-    read = isinstance(given, numpy.ndarray) and given.dtype == numpy.uint8 and given.ndim == 2
-    addresses = numpy.ascontiguousarray(given) if read else read_addresses(given)[0]
     chosen = which if isinstance(which, AddressSet) else AddressSet([which])
-    return numpy.frombuffer(chosen.contains_column(addresses.data), numpy.bool_)
+    return numpy.frombuffer(chosen.contains_column(_addresses(given).data), numpy.bool_)
+
+
+def find(given: Iterable[object], table: Table) -> NDArray[numpy.int64]:
+    """Of each row of a column the number of the longest network of a table that has the address, or -1. The column is as for
+    ``is_member``.
+
+    >>> from ipnetwork import Table, ip_network
+    >>> table = Table([ip_network("10.0.0.0/8"), ip_network("10.1.0.0/16")])
+    >>> find(["10.1.9.32", "10.2.0.0", "8.8.8.8", None], table).tolist()
+    [1, 0, -1, -1]
+    """
+    return numpy.frombuffer(table.find_column(_addresses(given).data), numpy.int64)

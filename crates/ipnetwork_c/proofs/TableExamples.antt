@@ -1,7 +1,7 @@
 -- Tables at which a misreading of `IsTable`, `FindsLongest` or `IsTableOf` would show: 10.0.0.0/8, and 10.1.0.0/16 twice.
-use Rattle.std.proofs.Common.{◌≡◌, ℕ, zero, suc, ◌+◌, ◌<◌, ◌≤◌, List, [], ◌∷◌, length, get_or, refl, inl, inr, lit<, lit≤, arith, ⊎_elim}
-use Rattle.ipnetwork_family.specs.Network.{Network, IsNetwork, IsCidrBlock, IsNetworkAtMost, Member}
-use Rattle.ipnetwork_c.specs.Tables.{IsTable, FindsLongest, row_block}
+use Rattle.std.proofs.Common.{◌≡◌, ℕ, zero, suc, ◌<◌, ◌≤◌, List, [], ◌∷◌, get_or, refl, inl, inr, lit<, lit≤, ap, arith, ⊎_elim}
+use Rattle.ipnetwork_family.specs.Network.{Network, IsCidrBlock, IsNetworkAtMost}
+use Rattle.ipnetwork_c.specs.Tables.{IsTable, FindsLongest, IsTableOf, row_block}
 
 abbrev wide : Network
 wide = record { address = 0x0a000000; prefix = 8 }
@@ -69,3 +69,10 @@ none_before_an_equal_one_is_found f = f.last nested_is_a_table 2 wide (lit< tt) 
 -- a table has the blocks of its networks, by their places
 pub a_row_is_the_block_of_its_network : row_block 32 (record { address = 0x0a010203; prefix = 16 } ∷ wide ∷ []) 0 ≡ narrow
 a_row_is_the_block_of_its_network = refl
+
+pub other_places_are_beside_no_table : ¬ (IsTableOf 32 (narrow ∷ wide ∷ []) (wide ∷ narrow ∷ []) (0 ∷ 1 ∷ []))
+other_places_are_beside_no_table t = let h : 8 ≡ 16 = ap (λ (n : Network). n.prefix) (t.block 0 wide (lit< tt)) in omega (arith, h)
+
+-- of equal blocks that of the later network comes later
+pub equal_blocks_are_not_turned : ¬ (IsTableOf 32 (narrow ∷ narrow ∷ []) (narrow ∷ narrow ∷ []) (1 ∷ 0 ∷ []))
+equal_blocks_are_not_turned t = let h : 1 ≤ 0 = t.equal 0 1 wide (lit< tt) (lit< tt) refl in omega (arith, h)

@@ -1,12 +1,12 @@
 -- The longest block of a table that has an address.
-use Rattle.std.proofs.Common.{◌≡◌, ℕ, ◌+◌, ◌-◌, ◌*◌, ◌/◌, ◌^◌, ◌<◌, ◌≤◌, ◌⊎◌, List, length, map, take, get_or, ⊎_elim, sym, ap, subst, ◌∙◌, arith}
+use Rattle.std.proofs.Common.{◌≡◌, ℕ, ◌+◌, ◌-◌, ◌^◌, ◌<◌, ◌≤◌, ◌⊎◌, List, length, take, get_or, ⊎_elim, sym, ap, subst, ◌∙◌, arith}
 use Rattle.std.specs.List.{AllPairs}
 use Rattle.std.proofs.lemmas.Bool.{cases_lt}
 use Rattle.std.proofs.lemmas.List.{get_or_default, get_or-take, length-take-le}
 use Rattle.ipnetwork_family.specs.Bits.{SharesBits}
-use Rattle.ipnetwork_family.specs.Network.{Network, IsNetwork, IsCidrBlock, IsNetworkAtMost, Member, Subnet, low, high, block_at, block_size}
-use Rattle.ipnetwork_family.proofs.Blocks.{size_pos, within_member, member_within, nested, subnet_prefix, div_within}
-use Rattle.ipnetwork_family.proofs.BlocksAt.{block_at_network, block_at_holds, block_at_subnet}
+use Rattle.ipnetwork_family.specs.Network.{Network, IsCidrBlock, IsNetworkAtMost, Member, Subnet, block_at}
+use Rattle.ipnetwork_family.proofs.Blocks.{within_member, member_within, nested, subnet_prefix}
+use Rattle.ipnetwork_family.proofs.BlocksAt.{block_at_network, block_at_subnet}
 use Rattle.ipnetwork_blocks.specs.Aggregate.{InUnion}
 use Rattle.ipnetwork_blocks.proofs.LeastLists.{own_address}
 use Rattle.ipnetwork_c.specs.Tables.{IsTable, FindsLongest, TableQuery}

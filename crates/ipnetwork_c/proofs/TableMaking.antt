@@ -17,7 +17,7 @@ use denote.Param.Members.{Mut}
 use denote.Ref.{Bor}
 use Rattle.ipnetwork_family.specs.Network.{Network, IsCidrBlock, IsNetworkAtMost}
 use Rattle.ipnetwork_c.specs.Held.{PrefixFits}
-use Rattle.ipnetwork_c.specs.Tables.{IsTableOf, MakesTable, row_block}
+use Rattle.ipnetwork_c.specs.Tables.{MakesTable, row_block}
 use Rattle.ipnetwork_c.specs.Tables.MakesTable.{Made}
 use Rattle.ipnetwork_c.specs.Private.Tables.{place_cmp}
 
