@@ -1,4 +1,5 @@
 pub mod Families
 pub mod FamilySets
+pub mod QuestionLaws
 pub mod Questions
 pub mod SetLaws

@@ -2,3 +2,4 @@
 pub mod IpEquality
 pub mod IpSets
 pub mod Laws
+pub mod QuestionLaws

@@ -1,6 +1,7 @@
 //! The laws of sets of addresses of either family. Each function's contract is laws; it does nothing, and a proof whose
 //! function calls it may use them.
 ghost use Rattle.ipnetwork_ip_sets.specs.Laws.{EachFamilyKeepsItsAddresses, IpAggregateIsLeastList, IpCommonPartIsShortest, IpDifferenceIsShortest, IpComplementIsShortest, IpUnionIsShortest, SameIpAddressesAreOneSet, SameIpBlocksAreEqual, IpCommonPartCommutes, IpUnionCommutes, IpCommonPartOfOne, IpUnionOfOne, IpDifferenceIsDisjoint, IpPartsMakeTheWhole};
+ghost use Rattle.ipnetwork_ip_sets.specs.QuestionLaws.{IpNetworkMeetsUnion, IpWithinIfNothingIsLeft, IpDisjointIfNothingIsCommon, IpComplementIsDisjoint, IpComplementMakesTheWhole};
 
 use ipnetwork_blocks::laws as blocks;
 use ipnetwork_sets::laws as sets;
@@ -48,4 +49,22 @@ pub fn parts()
     ensures whole { IpPartsMakeTheWhole }
 {
     sets::parts();
+}
+
+/// A network meets a set exactly if it overlaps one of its blocks; a set is within another exactly if nothing is left of it
+/// without the other; and two sets are disjoint exactly if they have no common part.
+pub fn questions()
+    ensures meets { IpNetworkMeetsUnion }
+    ensures within { IpWithinIfNothingIsLeft }
+    ensures disjoint { IpDisjointIfNothingIsCommon }
+{
+    sets::questions();
+}
+
+/// The complement of a set has no address of the set, and together they have all addresses of both families.
+pub fn complements()
+    ensures disjoint { IpComplementIsDisjoint }
+    ensures whole { IpComplementMakesTheWhole }
+{
+    sets::complements();
 }
