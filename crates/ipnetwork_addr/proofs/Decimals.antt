@@ -12,8 +12,6 @@ decimal_three n low high =
     decimal_step n (omega arith) (omega arith)
     ∙ ap (λ front. front ++ (48 + n % 10) ∷ []) (decimal_two (n / 10) (omega arith) (omega arith) ∙ ap (λ d. (48 + d) ∷ (48 + n / 10 % 10) ∷ []) hundreds)
 
-pub ruleset decimals = (decimal_digit, decimal_two, decimal_three)
-
 -- a text, after a byte was pushed
 pub record IsPushed (text : List ℕ) (byte : ℕ) (now : List ℕ) : Type 0 where
   pub is : now ≡ text ++ byte ∷ []
@@ -23,6 +21,9 @@ pub pushed_as : (text now : List ℕ) (byte other : ℕ) → byte ≡ other → 
 pushed_as text now byte other same pushed = record { is = pushed ∙ ap (λ b. text ++ b ∷ []) same }
 
 -- a text, after the digits of a number were pushed one at a time
+pub one_pushed : {text one : List ℕ} (n : ℕ) → n < 10 → IsPushed text (48 + n) one → one ≡ text ++ decimal n
+one_pushed n low h = h.is ∙ rw (decimal_digit n low)
+
 pub two_pushed : {text one two : List ℕ} (n : ℕ) → 10 ≤ n → n < 100 → IsPushed text (48 + n / 10) one → IsPushed one (48 + n % 10) two → two ≡ text ++ decimal n
 two_pushed n low high h k = k.is ∙ rw (h.is, decimal_two n low high, append_assoc)
 
