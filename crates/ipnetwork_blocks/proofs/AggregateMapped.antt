@@ -1,14 +1,14 @@
 -- Lists of values, each seen as the network that it means.
-use Rattle.std.proofs.Common.{◌≡◌, ℕ, ◌+◌, ◌<◌, inl, inr, sym, refl, ap, subst, ◌∙◌, arith, List, [], ◌∷◌, length, get_or, map, false}
+use Rattle.std.proofs.Common.{◌≡◌, ◌↔◌, ℕ, ◌+◌, ◌-◌, ◌<◌, ◌≤◌, inl, inr, sym, refl, ap, subst, ◌∙◌, arith, List, [], ◌∷◌, length, get_or, map, Bool, false, IsTrue, true≢false}
 use Rattle.std.specs.Ordering.{nat_cmp, ordering_then, is_lt, MatchOrdering}
 use Rattle.std.specs.declared.cmp.Ordering.{Ordering}
 use Rattle.std.specs.declared.cmp.Ordering.TheVariants.{Less, Equal, Greater}
 use Rattle.std.specs.List.{All}
 use Rattle.std.specs.List.Sorted.{IsSorted}
 use Rattle.std.proofs.lemmas.Cmp.{ranked}
-use Rattle.std.proofs.lemmas.List.{get_or-map, length-map}
-use Rattle.ipnetwork_family.specs.Network.{Network, IsNetworkAtMost, network_cmp}
-use Rattle.ipnetwork_blocks.specs.Private.Joining.{AreInOrder}
+use Rattle.std.proofs.lemmas.List.{get_or-map, get_or_default, length-map}
+use Rattle.ipnetwork_family.specs.Network.{Network, Subnet, IsNetworkAtMost, network_cmp}
+use Rattle.ipnetwork_blocks.specs.Private.Joining.{AreInOrder, LiesInLast}
 
 -- an element that was read, and what it means
 pub read_map : {X : Type 0} (f : X → Network) (xs : List X) (i : ℕ) (x : X) → i < length xs → x ≡ get_or xs i x → f x ≡ get_or (map f xs) i (f x)
@@ -41,3 +41,20 @@ in_order_from_sort {X} f Is R (e ∷ es) law all h k d l =
     (ranked (f y).address (f x).address (nat_cmp (f y).address (f x).address) refl) (ranked (f y).prefix (f x).prefix (nat_cmp (f y).prefix (f x).prefix) refl) test in
     subst (λ (n : Network). IsNetworkAtMost n (get_or (map f xs) (k + 1) d)) (sym (get_or-map f xs k e d (omega arith)))
     (subst (λ (n : Network). IsNetworkAtMost (f x) n) (sym (get_or-map f xs (k + 1) e d m)) order)
+
+-- whether a network lies in the last of those that values hold
+pub lies_in_none : {X : Type 0} (f : X → Network) (w : ℕ) (xs : List X) (n : Network) → length xs ≤ 0 → IsTrue false ↔ LiesInLast w (map f xs) n
+lies_in_none f w xs n none =
+    let size = length-map xs f in
+    ((λ t. absurd (true≢false (sym t))), (λ l. absurd (omega (arith, l.0))))
+
+pub lies_in_last : {X : Type 0} (f : X → Network) (w : ℕ) (xs : List X) (x : X) (n m : Network) (answer : Bool) → 0 < length xs → x ≡ get_or xs (length xs - 1) x → m ≡ f x
+    → (IsTrue answer ↔ Subnet w n m) → IsTrue answer ↔ LiesInLast w (map f xs) n
+lies_in_last f w xs x n m answer some is e test =
+    let size = length-map xs f in
+    let at : get_or (map f xs) (length (map f xs) - 1) n ≡ m =
+    get_or_default (map f xs) (length (map f xs) - 1) n (f x) (omega arith) ∙ ap (λ k. get_or (map f xs) (k - 1) (f x)) size
+    ∙ sym (read_map f xs (length xs - 1) x (omega arith) is) ∙ sym e in (
+      (λ t. (omega arith, subst (λ (k : Network). Subnet w n k) (sym at) (test.0 t))),
+      (λ l. test.1 (subst (λ (k : Network). Subnet w n k) at l.1)),
+    )

@@ -124,6 +124,11 @@ sibling_from w n b h k pos same begins halves =
     })
     halves
 
+pub block_made : (w x p : ℕ) (n b : Network) → x ≡ n.address → p ≡ n.prefix → b ≡ block_of w (record { address = x; prefix = p }) → b ≡ block_of w n
+block_made w x p n b at length made =
+    let of : ℕ → ℕ → Network = λ address prefix. block_of w (record { address = address; prefix = prefix }) in
+    made ∙ ap (λ k. of k p) at ∙ ap (of n.address) length
+
 pub parent_made : (w x p : ℕ) (n b : Network) → x ≡ n.address → p ≡ n.prefix → b ≡ block_of w (record { address = x; prefix = p - 1 }) → b ≡ parent w n
 parent_made w x p n b at length made =
     let of : ℕ → ℕ → Network = λ address prefix. block_of w (record { address = address; prefix = prefix }) in

@@ -3,7 +3,7 @@ use Rattle.std.proofs.lemmas.List.{length-map, map-set}
 use Rattle.std.proofs.lemmas.List.Elements.{All-set}
 use Rattle.ipnetwork_family.specs.Network.{Network, IsCidrBlock, block_of}
 use Rattle.ipnetwork_blocks.proofs.AggregateMapped.{read_map}
-use Rattle.ipnetwork_blocks.proofs.AggregateClearing.{IsClearing, clearing_more, cleared}
+use Rattle.ipnetwork_blocks.proofs.AggregateClearing.{IsClearing, clearing_starts, clearing_more, cleared}
 use Rattle.ipnetwork_blocks.proofs.aggregate.clear_host_bits.Goals as goal
 
 pub loop-value-preserved : goal.loop-value-preserved
@@ -31,3 +31,16 @@ returns-clause-blocks g c =
     let size_y = length-map c.loop-value.values g.H.HoldsNetwork.held in
     (cleared g.N.CidrNetwork.WIDTH (map g.H.HoldsNetwork.held c.args.values.now) (map g.H.HoldsNetwork.held c.loop-value.values)
     c.loop-value.value-index c.loop-value.invariant.1 (omega arith) (omega arith)).1
+
+pub loop-value-init : goal.loop-value-init
+loop-value-init g c = (c.requires, clearing_starts g.N.CidrNetwork.WIDTH (map g.H.HoldsNetwork.held c.args.values.now))
+
+pub returns-clause-cleared : goal.returns-clause-cleared
+returns-clause-cleared g c =
+    let size_x = length-map c.args.values.now g.H.HoldsNetwork.held in
+    let size_y = length-map c.loop-value.values g.H.HoldsNetwork.held in
+    (cleared g.N.CidrNetwork.WIDTH (map g.H.HoldsNetwork.held c.args.values.now) (map g.H.HoldsNetwork.held c.loop-value.values)
+    c.loop-value.value-index c.loop-value.invariant.1 (omega arith) (omega arith)).0
+
+pub returns-clause-held : goal.returns-clause-held
+returns-clause-held g c = c.loop-value.invariant.0

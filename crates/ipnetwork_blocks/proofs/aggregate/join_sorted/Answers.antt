@@ -7,7 +7,7 @@ use Rattle.ipnetwork_family.specs.Network.{Network, high}
 use Rattle.ipnetwork_blocks.specs.Aggregate.{SameUnion}
 use Rattle.ipnetwork_blocks.specs.Private.Joining.{AreJoined, LiesInLast}
 use Rattle.ipnetwork_blocks.proofs.AggregateMapped.{read_held}
-use Rattle.ipnetwork_blocks.proofs.AggregatePass.{IsPassing, passing_skips_last, passing_after_last, passing_block, passing_places, passed_all}
+use Rattle.ipnetwork_blocks.proofs.AggregatePass.{IsPassing, passing_starts, passing_skips_last, passing_after_last, passing_block, passing_places, passed_all}
 use Rattle.ipnetwork_blocks.proofs.aggregate.join_sorted.Goals as goal
 use Rattle.ipnetwork_blocks.proofs.aggregate.join_sorted.Goals.{then-not-lies_in_last, else-not-lies_in_last}
 
@@ -77,3 +77,36 @@ pub returns-clause-union : goal.returns-clause-union
 returns-clause-union g c =
     let size_z = length-map c.args.values.now g.H.HoldsNetwork.held in
     passed_all g.N.CidrNetwork.WIDTH (map g.H.HoldsNetwork.held c.args.values.now) (map g.H.HoldsNetwork.held c.loop-next.values) c.loop-next.next c.loop-next.kept c.loop-next.invariant.1 (omega arith)
+
+pub overflow_add-kept : goal.overflow_add-kept
+overflow_add-kept g c =
+    let bound = c.loop-next.invariant.1.bound in
+    let kept_is = length-take-le c.loop-next.kept c.loop-next.values (omega arith) in
+    omega (arith, c.join_back-left.ensures.left)
+
+pub bounds-values-left : goal.bounds-values-left
+bounds-values-left g c =
+    let bound = c.loop-next.invariant.1.bound in
+    let kept_is = length-take-le c.loop-next.kept c.loop-next.values (omega arith) in
+    omega (arith, c.join_back-left.ensures.left)
+
+pub bounds-values-next : goal.bounds-values-next
+bounds-values-next g c = omega arith
+
+pub slice_bounds-lies_in_last-end : goal.slice_bounds-lies_in_last-end
+slice_bounds-lies_in_last-end g c = let bound = c.loop-next.invariant.1.bound in omega arith
+
+pub slice_bounds-join_back-end : goal.slice_bounds-join_back-end
+slice_bounds-join_back-end g c = let bound = c.loop-next.invariant.1.bound in omega arith
+
+pub returns-clause-within : goal.returns-clause-within
+returns-clause-within g c = let bound = c.loop-next.invariant.1.bound in omega arith
+
+pub returns-clause-joined : goal.returns-clause-joined
+returns-clause-joined g c = c.loop-next.invariant.1.joined
+
+pub returns-clause-held : goal.returns-clause-held
+returns-clause-held g c = c.loop-next.invariant.0
+
+pub loop-next-init : goal.loop-next-init
+loop-next-init g c = (c.requires.held, passing_starts g.N.CidrNetwork.WIDTH (map g.H.HoldsNetwork.held c.args.values.now))
