@@ -1,6 +1,7 @@
 -- Sets made of ranges.
-use Rattle.std.proofs.Common.{◌≡◌, ◌↔◌, ℕ, ◌+◌, ◌^◌, ◌<◌, ◌≤◌, ◌⊎◌, inl, inr, sym, ap, subst, ◌∙◌, arith, ⊎_elim, List, [], ◌∷◌, ◌++◌, length, get_or, take}
-use Rattle.std.proofs.lemmas.List.{append-nil, take_more, take_all}
+use Rattle.std.proofs.Common.{◌≡◌, ◌↔◌, ℕ, ◌+◌, ◌^◌, ◌<◌, ◌≤◌, ◌⊎◌, inl, inr, sym, ap, subst, ◌∙◌, arith, ⊎_elim, List, [], ◌∷◌, ◌++◌, length, get_or, take, map, Result, Ok, Err, true≢false}
+use Rattle.std.proofs.lemmas.List.{append-nil, append_assoc, map-append, take_more, take_all}
+use Rattle.std.specs.Result.{IsErr, IfOk}
 use Rattle.std.specs.List.{Contains}
 use Rattle.std.proofs.lemmas.List.Elements.{Contains-append_left, Contains-append_right, Contains-append_cases}
 use Rattle.ipnetwork_family.specs.Network.{Network}
@@ -28,6 +29,18 @@ pub adds_all : (w first last : ℕ) (before items left blocks : List Network) �
     → AddsLeastList w (FromTo first last) before items
 adds_all w first last before items left blocks h e none =
     (blocks, h, sym (append-nil items) ∙ ap (λ t. items ++ t) (sym none) ∙ e)
+
+-- one block more has been added
+pub adds_one : {X : Type 0} (pair : X → Network) (items more : List X) (block : X) (left rest blocks : List Network) → more ≡ items ++ block ∷ [] → left ≡ pair block ∷ rest
+    → map pair items ++ left ≡ blocks → map pair more ++ rest ≡ blocks
+adds_one pair items more block left rest blocks added steps h =
+    ap (λ t. map pair t ++ rest) added ∙ ap (λ t. t ++ rest) (map-append pair items (block ∷ [])) ∙ append_assoc (map pair items) (pair block ∷ []) rest
+    ∙ ap (λ t. map pair items ++ t) (sym steps) ∙ h
+
+-- nothing is said if the list could not grow
+pub adds_in_vain : {T E : Type 0} (result : Result T E) (P : T → Type 0) → IsErr result → IfOk result P
+adds_in_vain (Ok value) P e = absurd (true≢false (sym e))
+adds_in_vain (Err error) P e = tt
 
 pub union_append : (w : ℕ) (a b : List Network) (x : ℕ) → InUnion w (a ++ b) x ↔ (InUnion w a x ⊎ InUnion w b x)
 union_append w a b x = (

@@ -339,3 +339,43 @@ pub range_of : (w a start last : ℕ) (next : Option (List Network)) → a ≡ s
     → MatchOption next (last < a) (λ blocks. (a ≤ last) × IsLeastList w (FromTo a last) blocks)
     → MatchOption next (last < start) (λ blocks. (start ≤ last) × IsLeastList w (FromTo start last) blocks)
 range_of w a start last next e h = subst (λ (k : ℕ). MatchOption next (last < k) (λ blocks. (k ≤ last) × IsLeastList w (FromTo k last) blocks)) e h
+
+-- ---- the block that begins first
+
+-- of two lists, by their first blocks
+pub first_begins : (first second others rest : List Network) (a b : Network) → first ≡ a ∷ others → second ≡ b ∷ rest → a.address ≤ b.address → IsFirst first second a others second
+first_begins first second others rest a b e f h = record {
+  one = inl (e, refl);
+  lowest = λ c more k. ⊎_elim
+      (λ (p : first ≡ c ∷ more). let is : a ≡ c = cc in omega (arith, ap (λ (n : Network). n.address) is))
+      (λ (p : second ≡ c ∷ more). let is : b ≡ c = cc in omega (arith, ap (λ (n : Network). n.address) is))
+      k;
+}
+
+pub second_begins : (first second others rest : List Network) (a b : Network) → first ≡ a ∷ others → second ≡ b ∷ rest → b.address ≤ a.address → IsFirst first second b first rest
+second_begins first second others rest a b e f h = record {
+  one = inr (refl, f);
+  lowest = λ c more k. ⊎_elim
+      (λ (p : first ≡ c ∷ more). let is : a ≡ c = cc in omega (arith, ap (λ (n : Network). n.address) is))
+      (λ (p : second ≡ c ∷ more). let is : b ≡ c = cc in omega (arith, ap (λ (n : Network). n.address) is))
+      k;
+}
+
+-- of a list and none
+pub first_alone : (first second others : List Network) (a : Network) → first ≡ a ∷ others → second ≡ [] → IsFirst first second a others second
+first_alone first second others a e f = record {
+  one = inl (e, refl);
+  lowest = λ c more k. ⊎_elim
+      (λ (p : first ≡ c ∷ more). let is : a ≡ c = cc in omega (arith, ap (λ (n : Network). n.address) is))
+      (λ (p : second ≡ c ∷ more). absurd (cc))
+      k;
+}
+
+pub second_alone : (first second rest : List Network) (b : Network) → first ≡ [] → second ≡ b ∷ rest → IsFirst first second b first rest
+second_alone first second rest b e f = record {
+  one = inr (refl, f);
+  lowest = λ c more k. ⊎_elim
+      (λ (p : first ≡ c ∷ more). absurd (cc))
+      (λ (p : second ≡ c ∷ more). let is : b ≡ c = cc in omega (arith, ap (λ (n : Network). n.address) is))
+      k;
+}

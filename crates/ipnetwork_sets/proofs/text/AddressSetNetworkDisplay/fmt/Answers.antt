@@ -1,5 +1,7 @@
-use Rattle.std.proofs.Common.{◌≡◌, ◌+◌, ℕ, List, [], ◌∷◌, ◌++◌, take, ap, refl, ◌∙◌}
+use Rattle.std.proofs.Common.{◌≡◌, ◌+◌, ℕ, List, [], ◌∷◌, ◌++◌, take, Result, Ok, Err, ap, refl, sym, ◌∙◌}
 use Rattle.std.proofs.Output.{has_written_append, has_written_of_eq, has_written_styled_append, has_written_styled_of_eq}
+use Rattle.std.proofs.lemmas.List.{take_all, map-id}
+use Rattle.std.specs.Result.{IsOk, IsErr}
 use Rattle.ipnetwork_family.specs.Network.{Network}
 use Rattle.ipnetwork_family.specs.Family.{text_of}
 use Rattle.ipnetwork_sets.specs.Texts.{lines_of}
@@ -27,3 +29,30 @@ loop-block-preserved g c =
           let second = c.in_ok-write_str-2.ensures.styled first.flush refl in
           has_written_styled_of_eq _ _ _ _ _ whole (has_written_styled_append _ _ _ _ _ _ before (has_written_styled_append _ _ _ _ _ _ first second));
     }
+
+pub returns : goal.returns
+returns g c =
+    let bs : List Network = c.blocks-blocks.result.now in
+    let text : Network → List ℕ = text_of g.A.Address.family in
+    let whole : lines_of text (take c.loop-block.block-index bs) ≡ lines_of text c.args.self.now =
+    ap (lines_of text) (take_all c.loop-block.block-index bs c.loop-block-test.false ∙ sym (map-id bs) ∙ c.blocks-blocks.ensures.blocks) in
+    record {
+      writes = λ p ok. has_written_of_eq _ _ _ _ _ whole (c.loop-block.invariant.plain p);
+      styled = λ p ok. has_written_styled_of_eq _ _ _ _ _ whole (c.loop-block.invariant.styled p);
+    }
+
+not_both : {T E : Type 0} (r : Result T E) → IsErr r → IsOk r → ⊥
+not_both (Ok value) e o = cc
+not_both (Err error) e o = cc
+
+pub returns-in_err-write_str : goal.returns-in_err-write_str
+returns-in_err-write_str g c = record {
+  writes = λ p ok. absurd (not_both _ c.from_residual.ensures.0 ok);
+  styled = λ p ok. absurd (not_both _ c.from_residual.ensures.0 ok);
+}
+
+pub returns-in_err-write_str-2 : goal.returns-in_err-write_str-2
+returns-in_err-write_str-2 g c = record {
+  writes = λ p ok. absurd (not_both _ c.from_residual-in_err-write_str-2.ensures.0 ok);
+  styled = λ p ok. absurd (not_both _ c.from_residual-in_err-write_str-2.ensures.0 ok);
+}
