@@ -14,6 +14,18 @@ same_test true false P h k = absurd (no_truth (k.1 (h.0 refl)))
 same_test false true P h k = absurd (no_truth (h.1 (k.0 refl)))
 same_test false false P h k = refl
 
--- the first lies in the second, and not the other way round
+-- each lies in the other
+pub are_same : (a b : IpNetwork) → is_ip_subnet a b ≡ true → is_ip_subnet b a ≡ true → codes "same" ≡ relation a b
+are_same a b first second = rw (first, second) refl
+
+-- only the first lies in the other
 pub lies_inside : (a b : IpNetwork) → is_ip_subnet a b ≡ true → is_ip_subnet b a ≡ false → codes "inside" ≡ relation a b
-lies_inside a b inside outside = rw (inside, outside) refl
+lies_inside a b first second = rw (first, second) refl
+
+-- only the second does
+pub lies_around : (a b : IpNetwork) → is_ip_subnet a b ≡ false → is_ip_subnet b a ≡ true → codes "around" ≡ relation a b
+lies_around a b first second = rw (first, second) refl
+
+-- neither does
+pub lie_apart : (a b : IpNetwork) → is_ip_subnet a b ≡ false → is_ip_subnet b a ≡ false → codes "apart" ≡ relation a b
+lie_apart a b first second = rw (first, second) refl
