@@ -3,10 +3,40 @@ use Rattle.std.proofs.lemmas.Bool.{iff_false}
 use Rattle.std.proofs.lemmas.List.{length-map, get_or_default}
 use Rattle.ipnetwork_family.specs.Network.{Network}
 use Rattle.ipnetwork_blocks.specs.Private.Joining.{Follows}
-use Rattle.ipnetwork_sets.proofs.Checked.{check_goes_on, checked, set_follows}
+use Rattle.ipnetwork_sets.proofs.Checked.{check_goes_on, checked, set_has_block, set_follows}
 use Rattle.ipnetwork_blocks.proofs.AggregateMapped.{read_held}
 use Rattle.ipnetwork_c.proofs.checked.is_set.Goals as goal
 use Rattle.ipnetwork_c.proofs.checked.is_set.Goals.{else-next-gt0-via-then-next-gt0+else-not-follows, else-next-gt0-via-else-next-gt0}
+
+pub returns-then-not-has_no_host_bits : goal.returns-then-not-has_no_host_bits
+returns-then-not-has_no_host_bits g c =
+    let w : ℕ = g.N.CidrNetwork.WIDTH in
+    let ns : List Network = map g.H.HoldsNetwork.held c.args.list.now in
+    let size = length-map c.args.list.now g.H.HoldsNetwork.held in
+    let i : ℕ = c.loop-next.next in
+    let b : Network = g.N.CidrNetwork.pair c.held_network-block.result in
+    let is = read_held g.H.HoldsNetwork.held c.args.list.now i c.index-list-next.result b (omega arith) c.index-list-next.is c.held_network-block.ensures in (
+      (λ t. absurd (true≢false (sym t))),
+      (λ h. absurd (iff_false c.has_no_host_bits.ensures.told c.if-not-has_no_host_bits.true
+          (set_has_block w ns i b c.one_block.ensures.apart h (omega arith) is))),
+    )
+
+pub overflow_sub-next : goal.overflow_sub-next
+overflow_sub-next g c = omega arith
+
+pub bounds-list-next : goal.bounds-list-next
+bounds-list-next g c = omega arith
+
+pub bounds-list-next-then-next-gt0 : goal.bounds-list-next-then-next-gt0
+bounds-list-next-then-next-gt0 g c = omega arith
+
+pub held_network-block-requires : goal.held_network-block-requires
+held_network-block-requires g c =
+    subst g.H.HoldsNetwork.holds (sym c.index-list-next.is) (c.requires c.loop-next.next c.index-list-next.result (omega arith))
+
+pub held_network-requires : goal.held_network-requires
+held_network-requires g c =
+    subst g.H.HoldsNetwork.holds (sym c.index-list-next-then-next-gt0.is) (c.requires (c.loop-next.next - 1) c.index-list-next-then-next-gt0.result (omega arith))
 
 pub returns-then-not-follows : goal.returns-then-not-follows
 returns-then-not-follows g c =

@@ -1,4 +1,4 @@
-use Rattle.std.proofs.Common.{◌++◌, ◌∷◌, [], refl}
+use Rattle.std.proofs.Common.{◌++◌, ◌∷◌, [], refl, ap, length, arith}
 use Rattle.ipnetwork_c.proofs.BlocksPut.{adds_none, adds_more, still_all}
 use Rattle.ipnetwork_c.proofs.writing.put_blocks.Goals as goal
 
@@ -13,3 +13,6 @@ loop-block-preserved g c =
       adds_more g.H.HoldsNetwork.held i.0 (g.N.CidrNetwork.pair c.in-Some.block) c.args.list.now c.loop-block.list c.put.new.list c.args.begun c.loop-block.count c.saturating_add-count.result i.2
           (c.put.ensures c.saturating_add-count.result c.saturating_add-count.ensures),
     )
+
+pub loop-block-smaller : goal.loop-block-smaller
+loop-block-smaller g c = omega (arith, ap length c.in-Some.ensures.steps)
