@@ -1,5 +1,5 @@
 //! Sets made from iterators over blocks, in a list of the caller's.
-ghost use Rattle.std.specs.Prelude.{◌≡◌, IfOk};
+ghost use Rattle.std.specs.Prelude.{◌≡◌, ◌<◌, IfOk, OnErr, length, vec_capacity};
 
 use crate::address_set::AddressSet;
 use crate::blocks::{Blocks, SetBlocks};
@@ -14,7 +14,8 @@ fn collected<N: AddressSpace, B: SetBlocks<N>>(
     mut blocks: B,
     mut memory: Vec<N>,
 ) -> Result<AddressSet<N>, AllocError>
-    ensures { IfOk result (λ set. set ≡ B.left blocks) }
+    ensures set { IfOk result (λ set. set ≡ B.left blocks) }
+    ensures room { OnErr result (vec_capacity memory < length (B.left blocks)) }
 {
     memory.clear();
     loop {
@@ -34,7 +35,8 @@ impl<N: AddressSpace> AddressSet<N> {
     /// assert!(rt; set.copied(Vec::new(rt.alloc()))? == set);
     /// ```
     pub fn copied(&self, memory: Vec<N>) -> Result<Self, AllocError>
-        ensures { IfOk result (λ set. set ≡ self.now) }
+        ensures set { IfOk result (λ set. set ≡ self.now) }
+        ensures room { OnErr result (vec_capacity memory < length self.now) }
     {
         self.iter().into_set(memory)
     }
@@ -53,7 +55,8 @@ impl<'a, N: AddressSpace> Blocks<'a, N> {
     /// assert_eq!(rt; rest.blocks(), ["198.51.100.0/24".parse()?].as_slice());
     /// ```
     pub fn into_set(self, memory: Vec<N>) -> Result<AddressSet<N>, AllocError>
-        ensures { IfOk result (λ set. set ≡ self.entry) }
+        ensures set { IfOk result (λ set. set ≡ self.entry) }
+        ensures room { OnErr result (vec_capacity memory < length self.entry) }
     {
         collected(self, memory)
     }
@@ -70,7 +73,8 @@ impl<'a, N: AddressSpace> Intersection<'a, N> {
     /// assert_eq!(rt; common.blocks(), ["192.0.2.64/26".parse()?].as_slice());
     /// ```
     pub fn into_set(self, memory: Vec<N>) -> Result<AddressSet<N>, AllocError>
-        ensures { IfOk result (λ set. set ≡ self.entry) }
+        ensures set { IfOk result (λ set. set ≡ self.entry) }
+        ensures room { OnErr result (vec_capacity memory < length self.entry) }
     {
         collected(self, memory)
     }
@@ -87,7 +91,8 @@ impl<'a, N: AddressSpace> Difference<'a, N> {
     /// assert_eq!(rt; left.blocks(), ["192.0.2.0/26".parse()?].as_slice());
     /// ```
     pub fn into_set(self, memory: Vec<N>) -> Result<AddressSet<N>, AllocError>
-        ensures { IfOk result (λ set. set ≡ self.entry) }
+        ensures set { IfOk result (λ set. set ≡ self.entry) }
+        ensures room { OnErr result (vec_capacity memory < length self.entry) }
     {
         collected(self, memory)
     }
@@ -104,7 +109,8 @@ impl<'a, N: AddressSpace> Union<'a, N> {
     /// assert_eq!(rt; both.blocks(), ["192.0.2.0/24".parse()?].as_slice());
     /// ```
     pub fn into_set(self, memory: Vec<N>) -> Result<AddressSet<N>, AllocError>
-        ensures { IfOk result (λ set. set ≡ self.entry) }
+        ensures set { IfOk result (λ set. set ≡ self.entry) }
+        ensures room { OnErr result (vec_capacity memory < length self.entry) }
     {
         collected(self, memory)
     }

@@ -1,5 +1,6 @@
 //! Sets made of ranges of addresses.
-ghost use Rattle.std.specs.Prelude.{◌<◌, ◌^◌, IfOk, map};
+ghost use Rattle.std.specs.Prelude.{◌+◌, ◌<◌, ◌^◌, IfOk, OnErr, List, length, map, vec_capacity, vec_len};
+ghost use Rattle.ipnetwork_family.specs.Network.{Network};
 ghost use Rattle.ipnetwork_blocks.specs.LeastList.{IsLeastList};
 ghost use Rattle.ipnetwork_blocks.specs.Ranges.{FromTo};
 ghost use Rattle.ipnetwork_sets.specs.RangeLists.{InRanges};
@@ -50,6 +51,7 @@ pub fn push_range<N: AddressSpace>(
 ) -> Result<(), AllocError>
     ensures address { N.number last < 2 ^ N.WIDTH }
     ensures added { IfOk result (λ _. AddsLeastList N.WIDTH (FromTo (N.number first) (N.number last)) (map N.pair networks.old.items) (map N.pair networks.new.items)) }
+    ensures room { (blocks : List Network) → IsLeastList N.WIDTH (FromTo (N.number first) (N.number last)) blocks → OnErr result (vec_capacity networks.old < vec_len networks.old + length blocks) }
 {
     // The clause `address` of this call says that `last` is an address of the family.
     let _ = N::block(last, N::WIDTH);

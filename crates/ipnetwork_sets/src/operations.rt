@@ -1,5 +1,6 @@
 //! The operations on sets.
-ghost use Rattle.std.specs.Prelude.{◌≡◌, ◌↔◌, IsTrue, IfOk};
+ghost use Rattle.std.specs.Prelude.{◌≡◌, ◌↔◌, ◌<◌, IsTrue, IfOk, OnErr, List, length, vec_capacity};
+ghost use Rattle.ipnetwork_family.specs.Network.{Network};
 ghost use Rattle.ipnetwork_blocks.specs.LeastList.{IsLeastList};
 ghost use Rattle.ipnetwork_sets.specs.Sets.{InBoth, InFirstAlone, InNetworkAlone, InEither, IsWithin, AreDisjoint};
 
@@ -77,7 +78,8 @@ impl<N: AddressSpace> AddressSet<N> {
     /// assert!(rt; set.union(&other, Vec::new(rt.alloc()))?.covers("192.0.2.0/24".parse()?));
     /// ```
     pub fn union(&self, other: &AddressSet<N>, memory: Vec<N>) -> Result<Self, AllocError>
-        ensures { IfOk result (λ set. IsLeastList N.WIDTH (InEither N.WIDTH self.now other.now) set) }
+        ensures set { IfOk result (λ set. IsLeastList N.WIDTH (InEither N.WIDTH self.now other.now) set) }
+        ensures room { (blocks : List Network) → IsLeastList N.WIDTH (InEither N.WIDTH self.now other.now) blocks → OnErr result (vec_capacity memory < length blocks) }
     {
         self.union_blocks(other).into_set(memory)
     }

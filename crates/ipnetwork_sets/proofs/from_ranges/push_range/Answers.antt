@@ -1,4 +1,6 @@
-use Rattle.std.proofs.Common.{◌++◌, map}
+use Rattle.std.proofs.Common.{◌+◌, ◌<◌, ◌≤◌, ◌++◌, arith, length, map, vec_capacity}
+use Rattle.ipnetwork_blocks.specs.Ranges.{FromTo}
+use Rattle.ipnetwork_sets.proofs.CollectedBlocks.{failed, pushing_had_no_room}
 use Rattle.ipnetwork_sets.proofs.FromRanges.{adds_none, adds_one, adds_all, adds_in_vain}
 use Rattle.ipnetwork_sets.proofs.from_ranges.push_range.Goals as goal
 
@@ -7,14 +9,23 @@ returns-in_default-clause-added g c =
     adds_none g.N.CidrNetwork.WIDTH (g.N.CidrNetwork.number c.args.first) (g.N.CidrNetwork.number c.args.last) (map g.N.CidrNetwork.pair c.args.networks.now.items) c.in_default.ensures.blocks
 
 pub loop-block-preserved : goal.loop-block-preserved
-loop-block-preserved g c =
-    adds_one g.N.CidrNetwork.pair c.loop-block.networks.items c.push.new.self.items c.in-Some-next.block c.loop-block.blocks c.next.new.self
-    (map g.N.CidrNetwork.pair c.args.networks.now.items ++ c.in-Some.blocks) c.in_ok-push.ensures.items c.in-Some-next.ensures.steps c.loop-block.invariant
+loop-block-preserved g c = record {
+  together =
+      adds_one g.N.CidrNetwork.pair c.loop-block.networks.items c.push.new.self.items c.in-Some-next.block c.loop-block.blocks c.next.new.self
+      (map g.N.CidrNetwork.pair c.args.networks.now.items ++ c.in-Some.blocks) c.in_ok-push.ensures.items c.in-Some-next.ensures.steps c.loop-block.invariant.together;
+  room = omega (arith, c.loop-block.invariant.room, c.in_ok-push.ensures.capacity);
+}
 
 pub returns-in_err-push : goal.returns-in_err-push
 returns-in_err-push g c = record {
   address = c.block.ensures.address;
   added = adds_in_vain c.from_residual.result _ c.from_residual.ensures.0;
+  room = λ blocks h.
+      failed c.from_residual.result
+      (pushing_had_no_room g.N.CidrNetwork.pair g.N.CidrNetwork.WIDTH (FromTo (g.N.CidrNetwork.number c.args.first) (g.N.CidrNetwork.number c.args.last))
+      c.loop-block.networks.items c.args.networks.now.items c.in-Some-next.block c.loop-block.blocks c.next.new.self c.in-Some.blocks blocks _ _ _ _
+      c.loop-block.invariant.together c.in-Some.ensures.blocks.1 h c.in-Some-next.ensures.steps
+      c.loop-block.networks.ok.0 c.args.networks.now.ok.0 c.loop-block.invariant.room c.in_err-push.ensures.full);
 }
 
 pub returns : goal.returns
@@ -22,5 +33,6 @@ returns g c = record {
   address = c.block.ensures.address;
   added =
       adds_all g.N.CidrNetwork.WIDTH (g.N.CidrNetwork.number c.args.first) (g.N.CidrNetwork.number c.args.last) (map g.N.CidrNetwork.pair c.args.networks.now.items)
-      (map g.N.CidrNetwork.pair c.loop-block.networks.items) c.loop-block.blocks c.in-Some.blocks c.in-Some.ensures.blocks.1 c.loop-block.invariant c.in_default-next.ensures.steps.0;
+      (map g.N.CidrNetwork.pair c.loop-block.networks.items) c.loop-block.blocks c.in-Some.blocks c.in-Some.ensures.blocks.1 c.loop-block.invariant.together c.in_default-next.ensures.steps.0;
+  room = λ blocks h. tt;
 }

@@ -1,8 +1,11 @@
-use Rattle.std.proofs.Common.{◌≡◌, ◌++◌, length, map}
+use Rattle.std.proofs.Common.{◌≡◌, ◌≤◌, ◌++◌, length, map, vec_capacity}
 use Rattle.ipnetwork_sets.proofs.from_ranges.push_range.Given as goal
 
 abbrev pub invariant-loop-block : goal.invariant-loop-block
-invariant-loop-block g l = map g.N.CidrNetwork.pair l.networks.items ++ l.blocks ≡ map g.N.CidrNetwork.pair l.initial.networks.items ++ l.initial.blocks
+invariant-loop-block g l = record {
+  together : map g.N.CidrNetwork.pair l.networks.items ++ l.blocks ≡ map g.N.CidrNetwork.pair l.initial.networks.items ++ l.initial.blocks;
+  room : vec_capacity l.initial.networks ≤ vec_capacity l.networks;
+}
 
 abbrev pub decreases-loop-block : goal.decreases-loop-block
 decreases-loop-block g l = length l.blocks
