@@ -1,10 +1,10 @@
 -- The ranges of the blocks of a set.
-use Rattle.std.proofs.Common.{◌≡◌, ◌↔◌, ℕ, suc, ◌+◌, ◌<◌, ◌≤◌, ◌⊎◌, inl, inr, sym, refl, ap, subst, ◌∙◌, arith, ⊎_elim, List, [], ◌∷◌, Bool, cond, get_or, Option, None, Some, MatchOption, option_map}
+use Rattle.std.proofs.Common.{◌≡◌, ◌↔◌, ℕ, suc, ◌+◌, ◌<◌, ◌≤◌, ◌⊎◌, inl, inr, sym, refl, ap, subst, ◌∙◌, arith, ⊎_elim, List, [], ◌∷◌, cond, get_or, Option, None, Some, MatchOption, option_map}
 use Rattle.std.proofs.lemmas.Bool.{cases_eq, cases_lt, eq-eqb, ne_eqb}
-use Rattle.std.specs.List.{All, AllPairs, Contains}
+use Rattle.std.specs.List.{All, Contains}
 use Rattle.std.proofs.lemmas.List.Elements.{All-cons, All-contains, Contains-get_or}
 use Rattle.std.proofs.lemmas.List.Kept.{AllPairs-cons}
-use Rattle.ipnetwork_family.specs.Network.{Network, IsNetwork, IsCidrBlock, Member, low, high}
+use Rattle.ipnetwork_family.specs.Network.{Network, IsCidrBlock, Member, low, high}
 use Rattle.ipnetwork_family.proofs.Blocks.{size_pos, within_member, member_within}
 use Rattle.ipnetwork_blocks.specs.Ranges.{FromTo}
 use Rattle.ipnetwork_blocks.specs.Aggregate.{InUnion}

@@ -1,4 +1,4 @@
-use Rattle.std.proofs.Common.{◌+◌, ◌<◌, ◌≤◌, ◌++◌, arith, length, map, vec_capacity}
+use Rattle.std.proofs.Common.{◌++◌, arith, map}
 use Rattle.ipnetwork_blocks.specs.Ranges.{FromTo}
 use Rattle.ipnetwork_sets.proofs.CollectedBlocks.{failed, pushing_had_no_room}
 use Rattle.ipnetwork_sets.proofs.FromRanges.{adds_none, adds_one, adds_all, adds_in_vain}
