@@ -23,6 +23,10 @@ use core::net::{IpAddr, Ipv4Addr, Ipv6Addr};
 use core::ops::RangeInclusive;
 use core::str::FromStr;
 
+mod printed_columns;
+
+pub use printed_columns::print_address_column;
+
 /// Why there is no network, or no answer.
 #[non_exhaustive]
 #[derive(Clone, Copy, Debug, PartialEq, Eq, Hash)]
@@ -80,6 +84,7 @@ mod c {
     }
 
     #[repr(C)]
+    #[derive(Clone, Copy)]
     pub struct Either {
         pub family: u8,
         pub v4: Network<4>,
@@ -107,6 +112,10 @@ mod c {
         usize,
         &mut usize,
     ) -> u32;
+
+    /// A column of rows printed: room for the texts and for the offsets, and how many bytes the texts have.
+    pub type PrintColumn<Row> =
+        unsafe extern "C" fn(*const Row, usize, *mut u8, usize, *mut u32, usize, &mut usize) -> u32;
 
     unsafe extern "C" {
         pub safe fn ipnetwork_abi_version() -> u32;
@@ -330,6 +339,24 @@ mod c {
         ) -> u32;
         pub unsafe fn ipnetwork_v6_print_column(
             networks: *const V6,
+            count: usize,
+            texts: *mut u8,
+            room: usize,
+            offsets: *mut u32,
+            offset_count: usize,
+            length: &mut usize,
+        ) -> u32;
+        pub unsafe fn ipnetwork_print_column(
+            networks: *const Either,
+            count: usize,
+            texts: *mut u8,
+            room: usize,
+            offsets: *mut u32,
+            offset_count: usize,
+            length: &mut usize,
+        ) -> u32;
+        pub unsafe fn ipnetwork_address_print_column(
+            addresses: *const Address,
             count: usize,
             texts: *mut u8,
             room: usize,
@@ -945,18 +972,7 @@ impl IpNetwork {
 
     /// Whether an address lies in the network's set. No address of the other family does.
     pub fn contains(&self, address: IpAddr) -> bool {
-        let either = match self {
-            IpNetwork::V4(network) => c::Either {
-                family: 4,
-                v4: network.0,
-                v6: Ipv6Network::BLANK,
-            },
-            IpNetwork::V6(network) => c::Either {
-                family: 6,
-                v4: Ipv4Network::BLANK,
-                v6: network.0,
-            },
-        };
+        let either = c::Either::from(*self);
         let mut answer = 0;
         let mut ask = |octets: &[u8]| {
             // SAFETY: a slice is never null, and has this many bytes.
@@ -1127,6 +1143,40 @@ impl From<IpAddr> for IpNetwork {
             IpAddr::V4(address) => IpNetwork::V4(address.into()),
             IpAddr::V6(address) => IpNetwork::V6(address.into()),
         }
+    }
+}
+
+impl From<IpNetwork> for c::Either {
+    fn from(network: IpNetwork) -> Self {
+        match network {
+            IpNetwork::V4(network) => c::Either {
+                family: 4,
+                v4: network.0,
+                v6: Ipv6Network::BLANK,
+            },
+            IpNetwork::V6(network) => c::Either {
+                family: 6,
+                v4: Ipv4Network::BLANK,
+                v6: network.0,
+            },
+        }
+    }
+}
+
+impl From<IpAddr> for c::Address {
+    fn from(address: IpAddr) -> Self {
+        let mut octets = [0; 16];
+        let length = match address {
+            IpAddr::V4(address) => {
+                octets[..4].copy_from_slice(&address.octets());
+                4
+            }
+            IpAddr::V6(address) => {
+                octets = address.octets();
+                16
+            }
+        };
+        c::Address { octets, length }
     }
 }
 

@@ -3,7 +3,7 @@
 
 use ipnetwork_c::{
     Fault, IpNetwork, Ipv4Network, Ipv4Set, Ipv4Table, Ipv6Network, Ipv6Set, Ipv6Table,
-    read_address,
+    print_address_column, read_address,
 };
 use std::env;
 use std::net::{IpAddr, Ipv4Addr, Ipv6Addr};
@@ -721,6 +721,107 @@ fn columns_printed() {
     assert_eq!(
         Ipv4Network::print_column(&fours, &mut texts, &mut offsets[..3]),
         Err(33)
+    );
+}
+
+/// A call that prints a column.
+type Print<Row> = fn(&[Row], &mut [u8], &mut [u32]) -> Result<usize, usize>;
+
+/// Columns of rows of both families, with the text of each by `std::net`: refused if there is no room, printed into just
+/// as much room and into more.
+fn columns_of_both<Row>(
+    random: &mut Random,
+    row: impl Fn(&mut Random) -> (Row, String),
+    print: Print<Row>,
+) {
+    let mut done = 0;
+    while done < rows() {
+        let count = random.below(200);
+        done += count + 1;
+        let (column, wanted): (Vec<Row>, Vec<String>) = (0..count).map(|_| row(random)).unzip();
+        let mut starts = vec![0];
+        for text in &wanted {
+            starts.push(starts[starts.len() - 1] + text.len() as u32);
+        }
+        let (whole, spare) = (wanted.concat().into_bytes(), 43 * count + 1);
+        let length = whole.len();
+        let (mut texts, mut offsets) = (vec![b'x'; length + spare], vec![9; count + 2]);
+        assert_eq!(print(&column, &mut [], &mut []), Err(length));
+        assert_eq!(
+            print(&column, &mut texts, &mut offsets[..count]),
+            Err(length)
+        );
+        if count > 0 {
+            assert_eq!(
+                print(&column, &mut texts[..length - 1], &mut offsets),
+                Err(length)
+            );
+        }
+        assert!(texts.iter().all(|byte| *byte == b'x') && offsets.iter().all(|at| *at == 9));
+        for (room, places) in [(length, count + 1), (length + spare, count + 2)] {
+            texts.fill(b'x');
+            offsets.fill(9);
+            assert_eq!(
+                print(&column, &mut texts[..room], &mut offsets[..places]),
+                Ok(length)
+            );
+            assert_eq!(texts[..length], whole);
+            assert_eq!(offsets[..=count], starts);
+            assert!(texts[length..].iter().all(|byte| *byte == b'x') && offsets[count + 1] == 9);
+        }
+    }
+}
+
+fn address_of_either(random: &mut Random) -> IpAddr {
+    match random.below(2) {
+        0 => IpAddr::V4(random.v4()),
+        _ => IpAddr::V6(random.v6()),
+    }
+}
+
+#[test]
+fn columns_of_addresses_printed() {
+    let row = |random: &mut Random| {
+        let address = address_of_either(random);
+        (address, address.to_string())
+    };
+    columns_of_both(
+        &mut Random(seed(0x5c1d_93e6_70ab_428f)),
+        row,
+        print_address_column,
+    );
+}
+
+#[test]
+fn columns_of_either_family_printed() {
+    let row = |random: &mut Random| {
+        let address = address_of_either(random);
+        let prefix = random.below(if address.is_ipv4() { 33 } else { 129 }) as u8;
+        (
+            IpNetwork::new(address, prefix).unwrap(),
+            format!("{address}/{prefix}"),
+        )
+    };
+    columns_of_both(
+        &mut Random(seed(0x2af7_0b58_d913_66c4)),
+        row,
+        IpNetwork::print_column,
+    );
+}
+
+#[test]
+fn columns_of_the_longest_texts() {
+    let most: Ipv6Addr = "1111:2222:3333:4444:5555:6666:7777:8888".parse().unwrap();
+    let addresses = [IpAddr::V6(most); 65];
+    let networks = addresses.map(|address| IpNetwork::new(address, 100).unwrap());
+    let (mut texts, mut offsets) = ([0; 65 * 43], [0; 66]);
+    assert_eq!(
+        IpNetwork::print_column(&networks, &mut texts, &mut offsets),
+        Ok(65 * 43)
+    );
+    assert_eq!(
+        print_address_column(&addresses, &mut texts[..65 * 39], &mut offsets),
+        Ok(65 * 39)
     );
 }
 
