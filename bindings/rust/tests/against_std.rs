@@ -815,14 +815,14 @@ fn columns_of_the_longest_texts() {
     let addresses = [IpAddr::V6(most); 65];
     let networks = addresses.map(|address| IpNetwork::new(address, 100).unwrap());
     let (mut texts, mut offsets) = ([0; 65 * 43], [0; 66]);
-    assert_eq!(
-        IpNetwork::print_column(&networks, &mut texts, &mut offsets),
-        Ok(65 * 43)
-    );
-    assert_eq!(
-        print_address_column(&addresses, &mut texts[..65 * 39], &mut offsets),
-        Ok(65 * 39)
-    );
+    for (room, wanted) in [(65 * 43 - 1, Err(65 * 43)), (65 * 43, Ok(65 * 43))] {
+        let printed = IpNetwork::print_column(&networks, &mut texts[..room], &mut offsets);
+        assert_eq!(printed, wanted);
+    }
+    for (room, wanted) in [(65 * 39 - 1, Err(65 * 39)), (65 * 39, Ok(65 * 39))] {
+        let printed = print_address_column(&addresses, &mut texts[..room], &mut offsets);
+        assert_eq!(printed, wanted);
+    }
 }
 
 #[test]
