@@ -123,7 +123,7 @@ func Aggregate(networks []Network) ([]Network, error) {
 	return set.Networks(), err
 }
 
-// Contains tells whether an address is one of the set, by one binary search. None with a zone is.
+// Contains reports whether an address is one of the set, by one binary search. No address with a zone is.
 func (set Set) Contains(address netip.Addr) bool {
 	held, ok := given(address)
 	var answer C.uint8_t
@@ -135,7 +135,7 @@ func (set Set) Contains(address netip.Addr) bool {
 	return answer == 1
 }
 
-// ContainsColumn puts for each address of a column 1 or 0 into answers: whether it is a member of the network. The column
+// ContainsColumn writes 1 or 0 to answers for each address of a column: whether it is a member of the network. The column
 // has packed addresses of the network's family, one after the other. NoFamily of the zero Network and if the column ends
 // within an address, NoRoom if there are fewer answers than addresses.
 func (network Network) ContainsColumn(packed []byte, answers []byte) error {
@@ -154,7 +154,7 @@ func (network Network) ContainsColumn(packed []byte, answers []byte) error {
 	return faultOf(C.ipnetwork_v6_contains_column(&network.held.v6, addresses, rows, told, room))
 }
 
-// ContainsEach tells of each address whether it is a member of the network, as Contains does, by one call.
+// ContainsEach reports for each address whether it is a member of the network, as Contains does, by one call.
 func (network Network) ContainsEach(addresses []netip.Addr) []bool {
 	answers := make([]bool, len(addresses))
 	packed, rows := make([]byte, 0, 4*len(addresses)), make([]int, 0, len(addresses))
@@ -195,7 +195,7 @@ func rowsOf(offsets []uint32) int {
 	return len(offsets) - 1
 }
 
-// ParseColumn reads a column of texts in Arrow's layout by one call: text i goes from offset i to the next. Where a text
+// ParseColumn reads a column of texts in Arrow's layout by one call: text i goes from offset i to the next. If a text
 // names no network, the network is the zero Network, and the fault is Address; the other faults are 0. The error is
 // NoOffsets if the offsets fall, or pass the end.
 func ParseColumn(texts []byte, offsets []uint32) ([]Network, []Fault, error) {

@@ -28,7 +28,7 @@ func init() {
 	}
 }
 
-// A Fault says why there is no network, or no answer. Its text is what the library says of it.
+// A Fault says why there is no network, or no result. Its text is what the library says of it.
 type Fault uint32
 
 // The faults that a caller can meet.
@@ -193,7 +193,7 @@ func (network Network) Bits() int {
 	return -1
 }
 
-// Is4 tells whether it is an IPv4 network.
+// Is4 reports whether it is an IPv4 network.
 func (network Network) Is4() bool { return network.held.family == 4 }
 
 // String gives the canonical text.
@@ -222,7 +222,7 @@ func (network *Network) UnmarshalText(text []byte) error {
 	return err
 }
 
-// Contains tells whether an address is a member of the network. No address of the other family is, and none with a zone.
+// Contains reports whether an address is a member of the network. No address of the other family is, and none with a zone.
 func (network Network) Contains(address netip.Addr) bool {
 	held, ok := given(address)
 	return ok && C.network_contains(network.held, held).value == 1
@@ -268,12 +268,12 @@ func (network Network) SubnetAt(prefix int, n *big.Int) (Network, error) {
 	return networkOf(C.network_subnet_at(network.held, C.uint8_t(prefix), number))
 }
 
-// IsSubnetOf tells whether each member of this network is a member of the other; false if the families differ.
+// IsSubnetOf reports whether each member of this network is a member of the other; false if the families differ.
 func (network Network) IsSubnetOf(other Network) bool {
 	return C.network_is_subnet_of(network.held, other.held).value == 1
 }
 
-// Overlaps tells whether some address is a member of both.
+// Overlaps reports whether some address is a member of both.
 func (network Network) Overlaps(other Network) bool {
 	return C.network_overlaps(network.held, other.held).value == 1
 }

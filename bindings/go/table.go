@@ -5,7 +5,7 @@ import "C"
 
 import "net/netip"
 
-// A Table is networks of either family in the order in which they are searched: it tells the longest one that has an address.
+// A Table is networks of either family in the order in which they are searched. It finds the longest one that has an address.
 type Table struct {
 	fours       []C.ipnetwork_v4
 	sixes       []C.ipnetwork_v6
@@ -59,11 +59,11 @@ func NewTable(networks []Network) (Table, error) {
 	return table, nil
 }
 
-// Find tells which of the networks, counted from 0, is the longest one that has an address: the last one, if some have the
+// Find returns which of the networks, counted from 0, is the longest one that has an address: the last one, if some have the
 // same block. The number is -1 if none has it, as none has an address with a zone.
 func (table Table) Find(address netip.Addr) int { return table.FindEach([]netip.Addr{address})[0] }
 
-// FindEach tells the same of each address, by one call for each family.
+// FindEach returns the same for each address, by one call for each family.
 func (table Table) FindEach(addresses []netip.Addr) []int {
 	numbers := make([]int, len(addresses))
 	var fours, sixes []byte

@@ -230,7 +230,7 @@ _Net = TypeVar("_Net", IPv4Network, IPv6Network)
 if TYPE_CHECKING:
 
     def ip_network(text: Union[str, bytes]) -> _Either:
-        """The network of either family that a text names, or that of the packed address of 4 or 16 bytes alone;
+        """The network of either family that a text names, or that of only the address that 4 or 16 bytes are;
         AddressError if there is none, whatever is wrong with it."""
 else:
     ip_network = _core.ip_network
@@ -270,7 +270,7 @@ class AddressSet:
     """The addresses of networks of either family, in any order, host bits or not.
 
     It holds the fewest networks that have them, so that sets of the same addresses are equal, whatever networks they were
-    made of. Whether it has an address is told by one binary search.
+    made of. One binary search finds whether it has an address.
 
     >>> allowed = AddressSet([ip_network("10.0.0.0/9"), ip_network("2001:db8::/32")]) | AddressSet([ip_network("10.128.0.0/9")])
     >>> allowed
@@ -360,7 +360,9 @@ class AddressSet:
 class Table:
     """Networks of either family, in any order, host bits or not, asked for the longest one that has an address.
 
-    A network is told by its number: 0 for the first that was given. If some have the same addresses, the last one is told.
+    The result is the number of a network: 0 for the first that was given. Of networks with the same addresses it is that of
+    the last one. Host bits change nothing, and the table does not keep them: a pickled table has only the blocks of the
+    networks, and finds the same.
 
     >>> networks = [ip_network("10.0.0.0/8"), ip_network("2001:db8::/32"), ip_network("10.1.9.32/16")]
     >>> table = Table(networks)

@@ -27,7 +27,7 @@ mod printed_columns;
 
 pub use printed_columns::print_address_column;
 
-/// Why there is no network, or no answer.
+/// Why there is no network, or no result.
 #[non_exhaustive]
 #[derive(Clone, Copy, Debug, PartialEq, Eq, Hash)]
 pub enum Fault {
@@ -411,12 +411,12 @@ fn result(number: u32) -> Result<(), Fault> {
         3 => Err(Fault::Prefix),
         5 => Err(Fault::NoMask),
         8 => Err(Fault::Offsets),
-        other => unreachable!("fault {other} of a call that does not answer it"),
+        other => unreachable!("fault {other} of a call that does not return it"),
     }
 }
 
-/// A network of this crate has a prefix length of its family, so that a question about it has no fault. A fault would
-/// be one of the library that is linked: no answer then, rather than one that the library did not give.
+/// Panics if a call about a network returns a fault. No call does, since a network of this crate has a prefix length of
+/// its family: a fault would be an error of the library that is linked.
 fn answered(number: u32) {
     assert_eq!(number, OK, "a question about a network has no fault");
 }
@@ -471,8 +471,8 @@ macro_rules! family {
                 answer == 1
             }
 
-            /// Whether each of these addresses, as octets, lies in the network's set: 1 or 0 in the answer of the same
-            /// place. Panics if there are not as many answers as addresses.
+            /// Whether each of these addresses, as octets, lies in the network's set: 1 or 0, at the same place in `answers`.
+            /// Panics if there are not as many answers as addresses.
             pub fn contains_column(&self, addresses: &[[u8; $octets]], answers: &mut [u8]) {
                 assert_eq!(addresses.len(), answers.len(), "an answer for each address");
                 // SAFETY: slices are never null, and have as many elements.
@@ -491,8 +491,9 @@ macro_rules! family {
                 answer == 1
             }
 
-            /// Puts the aggregate of the networks, in any order, host bits or not, in front, and gives it: the fewest
-            /// blocks with the same addresses, in ascending order. Behind it stand networks, whichever.
+            /// Puts the aggregate of the networks, in any order, host bits or not, into the front of their slice, and returns
+            /// it: the fewest blocks with the same addresses, in ascending order and without host bits. Which networks come
+            /// after it is not specified.
             pub fn aggregate(networks: &mut [Self]) -> &mut [Self] {
                 let mut blocks = 0;
                 // SAFETY: a slice is never null, and has as many elements, each of which is the struct that it wraps; the
@@ -523,7 +524,7 @@ macro_rules! family {
             }
 
             /// Prints a column of networks in Arrow's layout: the texts in the front of `texts`, one after the other, and the
-            /// offsets of each and of the end in the front of `offsets`. Gives how many bytes the texts have, as an error if
+            /// offsets of each and of the end in the front of `offsets`. Returns how many bytes the texts have, as an error if
             /// there is no room for them or for one offset more than networks, or if they are more than 2147483647; then
             /// nothing is written.
             pub fn print_column(networks: &[Self], texts: &mut [u8], offsets: &mut [u32]) -> Result<usize, usize> {
@@ -713,8 +714,8 @@ macro_rules! family {
             }
         }
 
-        /// Networks in the order in which they are searched, in the memory of the caller: asked for the longest one that has
-        /// an address.
+        /// Networks in the order in which they are searched, in the memory of the caller: finds the longest one that has an
+        /// address.
         #[derive(Clone, Copy, Debug)]
         pub struct $table<'a> {
             blocks: &'a [$name],
@@ -781,7 +782,7 @@ macro_rules! family {
         }
 
         impl From<$address> for $name {
-            /// The network of this address alone, whose prefix length is the full width.
+            /// The network of only this address: its prefix length is the full width.
             fn from(address: $address) -> Self {
                 $name(c::Network { address: address.octets(), prefix: $octets * 8 })
             }
@@ -1137,7 +1138,7 @@ impl From<Ipv6Network> for IpNetwork {
 }
 
 impl From<IpAddr> for IpNetwork {
-    /// The network of this address alone.
+    /// The network of only this address: its prefix length is the full width of the family.
     fn from(address: IpAddr) -> Self {
         match address {
             IpAddr::V4(address) => IpNetwork::V4(address.into()),
