@@ -230,7 +230,7 @@ _Net = TypeVar("_Net", IPv4Network, IPv6Network)
 if TYPE_CHECKING:
 
     def ip_network(text: Union[str, bytes]) -> _Either:
-        """The network of either family that a text names, or that of only the address that 4 or 16 bytes are;
+        """The network of either family that a text names, or that of one address, given as its 4 or 16 packed bytes;
         AddressError if there is none, whatever is wrong with it."""
 else:
     ip_network = _core.ip_network

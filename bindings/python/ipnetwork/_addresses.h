@@ -12,9 +12,9 @@
 typedef struct {
     PyObject_HEAD
     ipnetwork_ip held;
-    /* Told as the network is made, since `ipaddress` has these at hand too. */
+    /* Asked for as the network is made, since `ipaddress` has these at hand too. */
     PyObject *least, *mask;
-    /* What was told already, or NULL. */
+    /* What the library returned already, or NULL. */
     PyObject *text, *ip, *greatest, *size, *members;
 } Network;
 
@@ -24,8 +24,8 @@ static PyObject *v4_class, *v6_class;                                  /* the cl
 static PyObject *v4_address, *v6_address, *base_network;               /* those of ipaddress */
 static PyObject *make_error, *map_of, *range_of, *int_from_bytes;
 static PyObject *name_ip, *name_scope, *big, *sixty_four, *zero, *one;
-static PyObject *masks[2][129];  /* those told already, by prefix length */
-static int plain;                /* whether an address of ipaddress is its number alone: see `is_plain` */
+static PyObject *masks[2][129];  /* those asked for already, by prefix length */
+static int plain;                /* whether an address of ipaddress is only its number: see `is_plain` */
 
 /* Raises what `_errors.error` makes of a fault and of what was given. */
 static void raise_fault(ipnetwork_fault fault, PyObject *given) {
@@ -39,7 +39,7 @@ static void raise_fault(ipnetwork_fault fault, PyObject *given) {
 /* A question about a network that the library made has no fault. */
 static int answered(ipnetwork_fault fault) {
     if (fault == IPNETWORK_OK) return 1;
-    PyErr_Format(PyExc_RuntimeError, "the library answered fault %u to a question about a network", (unsigned int)fault);
+    PyErr_Format(PyExc_RuntimeError, "the library returned fault %u for a question about a network", (unsigned int)fault);
     return 0;
 }
 

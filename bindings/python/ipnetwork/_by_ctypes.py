@@ -2,7 +2,7 @@
 # The types of these names are those of _native.pyi.
 """The core of the package over ``ctypes``, which needs no compiler: the names of ``_native.c``, and what they mean.
 
-The library reads and prints networks, tells their ends, masks and sizes, and answers lists and columns. What it told is
+The library reads and prints networks, computes their ends, masks and sizes, and works on lists and columns. Its results are
 kept. An address is a member exactly if it is none before the least and none after the greatest, so that single addresses
 are compared with these two here; likewise whether one network is part of another. The bytes of a network are its address
 and its prefix length, so that equality and order are theirs.
@@ -99,7 +99,7 @@ _Kind = TypeVar("_Kind", bound="Network[IPv4Address] | Network[IPv6Address]")
 def _answered(fault: int) -> None:
     """A question about a network has no fault, since its prefix length is one of its family."""
     if fault:
-        raise RuntimeError(f"the library answered fault {fault} to a question about a network")
+        raise RuntimeError(f"the library returned fault {fault} for a question about a network")
 
 
 def _bytes(given: str) -> bytes:
@@ -138,7 +138,7 @@ class Network(Generic[Address]):
     _high: int
 
     def __init__(self, text: Union[str, bytes]) -> None:
-        """The network that a text names, or that of the packed address of these bytes alone. FormatError, AddressError
+        """The network that a text names, or that of one address, given as its packed bytes. FormatError, AddressError
         or PrefixError, the first that holds."""
         if isinstance(text, bytes):
             if len(text) != self._width:
@@ -232,7 +232,7 @@ class Network(Generic[Address]):
     def contains_column(self, packed: ReadableBuffer) -> bytearray:
         """For each address of a column a byte: 1 if it is a member of the network, and 0 if it is not.
 
-        A column is packed addresses of the network's family, one behind the other, in any contiguous buffer: ``bytes``,
+        A column is packed addresses of the network's family, one after the other, in any contiguous buffer: ``bytes``,
         ``bytearray``, ``memoryview``, an array of NumPy. ValueError if it has a part of an address at its end.
         """
         view = _flat(packed)

@@ -141,7 +141,7 @@ done:
     return both;
 }
 
-/* ---- lists, each the bytes of structs one behind the other ---- */
+/* ---- lists, each the bytes of structs, one after the other ---- */
 
 /* aggregate(version, rows) */
 static PyObject *aggregate(PyObject *module, PyObject *arguments) {

@@ -32,7 +32,7 @@ class Network(Generic[Address]):
     @property
     def _row(self) -> bytes: ...
     def __init__(self, text: Union[str, bytes]) -> None:
-        """The network that a text names, or that of the packed address of these bytes alone. FormatError, AddressError or
+        """The network that a text names, or that of one address, given as its packed bytes. FormatError, AddressError or
         PrefixError, the first that holds."""
     def __getitem__(self, index: SupportsIndex) -> Address:
         """The member of this number in order, counted from 0, or from the end where it is negative."""
