@@ -1,5 +1,6 @@
-//! Columns of addresses, and of networks of either family, printed in Arrow's layout. C has these rows in another form
-//! than Rust, so that they are copied, a part of the column at a time, since no call here allocates.
+//! Columns of addresses, and of networks of either family, printed in Arrow's layout. Rust's types for these rows are
+//! laid out otherwise than the structs of C, so the rows are copied into structs on the stack, a part of the column at a
+//! time.
 
 use crate::{IpNetwork, SHORT_BUFFER, answered, c};
 use core::net::IpAddr;
@@ -18,8 +19,8 @@ const LONGEST_ADDRESS: usize = 39;
 
 impl IpNetwork {
     /// Prints a column of networks of either family in Arrow's layout: the texts in the front of `texts`, one after the
-    /// other, and the offsets of each and of the end in the front of `offsets`. Returns how many bytes the texts have, of
-    /// which a network has at most 43.
+    /// other, and the offsets of each and of the end in the front of `offsets`. Returns how many bytes the texts have:
+    /// at most 43 for each network.
     ///
     /// # Errors
     ///
@@ -55,8 +56,8 @@ impl IpNetwork {
 }
 
 /// Prints a column of addresses in Arrow's layout: the texts in the front of `texts`, one after the other, and the
-/// offsets of each and of the end in the front of `offsets`. Returns how many bytes the texts have, of which an address
-/// has at most 39.
+/// offsets of each and of the end in the front of `offsets`. Returns how many bytes the texts have: at most 39 for each
+/// address.
 ///
 /// # Errors
 ///
