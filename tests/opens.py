@@ -1,4 +1,4 @@
-"""Which files of a folder a program opens and closes, in turn, as Linux tells by inotify. `tests/programs` and
+"""Which files of a folder a program opens and closes, in turn, as inotify of Linux reports them. `tests/programs` and
 `tests/filter` use it."""
 
 import ctypes

@@ -1,9 +1,10 @@
 /* IP networks in CIDR notation, IPv4 and IPv6: read from texts, printed, and asked about their sets of addresses.
  *
- * Every call except the two that tell a version returns an ipnetwork_fault: IPNETWORK_OK, which is 0, or why there is no
- * result. Results are written through the last pointers. After a fault nothing has been written, except that after
- * IPNETWORK_SHORT_BUFFER a call that writes a text tells its length, and one that writes blocks their number. A struct
- * that the caller has filled is checked: a prefix length past the width is IPNETWORK_PREFIX, and never trusted.
+ * Every call except the two that tell a version returns an ipnetwork_fault: IPNETWORK_OK, which is 0, or why there is
+ * no result. Results are written through the last pointers. After a fault nothing has been written, except that after
+ * IPNETWORK_SHORT_BUFFER a call with a pointer for the length of texts, or for the number of blocks, has written that.
+ * A struct that the caller has filled is checked: a prefix length past the width is IPNETWORK_PREFIX, and never
+ * trusted.
  *
  * No call allocates or keeps anything. Each may be made from any thread, and from several at once, as long as no
  * other thread writes what it reads or touches what it writes.
@@ -236,9 +237,9 @@ IPNETWORK_CHECKED ipnetwork_fault ipnetwork_v6_prefix_of_mask(const uint8_t mask
 IPNETWORK_CHECKED ipnetwork_fault ipnetwork_v4_size(const ipnetwork_v4 *network, uint64_t *IPNETWORK_ALONE size);
 IPNETWORK_CHECKED ipnetwork_fault ipnetwork_v6_size(const ipnetwork_v6 *network, uint8_t size[IPNETWORK_ALONE 17]);
 
-/* The member number n in order, counted from 0; for IPv6 n is 16 octets, the highest first. Every member has a number, at
- * prefix length 0 too: the last one is 2^32 - 1, or 2^128 - 1. So this is also a host by its number: number 0 is the least
- * member and the last number the greatest. IPNETWORK_NO_MEMBER if n is not below the size. */
+/* The member number n in order, counted from 0; for IPv6 n is 16 octets, the highest first. Every member has a number,
+ * at prefix length 0 too: the last one is 2^32 - 1, or 2^128 - 1. So this is also a host by its number: number 0 is the
+ * least member and the last number the greatest. IPNETWORK_NO_MEMBER if n is not below the size. */
 IPNETWORK_CHECKED ipnetwork_fault ipnetwork_v4_nth(const ipnetwork_v4 *network, uint32_t n,
                                                    uint8_t address[IPNETWORK_ALONE 4]);
 IPNETWORK_CHECKED ipnetwork_fault ipnetwork_v6_nth(const ipnetwork_v6 *network, const uint8_t n[16],
@@ -274,43 +275,44 @@ IPNETWORK_CHECKED_AT(3) ipnetwork_fault ipnetwork_v6_aggregate(ipnetwork_v6 *IPN
                                                                 size_t network_count,
                                                                 size_t *IPNETWORK_ALONE block_count);
 
-/* Whether an address lies in the set of block_count blocks, as a call of aggregate leaves them: *answer is 1 or 0, by one
- * binary search. Of another list 1 is right too, but 0 says nothing: ipnetwork_v4_list_contains and
- * ipnetwork_v6_list_contains take any list. IPNETWORK_PREFIX only if the prefix length of a struct is past the width, which
- * that of no set's is; not every struct is looked at. */
+/* Whether an address lies in the set of block_count blocks, as a call of aggregate leaves them: *answer is 1 or 0, by
+ * one binary search. Of another list 1 is right too, but 0 says nothing: ipnetwork_v4_list_contains and
+ * ipnetwork_v6_list_contains take any list. IPNETWORK_PREFIX only if the prefix length of a struct is past the width,
+ * which that of no set's is; not every struct is looked at. */
 IPNETWORK_CHECKED_AT(3, 4) ipnetwork_fault ipnetwork_v4_set_contains(const ipnetwork_v4 *blocks, size_t block_count,
     const uint8_t address[4], uint8_t *IPNETWORK_ALONE answer);
 IPNETWORK_CHECKED_AT(3, 4) ipnetwork_fault ipnetwork_v6_set_contains(const ipnetwork_v6 *blocks, size_t block_count,
     const uint8_t address[16], uint8_t *IPNETWORK_ALONE answer);
 
-/* A table of network_count networks, in any order, host bits or not, for the next calls: the block of each in the front of
- * blocks, in ascending order, and in the front of places, beside each block, the number of its network, counted from 0. So
- * networks[places[i]] is the network of blocks[i], and what belongs to a network is found by its place. Blocks that are equal
- * come in the order of their networks: of these the next calls find the last one. What comes after the table is not written.
- * IPNETWORK_PREFIX if the prefix length of a network is past the width; else IPNETWORK_SHORT_BUFFER if block_count or
- * place_count, for how many there is room, is less than network_count. */
+/* A table of network_count networks, in any order, host bits or not, for the next calls: the block of each in the front
+ * of blocks, in ascending order, and in the front of places, beside each block, the number of its network, counted from
+ * 0. So networks[places[i]] is the network of blocks[i], and what belongs to a network is found by its place. Blocks
+ * that are equal come in the order of their networks: of these the next calls find the last one. What comes after the
+ * table is not written. IPNETWORK_PREFIX if the prefix length of a network is past the width; else
+ * IPNETWORK_SHORT_BUFFER if block_count or place_count, for how many there is room, is less than network_count. */
 IPNETWORK_CHECKED_FAULT ipnetwork_fault ipnetwork_v4_table_make(const ipnetwork_v4 *networks, size_t network_count,
     ipnetwork_v4 *IPNETWORK_ALONE blocks, size_t block_count, size_t *IPNETWORK_ALONE places, size_t place_count);
 IPNETWORK_CHECKED_FAULT ipnetwork_fault ipnetwork_v6_table_make(const ipnetwork_v6 *networks, size_t network_count,
     ipnetwork_v6 *IPNETWORK_ALONE blocks, size_t block_count, size_t *IPNETWORK_ALONE places, size_t place_count);
 
 /* The longest block that has an address, in a table: block_count blocks without host bits in ascending order, as
- * ipnetwork_v4_compare and ipnetwork_v6_compare order them, of which some may lie in others, as table_make leaves them. *index
- * is its place, by which the caller finds what belongs to it; of equal blocks it is that of the last one. The last block up to
- * the address is found by one binary search; as long as it does not have the address, another one is made among those before
- * it. IPNETWORK_NO_MEMBER if no block has the address. That the list is a table is not checked: of another list the block at
- * *index has the address too, but there may be a longer one, and IPNETWORK_NO_MEMBER says nothing. IPNETWORK_PREFIX only if the
- * prefix length of a struct is past the width; not every struct is looked at. */
+ * ipnetwork_v4_compare and ipnetwork_v6_compare order them, of which some may lie in others, as ipnetwork_v4_table_make
+ * and ipnetwork_v6_table_make leave them. *index is its place, by which the caller finds what belongs to it; of equal
+ * blocks it is that of the last one. The last block up to the address is found by one binary search; as long as it does
+ * not have the address, another one is made among those before it. IPNETWORK_NO_MEMBER if no block has the address.
+ * That the list is a table is not checked: of another list the block at *index has the address too, but there may be a
+ * longer one, and IPNETWORK_NO_MEMBER says nothing. IPNETWORK_PREFIX only if the prefix length of a struct is past the
+ * width; not every struct is looked at. */
 IPNETWORK_CHECKED_AT(3, 4) ipnetwork_fault ipnetwork_v4_table_find(const ipnetwork_v4 *blocks, size_t block_count,
     const uint8_t address[4], size_t *IPNETWORK_ALONE index);
 IPNETWORK_CHECKED_AT(3, 4) ipnetwork_fault ipnetwork_v6_table_find(const ipnetwork_v6 *blocks, size_t block_count,
     const uint8_t address[16], size_t *IPNETWORK_ALONE index);
 
-/* The same of many addresses in one call: indexes[i] and faults[i] are what ipnetwork_v4_table_find or ipnetwork_v6_table_find
- * leaves and returns of the address number i, so that an address without a block leaves its index as it was, and stops nothing.
- * There are address_count addresses, of 4 or 16 octets each, one after the other. What comes after the last of the indexes and
- * faults is not written. IPNETWORK_SHORT_BUFFER if index_count or fault_count, for how many there is room, is less than
- * address_count: then nothing is written. */
+/* The same of many addresses in one call: indexes[i] and faults[i] are what ipnetwork_v4_table_find or
+ * ipnetwork_v6_table_find leaves and returns of the address number i, so that an address without a block leaves its
+ * index as it was, and stops nothing. There are address_count addresses, of 4 or 16 octets each, one after the other.
+ * What comes after the last of the indexes and faults is not written. IPNETWORK_SHORT_BUFFER if index_count or
+ * fault_count, for how many there is room, is less than address_count: then nothing is written. */
 IPNETWORK_CHECKED_FAULT ipnetwork_fault ipnetwork_v4_table_find_column(const ipnetwork_v4 *blocks, size_t block_count,
     const uint8_t *addresses, size_t address_count, size_t *IPNETWORK_ALONE indexes, size_t index_count,
     uint8_t *IPNETWORK_ALONE faults, size_t fault_count);
@@ -320,11 +322,12 @@ IPNETWORK_CHECKED_FAULT ipnetwork_fault ipnetwork_v6_table_find_column(const ipn
 
 /* The union of two sets, what both have (intersection), and what the first has and the second has not (difference): the
  * fewest blocks with these addresses, in ascending order and without host bits, in the front of blocks, an array of the
- * caller's with room for room of them. Each set is given as its blocks, as a call of aggregate, or one of these calls, leaves
- * them; that it is one is checked. *block_count is how many blocks there are: of a union at most first_count + second_count,
- * of a difference maybe more. IPNETWORK_SHORT_BUFFER if that is more than room: then *block_count is written all the same, and
- * blocks is not. If room is 0, blocks may be NULL. IPNETWORK_PREFIX if the prefix length of a struct is past the width, else
- * IPNETWORK_NO_SET if one of the lists is not that of a set. Both sets may be one array; blocks is another. */
+ * caller's with room for room of them. Each set is given as its blocks, as a call of aggregate, or one of these calls,
+ * leaves them; that it is one is checked. *block_count is how many blocks there are: of a union at most first_count +
+ * second_count, of a difference maybe more. IPNETWORK_SHORT_BUFFER if that is more than room: then *block_count is
+ * written all the same, and blocks is not. If room is 0, blocks may be NULL. IPNETWORK_PREFIX if the prefix length of a
+ * struct is past the width, else IPNETWORK_NO_SET if one of the lists is not that of a set. Both sets may be one array;
+ * blocks is another. */
 IPNETWORK_CHECKED_AT(7) ipnetwork_fault ipnetwork_v4_union(const ipnetwork_v4 *first, size_t first_count,
     const ipnetwork_v4 *second, size_t second_count, ipnetwork_v4 *IPNETWORK_ALONE blocks, size_t room,
     size_t *IPNETWORK_ALONE block_count);
@@ -346,16 +349,16 @@ IPNETWORK_CHECKED_AT(7) ipnetwork_fault ipnetwork_v6_difference(const ipnetwork_
 
 /* The blocks whose addresses are those from first to last, both included: the fewest that there are, in ascending order
  * and without host bits, in the front of blocks, an array of the caller's with room for room of them. There are at most
- * 62 for IPv4, and 254 for IPv6. *block_count is how many they are. IPNETWORK_SHORT_BUFFER if that is more than room: then
- * *block_count is written all the same, and blocks is not. If room is 0, blocks may be NULL. IPNETWORK_NO_RANGE if first
- * comes after last. */
+ * 62 for IPv4, and 254 for IPv6. *block_count is how many they are. IPNETWORK_SHORT_BUFFER if that is more than room:
+ * then *block_count is written all the same, and blocks is not. If room is 0, blocks may be NULL. IPNETWORK_NO_RANGE if
+ * first comes after last. */
 IPNETWORK_CHECKED_AT(1, 2, 5) ipnetwork_fault ipnetwork_v4_range_to_blocks(const uint8_t first[4], const uint8_t last[4],
     ipnetwork_v4 *IPNETWORK_ALONE blocks, size_t room, size_t *IPNETWORK_ALONE block_count);
 IPNETWORK_CHECKED_AT(1, 2, 5) ipnetwork_fault ipnetwork_v6_range_to_blocks(const uint8_t first[16],
     const uint8_t last[16], ipnetwork_v6 *IPNETWORK_ALONE blocks, size_t room, size_t *IPNETWORK_ALONE block_count);
 
-/* The block number n of this prefix length within a network, counted from 0 in ascending order; for IPv6 n is 16 octets,
- * the highest first. IPNETWORK_PREFIX if the prefix length is less than the network's, or past the width;
+/* The block number n of this prefix length within a network, counted from 0 in ascending order; for IPv6 n is 16
+ * octets, the highest first. IPNETWORK_PREFIX if the prefix length is less than the network's, or past the width;
  * IPNETWORK_NO_MEMBER if the network has no more than n such blocks. */
 IPNETWORK_CHECKED ipnetwork_fault ipnetwork_v4_subnet_at(const ipnetwork_v4 *network, uint8_t prefix, uint32_t n,
                                                          ipnetwork_v4 *IPNETWORK_ALONE subnet);
@@ -382,13 +385,13 @@ IPNETWORK_CHECKED_FAULT ipnetwork_fault ipnetwork_address_read_column(const char
     size_t offset_count, ipnetwork_address *IPNETWORK_ALONE addresses, size_t address_count, uint8_t *IPNETWORK_ALONE faults,
     size_t fault_count);
 
-/* The networks of a column printed in the same layout: the texts, as the call for one network prints each, without a zero
- * byte, one after the other in the front of texts, for which there is room for room bytes, and the offsets of each and of
- * the end, so that there is one offset more than networks. *texts_length is how many bytes they have. What comes after
- * the texts and after the last offset is not written. IPNETWORK_PREFIX if the prefix length of one is past the width.
- * IPNETWORK_SHORT_BUFFER if that is more than room, if offset_count, for how many offsets there is room, is not greater than
- * network_count, or if the texts have more than 2147483647 bytes, which is past Arrow's offsets: then *texts_length is
- * written all the same, and nothing else. */
+/* The networks of a column printed in the same layout: the texts, as the call for one network prints each, without a
+ * zero byte, one after the other in the front of texts, for which there is room for room bytes, and the offsets of each
+ * and of the end, so that there is one offset more than networks. *texts_length is how many bytes they have. What comes
+ * after the texts and after the last offset is not written. IPNETWORK_PREFIX if the prefix length of one is past the
+ * width. IPNETWORK_SHORT_BUFFER if that is more than room, if offset_count, for how many offsets there is room, is not
+ * greater than network_count, or if the texts have more than 2147483647 bytes, which is past Arrow's offsets: then
+ * *texts_length is written all the same, and nothing else. */
 IPNETWORK_CHECKED_AT(7) ipnetwork_fault ipnetwork_v4_print_column(const ipnetwork_v4 *networks, size_t network_count,
     char *IPNETWORK_ALONE texts, size_t room, uint32_t *IPNETWORK_ALONE offsets, size_t offset_count,
     size_t *IPNETWORK_ALONE texts_length);
@@ -396,9 +399,9 @@ IPNETWORK_CHECKED_AT(7) ipnetwork_fault ipnetwork_v6_print_column(const ipnetwor
     char *IPNETWORK_ALONE texts, size_t room, uint32_t *IPNETWORK_ALONE offsets, size_t offset_count,
     size_t *IPNETWORK_ALONE texts_length);
 
-/* The same of networks of either family, as ipnetwork_canonical prints each, and of addresses, as ipnetwork_address_canonical
- * does. If a row is refused by that call, the fault is that of the first such row, IPNETWORK_NO_FAMILY or IPNETWORK_PREFIX, and
- * nothing is written. */
+/* The same of networks of either family, as ipnetwork_canonical prints each, and of addresses, as
+ * ipnetwork_address_canonical does. If a row is refused by that call, the fault is that of the first such row,
+ * IPNETWORK_NO_FAMILY or IPNETWORK_PREFIX, and nothing is written. */
 IPNETWORK_CHECKED_AT(7) ipnetwork_fault ipnetwork_print_column(const ipnetwork_ip *networks, size_t network_count,
     char *IPNETWORK_ALONE texts, size_t room, uint32_t *IPNETWORK_ALONE offsets, size_t offset_count,
     size_t *IPNETWORK_ALONE texts_length);

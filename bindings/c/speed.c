@@ -1,7 +1,7 @@
-/* Nanoseconds a call of read and contains, of both families, beside inet_pton and its address alone, and nanoseconds a
- * row of a column. The texts are random networks with random prefix lengths; the address asked for lies in the network
- * every other time. Searches in a set and in a table of 10,000 random networks are measured beside a plain binary search in
- * C over the same array. */
+/* Nanoseconds a call of read and contains, of both families, beside inet_pton, which reads only an address, and
+ * nanoseconds a row of a column. The texts are random networks with random prefix lengths; the address asked for lies
+ * in the network every other time. Searches in a set and in a table of 10,000 random networks are measured beside a
+ * plain binary search in C over the same array. */
 #define _POSIX_C_SOURCE 200809L
 #include "ipnetwork.h"
 
@@ -84,7 +84,8 @@ static uint64_t column_v6(size_t i) {
 static uint64_t pton_v4(size_t i) { return (uint64_t)inet_pton(AF_INET, addresses_v4[i], octets) + octets[0]; }
 static uint64_t pton_v6(size_t i) { return (uint64_t)inet_pton(AF_INET6, addresses_v6[i], octets) + octets[0]; }
 
-/* A set of random networks of 20 to 28 bits, and the table of them, asked for addresses of which every other one lies in one. */
+/* A set of random networks of 20 to 28 bits, and the table of them, asked for addresses of which every other one lies
+ * in one. */
 enum { MANY = 10000 };
 static ipnetwork_v4 many[MANY], set_blocks[MANY], table_blocks[MANY];
 static size_t set_count, places[MANY], indexes[COUNT];
@@ -147,7 +148,8 @@ struct row {
     uint64_t (*call)(size_t);
 };
 
-/* The least of several measurements of each row, which take turns, so that what else the machine does meets all of them. */
+/* The least of several measurements of each row, which take turns, so that what else the machine does meets all of
+ * them. */
 static void measure(const struct row *rows, size_t count) {
     double least[4] = {1e300, 1e300, 1e300, 1e300};
     for (int try = 0; try < TRIES; try++) {

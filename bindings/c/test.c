@@ -804,7 +804,9 @@ static void tables_made(void) {
         for (size_t i = 0; i < sizeof faults; i++) CHECK("written", faults[i] == 77);
         CHECK("column", ipnetwork_v4_table_find_column(fours, count, addresses[0], 256, indexes, 257, faults, 257) == YES);
         CHECK("column", ipnetwork_v6_table_find_column(sixes, count, addresses_six[0], 256, indexes_six, 257, faults_six, 257) == YES);
-        CHECK("past", faults[256] == 77 && faults_six[256] == 77 && memcmp(&indexes[256], &indexes_six[256], sizeof *indexes) == 0);
+        CHECK("past", faults[256] == 77 && faults_six[256] == 77);
+        for (size_t i = 256 * sizeof *indexes; i < 257 * sizeof *indexes; i++)
+            CHECK("past", ((uint8_t *)indexes)[i] == 77 && ((uint8_t *)indexes_six)[i] == 77);
         for (unsigned host = 0; host < 256; host++) {
             size_t wanted = count, alone = 77;
             for (size_t i = 0; i < count; i++) {

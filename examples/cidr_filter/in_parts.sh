@@ -4,8 +4,8 @@
 #
 # usage: examples/cidr_filter/in_parts.sh OPTION .. < LOG > SELECTED      the options are those of cidr_filter
 #
-# The status is 0 unless a part failed. With `-c` each part prints a number. Refused lines are reported with their number in
-# their part. Without GNU parallel, the parts are filtered one after the other.
+# The status is 0 unless a part failed. With `-c` each part prints a number. Refused lines are reported with their number
+# in their part. Without GNU parallel, the parts are filtered one after the other.
 set -eu -o pipefail
 program=$(cd "$(dirname "$0")/../.." && pwd)/crates/cidr_filter/out/cidr_filter
 # A part of which no line is selected has status 1.

@@ -6,8 +6,8 @@
 #
 # With `--sshlogin ONE,TWO` the parts go to these machines, which need the program at the same path. Without GNU
 # parallel, the parts are merged one after the other; the options do nothing then. If a line is refused, nothing is
-# printed, and the status is 2; it is reported with its number in its part, and other parts may go unread. The merges of the
-# parts wait in a file of the folder TMPDIR, or else /tmp.
+# printed, and the status is 2; it is reported with its number in its part, and other parts may go unread. The merges of
+# the parts wait in a file of the folder TMPDIR, or else /tmp.
 set -eu -o pipefail
 program=$(cd "$(dirname "$0")/../.." && pwd)/crates/cidr_merge/out/cidr_merge
 parts=$(mktemp)
