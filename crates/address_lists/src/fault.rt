@@ -21,7 +21,7 @@ pub enum LineFault {
 }
 
 impl LineFault {
-    /// The fault in one word: `format`, `address`, `prefix`, `range` or `length`. Does not allocate.
+    /// The fault in one word: `format`, `address`, `prefix`, `range` or `length`.
     ///
     /// ```
     /// assert_eq!(rt; LineFault::Entry(EntryFault::Prefix).text(), "prefix");

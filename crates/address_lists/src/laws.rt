@@ -23,8 +23,9 @@ pub fn merges_of_parts_merge()
     of_the_union();
 }
 
-/// A list that was printed, each network in its canonical text with a line feed, names the addresses of its networks and
-/// no others, if no line has more than 1,024 bytes (no such text has more than 43, which is a clause of `canonical`).
+/// A list that was printed, each network in its canonical text with a line feed, names the addresses of its networks
+/// and no others, if no line has more than 1,024 bytes (no such text has more than 43, which is a clause of
+/// `canonical`).
 pub fn printed_lists_name_their_networks()
     ensures { PrintedListsNameTheirNetworks }
 {

@@ -40,7 +40,7 @@ pub struct ListReader {
 }
 
 impl ListReader {
-    /// A reader that has read no list yet. `refusals` has the lines that were refused before. Does not allocate.
+    /// A reader that has read no list yet. `refusals` has the lines that were refused before.
     ///
     /// ```
     /// let lists = ListReader::new(rt.alloc(), Refusals::new());
@@ -81,7 +81,7 @@ impl ListReader {
         self.is_out_of_memory
     }
 
-    /// The addresses of the networks of each family, and the refused lines. Does not allocate.
+    /// The addresses of the networks of each family, and the refused lines.
     ///
     /// ```
     /// let mut lists = ListReader::new(rt.alloc(), Refusals::new());
@@ -98,7 +98,7 @@ impl ListReader {
         (self.v4.into_set(), self.v6.into_set(), self.refusals)
     }
 
-    /// The networks of each family in the order in which they were read, and the refused lines. Does not allocate.
+    /// The networks of each family in the order in which they were read, and the refused lines.
     ///
     /// A range is given as the fewest blocks that have its addresses.
     ///

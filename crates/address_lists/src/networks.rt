@@ -25,7 +25,7 @@ impl<N: AddressSpace> Model for Networks<N> {
 }
 
 impl<N: AddressSpace> Networks<N> {
-    /// None. Does not allocate.
+    /// None.
     pub(crate) fn new(alloc: Global) -> Networks<N>
         ensures { result ≡ [] }
     {
@@ -59,14 +59,14 @@ impl<N: AddressSpace> Networks<N> {
         Ok(())
     }
 
-    /// The networks, in their order. Does not allocate.
+    /// The networks, in their order.
     pub(crate) fn into_vec(self) -> Vec<N>
         ensures { map N.pair result.items ≡ self }
     {
         self.networks
     }
 
-    /// The set of their addresses. Keeps their memory, and does not allocate.
+    /// The set of their addresses. Keeps their memory.
     pub(crate) fn into_set(self) -> AddressSet<N>
         ensures { IsAggregate N.WIDTH self result }
     {

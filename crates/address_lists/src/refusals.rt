@@ -71,7 +71,7 @@ impl Model for Refusals {
 }
 
 impl Refusals {
-    /// No refused lines. Does not allocate.
+    /// No refused lines.
     ///
     /// ```
     /// let refusals = Refusals::new();
@@ -87,7 +87,7 @@ impl Refusals {
         }
     }
 
-    /// Adds a refused line. Does not allocate.
+    /// Adds a refused line.
     pub(crate) fn add(&mut self, refusal: Refusal)
         ensures { self.new ≡ with_refusal self.old refusal }
     {

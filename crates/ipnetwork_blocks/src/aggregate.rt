@@ -14,7 +14,7 @@ use ipnetwork_family::CidrNetwork;
 /// blocks it has: the blocks of the networks' union that lie in no larger block of it, in ascending order. No list of
 /// networks with the same union is shorter (`laws::least`). The rest of the slice holds unspecified networks.
 ///
-/// Sorts the slice and goes over it once. Does not allocate.
+/// Sorts the slice and goes over it once.
 ///
 /// ```
 /// let mut networks: [Ipv4Network; 2] = ["10.0.0.128/25".parse()?, "10.0.0.0/25".parse()?];
@@ -29,7 +29,7 @@ pub fn aggregate_in_place<N: CidrNetwork>(networks: &mut [N]) -> usize
 }
 
 /// Replaces the networks by their aggregate: the blocks that `aggregate_in_place` puts at the front, and nothing after
-/// them. Does not allocate, and frees no memory.
+/// them. Frees no memory.
 ///
 /// ```
 /// let mut networks = vec![in rt.alloc(); "10.128.0.0/9".parse::<Ipv4Network>()?, "10.0.0.0/9".parse()?]?;
@@ -47,7 +47,7 @@ pub fn aggregate_vec<N: CidrNetwork>(networks: &mut Vec<N>)
 /// that hold the aggregate, at the front of the slice, and returns how many these are. Each value must hold a network
 /// of the family of `N`. The rest of the slice holds unspecified networks.
 ///
-/// Sorts the slice and goes over it once. Does not allocate.
+/// Sorts the slice and goes over it once.
 ///
 /// ```
 /// let mut values: [Ipv6Network; 2] = ["2001:db8:8000::/33".parse()?, "2001:db8::/33".parse()?];

@@ -12,7 +12,7 @@ use ipnetwork::{IpNetwork, Ipv4Network, Ipv6Network};
 /// of the slice, and returns how many blocks these are: for each family what `aggregate_in_place` makes of its
 /// networks. The rest of the slice holds unspecified networks.
 ///
-/// Sorts each family and goes over it once. Does not allocate.
+/// Sorts each family and goes over it once.
 ///
 /// ```
 /// let mut networks: [IpNetwork; 3] = ["2001:db8::/32".parse()?, "10.128.0.0/9".parse()?, "10.0.0.0/9".parse()?];
@@ -32,7 +32,7 @@ pub fn aggregate_ip_in_place(networks: &mut [IpNetwork]) -> usize
 }
 
 /// Replaces the networks by the aggregate of the IPv4 networks and, after it, that of the IPv6 networks: the blocks
-/// that `aggregate_ip_in_place` puts at the front, and nothing after them. Does not allocate, and frees no memory.
+/// that `aggregate_ip_in_place` puts at the front, and nothing after them. Frees no memory.
 ///
 /// ```
 /// let mut networks = vec![in rt.alloc(); "2001:db8::/32".parse::<IpNetwork>()?, "10.0.0.0/8".parse()?]?;

@@ -40,7 +40,7 @@ impl<N: AddressSpace> Model for Exclusion<N> {
 ///
 /// If `inner` has all addresses of `network`, there is no block, and if it has none of them, the only one is the block
 /// of `network`. Otherwise `inner` lies within the network, and there is one block for each bit by which its prefix
-/// length is greater. Does not allocate, nor does the iterator.
+/// length is greater.
 ///
 /// ```
 /// let network: Ipv4Network = "10.0.0.0/30".parse()?;

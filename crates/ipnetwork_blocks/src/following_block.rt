@@ -6,7 +6,7 @@ ghost use Rattle.ipnetwork_blocks.specs.FollowingBlock.{following_block};
 use crate::address_space::AddressSpace;
 
 /// The block of the same prefix length that begins right after the greatest member of the network; `None` if that
-/// member is the last address of the family. Does not allocate.
+/// member is the last address of the family.
 ///
 /// ```
 /// let network: Ipv4Network = "192.0.2.128/25".parse()?;

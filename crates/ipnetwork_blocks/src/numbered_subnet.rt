@@ -5,9 +5,9 @@ ghost use Rattle.ipnetwork_blocks.specs.Subnets.{subnet_number};
 use crate::address_space::AddressSpace;
 
 /// The block number `number` of this prefix length within the network: the one that [`subnets`](crate::subnets) yields
-/// after `number` others. `None` for a prefix length that is shorter than the network's or greater than `WIDTH`, and for
-/// a number that is not below 2^(`prefix` - n), where n is the network's own prefix length. Does not allocate, and
-/// takes the same few steps for each number.
+/// after `number` others. `None` for a prefix length that is shorter than the network's or greater than `WIDTH`, and
+/// for a number that is not below 2^(`prefix` - n), where n is the network's own prefix length. Takes the same
+/// few steps for each number.
 ///
 /// ```
 /// let network: Ipv4Network = "10.0.0.0/8".parse()?;

@@ -40,8 +40,8 @@ impl<N: AddressSpace> Model for RangeBlocks<N> {
 /// The blocks whose addresses are those from `first` to `last`, both included: the fewest possible, in ascending order.
 /// `None` if `first` comes after `last`.
 ///
-/// For addresses of W bits there are at most 2 W - 2 blocks: 62 for IPv4 and 254 for IPv6. The whole address
-/// space is one block, of prefix length 0. Does not allocate, nor does the iterator.
+/// For addresses of W bits there are at most 2 W - 2 blocks: 62 for IPv4 and 254 for IPv6. The whole address space is
+/// one block, of prefix length 0.
 ///
 /// ```
 /// let (first, last) = ("2001:db8::".parse()?, "2001:db8::1:ffff".parse()?);
@@ -140,8 +140,8 @@ fn ends_behind<N: AddressSpace>(network: N, address: N::Addr) -> bool
 }
 
 // The widest block that begins at `first` and ends at `last` or before. If `first` ends with fewer zeros than there are
-// bits after those that it shares with `last`, it is that of the zeros. If not, it is the least block that holds both if
-// that ends with `last`, and its lower half if not.
+// bits after those that it shares with `last`, it is that of the zeros. If not, it is the least block that holds both
+// if that ends with `last`, and its lower half if not.
 fn widest_block<N: AddressSpace>(first: N::Addr, last: N::Addr) -> N
     requires { N.number first ≤ N.number last }
     ensures begins { (N.pair result).address ≡ N.number first }

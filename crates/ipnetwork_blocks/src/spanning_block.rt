@@ -6,7 +6,7 @@ use crate::address_space::AddressSpace;
 use crate::supernets::block;
 
 /// The smallest block that has all members of each of the networks: it lies in every other network that has them.
-/// `None` if there are no networks. Does not allocate.
+/// `None` if there are no networks.
 ///
 /// ```
 /// let networks: [Ipv4Network; 2] = ["10.0.1.0/24".parse()?, "10.0.2.128/25".parse()?];

@@ -37,7 +37,7 @@ impl<N: AddressSpace> Model for SubnetIterator<N> {
 
 /// The blocks of this prefix length within the network, each once, in ascending order: 2^(`prefix` - n) of them, where
 /// n is the network's own prefix length. If `prefix` is n, that is only the network's own block. `None` for a prefix
-/// length that is shorter than the network's or greater than `WIDTH`. Does not allocate.
+/// length that is shorter than the network's or greater than `WIDTH`.
 ///
 /// ```
 /// let network: Ipv4Network = "10.0.0.0/8".parse()?;

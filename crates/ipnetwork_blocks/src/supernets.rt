@@ -5,7 +5,7 @@ ghost use Rattle.ipnetwork_blocks.specs.Supernets.{IsAround, IsSibling};
 
 use ipnetwork_family::CidrNetwork;
 
-/// The network without host bits that has the same members and the same prefix length. Does not allocate.
+/// The network without host bits that has the same members and the same prefix length.
 ///
 /// ```
 /// let network: Ipv4Network = "192.0.2.129/25".parse()?;
@@ -23,7 +23,7 @@ pub fn block<N: CidrNetwork>(network: N) -> N
 }
 
 /// The block of this prefix length around the network: it has no host bits, and holds each member. At the network's own
-/// prefix length that is its `block`; `None` if the prefix length is longer. Does not allocate.
+/// prefix length that is its `block`; `None` if the prefix length is longer.
 ///
 /// ```
 /// let network: Ipv4Network = "192.0.2.129/25".parse()?;
@@ -40,8 +40,8 @@ pub fn supernet<N: CidrNetwork>(network: N, prefix: u8) -> Option<N>
     N::block(network.ip(), prefix)
 }
 
-/// The other half of the block that is one bit shorter: it has no host bits and the same prefix length. `None`
-/// at prefix length 0, where there is no wider block. Does not allocate.
+/// The other half of the block that is one bit shorter: it has no host bits and the same prefix length. `None` at
+/// prefix length 0, where there is no wider block.
 ///
 /// ```
 /// let network: Ipv4Network = "192.0.2.128/25".parse()?;

@@ -61,8 +61,8 @@ pub extern "C" fn ipnetwork_v6_range_to_blocks(
     range::<Ipv6Network, Ipv6InC>(address_of(first), address_of(last), blocks, count)
 }
 
-/// The block number `number` of this prefix length within the network, counted from 0 in ascending order. `PREFIX` if the
-/// network's prefix length is greater than 32, or if this one is, or is less than the network's; `NO_MEMBER` if the
+/// The block number `number` of this prefix length within the network, counted from 0 in ascending order. `PREFIX` if
+/// the network's prefix length is greater than 32, or if this one is, or is less than the network's; `NO_MEMBER` if the
 /// network has no more than `number` such blocks.
 #[unsafe(no_mangle)]
 pub extern "C" fn ipnetwork_v4_subnet_at(

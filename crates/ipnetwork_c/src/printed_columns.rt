@@ -1,5 +1,5 @@
-//! Columns of networks and addresses printed in one call, in the layout of Arrow: the bytes of all texts, one after the other, and the
-//! offsets at which each begins and the last ends.
+//! Columns of networks and addresses printed in one call, in the layout of Arrow: the bytes of all texts, one after the
+//! other, and the offsets at which each begins and the last ends.
 ghost use Rattle.std.specs.Prelude.{◌≡◌, ◌≢◌, ℕ, Some, ◌+◌, ◌^◌, ◌<◌, ◌≤◌, ◌++◌, length as len, take, drop, flat_map, slice_get};
 ghost use Rattle.std.specs.List.{All};
 ghost use Rattle.ipnetwork_c.specs.PrintedColumns.{PrintsRows, PrintsColumn, v4_fits, v4_refused, v4_text, v6_fits, v6_refused, v6_text, ip_fits, ip_text, address_fits, address_refused, address_text};
@@ -226,8 +226,8 @@ pub extern "C" fn ipnetwork_v6_print_column(
     print_rows(networks, texts, offsets, length)
 }
 
-/// The same of networks of either family, as `ipnetwork_canonical` prints them. If one is refused, the fault is that of the
-/// first: `NO_FAMILY` if the struct tells neither family, else `PREFIX`.
+/// The same of networks of either family, as `ipnetwork_canonical` prints them. If one is refused, the fault is that of
+/// the first: `NO_FAMILY` if the struct tells neither family, else `PREFIX`.
 #[unsafe(no_mangle)]
 pub extern "C" fn ipnetwork_print_column(
     networks: &[IpInC],

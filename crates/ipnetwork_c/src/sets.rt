@@ -1,4 +1,5 @@
-//! Lists that are those of sets: the maximal blocks of their union, in ascending order, as `aggregate_held` leaves them.
+//! Lists that are those of sets: the maximal blocks of their union, in ascending order, as `aggregate_held` leaves
+//! them.
 ghost use Rattle.std.specs.Prelude.{◌↔◌, ◌≤◌, IsTrue, MatchOption, map, length};
 ghost use Rattle.std.specs.List.{All, AllPairs};
 ghost use Rattle.ipnetwork_c.specs.Lists.{FindsIn};

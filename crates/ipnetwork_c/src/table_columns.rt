@@ -7,8 +7,8 @@ use crate::structs::{Ipv4InC, Ipv6InC};
 use crate::tables::{ipnetwork_v4_table_find, ipnetwork_v6_table_find};
 
 /// For each of these addresses the index of the longest block of a table that has it: index i and fault i are what
-/// `ipnetwork_v4_table_find` leaves and returns of address i, so that an address without a block stops nothing. What comes
-/// after them stays as it is. `SHORT_BUFFER` if there are fewer indexes or faults than addresses.
+/// `ipnetwork_v4_table_find` leaves and returns of address i, so that an address without a block stops nothing. What
+/// comes after them stays as it is. `SHORT_BUFFER` if there are fewer indexes or faults than addresses.
 #[unsafe(no_mangle)]
 pub extern "C" fn ipnetwork_v4_table_find_column(
     blocks: &[Ipv4InC],

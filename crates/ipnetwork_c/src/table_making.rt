@@ -15,10 +15,11 @@ use ipnetwork::{Ipv4Network, Ipv6Network};
 use ipnetwork_blocks::AddressSpace;
 use std::cmp::Ordering;
 
-/// Makes a table of networks in any order, host bits or not: their blocks in ascending order to the front of `blocks`, and
-/// to the front of `places` the index in `networks` of each. Blocks that are equal come in the order of their networks, so
-/// that `ipnetwork_v4_table_find` finds that of the last one. What comes after them stays as it is. `PREFIX` if the prefix
-/// length of a network is greater than 32, else `SHORT_BUFFER` if there is room for fewer blocks or places than networks.
+/// Makes a table of networks in any order, host bits or not: their blocks in ascending order to the front of `blocks`,
+/// and to the front of `places` the index in `networks` of each. Blocks that are equal come in the order of their
+/// networks, so that `ipnetwork_v4_table_find` finds that of the last one. What comes after them stays as it is.
+/// `PREFIX` if the prefix length of a network is greater than 32, else `SHORT_BUFFER` if there is room for fewer blocks
+/// or places than networks.
 #[unsafe(no_mangle)]
 pub extern "C" fn ipnetwork_v4_table_make(
     networks: &[Ipv4InC],

@@ -32,8 +32,8 @@ impl Operation {
     }
 }
 
-/// Puts the blocks of the addresses that the operation keeps into the front of the list, as far as there is room. Returns
-/// how many there are, and 2^128 - 1 if there are more.
+/// Puts the blocks of the addresses that the operation keeps into the front of the list, as far as there is room.
+/// Returns how many there are, and 2^128 - 1 if there are more.
 pub(crate) fn put_kept<N: AddressSpace, H: Listed<N>>(
     operation: Operation,
     first: &[H],

@@ -12,7 +12,8 @@ impl IpAddressSet {
     /// is dropped first. `AllocError` means that one of them had to grow and memory ran out.
     ///
     /// ```
-    /// let set = IpAddressSet::from_lists(vec![in rt.alloc(); "192.0.2.0/25".parse::<Ipv4Network>()?]?, Vec::new(rt.alloc()));
+    /// let v4 = vec![in rt.alloc(); "192.0.2.0/25".parse::<Ipv4Network>()?]?;
+    /// let set = IpAddressSet::from_lists(v4, Vec::new(rt.alloc()));
     /// assert!(rt; set.copied(Vec::new(rt.alloc()), Vec::new(rt.alloc()))? == set);
     /// ```
     pub fn copied(
@@ -31,7 +32,8 @@ impl<'a> IpBlocks<Blocks<'a, Ipv4Network>, Blocks<'a, Ipv6Network>> {
     /// content is dropped first. `AllocError` means that one of them had to grow and memory ran out.
     ///
     /// ```
-    /// let set = IpAddressSet::from_lists(vec![in rt.alloc(); "192.0.2.0/25".parse::<Ipv4Network>()?]?, Vec::new(rt.alloc()));
+    /// let v4 = vec![in rt.alloc(); "192.0.2.0/25".parse::<Ipv4Network>()?]?;
+    /// let set = IpAddressSet::from_lists(v4, Vec::new(rt.alloc()));
     /// let blocks = set.iter();
     /// assert!(rt; blocks.into_set(Vec::new(rt.alloc()), Vec::new(rt.alloc()))? == set);
     /// ```
@@ -53,7 +55,8 @@ impl<'a> IpBlocks<Intersection<'a, Ipv4Network>, Intersection<'a, Ipv6Network>> 
     /// content is dropped first. `AllocError` means that one of them had to grow and memory ran out.
     ///
     /// ```
-    /// let set = IpAddressSet::from_lists(vec![in rt.alloc(); "192.0.2.0/25".parse::<Ipv4Network>()?]?, Vec::new(rt.alloc()));
+    /// let v4 = vec![in rt.alloc(); "192.0.2.0/25".parse::<Ipv4Network>()?]?;
+    /// let set = IpAddressSet::from_lists(v4, Vec::new(rt.alloc()));
     /// let common = set.intersection(&set).into_set(Vec::new(rt.alloc()), Vec::new(rt.alloc()))?;
     /// assert!(rt; common == set);
     /// ```
@@ -75,7 +78,8 @@ impl<'a> IpBlocks<Difference<'a, Ipv4Network>, Difference<'a, Ipv6Network>> {
     /// content is dropped first. `AllocError` means that one of them had to grow and memory ran out.
     ///
     /// ```
-    /// let set = IpAddressSet::from_lists(vec![in rt.alloc(); "192.0.2.0/25".parse::<Ipv4Network>()?]?, Vec::new(rt.alloc()));
+    /// let v4 = vec![in rt.alloc(); "192.0.2.0/25".parse::<Ipv4Network>()?]?;
+    /// let set = IpAddressSet::from_lists(v4, Vec::new(rt.alloc()));
     /// let rest = set.difference(&set).into_set(Vec::new(rt.alloc()), Vec::new(rt.alloc()))?;
     /// assert!(rt; rest.is_empty());
     /// ```
@@ -97,7 +101,8 @@ impl<'a> IpBlocks<Union<'a, Ipv4Network>, Union<'a, Ipv6Network>> {
     /// content is dropped first. `AllocError` means that one of them had to grow and memory ran out.
     ///
     /// ```
-    /// let set = IpAddressSet::from_lists(vec![in rt.alloc(); "192.0.2.0/25".parse::<Ipv4Network>()?]?, Vec::new(rt.alloc()));
+    /// let v4 = vec![in rt.alloc(); "192.0.2.0/25".parse::<Ipv4Network>()?]?;
+    /// let set = IpAddressSet::from_lists(v4, Vec::new(rt.alloc()));
     /// let both = set.union_blocks(&set).into_set(Vec::new(rt.alloc()), Vec::new(rt.alloc()))?;
     /// assert!(rt; both == set);
     /// ```

@@ -8,8 +8,7 @@ use crate::ip_address_set::IpAddressSet;
 use ipnetwork_sets::AddressCount;
 
 impl IpAddressSet {
-    /// How many IPv4 addresses there are in the set, and how many IPv6 addresses. Goes over the blocks once, and does not
-    /// allocate.
+    /// How many IPv4 addresses there are in the set, and how many IPv6 addresses. Goes over the blocks once.
     ///
     /// ```
     /// let v6 = vec![in rt.alloc(); "::/0".parse::<Ipv6Network>()?]?;

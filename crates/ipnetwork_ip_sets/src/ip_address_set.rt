@@ -70,7 +70,7 @@ impl IpAddressSet {
 
     /// The set of the addresses of the networks of both lists, which may have host bits and stand in any order.
     ///
-    /// Sorts each list and goes over it once. Keeps their memory, and does not allocate.
+    /// Sorts each list and goes over it once. Keeps their memory.
     ///
     /// ```
     /// let v4 = vec![in rt.alloc(); "192.0.2.0/25".parse::<Ipv4Network>()?, "192.0.2.128/25".parse()?]?;
@@ -83,7 +83,7 @@ impl IpAddressSet {
         IpAddressSet::from_parts(AddressSet::from_networks(v4), AddressSet::from_networks(v6))
     }
 
-    /// The set of the addresses of both sets. Does not allocate.
+    /// The set of the addresses of both sets.
     ///
     /// ```
     /// let v4 = AddressSet::from_networks(vec![in rt.alloc(); "192.0.2.0/24".parse::<Ipv4Network>()?]?);
@@ -99,7 +99,7 @@ impl IpAddressSet {
         IpAddressSet { v4, v6 }
     }
 
-    /// The set of the IPv4 addresses, and that of the IPv6 addresses. Does not allocate.
+    /// The set of the IPv4 addresses, and that of the IPv6 addresses.
     ///
     /// ```
     /// let v4 = vec![in rt.alloc(); "192.0.2.0/24".parse::<Ipv4Network>()?]?;
@@ -142,7 +142,7 @@ impl IpAddressSet {
         &self.v6
     }
 
-    /// The blocks of IPv4, and after them those of IPv6, each in ascending order. Does not allocate.
+    /// The blocks of IPv4, and after them those of IPv6, each in ascending order.
     ///
     /// ```
     /// let v6 = vec![in rt.alloc(); "::1/128".parse::<Ipv6Network>()?]?;

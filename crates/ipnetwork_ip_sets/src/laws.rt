@@ -51,8 +51,8 @@ pub fn parts()
     sets::parts();
 }
 
-/// A network meets a set exactly if it overlaps one of its blocks; a set is within another exactly if nothing is left of it
-/// without the other; and two sets are disjoint exactly if they have no common part.
+/// A network meets a set exactly if it overlaps one of its blocks; a set is within another exactly if nothing is left
+/// of it without the other; and two sets are disjoint exactly if they have no common part.
 pub fn questions()
     ensures meets { IpNetworkMeetsUnion }
     ensures within { IpWithinIfNothingIsLeft }

@@ -1,4 +1,6 @@
 //! Sets of IP addresses of either family: of each family one set of `ipnetwork_sets`.
+//!
+//! Only the calls that return an `AllocError` allocate: they grow the lists that the caller gives.
 #![tactic(auto)]
 
 mod blocks;

@@ -9,12 +9,13 @@ use ipnetwork_sets::{Difference, Intersection, Union};
 use std::alloc::AllocError;
 
 impl IpAddressSet {
-    /// The blocks of the addresses that are in both sets. Goes over the lists of both once, as the iterator advances,
-    /// and does not allocate.
+    /// The blocks of the addresses that are in both sets. Goes over the lists of both once, as the iterator advances.
     ///
     /// ```
-    /// let set = IpAddressSet::from_lists(vec![in rt.alloc(); "192.0.2.0/25".parse::<Ipv4Network>()?]?, Vec::new(rt.alloc()));
-    /// let other = IpAddressSet::from_lists(vec![in rt.alloc(); "192.0.2.0/26".parse::<Ipv4Network>()?]?, Vec::new(rt.alloc()));
+    /// let v4 = vec![in rt.alloc(); "192.0.2.0/25".parse::<Ipv4Network>()?]?;
+    /// let set = IpAddressSet::from_lists(v4, Vec::new(rt.alloc()));
+    /// let v4 = vec![in rt.alloc(); "192.0.2.0/26".parse::<Ipv4Network>()?]?;
+    /// let other = IpAddressSet::from_lists(v4, Vec::new(rt.alloc()));
     /// assert_eq!(rt; set.intersection(&other).next(), Some("192.0.2.0/26".parse()?));
     /// ```
     pub fn intersection<'a>(
@@ -30,11 +31,13 @@ impl IpAddressSet {
     }
 
     /// The blocks of the addresses that are in this set and not in the other. Goes over the lists of both once, as the
-    /// iterator advances, and does not allocate.
+    /// iterator advances.
     ///
     /// ```
-    /// let set = IpAddressSet::from_lists(vec![in rt.alloc(); "192.0.2.0/25".parse::<Ipv4Network>()?]?, Vec::new(rt.alloc()));
-    /// let other = IpAddressSet::from_lists(vec![in rt.alloc(); "192.0.2.0/26".parse::<Ipv4Network>()?]?, Vec::new(rt.alloc()));
+    /// let v4 = vec![in rt.alloc(); "192.0.2.0/25".parse::<Ipv4Network>()?]?;
+    /// let set = IpAddressSet::from_lists(v4, Vec::new(rt.alloc()));
+    /// let v4 = vec![in rt.alloc(); "192.0.2.0/26".parse::<Ipv4Network>()?]?;
+    /// let other = IpAddressSet::from_lists(v4, Vec::new(rt.alloc()));
     /// assert_eq!(rt; set.difference(&other).next(), Some("192.0.2.64/26".parse()?));
     /// ```
     pub fn difference<'a>(
@@ -50,10 +53,11 @@ impl IpAddressSet {
     }
 
     /// The blocks of all addresses of either family that are not in the set. Goes over both its lists once, as the
-    /// iterator advances, and does not allocate.
+    /// iterator advances.
     ///
     /// ```
-    /// let set = IpAddressSet::from_lists(vec![in rt.alloc(); "0.0.0.0/1".parse::<Ipv4Network>()?]?, Vec::new(rt.alloc()));
+    /// let v4 = vec![in rt.alloc(); "0.0.0.0/1".parse::<Ipv4Network>()?]?;
+    /// let set = IpAddressSet::from_lists(v4, Vec::new(rt.alloc()));
     /// assert!(rt; set.complement().eq(["128.0.0.0/1".parse()?, "::/0".parse()?]));
     /// ```
     pub fn complement(&self) -> IpBlocks<Difference<'_, Ipv4Network>, Difference<'_, Ipv6Network>>
@@ -63,11 +67,13 @@ impl IpAddressSet {
     }
 
     /// The blocks of the addresses that are in one of the two sets or in both. Goes over the lists of both once, as the
-    /// iterator advances, and does not allocate.
+    /// iterator advances.
     ///
     /// ```
-    /// let set = IpAddressSet::from_lists(vec![in rt.alloc(); "192.0.2.0/25".parse::<Ipv4Network>()?]?, Vec::new(rt.alloc()));
-    /// let other = IpAddressSet::from_lists(vec![in rt.alloc(); "192.0.2.128/25".parse::<Ipv4Network>()?]?, Vec::new(rt.alloc()));
+    /// let v4 = vec![in rt.alloc(); "192.0.2.0/25".parse::<Ipv4Network>()?]?;
+    /// let set = IpAddressSet::from_lists(v4, Vec::new(rt.alloc()));
+    /// let v4 = vec![in rt.alloc(); "192.0.2.128/25".parse::<Ipv4Network>()?]?;
+    /// let other = IpAddressSet::from_lists(v4, Vec::new(rt.alloc()));
     /// assert_eq!(rt; set.union_blocks(&other).next(), Some("192.0.2.0/24".parse()?));
     /// ```
     pub fn union_blocks<'a>(
@@ -87,8 +93,10 @@ impl IpAddressSet {
     /// that one of them had to grow and memory ran out.
     ///
     /// ```
-    /// let set = IpAddressSet::from_lists(vec![in rt.alloc(); "192.0.2.0/25".parse::<Ipv4Network>()?]?, Vec::new(rt.alloc()));
-    /// let other = IpAddressSet::from_lists(Vec::new(rt.alloc()), vec![in rt.alloc(); "::1/128".parse::<Ipv6Network>()?]?);
+    /// let v4 = vec![in rt.alloc(); "192.0.2.0/25".parse::<Ipv4Network>()?]?;
+    /// let set = IpAddressSet::from_lists(v4, Vec::new(rt.alloc()));
+    /// let v6 = vec![in rt.alloc(); "::1/128".parse::<Ipv6Network>()?]?;
+    /// let other = IpAddressSet::from_lists(Vec::new(rt.alloc()), v6);
     /// let union = set.union(&other, Vec::new(rt.alloc()), Vec::new(rt.alloc()))?;
     /// assert!(rt; union.iter().eq(["192.0.2.0/25".parse()?, "::1/128".parse()?]));
     /// ```
@@ -103,12 +111,13 @@ impl IpAddressSet {
         self.union_blocks(other).into_set(v4_memory, v6_memory)
     }
 
-    /// Whether each address of this set is in the other. Goes over the lists of both at most once, and does not
-    /// allocate.
+    /// Whether each address of this set is in the other. Goes over the lists of both at most once.
     ///
     /// ```
-    /// let set = IpAddressSet::from_lists(vec![in rt.alloc(); "192.0.2.0/25".parse::<Ipv4Network>()?]?, Vec::new(rt.alloc()));
-    /// let other = IpAddressSet::from_lists(vec![in rt.alloc(); "192.0.2.0/26".parse::<Ipv4Network>()?]?, Vec::new(rt.alloc()));
+    /// let v4 = vec![in rt.alloc(); "192.0.2.0/25".parse::<Ipv4Network>()?]?;
+    /// let set = IpAddressSet::from_lists(v4, Vec::new(rt.alloc()));
+    /// let v4 = vec![in rt.alloc(); "192.0.2.0/26".parse::<Ipv4Network>()?]?;
+    /// let other = IpAddressSet::from_lists(v4, Vec::new(rt.alloc()));
     /// assert!(rt; other.is_subset_of(&set));
     /// assert!(rt; !set.is_subset_of(&other));
     /// ```
@@ -118,11 +127,13 @@ impl IpAddressSet {
         self.v4().is_subset_of(other.v4()) && self.v6().is_subset_of(other.v6())
     }
 
-    /// Whether no address is in both sets. Goes over the lists of both at most once, and does not allocate.
+    /// Whether no address is in both sets. Goes over the lists of both at most once.
     ///
     /// ```
-    /// let set = IpAddressSet::from_lists(vec![in rt.alloc(); "0.0.0.0/0".parse::<Ipv4Network>()?]?, Vec::new(rt.alloc()));
-    /// let other = IpAddressSet::from_lists(Vec::new(rt.alloc()), vec![in rt.alloc(); "::/0".parse::<Ipv6Network>()?]?);
+    /// let v4 = vec![in rt.alloc(); "0.0.0.0/0".parse::<Ipv4Network>()?]?;
+    /// let set = IpAddressSet::from_lists(v4, Vec::new(rt.alloc()));
+    /// let v6 = vec![in rt.alloc(); "::/0".parse::<Ipv6Network>()?]?;
+    /// let other = IpAddressSet::from_lists(Vec::new(rt.alloc()), v6);
     /// assert!(rt; set.is_disjoint_from(&other));
     /// ```
     pub fn is_disjoint_from(&self, other: &IpAddressSet) -> bool

@@ -19,7 +19,7 @@ const DECIMAL_MAX: usize = 39;
 
 /// A number of addresses, exact up to 2^128: that of all IPv6 addresses.
 ///
-/// Counts are compared by their numbers, and printed in decimal. Does not allocate.
+/// Counts are compared by their numbers, and printed in decimal.
 ///
 /// ```
 /// let all = AddressCount::ZERO.add_block("::/0".parse::<Ipv6Network>()?);

@@ -37,10 +37,11 @@ impl<N: AddressSpace> Model for AddressSet<N> {
 impl<N: AddressSpace> AddressSet<N> {
     /// The set of the addresses of the networks, which may have host bits and stand in any order.
     ///
-    /// Sorts the networks and goes over them once. Keeps their memory, and does not allocate.
+    /// Sorts the networks and goes over them once. Keeps their memory.
     ///
     /// ```
-    /// let set = AddressSet::from_networks(vec![in rt.alloc(); "192.0.2.0/25".parse::<Ipv4Network>()?, "192.0.2.128/25".parse()?]?);
+    /// let networks = vec![in rt.alloc(); "192.0.2.0/25".parse::<Ipv4Network>()?, "192.0.2.128/25".parse()?]?;
+    /// let set = AddressSet::from_networks(networks);
     /// assert_eq!(rt; set.blocks()[0].canonical().as_str(), "192.0.2.0/24");
     /// ```
     pub fn from_networks(mut networks: Vec<N>) -> Self
@@ -54,7 +55,7 @@ impl<N: AddressSpace> AddressSet<N> {
     /// The set with these blocks, if they are maximal in it, without host bits, and in ascending order. If they are
     /// not, the list is returned as the error; `from_networks` takes any list.
     ///
-    /// Goes over the list once. Keeps its memory, and does not allocate.
+    /// Goes over the list once. Keeps its memory.
     ///
     /// ```
     /// let halves = vec![in rt.alloc(); "192.0.2.0/25".parse::<Ipv4Network>()?, "192.0.2.128/25".parse()?]?;
@@ -83,7 +84,8 @@ impl<N: AddressSpace> AddressSet<N> {
     /// The blocks, in ascending order.
     ///
     /// ```
-    /// let set = AddressSet::from_networks(vec![in rt.alloc(); "192.0.2.0/25".parse::<Ipv4Network>()?, "192.0.2.128/25".parse()?]?);
+    /// let networks = vec![in rt.alloc(); "192.0.2.0/25".parse::<Ipv4Network>()?, "192.0.2.128/25".parse()?]?;
+    /// let set = AddressSet::from_networks(networks);
     /// assert_eq!(rt; set.blocks().len(), 1);
     /// ```
     pub fn blocks(&self) -> &[N]

@@ -41,7 +41,7 @@ impl<'a, N: AddressSpace> Model for AddressSlice<'a, N> {
 
 impl<'a, N: AddressSpace> AddressSlice<'a, N> {
     /// The set with these blocks, if they are maximal in it, without host bits, and in ascending order; `None` if they
-    /// are not. Goes over the list once, and does not allocate.
+    /// are not. Goes over the list once.
     ///
     /// ```
     /// let halves: [Ipv4Network; 2] = ["192.0.2.0/25".parse()?, "192.0.2.128/25".parse()?];
@@ -130,7 +130,7 @@ impl<'a, N: AddressSpace> AddressSlice<'a, N> {
     }
 
     /// The blocks of the addresses that are in both sets, in ascending order. Goes over both lists once, as the
-    /// iterator advances, and does not allocate.
+    /// iterator advances.
     ///
     /// ```
     /// let list: [Ipv4Network; 1] = ["192.0.2.0/25".parse()?];
@@ -145,7 +145,7 @@ impl<'a, N: AddressSpace> AddressSlice<'a, N> {
     }
 
     /// The blocks of the addresses that are in this set and not in the other, in ascending order. Goes over both lists
-    /// once, as the iterator advances, and does not allocate.
+    /// once, as the iterator advances.
     ///
     /// ```
     /// let list: [Ipv4Network; 1] = ["192.0.2.0/25".parse()?];
@@ -160,7 +160,7 @@ impl<'a, N: AddressSpace> AddressSlice<'a, N> {
     }
 
     /// The blocks of the addresses that are in the network and not in the set, in ascending order: what is free in the
-    /// network. Host bits are ignored. Goes over the list once, as the iterator advances, and does not allocate.
+    /// network. Host bits are ignored. Goes over the list once, as the iterator advances.
     ///
     /// ```
     /// let list: [Ipv4Network; 1] = ["192.0.2.0/25".parse()?];
@@ -174,7 +174,7 @@ impl<'a, N: AddressSpace> AddressSlice<'a, N> {
     }
 
     /// The blocks of the addresses that are in one of the two sets or in both, in ascending order. Goes over both lists
-    /// once, as the iterator advances, and does not allocate.
+    /// once, as the iterator advances.
     ///
     /// ```
     /// let list: [Ipv4Network; 1] = ["192.0.2.0/25".parse()?];
@@ -188,7 +188,7 @@ impl<'a, N: AddressSpace> AddressSlice<'a, N> {
         Union::of(self.blocks(), other.blocks())
     }
 
-    /// Whether each address of this set is in the other. Goes over both lists at most once, and does not allocate.
+    /// Whether each address of this set is in the other. Goes over both lists at most once.
     ///
     /// ```
     /// let list: [Ipv4Network; 1] = ["192.0.2.0/25".parse()?];
@@ -203,7 +203,7 @@ impl<'a, N: AddressSpace> AddressSlice<'a, N> {
         left.next().is_none()
     }
 
-    /// Whether no address is in both sets. Goes over both lists at most once, and does not allocate.
+    /// Whether no address is in both sets. Goes over both lists at most once.
     ///
     /// ```
     /// let list: [Ipv4Network; 1] = ["192.0.2.0/25".parse()?];

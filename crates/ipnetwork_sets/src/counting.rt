@@ -10,7 +10,7 @@ use crate::address_slice::AddressSlice;
 use ipnetwork_blocks::{AddressSpace, laws};
 
 impl<N: AddressSpace> AddressSet<N> {
-    /// How many addresses there are in the set. Goes over the blocks once, and does not allocate.
+    /// How many addresses there are in the set. Goes over the blocks once.
     ///
     /// ```
     /// let set = AddressSet::from_networks(vec![in rt.alloc(); "192.0.2.0/25".parse::<Ipv4Network>()?]?);
@@ -24,7 +24,7 @@ impl<N: AddressSpace> AddressSet<N> {
 }
 
 impl<'a, N: AddressSpace> AddressSlice<'a, N> {
-    /// How many addresses there are in the set. Goes over the blocks once, and does not allocate.
+    /// How many addresses there are in the set. Goes over the blocks once.
     ///
     /// ```
     /// let list: [Ipv4Network; 1] = ["192.0.2.0/25".parse()?];

@@ -8,7 +8,7 @@ use ipnetwork_blocks::{AddressSpace, laws};
 impl<N: AddressSpace> AddressSet<N> {
     /// The first block of this prefix length within the network that has no address of the set; `None` if there is
     /// none, as for a prefix length that is shorter than the network's or greater than `WIDTH`. Host bits of the
-    /// network are ignored. Goes over what is free in the network up to that block, and does not allocate.
+    /// network are ignored. Goes over what is free in the network up to that block.
     ///
     /// ```
     /// let set = AddressSet::from_networks(vec![in rt.alloc(); "192.0.2.0/25".parse::<Ipv4Network>()?]?);

@@ -63,8 +63,8 @@ pub fn free_of_both()
     ensures common { FreeOfCommonPart }
 {}
 
-/// A network meets a set exactly if it overlaps one of its blocks; a set is within another exactly if nothing is left of it
-/// without the other; and two sets are disjoint exactly if they have no common part.
+/// A network meets a set exactly if it overlaps one of its blocks; a set is within another exactly if nothing is left
+/// of it without the other; and two sets are disjoint exactly if they have no common part.
 pub fn questions()
     ensures meets { NetworkMeetsUnion }
     ensures within { WithinIfNothingIsLeft }
@@ -95,8 +95,8 @@ pub fn one_count_and_ranges()
 {}
 
 /// The numbers of addresses of a set's blocks, added up, are the count of the set, and so of what each operation
-/// returns; those of all addresses of w bits are 2^w, and a sum that is capped at 2^128 stays the capped sum if one more
-/// block is added (`AddressCount::add_block`).
+/// returns; those of all addresses of w bits are 2^w, and a sum that is capped at 2^128 stays the capped sum if one
+/// more block is added (`AddressCount::add_block`).
 pub fn sums()
     ensures set { SetAddsUp }
     ensures common { CommonPartAddsUp }

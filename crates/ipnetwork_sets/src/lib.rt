@@ -1,4 +1,6 @@
 //! Sets of IP addresses of one family, as lists of blocks, for both families.
+//!
+//! Only the calls that return an `AllocError` allocate: they grow the list that the caller gives.
 #![tactic(auto)]
 
 mod address_count;

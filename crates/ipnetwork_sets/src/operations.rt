@@ -13,7 +13,7 @@ use std::alloc::AllocError;
 
 impl<N: AddressSpace> AddressSet<N> {
     /// The blocks of the addresses that are in both sets, in ascending order. Goes over both lists once, as the
-    /// iterator advances, and does not allocate.
+    /// iterator advances.
     ///
     /// ```
     /// let set = AddressSet::from_networks(vec![in rt.alloc(); "192.0.2.0/25".parse::<Ipv4Network>()?]?);
@@ -27,7 +27,7 @@ impl<N: AddressSpace> AddressSet<N> {
     }
 
     /// The blocks of the addresses that are in this set and not in the other, in ascending order. Goes over both lists
-    /// once, as the iterator advances, and does not allocate.
+    /// once, as the iterator advances.
     ///
     /// ```
     /// let set = AddressSet::from_networks(vec![in rt.alloc(); "192.0.2.0/25".parse::<Ipv4Network>()?]?);
@@ -41,7 +41,7 @@ impl<N: AddressSpace> AddressSet<N> {
     }
 
     /// The blocks of the addresses that are in the network and not in the set, in ascending order: what is free in the
-    /// network. Host bits are ignored. Goes over the list once, as the iterator advances, and does not allocate.
+    /// network. Host bits are ignored. Goes over the list once, as the iterator advances.
     ///
     /// Of the network of prefix length 0, these are the blocks of all addresses that are not in the set.
     ///
@@ -56,7 +56,7 @@ impl<N: AddressSpace> AddressSet<N> {
     }
 
     /// The blocks of the addresses that are in one of the two sets or in both, in ascending order. Goes over both lists
-    /// once, as the iterator advances, and does not allocate.
+    /// once, as the iterator advances.
     ///
     /// ```
     /// let set = AddressSet::from_networks(vec![in rt.alloc(); "192.0.2.0/25".parse::<Ipv4Network>()?]?);
@@ -84,7 +84,7 @@ impl<N: AddressSpace> AddressSet<N> {
         self.union_blocks(other).into_set(memory)
     }
 
-    /// Whether each address of this set is in the other. Goes over both lists at most once, and does not allocate.
+    /// Whether each address of this set is in the other. Goes over both lists at most once.
     ///
     /// ```
     /// let set = AddressSet::from_networks(vec![in rt.alloc(); "192.0.2.0/25".parse::<Ipv4Network>()?]?);
@@ -98,7 +98,7 @@ impl<N: AddressSpace> AddressSet<N> {
         self.as_slice().is_subset_of(&other.as_slice())
     }
 
-    /// Whether no address is in both sets. Goes over both lists at most once, and does not allocate.
+    /// Whether no address is in both sets. Goes over both lists at most once.
     ///
     /// ```
     /// let set = AddressSet::from_networks(vec![in rt.alloc(); "192.0.2.0/25".parse::<Ipv4Network>()?]?);

@@ -21,7 +21,8 @@ use std::marker::Model;
 /// long as possible, so between two of them lies at least one address that is not in the set.
 ///
 /// ```
-/// let set = AddressSet::from_networks(vec![in rt.alloc(); "10.0.0.0/31".parse::<Ipv4Network>()?, "10.0.0.2/32".parse()?]?);
+/// let networks = vec![in rt.alloc(); "10.0.0.0/31".parse::<Ipv4Network>()?, "10.0.0.2/32".parse()?]?;
+/// let set = AddressSet::from_networks(networks);
 /// let ranges: Ranges<Ipv4Network, Blocks<'_, Ipv4Network>> = set.ranges();
 /// assert!(rt; ranges.eq([(Ipv4Addr::new(10, 0, 0, 0), Ipv4Addr::new(10, 0, 0, 2))]));
 /// ```
@@ -90,10 +91,11 @@ fn last_of_run<N: AddressSpace, B: SetBlocks<N>>(first: N, blocks: &mut B) -> (N
 
 impl<N: AddressSpace> AddressSet<N> {
     /// The first and the last address of each range of the set, in ascending order: the fewest ranges possible. Goes
-    /// over the blocks once, as the iterator advances, and does not allocate.
+    /// over the blocks once, as the iterator advances.
     ///
     /// ```
-    /// let set = AddressSet::from_networks(vec![in rt.alloc(); "192.0.2.0/25".parse::<Ipv4Network>()?, "192.0.2.128/25".parse()?]?);
+    /// let networks = vec![in rt.alloc(); "192.0.2.0/25".parse::<Ipv4Network>()?, "192.0.2.128/25".parse()?]?;
+    /// let set = AddressSet::from_networks(networks);
     /// let range = (Ipv4Addr::new(192, 0, 2, 0), Ipv4Addr::new(192, 0, 2, 255));
     /// assert_eq!(rt; set.ranges().next(), Some(range));
     /// ```
@@ -106,7 +108,7 @@ impl<N: AddressSpace> AddressSet<N> {
 
 impl<'a, N: AddressSpace> AddressSlice<'a, N> {
     /// The first and the last address of each range of the set, in ascending order: the fewest ranges possible. Goes
-    /// over the blocks once, as the iterator advances, and does not allocate.
+    /// over the blocks once, as the iterator advances.
     ///
     /// ```
     /// let list: [Ipv4Network; 1] = ["192.0.2.0/24".parse()?];
@@ -121,7 +123,7 @@ impl<'a, N: AddressSpace> AddressSlice<'a, N> {
 }
 
 impl<'a, N: AddressSpace> Intersection<'a, N> {
-    /// The ranges of the remaining blocks. Does not allocate.
+    /// The ranges of the remaining blocks.
     ///
     /// ```
     /// let set = AddressSet::from_networks(vec![in rt.alloc(); "192.0.2.0/25".parse::<Ipv4Network>()?]?);
@@ -137,7 +139,7 @@ impl<'a, N: AddressSpace> Intersection<'a, N> {
 }
 
 impl<'a, N: AddressSpace> Difference<'a, N> {
-    /// The ranges of the remaining blocks. Does not allocate.
+    /// The ranges of the remaining blocks.
     ///
     /// ```
     /// let set = AddressSet::from_networks(vec![in rt.alloc(); "192.0.2.0/25".parse::<Ipv4Network>()?]?);
@@ -153,7 +155,7 @@ impl<'a, N: AddressSpace> Difference<'a, N> {
 }
 
 impl<'a, N: AddressSpace> Union<'a, N> {
-    /// The ranges of the remaining blocks. Does not allocate.
+    /// The ranges of the remaining blocks.
     ///
     /// ```
     /// let set = AddressSet::from_networks(vec![in rt.alloc(); "192.0.2.0/25".parse::<Ipv4Network>()?]?);

@@ -78,9 +78,9 @@ fn by_quarters<N: AddressSpace>(blocks: &[N], addr: N::Addr) -> (usize, usize)
     (from, left)
 }
 
-// One step of the search among the `left` blocks from `from` on. It reads the last blocks of the first three quarters, all
-// at once, and goes on in one quarter: where that begins, and how many blocks are searched there, as many as the last
-// quarter has.
+// One step of the search among the `left` blocks from `from` on. It reads the last blocks of the first three quarters,
+// all at once, and goes on in one quarter: where that begins, and how many blocks are searched there, as many as the
+// last quarter has.
 fn quarter_of<N: AddressSpace>(
     blocks: &[N],
     addr: N::Addr,

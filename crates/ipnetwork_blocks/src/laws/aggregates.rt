@@ -4,8 +4,8 @@ ghost use Rattle.ipnetwork_blocks.specs.AggregateLaws.{UnionOfNone, UnionOfList,
 
 use ipnetwork::laws;
 
-/// No address lies in the union of no networks; in that of a list lie the members of its first network, and the addresses
-/// of the union of the others. So it is with networks of one family, and of either.
+/// No address lies in the union of no networks; in that of a list lie the members of its first network, and the
+/// addresses of the union of the others. So it is with networks of one family, and of either.
 pub fn unions()
     ensures none { UnionOfNone }
     ensures list { UnionOfList }
@@ -46,8 +46,8 @@ pub fn ip_same_union()
     same_union();
 }
 
-/// Of networks of either family too, each block of the aggregate ends before the next begins; so an address of the union
-/// lies in one of them, and a network lies in the union exactly if it lies in one of them.
+/// Of networks of either family too, each block of the aggregate ends before the next begins; so an address of the
+/// union lies in one of them, and a network lies in the union exactly if it lies in one of them.
 pub fn ip_one_block()
     ensures apart { IpAggregateIsApart }
     ensures one { IpAggregateHasOneBlock }

@@ -1,5 +1,5 @@
-use Rattle.std.proofs.Common.{◌≡◌, ℕ, sym, subst}
-use Rattle.ipnetwork_family.specs.Network.{Network, IsNetwork, HostBitsAreZero, block_of}
+use Rattle.std.proofs.Common.{ℕ, sym, subst}
+use Rattle.ipnetwork_family.specs.Network.{Network, IsNetwork, HostBitsAreZero}
 use Rattle.ipnetwork_family.proofs.Blocks.{block_fits_too, block_begins}
 use Rattle.ipnetwork_blocks.proofs.WiderBlocks.{block_made}
 use Rattle.ipnetwork_blocks.proofs.supernets.block.Goals as goal
