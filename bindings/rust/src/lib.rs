@@ -24,8 +24,13 @@ use core::ops::RangeInclusive;
 use core::str::FromStr;
 
 mod printed_columns;
+mod read_columns;
 
 pub use printed_columns::print_address_column;
+pub use read_columns::read_address_column;
+
+/// How many rows of a column are copied at a time.
+const PART: usize = 64;
 
 /// Why there is no network, or no result.
 #[non_exhaustive]
@@ -116,6 +121,18 @@ mod c {
     /// A column of rows printed: room for the texts and for the offsets, and how many bytes the texts have.
     pub type PrintColumn<Row> =
         unsafe extern "C" fn(*const Row, usize, *mut u8, usize, *mut u32, usize, &mut usize) -> u32;
+
+    /// A column of rows read: the texts, their offsets, and room for the rows and for their faults.
+    pub type ReadColumn<Row> = unsafe extern "C" fn(
+        *const u8,
+        usize,
+        *const u32,
+        usize,
+        *mut Row,
+        usize,
+        *mut u8,
+        usize,
+    ) -> u32;
 
     unsafe extern "C" {
         pub safe fn ipnetwork_abi_version() -> u32;
@@ -324,6 +341,26 @@ mod c {
             offsets: *const u32,
             offset_count: usize,
             networks: *mut V6,
+            rows: usize,
+            faults: *mut u8,
+            fault_rows: usize,
+        ) -> u32;
+        pub unsafe fn ipnetwork_read_column(
+            texts: *const u8,
+            length: usize,
+            offsets: *const u32,
+            offset_count: usize,
+            networks: *mut Either,
+            rows: usize,
+            faults: *mut u8,
+            fault_rows: usize,
+        ) -> u32;
+        pub unsafe fn ipnetwork_address_read_column(
+            texts: *const u8,
+            length: usize,
+            offsets: *const u32,
+            offset_count: usize,
+            addresses: *mut Address,
             rows: usize,
             faults: *mut u8,
             fault_rows: usize,
@@ -933,17 +970,10 @@ impl Ipv6Network {
 /// The address of either family that a text names, whatever its bytes, in the forms that a network has before a `/`. For
 /// any other text, with a `/` or a zone, `Fault::Address`.
 pub fn read_address(text: &[u8]) -> Result<IpAddr, Fault> {
-    let mut address = c::Address {
-        octets: [0; 16],
-        length: 0,
-    };
+    let mut address = c::Address::BLANK;
     // SAFETY: a slice is never null, and has this many bytes.
     result(unsafe { c::ipnetwork_address_read(text.as_ptr(), text.len(), &mut address) })?;
-    let [a, b, c, d, ..] = address.octets;
-    Ok(match address.length {
-        4 => IpAddr::V4(Ipv4Addr::new(a, b, c, d)),
-        _ => IpAddr::V6(Ipv6Addr::from(address.octets)),
-    })
+    Ok(IpAddr::from(address))
 }
 
 /// A network of either family. Each IPv4 network is before each IPv6 network.
@@ -958,17 +988,10 @@ pub enum IpNetwork {
 impl IpNetwork {
     /// The network that a text names, of the family that the text has; any other text is `Fault::Address`.
     pub fn read_bytes(text: &[u8]) -> Result<Self, Fault> {
-        let mut either = c::Either {
-            family: 0,
-            v4: Ipv4Network::BLANK,
-            v6: Ipv6Network::BLANK,
-        };
+        let mut either = c::Either::BLANK;
         // SAFETY: a slice is never null, and has this many bytes.
         result(unsafe { c::ipnetwork_read(text.as_ptr(), text.len(), &mut either) })?;
-        Ok(match either.family {
-            4 => IpNetwork::V4(Ipv4Network(either.v4)),
-            _ => IpNetwork::V6(Ipv6Network(either.v6)),
-        })
+        Ok(IpNetwork::from(either))
     }
 
     /// Whether an address lies in the network's set. No address of the other family does.
@@ -1147,6 +1170,25 @@ impl From<IpAddr> for IpNetwork {
     }
 }
 
+impl c::Either {
+    /// Of neither family.
+    const BLANK: Self = c::Either {
+        family: 0,
+        v4: Ipv4Network::BLANK,
+        v6: Ipv6Network::BLANK,
+    };
+}
+
+impl From<c::Either> for IpNetwork {
+    /// The network of a struct that a call has read.
+    fn from(either: c::Either) -> Self {
+        match either.family {
+            4 => IpNetwork::V4(Ipv4Network(either.v4)),
+            _ => IpNetwork::V6(Ipv6Network(either.v6)),
+        }
+    }
+}
+
 impl From<IpNetwork> for c::Either {
     fn from(network: IpNetwork) -> Self {
         match network {
@@ -1160,6 +1202,25 @@ impl From<IpNetwork> for c::Either {
                 v4: Ipv4Network::BLANK,
                 v6: network.0,
             },
+        }
+    }
+}
+
+impl c::Address {
+    /// Of neither family.
+    const BLANK: Self = c::Address {
+        octets: [0; 16],
+        length: 0,
+    };
+}
+
+impl From<c::Address> for IpAddr {
+    /// The address of a struct that a call has read.
+    fn from(address: c::Address) -> Self {
+        let [a, b, c, d, ..] = address.octets;
+        match address.length {
+            4 => IpAddr::V4(Ipv4Addr::new(a, b, c, d)),
+            _ => IpAddr::V6(Ipv6Addr::from(address.octets)),
         }
     }
 }

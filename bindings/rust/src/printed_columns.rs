@@ -2,11 +2,8 @@
 //! laid out otherwise than the structs of C, so the rows are copied into structs on the stack, a part of the column at a
 //! time.
 
-use crate::{IpNetwork, SHORT_BUFFER, answered, c};
+use crate::{IpNetwork, PART, SHORT_BUFFER, answered, c};
 use core::net::IpAddr;
-
-/// How many rows are copied at a time.
-const PART: usize = 64;
 
 /// How many bytes the texts of a column have at most: Arrow's offsets have 32 bits with a sign.
 const MOST: usize = i32::MAX as usize;

@@ -3,7 +3,7 @@
 
 use ipnetwork_c::{
     Fault, IpNetwork, Ipv4Network, Ipv4Set, Ipv4Table, Ipv6Network, Ipv6Set, Ipv6Table,
-    print_address_column, read_address,
+    print_address_column, read_address, read_address_column,
 };
 use std::env;
 use std::net::{IpAddr, Ipv4Addr, Ipv6Addr};
@@ -806,6 +806,80 @@ fn columns_of_either_family_printed() {
         &mut Random(seed(0x2af7_0b58_d913_66c4)),
         row,
         IpNetwork::print_column,
+    );
+}
+
+/// A call that reads a column.
+type ReadColumn<Row> = fn(&[u8], &[u32], &mut [Row], &mut [u8]) -> Result<(), Fault>;
+
+/// Columns of texts, of which some name no row: each row as the call for one text reads it, and the others as they were.
+fn columns_read<Row: Copy + PartialEq + std::fmt::Debug>(
+    random: &mut Random,
+    text: impl Fn(&mut Random) -> String,
+    read_one: impl Fn(&[u8]) -> Result<Row, Fault>,
+    read: ReadColumn<Row>,
+    before: Row,
+) {
+    let mut done = 0;
+    while done < rows() {
+        let count = random.below(200);
+        done += count + 1;
+        let texts: Vec<String> = (0..count)
+            .map(|_| match random.below(4) {
+                0 => text(random).replacen(['1', ':'], "/", 2),
+                _ => text(random),
+            })
+            .collect();
+        let column = texts.concat();
+        let mut offsets = vec![0];
+        for text in &texts {
+            offsets.push(offsets[offsets.len() - 1] + text.len() as u32);
+        }
+        let (mut found, mut faults) = (vec![before; count + 1], vec![99; count + 1]);
+        if count > 1 {
+            let mut wrong = offsets.clone();
+            wrong[count] = column.len() as u32 + 1;
+            let refused = read(column.as_bytes(), &wrong, &mut found, &mut faults);
+            assert_eq!(refused, Err(Fault::Offsets));
+            wrong[count] = 0;
+            wrong[count - 1] = 1;
+            let refused = read(column.as_bytes(), &wrong, &mut found, &mut faults);
+            assert_eq!(refused, Err(Fault::Offsets));
+            assert!(found.iter().all(|row| *row == before) && faults.iter().all(|f| *f == 99));
+        }
+        let result = read(column.as_bytes(), &offsets, &mut found, &mut faults);
+        assert_eq!(result, Ok(()));
+        for (at, text) in texts.iter().enumerate() {
+            let alone = read_one(text.as_bytes());
+            assert_eq!(Fault::of_row(faults[at]), alone.map(|_| ()), "{text}");
+            assert_eq!(found[at], alone.unwrap_or(before), "{text}");
+        }
+        assert_eq!((found[count], faults[count]), (before, 99));
+    }
+}
+
+#[test]
+fn columns_of_addresses_read() {
+    columns_read(
+        &mut Random(seed(0x77d0_41c6_9be2_0a35)),
+        |random| address_of_either(random).to_string(),
+        read_address,
+        read_address_column,
+        IpAddr::V4(Ipv4Addr::BROADCAST),
+    );
+}
+
+#[test]
+fn columns_of_either_family_read() {
+    columns_read(
+        &mut Random(seed(0x0b6e_f2a8_35d1_c94f)),
+        |random| {
+            let address = address_of_either(random);
+            format!("{address}/{}", random.below(130))
+        },
+        IpNetwork::read_bytes,
+        IpNetwork::read_column,
+        IpNetwork::from(IpAddr::V4(Ipv4Addr::BROADCAST)),
     );
 }
 
