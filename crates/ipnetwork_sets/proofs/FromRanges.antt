@@ -1,6 +1,7 @@
 -- Sets made of ranges.
 use Rattle.std.proofs.Common.{◌≡◌, ◌↔◌, ℕ, ◌+◌, ◌^◌, ◌<◌, ◌≤◌, ◌⊎◌, inl, inr, sym, ap, subst, ◌∙◌, arith, ⊎_elim, List, [], ◌∷◌, ◌++◌, length, get_or, take, map, Result, Ok, Err, true≢false}
-use Rattle.std.proofs.lemmas.List.{append-nil, append_assoc, map-append, take_more, take_all}
+use Rattle.std.proofs.lemmas.List.{append-nil, append_assoc, map-append, length-take, take_more, take_all, take-append-le}
+use Rattle.std.proofs.Math.Nat.{min-le_right}
 use Rattle.std.specs.Result.{IsErr, IfOk}
 use Rattle.std.specs.List.{Contains}
 use Rattle.std.proofs.lemmas.List.Elements.{Contains-append_left, Contains-append_right, Contains-append_cases}
@@ -36,6 +37,12 @@ pub adds_one : {X : Type 0} (pair : X → Network) (items more : List X) (block 
 adds_one pair items more block left rest blocks added steps h =
     ap (λ t. map pair t ++ rest) added ∙ ap (λ t. t ++ rest) (map-append pair items (block ∷ [])) ∙ append_assoc (map pair items) (pair block ∷ []) rest
     ∙ ap (λ t. map pair items ++ t) (sym steps) ∙ h
+
+-- one item more leaves the front as it is
+pub front_stays : {X : Type 0} (before items more : List X) (block : X) → more ≡ items ++ block ∷ [] → take (length before) items ≡ before → take (length before) more ≡ before
+front_stays before items more block added h =
+    let short : length before ≤ length items = subst (λ n. n ≤ length items) (sym (length-take (length before) items) ∙ ap length h) (min-le_right (length before) (length items)) in
+    ap (take (length before)) added ∙ take-append-le (length before) items (block ∷ []) short ∙ h
 
 -- nothing is said if the list could not grow
 pub adds_in_vain : {T E : Type 0} (result : Result T E) (P : T → Type 0) → IsErr result → IfOk result P

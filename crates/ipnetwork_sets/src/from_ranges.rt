@@ -1,5 +1,5 @@
 //! Sets made of ranges of addresses.
-ghost use Rattle.std.specs.Prelude.{◌+◌, ◌<◌, ◌^◌, IfOk, OnErr, List, length, map, vec_capacity, vec_len};
+ghost use Rattle.std.specs.Prelude.{◌≡◌, ◌+◌, ◌<◌, ◌^◌, IfOk, OnErr, List, length, map, take, vec_capacity, vec_len};
 ghost use Rattle.ipnetwork_family.specs.Network.{Network};
 ghost use Rattle.ipnetwork_blocks.specs.LeastList.{IsLeastList};
 ghost use Rattle.ipnetwork_blocks.specs.Ranges.{FromTo};
@@ -36,8 +36,8 @@ impl<N: AddressSpace> AddressSet<N> {
 }
 
 /// Adds the blocks whose addresses are those from `first` to `last`, both included, to the networks: the fewest
-/// possible, and none if `first` comes after `last`. `AllocError` means that the list had to grow and memory ran out;
-/// some of the blocks may have been added.
+/// possible, and none if `first` comes after `last`. What the list had stays at its front. `AllocError` means that the
+/// list had to grow and memory ran out; some of the blocks may have been added.
 ///
 /// ```
 /// let mut networks = Vec::<Ipv4Network>::new(rt.alloc());
@@ -51,6 +51,7 @@ pub fn push_range<N: AddressSpace>(
 ) -> Result<(), AllocError>
     ensures address { N.number last < 2 ^ N.WIDTH }
     ensures added { IfOk result (λ _. AddsLeastList N.WIDTH (FromTo (N.number first) (N.number last)) (map N.pair networks.old.items) (map N.pair networks.new.items)) }
+    ensures front { take (length networks.old.items) networks.new.items ≡ networks.old.items }
     ensures room { (blocks : List Network) → IsLeastList N.WIDTH (FromTo (N.number first) (N.number last)) blocks → OnErr result (vec_capacity networks.old < vec_len networks.old + length blocks) }
 {
     // The clause `address` of this call says that `last` is an address of the family.

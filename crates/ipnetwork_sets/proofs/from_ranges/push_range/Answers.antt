@@ -1,7 +1,7 @@
-use Rattle.std.proofs.Common.{◌++◌, arith, map}
+use Rattle.std.proofs.Common.{◌++◌, ◌∙◌, ap, arith, length, map, take}
 use Rattle.ipnetwork_blocks.specs.Ranges.{FromTo}
 use Rattle.ipnetwork_sets.proofs.CollectedBlocks.{failed, pushing_had_no_room}
-use Rattle.ipnetwork_sets.proofs.FromRanges.{adds_none, adds_one, adds_all, adds_in_vain}
+use Rattle.ipnetwork_sets.proofs.FromRanges.{adds_none, adds_one, adds_all, adds_in_vain, front_stays}
 use Rattle.ipnetwork_sets.proofs.from_ranges.push_range.Goals as goal
 
 pub returns-in_default-clause-added : goal.returns-in_default-clause-added
@@ -13,6 +13,7 @@ loop-block-preserved g c = record {
   together =
       adds_one g.N.CidrNetwork.pair c.loop-block.networks.items c.push.new.self.items c.in-Some-next.block c.loop-block.blocks c.next.new.self
       (map g.N.CidrNetwork.pair c.args.networks.now.items ++ c.in-Some.blocks) c.in_ok-push.ensures.items c.in-Some-next.ensures.steps c.loop-block.invariant.together;
+  front = front_stays c.args.networks.now.items c.loop-block.networks.items c.push.new.self.items c.in-Some-next.block c.in_ok-push.ensures.items c.loop-block.invariant.front;
   room = omega (arith, c.loop-block.invariant.room, c.in_ok-push.ensures.capacity);
 }
 
@@ -20,6 +21,7 @@ pub returns-in_err-push : goal.returns-in_err-push
 returns-in_err-push g c = record {
   address = c.block.ensures.address;
   added = adds_in_vain c.from_residual.result _ c.from_residual.ensures.0;
+  front = ap (λ t. take (length c.args.networks.now.items) t) c.in_err-push.ensures.items ∙ c.loop-block.invariant.front;
   room = λ blocks h.
       failed c.from_residual.result
       (pushing_had_no_room g.N.CidrNetwork.pair g.N.CidrNetwork.WIDTH (FromTo (g.N.CidrNetwork.number c.args.first) (g.N.CidrNetwork.number c.args.last))
@@ -34,5 +36,6 @@ returns g c = record {
   added =
       adds_all g.N.CidrNetwork.WIDTH (g.N.CidrNetwork.number c.args.first) (g.N.CidrNetwork.number c.args.last) (map g.N.CidrNetwork.pair c.args.networks.now.items)
       (map g.N.CidrNetwork.pair c.loop-block.networks.items) c.loop-block.blocks c.in-Some.blocks c.in-Some.ensures.blocks.1 c.loop-block.invariant.together c.in_default-next.ensures.steps.0;
+  front = c.loop-block.invariant.front;
   room = λ blocks h. tt;
 }
