@@ -1,9 +1,10 @@
--- Hosts, subnets, siblings and blocks that follow at which a misreading of the definitions would show.
+-- Hosts, subnets, siblings and blocks that follow and precede at which a misreading of the definitions would show.
 use Rattle.std.proofs.Common.{◌≡◌, ◌↔◌, ℕ, ◌^◌, ◌<◌, ◌≤◌, sym, refl, ap, subst, arith, inl, inr, List, [], ◌∷◌}
 use Rattle.std.proofs.lemmas.List.{append_cancel_right}
 use Rattle.ipnetwork_family.specs.Network.{Network, IsNetwork, count_up}
 use Rattle.ipnetwork_blocks.specs.Supernets.{IsSibling}
 use Rattle.ipnetwork_blocks.specs.FollowingBlock.{following_block}
+use Rattle.ipnetwork_blocks.specs.PrecedingBlock.{preceding_block}
 use Rattle.ipnetwork_blocks.specs.Hosts.{AreIpv4Hosts, AreIpv6Hosts}
 use Rattle.ipnetwork_blocks.specs.Subnets.{subnets_of, subnet_number}
 use Rattle.ipnetwork_blocks.proofs.WiderBlocks.{sibling_from}
@@ -90,6 +91,16 @@ next_quarter = refl
 -- behind 255.255.255.255 there is no address
 pub past_the_last : ¬ (IsNetwork 32 (following_block 32 (net 4294967295 32)))
 past_the_last h = omega (arith, h.address_fits)
+
+-- ---- the block that precedes
+
+-- before 192.0.2.77/26
+pub quarter_before : preceding_block 32 (net 3221226061 26) ≡ net 3221225984 26
+quarter_before = refl
+
+-- and before ::1
+pub before_one : preceding_block 128 (net 1 128) ≡ net 0 128
+before_one = refl
 
 -- ---- siblings
 

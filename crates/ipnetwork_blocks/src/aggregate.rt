@@ -1,5 +1,5 @@
 //! The least list of blocks with the union of given networks.
-ghost use Rattle.std.specs.Prelude.{◌≡◌, ◌<◌, ◌≤◌, ◌↔◌, IsTrue, MatchOption, length, take, ◌++◌, ◌∷◌, [], map};
+ghost use Rattle.std.specs.Prelude.{◌≡◌, ◌<◌, ◌≤◌, ◌↔◌, IsTrue, MatchOption, length, take, ◌++◌, ◌∷◌, [], map, vec_capacity};
 ghost use Rattle.std.specs.List.{All};
 ghost use Rattle.ipnetwork_family.specs.Network.{IsCidrBlock, IsNetworkAtMost, block_of, high};
 ghost use Rattle.ipnetwork_blocks.specs.Aggregate.{SameUnion, IsAggregate};
@@ -29,7 +29,7 @@ pub fn aggregate_in_place<N: CidrNetwork>(networks: &mut [N]) -> usize
 }
 
 /// Replaces the networks by their aggregate: the blocks that `aggregate_in_place` puts at the front, and nothing after
-/// them. Frees no memory.
+/// them. Frees no memory: the capacity stays.
 ///
 /// ```
 /// let mut networks = vec![in rt.alloc(); "10.128.0.0/9".parse::<Ipv4Network>()?, "10.0.0.0/9".parse()?]?;
@@ -37,7 +37,8 @@ pub fn aggregate_in_place<N: CidrNetwork>(networks: &mut [N]) -> usize
 /// assert_eq!(rt; networks.as_slice(), ["10.0.0.0/8".parse()?].as_slice());
 /// ```
 pub fn aggregate_vec<N: CidrNetwork>(networks: &mut Vec<N>)
-    ensures { IsAggregate N.WIDTH (map N.pair networks.old.items) (map N.pair networks.new.items) }
+    ensures aggregate { IsAggregate N.WIDTH (map N.pair networks.old.items) (map N.pair networks.new.items) }
+    ensures capacity { vec_capacity networks.new ≡ vec_capacity networks.old }
 {
     let count = aggregate_in_place(networks.as_mut_slice());
     networks.truncate(count);

@@ -1,5 +1,5 @@
 //! The least list of blocks with the union of networks of either family.
-ghost use Rattle.std.specs.Prelude.{◌≤◌, length, take, drop};
+ghost use Rattle.std.specs.Prelude.{◌≡◌, ◌≤◌, length, take, drop, vec_capacity};
 ghost use Rattle.std.specs.List.{All};
 ghost use Rattle.std.specs.List.Sorted.{IsPermutation};
 ghost use Rattle.ipnetwork.specs.IpNetworks.{IsV4, IsV6};
@@ -32,7 +32,7 @@ pub fn aggregate_ip_in_place(networks: &mut [IpNetwork]) -> usize
 }
 
 /// Replaces the networks by the aggregate of the IPv4 networks and, after it, that of the IPv6 networks: the blocks
-/// that `aggregate_ip_in_place` puts at the front, and nothing after them. Frees no memory.
+/// that `aggregate_ip_in_place` puts at the front, and nothing after them. Frees no memory: the capacity stays.
 ///
 /// ```
 /// let mut networks = vec![in rt.alloc(); "2001:db8::/32".parse::<IpNetwork>()?, "10.0.0.0/8".parse()?]?;
@@ -40,7 +40,8 @@ pub fn aggregate_ip_in_place(networks: &mut [IpNetwork]) -> usize
 /// assert_eq!(rt; networks.as_slice(), ["10.0.0.0/8".parse()?, "2001:db8::/32".parse()?].as_slice());
 /// ```
 pub fn aggregate_ip_vec(networks: &mut Vec<IpNetwork>)
-    ensures { IsIpAggregate networks.old.items networks.new.items }
+    ensures aggregate { IsIpAggregate networks.old.items networks.new.items }
+    ensures capacity { vec_capacity networks.new ≡ vec_capacity networks.old }
 {
     let count = aggregate_ip_in_place(networks.as_mut_slice());
     networks.truncate(count);
