@@ -1,13 +1,18 @@
--- Counts, ranges and lists at which a misreading of the definitions would show.
-use Rattle.std.proofs.Common.{ℕ, ◌+◌, ◌<◌, ◌≤◌, refl, arith, [], ◌∷◌, Ok, Err}
-use Rattle.ipnetwork_family.specs.Network.{Network}
+-- Counts, ranges, lists, free blocks and texts at which a misreading of the definitions would show.
+use Rattle.std.proofs.Common.{◌≡◌, ℕ, ◌-◌, ◌*◌, ◌/◌, ◌^◌, ◌+◌, ◌<◌, ◌≤◌, sym, refl, subst, ⊎_elim, arith, [], ◌∷◌, Ok, Err}
+use Rattle.std.specs.List.{Contains}
+use Rattle.ipnetwork_family.specs.Network.{Network, IsCidrBlock, Member}
+use Rattle.ipnetwork_family.proofs.Blocks.{subnet_from}
 use Rattle.ipnetwork_family.specs.declared.error.NetworkSizeError.{NetworkSizeError}
 use Rattle.ipnetwork_blocks.specs.Ranges.{FromTo}
 use Rattle.ipnetwork_blocks.specs.Private.RangeList.{blocks_within}
+use Rattle.ipnetwork_blocks.proofs.LeastLists.{contains_cons, contains_nil}
 use Rattle.ipnetwork_blocks.proofs.RangeLists.{least_from_to}
 use Rattle.ipnetwork_sets.specs.Counts.{FitsNumber}
-use Rattle.ipnetwork_sets.specs.RangeLists.{IsRangeList}
-use Rattle.ipnetwork_sets.specs.Sets.{AddsLeastList}
+use Rattle.ipnetwork_sets.specs.FreeBlocks.{IsFreeBlock, NoBlockIsFree, IsFirstFree}
+use Rattle.ipnetwork_sets.specs.RangeLists.{IsRangeList, AreBlocksOf}
+use Rattle.ipnetwork_sets.specs.Sets.{AddsLeastList, AddsFirstOfLeastList, MeetsUnion}
+use Rattle.ipnetwork_sets.specs.Texts.{lines_of}
 use Rattle.ipnetwork_sets.specs.declared.address_count.AddressCount.TheVariants.{Number, AllOfIpv6}
 
 abbrev net : ℕ → ℕ → Network
@@ -42,3 +47,49 @@ range_turned_round h =
 pub pushed_after : AddsLeastList 3 (FromTo 1 2) (net 7 3 ∷ net 0 3 ∷ []) (net 7 3 ∷ net 0 3 ∷ net 1 3 ∷ net 2 3 ∷ [])
 unfolding blocks_within
 pushed_after = (net 1 3 ∷ net 2 3 ∷ [], least_from_to 3 1 2 (omega arith), refl)
+
+-- after an error the first of them may be there,
+pub first_pushed : AddsFirstOfLeastList 3 (FromTo 1 2) (net 7 3 ∷ []) (net 7 3 ∷ net 1 3 ∷ [])
+unfolding blocks_within
+first_pushed = (net 1 3 ∷ [], net 2 3 ∷ [], least_from_to 3 1 2 (omega arith), refl)
+
+-- the blocks of two ranges stand in their order, not joined
+pub blocks_of_two : AreBlocksOf 3 ((3, 3) ∷ (2, 2) ∷ []) (net 3 3 ∷ net 2 3 ∷ [])
+unfolding blocks_within
+blocks_of_two = (net 3 3 ∷ [], net 2 3 ∷ [], least_from_to 3 3 3 (omega arith), (net 2 3 ∷ [], [], least_from_to 3 2 2 (omega arith), refl, refl), refl)
+
+-- ---- the first of the quarters that are free, if the first quarter is taken
+
+is_block : (a p : ℕ) → a < 8 → p < 4 → a ≡ a / 2 ^ (3 - p) * 2 ^ (3 - p) → IsCidrBlock 3 (net a p)
+is_block a p l m e = record { network = record { address_fits = l; prefix_fits = omega arith }; block = e }
+
+apart : (x : ℕ) → Member 3 (net 2 2) x → MeetsUnion 3 (net 2 2) (net 0 2 ∷ []) → ⊥
+apart x m c =
+    ⊎_elim
+    (λ (e : net 0 2 ≡ c.2.0). let first : Member 3 (net 0 2) c.0 = subst (λ (n : Network). Member 3 n c.0) (sym e) c.2.2 in
+    let low : c.0 / 2 ≡ 0 = first.1 in
+    let high : c.0 / 2 ≡ 1 = c.1.1 in
+    omega (arith, low, high))
+    (λ (none : Contains [] c.2.0). contains_nil c.2.0 none)
+    (contains_cons (net 0 2) [] c.2.0 c.2.1)
+
+second_quarter : IsFreeBlock 3 (net 0 0) (net 0 2 ∷ []) 2 (net 2 2)
+second_quarter =
+    let block : IsCidrBlock 3 (net 2 2) = is_block 2 2 (omega arith) (omega arith) refl in
+    record {
+      block = block;
+      as_long = refl;
+      within = subnet_from 3 (net 2 2) (net 0 0) block.network (omega arith) (omega arith, refl);
+      free = λ c. apart c.0 c.1 c;
+    }
+
+pub third_quarter_is_not_first : ¬ (IsFirstFree 3 (net 0 0) (net 0 2 ∷ []) 2 (net 4 2))
+third_quarter_is_not_first h = omega (arith, h.first (net 2 2) second_quarter)
+
+pub some_quarter_is_free : ¬ (NoBlockIsFree 3 (net 0 0) (net 0 2 ∷ []) 2)
+some_quarter_is_free none = none (net 2 2) second_quarter
+
+-- ---- a line feed comes after each text, the last one too
+
+pub two_lines : lines_of (λ n. n.address ∷ []) (net 65 32 ∷ net 66 32 ∷ []) ≡ 65 ∷ 10 ∷ 66 ∷ 10 ∷ []
+two_lines = refl

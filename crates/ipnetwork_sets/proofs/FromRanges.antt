@@ -1,6 +1,6 @@
 -- Sets made of ranges.
-use Rattle.std.proofs.Common.{◌≡◌, ◌↔◌, ℕ, ◌+◌, ◌^◌, ◌<◌, ◌≤◌, ◌⊎◌, inl, inr, sym, ap, subst, ◌∙◌, arith, ⊎_elim, List, [], ◌∷◌, ◌++◌, length, get_or, take, map, Result, Ok, Err, true≢false}
-use Rattle.std.proofs.lemmas.List.{append-nil, append_assoc, map-append, length-take, take_more, take_all, take-append-le}
+use Rattle.std.proofs.Common.{◌≡◌, ◌↔◌, ℕ, ◌+◌, ◌^◌, ◌<◌, ◌≤◌, ◌⊎◌, inl, inr, sym, ap, subst, ◌∙◌, arith, ⊎_elim, List, [], ◌∷◌, ◌++◌, length, get_or, take, drop, map, Result, Ok, Err, true≢false}
+use Rattle.std.proofs.lemmas.List.{append-nil, append_assoc, map-append, length-append, length-map, length-take, drop_more, take_more, take_all, take-append-le}
 use Rattle.std.proofs.Math.Nat.{min-le_right}
 use Rattle.std.specs.Result.{IsErr, IfOk}
 use Rattle.std.specs.List.{Contains}
@@ -10,9 +10,9 @@ use Rattle.ipnetwork_blocks.specs.Aggregate.{InUnion, IsAggregate}
 use Rattle.ipnetwork_blocks.specs.LeastList.{IsLeastList}
 use Rattle.ipnetwork_blocks.specs.LeastListLaws.{RangeIsShortest}
 use Rattle.ipnetwork_blocks.specs.Ranges.{FromTo}
-use Rattle.ipnetwork_blocks.proofs.LeastLists.{contains_cons, contains_head, contains_nil, least_of_same, least_of_none}
-use Rattle.ipnetwork_sets.specs.RangeLists.{InRanges}
-use Rattle.ipnetwork_sets.specs.Sets.{AddsLeastList}
+use Rattle.ipnetwork_blocks.proofs.LeastLists.{contains_cons, contains_head, contains_nil, least_of_same, least_of_none, least_unique}
+use Rattle.ipnetwork_sets.specs.RangeLists.{InRanges, AreBlocksOf}
+use Rattle.ipnetwork_sets.specs.Sets.{AddsLeastList, AddsFirstOfLeastList}
 
 abbrev Range : Type 0
 Range = ℕ × ℕ
@@ -37,6 +37,26 @@ pub adds_one : {X : Type 0} (pair : X → Network) (items more : List X) (block 
 adds_one pair items more block left rest blocks added steps h =
     ap (λ t. map pair t ++ rest) added ∙ ap (λ t. t ++ rest) (map-append pair items (block ∷ [])) ∙ append_assoc (map pair items) (pair block ∷ []) rest
     ∙ ap (λ t. map pair items ++ t) (sym steps) ∙ h
+
+-- of all blocks, some come after those that were there, and the others are left
+abbrev pub IsPushed : List Network → List Network → List Network → List Network → Type 0
+IsPushed before items all left = (some : List Network) × (all ≡ some ++ left) × (items ≡ before ++ some)
+
+pub pushing_goes_on : {X : Type 0} (pair : X → Network) (items more : List X) (block : X) (before all left rest : List Network) → more ≡ items ++ block ∷ [] → left ≡ pair block ∷ rest
+    → IsPushed before (map pair items) all left → IsPushed before (map pair more) all rest
+pushing_goes_on pair items more block before all left rest added steps h = (
+  h.0 ++ pair block ∷ [],
+  h.1 ∙ ap (λ t. h.0 ++ t) steps ∙ sym (append_assoc h.0 (pair block ∷ []) rest),
+  ap (map pair) added ∙ map-append pair items (block ∷ []) ∙ ap (λ t. t ++ pair block ∷ []) h.2 ∙ append_assoc before h.0 (pair block ∷ []),
+)
+
+-- so far as it goes, the first blocks of the least list are added
+pub adds_first : (w first last : ℕ) (before items all left : List Network) → IsLeastList w (FromTo first last) all → IsPushed before items all left
+    → AddsFirstOfLeastList w (FromTo first last) before items
+adds_first w first last before items all left h p = (p.0, left, subst (IsLeastList w (FromTo first last)) p.1 h, p.2)
+
+pub adds_first_of_none : (w first last : ℕ) (items : List Network) → last < first → AddsFirstOfLeastList w (FromTo first last) items items
+adds_first_of_none w first last items l = ([], [], least_of_none w (FromTo first last) (λ x f. let a = f.0 in let b = f.1 in omega arith), sym (append-nil items))
 
 -- one item more leaves the front as it is
 pub front_stays : {X : Type 0} (before items more : List X) (block : X) → more ≡ items ++ block ∷ [] → take (length before) items ≡ before → take (length before) more ≡ before
@@ -101,3 +121,32 @@ has_one_more w ns more rs i r law h l is fits adds x =
 pub set_of_ranges : (w : ℕ) (ns set : List Network) (rs : List Range) (i : ℕ) → HasRanges w ns (take i rs) → length rs ≤ i → IsAggregate w ns set → IsLeastList w (InRanges rs) set
 set_of_ranges w ns set rs i h l k =
     least_of_same w (InUnion w ns) (InRanges rs) set (subst (λ (t : List Range). HasRanges w ns t) (take_all i rs l) h) k
+
+-- of the blocks of all ranges, the list has so many, and the others are those of the ranges that are left
+abbrev pub IsOnTheWay : ℕ → List Range → List Range → ℕ → Type 0
+IsOnTheWay w rs left count = (blocks : List Network) → AreBlocksOf w rs blocks → (others : List Network) × AreBlocksOf w left others × (length blocks ≡ count + length others)
+
+pub way_starts : (w : ℕ) (rs : List Range) (count : ℕ) → count ≡ 0 → IsOnTheWay w rs (drop 0 rs) count
+way_starts w rs count none blocks h = (blocks, h, omega (arith, none))
+
+pub way_goes_on : {X : Type 0} (pair : X → Network) (w i : ℕ) (rs : List Range) (r : Range) (items more : List X) (count next : ℕ) → i < length rs → r ≡ get_or rs i r
+    → IsOnTheWay w rs (drop i rs) count → AddsLeastList w (FromTo r.0 r.1) (map pair items) (map pair more) → count ≡ length items → next ≡ length more
+    → IsOnTheWay w rs (drop (i + 1) rs) next
+way_goes_on pair w i rs r items more count next l is h adds was now blocks k =
+    let way = h blocks k in
+    let step : drop i rs ≡ r ∷ drop (i + 1) rs = drop_more rs i r l ∙ ap (λ s. s ∷ drop (i + 1) rs) (sym is) in
+    let parts : AreBlocksOf w (r ∷ drop (i + 1) rs) way.0 = subst (λ (t : List Range). AreBlocksOf w t way.0) step way.1 in
+    let same : length adds.0 ≡ length parts.0 = ap length (least_unique w (FromTo r.0 r.1) adds.0 parts.0 adds.1 parts.2) in
+    let grown : length (map pair more) ≡ length (map pair items ++ adds.0) = ap length adds.2 in
+    let split : length way.0 ≡ length (parts.0 ++ parts.1) = ap length parts.4 in
+    (parts.1, parts.3, omega (arith, way.2, same, grown, split, was, now, length-append (map pair items) adds.0, length-append parts.0 parts.1, length-map items pair, length-map more pair))
+
+-- a list that had no room for the blocks of one range more had none for those of all
+pub way_had_no_room : (w i : ℕ) (rs : List Range) (r : Range) (room capacity count : ℕ) → i < length rs → r ≡ get_or rs i r → IsOnTheWay w rs (drop i rs) count → room ≤ capacity
+    → ((blocks : List Network) → IsLeastList w (FromTo r.0 r.1) blocks → capacity < count + length blocks) → (blocks : List Network) → AreBlocksOf w rs blocks → room < length blocks
+way_had_no_room w i rs r room capacity count l is h le full blocks k =
+    let way = h blocks k in
+    let step : drop i rs ≡ r ∷ drop (i + 1) rs = drop_more rs i r l ∙ ap (λ s. s ∷ drop (i + 1) rs) (sym is) in
+    let parts : AreBlocksOf w (r ∷ drop (i + 1) rs) way.0 = subst (λ (t : List Range). AreBlocksOf w t way.0) step way.1 in
+    let split : length way.0 ≡ length (parts.0 ++ parts.1) = ap length parts.4 in
+    omega (arith, way.2, le, full parts.0 parts.2, split, length-append parts.0 parts.1)

@@ -1,5 +1,6 @@
 -- The laws of the operations on sets.
-use Rattle.std.proofs.Common.{◌≡◌, ◌↔◌, ℕ, ◌⊎◌, inl, inr, sym, refl, subst, ⊎_elim, List, [], ◌∷◌, Bool, true, false, not, IsTrue, is_some, MatchOption, Option, None, Some, arith, true≢false}
+use Rattle.std.proofs.Common.{◌≡◌, ◌↔◌, ℕ, ◌^◌, ◌<◌, ◌≤◌, ◌⊎◌, inl, inr, sym, refl, subst, ⊎_elim, List, [], ◌∷◌, Bool, true, false, not, IsTrue, is_some, MatchOption, Option, None, Some, arith, true≢false}
+use Rattle.std.proofs.lemmas.Bool.{cases_lt}
 use Rattle.std.specs.List.{Contains}
 use Rattle.ipnetwork_family.specs.Network.{Network, Member}
 use Rattle.ipnetwork_blocks.specs.Aggregate.{InUnion}
@@ -7,8 +8,8 @@ use Rattle.ipnetwork_blocks.specs.LeastList.{IsMaximalIn, IsLeastList}
 use Rattle.ipnetwork_blocks.specs.LeastListLaws.{IsShortest}
 use Rattle.ipnetwork_blocks.proofs.LeastLists.{own_address, contains_head, least_of_same}
 use Rattle.ipnetwork_blocks.proofs.MaximalBlocks.{is_shortest, member_or_not}
-use Rattle.ipnetwork_sets.specs.Laws.{CommonPartIsShortest, DifferenceIsShortest, FreePartIsShortest, UnionIsShortest, SameAddressesAreOneSet, CommonPartCommutes, UnionCommutes, CommonPartOfOne, UnionOfOne, DifferenceIsDisjoint, PartsMakeTheWhole, FreeOfUnion, FreeOfCommonPart}
-use Rattle.ipnetwork_sets.specs.Sets.{IsAddressSet, InBoth, InFirstAlone, InNetworkAlone, InEither, IsWithin, AreDisjoint}
+use Rattle.ipnetwork_sets.specs.Laws.{CommonPartIsShortest, DifferenceIsShortest, FreePartIsShortest, ComplementIsShortest, UnionIsShortest, SameAddressesAreOneSet, CommonPartCommutes, UnionCommutes, CommonPartOfOne, UnionOfOne, DifferenceIsDisjoint, PartsMakeTheWhole, FreeOfUnion, FreeOfCommonPart}
+use Rattle.ipnetwork_sets.specs.Sets.{IsAddressSet, InBoth, InFirstAlone, InNetworkAlone, InComplement, InEither, IsWithin, AreDisjoint}
 use Rattle.ipnetwork_sets.specs.Private.LeastBlocks.{in_union, common_blocks, either_blocks, left_blocks}
 use Rattle.ipnetwork_sets.specs.Private.Left.{InLeft}
 use Rattle.ipnetwork_sets.proofs.Steps.{same_list}
@@ -53,6 +54,14 @@ pub free_is_shortest : FreePartIsShortest
 free_is_shortest w n a r h =
     is_shortest w (InNetworkAlone w n a) r
     (λ x. both_or_not (Member w n x) (¬ (InUnion w a x)) (member_or_not w n x) (no_or_not (InUnion w a x) (union_or_not w a x))) (λ x s. s.0.0) h
+
+below_or_not : (x n : ℕ) → (x < n) ⊎ ¬ (x < n)
+below_or_not x n = ⊎_elim (λ (l : x < n). inl l) (λ (le : n ≤ x). inr (λ l. omega (arith, l, le))) (cases_lt x n)
+
+pub complement_is_shortest : ComplementIsShortest
+complement_is_shortest w a r h =
+    is_shortest w (InComplement w a) r
+    (λ x. both_or_not (x < 2 ^ w) (¬ (InUnion w a x)) (below_or_not x (2 ^ w)) (no_or_not (InUnion w a x) (union_or_not w a x))) (λ x s. s.0) h
 
 pub union_is_shortest : UnionIsShortest
 union_is_shortest w a b r h =

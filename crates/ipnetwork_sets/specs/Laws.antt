@@ -4,7 +4,7 @@ use Rattle.ipnetwork_family.specs.Network.{Network}
 use Rattle.ipnetwork_blocks.specs.Aggregate.{SameUnion}
 use Rattle.ipnetwork_blocks.specs.LeastList.{IsLeastList}
 use Rattle.ipnetwork_blocks.specs.LeastListLaws.{IsShortest}
-use Rattle.ipnetwork_sets.specs.Sets.{IsAddressSet, InBoth, InFirstAlone, InNetworkAlone, InEither, AreDisjoint}
+use Rattle.ipnetwork_sets.specs.Sets.{IsAddressSet, InBoth, InFirstAlone, InNetworkAlone, InComplement, InEither, AreDisjoint}
 
 -- the blocks of each operation have the addresses of the set, and no fewer networks have
 abbrev pub CommonPartIsShortest : Type 0
@@ -15,6 +15,9 @@ DifferenceIsShortest = (w : ℕ) (a b blocks : List Network) → IsLeastList w (
 
 abbrev pub FreePartIsShortest : Type 0
 FreePartIsShortest = (w : ℕ) (n : Network) (a blocks : List Network) → IsLeastList w (InNetworkAlone w n a) blocks → IsShortest w (InNetworkAlone w n a) blocks
+
+abbrev pub ComplementIsShortest : Type 0
+ComplementIsShortest = (w : ℕ) (a blocks : List Network) → IsLeastList w (InComplement w a) blocks → IsShortest w (InComplement w a) blocks
 
 abbrev pub UnionIsShortest : Type 0
 UnionIsShortest = (w : ℕ) (a b blocks : List Network) → IsLeastList w (InEither w a b) blocks → IsShortest w (InEither w a b) blocks

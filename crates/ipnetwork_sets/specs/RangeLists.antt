@@ -1,6 +1,8 @@
 -- Sets of addresses as ranges: each a first and a last address.
-use Rattle.std.specs.Prelude.{ℕ, ◌+◌, ◌<◌, ◌≤◌, ◌↔◌, List}
+use Rattle.std.specs.Prelude.{◌≡◌, ℕ, ◌+◌, ◌<◌, ◌≤◌, ◌↔◌, List, [], ◌∷◌, ◌++◌}
 use Rattle.std.specs.List.{All, AllPairs, Contains}
+use Rattle.ipnetwork_family.specs.Network.{Network}
+use Rattle.ipnetwork_blocks.specs.LeastList.{IsLeastList}
 use Rattle.ipnetwork_blocks.specs.Ranges.{FromTo}
 
 -- the address is one of the addresses of some range of the list. A range whose first address comes after its last has
@@ -14,3 +16,8 @@ pub record IsRangeList (set : ℕ → Type 0) (ranges : List (ℕ × ℕ)) : Typ
   pub addresses : (x : ℕ) → InRanges ranges x ↔ set x
   pub ordered : All (λ r. r.0 ≤ r.1) ranges
   pub apart : AllPairs (λ r s. r.1 + 1 < s.0) ranges
+
+-- the blocks of each range of the list, one range after the other, whether or not they overlap
+abbrev pub AreBlocksOf : ℕ → List (ℕ × ℕ) → List Network → Type 0
+AreBlocksOf w [] blocks = blocks ≡ []
+AreBlocksOf w (r ∷ rs) blocks = (first : List Network) × (others : List Network) × IsLeastList w (FromTo r.0 r.1) first × AreBlocksOf w rs others × (blocks ≡ first ++ others)

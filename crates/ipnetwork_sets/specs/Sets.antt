@@ -43,3 +43,7 @@ AreDisjoint w first second = (x : ℕ) → ¬ (InBoth w first second x)
 -- after those that were in the list come the blocks of the set
 abbrev pub AddsLeastList : ℕ → (ℕ → Type 0) → List Network → List Network → Type 0
 AddsLeastList w set before after = (blocks : List Network) × IsLeastList w set blocks × (after ≡ before ++ blocks)
+
+-- after those that were in the list come the first blocks of the set: all of them, some or none
+abbrev pub AddsFirstOfLeastList : ℕ → (ℕ → Type 0) → List Network → List Network → Type 0
+AddsFirstOfLeastList w set before after = (some : List Network) × (others : List Network) × IsLeastList w set (some ++ others) × (after ≡ before ++ some)

@@ -1,10 +1,10 @@
 //! Sets made of ranges of addresses.
-ghost use Rattle.std.specs.Prelude.{◌≡◌, ◌+◌, ◌<◌, ◌^◌, IfOk, OnErr, List, length, map, take, vec_capacity, vec_len};
+ghost use Rattle.std.specs.Prelude.{◌≡◌, ◌+◌, ◌<◌, ◌≤◌, ◌^◌, IfOk, OnErr, List, length, map, take, vec_capacity, vec_len};
 ghost use Rattle.ipnetwork_family.specs.Network.{Network};
 ghost use Rattle.ipnetwork_blocks.specs.LeastList.{IsLeastList};
 ghost use Rattle.ipnetwork_blocks.specs.Ranges.{FromTo};
-ghost use Rattle.ipnetwork_sets.specs.RangeLists.{InRanges};
-ghost use Rattle.ipnetwork_sets.specs.Sets.{AddsLeastList};
+ghost use Rattle.ipnetwork_sets.specs.RangeLists.{InRanges, AreBlocksOf};
+ghost use Rattle.ipnetwork_sets.specs.Sets.{AddsLeastList, AddsFirstOfLeastList};
 
 use crate::address_set::AddressSet;
 use ipnetwork_blocks::{AddressSpace, laws, range_to_blocks};
@@ -24,7 +24,8 @@ impl<N: AddressSpace> AddressSet<N> {
         ranges: &[(N::Addr, N::Addr)],
         mut memory: Vec<N>,
     ) -> Result<Self, AllocError>
-        ensures { IfOk result (λ set. IsLeastList N.WIDTH (InRanges (map (λ r. (N.number r.0, N.number r.1)) ranges.now)) set) }
+        ensures set { IfOk result (λ set. IsLeastList N.WIDTH (InRanges (map (λ r. (N.number r.0, N.number r.1)) ranges.now)) set) }
+        ensures room { (blocks : List Network) → AreBlocksOf N.WIDTH (map (λ r. (N.number r.0, N.number r.1)) ranges.now) blocks → OnErr result (vec_capacity memory < length blocks) }
     {
         laws::ranges_are_shortest();
         memory.clear();
@@ -37,7 +38,7 @@ impl<N: AddressSpace> AddressSet<N> {
 
 /// Adds the blocks whose addresses are those from `first` to `last`, both included, to the networks: the fewest
 /// possible, and none if `first` comes after `last`. What the list had stays at its front. `AllocError` means that the
-/// list had to grow and memory ran out; some of the blocks may have been added.
+/// list had to grow and memory ran out; the first of the blocks may have been added. The capacity never shrinks.
 ///
 /// ```
 /// let mut networks = Vec::<Ipv4Network>::new(rt.alloc());
@@ -52,6 +53,8 @@ pub fn push_range<N: AddressSpace>(
     ensures address { N.number last < 2 ^ N.WIDTH }
     ensures added { IfOk result (λ _. AddsLeastList N.WIDTH (FromTo (N.number first) (N.number last)) (map N.pair networks.old.items) (map N.pair networks.new.items)) }
     ensures front { take (length networks.old.items) networks.new.items ≡ networks.old.items }
+    ensures part { AddsFirstOfLeastList N.WIDTH (FromTo (N.number first) (N.number last)) (map N.pair networks.old.items) (map N.pair networks.new.items) }
+    ensures capacity { vec_capacity networks.old ≤ vec_capacity networks.new }
     ensures room { (blocks : List Network) → IsLeastList N.WIDTH (FromTo (N.number first) (N.number last)) blocks → OnErr result (vec_capacity networks.old < vec_len networks.old + length blocks) }
 {
     // The clause `address` of this call says that `last` is an address of the family.

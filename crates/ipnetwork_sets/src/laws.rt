@@ -6,7 +6,7 @@ ghost use Rattle.ipnetwork_sets.specs.Equality.{SameBlocksAreEqual};
 ghost use Rattle.ipnetwork_sets.specs.QuestionLaws.{NetworkMeetsUnion, WithinIfNothingIsLeft, DisjointIfNothingIsCommon, ComplementIsDisjoint, ComplementMakesTheWhole, FreePartIsADifference, ExclusionIsADifference, FreeBlockLiesInFreePart, AllAddressesAreCounted};
 ghost use Rattle.ipnetwork_family.specs.Family.{text_of, v4_family, v6_family};
 ghost use Rattle.ipnetwork_sets.specs.Texts.{LinesTellSets};
-ghost use Rattle.ipnetwork_sets.specs.Laws.{CommonPartIsShortest, DifferenceIsShortest, FreePartIsShortest, UnionIsShortest, SameAddressesAreOneSet, CommonPartCommutes, UnionCommutes, CommonPartOfOne, UnionOfOne, DifferenceIsDisjoint, PartsMakeTheWhole, FreeOfUnion, FreeOfCommonPart};
+ghost use Rattle.ipnetwork_sets.specs.Laws.{CommonPartIsShortest, DifferenceIsShortest, FreePartIsShortest, ComplementIsShortest, UnionIsShortest, SameAddressesAreOneSet, CommonPartCommutes, UnionCommutes, CommonPartOfOne, UnionOfOne, DifferenceIsDisjoint, PartsMakeTheWhole, FreeOfUnion, FreeOfCommonPart};
 
 use ipnetwork_blocks::laws;
 use ipnetwork_family::laws as network_laws;
@@ -17,6 +17,7 @@ pub fn shortest()
     ensures common { CommonPartIsShortest }
     ensures difference { DifferenceIsShortest }
     ensures free { FreePartIsShortest }
+    ensures complement { ComplementIsShortest }
     ensures union { UnionIsShortest }
 {}
 
