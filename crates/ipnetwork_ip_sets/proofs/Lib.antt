@@ -2,4 +2,5 @@ pub mod Families
 pub mod FamilySets
 pub mod QuestionLaws
 pub mod Questions
+pub mod Rooms
 pub mod SetLaws

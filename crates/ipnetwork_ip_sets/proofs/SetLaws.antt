@@ -64,7 +64,7 @@ v6_set a h = v6_part (InIpUnion a) (InUnion 128 (filter_map as_v6 a)) a (in_v6 a
 
 -- ---- the least list of a set, where that of each family has the addresses of the family
 
-one_ip_list : (S : IpAddr → Type 0) (r s : List IpNetwork) → IsIpLeastList S r → IsIpLeastList S s → r ≡ s
+pub one_ip_list : (S : IpAddr → Type 0) (r s : List IpNetwork) → IsIpLeastList S r → IsIpLeastList S s → r ≡ s
 one_ip_list S r s h k =
     h.2 ∙ ap (λ l. v4_then_v6 l h.1) (least_unique 32 (λ x. S (addresses.V4 x)) h.0 k.0 h.3 k.3)
     ∙ ap (λ l. v4_then_v6 k.0 l) (least_unique 128 (λ x. S (addresses.V6 x)) h.1 k.1 h.4 k.4) ∙ sym k.2

@@ -1,5 +1,6 @@
 -- Sets of addresses of either family, as lists of blocks.
-use Rattle.std.specs.Prelude.{◌≡◌, ◌⊎◌, ◌++◌, List, map}
+use Rattle.std.specs.Prelude.{◌≡◌, ℕ, ◌<◌, ◌⊎◌, ◌++◌, List, length, map}
+use Rattle.std.specs.List.{filter_map}
 use Rattle.ipnetwork_addr.specs.Either.{FitsIp}
 use Rattle.ipnetwork_addr.specs.declared.ip.IpAddr.{IpAddr}
 use Rattle.ipnetwork_addr.specs.declared.ip.IpAddr.TheVariants as addresses
@@ -7,7 +8,7 @@ use Rattle.ipnetwork_family.specs.Network.{Network}
 use Rattle.ipnetwork.specs.IpNetworks.{IpMember}
 use Rattle.ipnetwork.specs.declared.ip_network.IpNetwork.{IpNetwork}
 use Rattle.ipnetwork.specs.declared.ip_network.IpNetwork.TheVariants.{V4, V6}
-use Rattle.ipnetwork_blocks.specs.AggregateIp.{IsIpAggregate}
+use Rattle.ipnetwork_blocks.specs.AggregateIp.{as_v4, as_v6, IsIpAggregate}
 use Rattle.ipnetwork_blocks.specs.AggregateIpLaws.{InIpUnion}
 use Rattle.ipnetwork_blocks.specs.LeastList.{IsLeastList}
 
@@ -52,3 +53,7 @@ IsIpWithin first second = (x : IpAddr) → InIpUnion first x → InIpUnion secon
 -- no address is one of both
 abbrev pub AreIpDisjoint : List IpNetwork → List IpNetwork → Type 0
 AreIpDisjoint first second = (x : IpAddr) → ¬ (InIpBoth first second x)
+
+-- of two lists with room for so many IPv4 networks and so many IPv6 networks, one has too little for these
+abbrev pub HasTooLittleRoom : ℕ → ℕ → List IpNetwork → Type 0
+HasTooLittleRoom v4_room v6_room networks = (v4_room < length (filter_map as_v4 networks)) ⊎ (v6_room < length (filter_map as_v6 networks))

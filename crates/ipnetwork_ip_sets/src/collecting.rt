@@ -1,5 +1,6 @@
 //! Sets made from iterators over blocks, in lists of the caller's.
-ghost use Rattle.std.specs.Prelude.{◌≡◌, IfOk};
+ghost use Rattle.std.specs.Prelude.{◌≡◌, IfOk, OnErr, vec_capacity};
+ghost use Rattle.ipnetwork_ip_sets.specs.IpSets.{HasTooLittleRoom};
 
 use crate::blocks::IpBlocks;
 use crate::ip_address_set::IpAddressSet;
@@ -21,7 +22,8 @@ impl IpAddressSet {
         v4_memory: Vec<Ipv4Network>,
         v6_memory: Vec<Ipv6Network>,
     ) -> Result<Self, AllocError>
-        ensures { IfOk result (λ set. set ≡ self.now) }
+        ensures set { IfOk result (λ set. set ≡ self.now) }
+        ensures room { OnErr result (HasTooLittleRoom (vec_capacity v4_memory) (vec_capacity v6_memory) self.now) }
     {
         self.iter().into_set(v4_memory, v6_memory)
     }
@@ -42,7 +44,8 @@ impl<'a> IpBlocks<Blocks<'a, Ipv4Network>, Blocks<'a, Ipv6Network>> {
         v4_memory: Vec<Ipv4Network>,
         v6_memory: Vec<Ipv6Network>,
     ) -> Result<IpAddressSet, AllocError>
-        ensures { IfOk result (λ set. set ≡ self.entry) }
+        ensures set { IfOk result (λ set. set ≡ self.entry) }
+        ensures room { OnErr result (HasTooLittleRoom (vec_capacity v4_memory) (vec_capacity v6_memory) self.entry) }
     {
         let v4 = self.v4.into_set(v4_memory)?;
         let v6 = self.v6.into_set(v6_memory)?;
@@ -65,7 +68,8 @@ impl<'a> IpBlocks<Intersection<'a, Ipv4Network>, Intersection<'a, Ipv6Network>> 
         v4_memory: Vec<Ipv4Network>,
         v6_memory: Vec<Ipv6Network>,
     ) -> Result<IpAddressSet, AllocError>
-        ensures { IfOk result (λ set. set ≡ self.entry) }
+        ensures set { IfOk result (λ set. set ≡ self.entry) }
+        ensures room { OnErr result (HasTooLittleRoom (vec_capacity v4_memory) (vec_capacity v6_memory) self.entry) }
     {
         let v4 = self.v4.into_set(v4_memory)?;
         let v6 = self.v6.into_set(v6_memory)?;
@@ -88,7 +92,8 @@ impl<'a> IpBlocks<Difference<'a, Ipv4Network>, Difference<'a, Ipv6Network>> {
         v4_memory: Vec<Ipv4Network>,
         v6_memory: Vec<Ipv6Network>,
     ) -> Result<IpAddressSet, AllocError>
-        ensures { IfOk result (λ set. set ≡ self.entry) }
+        ensures set { IfOk result (λ set. set ≡ self.entry) }
+        ensures room { OnErr result (HasTooLittleRoom (vec_capacity v4_memory) (vec_capacity v6_memory) self.entry) }
     {
         let v4 = self.v4.into_set(v4_memory)?;
         let v6 = self.v6.into_set(v6_memory)?;
@@ -111,7 +116,8 @@ impl<'a> IpBlocks<Union<'a, Ipv4Network>, Union<'a, Ipv6Network>> {
         v4_memory: Vec<Ipv4Network>,
         v6_memory: Vec<Ipv6Network>,
     ) -> Result<IpAddressSet, AllocError>
-        ensures { IfOk result (λ set. set ≡ self.entry) }
+        ensures set { IfOk result (λ set. set ≡ self.entry) }
+        ensures room { OnErr result (HasTooLittleRoom (vec_capacity v4_memory) (vec_capacity v6_memory) self.entry) }
     {
         let v4 = self.v4.into_set(v4_memory)?;
         let v6 = self.v6.into_set(v6_memory)?;

@@ -1,10 +1,10 @@
 //! The type of a set of addresses of either family.
-ghost use Rattle.std.specs.Prelude.{◌≡◌, ◌↔◌, ◌++◌, ◌∷◌, [], IsTrue, IfOk, OnOk};
+ghost use Rattle.std.specs.Prelude.{◌≡◌, ◌↔◌, ◌+◌, ◌<◌, ◌≤◌, ◌⊎◌, ◌++◌, ◌∷◌, [], length, IsTrue, IfOk, OnOk, OnErr, vec_capacity, vec_len};
 ghost use Rattle.std.specs.List.{filter_map};
 ghost use Rattle.ipnetwork_blocks.specs.AggregateIp.{as_v4, as_v6, IsIpAggregate};
 ghost use Rattle.ipnetwork_blocks.specs.AggregateIpLaws.{InIpUnion, LiesInIpUnion};
 ghost use Rattle.ipnetwork_sets.specs.Sets.{IsAddressSet};
-ghost use Rattle.ipnetwork_ip_sets.specs.IpSets.{v4_then_v6, IsIpAddressSet, MeetsIpUnion};
+ghost use Rattle.ipnetwork_ip_sets.specs.IpSets.{v4_then_v6, IsIpAddressSet, MeetsIpUnion, HasTooLittleRoom};
 
 use crate::blocks::IpBlocks;
 use ipnetwork::{IpAddr, IpNetwork, Ipv4Network, Ipv6Network};
@@ -58,7 +58,8 @@ impl IpAddressSet {
         mut v4_memory: Vec<Ipv4Network>,
         mut v6_memory: Vec<Ipv6Network>,
     ) -> Result<Self, AllocError>
-        ensures { IfOk result (λ set. IsIpAggregate networks.now set) }
+        ensures set { IfOk result (λ set. IsIpAggregate networks.now set) }
+        ensures room { OnErr result (HasTooLittleRoom (vec_capacity v4_memory) (vec_capacity v6_memory) networks.now) }
     {
         v4_memory.clear();
         v6_memory.clear();
@@ -229,6 +230,9 @@ fn push_network(
 ) -> Result<(), AllocError>
     ensures v4 { OnOk result (v4.new.items ≡ v4.old.items ++ filter_map as_v4 (network ∷ [])) }
     ensures v6 { OnOk result (v6.new.items ≡ v6.old.items ++ filter_map as_v6 (network ∷ [])) }
+    ensures v4_capacity { vec_capacity v4.old ≤ vec_capacity v4.new }
+    ensures v6_capacity { vec_capacity v6.old ≤ vec_capacity v6.new }
+    ensures room { OnErr result ((vec_capacity v4.old < vec_len v4.old + length (filter_map as_v4 (network ∷ []))) ⊎ (vec_capacity v6.old < vec_len v6.old + length (filter_map as_v6 (network ∷ [])))) }
 {
     match network {
         IpNetwork::V4(network) => v4.push(network)?,

@@ -1,6 +1,7 @@
 //! The operations on sets.
-ghost use Rattle.std.specs.Prelude.{◌↔◌, IsTrue, IfOk};
-ghost use Rattle.ipnetwork_ip_sets.specs.IpSets.{IsIpLeastList, InIpBoth, InIpFirstAlone, InIpComplement, InIpEither, IsIpWithin, AreIpDisjoint};
+ghost use Rattle.std.specs.Prelude.{◌↔◌, IsTrue, IfOk, OnErr, List, vec_capacity};
+ghost use Rattle.ipnetwork.specs.declared.ip_network.IpNetwork.{IpNetwork};
+ghost use Rattle.ipnetwork_ip_sets.specs.IpSets.{IsIpLeastList, InIpBoth, InIpFirstAlone, InIpComplement, InIpEither, IsIpWithin, AreIpDisjoint, HasTooLittleRoom};
 
 use crate::blocks::IpBlocks;
 use crate::ip_address_set::IpAddressSet;
@@ -106,7 +107,8 @@ impl IpAddressSet {
         v4_memory: Vec<Ipv4Network>,
         v6_memory: Vec<Ipv6Network>,
     ) -> Result<Self, AllocError>
-        ensures { IfOk result (λ set. IsIpLeastList (InIpEither self.now other.now) set) }
+        ensures set { IfOk result (λ set. IsIpLeastList (InIpEither self.now other.now) set) }
+        ensures room { (blocks : List IpNetwork) → IsIpLeastList (InIpEither self.now other.now) blocks → OnErr result (HasTooLittleRoom (vec_capacity v4_memory) (vec_capacity v6_memory) blocks) }
     {
         self.union_blocks(other).into_set(v4_memory, v6_memory)
     }
