@@ -118,13 +118,13 @@ module _ (filter_by : Filter) where
 
   -- ---- lines that are too long
 
-  strip_length : (l : List ℕ) → length l ≤ length (strip_carriage_return l) + 1
+  pub strip_length : (l : List ℕ) → length l ≤ length (strip_carriage_return l) + 1
   strip_length l = elim (slice_index l (length l - 1) == 13) as (λ v. length l ≤ length (cond v (take (length l - 1) l) l) + 1) [
     | true ↦ omega (arith, length-take (length l - 1) l)
     | false ↦ omega arith
   ]
 
-  some_bytes : (p : List ℕ) → 1048577 < length p → (length p == 0) ≡ false
+  pub some_bytes : (p : List ℕ) → 1048577 < length p → (length p == 0) ≡ false
   some_bytes p long = ne_eqb (length p) 0 (λ none. omega (arith, none, long))
 
   -- two beginnings of a line that are too long come to the same

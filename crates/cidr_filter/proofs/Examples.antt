@@ -1,5 +1,5 @@
 -- Values at which a misreading of the definitions would show.
-use Rattle.std.proofs.Common.{◌≡◌, ℕ, List, [], ◌∷◌, Bool, true, false, not, ◌&&◌, ◌||◌, ◌∙◌, inl, inr, refl, ap, subst, arith}
+use Rattle.std.proofs.Common.{◌≡◌, ℕ, length, List, [], ◌∷◌, Bool, true, false, not, ◌&&◌, ◌||◌, ◌∙◌, inl, inr, refl, ap, subst, arith}
 use Rattle.std.specs.Prelude.{codes, bytes_eq, if◌then◌else◌, String, Some, None}
 use Rattle.std.specs.List.{list_all}
 use Rattle.std.specs.Fmt.{digits}
@@ -7,6 +7,7 @@ use Rattle.std.specs.String.{string_bytes}
 use Rattle.std.specs.Str.Lines.{lines}
 use Rattle.ipnetwork_addr.specs.Either.{NamesIp}
 use Rattle.ipnetwork_addr.specs.declared.ip.IpAddr.{IpAddr}
+use Rattle.ipnetwork.specs.IpNetworks.{IpMember}
 use Rattle.ipnetwork.specs.declared.ip_network.IpNetwork.TheVariants.{V4}
 use Rattle.list_entries.specs.declared.entry.EntryFault.TheVariants.{Prefix}
 use Rattle.address_lists.specs.Lists.{ReadLists, at_list, TakesLines}
@@ -15,6 +16,7 @@ use Rattle.program_io.specs.Lists.{KnownLists}
 use Rattle.cidr_filter.specs.Fields.{field_of}
 use Rattle.cidr_filter.specs.Filters.{IsListed, Judges, is_selected, is_refused, mark_of, output_of}
 use Rattle.cidr_filter.specs.Lines.{LogLine, log_lines, ended_lines, content, printed}
+use Rattle.cidr_filter.specs.Listed.{IsStored, IsLongestBlock}
 use Rattle.cidr_filter.specs.Logs.{logs_of, IsAllOf, IsFirstOf, FiltersLogs}
 use Rattle.cidr_filter.specs.Options.{number_of, field_option, separator_option, bad_option, letters_option, begins, in_one_word, option_of}
 use Rattle.cidr_filter.specs.CommandLines.{files_among, inputs_among, is_plain}
@@ -91,6 +93,21 @@ line_outside address names listed = (omega arith, (address, (codes "10.0.0.1", r
 
 pub address_in_another_field : ((address : IpAddr) → ¬ (NamesIp (codes "x") address)) → Judges (by false bads.Drop) (codes "x 10.0.0.1") verdicts.Bad
 address_in_another_field none = (omega arith, λ address holds. none address (subst (λ (f : List ℕ). NamesIp f address) (same_some holds.0 (codes "x") _ holds.1 refl) holds.2))
+
+-- 1,048,576 bytes are judged, and a byte more is too long
+pub longest_line : (line : List ℕ) → length line ≡ 1048576 → Judges (by false bads.Drop) line verdicts.TooLong → ⊥
+longest_line line e long = omega (arith, e, long)
+
+pub line_too_long : (line : List ℕ) → length line ≡ 1048577 → Judges (by false bads.Drop) line verdicts.TooLong
+line_too_long line e = omega (arith, e)
+
+pub too_long_whatever_is_in_it : (line : List ℕ) → length line ≡ 1048577 → Judges (by false bads.Drop) line verdicts.Bad → ⊥
+too_long_whatever_is_in_it line e bad = omega (arith, e, bad.0)
+
+-- if the block of 8 bits is told, that of 16 does not hold the address
+pub no_longer_block : (tables : Tables) (address : IpAddr) → let wide = V4 (record { address = 167772160; prefix = 8 }) in let narrow = V4 (record { address = 167772160; prefix = 16 }) in
+    IsLongestBlock tables address wide → IsStored tables narrow → IpMember narrow address → ⊥
+no_longer_block tables address longest stored member = omega (arith, longest.longest (V4 (record { address = 167772160; prefix = 16 })) stored member)
 
 pub inside_is_selected : is_selected (by false bads.Keep) (verdicts.Inside None) ≡ true
 inside_is_selected = refl
@@ -350,6 +367,28 @@ module _ (known : KnownLists) (inside : Judges (by false bads.Stop) (codes "in")
       },
       opened,
     );
+    wrote = written;
+    told = told;
+    status = status;
+  })
+
+  -- a read that fails: the lines before it whose line feed was read were filtered, and what follows them is no line
+  pub stopped_by_a_failed_read : known.may_open (codes "a") true → known.may_fail (codes "a") → IsFirstOf known (codes "a") (codes "in\nin") → {W E : Type 0} (end : Ending W E) → HasWritten end (codes "in\n")
+      → HasTold end (codes "a: cannot read\n") → end.status ≡ 2 → EndsLogs (by false bads.Stop) false known (codes "a" ∷ codes "b" ∷ []) end
+  stopped_by_a_failed_read opened fails a end written told status = inr (record {
+    before = [];
+    name = codes "a";
+    behind = codes "b" ∷ [];
+    output = [];
+    selected = 0;
+    lines = ended (codes "in") ∷ [];
+    added = codes "in\n";
+    more = 1;
+    fault = faults.Read;
+    logs = refl;
+    filters = (refl, refl);
+    first = (verdicts.Inside None, [], 0, inside, refl, (refl, refl), refl, refl);
+    halts = (codes "in\nin", a, refl, opened, fails);
     wrote = written;
     told = told;
     status = status;

@@ -15,3 +15,4 @@ pub mod Runs
 pub mod Stopping
 pub mod Tables
 pub mod Told
+pub mod WholeLines

@@ -1,5 +1,5 @@
 -- The lines of a log.
-use Rattle.std.specs.Prelude.{ℕ, Bool, true, false, List, [], ◌∷◌, ◌++◌, length, ◌==◌, if◌then◌else◌, filter}
+use Rattle.std.specs.Prelude.{◌≡◌, ◌<◌, ◌⊎◌, ℕ, Bool, true, false, List, [], ◌∷◌, ◌++◌, length, ◌==◌, if◌then◌else◌, filter}
 use Rattle.std.specs.List.{slice_split}
 use Rattle.std.specs.Str.Lines.{strip_carriage_return}
 
@@ -25,6 +25,10 @@ ended_lines log = filter (λ line. line.is_ended) (log_lines log)
 -- a line without its end, which is a line feed, or one carriage return and a line feed
 abbrev pub content : LogLine → List ℕ
 content line = if line.is_ended then strip_carriage_return line.bytes else line.bytes
+
+-- whatever is read after it, this is a line: it is ended, or the log ends with it, or it is too long without its end
+abbrev pub IsWhole : Type 0 → LogLine → Type 0
+IsWhole ends line = (line.is_ended ≡ true) ⊎ (ends ⊎ (1048577 < length line.bytes))
 
 -- a line as it is printed: as it was, and with a line feed if it had none
 abbrev pub printed : LogLine → List ℕ

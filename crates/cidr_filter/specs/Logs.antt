@@ -1,10 +1,10 @@
 -- Logs that are filtered in turn.
-use Rattle.std.specs.Prelude.{◌≡◌, ℕ, ◌+◌, ◌-◌, ◌^◌, ◌<◌, ◌⊎◌, Bool, true, false, List, [], ◌∷◌, ◌++◌, length, map, codes, Some, String}
+use Rattle.std.specs.Prelude.{◌≡◌, ℕ, ◌+◌, ◌-◌, ◌^◌, ◌<◌, Bool, true, false, List, [], ◌∷◌, ◌++◌, length, map, codes, Some, String}
 use Rattle.std.specs.String.{string_bytes}
 use Rattle.line_engine.specs.Answers.{IsBeginning}
 use Rattle.program_io.specs.Lists.{KnownLists}
 use Rattle.cidr_filter.specs.Filters.{Judges, is_refused, Filters}
-use Rattle.cidr_filter.specs.Lines.{LogLine, log_lines, ended_lines, content}
+use Rattle.cidr_filter.specs.Lines.{LogLine, log_lines, ended_lines, content, IsWhole}
 use Rattle.cidr_filter.specs.declared.filter.Filter.{Filter}
 use Rattle.cidr_filter.specs.declared.filter.Verdict.{Verdict}
 use Rattle.cidr_filter.specs.declared.filter.Verdict.TheVariants as verdicts
@@ -32,15 +32,15 @@ FiltersLogs filter counts known (name ∷ names) output selected = (read : List 
     × IsAllOf known name read × Filters filter counts (log_lines read) added one × FiltersLogs filter counts known names others more
     × (output ≡ added ++ others) × (selected ≡ one + more)
 
--- of the log of this name some bytes were read; after these first lines of them a line of this verdict ends the run. It
--- is ended, or the log is, or it is too long without its end
+-- of the log of this name some bytes were read; after these first lines of them a line of this verdict ends the run,
+-- which is a line whatever comes after it
 pub record RefusesAfter (filter : Filter) (known : KnownLists) (name : List ℕ) (lines : List LogLine) (verdict : Verdict) : Type 0 where
   pub read : List ℕ
   pub line : LogLine
   pub others : List LogLine
   pub is_first : IsFirstOf known name read
   pub are : log_lines read ≡ lines ++ line ∷ others
-  pub is_line : (line.is_ended ≡ true) ⊎ (IsAllOf known name read ⊎ (1048577 < length line.bytes))
+  pub is_line : IsWhole (IsAllOf known name read) line
   pub judges : Judges filter (content line) verdict
   pub refused : is_refused filter verdict ≡ true
 

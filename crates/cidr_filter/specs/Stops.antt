@@ -1,9 +1,9 @@
 -- How the filtering of a log ends.
-use Rattle.std.specs.Prelude.{◌≡◌, ℕ, ◌-◌, ◌^◌, ◌<◌, ◌⊎◌, Bool, true, false, IsTrue, List, ◌∷◌, ◌++◌, length, Option, Result, Ok, Err}
+use Rattle.std.specs.Prelude.{◌≡◌, ℕ, ◌-◌, ◌^◌, ◌<◌, Bool, true, false, IsTrue, List, ◌∷◌, ◌++◌, length, Option, Result, Ok, Err}
 use Rattle.std.specs.Io.KnownBytes.{Consumes, IsAtEnd}
 use Rattle.line_engine.specs.Outputs.{AppendsBeginning}
 use Rattle.cidr_filter.specs.Filters.{Judges, is_refused, Filters}
-use Rattle.cidr_filter.specs.Lines.{LogLine, log_lines, ended_lines, content}
+use Rattle.cidr_filter.specs.Lines.{LogLine, log_lines, ended_lines, content, IsWhole}
 use Rattle.cidr_filter.specs.Stands.{Stand, Goes}
 use Rattle.cidr_filter.specs.declared.filter.Filter.{Filter}
 use Rattle.cidr_filter.specs.declared.filter.Verdict.{Verdict}
@@ -40,10 +40,6 @@ pub record WritesBeginning (filter : Filter) (counts : Bool) (remained remains :
   pub filters : Filters filter counts first added count
   pub beginning : AppendsBeginning old.holds new.holds (old.waits ++ added)
 
--- whatever is read after it, this is a line: it is ended, or the log is, or it is too long without its end
-abbrev pub IsLine : Option (List ℕ) → LogLine → Type 0
-IsLine remains line = (line.is_ended ≡ true) ⊎ (IsAtEnd remains ⊎ (1048577 < length line.bytes))
-
 -- of what was read the first lines were filtered, and the next line, of this verdict, ends the run
 pub record EndsAtLine (filter : Filter) (counts : Bool) (remained remains : Option (List ℕ)) (old new : Stand) (verdict : Verdict) : Type 0 where
   pub read : List ℕ
@@ -56,7 +52,7 @@ pub record EndsAtLine (filter : Filter) (counts : Bool) (remained remains : Opti
   pub lines : log_lines read ≡ first ++ line ∷ others
   pub filters : Filters filter counts first added count
   pub goes : Goes old new added count (length first)
-  pub is_line : IsLine remains line
+  pub is_line : IsWhole (IsAtEnd remains) line
   pub judges : Judges filter (content line) verdict
   pub refused : is_refused filter verdict ≡ true
 

@@ -1,6 +1,6 @@
 //! What follows from the clause of a log. Each function's contract is a law: it does nothing, and a proof that calls it
 //! may use the law.
-ghost use Rattle.cidr_filter.specs.Laws.{LinesHaveOneVerdict, LogsHaveOneOutput, OutputsOfPartsFollow};
+ghost use Rattle.cidr_filter.specs.Laws.{LinesHaveOneVerdict, LogsHaveOneOutput, OutputsOfPartsFollow, LinesThatEndRunsAreWhole};
 
 use ipnetwork_addr::laws::ip_text_names_one;
 use ipnetwork_table::laws::blocks_of_any_width_that_meet;
@@ -17,4 +17,10 @@ pub fn a_log_has_one_output()
 /// If a log is cut directly after a line feed, its output is that of the first part and then that of the second.
 pub fn outputs_of_parts_follow()
     ensures { OutputsOfPartsFollow }
+{}
+
+/// A line that ends a run ends it whatever comes after what was read: it is a line of the log, in its place, that is
+/// refused for the same reason.
+pub fn lines_that_end_runs_are_whole()
+    ensures { LinesThatEndRunsAreWhole }
 {}
