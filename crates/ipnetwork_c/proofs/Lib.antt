@@ -5,7 +5,6 @@ pub mod Offsets
 pub mod Families
 pub mod MemberCounts
 pub mod Truths
-pub mod DifferingBits
 pub mod Rows
 pub mod Searching
 pub mod BlocksPut

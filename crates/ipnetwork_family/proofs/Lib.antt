@@ -6,6 +6,7 @@ pub mod ComputedNetworks
 pub mod ComputedV4
 pub mod ComputedV6
 pub mod CountedBits
+pub mod EightSegments
 pub mod ErrorExamples
 pub mod Examples
 pub mod FamilyExamples
