@@ -13,6 +13,7 @@ pub mod FamilyExamples
 pub mod Generic
 pub mod JsonExamples
 pub mod JsonTexts
+mod LawExamples
 pub mod Masks
 pub mod Members
 pub mod NetworkTexts
