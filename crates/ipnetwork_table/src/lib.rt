@@ -5,6 +5,7 @@
 #![tactic(auto)]
 
 mod common_bits;
+mod counts;
 mod entries;
 pub mod laws;
 mod table;

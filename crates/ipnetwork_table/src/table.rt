@@ -1,11 +1,13 @@
 //! A table of values by block.
-ghost use Rattle.std.specs.Prelude.{◌≡◌, ℕ, ◌+◌, ◌≤◌, OnOk, OnErr, IfOk, None, MatchOption, ◌↔◌, IsTrue, IsSome};
+ghost use Rattle.std.specs.Prelude.{◌≡◌, ℕ, ◌+◌, ◌≤◌, OnOk, OnErr, IfOk, None, MatchOption, ◌↔◌, IsTrue, IsSome, MatchBool};
 ghost use Rattle.std.specs.FinMap as map;
 ghost use Rattle.ipnetwork_family.specs.Network.{HostBitsAreZero, block_of};
 ghost use Rattle.ipnetwork_table.specs.Table.{HasBlocksAlone, NoneHolds, Finds, by_pair};
+ghost use Rattle.ipnetwork_table.specs.Private.Lengths.{SomeHasLength, NoneHasLength};
 ghost use Rattle.ipnetwork_table.specs.Private.Nearest.{NoneAbove};
 
 use crate::common_bits::shared_length;
+use crate::counts::{count_one_less, count_one_more};
 use crate::entries::Entries;
 use crate::values::Values;
 use ipnetwork_family::{CidrNetwork, laws};
@@ -28,8 +30,8 @@ use std::marker::Model;
 #[derive(Drop)]
 pub struct PrefixTable<N: CidrNetwork, V: Copy> {
     values: Values<N, V>,
-    // `used[p]` is true if some stored block has the prefix length p, and may be true of others.
-    used: [bool; 256],
+    // `used[p]` is how many stored blocks have the prefix length p.
+    used: [usize; 256],
 }
 
 // A contract sees the finite map from networks, as pairs of numbers, to values.
@@ -37,7 +39,7 @@ impl<N: CidrNetwork, V: Copy> Model for PrefixTable<N, V> {
     ghost use Rattle.std.specs.FinMap as map;
     ghost use Rattle.ipnetwork_family.specs.Network.{network_cmp};
     ghost use Rattle.ipnetwork_table.specs.Table.{network_code, HasBlocksAlone};
-    ghost use Rattle.ipnetwork_table.specs.Private.Lengths.{MarksLengths};
+    ghost use Rattle.ipnetwork_table.specs.Private.Lengths.{CountsLengths};
 
     ghost Value = { map.FinMap network_cmp V };
 
@@ -45,7 +47,7 @@ impl<N: CidrNetwork, V: Copy> Model for PrefixTable<N, V> {
 
     ghost view = { λ t. t.values };
 
-    ghost invariant = { λ t. HasBlocksAlone N.WIDTH t.values × MarksLengths t.values t.used };
+    ghost invariant = { λ t. HasBlocksAlone N.WIDTH t.values × CountsLengths t.values t.used };
 }
 
 // The block of a network.
@@ -74,7 +76,7 @@ impl<N: CidrNetwork, V: Copy> PrefixTable<N, V> {
     {
         PrefixTable {
             values: Values::new(alloc),
-            used: [false; 256],
+            used: [0; 256],
         }
     }
 
@@ -161,7 +163,7 @@ impl<N: CidrNetwork, V: Copy> PrefixTable<N, V> {
         ensures { self.new ≡ map.empty }
     {
         self.values.clear();
-        self.used = [false; 256];
+        self.used = [0; 256];
     }
 
     /// Sets the value of the block of `net`, and returns the value that it had.
@@ -182,7 +184,7 @@ impl<N: CidrNetwork, V: Copy> PrefixTable<N, V> {
         self.insert_block(key_of(net), value)
     }
 
-    // The prefix length of the block is marked.
+    // A block that is new is counted with those of its prefix length.
     fn insert_block(&mut self, block: N, value: V) -> Result<Option<V>, AllocError>
         requires { HostBitsAreZero N.WIDTH (N.pair block) }
         ensures old { IfOk result (λ old. old ≡ map.get self.old (N.pair block)) }
@@ -191,8 +193,14 @@ impl<N: CidrNetwork, V: Copy> PrefixTable<N, V> {
         ensures unchanged { OnErr result (self.new ≡ self.old) }
     {
         let old = self.values.insert(block, value)?;
-        self.used[block.prefix() as usize] = true;
-        Ok(old)
+        if old.is_some() {
+            return Ok(old);
+        }
+        let prefix = block.prefix();
+        let has_room = self.used[prefix as usize] < self.values.len();
+        prove!(has_room);
+        count_one_more(&mut self.used, prefix);
+        Ok(None)
     }
 
     /// Removes the block of `net`, and returns the value that it had, or `None` if it had none.
@@ -214,7 +222,9 @@ impl<N: CidrNetwork, V: Copy> PrefixTable<N, V> {
         ensures old { result ≡ map.get self.old (N.pair block) }
         ensures removed { self.new ≡ map.remove self.old (N.pair block) }
     {
-        self.values.remove(block)
+        let old = self.values.remove(block)?;
+        count_one_less(&mut self.used, block.prefix());
+        Some(old)
     }
 
     // An upper bound of the prefix lengths of the stored blocks that hold the address; `None` if no stored block holds
@@ -235,6 +245,13 @@ impl<N: CidrNetwork, V: Copy> PrefixTable<N, V> {
         Some(shared_length::<N>(addr, near.ip()))
     }
 
+    // Whether some stored block has this prefix length.
+    fn has_length(&self, length: u8) -> bool
+        ensures { MatchBool result (SomeHasLength self.now length) (NoneHasLength self.now length) }
+    {
+        self.used[length as usize] > 0
+    }
+
     /// The stored block of greatest prefix length whose set holds the address, with its value; `None` if no stored
     /// block holds it.
     ///
@@ -251,7 +268,7 @@ impl<N: CidrNetwork, V: Copy> PrefixTable<N, V> {
         let mut steps = 0;
         let mut length = self.greatest_length(addr)?;
         'shorter: loop {
-            if self.used[length as usize] {
+            if self.has_length(length) {
                 let Some(block) = N::block(addr, length) else {
                     unreachable!()
                 };

@@ -1,9 +1,11 @@
-use Rattle.ipnetwork_table.proofs.Lengths.{none_stored}
+use Rattle.std.proofs.Common.{◌∙◌, sym}
+use Rattle.std.proofs.lemmas.List.{get_or-replicate}
+use Rattle.ipnetwork_table.proofs.Lengths.{none_counted}
 use Rattle.ipnetwork_table.proofs.Longest.{new_table}
 use Rattle.ipnetwork_table.proofs.table.PrefixTable.clear.Goals as goal
 
 pub invariant_of-self : goal.invariant_of-self
 invariant_of-self g c = rw c.clear.ensures (
   new_table g.N.CidrNetwork.WIDTH g.row.V.Denot,
-  λ n stored. absurd (none_stored g.row.V.Denot n stored),
+  λ p within. get_or-replicate 256 p 0 0 within ∙ sym (none_counted g.row.V.Denot p),
 )
