@@ -1,9 +1,10 @@
 -- What the laws let one conclude, where a weaker law would not: of lists of several networks, with host bits, over
 -- addresses of few bits.
 use Rattle.std.proofs.Common.{◌≡◌, ◌↔◌, ◌≢◌, ℕ, ◌-◌, ◌*◌, ◌^◌, ◌<◌, ◌≤◌, sym, refl, ap, subst, arith, inl, inr, ⊎_elim, List, [], ◌∷◌, length}
-use Rattle.std.specs.List.{All, Contains}
+use Rattle.std.specs.List.{All, AllPairs, Contains}
+use Rattle.std.specs.List.Sorted.{IsStrictlyIncreasing}
 use Rattle.std.specs.Prelude.{slice_get, Some}
-use Rattle.ipnetwork_family.specs.Network.{Network, IsNetwork, Member, Subnet}
+use Rattle.ipnetwork_family.specs.Network.{Network, IsNetwork, IsCidrBlock, Member, Subnet, high}
 use Rattle.ipnetwork_blocks.specs.Aggregate.{InUnion, LiesInUnion, SameUnion, IsAggregate}
 use Rattle.ipnetwork_blocks.specs.AggregateLaws.{UnionOfNone, UnionOfList, AggregateHasUnion, AggregateIsApart, AggregateHasOneBlock, AggregateHasNetworks, AggregateBlocksAreNeeded, AggregateIsLeast, AggregateIsOfUnion, AggregateIsItsOwn}
 use Rattle.ipnetwork_blocks.specs.Exclusion.{InDifference}
@@ -11,8 +12,8 @@ use Rattle.ipnetwork_blocks.specs.Hosts.{AreIpv4Hosts, AreIpv6Hosts, Ipv4HostsLa
 use Rattle.ipnetwork_blocks.specs.LeastList.{IsLeastList}
 use Rattle.ipnetwork_blocks.specs.LeastListLaws.{RangeIsShortest, ExclusionIsShortest, NetworkIsOneBlock, RangeHasAtMost, AllButTheEndsHasMost}
 use Rattle.ipnetwork_blocks.specs.Ranges.{FromTo}
-use Rattle.ipnetwork_blocks.specs.SubnetLaws.{SubnetsLaw, AroundIsOne, SiblingIsOne, SiblingBack}
-use Rattle.ipnetwork_blocks.specs.Subnets.{subnets_of}
+use Rattle.ipnetwork_blocks.specs.SubnetLaws.{ListsSubnets, SubnetsLaw, AroundIsOne, SiblingIsOne, SiblingBack}
+use Rattle.ipnetwork_blocks.specs.Subnets.{subnets_of, subnet_number}
 use Rattle.ipnetwork_blocks.specs.Supernets.{IsAround, IsSibling}
 use Rattle.ipnetwork_blocks.proofs.AggregateExamples.{net, halves, no_halves, nested_network}
 use Rattle.ipnetwork_blocks.proofs.BlockExamples.{upper_half, even_and_odd}
@@ -143,13 +144,43 @@ no_first_at_126 law hosts h c =
     let short : 126 ≤ 126 = omega arith in
     (((law (net 5 126) hosts (record { address_fits = omega arith; prefix_fits = omega arith }) h).exactly 4).0 c).1 short refl
 
--- ---- blocks within and around
+pub v4_ascend : Ipv4HostsLaw → (hosts : List ℕ) → AreIpv4Hosts (net 5 29) hosts → IsStrictlyIncreasing hosts
+v4_ascend law hosts h = (law (net 5 29) hosts (record { address_fits = omega arith; prefix_fits = omega arith }) h).ascending
+
+pub v6_ascend : Ipv6HostsLaw → (hosts : List ℕ) → AreIpv6Hosts (net 5 125) hosts → IsStrictlyIncreasing hosts
+v6_ascend law hosts h = (law (net 5 125) hosts (record { address_fits = omega arith; prefix_fits = omega arith }) h).ascending
+
+-- ---- blocks within and around: those of 4 to 7
+
+eighths : SubnetsLaw → ListsSubnets 3 (net 5 1) 3
+eighths law = law 3 (net 5 1) 3 (record { address_fits = omega arith; prefix_fits = omega arith }) (omega arith) (omega arith)
+
+pub each_is_within : SubnetsLaw → (b : Network) → Contains (subnets_of 3 (net 5 1) 3) b → IsCidrBlock 3 b × (b.prefix ≡ 3) × Subnet 3 b (net 5 1)
+each_is_within law b = ((eighths law).exactly b).0
+
+pub each_is_listed : SubnetsLaw → IsCidrBlock 3 (net 6 3) → Subnet 3 (net 6 3) (net 5 1) → Contains (subnets_of 3 (net 5 1) 3) (net 6 3)
+each_is_listed law block lies = ((eighths law).exactly (net 6 3)).1 (block, refl, lies)
+
+pub subnets_are_apart : SubnetsLaw → AllPairs (λ a b. high 3 a < b.address) (subnets_of 3 (net 5 1) 3)
+subnets_are_apart law = (eighths law).apart
+
+pub in_one_of_them : SubnetsLaw → Member 3 (net 5 1) 6 → (b : Network) × Contains (subnets_of 3 (net 5 1) 3) b × Member 3 b 6
+in_one_of_them law = ((eighths law).together 6).0
+
+pub none_of_the_other_half : SubnetsLaw → ¬ ((b : Network) × Contains (subnets_of 3 (net 5 1) 3) b × Member 3 b 3)
+none_of_the_other_half law o =
+    let m : Member 3 (net 5 1) 3 = ((eighths law).together 3).1 o in
+    let e : 0 ≡ 1 = m.1 in
+    omega (arith, e)
+
+pub third_by_its_number : SubnetsLaw → slice_get (subnets_of 3 (net 5 1) 3) 2 ≡ Some (subnet_number 3 (net 5 1) 3 2)
+third_by_its_number law = (eighths law).numbered 2 (omega arith)
 
 pub four_of_a_half : SubnetsLaw → length (subnets_of 3 (net 5 1) 3) ≡ 4
-four_of_a_half law = (law 3 (net 5 1) 3 (record { address_fits = omega arith; prefix_fits = omega arith }) (omega arith) (omega arith)).count
+four_of_a_half law = (eighths law).count
 
 pub last_of_a_half : SubnetsLaw → slice_get (subnets_of 3 (net 5 1) 3) 3 ≡ Some (net 7 3)
-last_of_a_half law = (law 3 (net 5 1) 3 (record { address_fits = omega arith; prefix_fits = omega arith }) (omega arith) (omega arith)).at 3 (omega arith)
+last_of_a_half law = (eighths law).at 3 (omega arith)
 
 pub not_around_twice : AroundIsOne → (b : Network) → IsAround 3 (net 5 3) 1 b → ¬ (IsAround 3 (net 5 3) 1 (net b.address 2))
 not_around_twice law b h k =

@@ -10,8 +10,8 @@ pub fn ranges_are_shortest()
     ensures network { NetworkIsOneBlock }
 {}
 
-/// If addresses have two bits or more, a range has at most 2 W - 2 blocks, and the range of all addresses but the first
-/// and the last has as many: 62 of IPv4, and 254 of IPv6.
+/// If addresses have two bits or more, a range has at most 2 W - 2 blocks, and the range of all
+/// addresses but the first and the last has as many: 62 of IPv4, and 254 of IPv6.
 pub fn range_counts()
     ensures most { RangeHasAtMost }
     ensures reached { AllButTheEndsHasMost }
