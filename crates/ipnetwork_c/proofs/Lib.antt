@@ -13,3 +13,8 @@ pub mod PrintedRows
 pub mod TableFinding
 pub mod TableMaking
 pub mod TableExamples
+pub mod StructExamples
+pub mod ResultExamples
+pub mod SearchExamples
+pub mod ColumnExamples
+pub mod EitherExamples

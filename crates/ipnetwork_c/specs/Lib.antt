@@ -1,5 +1,6 @@
 pub mod Numbers
 pub mod Held
+pub mod Searches
 pub mod Answers
 pub mod Either
 pub mod Columns
