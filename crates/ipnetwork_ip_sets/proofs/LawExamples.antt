@@ -1,11 +1,9 @@
 -- What the laws let one conclude, where a weaker law would not: of sets with addresses of both families.
-use Rattle.std.proofs.Common.{◌≡◌, ◌↔◌, ℕ, ◌^◌, ◌<◌, ◌≤◌, sym, refl, ap, arith, List, [], ◌∷◌, length}
+use Rattle.std.proofs.Common.{◌≡◌, ◌↔◌, ◌<◌, ◌≤◌, sym, refl, ap, arith, List, [], ◌∷◌, length}
 use Rattle.std.specs.Prelude.{IsTrue}
-use Rattle.std.specs.List.{All, AllPairs, Contains}
-use Rattle.ipnetwork_addr.specs.Either.{IsAddrBefore}
+use Rattle.std.specs.List.{All, Contains}
 use Rattle.ipnetwork_addr.specs.declared.ip.IpAddr.{IpAddr}
 use Rattle.ipnetwork_addr.specs.declared.ip.IpAddr.TheVariants as addresses
-use Rattle.ipnetwork_family.specs.Network.{Network}
 use Rattle.ipnetwork.specs.IpNetworks.{IsIpNetwork, IpOverlap}
 use Rattle.ipnetwork.specs.declared.ip_network.IpNetwork.{IpNetwork}
 use Rattle.ipnetwork.specs.declared.ip_network.IpNetwork.TheVariants.{V4, V6}
@@ -16,7 +14,7 @@ use Rattle.ipnetwork_blocks.proofs.AggregateExamples.{net}
 use Rattle.ipnetwork_blocks.proofs.LeastLists.{contains_head}
 use Rattle.ipnetwork_ip_sets.specs.IpEquality.{same_ip_blocks}
 use Rattle.ipnetwork_ip_sets.specs.IpSets.{v4_then_v6, IsIpLeastList, IsIpAddressSet, MeetsIpUnion, InIpBoth, InIpFirstAlone, InIpComplement, InIpEither, IsIpWithin, AreIpDisjoint}
-use Rattle.ipnetwork_ip_sets.specs.Laws.{EachFamilyKeepsItsAddresses, IpAggregateIsLeastList, IsIpShortest, IpCommonPartIsShortest, IpDifferenceIsShortest, IpComplementIsShortest, IpUnionIsShortest, SameIpAddressesAreOneSet, SameIpBlocksAreEqual, IpCommonPartCommutes, IpUnionCommutes, IpCommonPartOfOne, IpUnionOfOne, IpDifferenceIsDisjoint, IpPartsMakeTheWhole}
+use Rattle.ipnetwork_ip_sets.specs.Laws.{EachFamilyKeepsItsAddresses, IpAggregateIsLeastList, IpCommonPartIsShortest, IpDifferenceIsShortest, IpComplementIsShortest, IpUnionIsShortest, SameIpAddressesAreOneSet, SameIpBlocksAreEqual, IpCommonPartCommutes, IpUnionCommutes, IpCommonPartOfOne, IpUnionOfOne, IpDifferenceIsDisjoint, IpPartsMakeTheWhole}
 use Rattle.ipnetwork_ip_sets.specs.QuestionLaws.{IpNetworkMeetsUnion, IpWithinIfNothingIsLeft, IpDisjointIfNothingIsCommon, IpComplementIsDisjoint, IpComplementMakesTheWhole}
 
 -- 0.0.0.4/30 and ::4/126; 0.0.0.4/31, 0.0.0.8/29 and ::6/127
@@ -36,6 +34,12 @@ v6_alone law = (law (net 9 29 ∷ []) (net 9 125 ∷ []) 12).1.1
 
 pub v4_alone : EachFamilyKeepsItsAddresses → InIpUnion (v4_then_v6 (net 9 29 ∷ []) (net 1 125 ∷ [])) (addresses.V4 2) → InUnion 32 (net 9 29 ∷ []) 2
 v4_alone law = (law (net 9 29 ∷ []) (net 1 125 ∷ []) 2).0.0
+
+pub v4_of_the_first : EachFamilyKeepsItsAddresses → InUnion 32 (net 9 29 ∷ []) 12 → InIpUnion (v4_then_v6 (net 9 29 ∷ []) (net 1 125 ∷ [])) (addresses.V4 12)
+v4_of_the_first law = (law (net 9 29 ∷ []) (net 1 125 ∷ []) 12).0.1
+
+pub v6_of_the_second : EachFamilyKeepsItsAddresses → InIpUnion (v4_then_v6 (net 1 29 ∷ []) (net 9 125 ∷ [])) (addresses.V6 2) → InUnion 128 (net 9 125 ∷ []) 2
+v6_of_the_second law = (law (net 1 29 ∷ []) (net 9 125 ∷ []) 2).1.0
 
 pub aggregate_as_least_list : IpAggregateIsLeastList → (networks blocks : List IpNetwork) → IsIpAggregate networks blocks → IsIpLeastList (InIpUnion networks) blocks
 aggregate_as_least_list law networks blocks = (law networks blocks).0
@@ -61,6 +65,9 @@ union_has_both law r x h = (law a b r h).addresses x
 
 pub other_addresses : SameIpAddressesAreOneSet → IsIpAddressSet a → IsIpAddressSet b → ¬ (SameIpUnion a b)
 other_addresses law h k same = longer a b (omega arith) ((law a b h k).1 same)
+
+pub own_addresses : SameIpAddressesAreOneSet → IsIpAddressSet b → SameIpUnion b b
+own_addresses law h = (law b b h h).0 refl
 
 pub v6_differs : SameIpBlocksAreEqual → IsIpAddressSet a → IsIpAddressSet (V4 (net 4 30) ∷ []) → ¬ (IsTrue (same_ip_blocks (V4 (net 4 30) ∷ []) a))
 v6_differs law h k t = longer (V4 (net 4 30) ∷ []) a (omega arith) ((law (V4 (net 4 30) ∷ []) a k h).0 t)

@@ -1,6 +1,6 @@
 -- What the laws let one conclude, where a weaker law would not: over addresses of 3 bits, of sets of several blocks and
 -- a network with host bits.
-use Rattle.std.proofs.Common.{◌≡◌, ◌↔◌, ℕ, ◌-◌, ◌+◌, ◌*◌, ◌/◌, ◌^◌, ◌<◌, ◌≤◌, sym, refl, ap, arith, inl, inr, List, [], ◌∷◌, length}
+use Rattle.std.proofs.Common.{◌≡◌, ◌↔◌, ℕ, ◌+◌, ◌^◌, ◌<◌, ◌≤◌, sym, refl, ap, arith, List, [], ◌∷◌, length}
 use Rattle.std.specs.Prelude.{min, IsTrue}
 use Rattle.std.specs.List.{AllPairs, Contains}
 use Rattle.ipnetwork_family.specs.Network.{Network, IsCidrBlock, Overlap}
@@ -63,6 +63,9 @@ union_shortest law = law 3 a b
 
 pub other_addresses : SameAddressesAreOneSet → IsAddressSet 3 a → IsAddressSet 3 b → ¬ (SameUnion 3 a b)
 other_addresses law h k same = longer a b (omega arith) ((law 3 a b h k).1 same)
+
+pub own_addresses : SameAddressesAreOneSet → IsAddressSet 3 b → SameUnion 3 b b
+own_addresses law h = (law 3 b b h h).0 refl
 
 pub other_prefix : SameBlocksAreEqual → ¬ (IsTrue (same_blocks (net 0 2 ∷ net 4 1 ∷ []) (net 0 2 ∷ net 4 2 ∷ [])))
 other_prefix law t =
@@ -197,17 +200,17 @@ six_addresses law h = (law 3 a h).0
 pub no_more_than_there_are : SetAddsUp → ¬ (IsAddressSet 3 (net 0 0 ∷ net 7 3 ∷ []))
 no_more_than_there_are law h = let few : 9 ≤ 8 = (law 3 (net 0 0 ∷ net 7 3 ∷ []) h).1 in omega (arith, few)
 
-pub three_in_common : CommonPartAddsUp → IsLeastList 3 (InBoth 3 a b) (net 0 3 ∷ net 6 2 ∷ []) → HasCount (InBoth 3 a b) 3
-three_in_common law h = (law 3 a b (net 0 3 ∷ net 6 2 ∷ []) h).0
+pub three_in_common : CommonPartAddsUp → IsLeastList 3 (InBoth 3 a b) (net 0 3 ∷ net 6 2 ∷ []) → HasCount (InBoth 3 a b) 3 × (3 ≤ 8)
+three_in_common law h = law 3 a b (net 0 3 ∷ net 6 2 ∷ []) h
 
-pub three_alone : DifferenceAddsUp → IsLeastList 3 (InFirstAlone 3 a b) (net 1 3 ∷ net 4 2 ∷ []) → HasCount (InFirstAlone 3 a b) 3
-three_alone law h = (law 3 a b (net 1 3 ∷ net 4 2 ∷ []) h).0
+pub three_alone : DifferenceAddsUp → IsLeastList 3 (InFirstAlone 3 a b) (net 1 3 ∷ net 4 2 ∷ []) → HasCount (InFirstAlone 3 a b) 3 × (3 ≤ 8)
+three_alone law h = law 3 a b (net 1 3 ∷ net 4 2 ∷ []) h
 
-pub two_free : FreePartAddsUp → IsLeastList 3 (InNetworkAlone 3 n a) (net 2 2 ∷ []) → HasCount (InNetworkAlone 3 n a) 2
-two_free law h = (law 3 n a (net 2 2 ∷ []) h).0
+pub two_free : FreePartAddsUp → IsLeastList 3 (InNetworkAlone 3 n a) (net 2 2 ∷ []) → HasCount (InNetworkAlone 3 n a) 2 × (2 ≤ 8)
+two_free law h = law 3 n a (net 2 2 ∷ []) h
 
-pub eight_together : UnionAddsUp → IsLeastList 3 (InEither 3 a b) (net 0 0 ∷ []) → HasCount (InEither 3 a b) 8
-eight_together law h = (law 3 a b (net 0 0 ∷ []) h).0
+pub eight_together : UnionAddsUp → IsLeastList 3 (InEither 3 a b) (net 0 0 ∷ []) → HasCount (InEither 3 a b) 8 × (8 ≤ 8)
+eight_together law h = law 3 a b (net 0 0 ∷ []) h
 
 pub all_of_ipv6 : AllAddressesAreCounted → HasCount (InUnion 128 (net 0 0 ∷ [])) 340282366920938463463374607431768211456
 all_of_ipv6 law = law 128

@@ -1,5 +1,5 @@
 -- How many blocks a union has.
-use Rattle.std.proofs.Common.{◌≡◌, ◌↔◌, ℕ, ◌+◌, ◌≤◌, arith, List, ◌++◌, get_or, length, length-append}
+use Rattle.std.proofs.Common.{◌↔◌, ℕ, arith, List, ◌++◌, get_or, length-append}
 use Rattle.std.specs.List.{All}
 use Rattle.std.proofs.lemmas.List.Elements.{All-append, Contains-get_or}
 use Rattle.ipnetwork_family.specs.Network.{Network, IsNetwork}

@@ -37,7 +37,8 @@ impl<N: AddressSpace> Model for AddressSet<N> {
 impl<N: AddressSpace> AddressSet<N> {
     /// The set of the addresses of the networks, which may have host bits and stand in any order.
     ///
-    /// Sorts the networks in their list, and goes over them once. `into_blocks` gives the list back.
+    /// Sorts the networks in their list, and goes over them once. `into_blocks` gives the list
+    /// back.
     ///
     /// ```
     /// let networks = vec![in rt.alloc(); "192.0.2.0/25".parse::<Ipv4Network>()?, "192.0.2.128/25".parse()?]?;
@@ -95,10 +96,12 @@ impl<N: AddressSpace> AddressSet<N> {
         self.blocks.as_slice()
     }
 
-    /// The blocks as a list, in ascending order: the set's own, and so the memory for another set, as that of a union.
+    /// The blocks as a list, in ascending order. It is the set's own, which may serve as the memory
+    /// for another set, such as a union.
     ///
     /// ```
-    /// let networks = vec![in rt.alloc(); "192.0.2.0/25".parse::<Ipv4Network>()?, "192.0.2.128/25".parse()?]?;
+    /// let halves = ["192.0.2.0/25".parse::<Ipv4Network>()?, "192.0.2.128/25".parse()?];
+    /// let networks = Vec::from_array(rt.alloc(), halves)?;
     /// let blocks = AddressSet::from_networks(networks).into_blocks();
     /// assert_eq!(rt; blocks.as_slice(), ["192.0.2.0/24".parse()?].as_slice());
     /// ```

@@ -94,7 +94,7 @@ fn quarter_of<N: AddressSpace>(
     ensures part { 4 * result.1 ≤ left + 6 }
     ensures split { IsSplit (map N.pair blocks.now) (N.number addr) result.0 (result.0 + result.1) }
 {
-    let quarter = (left - 3) / 4 + 1;
+    let quarter = size_of_quarter(left);
     let first = begins_up_to(blocks[from + (quarter - 1)], addr);
     let second = begins_up_to(blocks[from + (2 * quarter - 1)], addr);
     let third = begins_up_to(blocks[from + (3 * quarter - 1)], addr);
@@ -102,6 +102,15 @@ fn quarter_of<N: AddressSpace>(
         from + times_if(first, second, third, quarter),
         left - 3 * quarter,
     )
+}
+
+// How many blocks each of the first three quarters has: a quarter of one block more, rounded down.
+fn size_of_quarter(left: usize) -> usize
+    requires { 3 ≤ left }
+    ensures most { 4 * result ≤ left + 1 }
+    ensures least { left ≤ 4 * result + 2 }
+{
+    (left - 3) / 4 + 1
 }
 
 // The size once for each condition that holds. A sum of three is multiplied, since a compiler makes a branch of a
