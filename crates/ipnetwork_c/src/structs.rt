@@ -1,5 +1,5 @@
 //! The structs of the header, and the networks that they stand for.
-ghost use Rattle.std.specs.Prelude.{◌≡◌, ◌≤◌, ◌-◌, ◌^◌, ◌↔◌, IsTrue, MatchOption};
+ghost use Rattle.std.specs.Prelude.{◌≡◌, ◌↔◌, IsTrue, MatchOption};
 ghost use Rattle.ipnetwork_family.specs.Network.{Member};
 ghost use Rattle.std.specs.Option.{SomeIff};
 ghost use Rattle.ipnetwork_c.specs.Held.{v4_in, v6_in, PrefixFits, HoldsV4, HoldsV6, number_of_octets};
@@ -88,6 +88,7 @@ impl Ipv6InC {
     }
 
     /// The same for a struct whose prefix length was checked.
+    #[inline(always)]
     pub(crate) fn has(&self, address: &[u8; 16]) -> bool
         requires { PrefixFits 128 (v6_in self.now) }
         ensures { IsTrue result ↔ Member 128 (v6_in self.now) (number_of_octets address.now) }

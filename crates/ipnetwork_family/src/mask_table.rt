@@ -11,8 +11,8 @@ pub(crate) fn mask_segments(prefix: u8) -> &'static [u16; 8]
     &MASKS[usize::from(prefix)]
 }
 
-/// The segments of each mask, by its prefix length: the segments of ones before the one that the prefix length cuts,
-/// that segment's mask, and zeros after it.
+/// The segments of each mask, by its prefix length: the segments of ones before the one that the
+/// prefix length cuts, that segment's mask, and zeros after it.
 static MASKS: [[u16; 8]; 129] = [
     [0, 0, 0, 0, 0, 0, 0, 0],
     [0x8000, 0, 0, 0, 0, 0, 0, 0],
