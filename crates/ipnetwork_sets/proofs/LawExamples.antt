@@ -67,11 +67,8 @@ other_addresses law h k same = longer a b (omega arith) ((law 3 a b h k).1 same)
 pub own_addresses : SameAddressesAreOneSet → IsAddressSet 3 b → SameUnion 3 b b
 own_addresses law h = (law 3 b b h h).0 refl
 
-pub other_prefix : SameBlocksAreEqual → ¬ (IsTrue (same_blocks (net 0 2 ∷ net 4 1 ∷ []) (net 0 2 ∷ net 4 2 ∷ [])))
-other_prefix law t =
-    let e = (law (net 0 2 ∷ net 4 1 ∷ []) (net 0 2 ∷ net 4 2 ∷ [])).0 t in
-    let lengths : ◌≡◌ {A = ℕ} 1 2 = cc in
-    omega (arith, lengths)
+pub same_networks : SameBlocksAreEqual → (m : Network) (xs : List Network) → IsTrue (same_blocks a (net 0 2 ∷ m ∷ xs)) → a ≡ net 0 2 ∷ m ∷ xs
+same_networks law m xs = (law a (net 0 2 ∷ m ∷ xs)).0
 
 pub same_as_itself : SameBlocksAreEqual → IsTrue (same_blocks b b)
 same_as_itself law = (law b b).1 refl
