@@ -19,3 +19,4 @@ pub mod ResultExamples
 pub mod SearchExamples
 pub mod ColumnExamples
 pub mod EitherExamples
+pub mod LawExamples
