@@ -18,3 +18,4 @@ pub mod ResultExamples
 pub mod SearchExamples
 pub mod ColumnExamples
 pub mod EitherExamples
+pub mod LawExamples

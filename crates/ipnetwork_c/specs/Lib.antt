@@ -11,4 +11,5 @@ pub mod Tables
 pub mod TextColumns
 pub mod PrintedColumns
 pub mod ColumnLaws
+pub mod StructLaws
 pub mod Private
