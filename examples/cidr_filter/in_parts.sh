@@ -1,17 +1,78 @@
 #!/usr/bin/env bash
-# Filters a large log by several processes: it is cut at line ends, and each part is filtered by itself. What comes out
-# is what the whole log gives (the law `outputs_of_parts_follow` of `cidr_filter`).
+# Filters a large log by several processes: it is cut at line ends, and each part is filtered by
+# itself. What is printed, and the status, are those of the whole log (the law
+# `outputs_of_parts_follow` of `cidr_filter`).
 #
-# usage: examples/cidr_filter/in_parts.sh OPTION .. < LOG > SELECTED      the options are those of cidr_filter
+# usage: examples/cidr_filter/in_parts.sh OPTION .. < LOG > SELECTED
 #
-# The status is 0 unless a part failed. With `-c` each part prints a number. Refused lines are reported with their number
-# in their part. Without GNU parallel, the parts are filtered one after the other.
+# The options are those of cidr_filter. With `-c` the numbers of the parts are added up. `--bad
+# keep` and `--bad stop` are refused: a line would end its part only. Without GNU parallel, the parts
+# are filtered one after the other.
 set -eu -o pipefail
 program=$(cd "$(dirname "$0")/../.." && pwd)/crates/cidr_filter/out/cidr_filter
+
+refuse() {
+    printf 'in_parts.sh: %s\n' "$1" >&2
+    exit 2
+}
+
+check_bad() {
+    case $1 in
+    keep | stop) refuse "--bad $1: a line would end its part only" ;;
+    esac
+}
+
+# What the options ask for; what is wrong with them otherwise, the program tells.
+counts=
+check_options() {
+    while [ $# -gt 0 ]; do
+        case $1 in
+        -f) [ "${2-}" != - ] || refuse "-f -: standard input is the log" ;;
+        --bad) check_bad "${2-}" ;;
+        --bad=*) check_bad "${1#--bad=}" ;;
+        esac
+        case $1 in
+        -f | -e | -k | -d | --bad) [ $# -eq 1 ] || shift ;;
+        --) [ $# -eq 1 ] || refuse "$2: the log is standard input" ;;
+        - | [!-]* | "") refuse "$1: the log is standard input" ;;
+        -[vc]*) [[ ! $1 =~ ^-[vc]*c[vc]*$ ]] || counts=1 ;;
+        esac
+        shift
+    done
+}
+check_options "$@"
+
+# The lists are read once before the log, so that what is refused of them is told once.
+status=0
+"$program" "$@" < /dev/null > /dev/null || status=$?
+[ $status -le 1 ] || exit 2
+
+folder=$(mktemp -d)
+trap 'rm -rf "$folder"' EXIT
 # A part of which no line is selected has status 1.
-part='status=0; "$0" "$@" || status=$?; [ $status -le 1 ]'
-if command -v parallel > /dev/null; then
-    parallel --pipe --keep-order --block 64M --quote bash -c "$part" "$program" "$@"
+part='folder=$1; shift; status=0
+"$0" "$@" || status=$?
+[ $status -ne 0 ] || : > "$folder/selected"
+[ $status -le 1 ]'
+
+filter_parts() {
+    if command -v parallel > /dev/null; then
+        parallel --pipe --keep-order --block 64M --quote bash -c "$part" "$program" "$folder" "$@"
+    else
+        local command
+        command="bash -c $(printf '%q ' "$part" "$program" "$folder" "$@")"
+        SHELL=$(command -v bash) split --lines=500000 --filter="$command"
+    fi
+}
+
+if [ "$counts" ]; then
+    filter_parts "$@" > "$folder/counts" || exit 2
+    total=0
+    while read -r count; do
+        total=$((total + count))
+    done < "$folder/counts"
+    printf '%s\n' "$total"
 else
-    split --lines=500000 --filter="bash -c $(printf '%q ' "$part" "$program" "$@")"
+    filter_parts "$@" || exit 2
 fi
+[ -e "$folder/selected" ]

@@ -1,5 +1,5 @@
 -- Values at which a misreading of the definitions would show.
-use Rattle.std.proofs.Common.{◌≡◌, ℕ, length, List, [], ◌∷◌, Bool, true, false, not, ◌&&◌, ◌||◌, ◌∙◌, inl, inr, refl, ap, subst, arith}
+use Rattle.std.proofs.Common.{◌≡◌, ℕ, length, List, [], ◌∷◌, Bool, true, false, not, ◌&&◌, ◌||◌, ◌==◌, ◌∙◌, inl, inr, refl, ap, subst, arith}
 use Rattle.std.specs.Prelude.{codes, bytes_eq, if◌then◌else◌, String, Some, None}
 use Rattle.std.specs.List.{list_all}
 use Rattle.std.specs.Fmt.{digits}
@@ -19,7 +19,7 @@ use Rattle.cidr_filter.specs.Lines.{LogLine, log_lines, ended_lines, content, pr
 use Rattle.cidr_filter.specs.Listed.{IsStored, IsLongestBlock}
 use Rattle.cidr_filter.specs.Logs.{logs_of, IsAllOf, IsFirstOf, FiltersLogs}
 use Rattle.cidr_filter.specs.Options.{number_of, field_option, separator_option, bad_option, letters_option, begins, in_one_word, option_of}
-use Rattle.cidr_filter.specs.CommandLines.{files_among, inputs_among, is_plain}
+use Rattle.cidr_filter.specs.CommandLines.{files_among, names_in, inputs_among, is_plain, is_name}
 use Rattle.cidr_filter.specs.Reading.{ReadsOptions}
 use Rattle.program_io.specs.Endings.{Ending, HasTold, HasWritten}
 use Rattle.cidr_filter.specs.Runs.{total_text, EndsLogs}
@@ -230,17 +230,56 @@ dash_is_no_option = refl
 pub list_of_standard_input : {Z : Type 0} (name value : String Z) → string_bytes name ≡ codes "-f" → string_bytes value ≡ codes "-" → option_of (name ∷ value ∷ []) ≡ Some choices.Input
 list_of_standard_input name value n v = rw (n, v)
 
+-- whatever the value is, if it is not empty: a dash and an option too
+pub any_text : {Z : Type 0} (name value : String Z) → string_bytes name ≡ codes "-e" → (length (string_bytes value) == 0) ≡ false → option_of (name ∷ value ∷ []) ≡ Some choices.Text
+any_text name value n some = rw (n, some)
+
+pub text_dash : {Z : Type 0} (name value : String Z) → string_bytes name ≡ codes "-e" → string_bytes value ≡ codes "-" → option_of (name ∷ value ∷ []) ≡ Some choices.Text
+text_dash name value n v = rw (n, v)
+
+pub no_empty_text : {Z : Type 0} (name value : String Z) → string_bytes name ≡ codes "-e" → string_bytes value ≡ [] → option_of (name ∷ value ∷ []) ≡ None
+no_empty_text name value n v = rw (n, v)
+
+pub list_dashes : {Z : Type 0} (name value : String Z) → string_bytes name ≡ codes "-f" → string_bytes value ≡ codes "--" → option_of (name ∷ value ∷ []) ≡ Some choices.File
+list_dashes name value n v = rw (n, v)
+
+pub any_list : {Z : Type 0} (name value : String Z) → string_bytes name ≡ codes "-f" → (length (string_bytes value) == 0) ≡ false → bytes_eq (string_bytes value) (codes "-") ≡ false
+    → option_of (name ∷ value ∷ []) ≡ Some choices.File
+any_list name value n some other = rw (n, some, other)
+
+pub no_empty_list : {Z : Type 0} (name value : String Z) → string_bytes name ≡ codes "-f" → string_bytes value ≡ [] → option_of (name ∷ value ∷ []) ≡ None
+no_empty_list name value n v = rw (n, v)
+
+pub empty_word_is_no_option : in_one_word [] ≡ None
+empty_word_is_no_option = refl
+
+-- a word that does not begin with a dash is no option
+pub plain_word_is_no_option : (byte : ℕ) (bytes : List ℕ) → (byte == 45) ≡ false → in_one_word (byte ∷ bytes) ≡ None
+plain_word_is_no_option byte bytes other = rw other
+
 pub option_without_its_value : {Z : Type 0} (name : String Z) → string_bytes name ≡ codes "-e" → option_of (name ∷ []) ≡ None
 option_without_its_value name n = rw n
 
-pub files_behind_dashes : {Z : Type 0} (dashes file : String Z) → string_bytes dashes ≡ codes "--" → files_among (dashes ∷ file ∷ []) ≡ Some (file ∷ [])
-files_behind_dashes dashes file d =
-    ap (λ (t : List ℕ). if bytes_eq t (codes "--") then Some (file ∷ []) else if list_all is_plain (dashes ∷ file ∷ []) then Some (dashes ∷ file ∷ []) else None) d
+pub files_behind_dashes : {Z : Type 0} (dashes file : String Z) → string_bytes dashes ≡ codes "--" → string_bytes file ≡ codes "--" → files_among (dashes ∷ file ∷ []) ≡ Some (file ∷ [])
+files_behind_dashes dashes file d f =
+    ap (λ (t : List ℕ). if bytes_eq t (codes "--") then names_in (file ∷ []) else if list_all is_plain (dashes ∷ file ∷ []) then names_in (dashes ∷ file ∷ []) else None) d
+    ∙ ap (λ (t : List ℕ). if not (length t == 0) && true then Some (file ∷ []) else None) f
+
+pub no_empty_file : {Z : Type 0} (file : String Z) → string_bytes file ≡ [] → files_among (file ∷ []) ≡ None
+no_empty_file file f =
+    ap (λ (t : List ℕ). if bytes_eq t (codes "--") then Some [] else if (bytes_eq t (codes "-") || not (begins (codes "-") t)) && true then if not (length t == 0) && true then Some (file ∷ []) else None else None) f
+
+pub no_empty_file_behind_dashes : {Z : Type 0} (dashes one file : String Z) → string_bytes dashes ≡ codes "--" → string_bytes one ≡ codes "a" → string_bytes file ≡ []
+    → files_among (dashes ∷ one ∷ file ∷ []) ≡ None
+no_empty_file_behind_dashes dashes one file d o f =
+    ap (λ (t : List ℕ). if bytes_eq t (codes "--") then names_in (one ∷ file ∷ []) else if list_all is_plain (dashes ∷ one ∷ file ∷ []) then names_in (dashes ∷ one ∷ file ∷ []) else None) d
+    ∙ ap (λ (t : List ℕ). if is_name one && (not (length t == 0) && true) then Some (one ∷ file ∷ []) else None) f
+    ∙ ap (λ (t : List ℕ). if not (length t == 0) && false then Some (one ∷ file ∷ []) else None) o
 
 pub no_option_among_files : {Z : Type 0} (file option : String Z) → string_bytes file ≡ codes "a" → string_bytes option ≡ codes "-v" → files_among (file ∷ option ∷ []) ≡ None
 no_option_among_files file option f o =
-    ap (λ (t : List ℕ). if bytes_eq t (codes "--") then Some (option ∷ []) else if (bytes_eq t (codes "-") || not (begins (codes "-") t)) && (is_plain option && true) then Some (file ∷ option ∷ []) else None) f
-    ∙ ap (λ (t : List ℕ). if (bytes_eq t (codes "-") || not (begins (codes "-") t)) && true then Some (file ∷ option ∷ []) else None) o
+    ap (λ (t : List ℕ). if bytes_eq t (codes "--") then names_in (option ∷ []) else if (bytes_eq t (codes "-") || not (begins (codes "-") t)) && (is_plain option && true) then names_in (file ∷ option ∷ []) else None) f
+    ∙ ap (λ (t : List ℕ). if (bytes_eq t (codes "-") || not (begins (codes "-") t)) && true then names_in (file ∷ option ∷ []) else None) o
 
 pub no_file_is_standard_input : (Z : Type 0) → inputs_among {Z = Z} [] ≡ 1
 no_file_is_standard_input Z = refl
@@ -271,6 +310,9 @@ a_log_that_is_missing = refl
 
 pub a_log_that_fails : log_fault_text (codes "log") 9 faults.Read ≡ codes "log: cannot read\n"
 a_log_that_fails = refl
+
+pub a_log_past_what_64_bits_count : log_fault_text (codes "log") 9 faults.Endless ≡ codes "log: too long\n"
+a_log_past_what_64_bits_count = refl
 
 pub a_writer_that_fails : log_fault_text (codes "log") 9 faults.Write ≡ codes "write error\n"
 a_writer_that_fails = refl

@@ -18,10 +18,18 @@ Begin words (choice ∷ choices) rest = (option_of words ≡ Some choice) × Beg
 abbrev pub is_plain : {Z : Type 0} → String Z → Bool
 is_plain word = is (codes "-") word || not (begins (codes "-") (string_bytes word))
 
+-- a word is not empty
+abbrev pub is_name : {Z : Type 0} → String Z → Bool
+is_name word = not (length (string_bytes word) == 0)
+
+-- these words, which have to be names
+abbrev pub names_in : {Z : Type 0} → List (String Z) → Option (List (String Z))
+names_in words = if list_all is_name words then Some words else None
+
 -- the FILEs among the words after the options: all words after a `--`, and without it all words, which have to be plain
 abbrev pub files_among : {Z : Type 0} → List (String Z) → Option (List (String Z))
 files_among [] = Some []
-files_among (word ∷ words) = if is (codes "--") word then Some words else if list_all is_plain (word ∷ words) then Some (word ∷ words) else None
+files_among (word ∷ words) = if is (codes "--") word then names_in words else if list_all is_plain (word ∷ words) then names_in (word ∷ words) else None
 
 -- how often the FILEs name standard input, which is named once if there is no FILE
 abbrev pub inputs_among : {Z : Type 0} → List (String Z) → ℕ

@@ -44,9 +44,13 @@ bad_option text =
     else if bytes_eq text (codes "stop") then Some (choices.Bad bads.Stop)
     else None
 
--- `-f`: the name of a list, of which `-` is standard input
+-- `-f`: the name of a list, of which `-` is standard input, and which is not empty
 abbrev pub file_option : List ℕ → Option Choice
-file_option name = if bytes_eq name (codes "-") then Some choices.Input else Some choices.File
+file_option name = if length name == 0 then None else if bytes_eq name (codes "-") then Some choices.Input else Some choices.File
+
+-- `-e`: a text that is not empty
+abbrev pub text_option : List ℕ → Option Choice
+text_option text = if length text == 0 then None else Some choices.Text
 
 -- `-v` and `-c`: their letters after one `-`, in any order
 abbrev pub is_letter : ℕ → Bool
@@ -65,7 +69,7 @@ takes_next word = is (codes "-f") word || is (codes "-e") word || is (codes "-k"
 abbrev pub in_two_words : {Z : Type 0} → String Z → List ℕ → Option Choice
 in_two_words name value =
     if is (codes "-f") name then file_option value
-    else if is (codes "-e") name then Some choices.Text
+    else if is (codes "-e") name then text_option value
     else if is (codes "-k") name then field_option value
     else if is (codes "-d") name then separator_option value
     else bad_option value

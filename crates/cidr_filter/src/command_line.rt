@@ -1,7 +1,7 @@
 //! What the arguments ask for.
 ghost use Rattle.std.specs.Prelude.{◌≡◌, ◌+◌, ◌≤◌, ◌||◌, None, Some, drop, length, nat_le, if◌then◌else◌, IfSome, MatchOption};
 ghost use Rattle.std.specs.List.{list_all};
-ghost use Rattle.cidr_filter.specs.CommandLines.{is_only, is_crossed, is_plain, files_among, inputs_among, Says, AsksNothing, Asks};
+ghost use Rattle.cidr_filter.specs.CommandLines.{is_only, is_crossed, is_plain, is_name, files_among, inputs_among, Says, AsksNothing, Asks};
 ghost use Rattle.cidr_filter.specs.Options.{option_of, behind_option, is_list, is_input, field_said, separator_said, bad_said, inverts_in, counts_in, is_longest};
 ghost use Rattle.cidr_filter.specs.Private.Requests.{IfFilter};
 
@@ -178,13 +178,38 @@ fn files_from(words: &[String], at: usize) -> Option<usize>
     ensures files { MatchOption result (files_among (drop at words.now) ≡ None) (λ place. files_among (drop at words.now) ≡ Some (drop place words.now)) }
 {
     if at < words.len() && is(&words[at], "--") {
-        return Some(at + 1);
+        if are_names(&words[at + 1..]) {
+            return Some(at + 1);
+        }
+        return None;
     }
-    if are_plain(&words[at..]) {
+    if !are_plain(&words[at..]) {
+        return None;
+    }
+    if are_names(&words[at..]) {
         Some(at)
     } else {
         None
     }
+}
+
+// Whether no word is empty.
+fn are_names(words: &[String]) -> bool
+    ensures { result ≡ list_all is_name words.now }
+{
+    for word in words {
+        if !is_name(word) {
+            return false;
+        }
+    }
+    true
+}
+
+// Whether a word is not empty.
+fn is_name(word: &String) -> bool
+    ensures { result ≡ is_name word.now }
+{
+    !word.as_bytes().is_empty()
 }
 
 // Whether no word looks like an option.

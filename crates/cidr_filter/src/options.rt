@@ -2,7 +2,7 @@
 ghost use Rattle.std.specs.Prelude.{◌≡◌, ◌-◌, ◌^◌, ◌<◌, ◌≤◌, drop, length, min};
 ghost use Rattle.std.specs.List.{list_all};
 ghost use Rattle.std.specs.Char.{is_ascii_digit};
-ghost use Rattle.cidr_filter.specs.Options.{is, is_letter, number_of, takes_next, behind_option, option_of, in_one_word, in_two_words, is_list, letters_option, file_option, field_option, separator_option, bad_option};
+ghost use Rattle.cidr_filter.specs.Options.{is, is_letter, number_of, takes_next, behind_option, option_of, in_one_word, in_two_words, is_list, letters_option, file_option, text_option, field_option, separator_option, bad_option};
 
 use crate::filter::Bad;
 
@@ -78,7 +78,7 @@ fn choice_with(name: &String, value: &[u8]) -> Option<Choice>
     if is(name, "-f") {
         file_choice(value)
     } else if is(name, "-e") {
-        Some(Choice::Text)
+        text_choice(value)
     } else if is(name, "-k") {
         field_choice(value)
     } else if is(name, "-d") {
@@ -139,11 +139,24 @@ fn are_letters(letters: &[u8]) -> bool
 fn file_choice(value: &[u8]) -> Option<Choice>
     ensures { result ≡ file_option value.now }
 {
+    if value.is_empty() {
+        return None;
+    }
     if value == b"-".as_slice() {
         Some(Choice::Input)
     } else {
         Some(Choice::File)
     }
+}
+
+// `-e` with this value.
+fn text_choice(value: &[u8]) -> Option<Choice>
+    ensures { result ≡ text_option value.now }
+{
+    if value.is_empty() {
+        return None;
+    }
+    Some(Choice::Text)
 }
 
 // `-k` with this value.

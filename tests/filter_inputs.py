@@ -1,0 +1,179 @@
+"""Rows of `tests/filter` over inputs of every kind: each byte, each prefix length, short reads, a
+log in parts. Each function yields a name, whether the row is as it should be, and what was got."""
+
+import ipaddress
+import os
+import random
+import resource
+import shutil
+import subprocess
+import time
+
+SECONDS = 60
+SIZES = (250000, 500000, 1000000)
+HERE = os.path.dirname(os.path.dirname(os.path.abspath(__file__)))
+IN_PARTS = os.path.join(HERE, "examples", "cidr_filter", "in_parts.sh")
+PIPES = {"stdout": subprocess.PIPE, "stderr": subprocess.PIPE}
+
+
+def run(words, given, folder, **others):
+    got = subprocess.run(words, input=given, cwd=folder, timeout=SECONDS, **PIPES, **others)
+    return got.stdout, got.stderr, got.returncode
+
+
+def seconds_of_a_line(program, folder, size, step):
+    """The processor seconds that a run takes in itself for a line of `size` bytes without an end, of
+    which each read gets `step` bytes: a read of a pipe in packet mode gets what one write wrote."""
+    reader, writer = os.pipe2(os.O_DIRECT)
+    before = resource.getrusage(resource.RUSAGE_CHILDREN).ru_utime
+    with subprocess.Popen([program, "-f", "list"], cwd=folder, stdin=reader, **PIPES) as running:
+        os.close(reader)
+        end = time.monotonic() + SECONDS
+        for at in range(0, size, step):
+            os.write(writer, b"10.0.0.1 "[at : at + step].ljust(step, b"x"))
+            if time.monotonic() > end:
+                running.kill()
+                break
+        os.close(writer)
+        output = running.communicate(timeout=SECONDS)[0]
+    taken = resource.getrusage(resource.RUSAGE_CHILDREN).ru_utime - before
+    return taken, output == b"10.0.0.1 ".ljust(-(-size // step) * step, b"x") + b"\n"
+
+
+def growth(program, folder):
+    """A line that does not end takes time in proportion to its length, however short the reads are.
+    Twice the length may take three times the time, and a tenth of a second for the clock."""
+    for step in (64, 1):
+        runs = [seconds_of_a_line(program, folder, size, step) for size in SIZES]
+        taken = [seconds for seconds, _ in runs]
+        well = all(well for _, well in runs)
+        well = well and all(more <= 3 * less + 0.1 for less, more in zip(taken, taken[1:]))
+        yield f"a line without an end, {step} bytes a read", well, taken
+
+
+def named(line):
+    """What a line of a list names: a network, or None for no entry. A ValueError is a refusal."""
+    text = line.removesuffix(b"\r").split(b"#")[0].split(b";")[0].strip(b" \t").decode("latin-1")
+    return ipaddress.ip_network(text, strict=False) if text else None
+
+
+def every_byte(program, folder):
+    """Each byte value before, in and after an entry. Of those that are no part of an address only
+    blanks, the bytes that begin a comment, and a line's end are taken."""
+    texts = [f"{a}10.0.0.1{b}" for a in ("", "1", "2") for b in ("", *range(10))]
+    asked = list(map(ipaddress.ip_address, texts))
+    log = "".join(f"{address}\n" for address in asked).encode()
+    for place, at in (("before", 0), ("in", 4), ("after", 8)):
+        before, after = b"10.0.0.1"[:at], b"10.0.0.1"[at:]
+        wrong = []
+        for byte in range(256):
+            content = before + bytes([byte]) + after + b"\n"
+            with open(os.path.join(folder, "byte"), "wb") as f:
+                f.write(content)
+            refused, networks = 0, []
+            for line in content.split(b"\n")[:-1]:
+                try:
+                    networks += [network for network in [named(line)] if network]
+                except ValueError:
+                    refused += 1
+            inside = [f"{one}\n" for one in asked if any(one in network for network in networks)]
+            wanted = (b"", 2) if refused else ("".join(inside).encode(), 0 if inside else 1)
+            output, error, status = run([program, "-f", "byte"], log, folder)
+            lines = error.splitlines()
+            told = [line for line in lines if line.startswith(b"byte:") and b": refused " in line]
+            told = len(lines) == len(told) == refused
+            wrong += [] if (output, status) == wanted and told else [(byte, output, error, status)]
+        yield f"each byte {place} an entry", not wrong, wrong
+
+
+def prefix_lengths(program, folder):
+    """A network of each prefix length of both families: its first and last address are in it, and
+    those beside it are not."""
+    rng = random.Random(2)
+    wrong = []
+    for kind, width in ((ipaddress.IPv4Network, 32), (ipaddress.IPv6Network, 128)):
+        for length in range(width + 1):
+            network = kind((rng.getrandbits(width), length), strict=False)
+            first, last = int(network.network_address), int(network.broadcast_address)
+            make = type(network.network_address)
+            inside = [str(make(n)) for n in sorted({first, last})]
+            outside = [str(make(n)) for n in (first - 1, last + 1) if 0 <= n < 1 << width]
+            log = "".join(f"{address}\n" for address in inside + outside).encode()
+            for option in ([], ["--longest"]):
+                mark = f"{network}\t" if option else ""
+                wanted = ("".join(f"{mark}{address}\n" for address in inside).encode(), b"", 0)
+                got = run([program, *option, "-e", str(network)], log, folder)
+                wrong += [] if got == wanted else [(str(network), option, got)]
+    yield "each prefix length", not wrong, wrong
+
+
+def numbers_of_logs(program, folder):
+    """No FILE, which is standard input, up to twenty, in their order."""
+    names = [f"log {n}" for n in range(20)]
+    for n, name in enumerate(names):
+        with open(os.path.join(folder, name), "w") as f:
+            f.write(f"10.0.0.{n} {name}\n11.0.0.1\n")
+    for count in range(21):
+        wanted = "".join(f"10.0.0.{n} log {n}\n" for n in range(count)) if count else "10.0.0.99\n"
+        got = run([program, "-f", "list", *names[:count]], b"10.0.0.99\n", folder)
+        yield f"{count} logs", got == (wanted.encode(), b"", 0), got
+
+
+def not_blocking(program, folder):
+    """Standard input that does not block, and has no byte yet: a failed read, and not its end."""
+    of_log = (["-f", "list"], b"10.0.0.1 a\n10.0.0.2", b"10.0.0.1 a\n")
+    of_list = (["-f", "-", "log"], b"10.0.0.0/8\n", b"")
+    for words, given, output in (of_log, of_list):
+        reader, writer = os.pipe()
+        os.set_blocking(reader, False)
+        os.write(writer, given)
+        got = subprocess.run([program, *words], cwd=folder, stdin=reader, timeout=SECONDS, **PIPES)
+        got = (got.stdout, got.stderr, got.returncode)
+        os.close(reader)
+        os.close(writer)
+        yield f"{words}, input that does not block", got == (output, b"-: cannot read\n", 2), got
+
+
+WHOLE = (
+    "-f made",
+    "-c -f made",
+    "-v -k 2 -f made",
+    "-vc --bad=drop -f made",
+    "-e 0.0.0.0/32 --",
+    "-k1 -c -f made",
+    "-f absent",
+    "-f bad -c",
+)
+REFUSED = ("--bad stop -f made", "--bad=keep -f made", "-f -", "-f made made_log", "-f made -")
+
+
+def of_made_log(words, folder, **others):
+    with open(os.path.join(folder, "made_log"), "rb") as log:
+        got = subprocess.run(words, stdin=log, cwd=folder, timeout=SECONDS, **PIPES, **others)
+    return got.stdout, got.stderr, got.returncode
+
+
+def without_parallel(folder):
+    """A folder with the commands that the script needs, and no others."""
+    commands = os.path.join(folder, "commands")
+    os.mkdir(commands)
+    for command in ("bash", "dirname", "mktemp", "rm", "split"):
+        os.symlink(shutil.which(command), os.path.join(commands, command))
+    return commands
+
+
+def in_parts(program, folder):
+    """What `in_parts.sh` prints of a log of several parts, what it reports and its status are those
+    of the whole log. Once it uses GNU parallel, if that is there."""
+    for path in (os.environ["PATH"], without_parallel(folder)):
+        others = {"env": {**os.environ, "PATH": path}}
+        for options in WHOLE:
+            whole = of_made_log([program, *options.split()], folder)
+            parts = of_made_log([IN_PARTS, *options.split()], folder, **others)
+            yield f"{options}, in parts", parts == whole, parts[1:]
+        got = run([IN_PARTS, "-c", "-f", "made"], b"", folder, **others)
+        yield "an empty log, in parts", got == (b"0\n", b"", 1), got
+    for options in REFUSED:
+        output, error, status = run([IN_PARTS, *options.split()], b"", folder)
+        well = (output, error.count(b"\n"), status) == (b"", 1, 2)
+        yield f"{options}, in parts", well, error
