@@ -13,6 +13,10 @@ try:
     import pandas
 except ImportError:
     pandas = None
+try:
+    import dask.dataframe as frames
+except ImportError:
+    frames = None
 
 
 def random_texts(count):
@@ -199,6 +203,19 @@ class Columns(unittest.TestCase):
         network = IPv4Network("10.0.0.0/7")
         for column in (packed, packed.reshape(-1, 4), packed.copy()):
             self.assertEqual(numpy.flatnonzero(numpy.frombuffer(network.contains_column(column), bool)).tolist(), [10, 11])
+
+    @unittest.skipIf(frames is None, "dask is not here")
+    def test_dask(self):
+        log = frames.from_pandas(pandas.DataFrame({"address": TEXTS, "row": range(len(TEXTS))}), 3)
+        wanted = is_member(TEXTS, WHICH).tolist()
+        self.assertEqual(is_member(log.address, WHICH).tolist(), wanted)
+        asked = log.address.map_partitions(lambda part: pandas.Series(is_member(part, WHICH)), meta=("x", bool))
+        self.assertEqual(asked.compute().tolist(), wanted)
+        wrong = log.map_partitions(lambda part: pandas.Series(is_member(part, WHICH)), meta=("x", bool))
+        numbers = log.row.map_partitions(lambda part: pandas.Series(is_member(part, WHICH)), meta=("x", bool))
+        for call in (lambda: is_member(log, WHICH), lambda: is_member(log.row, WHICH), wrong.compute, numbers.compute):
+            with self.assertRaises(TypeError):
+                call()
 
     @unittest.skipIf(pandas is None, "pandas is not here")
     def test_frame(self):

@@ -16,8 +16,9 @@ that they can be sorted. ``a <= b`` is that order, as in ``ipaddress``; whether 
 Addresses are those of ``ipaddress``.
 
 The package calls the library by an extension, ``_native``, which its wheel has if it was built where there were a C
-compiler and the headers of Python, or else by ``ctypes``: ``CORE`` says by which, and a RuntimeWarning says that a call is
-slower so. If the environment variable IPNETWORK_LIBRARY names a shared library, it is used, by ``ctypes``, and nothing is said.
+compiler and the headers of Python, or else by ``ctypes``, which a RuntimeWarning says, since a call
+is slower so: ``CORE`` says by which. If the environment variable IPNETWORK_LIBRARY names a shared
+library, it is used, by ``ctypes``, without a warning.
 """
 
 from __future__ import annotations
@@ -46,8 +47,9 @@ elif find_spec(f"{__name__}._native") is None:
     from . import _by_ctypes as _core
 
     warnings.warn(
-        "ipnetwork was built without the headers of Python, and calls its library by ctypes: the answers are the same, and a "
-        "call takes several times as long; bindings/README.md says how to build its extension",
+        "ipnetwork was built without the headers of Python, and calls its library by ctypes: the "
+        "answers are the same, and a call takes five to twenty times as long; bindings/README.md "
+        "says how to build its extension",
         RuntimeWarning,
         stacklevel=2,
     )
