@@ -35,21 +35,31 @@ PROGRAMS = cidr cidr_merge cidr_filter
 
 .PHONY: all example test try library shared install install-library uninstall check-install
 
+# Says by name what is not here, before anything is proved.
+tools = @missing=; for tool in $(1); do command -v $$tool > /dev/null || missing="$$missing $$tool"; done; \
+    [ -z "$$missing" ] || { echo "make $@ needs what is not here:$$missing (README, Install)" >&2; exit 1; }
+
 all:
+	$(call tools,rt python3 cc)
 	scripts/prove $(PROGRAMS) ipnetwork_c
 	$(MAKE) shared
 
 example:
+	$(call tools,rt python3)
 	scripts/prove cidr
 	crates/cidr/out/cidr < examples/cidr/questions.txt
 
-test: all
+test:
+	$(call tools,rt python3 cc nm)
+	$(MAKE) all
 	tests/all
 
 try:
+	$(call tools,rt)
 	cd crates/cidr && rt try < ../../examples/cidr/questions.txt
 
 library:
+	$(call tools,rt python3 cc)
 	scripts/prove ipnetwork_c
 	$(MAKE) shared
 
