@@ -1,9 +1,14 @@
-# Installs the library for C, its header and the programs, with their manual pages, if they are there.
+# What people type. The proofs need rt, the command of the Rattle kit, and python3; the library for C needs cc too.
 #
-#   make                                  proves and builds the library; needs rt and cc
+#   make example                          proves and builds cidr, and answers examples/cidr/questions.txt
+#   make                                  proves and builds the three programs and the library for C
+#   make test                             the same, and then every test by its script
+#   make try                              the answers of the example from a program that is not proved, and not kept
 #   make install PREFIX=/usr DESTDIR=/tmp/package
+#                                         installs what is built: the programs, their manual pages and completions, and
+#                                         the library for C with its header
 #   make uninstall PREFIX=/usr DESTDIR=/tmp/package
-#   make check-install                    installs into a new folder, compiles the example there and removes it again
+#   make check-install                    installs into a new folder, compiles the example of C there and removes it again
 #
 # PREFIX is where the files are looked for when they are used, DESTDIR what stands before it while they are copied.
 
@@ -12,6 +17,9 @@ LIBDIR = $(PREFIX)/lib
 INCLUDEDIR = $(PREFIX)/include
 BINDIR = $(PREFIX)/bin
 MANDIR = $(PREFIX)/share/man
+BASHDIR = $(PREFIX)/share/bash-completion/completions
+ZSHDIR = $(PREFIX)/share/zsh/site-functions
+FISHDIR = $(PREFIX)/share/fish/vendor_completions.d
 DESTDIR =
 INSTALL = install
 
@@ -24,14 +32,25 @@ ARCHIVE = crates/ipnetwork_c/out/libipnetwork_c.a
 SHARED = $(OUT)/libipnetwork_c.so.$(VERSION)
 SONAME = libipnetwork_c.so.$(MAJOR)
 PROGRAMS = cidr cidr_merge cidr_filter
-PAGES = $(wildcard docs/man/*.[1-8])
 
-.PHONY: all library shared install uninstall check-install
+.PHONY: all example test try library shared install install-library uninstall check-install
 
-all: library
+all:
+	scripts/prove $(PROGRAMS) ipnetwork_c
+	$(MAKE) shared
+
+example:
+	scripts/prove cidr
+	crates/cidr/out/cidr < examples/cidr/questions.txt
+
+test: all
+	tests/all
+
+try:
+	cd crates/cidr && rt try < ../../examples/cidr/questions.txt
 
 library:
-	cd crates/ipnetwork_c && rt lib
+	scripts/prove ipnetwork_c
 	$(MAKE) shared
 
 # The shared library, of the static one that is there.
@@ -41,8 +60,32 @@ shared:
 
 # Copies what is built, and builds nothing.
 install:
-	@for file in $(ARCHIVE) $(SHARED); do [ -f $$file ] || { echo "make install: $$file is not built: run make first" >&2; exit 1; }; done
-	$(INSTALL) -d "$(DESTDIR)$(INCLUDEDIR)" "$(DESTDIR)$(LIBDIR)/pkgconfig" "$(DESTDIR)$(BINDIR)"
+	@built=; for program in $(PROGRAMS); do \
+	    if [ -f crates/$$program/out/$$program ]; then \
+	        built=yes; \
+	        $(INSTALL) -d "$(DESTDIR)$(BINDIR)" "$(DESTDIR)$(MANDIR)/man1" && \
+	        $(INSTALL) -m 755 crates/$$program/out/$$program "$(DESTDIR)$(BINDIR)/$$program" && \
+	        $(INSTALL) -m 644 docs/man/$$program.1 "$(DESTDIR)$(MANDIR)/man1/$$program.1" || exit 1; \
+	        if [ -f completions/$$program.bash ]; then \
+	            $(INSTALL) -d "$(DESTDIR)$(BASHDIR)" "$(DESTDIR)$(ZSHDIR)" "$(DESTDIR)$(FISHDIR)" && \
+	            $(INSTALL) -m 644 completions/$$program.bash "$(DESTDIR)$(BASHDIR)/$$program" && \
+	            $(INSTALL) -m 644 completions/$$program.zsh "$(DESTDIR)$(ZSHDIR)/_$$program" && \
+	            $(INSTALL) -m 644 completions/$$program.fish "$(DESTDIR)$(FISHDIR)/$$program.fish" || exit 1; \
+	        fi; \
+	    else \
+	        echo "make install: without $$program, which is not built" >&2; \
+	    fi; \
+	done; \
+	if [ -f $(ARCHIVE) ] && [ -f $(SHARED) ]; then \
+	    $(MAKE) -s install-library; \
+	elif [ -z "$$built" ]; then \
+	    echo "make install: nothing is built: run make first" >&2; exit 1; \
+	else \
+	    echo "make install: without the library for C, which is not built" >&2; \
+	fi
+
+install-library:
+	$(INSTALL) -d "$(DESTDIR)$(INCLUDEDIR)" "$(DESTDIR)$(LIBDIR)/pkgconfig"
 	$(INSTALL) -m 644 bindings/c/ipnetwork.h "$(DESTDIR)$(INCLUDEDIR)/ipnetwork.h"
 	$(INSTALL) -m 644 $(ARCHIVE) "$(DESTDIR)$(LIBDIR)/libipnetwork_c.a"
 	$(INSTALL) -m 755 $(SHARED) "$(DESTDIR)$(LIBDIR)/libipnetwork_c.so.$(VERSION)"
@@ -51,24 +94,15 @@ install:
 	sed -e 's|@PREFIX@|$(PREFIX)|' -e 's|@LIBDIR@|$(LIBDIR)|' -e 's|@INCLUDEDIR@|$(INCLUDEDIR)|' -e 's|@VERSION@|$(VERSION)|' \
 	    bindings/c/ipnetwork.pc.in > "$(DESTDIR)$(LIBDIR)/pkgconfig/ipnetwork.pc"
 	chmod 644 "$(DESTDIR)$(LIBDIR)/pkgconfig/ipnetwork.pc"
-	@for program in $(PROGRAMS); do \
-	    if [ -f crates/$$program/out/$$program ]; then \
-	        $(INSTALL) -m 755 crates/$$program/out/$$program "$(DESTDIR)$(BINDIR)/$$program" || exit 1; \
-	    else \
-	        echo "make install: without $$program, which is not built" >&2; \
-	    fi; \
-	done
-	@for page in $(PAGES); do \
-	    section="$(DESTDIR)$(MANDIR)/man$${page##*.}"; \
-	    $(INSTALL) -d "$$section" && $(INSTALL) -m 644 "$$page" "$$section/$${page##*/}" || exit 1; \
-	done
 
 uninstall:
 	rm -f "$(DESTDIR)$(INCLUDEDIR)/ipnetwork.h" "$(DESTDIR)$(LIBDIR)/pkgconfig/ipnetwork.pc"
 	rm -f "$(DESTDIR)$(LIBDIR)/libipnetwork_c.a" "$(DESTDIR)$(LIBDIR)/libipnetwork_c.so" "$(DESTDIR)$(LIBDIR)/$(SONAME)"
 	rm -f "$(DESTDIR)$(LIBDIR)/libipnetwork_c.so.$(VERSION)"
-	@for program in $(PROGRAMS); do rm -f "$(DESTDIR)$(BINDIR)/$$program"; done
-	@for page in $(PAGES); do rm -f "$(DESTDIR)$(MANDIR)/man$${page##*.}/$${page##*/}"; done
+	@for program in $(PROGRAMS); do \
+	    rm -f "$(DESTDIR)$(BINDIR)/$$program" "$(DESTDIR)$(MANDIR)/man1/$$program.1" "$(DESTDIR)$(BASHDIR)/$$program"; \
+	    rm -f "$(DESTDIR)$(ZSHDIR)/_$$program" "$(DESTDIR)$(FISHDIR)/$$program.fish"; \
+	done
 
 check-install:
 	bindings/check_install

@@ -3,8 +3,8 @@
  * Every call except the two that tell a version returns an ipnetwork_fault: IPNETWORK_OK, which is 0, or why there is
  * no result. Results are written through the last pointers. After a fault nothing has been written, except that after
  * IPNETWORK_SHORT_BUFFER a call with a pointer for the length of texts, or for the number of blocks, has written that.
- * A struct that the caller has filled is checked: a prefix length past the width is IPNETWORK_PREFIX, and never
- * trusted.
+ * A struct that the caller has filled is checked by each call that looks at it: a prefix length past the width is
+ * IPNETWORK_PREFIX, and never trusted. Only the searches of sets and tables do not look at every struct.
  *
  * No call allocates or keeps anything. Each may be made from any thread, and from several at once, as long as no
  * other thread writes what it reads or touches what it writes.
@@ -275,10 +275,10 @@ IPNETWORK_CHECKED_AT(3) ipnetwork_fault ipnetwork_v6_aggregate(ipnetwork_v6 *IPN
                                                                 size_t network_count,
                                                                 size_t *IPNETWORK_ALONE block_count);
 
-/* Whether an address lies in the set of block_count blocks, as a call of aggregate leaves them: *answer is 1 or 0, by
- * one binary search. Of another list 1 is right too, but 0 says nothing: ipnetwork_v4_list_contains and
- * ipnetwork_v6_list_contains take any list. IPNETWORK_PREFIX only if the prefix length of a struct is past the width,
- * which that of no set's is; not every struct is looked at. */
+/* Whether an address lies in the set of block_count blocks, as a call of aggregate leaves them: *answer is 1 or 0. Of
+ * another list 1 is right too, but 0 says nothing: ipnetwork_v4_list_contains and ipnetwork_v6_list_contains take any
+ * list. Not every struct is looked at: IPNETWORK_PREFIX exactly if the prefix length of the last one whose own address
+ * is this one or comes before it is past the width, as far as these addresses ascend. That of no set's is. */
 IPNETWORK_CHECKED_AT(3, 4) ipnetwork_fault ipnetwork_v4_set_contains(const ipnetwork_v4 *blocks, size_t block_count,
     const uint8_t address[4], uint8_t *IPNETWORK_ALONE answer);
 IPNETWORK_CHECKED_AT(3, 4) ipnetwork_fault ipnetwork_v6_set_contains(const ipnetwork_v6 *blocks, size_t block_count,
@@ -298,11 +298,12 @@ IPNETWORK_CHECKED_FAULT ipnetwork_fault ipnetwork_v6_table_make(const ipnetwork_
 /* The longest block that has an address, in a table: block_count blocks without host bits in ascending order, as
  * ipnetwork_v4_compare and ipnetwork_v6_compare order them, of which some may lie in others, as ipnetwork_v4_table_make
  * and ipnetwork_v6_table_make leave them. *index is its place, by which the caller finds what belongs to it; of equal
- * blocks it is that of the last one. The last block up to the address is found by one binary search; as long as it does
- * not have the address, another one is made among those before it. IPNETWORK_NO_MEMBER if no block has the address.
+ * blocks it is that of the last one. The search begins at the last block up to the address, and goes on from one that
+ * does not have it to the last before it at which a block with the address can begin. IPNETWORK_NO_MEMBER if no block
+ * has the address.
  * That the list is a table is not checked: of another list the block at *index has the address too, but there may be a
- * longer one, and IPNETWORK_NO_MEMBER says nothing. IPNETWORK_PREFIX only if the prefix length of a struct is past the
- * width; not every struct is looked at. */
+ * longer one, and IPNETWORK_NO_MEMBER says nothing. Not every struct is looked at: IPNETWORK_PREFIX at the first one
+ * that the search comes to whose prefix length is past the width. */
 IPNETWORK_CHECKED_AT(3, 4) ipnetwork_fault ipnetwork_v4_table_find(const ipnetwork_v4 *blocks, size_t block_count,
     const uint8_t address[4], size_t *IPNETWORK_ALONE index);
 IPNETWORK_CHECKED_AT(3, 4) ipnetwork_fault ipnetwork_v6_table_find(const ipnetwork_v6 *blocks, size_t block_count,

@@ -574,6 +574,19 @@ static void sets(void) {
     CHECK("NULL", ipnetwork_v4_set_contains(NULL, 0, past.address, &answer) == YES && answer == 0);
     answer = 77;
     CHECK("NULL", ipnetwork_v6_set_contains(NULL, 0, past_six.address, &answer) == YES && answer == 0);
+    /* The last struct up to the address is looked at, and no other. */
+    ipnetwork_v4 last[2] = {v4("10.0.0.0/8"), past};
+    ipnetwork_v6 last_six[2] = {v6("::/8"), past_six};
+    const uint8_t first[4] = {10, 0, 0, 1}, after[4] = {192, 0, 2, 1};
+    const uint8_t first_six[16] = {0, 1}, after_six[16] = {32, 1};
+    last[1].address[0] = 192;
+    last_six[1].address[0] = 32;
+    answer = 77;
+    CHECK("past", ipnetwork_v4_set_contains(last, 2, after, &answer) == PREF && answer == 77);
+    CHECK("past", ipnetwork_v6_set_contains(last_six, 2, after_six, &answer) == PREF && answer == 77);
+    CHECK("past", ipnetwork_v4_set_contains(last, 2, first, &answer) == YES && answer == 1);
+    answer = 77;
+    CHECK("past", ipnetwork_v6_set_contains(last_six, 2, first_six, &answer) == YES && answer == 1);
 }
 
 typedef ipnetwork_fault (*operation_v4)(const ipnetwork_v4 *, size_t, const ipnetwork_v4 *, size_t, ipnetwork_v4 *, size_t, size_t *);
@@ -747,6 +760,16 @@ static void tables(void) {
     CHECK("past", ipnetwork_v6_table_find(&past_six, 1, past_six.address, &index) == PREF && index == 77);
     CHECK("NULL", ipnetwork_v4_table_find(NULL, 0, past.address, &index) == IPNETWORK_NO_MEMBER && index == 77);
     CHECK("NULL", ipnetwork_v6_table_find(NULL, 0, past_six.address, &index) == IPNETWORK_NO_MEMBER && index == 77);
+    /* From a block without the address the search goes on, and comes to the struct; from one with it, it does not. */
+    ipnetwork_v4 table[2] = {past, v4("10.1.0.0/16")};
+    ipnetwork_v6 table_six[2] = {past_six, v6("1::/16")};
+    const uint8_t beside[4] = {10, 2, 0, 1}, inside[4] = {10, 1, 0, 1};
+    const uint8_t beside_six[16] = {0, 2}, inside_six[16] = {0, 1};
+    CHECK("past", ipnetwork_v4_table_find(table, 2, beside, &index) == PREF && index == 77);
+    CHECK("past", ipnetwork_v6_table_find(table_six, 2, beside_six, &index) == PREF && index == 77);
+    CHECK("past", ipnetwork_v4_table_find(table, 2, inside, &index) == YES && index == 1);
+    index = 77;
+    CHECK("past", ipnetwork_v6_table_find(table_six, 2, inside_six, &index) == YES && index == 1);
 }
 
 /* A random network within 256 addresses, of either family, with host bits. */

@@ -27,8 +27,9 @@ Summary: IP networks in CIDR notation, by a proved library
 License: MIT OR Apache-2.0
 Requires-Python: >=3.9
 """
-MODULES = ("__init__.py", "_by_ctypes.py", "_errors.py", "_native.pyi", "columns.py", "py.typed")
-STABLE = sys.version_info >= (3, 11)  # from this version on the stable ABI has buffers
+MODULES = ("__init__.py", "_by_ctypes.py", "_errors.py", "_native.pyi", "_rows.py", "columns.py", "py.typed")
+THREADED = bool(sysconfig.get_config_var("Py_GIL_DISABLED"))  # a Python with free threads, which has no stable ABI
+STABLE = sys.version_info >= (3, 11) and not THREADED  # from this version on the stable ABI has buffers
 
 
 def _archive() -> pathlib.Path:
@@ -76,7 +77,7 @@ def build_wheel(wheel_directory, config_settings=None, metadata_directory=None):
     with tempfile.TemporaryDirectory() as folder:
         if has_headers():
             library = compile_native(pathlib.Path(folder))
-            tag = f"{'cp311-abi3' if STABLE else f'{version}-{version}'}-{platform}"
+            tag = f"{'cp311-abi3' if STABLE else version + '-' + version + 't' * THREADED}-{platform}"
         else:
             library = link_shared(pathlib.Path(folder))
             tag = f"py3-none-{platform}"

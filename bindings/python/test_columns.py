@@ -86,12 +86,113 @@ class Columns(unittest.TestCase):
         self.assertEqual(find([], table).tolist(), [])
 
     def test_rows_without_a_text(self):
-        rows = ["10.0.0.1", None, float("nan"), 7, "::1"]
+        rows = ["10.0.0.1", None, float("nan"), numpy.float32("nan"), "::1"]
         columns = [rows, numpy.array(rows, dtype=object)]
         if pandas is not None:
             columns.append(pandas.Series(rows))
+            columns.append(pandas.Series(["10.0.0.1", None, pandas.NA, float("nan"), "::1"], dtype="string"))
+            columns.append(pandas.Series(["10.0.0.1", pandas.NaT, pandas.NA, None, "::1"], dtype=object))
         for column in columns:
             self.assertEqual(read_addresses(column)[1].tolist(), [True, False, False, False, True])
+
+    def test_objects(self):
+        # What each row is, and whether it is in 10.1.0.0/16 or 2001:db8::/32.
+        rows = [
+            (ipaddress.IPv4Address("10.1.2.3"), True),
+            (ipaddress.IPv6Address("2001:db8::1"), True),
+            (ipaddress.IPv4Address("10.2.0.0"), False),
+            (ipaddress.IPv6Address("::ffff:10.1.2.3"), False),
+            (ipaddress.ip_interface("10.1.2.3/8"), True),
+            (ipaddress.ip_interface("2001:db8::1/16"), True),
+            (ipaddress.IPv6Address("2001:db8::1%eth0"), False),
+            (ipaddress.ip_interface("2001:db8::1%eth0/64"), False),
+            (ip_network("10.1.2.3"), True),
+            (ip_network("2001:db9::1/128"), False),
+            (ipaddress.ip_network("10.1.2.3"), True),
+            (ipaddress.ip_network("2001:db8::1/128"), True),
+            (b"10.1.2.3", True),
+            (b"\xff", False),
+            (numpy.str_("10.1.2.3"), True),
+            (numpy.bytes_(b"2001:db8::1"), True),
+            ("\udcff", False),
+            (None, False),
+        ]
+        objects, wanted = [row for row, _ in rows], [answer for _, answer in rows]
+        which, table = AddressSet(map(ip_network, ("10.1.0.0/16", "2001:db8::/32"))), Table(map(ip_network, ("10.1.0.0/16", "2001:db8::/32")))
+        array = numpy.empty(len(objects), dtype=object)
+        array[:] = objects
+        for column in (objects, tuple(objects), iter(objects), array, *([pandas.Series(objects)] if pandas is not None else [])):
+            column = list(column) if hasattr(column, "__next__") else column
+            self.assertEqual(is_member(column, which).tolist(), wanted)
+            self.assertEqual((find(column, table) >= 0).tolist(), wanted)
+            for row, each in enumerate(objects):
+                self.assertEqual(is_member(column[row : row + 1], which).tolist(), [wanted[row]], each)
+        self.assertEqual(is_member((row for row in objects), which).tolist(), wanted)
+        self.assertEqual(is_member(numpy.array([b"10.1.2.3", b"10.2.0.0"]), which).tolist(), [True, False])
+        for each, answer in rows:
+            if isinstance(each, (ipaddress.IPv4Address, ipaddress.IPv6Address)):
+                self.assertEqual(each in which, answer)
+
+    def test_rows_that_are_refused(self):
+        which = AddressSet([ip_network("0.0.0.0/0"), ip_network("::/0")])
+        wrong = [7, 7.5, True, numpy.uint32(7), b"x"[0], bytearray(b"::1"), ["::1"], object(), ip_network("10.0.0.0/8"), ipaddress.ip_network("::/64")]
+        for each in wrong:
+            for call in (layout, read_addresses, lambda rows: is_member(rows, which), lambda rows: find(rows, Table(which))):
+                with self.subTest(each), self.assertRaises(TypeError) as raised:
+                    call(["10.1.2.3", None, each])
+                self.assertIn("row 2: ", str(raised.exception))
+                self.assertIn(type(each).__name__, str(raised.exception))
+
+    def test_columns_that_are_refused(self):
+        which = AddressSet([ip_network("0.0.0.0/0"), ip_network("::/0")])
+        wrong = ["10.1.2.3", b"10.1.2.3", bytearray(b"::1"), memoryview(b"::1"), {"10.1.2.3": 1}, 7, None, numpy.array("10.1.2.3")]
+        wrong += [numpy.array([["10.1.2.3"]]), numpy.array([[10, 1, 2, 3]] * 17, numpy.uint8), numpy.zeros((1, 16), numpy.uint8)]
+        for kind in ("u1", "u4", ">u4", "u8", "i8", "f8", "M8[s]"):
+            wrong.append(numpy.ones(17, kind))
+        if pandas is not None:
+            wrong += [pandas.DataFrame({"address": ["10.1.2.3"]}), pandas.Series([7], dtype="uint32"), pandas.DataFrame()]
+        for each in wrong:
+            for call in (lambda rows: is_member(rows, which), lambda rows: find(rows, Table(which)), layout, read_addresses):
+                if call is read_addresses and getattr(each, "shape", ()) in ((17, 4), (1, 16)):
+                    continue
+                with self.subTest(repr(each)), self.assertRaises(TypeError):
+                    call(each)
+
+    def test_numbers(self):
+        four, six = IPv4Network("10.1.0.0/16"), ip_network("2001:db8::/32")
+        which, table = AddressSet([four, six]), Table([four, six])
+        each = [int(ipaddress.IPv4Address(text)) for text in ("10.1.2.3", "10.2.0.0", "255.255.255.255", "0.0.0.0")]
+        columns = [numpy.array(each, kind) for kind in ("u4", ">u4", "u8")] + [numpy.array(each * 2, "u4").reshape(-1, 2)[:, 0]]
+        if pandas is not None:
+            columns.append(pandas.Series(each, dtype="uint32"))
+        for column in columns[:3] + columns[4:]:
+            self.assertEqual(is_member(column, which, numbers=4).tolist(), [True, False, False, False])
+            self.assertEqual(find(column, table, numbers=4).tolist(), [0, -1, -1, -1])
+            addresses, present = read_addresses(column, numbers=4)
+            self.assertEqual((present.tolist(), addresses.tolist()), ([True] * 4, read_addresses([ipaddress.IPv4Address(it) for it in each])[0].tolist()))
+        self.assertEqual(is_member(columns[3], which, numbers=4).tolist(), [True, False, True, False])
+        pairs = [divmod(int(ipaddress.IPv6Address(text)), 2**64) for text in ("2001:db8::1", "2001:db9::", "::2001:db8:0:0")]
+        for kind in ("u8", ">u8"):
+            self.assertEqual(is_member(numpy.array(pairs, kind), which, numbers=6).tolist(), [True, False, False])
+            self.assertEqual(find(numpy.array(pairs, kind), table, numbers=6).tolist(), [1, -1, -1])
+        self.assertEqual(is_member(numpy.array([], "u4"), which, numbers=4).tolist(), [])
+        for column, numbers in (
+            (numpy.array(each), 4),
+            (each, 4),
+            (["10.1.2.3"], 4),
+            (numpy.array(each, "f8"), 4),
+            (numpy.array([each], "u4"), 4),
+            (numpy.array(each, "u8"), 6),
+            (numpy.array([each], "u8"), 6),
+            (numpy.array([[1, 2]], "u4"), 6),
+        ):
+            with self.assertRaises(TypeError):
+                is_member(column, which, numbers=numbers)
+        with self.assertRaisesRegex(ValueError, "row 1: 4294967296"):
+            is_member(numpy.array([1, 2**32], "u8"), which, numbers=4)
+        for numbers in (0, 32, "4"):
+            with self.assertRaises(ValueError):
+                is_member(numpy.array(each, "u4"), which, numbers=numbers)
 
     def test_packed(self):
         packed = numpy.frombuffer(b"".join(ipaddress.IPv4Address(row << 24).packed for row in range(256)), numpy.uint8)

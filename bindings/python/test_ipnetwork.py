@@ -202,6 +202,39 @@ class Questions(unittest.TestCase):
             with self.assertRaises(TypeError):
                 network.contains_column("10.1.9.32")
 
+    def test_columns_that_are_refused(self):
+        # The bytes of numbers of several bytes are in the order of the machine; those of a str are not its text.
+        four, which = IPv4Network("10.0.0.0/8"), AddressSet([IPv4Network("10.0.0.0/8")])
+        table, offsets = Table(which), array.array("I", [0, 4])
+        words = [array.array(kind, [1] * 17) for kind in "HIQd"] + [memoryview(array.array("I", [1] * 17))]
+        for column in [*words, "10.1.2.3", [10, 1, 2, 3], None, 7]:
+            for call in (
+                four.contains_column,
+                which.contains_column,
+                table.find_column,
+                IPv4Network.print_column,
+                ipnetwork.print_address_column,
+                lambda texts: ipnetwork.read_address_column(texts, offsets),
+                lambda texts: IPv6Network.read_column(texts, offsets),
+            ):
+                with self.assertRaises(TypeError):
+                    call(column)
+        # An address is 4 or 16 bytes long, and a row without one 0.
+        good = bytes([10, 1, 2, 3, *bytes(12), 4])
+        self.assertEqual(list(which.contains_column(good + bytes(17))), [1, 0])
+        for length in (1, 3, 5, 15, 17, 32, 255):
+            for call in (which.contains_column, table.find_column):
+                with self.assertRaisesRegex(ValueError, f"row 1 .* {length}$"):
+                    call(good + bytes(16) + bytes([length]) + good)
+
+    def test_a_network_does_not_change(self):
+        for network, other in ((IPv4Network("10.1.9.32/16"), "::"), (IPv6Network("2001:db8::1/32"), b"")):
+            before = str(network), network.network_address, hash(network)
+            for text in (other, str(network)):
+                with self.assertRaises(TypeError):
+                    network.__init__(text)
+            self.assertEqual((str(network), network.network_address, hash(network)), before)
+
     def test_columns_of_texts(self):
         texts = [text for text, _, _ in TEXTS] * 3 + ["2001:db8::1", "192.0.2.9"]
         encoded = [text.encode("utf-8", "surrogatepass") for text in texts]

@@ -7,4 +7,4 @@
 # With `--sshlogin ONE,TWO` the parts go to these machines, which need the program at the same path.
 set -eu
 program=$(cd "$(dirname "$0")/../.." && pwd)/crates/cidr/out/cidr
-exec parallel --pipe --keep-order --block 64M "$@" "$program"
+exec parallel --quote --pipe --keep-order --block 64M "$@" "$program"

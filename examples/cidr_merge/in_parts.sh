@@ -13,8 +13,8 @@ program=$(cd "$(dirname "$0")/../.." && pwd)/crates/cidr_merge/out/cidr_merge
 parts=$(mktemp)
 trap 'rm -f "$parts"' EXIT
 if command -v parallel > /dev/null; then
-    parallel --pipe --block 64M "$@" "$program" union - > "$parts" || exit 2
+    parallel --quote --pipe --block 64M "$@" "$program" union - > "$parts" || exit 2
 else
-    split --line-bytes=64M --filter="'$program' union -" > "$parts" || exit 2
+    split --line-bytes=64M --filter="$(printf '%q' "$program") union -" > "$parts" || exit 2
 fi
 "$program" union "$parts"

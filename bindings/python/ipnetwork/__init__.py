@@ -16,13 +16,14 @@ that they can be sorted. ``a <= b`` is that order, as in ``ipaddress``; whether 
 Addresses are those of ``ipaddress``.
 
 The package calls the library by an extension, ``_native``, which its wheel has if it was built where there were a C
-compiler and the headers of Python, or else by ``ctypes``: ``CORE`` says by which. If the environment variable
-IPNETWORK_LIBRARY names a shared library, it is used, by ``ctypes``.
+compiler and the headers of Python, or else by ``ctypes``: ``CORE`` says by which, and a RuntimeWarning says that a call is
+slower so. If the environment variable IPNETWORK_LIBRARY names a shared library, it is used, by ``ctypes``, and nothing is said.
 """
 
 from __future__ import annotations
 
 import os
+import warnings
 from array import array
 from collections.abc import Iterable, Iterator
 from importlib.util import find_spec
@@ -39,8 +40,17 @@ if TYPE_CHECKING:
     from typing_extensions import Self
 
     from . import _native as _core
-elif "IPNETWORK_LIBRARY" in os.environ or find_spec(f"{__name__}._native") is None:
+elif "IPNETWORK_LIBRARY" in os.environ:
     from . import _by_ctypes as _core
+elif find_spec(f"{__name__}._native") is None:
+    from . import _by_ctypes as _core
+
+    warnings.warn(
+        "ipnetwork was built without the headers of Python, and calls its library by ctypes: the answers are the same, and a "
+        "call takes several times as long; bindings/README.md says how to build its extension",
+        RuntimeWarning,
+        stacklevel=2,
+    )
 else:
     from . import _native as _core
 
@@ -308,7 +318,7 @@ class AddressSet:
 
     def contains_column(self, addresses: ReadableBuffer) -> bytearray:
         """For each address of a column a byte: 1 if it is one of the set, else 0. The column has 17 bytes for each address,
-        as ``read_address_column`` gives it; what is no address is none of the set.
+        as ``read_address_column`` gives it; a row without an address is none of the set. ValueError of other rows.
 
         >>> import array
         >>> addresses, faults = read_address_column(b"8.8.8.8::1x", array.array("I", [0, 7, 10, 11]))
@@ -396,8 +406,8 @@ class Table:
 
     def find_column(self, addresses: ReadableBuffer) -> bytearray:
         """For each address of a column the number of the longest network that has it, or -1 if none has it, as numbers of 64
-        bits with a sign. The column has 17 bytes for each address, as ``read_address_column`` gives it; no network has what is
-        no address.
+        bits with a sign. The column has 17 bytes for each address, as ``read_address_column`` gives it; a row without an
+        address has the number -1. ValueError of other rows.
 
         >>> import array
         >>> addresses, faults = read_address_column(b"8.8.8.8::1x", array.array("I", [0, 7, 10, 11]))

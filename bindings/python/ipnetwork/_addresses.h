@@ -9,27 +9,48 @@
 #include <string.h>
 #include "ipnetwork.h"
 
+/* What a module holds. Each interpreter that imports the extension has a module of its own, and
+ * nothing here is shared. */
+typedef struct {
+    PyTypeObject *network_type, *v4_type, *v6_type;    /* the types of this module */
+    PyObject *v4_class, *v6_class;                     /* the classes that `register` is given */
+    PyObject *v4_address, *v6_address, *base_network;  /* those of ipaddress */
+    PyObject *make_error, *map_of, *range_of, *int_from_bytes;
+    PyObject *name_ip, *name_scope, *big, *sixty_four, *zero, *one;
+    PyObject *masks[2][129];  /* those asked for already, by prefix length */
+    int plain;                /* whether an address of ipaddress is only its number: see `is_plain` */
+} State;
+
+/* A network keeps its class, which keeps the module of its base, so that the state is there as
+ * long as the network is. */
 typedef struct {
     PyObject_HEAD
+    State *state;
     ipnetwork_ip held;
     /* Asked for as the network is made, since `ipaddress` has these at hand too. */
     PyObject *least, *mask;
     /* What the library returned already, or NULL. */
-    PyObject *text, *ip, *greatest, *size, *members;
+    PyObject *text, *ip, *greatest, *size;
 } Network;
 
-/* Set once, as the module is imported. */
-static PyTypeObject *network_type, *v4_type, *v6_type;                 /* the types of this file */
-static PyObject *v4_class, *v6_class;                                  /* the classes that `register` is given */
-static PyObject *v4_address, *v6_address, *base_network;               /* those of ipaddress */
-static PyObject *make_error, *map_of, *range_of, *int_from_bytes;
-static PyObject *name_ip, *name_scope, *big, *sixty_four, *zero, *one;
-static PyObject *masks[2][129];  /* those asked for already, by prefix length */
-static int plain;                /* whether an address of ipaddress is only its number: see `is_plain` */
+static PyObject *again(PyObject *told) { Py_INCREF(told); return told; }
+
+/* What is kept at a place, or NULL. Each place is filled once, and by one thread only. */
+static PyObject *kept_at(PyObject **place) { return __atomic_load_n(place, __ATOMIC_ACQUIRE); }
+
+/* Keeps what is made, if no other thread was first, and gives a new reference to what is kept. */
+static PyObject *kept(PyObject **place, PyObject *made) {
+    PyObject *first = NULL;
+    if (made == NULL) return NULL;
+    if (__atomic_compare_exchange_n(place, &first, made, 0, __ATOMIC_ACQ_REL, __ATOMIC_ACQUIRE))
+        return again(made);
+    Py_DECREF(made);
+    return again(first);
+}
 
 /* Raises what `_errors.error` makes of a fault and of what was given. */
-static void raise_fault(ipnetwork_fault fault, PyObject *given) {
-    PyObject *error = PyObject_CallFunction(make_error, "IO", (unsigned int)fault, given);
+static void raise_fault(State *state, ipnetwork_fault fault, PyObject *given) {
+    PyObject *error = PyObject_CallFunction(state->make_error, "IO", (unsigned int)fault, given);
     if (error != NULL) {
         PyErr_SetObject((PyObject *)Py_TYPE(error), error);
         Py_DECREF(error);
@@ -44,10 +65,10 @@ static int answered(ipnetwork_fault fault) {
 }
 
 /* The number as 16 octets, the highest first; 0 with OverflowError where it is negative or has more than 128 bits. */
-static int octets_of_number(PyObject *number, uint8_t octets[16]) {
+static int octets_of_number(State *state, PyObject *number, uint8_t octets[16]) {
     unsigned long long low = PyLong_AsUnsignedLongLongMask(number), high;
     if (low == (unsigned long long)-1 && PyErr_Occurred()) return 0;
-    PyObject *shifted = PyNumber_Rshift(number, sixty_four);
+    PyObject *shifted = PyNumber_Rshift(number, state->sixty_four);
     if (shifted == NULL) return 0;
     high = PyLong_AsUnsignedLongLong(shifted);
     Py_DECREF(shifted);
@@ -59,12 +80,12 @@ static int octets_of_number(PyObject *number, uint8_t octets[16]) {
     return 1;
 }
 
-static PyObject *number_of_octets(const uint8_t *octets, Py_ssize_t count) {
+static PyObject *number_of_octets(State *state, const uint8_t *octets, Py_ssize_t count) {
     if (count == 4)
         return PyLong_FromUnsignedLong((unsigned long)octets[0] << 24 | (unsigned long)octets[1] << 16 | (unsigned long)octets[2] << 8 | octets[3]);
     PyObject *bytes = PyBytes_FromStringAndSize((const char *)octets, count), *number = NULL;
     if (bytes != NULL) {
-        number = PyObject_CallFunctionObjArgs(int_from_bytes, bytes, big, NULL);
+        number = PyObject_CallFunctionObjArgs(state->int_from_bytes, bytes, state->big, NULL);
         Py_DECREF(bytes);
     }
     return number;
@@ -82,14 +103,15 @@ static int is_plain(PyObject *type, const char *slots) {
 }
 
 /* The address of ipaddress of 4 or 16 octets. */
-static PyObject *address_object(const uint8_t *octets, uint8_t length) {
-    PyObject *number = number_of_octets(octets, length), *type = length == 4 ? v4_address : v6_address, *address = NULL;
+static PyObject *address_object(State *state, const uint8_t *octets, uint8_t length) {
+    PyObject *number = number_of_octets(state, octets, length), *address = NULL;
+    PyObject *type = length == 4 ? state->v4_address : state->v6_address;
     if (number == NULL) return NULL;
-    if (!plain) {
+    if (!state->plain) {
         address = PyObject_CallFunctionObjArgs(type, number, NULL);
     } else if ((address = PyType_GenericAlloc((PyTypeObject *)type, 0)) != NULL
-               && (PyObject_SetAttr(address, name_ip, number) < 0
-                   || (length == 16 && PyObject_SetAttr(address, name_scope, Py_None) < 0))) {
+               && (PyObject_SetAttr(address, state->name_ip, number) < 0
+                   || (length == 16 && PyObject_SetAttr(address, state->name_scope, Py_None) < 0))) {
         Py_CLEAR(address);
     }
     Py_DECREF(number);
@@ -99,9 +121,9 @@ static PyObject *address_object(const uint8_t *octets, uint8_t length) {
 /* What an object is: an address, its octets put where the last argument says; an address with a zone; or neither. */
 enum { IS_ADDRESS, HAS_ZONE, NO_ADDRESS, HAS_RAISED };
 
-static int address_of(PyObject *object, ipnetwork_address *address) {
-    if (PyObject_TypeCheck(object, (PyTypeObject *)v4_address)) {
-        PyObject *number = PyObject_GetAttr(object, name_ip);
+static int address_of(State *state, PyObject *object, ipnetwork_address *address) {
+    if (PyObject_TypeCheck(object, (PyTypeObject *)state->v4_address)) {
+        PyObject *number = PyObject_GetAttr(object, state->name_ip);
         if (number == NULL) return HAS_RAISED;
         unsigned long bits = PyLong_AsUnsignedLong(number);
         Py_DECREF(number);
@@ -110,15 +132,15 @@ static int address_of(PyObject *object, ipnetwork_address *address) {
         address->length = 4;
         return IS_ADDRESS;
     }
-    if (PyObject_TypeCheck(object, (PyTypeObject *)v6_address)) {
-        PyObject *zone = PyObject_GetAttr(object, name_scope);
+    if (PyObject_TypeCheck(object, (PyTypeObject *)state->v6_address)) {
+        PyObject *zone = PyObject_GetAttr(object, state->name_scope);
         if (zone == NULL) return HAS_RAISED;
         int zoned = zone != Py_None;
         Py_DECREF(zone);
         if (zoned) return HAS_ZONE;
-        PyObject *number = PyObject_GetAttr(object, name_ip);
+        PyObject *number = PyObject_GetAttr(object, state->name_ip);
         if (number == NULL) return HAS_RAISED;
-        int whole = octets_of_number(number, address->octets);
+        int whole = octets_of_number(state, number, address->octets);
         Py_DECREF(number);
         address->length = 16;
         return whole ? IS_ADDRESS : HAS_RAISED;
@@ -127,10 +149,10 @@ static int address_of(PyObject *object, ipnetwork_address *address) {
 }
 
 /* The answer of `in` about what has no octets: an address with a zone and a network are no members; else TypeError. */
-static int no_member(PyObject *object, int kind) {
+static int no_member(State *state, PyObject *object, int kind) {
     if (kind == HAS_RAISED) return -1;
-    if (kind == HAS_ZONE || PyObject_TypeCheck(object, network_type)) return 0;
-    int network = PyObject_IsInstance(object, base_network);
+    if (kind == HAS_ZONE || PyObject_TypeCheck(object, state->network_type)) return 0;
+    int network = PyObject_IsInstance(object, state->base_network);
     if (network != 0) return network < 0 ? -1 : 0;
     PyErr_Format(PyExc_TypeError, "an address is IPv4Address or IPv6Address, not %R", (PyObject *)Py_TYPE(object));
     return -1;

@@ -2,10 +2,8 @@
 # The types of these names are those of _native.pyi.
 """The core of the package over ``ctypes``, which needs no compiler: the names of ``_native.c``, and what they mean.
 
-The library reads and prints networks, computes their ends, masks and sizes, and works on lists and columns. Its results are
-kept. An address is a member exactly if it is none before the least and none after the greatest, so that single addresses
-are compared with these two here; likewise whether one network is part of another. The bytes of a network are its address
-and its prefix length, so that equality and order are theirs.
+Each answer about texts, members, order and ends is one of the library's, as by the extension. What a network has told once is
+kept. The bytes of a network are its address and its prefix length, so that networks are equal if these are.
 
 The shared library is looked for beside this file, as ``libipnetwork_c.so``, or at IPNETWORK_LIBRARY.
 """
@@ -73,6 +71,12 @@ def _load() -> ctypes.CDLL:
             ("union", [octets, size, octets, size, pointer, size, pointer]),
             ("intersection", [octets, size, octets, size, pointer, size, pointer]),
             ("difference", [octets, size, octets, size, pointer, size, pointer]),
+            ("contains", [octets, octets, pointer]),
+            ("is_subnet_of", [octets, octets, pointer]),
+            ("overlaps", [octets, octets, pointer]),
+            ("compare", [octets, octets, pointer]),
+            ("nth", [octets, ctypes.c_uint32 if family == "v4" else octets, pointer]),
+            ("size", [octets, pointer]),
             ("subnet_at", [octets, ctypes.c_uint8, ctypes.c_uint32 if family == "v4" else octets, pointer]),
             ("aggregate", [pointer, size, pointer]),
             ("read_column", [octets, size, pointer, size, pointer, size, pointer, size]),
@@ -109,8 +113,11 @@ def _bytes(given: str) -> bytes:
 
 
 def _flat(given: ReadableBuffer) -> memoryview:
-    """The bytes of a buffer."""
+    """The bytes of a buffer; TypeError where its items are more than a byte long, since the bytes of such numbers are in the
+    order of the machine, and not in that of addresses."""
     view = memoryview(given)
+    if view.itemsize != 1:
+        raise TypeError(f"a column is a buffer of bytes, and the items of this {type(given)!r} have {view.itemsize} bytes each")
     return view.cast("B") if view.nbytes else memoryview(b"")
 
 
@@ -133,13 +140,12 @@ class Network(Generic[Address]):
 
     _row: bytes
     prefixlen: int
-    # The ends as numbers; the least is negative until they are asked for.
-    _low: int
-    _high: int
 
     def __init__(self, text: Union[str, bytes]) -> None:
         """The network that a text names, or that of one address, given as its packed bytes. FormatError, AddressError
         or PrefixError, the first that holds."""
+        if "_row" in self.__dict__:
+            raise TypeError("a network is made once, and does not change")
         if isinstance(text, bytes):
             if len(text) != self._width:
                 raise error(2, text)
@@ -155,17 +161,12 @@ class Network(Generic[Address]):
     def _keep(self, row: bytes) -> None:
         self._row = row
         self.prefixlen = row[-1]
-        self._low = -1
 
-    def _find(self) -> int:
-        """Asks for the ends, and gives the least."""
+    def _asked(self, call: ctypes._NamedFuncPointer) -> Address:
+        """The address that a call of the library about this network gives."""
         octets = self._octets()
-        place = ctypes.byref(octets)
-        fault = self._greatest(self._row, place)
-        self._high = int.from_bytes(octets, "big")
-        _answered(fault or self._least(self._row, place))
-        self._low = low = int.from_bytes(octets, "big")
-        return low
+        _answered(call(self._row, ctypes.byref(octets)))
+        return self._address(bytes(octets))
 
     @cached_property
     def ip(self) -> Address:
@@ -175,26 +176,24 @@ class Network(Generic[Address]):
     @cached_property
     def network_address(self) -> Address:
         """The least member: the address with its host bits cleared."""
-        return self._address(self._find())
+        return self._asked(self._least)
 
     @cached_property
     def broadcast_address(self) -> Address:
         """The greatest member: the address with its host bits set."""
-        self._find()
-        return self._address(self._high)
+        return self._asked(self._greatest)
 
     @cached_property
     def netmask(self) -> Address:
         """The mask of the prefix length."""
-        octets = self._octets()
-        _answered(self._mask(self._row, ctypes.byref(octets)))
-        return self._address(bytes(octets))
+        return self._asked(self._mask)
 
     @cached_property
     def num_addresses(self) -> int:
         """The number of members."""
-        low = self._find()
-        return self._high - low + 1
+        size = self._size_type()
+        _answered(self._size(self._row, ctypes.byref(size)))
+        return size.value if self._width == 4 else int.from_bytes(size, "big")
 
     @cached_property
     def _text(self) -> str:
@@ -209,24 +208,28 @@ class Network(Generic[Address]):
     def __getitem__(self, index: SupportsIndex) -> Address:
         """The member of this number in order, counted from 0, or from the end where it is negative."""
         place = operator.index(index)
-        low = self._low if self._low >= 0 else self._find()
-        member = place + (low if place >= 0 else self._high + 1)
-        if not low <= member <= self._high:
+        if place < 0:
+            place += self.num_addresses
+        fault, octets = 6, self._octets()
+        if 0 <= place < 1 << 8 * self._width:
+            fault = self._nth(self._row, place if self._width == 4 else place.to_bytes(16, "big"), ctypes.byref(octets))
+        if fault == 6:
             raise IndexError("no member of this number")
-        return self._address(member)
+        _answered(fault)
+        return self._address(bytes(octets))
 
     def __iter__(self) -> Iterator[Address]:
         """The members, each once, in ascending order."""
-        low = self._find()
-        return map(self._address, range(low, self._high + 1))
+        return map(self._address, range(int(self.network_address), int(self.broadcast_address) + 1))
 
     def __contains__(self, address: object) -> bool:
         """Whether an address is a member. None of the other family is, none with a zone, and no network."""
         if isinstance(address, self._address):
-            low = self._low
-            if low < 0:
-                low = self._find()
-            return low <= address._ip <= self._high and getattr(address, "_scope_id", None) is None
+            if getattr(address, "_scope_id", None) is not None:
+                return False
+            answer = ctypes.c_uint8()
+            _answered(self._has(self._row, address.packed, ctypes.byref(answer)))
+            return answer.value == 1
         return _no_member(address)
 
     def contains_column(self, packed: ReadableBuffer) -> bytearray:
@@ -254,9 +257,9 @@ class Network(Generic[Address]):
         """Whether each member of this network is a member of ``other``. Host bits change nothing."""
         if other.__class__ is not self.__class__:
             self._of_this(other)
-        low = self._low if self._low >= 0 else self._find()
-        outer = other._low if other._low >= 0 else other._find()
-        return outer <= low and self._high <= other._high
+        answer = ctypes.c_uint8()
+        _answered(self._within(self._row, other._row, ctypes.byref(answer)))
+        return answer.value == 1
 
     def supernet_of(self, other: Network[Address]) -> bool:
         """Whether each member of ``other`` is a member of this network. Host bits change nothing."""
@@ -268,9 +271,20 @@ class Network(Generic[Address]):
         """Whether some address is a member of both; ``False`` if the families differ."""
         if not isinstance(other, Network):
             self._of_this(other)
-        low = self._low if self._low >= 0 else self._find()
-        least = other._low if other._low >= 0 else other._find()
-        return self._width == other._width and least <= self._high and low <= other._high
+        if self._width != other._width:
+            return False
+        answer = ctypes.c_uint8()
+        _answered(self._shares(self._row, other._row, ctypes.byref(answer)))
+        return answer.value == 1
+
+    def _order(self, other: object) -> Union[int, None]:
+        """Negative, 0 or positive, as this network comes before another, is equal or comes after; None if it is none of its
+        family."""
+        if not isinstance(other, Network) or other._width != self._width:
+            return None
+        order = ctypes.c_int32()
+        _answered(self._compare(self._row, other._row, ctypes.byref(order)))
+        return order.value
 
     # The bytes of networks of different families differ in length, so that these are not equal.
     def __eq__(self, other: object) -> bool:
@@ -280,16 +294,20 @@ class Network(Generic[Address]):
         return hash(self._row)
 
     def __lt__(self, other: Network[Address]) -> bool:
-        return self._row < other._row if isinstance(other, Network) and other._width == self._width else NotImplemented
+        order = self._order(other)
+        return NotImplemented if order is None else order < 0
 
     def __le__(self, other: Network[Address]) -> bool:
-        return self._row <= other._row if isinstance(other, Network) and other._width == self._width else NotImplemented
+        order = self._order(other)
+        return NotImplemented if order is None else order <= 0
 
     def __gt__(self, other: Network[Address]) -> bool:
-        return self._row > other._row if isinstance(other, Network) and other._width == self._width else NotImplemented
+        order = self._order(other)
+        return NotImplemented if order is None else order > 0
 
     def __ge__(self, other: Network[Address]) -> bool:
-        return self._row >= other._row if isinstance(other, Network) and other._width == self._width else NotImplemented
+        order = self._order(other)
+        return NotImplemented if order is None else order >= 0
 
 
 class V4(Network[IPv4Address]):
@@ -306,6 +324,13 @@ class V4(Network[IPv4Address]):
     _least = _library.ipnetwork_v4_network
     _greatest = _library.ipnetwork_v4_broadcast
     _mask = _library.ipnetwork_v4_mask
+    _size = _library.ipnetwork_v4_size
+    _size_type = ctypes.c_uint64
+    _nth = _library.ipnetwork_v4_nth
+    _has = _library.ipnetwork_v4_contains
+    _within = _library.ipnetwork_v4_is_subnet_of
+    _shares = _library.ipnetwork_v4_overlaps
+    _compare = _library.ipnetwork_v4_compare
 
 
 class V6(Network[IPv6Address]):
@@ -322,6 +347,13 @@ class V6(Network[IPv6Address]):
     _least = _library.ipnetwork_v6_network
     _greatest = _library.ipnetwork_v6_broadcast
     _mask = _library.ipnetwork_v6_mask
+    _size = _library.ipnetwork_v6_size
+    _size_type = ctypes.c_ubyte * 17
+    _nth = _library.ipnetwork_v6_nth
+    _has = _library.ipnetwork_v6_contains
+    _within = _library.ipnetwork_v6_is_subnet_of
+    _shares = _library.ipnetwork_v6_overlaps
+    _compare = _library.ipnetwork_v6_compare
 
 
 _classes: tuple[type[V4], type[V6]] = (V4, V6)
@@ -435,11 +467,20 @@ def set_contains(fours: bytes, sixes: bytes, address: object) -> bool:
     return _no_member(address)
 
 
-def set_contains_column(fours: bytes, sixes: bytes, addresses: ReadableBuffer) -> bytearray:
-    """The same of each address of a column, which are as ``read_rows`` leaves them."""
+def _column(addresses: ReadableBuffer) -> bytes:
+    """The bytes of a column of addresses, which are as ``read_rows`` leaves them; ValueError of what is none."""
     column = bytes(_flat(addresses))
     if len(column) % _ADDRESS:
         raise ValueError(f"{len(column)} bytes are no column of addresses of {_ADDRESS} bytes")
+    for row, length in enumerate(column[16::_ADDRESS]):
+        if length not in (0, 4, 16):
+            raise ValueError(f"row {row} is no address of 17 bytes as read_address_column gives it: its last byte is {length}")
+    return column
+
+
+def set_contains_column(fours: bytes, sixes: bytes, addresses: ReadableBuffer) -> bytearray:
+    """The same of each address of a column, which are as ``read_rows`` leaves them."""
+    column = _column(addresses)
     rows = range(0, len(column), _ADDRESS)
     return bytearray(_set_has(fours, sixes, column[at : at + column[at + 16]]) for at in rows)
 
@@ -478,9 +519,7 @@ def table_find(fours: bytes, four_numbers: bytes, sixes: bytes, six_numbers: byt
 
 def table_find_column(fours: bytes, four_numbers: bytes, sixes: bytes, six_numbers: bytes, addresses: ReadableBuffer) -> bytearray:
     """The same of each address of a column, which are as ``read_rows`` leaves them, as numbers of 64 bits."""
-    column = bytes(_flat(addresses))
-    if len(column) % _ADDRESS:
-        raise ValueError(f"{len(column)} bytes are no column of addresses of {_ADDRESS} bytes")
+    column = _column(addresses)
     told = array.array("q", [-1]) * (len(column) // _ADDRESS)
     for width, blocks, numbers in ((4, fours, four_numbers), (16, sixes, six_numbers)):
         rows = [row for row in range(len(told)) if column[row * _ADDRESS + 16] == width]
@@ -490,9 +529,26 @@ def table_find_column(fours: bytes, four_numbers: bytes, sixes: bytes, six_numbe
     return bytearray(told.tobytes())
 
 
-def layout(rows: list[object]) -> tuple[bytearray, bytearray]:
-    """The texts of a list in Arrow's layout, the bytes and the offsets; a row that is no text is empty."""
-    each = [row.encode("utf-8") if isinstance(row, str) else b"" for row in rows]
+class _OtherRow(Exception):
+    """A row that ``layout`` does not take."""
+
+
+def _no_text(row: object, missing: object) -> bytes:
+    if row is None or row is missing or (isinstance(row, float) and row != row):
+        return b""
+    raise _OtherRow
+
+
+def layout(rows: list[object], missing: object) -> Union[tuple[bytearray, bytearray], None]:
+    """The rows of a list in Arrow's layout, the bytes and the offsets; None where a row is neither str, bytes, None, NaN nor
+    ``missing``, or is a str that has no UTF-8."""
+    try:
+        each = [
+            row.encode("utf-8") if isinstance(row, str) else row if isinstance(row, bytes) else _no_text(row, missing)
+            for row in rows
+        ]
+    except (UnicodeEncodeError, _OtherRow):
+        return None
     offsets = array.array("I", itertools.accumulate(map(len, each), initial=0)) if sum(map(len, each)) <= 0x7FFFFFFF else None
     if offsets is None:
         raise ValueError("the texts have more than 2147483647 bytes, which is past the offsets: give them in parts")
@@ -505,7 +561,8 @@ def read_rows(kind: int, texts: ReadableBuffer, offsets: ReadableBuffer) -> tupl
     step = {4: 5, 6: 17, 0: _ADDRESS}[kind]
     if memoryview(offsets).itemsize != 4:
         raise ValueError(f"offsets are numbers of 32 bits, not of {memoryview(offsets).itemsize * 8}")
-    given, places = _flat(texts), _flat(offsets)
+    given, places = _flat(texts), memoryview(offsets)
+    places = places.cast("B") if places.nbytes else memoryview(b"")
     starts = places.nbytes // 4
     count = max(starts - 1, 0)
     rows, faults = bytearray(count * step), bytearray(count)

@@ -2,6 +2,9 @@
  * library, and the calls over columns. It has no rule of its own about texts, prefix lengths or members: each answer is one
  * of the library's. What a network has told once is kept.
  *
+ * Each interpreter of a process has a module of its own, with its types and all that it keeps in
+ * the module's state, so that several interpreters may import it and run at the same time.
+ *
  * From Python 3.11 on it is compiled for the stable ABI, so that one file serves all later versions. `_by_ctypes.py` has
  * the same names without a compiler. */
 #include "_addresses.h"
@@ -11,18 +14,20 @@
 
 /* ip_network(text), of the classes that `register` was given. */
 static PyObject *either_network(PyObject *module, PyObject *text) {
-    (void)module;
+    State *state = PyModule_GetState(module);
     char *bytes;
     Py_ssize_t length;
     if (PyBytes_Check(text))
-        return PyObject_CallFunctionObjArgs(PyBytes_Size(text) == 16 ? v6_class : v4_class, text, NULL);
+        return PyObject_CallFunctionObjArgs(
+            PyBytes_Size(text) == 16 ? state->v6_class : state->v4_class, text, NULL);
     PyObject *encoded = bytes_of_text(text);
     if (encoded == NULL || PyBytes_AsStringAndSize(encoded, &bytes, &length) < 0) return Py_XDECREF(encoded), NULL;
     ipnetwork_ip held;
     ipnetwork_fault fault = ipnetwork_read(bytes, (size_t)length, &held);
     Py_DECREF(encoded);
-    if (fault != IPNETWORK_OK) return raise_fault(0, text), NULL;
-    PyObject *made = network_new((PyTypeObject *)(held.family == 4 ? v4_class : v6_class), NULL, NULL);
+    if (fault != IPNETWORK_OK) return raise_fault(state, 0, text), NULL;
+    PyObject *type = held.family == 4 ? state->v4_class : state->v6_class;
+    PyObject *made = allocated(state, (PyTypeObject *)type);
     if (made == NULL) return NULL;
     ((Network *)made)->held = held;
     if (!tell((Network *)made)) Py_CLEAR(made);
@@ -31,7 +36,7 @@ static PyObject *either_network(PyObject *module, PyObject *text) {
 
 /* of_packed(class, packed, prefixlen) */
 static PyObject *of_packed(PyObject *module, PyObject *arguments) {
-    (void)module;
+    State *state = PyModule_GetState(module);
     PyObject *type, *given;
     const char *packed;
     Py_ssize_t length;
@@ -45,24 +50,25 @@ static PyObject *of_packed(PyObject *module, PyObject *arguments) {
         if (!PyErr_ExceptionMatches(PyExc_OverflowError)) return NULL;
         PyErr_Clear();
     }
-    if (length > 16 || prefix < 0 || prefix > length * 8) return raise_fault(IPNETWORK_PREFIX, given), NULL;
+    if (length > 16 || prefix < 0 || prefix > length * 8)
+        return raise_fault(state, IPNETWORK_PREFIX, given), NULL;
     memcpy(row, packed, (size_t)length);
     row[length] = (uint8_t)prefix;
-    return network_of_row(type, row);
+    return network_of_row(state, type, row);
 }
 
 /* of_rows(class, rows): a list of networks. */
 static PyObject *of_rows(PyObject *module, PyObject *arguments) {
-    (void)module;
+    State *state = PyModule_GetState(module);
     PyObject *type;
     const char *rows;
     Py_ssize_t length;
     if (!PyArg_ParseTuple(arguments, "Oy#", &type, &rows, &length)) return NULL;
-    int six = PyType_Check(type) && PyType_IsSubtype((PyTypeObject *)type, v6_type);
+    int six = PyType_Check(type) && PyType_IsSubtype((PyTypeObject *)type, state->v6_type);
     Py_ssize_t step = six ? (Py_ssize_t)sizeof(ipnetwork_v6) : (Py_ssize_t)sizeof(ipnetwork_v4), count = length / step;
     PyObject *list = PyList_New(count);
     for (Py_ssize_t row = 0; list != NULL && row < count; row++) {
-        PyObject *network = network_of_row(type, (const uint8_t *)rows + row * step);
+        PyObject *network = network_of_row(state, type, (const uint8_t *)rows + row * step);
         if (network == NULL || PyList_SetItem(list, row, network) < 0) Py_CLEAR(list);
     }
     return list;
@@ -70,24 +76,24 @@ static PyObject *of_rows(PyObject *module, PyObject *arguments) {
 
 /* subnet_at(network, prefixlen, number): the block of this number, as a network of its class; None if there is none. */
 static PyObject *subnet_at(PyObject *module, PyObject *arguments) {
-    (void)module;
+    State *state = PyModule_GetState(module);
     PyObject *object, *number;
     uint8_t prefix, n[16], row[17];
-    if (!PyArg_ParseTuple(arguments, "O!bO", network_type, &object, &prefix, &number)) return NULL;
+    if (!PyArg_ParseTuple(arguments, "O!bO", state->network_type, &object, &prefix, &number)) return NULL;
     const ipnetwork_ip *held = &((Network *)object)->held;
-    if (!octets_of_number(number, n)) return NULL;
+    if (!octets_of_number(state, number, n)) return NULL;
     static const uint8_t zeros[12];
     ipnetwork_fault fault = IPNETWORK_NO_MEMBER;
     if (held->family == 6) fault = ipnetwork_v6_subnet_at(&held->v6, prefix, n, (ipnetwork_v6 *)row);
     else if (memcmp(n, zeros, 12) == 0)
         fault = ipnetwork_v4_subnet_at(&held->v4, prefix, (uint32_t)n[12] << 24 | (uint32_t)n[13] << 16 | (uint32_t)n[14] << 8 | n[15], (ipnetwork_v4 *)row);
     if (fault == IPNETWORK_NO_MEMBER) return again(Py_None);
-    return answered(fault) ? network_of_row((PyObject *)Py_TYPE(object), row) : NULL;
+    return answered(fault) ? network_of_row(state, (PyObject *)Py_TYPE(object), row) : NULL;
 }
 
 /* prefix_of_mask(packed) */
 static PyObject *prefix_of_mask(PyObject *module, PyObject *packed) {
-    (void)module;
+    State *state = PyModule_GetState(module);
     char *bytes;
     Py_ssize_t length;
     uint8_t prefix = 0;
@@ -95,20 +101,21 @@ static PyObject *prefix_of_mask(PyObject *module, PyObject *packed) {
     ipnetwork_fault fault = length == 4    ? ipnetwork_v4_prefix_of_mask((const uint8_t *)bytes, &prefix)
                             : length == 16 ? ipnetwork_v6_prefix_of_mask((const uint8_t *)bytes, &prefix)
                                            : IPNETWORK_NO_MASK;
-    if (fault != IPNETWORK_OK) return raise_fault(fault, packed), NULL;
+    if (fault != IPNETWORK_OK) return raise_fault(state, fault, packed), NULL;
     return PyLong_FromLong(prefix);
 }
 
 /* register(IPv4Network, IPv6Network) */
 static PyObject *register_classes(PyObject *module, PyObject *arguments) {
-    (void)module;
+    State *state = PyModule_GetState(module);
     PyObject *four, *six;
     if (!PyArg_ParseTuple(arguments, "OO", &four, &six)) return NULL;
-    if (!PyType_Check(four) || !PyType_IsSubtype((PyTypeObject *)four, v4_type) || !PyType_Check(six)
-        || !PyType_IsSubtype((PyTypeObject *)six, v6_type))
+    if (!PyType_Check(four) || !PyType_IsSubtype((PyTypeObject *)four, state->v4_type)
+        || !PyType_Check(six) || !PyType_IsSubtype((PyTypeObject *)six, state->v6_type))
         return PyErr_SetString(PyExc_TypeError, "no classes of networks"), NULL;
-    Py_XDECREF(v4_class), Py_XDECREF(v6_class);
-    v4_class = again(four), v6_class = again(six);
+    Py_CLEAR(state->v4_class);
+    Py_CLEAR(state->v6_class);
+    state->v4_class = again(four), state->v6_class = again(six);
     return again(Py_None);
 }
 
@@ -119,7 +126,7 @@ static PyMethodDef calls[] = {
     {"prefix_of_mask", prefix_of_mask, METH_O, NULL},
     {"read_rows", read_rows, METH_VARARGS, NULL},
     {"print_rows", print_rows, METH_VARARGS, NULL},
-    {"layout", layout, METH_O, NULL},
+    {"layout", layout, METH_VARARGS, NULL},
     {"aggregate", aggregate, METH_VARARGS, NULL},
     {"operate", operate, METH_VARARGS, NULL},
     {"set_contains", set_contains, METH_VARARGS, NULL},
@@ -161,13 +168,12 @@ static PyType_Slot network_slots[] = {
     {Py_tp_iter, network_iter},        {Py_tp_methods, methods},    {Py_tp_getset, parts}, {Py_tp_members, at_hand},
     {Py_sq_contains, network_contains}, {Py_mp_subscript, network_nth}, {0, NULL},
 };
-static PyType_Slot no_slots[] = {{0, NULL}};
+/* `state_of` tells the types of a module from classes of Python by their deallocator. */
+static PyType_Slot family_slots[] = {{Py_tp_dealloc, network_dealloc}, {0, NULL}};
 #define FLAGS (Py_TPFLAGS_DEFAULT | Py_TPFLAGS_BASETYPE)
 static PyType_Spec network_spec = {"ipnetwork._native.Network", sizeof(Network), 0, FLAGS, network_slots};
-static PyType_Spec v4_spec = {"ipnetwork._native.V4", sizeof(Network), 0, FLAGS, no_slots};
-static PyType_Spec v6_spec = {"ipnetwork._native.V6", sizeof(Network), 0, FLAGS, no_slots};
-
-static struct PyModuleDef definition = {PyModuleDef_HEAD_INIT, "ipnetwork._native", NULL, -1, calls, NULL, NULL, NULL, NULL};
+static PyType_Spec v4_spec = {"ipnetwork._native.V4", sizeof(Network), 0, FLAGS, family_slots};
+static PyType_Spec v6_spec = {"ipnetwork._native.V6", sizeof(Network), 0, FLAGS, family_slots};
 
 /* The attribute of a module, as a new reference. */
 static PyObject *imported(const char *module, const char *name) {
@@ -179,33 +185,112 @@ static PyObject *imported(const char *module, const char *name) {
     return attribute;
 }
 
-static PyTypeObject *derived(PyType_Spec *spec) {
-    PyObject *bases = PyTuple_Pack(1, (PyObject *)network_type), *made = NULL;
+static PyTypeObject *derived(PyObject *module, PyType_Spec *spec, PyTypeObject *base) {
+    PyObject *bases = PyTuple_Pack(1, (PyObject *)base), *made = NULL;
     if (bases != NULL) {
-        made = PyType_FromSpecWithBases(spec, bases);
+        made = PyType_FromModuleAndSpec(module, spec, bases);
         Py_DECREF(bases);
     }
     return (PyTypeObject *)made;
 }
 
+/* Takes what the calls need of Python; 0 with an exception if it cannot. */
+static int import_into(State *state) {
+    return (state->v4_address = imported("ipaddress", "IPv4Address")) != NULL
+           && (state->v6_address = imported("ipaddress", "IPv6Address")) != NULL
+           && (state->base_network = imported("ipaddress", "_BaseNetwork")) != NULL
+           && (state->make_error = imported("ipnetwork._errors", "error")) != NULL
+           && (state->map_of = imported("builtins", "map")) != NULL
+           && (state->range_of = imported("builtins", "range")) != NULL
+           && (state->int_from_bytes = PyObject_GetAttrString((PyObject *)&PyLong_Type, "from_bytes"))
+                  != NULL
+           && (state->name_ip = PyUnicode_InternFromString("_ip")) != NULL
+           && (state->name_scope = PyUnicode_InternFromString("_scope_id")) != NULL
+           && (state->big = PyUnicode_InternFromString("big")) != NULL
+           && (state->sixty_four = PyLong_FromLong(64)) != NULL
+           && (state->zero = PyLong_FromLong(0)) != NULL
+           && (state->one = PyLong_FromLong(1)) != NULL;
+}
+
+/* Fills a module that is empty. */
+static int execute(PyObject *module) {
+    State *state = PyModule_GetState(module);
+    if (ipnetwork_abi_version() != IPNETWORK_ABI_VERSION) {
+        PyErr_SetString(PyExc_ImportError, "the library is of another version than this module");
+        return -1;
+    }
+    if (!import_into(state)) return -1;
+    state->network_type = (PyTypeObject *)PyType_FromModuleAndSpec(module, &network_spec, NULL);
+    if (state->network_type == NULL
+        || (state->v4_type = derived(module, &v4_spec, state->network_type)) == NULL
+        || (state->v6_type = derived(module, &v6_spec, state->network_type)) == NULL)
+        return -1;
+    int four = is_plain(state->v4_address, "['__weakref__', '_ip']");
+    int six = is_plain(state->v6_address, "['__weakref__', '_ip', '_scope_id']");
+    if (four < 0 || six < 0) return -1;
+    state->plain = four && six;
+    if (PyObject_SetAttrString(module, "V4", (PyObject *)state->v4_type) < 0) return -1;
+    return PyObject_SetAttrString(module, "V6", (PyObject *)state->v6_type);
+}
+
+/* What a module's state keeps, beside the masks. */
+#define EACH_KEPT(DO)                                                                         \
+    DO(network_type) DO(v4_type) DO(v6_type) DO(v4_class) DO(v6_class) DO(v4_address)         \
+    DO(v6_address) DO(base_network) DO(make_error) DO(map_of) DO(range_of) DO(int_from_bytes) \
+    DO(name_ip) DO(name_scope) DO(big) DO(sixty_four) DO(zero) DO(one)
+
+static int traverse(PyObject *module, visitproc visit, void *arg) {
+    State *state = PyModule_GetState(module);
+#define VISIT(name) Py_VISIT(state->name);
+    EACH_KEPT(VISIT)
+    for (int prefix = 0; prefix <= 128; prefix++) {
+        Py_VISIT(state->masks[0][prefix]);
+        Py_VISIT(state->masks[1][prefix]);
+    }
+    return 0;
+}
+
+static int clear(PyObject *module) {
+    State *state = PyModule_GetState(module);
+#define CLEAR(name) Py_CLEAR(state->name);
+    EACH_KEPT(CLEAR)
+    for (int prefix = 0; prefix <= 128; prefix++) {
+        Py_CLEAR(state->masks[0][prefix]);
+        Py_CLEAR(state->masks[1][prefix]);
+    }
+    return 0;
+}
+
+static void release(void *module) { clear(module); }
+
+/* Versions before 3.12 do not know of interpreters with a lock of their own, nor do their headers. */
+#ifndef Py_mod_multiple_interpreters
+#define Py_mod_multiple_interpreters 3
+#define Py_MOD_PER_INTERPRETER_GIL_SUPPORTED ((void *)2)
+#endif
+static PyModuleDef_Slot before_3_12[] = {{Py_mod_exec, execute}, {0, NULL}};
+static PyModuleDef_Slot since_3_12[] = {
+    {Py_mod_exec, execute},
+    {Py_mod_multiple_interpreters, Py_MOD_PER_INTERPRETER_GIL_SUPPORTED},
+#ifdef Py_GIL_DISABLED
+    {Py_mod_gil, Py_MOD_GIL_NOT_USED},
+#endif
+    {0, NULL},
+};
+
+#define DEFINITION(slots) \
+    {PyModuleDef_HEAD_INIT, "ipnetwork._native", NULL, sizeof(State), calls, slots, traverse, clear, release}
+static struct PyModuleDef of_3_11 = DEFINITION(before_3_12), of_3_12 = DEFINITION(since_3_12);
+
+/* The version that runs, which may be later than that of the headers. */
+static unsigned long running_version(void) {
+#if PY_VERSION_HEX >= 0x030B0000
+    return Py_Version;
+#else
+    return PY_VERSION_HEX;
+#endif
+}
+
 PyMODINIT_FUNC PyInit__native(void) {
-    if (ipnetwork_abi_version() != IPNETWORK_ABI_VERSION)
-        return PyErr_SetString(PyExc_ImportError, "the library is of another version than this module"), NULL;
-    if ((v4_address = imported("ipaddress", "IPv4Address")) == NULL || (v6_address = imported("ipaddress", "IPv6Address")) == NULL
-        || (base_network = imported("ipaddress", "_BaseNetwork")) == NULL || (make_error = imported("ipnetwork._errors", "error")) == NULL
-        || (map_of = imported("builtins", "map")) == NULL || (range_of = imported("builtins", "range")) == NULL
-        || (int_from_bytes = PyObject_GetAttrString((PyObject *)&PyLong_Type, "from_bytes")) == NULL
-        || (name_ip = PyUnicode_InternFromString("_ip")) == NULL || (name_scope = PyUnicode_InternFromString("_scope_id")) == NULL
-        || (big = PyUnicode_InternFromString("big")) == NULL || (sixty_four = PyLong_FromLong(64)) == NULL
-        || (zero = PyLong_FromLong(0)) == NULL || (one = PyLong_FromLong(1)) == NULL || (network_type = (PyTypeObject *)PyType_FromSpec(&network_spec)) == NULL
-        || (v4_type = derived(&v4_spec)) == NULL || (v6_type = derived(&v6_spec)) == NULL)
-        return NULL;
-    int four = is_plain(v4_address, "['__weakref__', '_ip']"), six = is_plain(v6_address, "['__weakref__', '_ip', '_scope_id']");
-    if (four < 0 || six < 0) return NULL;
-    plain = four && six;
-    PyObject *module = PyModule_Create(&definition);
-    if (module == NULL || PyModule_AddObject(module, "V4", again((PyObject *)v4_type)) < 0
-        || PyModule_AddObject(module, "V6", again((PyObject *)v6_type)) < 0)
-        return Py_XDECREF(module), NULL;
-    return module;
+    return PyModuleDef_Init(running_version() >= 0x030C0000 ? &of_3_12 : &of_3_11);
 }

@@ -4,24 +4,35 @@
 
 #include "_addresses.h"
 
-static PyObject *network_new(PyTypeObject *type, PyObject *arguments, PyObject *names) {
-    (void)arguments, (void)names;
-    PyObject *made = PyType_GenericAlloc(type, 0);
-    if (made != NULL) ((Network *)made)->held.family = PyType_IsSubtype(type, v6_type) ? 6 : 4;
-    return made;
-}
-
-static void forget(Network *self) {
-    PyObject **places[] = {&self->text, &self->ip, &self->least, &self->greatest, &self->mask, &self->size, &self->members};
-    for (size_t place = 0; place < sizeof places / sizeof *places; place++) Py_CLEAR(*places[place]);
-}
-
 static void network_dealloc(PyObject *object) {
     PyTypeObject *type = Py_TYPE(object);
     freefunc release = (freefunc)PyType_GetSlot(type, Py_tp_free);
-    forget((Network *)object);
+    Network *self = (Network *)object;
+    PyObject **places[] = {&self->least, &self->mask, &self->text, &self->ip, &self->greatest, &self->size};
+    for (size_t place = 0; place < sizeof places / sizeof *places; place++) Py_CLEAR(*places[place]);
     release(object);
     Py_DECREF(type);
+}
+
+/* The state of the module of a class: that of its first base that is a type of the module. */
+static State *state_of(PyTypeObject *type) {
+    while ((destructor)PyType_GetSlot(type, Py_tp_dealloc) != network_dealloc)
+        type = (PyTypeObject *)PyType_GetSlot(type, Py_tp_base);
+    return PyType_GetModuleState(type);
+}
+
+static PyObject *allocated(State *state, PyTypeObject *type) {
+    PyObject *made = PyType_GenericAlloc(type, 0);
+    if (made == NULL) return NULL;
+    ((Network *)made)->state = state;
+    ((Network *)made)->held.family = PyType_IsSubtype(type, state->v6_type) ? 6 : 4;
+    return made;
+}
+
+static PyObject *network_new(PyTypeObject *type, PyObject *arguments, PyObject *names) {
+    (void)arguments, (void)names;
+    State *state = state_of(type);
+    return state == NULL ? NULL : allocated(state, type);
 }
 
 static const uint8_t *octets_of(const ipnetwork_ip *held) { return held->family == 4 ? held->v4.address : held->v6.address; }
@@ -40,28 +51,20 @@ static PyObject *bytes_of_text(PyObject *text) {
     return NULL;
 }
 
-/* Keeps what is made, once, and gives a new reference to it. */
-static PyObject *kept(PyObject **place, PyObject *made) {
-    *place = made;
-    Py_XINCREF(made);
-    return made;
-}
-
-static PyObject *again(PyObject *told) { Py_INCREF(told); return told; }
-
 typedef ipnetwork_fault (*ask_end)(const ipnetwork_ip *, ipnetwork_address *);
 
-static PyObject *told_end(const ipnetwork_ip *held, ask_end ask) {
+static PyObject *told_end(const Network *self, ask_end ask) {
     ipnetwork_address address;
-    return answered(ask(held, &address)) ? address_object(address.octets, address.length) : NULL;
+    if (!answered(ask(&self->held, &address))) return NULL;
+    return address_object(self->state, address.octets, address.length);
 }
 
 /* Tells what a network that was just made has at hand; 0 with an exception if it cannot. */
 static int tell(Network *self) {
-    PyObject **mask = &masks[self->held.family == 6][prefix_of(&self->held)];
-    if (*mask == NULL && (*mask = told_end(&self->held, ipnetwork_mask)) == NULL) return 0;
-    self->mask = again(*mask);
-    return (self->least = told_end(&self->held, ipnetwork_network)) != NULL;
+    PyObject **place = &self->state->masks[self->held.family == 6][prefix_of(&self->held)];
+    PyObject *mask = kept_at(place);
+    self->mask = mask != NULL ? again(mask) : kept(place, told_end(self, ipnetwork_mask));
+    return self->mask != NULL && (self->least = told_end(self, ipnetwork_network)) != NULL;
 }
 
 static int network_init(PyObject *object, PyObject *arguments, PyObject *names) {
@@ -73,7 +76,10 @@ static int network_init(PyObject *object, PyObject *arguments, PyObject *names) 
     else if (!PyArg_ParseTupleAndKeywords(arguments, names, "O", keywords, &text)) return -1;
     char *bytes;
     Py_ssize_t length;
-    forget(self);
+    if (self->mask != NULL) {
+        PyErr_SetString(PyExc_TypeError, "a network is made once, and does not change");
+        return -1;
+    }
     if (PyBytes_Check(text)) {
         if (PyBytes_AsStringAndSize(text, &bytes, &length) < 0) return -1;
         uint8_t width = width_of(&self->held);
@@ -85,17 +91,17 @@ static int network_init(PyObject *object, PyObject *arguments, PyObject *names) 
                                        : ipnetwork_v6_read(bytes, (size_t)length, &self->held.v6);
         Py_DECREF(encoded);
     }
-    if (fault != IPNETWORK_OK) return raise_fault(fault, text), -1;
+    if (fault != IPNETWORK_OK) return raise_fault(self->state, fault, text), -1;
     return tell(self) ? 0 : -1;
 }
 
 /* A network of a class, of the bytes of its struct. */
-static PyObject *network_of_row(PyObject *type, const uint8_t *row) {
-    if (!PyType_Check(type) || !PyType_IsSubtype((PyTypeObject *)type, network_type)) {
+static PyObject *network_of_row(State *state, PyObject *type, const uint8_t *row) {
+    if (!PyType_Check(type) || !PyType_IsSubtype((PyTypeObject *)type, state->network_type)) {
         PyErr_SetString(PyExc_TypeError, "no class of networks");
         return NULL;
     }
-    PyObject *made = network_new((PyTypeObject *)type, NULL, NULL);
+    PyObject *made = allocated(state, (PyTypeObject *)type);
     if (made == NULL) return NULL;
     ipnetwork_ip *held = &((Network *)made)->held;
     uint8_t width = width_of(held);
@@ -107,15 +113,16 @@ static PyObject *network_of_row(PyObject *type, const uint8_t *row) {
 static PyObject *get_ip(PyObject *object, void *none) {
     (void)none;
     Network *self = (Network *)object;
-    if (self->ip != NULL) return again(self->ip);
-    return kept(&self->ip, address_object(octets_of(&self->held), width_of(&self->held)));
+    PyObject *told = kept_at(&self->ip);
+    if (told != NULL) return again(told);
+    return kept(&self->ip, address_object(self->state, octets_of(&self->held), width_of(&self->held)));
 }
 
 static PyObject *get_greatest(PyObject *object, void *none) {
     (void)none;
     Network *self = (Network *)object;
-    if (self->greatest != NULL) return again(self->greatest);
-    return kept(&self->greatest, told_end(&self->held, ipnetwork_broadcast));
+    PyObject *told = kept_at(&self->greatest);
+    return told != NULL ? again(told) : kept(&self->greatest, told_end(self, ipnetwork_broadcast));
 }
 
 static PyObject *get_prefix(PyObject *object, void *none) {
@@ -126,13 +133,15 @@ static PyObject *get_prefix(PyObject *object, void *none) {
 static PyObject *get_size(PyObject *object, void *none) {
     (void)none;
     Network *self = (Network *)object;
-    if (self->size != NULL) return again(self->size);
+    PyObject *told = kept_at(&self->size);
+    if (told != NULL) return again(told);
     if (self->held.family == 4) {
         uint64_t size;
         return answered(ipnetwork_v4_size(&self->held.v4, &size)) ? kept(&self->size, PyLong_FromUnsignedLongLong(size)) : NULL;
     }
     uint8_t octets[17];
-    return answered(ipnetwork_v6_size(&self->held.v6, octets)) ? kept(&self->size, number_of_octets(octets, 17)) : NULL;
+    if (!answered(ipnetwork_v6_size(&self->held.v6, octets))) return NULL;
+    return kept(&self->size, number_of_octets(self->state, octets, 17));
 }
 
 static PyObject *get_row(PyObject *object, void *none) {
@@ -144,7 +153,8 @@ static PyObject *get_row(PyObject *object, void *none) {
 
 static PyObject *network_text(PyObject *object) {
     Network *self = (Network *)object;
-    if (self->text != NULL) return again(self->text);
+    PyObject *told = kept_at(&self->text);
+    if (told != NULL) return again(told);
     char buffer[IPNETWORK_V6_TEXT];
     size_t length;
     if (!answered(ipnetwork_canonical(&self->held, buffer, sizeof buffer, &length))) return NULL;
@@ -154,29 +164,36 @@ static PyObject *network_text(PyObject *object) {
 static int network_contains(PyObject *object, PyObject *given) {
     ipnetwork_address address;
     uint8_t answer;
-    int kind = address_of(given, &address);
-    if (kind != IS_ADDRESS) return no_member(given, kind);
+    State *state = ((Network *)object)->state;
+    int kind = address_of(state, given, &address);
+    if (kind != IS_ADDRESS) return no_member(state, given, kind);
     if (!answered(ipnetwork_contains(&((Network *)object)->held, address.octets, address.length, &answer))) return -1;
     return answer;
 }
 
-/* The range of the numbers of the members, which is kept. */
+/* The range of the numbers of the members. */
 static PyObject *members(Network *self) {
-    if (self->members == NULL) {
-        ipnetwork_address least, greatest;
-        if (!answered(ipnetwork_network(&self->held, &least)) || !answered(ipnetwork_broadcast(&self->held, &greatest))) return NULL;
-        PyObject *low = number_of_octets(least.octets, least.length), *high = number_of_octets(greatest.octets, greatest.length);
-        PyObject *past = high == NULL ? NULL : PyNumber_Add(high, one);
-        if (low != NULL && past != NULL) self->members = PyObject_CallFunctionObjArgs(range_of, low, past, NULL);
-        Py_XDECREF(low), Py_XDECREF(high), Py_XDECREF(past);
-    }
-    return self->members;
+    State *state = self->state;
+    PyObject *range = NULL;
+    ipnetwork_address least, greatest;
+    if (!answered(ipnetwork_network(&self->held, &least))) return NULL;
+    if (!answered(ipnetwork_broadcast(&self->held, &greatest))) return NULL;
+    PyObject *low = number_of_octets(state, least.octets, least.length);
+    PyObject *high = number_of_octets(state, greatest.octets, greatest.length);
+    PyObject *past = high == NULL ? NULL : PyNumber_Add(high, state->one);
+    if (low != NULL && past != NULL)
+        range = PyObject_CallFunctionObjArgs(state->range_of, low, past, NULL);
+    Py_XDECREF(low), Py_XDECREF(high), Py_XDECREF(past);
+    return range;
 }
 
 static PyObject *network_iter(PyObject *object) {
-    PyObject *range = members((Network *)object);
-    PyObject *type = ((Network *)object)->held.family == 4 ? v4_address : v6_address;
-    return range == NULL ? NULL : PyObject_CallFunctionObjArgs(map_of, type, range, NULL);
+    State *state = ((Network *)object)->state;
+    PyObject *range = members((Network *)object), *made = NULL;
+    PyObject *type = ((Network *)object)->held.family == 4 ? state->v4_address : state->v6_address;
+    if (range != NULL) made = PyObject_CallFunctionObjArgs(state->map_of, type, range, NULL);
+    Py_XDECREF(range);
+    return made;
 }
 
 /* The member of a number, from the end where it is negative. */
@@ -185,14 +202,14 @@ static PyObject *network_nth(PyObject *object, PyObject *index) {
     uint8_t n[16], address[16];
     PyObject *number = PyNumber_Index(index), *size, *counted;
     if (number == NULL) return NULL;
-    if (PyObject_RichCompareBool(number, zero, Py_LT) == 1) {
+    if (PyObject_RichCompareBool(number, self->state->zero, Py_LT) == 1) {
         size = get_size(object, NULL);
         counted = size == NULL ? NULL : PyNumber_Add(number, size);
         Py_XDECREF(size), Py_DECREF(number);
         if (counted == NULL) return NULL;
         number = counted;
     }
-    int whole = octets_of_number(number, n);
+    int whole = octets_of_number(self->state, number, n);
     Py_DECREF(number);
     if (!whole && !PyErr_ExceptionMatches(PyExc_OverflowError)) return NULL;
     PyErr_Clear();
@@ -202,12 +219,12 @@ static PyObject *network_nth(PyObject *object, PyObject *index) {
     if (whole && self->held.family == 4 && memcmp(n, zeros, 12) == 0)
         fault = ipnetwork_v4_nth(&self->held.v4, (uint32_t)n[12] << 24 | (uint32_t)n[13] << 16 | (uint32_t)n[14] << 8 | n[15], address);
     if (fault == IPNETWORK_NO_MEMBER) return PyErr_SetString(PyExc_IndexError, "no member of this number"), NULL;
-    return answered(fault) ? address_object(address, width_of(&self->held)) : NULL;
+    return answered(fault) ? address_object(self->state, address, width_of(&self->held)) : NULL;
 }
 
 /* Networks of one family are ordered; those of two are not equal, and not ordered. */
 static PyObject *network_compare(PyObject *one_object, PyObject *other_object, int operation) {
-    if (PyObject_TypeCheck(other_object, network_type)) {
+    if (PyObject_TypeCheck(other_object, ((Network *)one_object)->state->network_type)) {
         const ipnetwork_ip *one_held = &((Network *)one_object)->held, *other_held = &((Network *)other_object)->held;
         if (one_held->family == other_held->family || operation == Py_EQ || operation == Py_NE) {
             int32_t order;
@@ -240,7 +257,7 @@ static Py_hash_t network_hash(PyObject *object) {
 
 /* Another network, of the same family where `same` is set; NULL with TypeError if it is none. */
 static Network *another(PyObject *self, PyObject *other, int same) {
-    if (PyObject_TypeCheck(other, network_type)
+    if (PyObject_TypeCheck(other, ((Network *)self)->state->network_type)
         && (!same || ((Network *)other)->held.family == ((Network *)self)->held.family))
         return (Network *)other;
     PyErr_Format(PyExc_TypeError, "%R and %R are not networks of this package and of one family", self, other);

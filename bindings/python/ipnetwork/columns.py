@@ -1,82 +1,137 @@
-"""Columns over NumPy: texts of addresses read, and asked of a set or a table, in a few calls for all rows.
+"""Columns over NumPy: addresses read, and asked of a set or a table, in a few calls for all rows.
 
 >>> from ipnetwork import AddressSet, ip_network
->>> is_member(["10.1.9.32", "8.8.8.8", "no address"], AddressSet([ip_network("10.0.0.0/8")])).tolist()
+>>> tens = AddressSet([ip_network("10.0.0.0/8")])
+>>> is_member(["10.1.9.32", "8.8.8.8", "no address"], tens).tolist()
 [True, False, False]
 
-A column of texts is a list of ``str``, an array of NumPy of ``str`` or of objects, or a Series of pandas. A row that is
-no ``str``, as None and NaN, is a row without a text. A column in Arrow's layout needs none of this: its buffers go to
-``ipnetwork.read_address_column`` as they are.
+A column is a list, an array of NumPy or a Series of pandas, and each row of it one of these:
+
+- a text, as ``str``, or as ``bytes`` in ASCII; one that names no address is a row without one;
+- an address or an interface of ``ipaddress``; with a zone it is a row without an address;
+- a network of this package or of ``ipaddress`` that has one address, which is then the row;
+- None, NaN, or pandas.NA: a row without a text, and so without an address.
+
+Any other row is a TypeError that says its number and its type; a ``str`` or a table in place of a
+column is a TypeError too. Numbers are taken only where ``numbers`` is given. With 4 the column is
+an array of unsigned numbers, each an IPv4 address as ``int`` has it; with 6 an array of two
+unsigned numbers of 64 bits in each row, an IPv6 address, its higher half first. A column in Arrow's
+layout needs none of this: its buffers go to ``ipnetwork.read_address_column`` as they are.
+
+>>> from ipaddress import ip_address
+>>> is_member([ip_address("10.1.9.32"), b"10.0.0.1", None], tens).tolist()
+[True, True, False]
+>>> is_member(numpy.array([0x0A010920], numpy.uint32), tens, numbers=4).tolist()
+[True]
 """
 
 from __future__ import annotations
 
-from collections.abc import Iterable
-from typing import TYPE_CHECKING, Union
+import sys
+from typing import TYPE_CHECKING, Literal, Union
 
 import numpy
 
 from . import AddressSet, IPv4Network, IPv6Network, Table, _core, read_address_column
+from ._rows import rows_of, texts_of
 
 if TYPE_CHECKING:
     from numpy.typing import NDArray
 
+    from ._rows import Column
+
+    Numbers = Union[Literal[4, 6], None]
+
 __all__ = ["find", "is_member", "layout", "read_addresses"]
 
+_ROW = 17  # the bytes of an address of either family, as read_address_column gives it
 
-def layout(texts: Iterable[object]) -> tuple[bytearray, NDArray[numpy.uint32]]:
-    """The texts in Arrow's layout: their bytes, and the offsets, of which there is one more than texts. ValueError if they
-    have 2147483648 bytes or more.
+
+def layout(texts: Column) -> tuple[bytearray, NDArray[numpy.uint32]]:
+    """The texts in Arrow's layout: their bytes, and the offsets, of which there is one more than
+    texts. ValueError if they have 2147483648 bytes or more; TypeError if a row is none of a column.
 
     >>> texts, offsets = layout(["::1", None, "8.8.8.8"])
     >>> bytes(texts), offsets.tolist()
     (b'::18.8.8.8', [0, 3, 3, 10])
     """
-    rows: list[object] = texts.tolist() if hasattr(texts, "tolist") else list(texts)
-    try:
-        whole, offsets = _core.layout(rows)
-    except UnicodeEncodeError:
-        # A text with half a surrogate pair, which has no UTF-8, is no address; "?" neither.
-        rows = [row.encode("utf-8", "replace").decode() if isinstance(row, str) else row for row in rows]
-        whole, offsets = _core.layout(rows)
-    return whole, numpy.frombuffer(offsets, numpy.uint32)
+    rows = rows_of(texts)
+    missing = getattr(sys.modules.get("pandas"), "NA", None)
+    laid = _core.layout(rows, missing) or _core.layout(list[object](texts_of(rows)), missing)
+    if laid is None:
+        raise RuntimeError("a text has no bytes")
+    return laid[0], numpy.frombuffer(laid[1], numpy.uint32)
 
 
-def read_addresses(texts: Iterable[object]) -> tuple[NDArray[numpy.uint8], NDArray[numpy.bool_]]:
-    """The addresses of a column of texts, and whether there is one in each row. An address is 17 bytes, as
+def _of_numbers(given: object, numbers: int) -> NDArray[numpy.uint8]:
+    """The addresses whose numbers an array has, as ``read_addresses`` gives them."""
+    array = numpy.asarray(given)
+    if numbers == 4:
+        fits, width, wanted = array.ndim == 1, 4, "unsigned numbers"
+    elif numbers == 6:
+        fits, width = array.shape[1:] == (2,) and array.dtype.itemsize == 8, 16
+        wanted = "unsigned numbers of 64 bits, two in each row"
+    else:
+        raise ValueError(f"numbers is 4 or 6, for the family of the addresses, not {numbers!r}")
+    if array.dtype.kind != "u" or not fits:
+        given_is = f"one of {array.dtype} and of shape {array.shape}"
+        raise TypeError(f"numbers={numbers} takes an array of {wanted}, not {given_is}")
+    if numbers == 4 and array.dtype.itemsize > 4 and (array > 0xFFFFFFFF).any():
+        row = int(numpy.argmax(array > 0xFFFFFFFF))
+        raise ValueError(f"row {row}: {array[row]} is not the number of an IPv4 address")
+    highest_first = numpy.ascontiguousarray(array, ">u4" if numbers == 4 else ">u8")
+    rows = numpy.zeros((len(array), _ROW), numpy.uint8)
+    rows[:, :width] = highest_first.view(numpy.uint8).reshape(-1, width)
+    rows[:, 16] = width
+    return rows
+
+
+def read_addresses(
+    texts: Column, *, numbers: Numbers = None
+) -> tuple[NDArray[numpy.uint8], NDArray[numpy.bool_]]:
+    """The addresses of a column, and whether there is one in each row. An address is 17 bytes, as
     ``ipnetwork.read_address_column`` gives them.
 
     >>> addresses, present = read_addresses(["8.8.8.8", "8.8.8"])
     >>> addresses[0, :4].tolist(), present.tolist()
     ([8, 8, 8, 8], [True, False])
     """
+    if numbers is not None:
+        packed = _of_numbers(texts, numbers)
+        return packed, numpy.ones(len(packed), numpy.bool_)
     whole, offsets = layout(texts)
     addresses, faults = read_address_column(whole, offsets.data)
-    return numpy.frombuffer(addresses, numpy.uint8).reshape(-1, 17), numpy.frombuffer(faults, numpy.uint8) == 0
+    rows = numpy.frombuffer(addresses, numpy.uint8).reshape(-1, _ROW)
+    return rows, numpy.frombuffer(faults, numpy.uint8) == 0
 
 
-def _addresses(given: Iterable[object]) -> NDArray[numpy.uint8]:
-    """The addresses of a column of texts, or of addresses as ``read_addresses`` gives them."""
-    read = isinstance(given, numpy.ndarray) and given.dtype == numpy.uint8 and given.ndim == 2
-    return numpy.ascontiguousarray(given) if read else read_addresses(given)[0]
+def _addresses(given: Column, numbers: Numbers) -> NDArray[numpy.uint8]:
+    """The addresses of a column, or those that ``read_addresses`` gave."""
+    if numbers is not None or not isinstance(given, numpy.ndarray):
+        return read_addresses(given, numbers=numbers)[0]
+    if given.dtype != numpy.uint8 or given.ndim != 2:
+        return read_addresses(given)[0]
+    if given.shape[1] != _ROW:
+        raise TypeError(f"addresses of read_addresses have {_ROW} bytes each, not {given.shape[1]}")
+    return numpy.ascontiguousarray(given)
 
 
 def is_member(
-    given: Iterable[object], which: Union[AddressSet, IPv4Network, IPv6Network]
+    given: Column, which: Union[AddressSet, IPv4Network, IPv6Network], *, numbers: Numbers = None
 ) -> NDArray[numpy.bool_]:
-    """Whether each row of a column is an address of a set, or of a network. The column is of texts, or of addresses as
-    ``read_addresses`` gives them."""
+    """Whether each row of a column is an address of a set, or of a network. The column is as the
+    module says, or of addresses as ``read_addresses`` gives them."""
     chosen = which if isinstance(which, AddressSet) else AddressSet([which])
-    return numpy.frombuffer(chosen.contains_column(_addresses(given).data), numpy.bool_)
+    return numpy.frombuffer(chosen.contains_column(_addresses(given, numbers).data), numpy.bool_)
 
 
-def find(given: Iterable[object], table: Table) -> NDArray[numpy.int64]:
-    """Of each row of a column the number of the longest network of a table that has the address, or -1. The column is as for
-    ``is_member``.
+def find(given: Column, table: Table, *, numbers: Numbers = None) -> NDArray[numpy.int64]:
+    """Of each row of a column the number of the longest network of a table that has the address,
+    or -1. The column is as for ``is_member``.
 
     >>> from ipnetwork import Table, ip_network
     >>> table = Table([ip_network("10.0.0.0/8"), ip_network("10.1.0.0/16")])
     >>> find(["10.1.9.32", "10.2.0.0", "8.8.8.8", None], table).tolist()
     [1, 0, -1, -1]
     """
-    return numpy.frombuffer(table.find_column(_addresses(given).data), numpy.int64)
+    return numpy.frombuffer(table.find_column(_addresses(given, numbers).data), numpy.int64)

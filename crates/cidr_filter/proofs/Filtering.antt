@@ -7,7 +7,7 @@ use Rattle.std.specs.Str.Lines.{strip_carriage_return}
 use Rattle.std.proofs.KnownBytes.{Consumes-trans}
 use Rattle.byte_search.specs.Bytes.{IsAbsent}
 use Rattle.std.proofs.lemmas.Bool.{eqb-true}
-use Rattle.std.proofs.lemmas.List.{length-take-le, take-take, nil_from_length}
+use Rattle.std.proofs.lemmas.List.{length-take-le, take-take, take_all, nil_from_length}
 use Rattle.std.proofs.lemmas.List.Folds.{list_all-append}
 use Rattle.line_engine.specs.Outputs.{Puts}
 use Rattle.line_engine.proofs.Putting.{puts_nothing, puts_out, puts_more}
@@ -147,13 +147,13 @@ module _ (filter : Filter) (counts : Bool) where
 
   -- ---- what is held of what is left
 
-  pub held_advances : (old new : Stand) (bytes left kept : List ℕ) (count held : ℕ) → length left ≡ count → HasNo 10 left → take count kept ≡ left → IsHeld filter count held
+  pub held_advances : (old new : Stand) (bytes left kept : List ℕ) (count held : ℕ) → length left ≡ count → HasNo 10 left → take held kept ≡ take held left → IsHeld filter count held
       → Advances filter counts old new bytes left → Advances filter counts old new bytes (take held kept)
   held_advances old new bytes left kept count held counted none front (inl all) p =
-      subst (λ (l : List ℕ). Advances filter counts old new bytes l) (sym (ap (λ n. take n kept) all.1 ∙ front)) p
+      subst (λ (l : List ℕ). Advances filter counts old new bytes l) (sym (front ∙ take_all held left (omega (arith, all.1, counted)))) p
   held_advances old new bytes left kept count held counted none front (inr long) p =
       let fewer : held ≤ count = omega (arith, long.0, long.1) in
-      let first : take held kept ≡ take held left = sym (ap (take held) (sym front) ∙ take-take held count kept fewer) in
+      let first : take held kept ≡ take held left = front in
       let few : length (take held left) ≡ held = length-take-le held left (omega (arith, fewer, counted)) in
       let size : 1048577 < length (take held kept) = omega (arith, ap length first, few, long.1) in
       let clear : HasNo 10 (take held kept) = subst (HasNo 10) (sym first) (HasNo-take left held none) in
@@ -222,7 +222,7 @@ module _ (filter : Filter) (counts : Bool) where
       → Consumes remained mid read → Advances filter counts old now read (take held was) → ReadsBehind mid remains was buffer held count
       → start ≤ length (take (held + count) buffer) → IsAbsent 10 (take (held + count) buffer) start (length (take (held + count) buffer))
       → Advances filter counts now new (take (held + count) buffer) (drop start (take (held + count) buffer))
-      → take (held + count - start) kept ≡ drop start (take (held + count) buffer) → IsHeld filter (held + count - start) next
+      → take next kept ≡ take next (drop start (take (held + count) buffer)) → IsHeld filter (held + count - start) next
       → (more : List ℕ) × Consumes remained remains more × (length more ≡ length read + count) × Advances filter counts old new more (take next kept)
   piece_more remained mid remains old now new was buffer kept read held count start next took p reads within absent q front is =
       let chunk = reads.1 in

@@ -11,12 +11,21 @@ use Rattle.cidr_filter.specs.declared.filter.Filter.{Filter}
 use Rattle.cidr_filter.proofs.LogLines.{absent_again, absent_behind}
 use borrow.Rule.Slice.PartMut.{put_mid, post_of}
 
-pub kept_front : (old new : List ℕ) (start end : ℕ) → start ≤ end → end ≤ length old → new ≡ copy_within old start end 0 → take (end - start) new ≡ drop start (take end old)
-kept_front old new start end order within e =
+pub kept_front : (old new : List ℕ) (start held : ℕ) → start + held ≤ length old → new ≡ copy_within old start (start + held) 0 → take held new ≡ take held (drop start old)
+kept_front old new start held within e =
     let part = drop start old in
-    let count = end - start in
-    let size = length-take-le count part (omega (arith, order, within, length-drop start old)) in
-    ap (take count) e ∙ take-append-le count (take count part) (drop (0 + count) old) (omega (arith, size)) ∙ take-take count count part (omega arith) ∙ between_is old start end
+    let count = start + held - start in
+    let same : held ≡ count = omega arith in
+    let size = length-take-le count part (omega (arith, within, length-drop start old)) in
+    ap (λ n. take n new) same
+    ∙ ap (take count) e
+    ∙ take-append-le count (take count part) (drop (0 + count) old) (omega (arith, size))
+    ∙ take-take count count part (omega arith)
+    ∙ ap (λ n. take n part) (sym same)
+
+-- they are the first of what a piece of the buffer has from there on
+pub kept_piece : (buffer kept : List ℕ) (start end held : ℕ) → held ≤ end - start → take held kept ≡ take held (drop start buffer) → take held kept ≡ take held (drop start (take end buffer))
+kept_piece buffer kept start end held fewer front = front ∙ sym (ap (take held) (sym (between_is buffer start end)) ∙ take-take held (end - start) (drop start buffer) fewer)
 
 -- ---- a read behind them
 
@@ -61,12 +70,5 @@ pub held_fits : (filter : Filter) (count held : ℕ) → IsHeld filter count hel
 held_fits filter count held (inl all) = omega (arith, all.0, all.1)
 held_fits filter count held (inr long) = omega (arith, long.1)
 
-held_within : (filter : Filter) (count held : ℕ) → IsHeld filter count held → held ≤ count
-held_within filter count held (inl all) = omega (arith, all.1)
-held_within filter count held (inr long) = omega (arith, long.0, long.1)
-
-pub held_absent : (filter : Filter) (piece kept : List ℕ) (size start next : ℕ) → length piece ≡ size → take (size - start) kept ≡ drop start piece → IsAbsent 10 piece start (length piece)
-    → IsHeld filter (size - start) next → IsAbsent 10 (take next kept) 0 next
-held_absent filter piece kept size start next sized front absent is =
-    let fewer = held_within filter (size - start) next is in
-    absent_behind piece kept start next (omega (arith, sized, fewer)) (sym (take-take next (size - start) kept fewer) ∙ ap (take next) front) absent
+pub held_absent : (piece kept : List ℕ) (start next : ℕ) → next ≤ length piece - start → take next kept ≡ take next (drop start piece) → IsAbsent 10 piece start (length piece) → IsAbsent 10 (take next kept) 0 next
+held_absent piece kept start next fewer front absent = absent_behind piece kept start next fewer front absent

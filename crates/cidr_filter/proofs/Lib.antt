@@ -4,6 +4,7 @@ pub mod Failing
 pub mod Filtering
 pub mod Judging
 pub mod Kept
+pub mod LawExamples
 pub mod LogLines
 pub mod LogParts
 pub mod LogsInTurn

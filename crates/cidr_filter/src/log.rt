@@ -1,5 +1,5 @@
 //! Filters the lines of a log.
-ghost use Rattle.std.specs.Prelude.{◌≡◌, ◌||◌, ◌<◌, ◌≤◌, ◌++◌, ◌∷◌, ◌-◌, [], if◌then◌else◌, length, take, drop, false, IsTrue, OnOk, OnErr, IfOk, IfErr, IsOkUnless, Err, is_err};
+ghost use Rattle.std.specs.Prelude.{◌≡◌, ◌||◌, ◌<◌, ◌≤◌, ◌++◌, ◌∷◌, ◌+◌, [], if◌then◌else◌, length, take, drop, false, IsTrue, OnOk, OnErr, IfOk, IfErr, IsOkUnless, Err, is_err};
 ghost use Rattle.std.specs.Str.Lines.{strip_carriage_return};
 ghost use Rattle.byte_search.specs.Bytes.{IsAbsent};
 ghost use Rattle.std.specs.Io.KnownBytes.{Keeps, Appends};
@@ -90,11 +90,11 @@ pub fn filter_log<R: Read, W: Write>(
             Ok(start) => start,
             Err(fault) => return Err(fault),
         };
-        keep(buffer, start, end);
         held = match held_of(filter, end - start) {
             Ok(count) => count,
             Err(_) => return Err(LogFault::Length),
         };
+        keep(buffer, start, held);
     }
 }
 
@@ -117,20 +117,24 @@ fn read_behind<R: Read>(
     }
 }
 
-// Moves the bytes from `start` up to `end` to the front of the buffer.
-fn keep(buffer: &mut [u8], start: usize, end: usize)
-    requires order { start ≤ end }
-    requires within { end ≤ length buffer.old }
+// Moves the `held` bytes from `start` on to the front of the buffer, unless they stand there. Further back stands only
+// what the last read put behind a line feed, so a byte is moved at most once.
+fn keep(buffer: &mut [u8], start: usize, held: usize)
+    requires within { start + held ≤ length buffer.old }
     ensures length { length buffer.new ≡ length buffer.old }
-    ensures front { take (end - start) buffer.new ≡ drop start (take end buffer.old) }
+    ensures front { take held buffer.new ≡ take held (drop start buffer.old) }
 {
-    buffer.copy_within(start..end, 0);
+    if start == 0 {
+        return;
+    }
+    buffer.copy_within(start..start + held, 0);
 }
 
 // How many of these bytes, which no line feed follows, are held. Of a line that is too long, only as many are needed as
 // show that.
 fn held_of(filter: &Filter, count: usize) -> Result<usize, LogFault>
     ensures held { IfOk result (IsHeld filter.now count) }
+    ensures within { IfOk result (λ held. held ≤ count) }
     ensures stopped { OnErr result ((1048577 < count) × (is_dropped filter.now.bad ≡ false)) }
     ensures fault { IsOkUnless result LogFault.Length }
 {

@@ -18,6 +18,8 @@ pub mod FollowingBlock
 pub mod HalfBlocks
 pub mod HostLaws
 pub mod HostLists
+pub mod IpLawExamples
+pub mod LawExamples
 pub mod LeastLists
 pub mod MaximalBlocks
 pub mod NumberedSubnet

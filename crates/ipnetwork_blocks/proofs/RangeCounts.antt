@@ -3,11 +3,14 @@ use Rattle.std.proofs.Common.{◌≡◌, ℕ, zero, suc, ◌+◌, ◌-◌, ◌*�
 use Rattle.std.proofs.lemmas.Bool.{cases_lt, leb-true, le-leb, and_parts}
 use Rattle.std.proofs.lemmas.List.{length-append}
 use Rattle.std.proofs.lemmas.Nat.{pow_pos}
+use Rattle.std.proofs.Math.Pow.{pow_mono}
 use Rattle.ipnetwork_family.specs.Network.{Network}
+use Rattle.ipnetwork_blocks.specs.LeastListLaws.{RangeHasAtMost, AllButTheEndsHasMost}
 use Rattle.ipnetwork_blocks.specs.Private.RangeList.{has_all, blocks_within, blocks_from_to}
+use Rattle.ipnetwork_blocks.specs.Ranges.{FromTo}
 use Rattle.ipnetwork_blocks.proofs.BlocksFrom.{block_from, Begins, twice, lower_begins, upper_begins}
 use Rattle.ipnetwork_blocks.proofs.LeastLists.{least_unique, least_of_none}
-use Rattle.ipnetwork_blocks.proofs.RangeLists.{Part, whole_part, least_within}
+use Rattle.ipnetwork_blocks.proofs.RangeLists.{Part, whole_part, least_within, least_from_to}
 
 -- how many blocks of the range lie in the block with k host bits
 abbrev count : ℕ → ℕ → ℕ → ℕ → ℕ → ℕ
@@ -154,3 +157,60 @@ count_from_to w first last h =
     (λ (l : count w w 0 first last ≤ 1). omega arith)
     (λ (l : count w w 0 first last + 2 ≤ 2 * w). omega arith)
     (count_within w w 0 first last (record { times = 0; multiple = omega arith; bits = omega arith; fits = omega arith }))
+
+-- a block of which the range lacks only the first address, or only the last: one block for each host bit
+all_but_the_first : (w k base last : ℕ) → Begins w k base → base + 2 ^ k ≤ last + 1 → count w k base (base + 1) last ≡ k
+all_but_the_first w zero base last h to = outside w 0 base (base + 1) last h (inr (omega arith))
+all_but_the_first w (suc k) base last h to =
+    let lower = lower_begins w k base h in
+    let upper = upper_begins w k base h in
+    let two = twice k in
+    let pos = pow_pos k in
+    let sum = split w k base (base + 1) last (λ l m. let r : ⊥ = omega arith in r) in
+    let one = whole w k (base + 2 ^ k) (base + 1) last upper (omega arith) (omega arith) in
+    let some = all_but_the_first w k base last lower (omega arith) in
+    omega (arith, sum, one, some)
+
+all_but_the_last : (w k base first last : ℕ) → Begins w k base → first ≤ base → last + 2 ≡ base + 2 ^ k → count w k base first last ≡ k
+all_but_the_last w zero base first last h from to = outside w 0 base first last h (inl (omega arith))
+all_but_the_last w (suc k) base first last h from to =
+    let lower = lower_begins w k base h in
+    let upper = upper_begins w k base h in
+    let two = twice k in
+    let pos = pow_pos k in
+    let sum = split w k base first last (λ l m. let r : ⊥ = omega arith in r) in
+    let one = whole w k base first last lower from (omega arith) in
+    let some = all_but_the_last w k (base + 2 ^ k) first last upper (omega arith) (omega arith) in
+    omega (arith, sum, one, some)
+
+-- all addresses but the first and the last
+all_but_the_ends : (w : ℕ) → 2 ≤ w → length (blocks_from_to w 1 (2 ^ w - 2)) ≡ 2 * w - 2
+all_but_the_ends zero h = absurd (omega arith)
+all_but_the_ends (suc k) h =
+    let w : ℕ = suc k in
+    let last : ℕ = 2 ^ w - 2 in
+    let begins : Begins w w 0 = record { times = 0; multiple = omega arith; bits = omega arith; fits = omega arith } in
+    let lower = lower_begins w k 0 begins in
+    let upper = upper_begins w k 0 begins in
+    let two = twice k in
+    let some_bits : 1 ≤ k = omega (arith, h) in
+    let halves : 2 ^ 1 ≤ 2 ^ k = pow_mono some_bits in
+    let sum = split w k 0 1 last (λ l m. let r : ⊥ = omega arith in r) in
+    let some = all_but_the_first w k 0 last lower (omega (arith, two, halves)) in
+    let more = all_but_the_last w k (0 + 2 ^ k) 1 last upper (omega (arith, halves)) (omega (arith, two, halves)) in
+    omega (arith, sum, some, more)
+
+-- ---- the laws
+
+pub range_has_at_most : RangeHasAtMost
+range_has_at_most w first last blocks bits fits h =
+    let e = ap length (least_unique w (FromTo first last) (blocks_from_to w first last) blocks (least_from_to w first last fits) h) in
+    let most = count_from_to w first last bits in
+    omega (arith, e, most)
+
+pub all_but_the_ends_has_most : AllButTheEndsHasMost
+all_but_the_ends_has_most w blocks bits h =
+    let pos = pow_pos w in
+    let e = ap length (least_unique w (FromTo 1 (2 ^ w - 2)) (blocks_from_to w 1 (2 ^ w - 2)) blocks (least_from_to w 1 (2 ^ w - 2) (omega (arith, pos))) h) in
+    let most = all_but_the_ends w bits in
+    omega (arith, e, most)

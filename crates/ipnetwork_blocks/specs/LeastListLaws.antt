@@ -1,5 +1,5 @@
 -- The laws of least lists, for addresses of any number of bits.
-use Rattle.std.specs.Prelude.{◌≡◌, ℕ, ◌<◌, ◌≤◌, ◌^◌, ◌↔◌, List, [], ◌∷◌, length}
+use Rattle.std.specs.Prelude.{◌≡◌, ℕ, ◌-◌, ◌*◌, ◌<◌, ◌≤◌, ◌^◌, ◌↔◌, List, [], ◌∷◌, length}
 use Rattle.std.specs.List.{All, AllPairs}
 use Rattle.ipnetwork_family.specs.Network.{Network, IsNetwork, low, high, block_of}
 use Rattle.ipnetwork_blocks.specs.Aggregate.{InUnion}
@@ -28,3 +28,12 @@ ExclusionIsShortest = (w : ℕ) (network inner : Network) (blocks : List Network
 abbrev pub NetworkIsOneBlock : Type 0
 NetworkIsOneBlock = (w : ℕ) (n : Network) (blocks : List Network) → IsNetwork w n → IsLeastList w (FromTo (low w n) (high w n)) blocks
     → blocks ≡ block_of w n ∷ []
+
+-- if addresses have two bits or more, a range has at most 2 w - 2 blocks,
+abbrev pub RangeHasAtMost : Type 0
+RangeHasAtMost = (w first last : ℕ) (blocks : List Network) → 2 ≤ w → last < 2 ^ w → IsLeastList w (FromTo first last) blocks
+    → length blocks ≤ 2 * w - 2
+
+-- and that of all addresses but the first and the last has as many
+abbrev pub AllButTheEndsHasMost : Type 0
+AllButTheEndsHasMost = (w : ℕ) (blocks : List Network) → 2 ≤ w → IsLeastList w (FromTo 1 (2 ^ w - 2)) blocks → length blocks ≡ 2 * w - 2

@@ -9,5 +9,5 @@ pub use aggregates::{
     ip_least, ip_of_the_union, ip_one_block, ip_same_union, least, of_the_union, one_block,
     same_union, unions,
 };
-pub use ranges::ranges_are_shortest;
+pub use ranges::{range_counts, ranges_are_shortest};
 pub use subnets::{around_is_one, hosts, siblings, subnet_listing};

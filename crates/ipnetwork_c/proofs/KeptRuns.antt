@@ -7,20 +7,28 @@ use Rattle.ipnetwork_blocks.specs.LeastList.{LiesIn}
 use Rattle.ipnetwork_blocks.specs.Aggregate.{InUnion}
 use Rattle.ipnetwork_blocks.specs.AggregateLaws.{AggregateIsApart}
 use Rattle.ipnetwork_blocks.specs.Ranges.{FromTo}
-use Rattle.ipnetwork_blocks.proofs.LeastLists.{contains_head, least_of_none, least_of_same, least_of_two}
+use Rattle.ipnetwork_blocks.proofs.LeastLists.{contains_head, contains_tail, least_of_none, least_of_same, least_of_two}
 use Rattle.ipnetwork_sets.specs.Sets.{IsAddressSet}
 use Rattle.ipnetwork_sets.proofs.Lists.{set_block}
 use Rattle.ipnetwork_sets.proofs.Steps.{tail_is_set, union_cons, union_nil, union_from}
 use Rattle.ipnetwork_c.specs.declared.together.Operation.{Operation}
 use Rattle.ipnetwork_c.specs.declared.together.Operation.TheVariants.{Union, Intersection, Difference}
 use Rattle.ipnetwork_c.specs.Private.Writing.{HasBlocks}
-use Rattle.ipnetwork_c.specs.Private.Together.{Keeps, kept_by, IsStretch, IsPart, IsRun, PutsRun, PutsKept}
+use Rattle.std.specs.List.{Contains}
+use Rattle.ipnetwork_c.specs.Private.Together.IsEnd.{LastOfAll, BlockEnds, BlockBegins}
+use Rattle.ipnetwork_c.specs.Private.Together.{Keeps, kept_by, IsEnd, IsPartOf, IsStretch, IsPart, IsRun, PutsRun, PutsKept}
 use Rattle.ipnetwork_c.proofs.BlocksPut.{nothing_put}
 
 -- ---- stretches of one set
 
 abbrev pub IsSameFrom : ℕ → ℕ → List Network → List Network → Type 0
 IsSameFrom w at list left = (x : ℕ) → at ≤ x → InUnion w list x ↔ InUnion w left x
+
+-- an end of a part of a list is one of the list
+pub end_within : (w : ℕ) (list left : List Network) (last : ℕ) → IsPartOf left list → IsEnd w left last → IsEnd w list last
+end_within w list left last part (LastOfAll is) = LastOfAll is
+end_within w list left last part (BlockEnds b in_left is) = BlockEnds b (part b in_left) is
+end_within w list left last part (BlockBegins b in_left is) = BlockBegins b (part b in_left) is
 
 -- the whole space ends with the greatest number of w bits
 pub whole_ends : (w : ℕ) (n : Network) → n ≡ record { address = 0; prefix = 0 } → high w n + 1 ≡ 2 ^ w
@@ -39,15 +47,17 @@ whole_begins w n is =
     subst (λ (m : Network). low w m ≡ 0) (sym is) none
 
 module _ (w : ℕ) (list : List Network) (at : ℕ) (apart : AggregateIsApart) where
-  pub no_block_left : (left : List Network) (last : ℕ) → IsAddressSet w left → IsSameFrom w at list left → left ≡ [] → at < 2 ^ w → last + 1 ≡ 2 ^ w → IsStretch w list at false last left
-  no_block_left left last set same none fits ends = record {
+  pub no_block_left : (left : List Network) (last : ℕ) → IsAddressSet w left → IsPartOf left list → IsSameFrom w at list left → left ≡ [] → at < 2 ^ w → last + 1 ≡ 2 ^ w → IsStretch w list at false last left
+  no_block_left left last set part same none fits ends = record {
     reaches = omega arith;
+    ends = LastOfAll ends;
     set = set;
+    left_of = part;
     alike = λ x from to. ((λ t. absurd (true≢false (sym t))), (λ c. absurd (union_nil w x (subst (λ (l : List Network). InUnion w l x) none ((same x from).0 c)))));
     same = same;
   }
 
-  module _ (b : Network) (left after : List Network) (set : IsAddressSet w left) (same : IsSameFrom w at list left) (is : left ≡ b ∷ after) where
+  module _ (b : Network) (left after : List Network) (set : IsAddressSet w left) (part : IsPartOf left list) (same : IsSameFrom w at list left) (is : left ≡ b ∷ after) where
     whole_set : IsAddressSet w (b ∷ after)
     whole_set = subst (IsAddressSet w) is set
 
@@ -59,6 +69,12 @@ module _ (w : ℕ) (list : List Network) (at : ℕ) (apart : AggregateIsApart) w
       (λ c. (union_cons w b after x).0 (subst (λ (l : List Network). InUnion w l x) is c)),
       (λ o. subst (λ (l : List Network). InUnion w l x) (sym is) ((union_cons w b after x).1 o)),
     )
+
+    first_is_in : Contains list b
+    first_is_in = part b (subst (λ (l : List Network). Contains l b) (sym is) (contains_head b after))
+
+    pub others_are_part : IsPartOf after list
+    others_are_part n c = part n (subst (λ (l : List Network). Contains l n) (sym is) (contains_tail b after n c))
 
     pub others_are_set : IsAddressSet w after
     others_are_set = tail_is_set w b after apart whole_set
@@ -79,7 +95,9 @@ module _ (w : ℕ) (list : List Network) (at : ℕ) (apart : AggregateIsApart) w
         let block = the_block.block in
         record {
           reaches = ends;
+          ends = BlockEnds b first_is_in refl;
           set = set;
+          left_of = part;
           alike = λ x from to. (
             (λ t. (same x from).1 ((split x).1 (inl (member_within w b the_block.network x (omega arith) (let pos = size_pos w b.prefix in omega arith))))),
             (λ c. refl),
@@ -91,7 +109,9 @@ module _ (w : ℕ) (list : List Network) (at : ℕ) (apart : AggregateIsApart) w
     pub before_block : (last : ℕ) → at < b.address → last + 1 ≡ b.address → IsStretch w list at false last left
     before_block last later is_last = record {
       reaches = omega arith;
+      ends = BlockBegins b first_is_in (sym is_last);
       set = set;
+      left_of = part;
       alike = λ x from to. (
         (λ t. absurd (true≢false (sym t))),
         (λ c.
@@ -120,8 +140,14 @@ stretches_meet operation w first second at in_first in_second kept first_last se
     let reaches : at ≤ last = ⊎_elim (λ (e : last ≡ first_last). let r : at ≤ last = omega arith in r) (λ (e : last ≡ second_last). let r : at ≤ last = omega arith in r) one in
     record {
       reaches = reaches;
+      stops = ⊎_elim
+          (λ (e : last ≡ first_last). inl (subst (IsEnd w first) (sym e) a.ends))
+          (λ (e : last ≡ second_last). inr (subst (IsEnd w second) (sym e) b.ends))
+          one;
       first_set = a.set;
       second_set = b.set;
+      first_left_of = a.left_of;
+      second_left_of = b.left_of;
       alike = λ x from to.
           let k = keeps_same operation (IsTrue in_first) (InUnion w first x) (IsTrue in_second) (InUnion w second x) (a.alike x from (omega arith)) (b.alike x from (omega arith)) in
           ((λ t. k.0 (keeps.0 t)), (λ o. keeps.1 (k.1 o)));
@@ -143,8 +169,14 @@ module _ (w : ℕ) (Kept : List Network → List Network → ℕ → Type 0) (fi
       let more_reaches = k.reaches in
       record {
         reaches = omega arith;
+        stops = ⊎_elim
+            (λ (e : IsEnd w first_left end). inl (end_within w first first_left end h.first_left_of e))
+            (λ (e : IsEnd w second_left end). inr (end_within w second second_left end h.second_left_of e))
+            k.stops;
         first_set = k.first_set;
         second_set = k.second_set;
+        first_left_of = λ n c. h.first_left_of n (k.first_left_of n c);
+        second_left_of = λ n c. h.second_left_of n (k.second_left_of n c);
         alike = λ x from to. ⊎_elim
             (λ (near : x < last + 1). h.alike x from (omega arith))
             (λ (far : last + 1 ≤ x).

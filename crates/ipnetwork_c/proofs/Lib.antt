@@ -5,7 +5,6 @@ pub mod Offsets
 pub mod Families
 pub mod MemberCounts
 pub mod Truths
-pub mod DifferingBits
 pub mod Rows
 pub mod Searching
 pub mod BlocksPut
@@ -14,3 +13,9 @@ pub mod PrintedRows
 pub mod TableFinding
 pub mod TableMaking
 pub mod TableExamples
+pub mod StructExamples
+pub mod ResultExamples
+pub mod SearchExamples
+pub mod ColumnExamples
+pub mod EitherExamples
+pub mod LawExamples

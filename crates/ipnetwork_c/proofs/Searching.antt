@@ -1,15 +1,20 @@
 -- Where an address stands in the list of a set, and what that tells of the set.
 use Rattle.std.proofs.Common.{◌≡◌, ◌↔◌, ℕ, ◌+◌, ◌-◌, ◌<◌, ◌≤◌, List, length, map, get_or, Bool, true, false, IsTrue, refl, sym, ap, subst, ◌∙◌, ⊎_elim, arith}
 use Rattle.std.specs.Int.{from_bool}
-use Rattle.std.specs.List.{AllPairs}
+use Rattle.std.specs.List.{All, AllPairs}
 use Rattle.std.proofs.lemmas.Bool.{cases_lt}
 use Rattle.std.proofs.lemmas.List.{length-map, get_or_default}
 use Rattle.ipnetwork_family.specs.Network.{Network, Member}
 use Rattle.ipnetwork_blocks.specs.AggregateLaws.{AggregateHasOneBlock}
 use Rattle.ipnetwork_sets.specs.Private.Search.{NoneUpTo, IsLastUpTo, IsSplit}
 use Rattle.ipnetwork_sets.proofs.Searched.{split_starts, split_none_at, split_last, none_holds, holds_by_last}
-use Rattle.ipnetwork_c.specs.Lists.{FindsIn}
-use Rattle.ipnetwork_c.specs.Private.Sets.{SplitsAt}
+use Rattle.std.specs.Prelude.{slice_get, Some}
+use Rattle.std.proofs.lemmas.Option.{get_or_from_slice_get, slice_get_within, slice_get_read}
+use Rattle.ipnetwork_c.specs.Held.{PrefixFits}
+use Rattle.ipnetwork_c.specs.Searches.{StandsAt, LastFits}
+use Rattle.ipnetwork_c.specs.Lists.{FindsIn, SetQuery}
+use Rattle.ipnetwork_c.specs.Lists.SetQuery.{Answered, Refused}
+use Rattle.ipnetwork_c.specs.Private.Sets.{SplitsAt, EndFits, EndDoesNotFit}
 use Rattle.ipnetwork_c.proofs.Truths.{no_true}
 
 pub search_starts : {X : Type 0} (held : X → Network) (list : List X) (x : ℕ) → IsSplit (map held list) x 0 (length list)
@@ -96,3 +101,60 @@ finds_last w ns x i b false byte one split some within is has told = record {
   found = λ e. absurd (omega (arith, told, e));
   missed = λ set z u. no_true (has.1 ((holds_by_last w ns one set x b (last_up_to ns x i b set.ascending (split set.ascending) some is)).1 u));
 }
+
+-- ---- where a search stands in any list
+
+-- the network before `from` begins at x or before it, and that at `to` after it
+pub record IsBetween (ns : List Network) (x from to : ℕ) : Type 0 where
+  pub last : (n : Network) → 0 < from → slice_get ns (from - 1) ≡ Some n → n.address ≤ x
+  pub next : (n : Network) → slice_get ns to ≡ Some n → x < n.address
+
+pub between_all : {X : Type 0} (held : X → Network) (list : List X) (x : ℕ) → IsBetween (map held list) x 0 (length list)
+between_all held list x = record {
+  last = λ n none is. absurd (omega (arith, none));
+  next = λ n is. let l = slice_get_within (map held list) (length list) n is in let size = length-map list held in absurd (omega arith);
+}
+
+the_one : (ns : List Network) (k : ℕ) (b n : Network) → b ≡ get_or ns k b → slice_get ns k ≡ Some n → b ≡ n
+the_one ns k b n is got = is ∙ get_or_from_slice_get ns k n b got
+
+pub between_behind : (ns : List Network) (x from to middle : ℕ) (b : Network) → IsBetween ns x from to → b ≡ get_or ns middle b → b.address ≤ x → IsBetween ns x (middle + 1) to
+between_behind ns x from to middle b h is begins = record {
+  last = λ n some got.
+      let e : middle + 1 - 1 ≡ middle = omega arith in
+      let same = ap (λ (m : Network). m.address) (the_one ns middle b n is (subst (λ (k : ℕ). slice_get ns k ≡ Some n) e got)) in
+      omega (arith, same, begins);
+  next = h.next;
+}
+
+pub between_before : (ns : List Network) (x from to middle : ℕ) (b : Network) → IsBetween ns x from to → b ≡ get_or ns middle b → x < b.address → IsBetween ns x from middle
+between_before ns x from to middle b h is begins = record {
+  last = h.last;
+  next = λ n got.
+      let same = ap (λ (m : Network). m.address) (the_one ns middle b n is got) in
+      omega (arith, same, begins);
+}
+
+pub between_met : (ns : List Network) (x from to : ℕ) → IsBetween ns x from to → from ≤ to → to ≤ from → to ≤ length ns → StandsAt ns x from
+between_met ns x from to h ordered met within =
+    let e : to ≡ from = omega arith in
+    record { within = omega arith; last = h.last; next = subst (λ (k : ℕ). (n : Network) → slice_get ns k ≡ Some n → x < n.address) e h.next }
+
+-- the last network fits, if the one that stands there does
+pub last_fits : (w : ℕ) (ns : List Network) (i : ℕ) (b : Network) → b ≡ get_or ns (i - 1) b → PrefixFits w b → LastFits w ns i
+last_fits w ns i b is fits n some got = subst (PrefixFits w) (the_one ns (i - 1) b n is got) fits
+
+-- and only then
+pub last_does_not_fit : (w : ℕ) (ns : List Network) (i : ℕ) (b : Network) → 0 < i → i ≤ length ns → b ≡ get_or ns (i - 1) b → ¬ (PrefixFits w b) → ¬ (LastFits w ns i)
+last_does_not_fit w ns i b some within is not h = not (h b some (slice_get_read ns (length ns) (i - 1) b refl (omega arith) is))
+
+-- nothing stands before the first
+pub none_fits : (w : ℕ) (ns : List Network) (i : ℕ) → i ≡ 0 → LastFits w ns i
+none_fits w ns i none n some got = absurd (omega arith)
+
+-- what a search tells of an address, whichever way its number is written
+pub set_answered : {C : Type 0} (w : ℕ) (held : C → Network) (list : List C) (y x before after : ℕ) → y ≡ x → EndFits w (map held list) y → FindsIn w (map held list) y after → SetQuery w held list x before after 0
+set_answered w held list y x before after is ends finds = subst (λ (z : ℕ). SetQuery w held list z before after 0) is (Answered ends.0 ends.1 ends.2 refl finds)
+
+pub set_refused : {C : Type 0} (w : ℕ) (held : C → Network) (list : List C) (y x before : ℕ) → y ≡ x → EndDoesNotFit w (map held list) y → ¬ (All (λ c. PrefixFits w (held c)) list) → SetQuery w held list x before before 3
+set_refused w held list y x before is ends some = subst (λ (z : ℕ). SetQuery w held list z before before 3) is (Refused ends.0 ends.1 ends.2 some refl refl)

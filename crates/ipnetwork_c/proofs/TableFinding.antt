@@ -1,5 +1,5 @@
 -- The longest block of a table that has an address.
-use Rattle.std.proofs.Common.{◌≡◌, ℕ, ◌+◌, ◌-◌, ◌^◌, ◌<◌, ◌≤◌, ◌⊎◌, List, length, take, get_or, ⊎_elim, sym, ap, subst, ◌∙◌, arith}
+use Rattle.std.proofs.Common.{◌≡◌, ℕ, ◌+◌, ◌-◌, ◌^◌, ◌<◌, ◌≤◌, List, length, take, get_or, ⊎_elim, sym, ap, subst, ◌∙◌, arith}
 use Rattle.std.specs.List.{AllPairs}
 use Rattle.std.proofs.lemmas.Bool.{cases_lt}
 use Rattle.std.proofs.lemmas.List.{get_or_default, get_or-take, length-take-le}
@@ -126,6 +126,6 @@ search_fails w ns x end h none t u =
 
 -- the number of a fault that a search returns is that of a byte
 pub fault_is_byte : {C : Type 0} {w : ℕ} {held : C → Network} {list : List C} {x before after code : ℕ} → TableQuery w held list x before after code → code < 256
-fault_is_byte (Found is _) = omega (arith, is)
-fault_is_byte (NotFound is _ _) = omega (arith, is)
-fault_is_byte (Refused _ is _) = omega (arith, is)
+fault_is_byte (Found is _ _ _) = omega (arith, is)
+fault_is_byte (NotFound is _ _ _) = omega (arith, is)
+fault_is_byte (Refused _ _ _ _ is _) = omega (arith, is)

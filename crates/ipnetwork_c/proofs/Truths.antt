@@ -1,5 +1,7 @@
 -- A truth as a byte, and an order as a number of 32 bits.
 use Rattle.std.proofs.Common.{◌≡◌, ◌↔◌, ℕ, ℤ, to_z, of_z, w32, Bool, true, false, IsTrue, arith, refl}
+use Rattle.std.proofs.Math.Bool.{beq}
+use Rattle.std.specs.Prelude.{not}
 use Rattle.std.specs.Int.{from_bool}
 use Rattle.std.specs.declared.cmp.Ordering.{Ordering}
 use Rattle.std.specs.declared.cmp.Ordering.TheVariants.{Less, Equal, Greater}
@@ -17,3 +19,9 @@ pub order_kept : (order : Ordering) (z : ℤ) → z ≡ order_number order → t
 order_kept Less z is = rw is refl
 order_kept Equal z is = rw is refl
 order_kept Greater z is = rw is refl
+
+pub do_not_differ : (a b : Bool) → not (beq a b) ≡ false → a ≡ b
+do_not_differ true true h = refl
+do_not_differ true false h = cc
+do_not_differ false true h = cc
+do_not_differ false false h = refl

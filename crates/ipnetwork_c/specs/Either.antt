@@ -1,5 +1,5 @@
 -- Networks and addresses of either family in C.
-use Rattle.std.specs.Prelude.{◌≡◌, ◌==◌, if◌then◌else◌, ◌⊎◌, ◌<◌, ◌≤◌, ◌++◌, ℕ, List, length, replicate, take, Option, Some, None}
+use Rattle.std.specs.Prelude.{◌≡◌, ◌==◌, if◌then◌else◌, ◌⊎◌, ◌^◌, ◌<◌, ◌≤◌, ◌++◌, ℕ, List, length, replicate, take, Option, Some, None}
 use Rattle.ipnetwork_addr.specs.Digits.{octets_of, octets_of_v6}
 use Rattle.ipnetwork_addr.specs.Either.{NamesIp, canonical_ip}
 use Rattle.ipnetwork_addr.specs.declared.ip.IpAddr.{IpAddr}
@@ -37,6 +37,11 @@ ip_in held =
 abbrev pub address_in : List ℕ → Option IpAddr
 address_in octets =
     if length octets == 4 then Some (addresses.V4 (number_of_octets octets)) else (if length octets == 16 then Some (addresses.V6 (number_of_octets octets)) else None)
+
+-- the address has the bits of its family
+abbrev pub IsIpAddress : IpAddr → Type 0
+IsIpAddress (addresses.V4 a) = a < 2 ^ 32
+IsIpAddress (addresses.V6 a) = a < 2 ^ 128
 
 -- the prefix length is one of the network's family
 abbrev pub IpPrefixFits : IpNetwork → Type 0

@@ -1,5 +1,6 @@
 pub mod Numbers
 pub mod Held
+pub mod Searches
 pub mod Answers
 pub mod Either
 pub mod Columns
@@ -10,4 +11,5 @@ pub mod Tables
 pub mod TextColumns
 pub mod PrintedColumns
 pub mod ColumnLaws
+pub mod StructLaws
 pub mod Private

@@ -7,6 +7,7 @@ use Rattle.ipnetwork_blocks.specs.LeastList.{IsLeastList}
 use Rattle.ipnetwork_sets.specs.Sets.{IsAddressSet}
 use Rattle.ipnetwork_c.specs.Numbers.{ok, prefix, short_buffer}
 use Rattle.ipnetwork_c.specs.Held.{PrefixFits}
+use Rattle.ipnetwork_c.specs.Searches.{StandsAt, LastFits}
 
 -- the aggregate of the networks of a list is put in its front, and its length is returned; after it are networks still.
 -- If the prefix length of one does not fit, nothing is written
@@ -21,10 +22,11 @@ pub record FindsIn (w : ℕ) (networks : List Network) (x byte : ℕ) : Type 0 w
   pub found : byte ≡ 1 → InUnion w networks x
   pub missed : IsAddressSet w networks → byte ≡ 0 → ¬ (InUnion w networks x)
 
--- the question whether an address lies in the set of a list is answered, or the prefix length of one does not fit
+-- the question whether an address lies in the set of a list is answered, if the prefix length of the last network that
+-- begins at the address or before it fits; if it does not, the number is `prefix`
 pub data SetQuery {C : Type 0} (w : ℕ) (held : C → Network) (list : List C) (x before after code : ℕ) : Type 0 where
-  Answered : code ≡ ok → FindsIn w (map held list) x after → SetQuery w held list x before after code
-  Refused : ¬ (All (λ c. PrefixFits w (held c)) list) → code ≡ prefix → after ≡ before → SetQuery w held list x before after code
+  Answered : (i : ℕ) → StandsAt (map held list) x i → LastFits w (map held list) i → code ≡ ok → FindsIn w (map held list) x after → SetQuery w held list x before after code
+  Refused : (i : ℕ) → StandsAt (map held list) x i → ¬ (LastFits w (map held list) i) → ¬ (All (λ c. PrefixFits w (held c)) list) → code ≡ prefix → after ≡ before → SetQuery w held list x before after code
 
 -- the blocks stand in the front of the list, and nothing else of it has changed
 pub record StandInFront {C : Type 0} (held : C → Network) (blocks : List Network) (before after : List C) : Type 0 where

@@ -1,5 +1,5 @@
 -- The numbers that stand for faults and orders in C. The header has a name for each.
-use Rattle.std.specs.Prelude.{ℕ, ℤ, pos, negsuc, List, codes, ◌==◌, if◌then◌else◌}
+use Rattle.std.specs.Prelude.{ℕ, ℤ, pos, negsuc, List, [], ◌∷◌, get_or, codes}
 use Rattle.std.specs.declared.cmp.Ordering.{Ordering}
 use Rattle.std.specs.declared.cmp.Ordering.TheVariants.{Less, Equal, Greater}
 use Rattle.ipnetwork_family.specs.declared.error.CidrFault.{CidrFault}
@@ -55,10 +55,25 @@ fault_number Format = format
 fault_number Addr = address
 fault_number Prefix = prefix
 
--- what a fault says, as bytes
+-- what the faults say, in the order of their numbers, as bytes
+abbrev pub fault_texts : List (List ℕ)
+fault_texts =
+    codes "no fault"
+    ∷ codes "more than one slash"
+    ∷ codes "no address"
+    ∷ codes "no prefix length of the family"
+    ∷ codes "no room for the text"
+    ∷ codes "no mask"
+    ∷ codes "no member of this number"
+    ∷ codes "no family"
+    ∷ codes "no offsets of the column"
+    ∷ codes "no range"
+    ∷ codes "no list of a set"
+    ∷ []
+
+-- what a fault says; a number that is none has a text too
 abbrev pub fault_text : ℕ → List ℕ
-fault_text fault =
-    if fault == ok then codes "no fault" else (if fault == format then codes "more than one slash" else (if fault == address then codes "no address" else (if fault == prefix then codes "no prefix length of the family" else (if fault == short_buffer then codes "no room for the text" else (if fault == no_mask then codes "no mask" else (if fault == no_member then codes "no member of this number" else (if fault == no_family then codes "no family" else (if fault == no_offsets then codes "no offsets of the column" else (if fault == no_range then codes "no range" else (if fault == no_set then codes "no list of a set" else codes "unknown fault"))))))))))
+fault_text fault = get_or fault_texts fault (codes "unknown fault")
 
 -- which of two comes first: less than 0 for the first, 0 if they are equal
 abbrev pub order_number : Ordering → ℤ

@@ -1,5 +1,5 @@
 -- Tables of blocks in the caller's memory.
-use Rattle.std.specs.Prelude.{◌≡◌, ◌⊎◌, ℕ, ◌<◌, ◌≤◌, List, [], ◌++◌, drop, get_or, length, map, slice_index, slice_index_or}
+use Rattle.std.specs.Prelude.{◌≡◌, ◌⊎◌, ℕ, ◌+◌, ◌<◌, ◌≤◌, List, [], ◌++◌, drop, get_or, length, map, slice_index, slice_index_or}
 use Rattle.std.specs.List.{All, AllPairs, range_with_len}
 use Rattle.std.specs.List.Sorted.{IsPermutation}
 use Rattle.ipnetwork_family.specs.Network.{Network, IsCidrBlock, IsNetworkAtMost, Member, block_of}
@@ -7,6 +7,7 @@ use Rattle.ipnetwork_blocks.specs.Aggregate.{InUnion}
 use Rattle.ipnetwork_c.specs.Numbers.{ok, prefix, short_buffer, no_member}
 use Rattle.ipnetwork_c.specs.Held.{PrefixFits, number_of_octets}
 use Rattle.ipnetwork_c.specs.Columns.{AnswersEach}
+use Rattle.ipnetwork_c.specs.Searches.{ComesTo, LastFits}
 
 -- blocks in ascending order, by address and then by prefix length: some may lie in others
 pub record IsTable (w : ℕ) (networks : List Network) : Type 0 where
@@ -21,11 +22,12 @@ pub record FindsLongest (w : ℕ) (networks : List Network) (x i : ℕ) : Type 0
   pub longest : IsTable w networks → (k : ℕ) (d : Network) → k < length networks → Member w (slice_index_or networks k d) x → (slice_index_or networks k d).prefix ≤ (slice_index_or networks i d).prefix
   pub last : IsTable w networks → (k : ℕ) (d : Network) → i < k → k < length networks → ¬ (Member w (slice_index_or networks k d) x)
 
--- the index of the longest block with an address is returned; if there is none, the number is `no_member`
+-- the index of the longest block with an address is returned; if there is none, the number is `no_member`. Of the
+-- networks that the search comes to, the prefix length of the last fits; if it does not, the number is `prefix`
 pub data TableQuery {C : Type 0} (w : ℕ) (held : C → Network) (list : List C) (x before after code : ℕ) : Type 0 where
-  Found : code ≡ ok → FindsLongest w (map held list) x after → TableQuery w held list x before after code
-  NotFound : code ≡ no_member → (IsTable w (map held list) → ¬ (InUnion w (map held list) x)) → after ≡ before → TableQuery w held list x before after code
-  Refused : ¬ (All (λ c. PrefixFits w (held c)) list) → code ≡ prefix → after ≡ before → TableQuery w held list x before after code
+  Found : code ≡ ok → FindsLongest w (map held list) x after → ComesTo w (map held list) x (after + 1) → LastFits w (map held list) (after + 1) → TableQuery w held list x before after code
+  NotFound : code ≡ no_member → (IsTable w (map held list) → ¬ (InUnion w (map held list) x)) → ComesTo w (map held list) x 0 → after ≡ before → TableQuery w held list x before after code
+  Refused : (i : ℕ) → ComesTo w (map held list) x i → ¬ (LastFits w (map held list) i) → ¬ (All (λ c. PrefixFits w (held c)) list) → code ≡ prefix → after ≡ before → TableQuery w held list x before after code
 
 -- each of many addresses is asked, with an index and a fault of its own, which are those of the call for one address; or
 -- nothing is written, since there is no room for as many

@@ -5,4 +5,7 @@ mod columns;
 mod structs;
 
 pub use columns::printed_columns_are_columns;
-pub use structs::{held_v4_stands_for_itself, held_v6_stands_for_itself, octets_tell_the_number};
+pub use structs::{
+    held_address_stands_for_itself, held_ip_stands_for_itself, held_v4_stands_for_itself,
+    held_v6_stands_for_itself, octets_tell_the_address, octets_tell_the_number,
+};

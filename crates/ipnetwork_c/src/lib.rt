@@ -1,9 +1,8 @@
 //! The library for C: each call of networks of either family as a function that C can call.
 //!
 //! Nothing here allocates. A call that is given a struct whose prefix length is greater than the width returns
-//! `PREFIX`, or `NO_FAMILY` if the family is wrong too; only a binary search of a list does not see the structs that it
-//! does not meet. A call that returns a fault writes nothing, except for the length or number that comes with
-//! `SHORT_BUFFER`.
+//! `PREFIX`, or `NO_FAMILY` if the family is wrong too; only a search of a set or a table does not look at every struct.
+//! A call that returns a fault writes nothing, except for the length or number that comes with `SHORT_BUFFER`.
 #![tactic(auto)]
 
 ghost use Rattle.std.specs.Prelude.{◌≡◌};

@@ -7,9 +7,10 @@ use crate::sets;
 use crate::structs::{Ipv4InC, Ipv6InC, address_of};
 use ipnetwork::{Ipv4Addr, Ipv4Network, Ipv6Network};
 
-/// Whether an address lies in the set of a list that is that of a set, as `ipnetwork_v4_aggregate` leaves it: 1 or 0,
-/// by one binary search. For any other list, 1 is right too, but 0 says nothing. `PREFIX` if the search ends at a
-/// struct whose prefix length is greater than 32, which cannot be in the list of a set.
+/// Whether an address lies in the set of a list that is that of a set, as `ipnetwork_v4_aggregate` leaves it: 1 or 0.
+/// For any other list, 1 is right too, but 0 says nothing. The search ends at the last struct whose own address is this
+/// one or comes before it, if they ascend: `PREFIX` exactly if the prefix length of that struct is greater than 32,
+/// which is in the list of no set.
 #[unsafe(no_mangle)]
 pub extern "C" fn ipnetwork_v4_set_contains(
     blocks: &[Ipv4InC],

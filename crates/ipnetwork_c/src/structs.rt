@@ -1,5 +1,5 @@
 //! The structs of the header, and the networks that they stand for.
-ghost use Rattle.std.specs.Prelude.{◌≡◌, ◌≤◌, ◌-◌, ◌^◌, ◌↔◌, IsTrue, MatchOption};
+ghost use Rattle.std.specs.Prelude.{◌≡◌, ◌↔◌, IsTrue, MatchOption};
 ghost use Rattle.ipnetwork_family.specs.Network.{Member};
 ghost use Rattle.std.specs.Option.{SomeIff};
 ghost use Rattle.ipnetwork_c.specs.Held.{v4_in, v6_in, PrefixFits, HoldsV4, HoldsV6, number_of_octets};
@@ -77,8 +77,7 @@ impl Ipv6InC {
         Ipv6Network::new_checked(address_of(&self.address), self.prefix)
     }
 
-    /// Whether an address of 16 octets lies in the network's set, if the prefix length is at most 128: whether the two
-    /// numbers differ only in host bits. For `Ipv6Network::contains` an address would be made of each number first.
+    /// Whether an address of 16 octets lies in the network's set, if the prefix length is at most 128.
     pub(crate) fn contains(&self, address: &[u8; 16]) -> Option<bool>
         ensures { MatchOption result (¬ (PrefixFits 128 (v6_in self.now))) (λ answer. PrefixFits 128 (v6_in self.now) × (IsTrue answer ↔ Member 128 (v6_in self.now) (number_of_octets address.now))) }
     {
@@ -89,12 +88,15 @@ impl Ipv6InC {
     }
 
     /// The same for a struct whose prefix length was checked.
+    #[inline(always)]
     pub(crate) fn has(&self, address: &[u8; 16]) -> bool
         requires { PrefixFits 128 (v6_in self.now) }
         ensures { IsTrue result ↔ Member 128 (v6_in self.now) (number_of_octets address.now) }
     {
-        let difference = number_of(&self.address) ^ number_of(address);
-        difference <= host_ones(self.prefix)
+        match self.network() {
+            Some(network) => network.contains(address_of(address)),
+            None => unreachable!(),
+        }
     }
 }
 
@@ -162,19 +164,21 @@ impl IpInC {
     }
 }
 
-/// The ones after the first `prefix` of 128 bits.
-fn host_ones(prefix: u8) -> u128
-    requires { prefix ≤ 128 }
-    ensures { result ≡ 2 ^ (128 - prefix) - 1 }
-{
-    u128::MAX.checked_shr(u32::from(prefix)).unwrap_or(0)
-}
-
-/// The IPv6 address of 16 octets.
+/// The IPv6 address of 16 octets, made of its segments: to write a number and read its segments costs more.
 pub(crate) fn address_of(octets: &[u8; 16]) -> Ipv6Addr
     ensures { result ≡ number_of_octets octets.now }
 {
-    Ipv6Addr::from(number_of(octets))
+    let [a, b, c, d, e, f, g, h, i, j, k, l, m, n, o, p] = *octets;
+    Ipv6Addr::new(
+        u16::from_be_bytes([a, b]),
+        u16::from_be_bytes([c, d]),
+        u16::from_be_bytes([e, f]),
+        u16::from_be_bytes([g, h]),
+        u16::from_be_bytes([i, j]),
+        u16::from_be_bytes([k, l]),
+        u16::from_be_bytes([m, n]),
+        u16::from_be_bytes([o, p]),
+    )
 }
 
 /// The number of 16 octets.

@@ -35,8 +35,8 @@ fn find<N: AddressSpace, H: Listed<N>>(blocks: &[H], address: N::Addr, index: &m
 
 /// The index of the longest block that has the address, in a table: blocks without host bits in ascending order, as
 /// `ipnetwork_v4_compare` orders them, of which some may lie in others. `NO_MEMBER` if none has it. For any other list,
-/// the block at the index has the address too, but there may be a longer one, and `NO_MEMBER` says nothing. `PREFIX` if
-/// the search meets a struct whose prefix length is greater than 32, which cannot be in a table.
+/// the block at the index has the address too, but there may be a longer one, and `NO_MEMBER` says nothing. `PREFIX` at
+/// the first struct that the search comes to whose prefix length is greater than 32, which is in no table.
 #[unsafe(no_mangle)]
 pub extern "C" fn ipnetwork_v4_table_find(
     blocks: &[Ipv4InC],

@@ -6,12 +6,14 @@ pub mod ComputedNetworks
 pub mod ComputedV4
 pub mod ComputedV6
 pub mod CountedBits
+pub mod EightSegments
 pub mod ErrorExamples
 pub mod Examples
 pub mod FamilyExamples
 pub mod Generic
 pub mod JsonExamples
 pub mod JsonTexts
+mod LawExamples
 pub mod Masks
 pub mod Members
 pub mod NetworkTexts

@@ -5,8 +5,10 @@ ghost use Rattle.ipnetwork_family.specs.Family.{v6_family};
 ghost use Rattle.ipnetwork_family.specs.Masks.{GivesPrefixOfMask};
 ghost use Rattle.ipnetwork_family.specs.Network.{low, size_of};
 
+use crate::mask_table::mask_segments;
 use crate::network::mask_to_prefix;
 use crate::parse::read_prefix;
+use crate::segments::{agree, filled, kept, leading_ones};
 use crate::{Address, IpNetworkError, Network};
 use arrayvec::ArrayString;
 use ipnetwork_addr::{ADDRESS_TEXT_CAPACITY, AddrParseError, Ipv6Addr, laws};
@@ -54,13 +56,13 @@ impl Address for Ipv6Addr {
     }
 
     fn mask(prefix: u8) -> Ipv6Addr {
-        Ipv6Addr::from(!host_ones(prefix))
+        Ipv6Addr::from(*mask_segments(prefix))
     }
 
     fn prefix_of_mask(self) -> Option<u8> {
-        let mask = u128::from(self);
-        let prefix = (!mask).leading_zeros() as u8;
-        if !mask == host_ones(prefix) {
+        let segments = self.segments();
+        let prefix = leading_ones(&segments);
+        if segments == *mask_segments(prefix) {
             Some(prefix)
         } else {
             None
@@ -68,17 +70,15 @@ impl Address for Ipv6Addr {
     }
 
     fn least(self, prefix: u8) -> Ipv6Addr {
-        Ipv6Addr::from(u128::from(self) & !host_ones(prefix))
+        Ipv6Addr::from(kept(&self.segments(), mask_segments(prefix)))
     }
 
     fn greatest(self, prefix: u8) -> Ipv6Addr {
-        let ones = host_ones(prefix);
-        Ipv6Addr::from(u128::from(self) & !ones | ones)
+        Ipv6Addr::from(filled(&self.segments(), mask_segments(prefix)))
     }
 
     fn agrees(self, other: Ipv6Addr, prefix: u8) -> bool {
-        let mask = !host_ones(prefix);
-        u128::from(self) & mask == u128::from(other) & mask
+        agree(&self.segments(), &other.segments(), mask_segments(prefix))
     }
 
     fn next(self) -> Ipv6Addr {

@@ -12,8 +12,10 @@ mod ipv6;
 mod iter;
 mod json;
 pub mod laws;
+mod mask_table;
 mod network;
 pub mod parse;
+mod segments;
 
 pub use address::Address;
 pub use cidr_network::CidrNetwork;

@@ -17,7 +17,7 @@ use std::marker::Model;
 /// let blocks: IpBlocks<ipnetwork_sets::Blocks<'_, Ipv4Network>, ipnetwork_sets::Blocks<'_, Ipv6Network>> = set.iter();
 /// assert!(rt; blocks.eq(["192.0.2.0/24".parse()?]));
 /// ```
-#[derive(Drop)]
+#[derive(Debug, Drop)]
 pub struct IpBlocks<V4: SetBlocks<Ipv4Network>, V6: SetBlocks<Ipv6Network>> {
     pub(crate) v4: V4,
     pub(crate) v6: V6,

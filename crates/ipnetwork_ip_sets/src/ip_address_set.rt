@@ -71,7 +71,8 @@ impl IpAddressSet {
 
     /// The set of the addresses of the networks of both lists, which may have host bits and stand in any order.
     ///
-    /// Sorts each list and goes over it once. Keeps their memory.
+    /// Sorts each list in itself, and goes over it once. `into_parts`, and `into_blocks` of each part,
+    /// give the lists back.
     ///
     /// ```
     /// let v4 = vec![in rt.alloc(); "192.0.2.0/25".parse::<Ipv4Network>()?, "192.0.2.128/25".parse()?]?;

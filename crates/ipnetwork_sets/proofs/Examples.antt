@@ -1,12 +1,13 @@
 -- Counts, ranges, lists, free blocks and texts at which a misreading of the definitions would show.
-use Rattle.std.proofs.Common.{◌≡◌, ℕ, ◌-◌, ◌*◌, ◌/◌, ◌^◌, ◌+◌, ◌<◌, ◌≤◌, sym, refl, subst, ⊎_elim, arith, [], ◌∷◌, Ok, Err}
+use Rattle.std.proofs.Common.{◌≡◌, ℕ, ◌-◌, ◌*◌, ◌/◌, ◌^◌, ◌+◌, ◌<◌, ◌≤◌, sym, refl, subst, ⊎_elim, ap, arith, List, [], ◌∷◌, ◌++◌, length, Ok, Err}
 use Rattle.std.specs.List.{Contains}
 use Rattle.ipnetwork_family.specs.Network.{Network, IsCidrBlock, Member}
 use Rattle.ipnetwork_family.proofs.Blocks.{subnet_from}
 use Rattle.ipnetwork_family.specs.declared.error.NetworkSizeError.{NetworkSizeError}
+use Rattle.ipnetwork_blocks.specs.LeastList.{IsLeastList}
 use Rattle.ipnetwork_blocks.specs.Ranges.{FromTo}
 use Rattle.ipnetwork_blocks.specs.Private.RangeList.{blocks_within}
-use Rattle.ipnetwork_blocks.proofs.LeastLists.{contains_cons, contains_nil}
+use Rattle.ipnetwork_blocks.proofs.LeastLists.{contains_cons, contains_nil, least_unique}
 use Rattle.ipnetwork_blocks.proofs.RangeLists.{least_from_to}
 use Rattle.ipnetwork_sets.specs.Counts.{FitsNumber}
 use Rattle.ipnetwork_sets.specs.FreeBlocks.{IsFreeBlock, NoBlockIsFree, IsFirstFree}
@@ -44,6 +45,10 @@ range_turned_round h =
 
 -- ---- what is pushed comes after what was there, and is not joined with it
 
+one_and_two : IsLeastList 3 (FromTo 1 2) (net 1 3 ∷ net 2 3 ∷ [])
+unfolding blocks_within
+one_and_two = least_from_to 3 1 2 (omega arith)
+
 pub pushed_after : AddsLeastList 3 (FromTo 1 2) (net 7 3 ∷ net 0 3 ∷ []) (net 7 3 ∷ net 0 3 ∷ net 1 3 ∷ net 2 3 ∷ [])
 unfolding blocks_within
 pushed_after = (net 1 3 ∷ net 2 3 ∷ [], least_from_to 3 1 2 (omega arith), refl)
@@ -52,6 +57,30 @@ pushed_after = (net 1 3 ∷ net 2 3 ∷ [], least_from_to 3 1 2 (omega arith), r
 pub first_pushed : AddsFirstOfLeastList 3 (FromTo 1 2) (net 7 3 ∷ []) (net 7 3 ∷ net 1 3 ∷ [])
 unfolding blocks_within
 first_pushed = (net 1 3 ∷ [], net 2 3 ∷ [], least_from_to 3 1 2 (omega arith), refl)
+
+-- but not the second without the first,
+abbrev first_address : List Network → ℕ
+first_address [] = 0
+first_address (x ∷ xs) = x.address
+
+abbrev second_address : List Network → ℕ
+second_address [] = 0
+second_address (x ∷ xs) = first_address xs
+
+pub second_without_the_first : ¬ (AddsFirstOfLeastList 3 (FromTo 1 2) (net 7 3 ∷ []) (net 7 3 ∷ net 2 3 ∷ []))
+second_without_the_first h = go h.0 h.1 h.2 h.3
+  where
+    go : (some others : List Network) → IsLeastList 3 (FromTo 1 2) (some ++ others) → net 7 3 ∷ net 2 3 ∷ [] ≡ net 7 3 ∷ some → ⊥
+    go [] others h e = omega (arith, ap length e)
+    go (x ∷ xs) others h e =
+        let both = least_unique 3 (FromTo 1 2) (net 1 3 ∷ net 2 3 ∷ []) (x ∷ (xs ++ others)) one_and_two h in
+        omega (arith, ap first_address both, ap second_address e)
+
+-- and after success both are
+pub first_alone : ¬ (AddsLeastList 3 (FromTo 1 2) (net 7 3 ∷ []) (net 7 3 ∷ net 1 3 ∷ []))
+first_alone h =
+    let both = least_unique 3 (FromTo 1 2) (net 1 3 ∷ net 2 3 ∷ []) h.0 one_and_two h.1 in
+    omega (arith, ap length both, ap length h.2)
 
 -- the blocks of two ranges stand in their order, not joined
 pub blocks_of_two : AreBlocksOf 3 ((3, 3) ∷ (2, 2) ∷ []) (net 3 3 ∷ net 2 3 ∷ [])

@@ -8,6 +8,7 @@ pub mod Examples
 pub mod FewerBlocks
 pub mod FreeBlocks
 pub mod FromRanges
+pub mod LawExamples
 pub mod LeastBlocks
 pub mod LeftParts
 pub mod LeftSets
@@ -20,4 +21,5 @@ pub mod Steps
 pub mod TextLaws
 pub mod Together
 pub mod Totals
+pub mod UnionCounts
 pub mod WholeSpace

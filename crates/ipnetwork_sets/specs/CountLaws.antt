@@ -49,3 +49,8 @@ TotalGoesOn = (w : ℕ) (before : List Network) (n : Network) → min (min (tota
 -- if addresses have one bit or more, a set has fewer blocks than there are addresses
 abbrev pub SetHasFewerBlocks : Type 0
 SetHasFewerBlocks = (w : ℕ) (blocks : List Network) → 1 ≤ w → IsAddressSet w blocks → length blocks < 2 ^ w
+
+-- the union of two sets has at most as many blocks as both have together
+abbrev pub UnionHasAtMost : Type 0
+UnionHasAtMost = (w : ℕ) (a b blocks : List Network) → IsAddressSet w a → IsAddressSet w b → IsLeastList w (InEither w a b) blocks
+    → length blocks ≤ length a + length b

@@ -37,7 +37,8 @@ impl<N: AddressSpace> Model for AddressSet<N> {
 impl<N: AddressSpace> AddressSet<N> {
     /// The set of the addresses of the networks, which may have host bits and stand in any order.
     ///
-    /// Sorts the networks and goes over them once. Keeps their memory.
+    /// Sorts the networks in their list, and goes over them once. `into_blocks` gives the list
+    /// back.
     ///
     /// ```
     /// let networks = vec![in rt.alloc(); "192.0.2.0/25".parse::<Ipv4Network>()?, "192.0.2.128/25".parse()?]?;
@@ -55,7 +56,7 @@ impl<N: AddressSpace> AddressSet<N> {
     /// The set with these blocks, if they are maximal in it, without host bits, and in ascending order. If they are
     /// not, the list is returned as the error; `from_networks` takes any list.
     ///
-    /// Goes over the list once. Keeps its memory.
+    /// Goes over the list once. `into_blocks` gives it back.
     ///
     /// ```
     /// let halves = vec![in rt.alloc(); "192.0.2.0/25".parse::<Ipv4Network>()?, "192.0.2.128/25".parse()?]?;
@@ -93,6 +94,23 @@ impl<N: AddressSpace> AddressSet<N> {
         ensures set { IsAddressSet N.WIDTH self.now }
     {
         self.blocks.as_slice()
+    }
+
+    /// The blocks as a list, in ascending order. It is the set's own, which may serve as the memory
+    /// for another set, such as a union.
+    ///
+    /// ```
+    /// let halves = ["192.0.2.0/25".parse::<Ipv4Network>()?, "192.0.2.128/25".parse()?];
+    /// let networks = Vec::from_array(rt.alloc(), halves)?;
+    /// let blocks = AddressSet::from_networks(networks).into_blocks();
+    /// assert_eq!(rt; blocks.as_slice(), ["192.0.2.0/24".parse()?].as_slice());
+    /// ```
+    pub fn into_blocks(self) -> Vec<N>
+        ensures blocks { map N.pair result.items ≡ self }
+        ensures set { IsAddressSet N.WIDTH self }
+    {
+        let AddressSet { blocks } = self;
+        blocks
     }
 
     /// Whether there is no address in the set.

@@ -1,6 +1,6 @@
 //! The laws of the operations on sets, for addresses of any number of bits. Each function's contract is laws; it does
 //! nothing, and a proof whose function calls it may use them.
-ghost use Rattle.ipnetwork_sets.specs.CountLaws.{AscendingIsOneList, UnionHasOneCount, RangesAreOneList, UnionHasOneRangeList, SetAddsUp, CommonPartAddsUp, DifferenceAddsUp, FreePartAddsUp, UnionAddsUp, TotalGoesOn, SetHasFewerBlocks};
+ghost use Rattle.ipnetwork_sets.specs.CountLaws.{AscendingIsOneList, UnionHasOneCount, RangesAreOneList, UnionHasOneRangeList, SetAddsUp, CommonPartAddsUp, DifferenceAddsUp, FreePartAddsUp, UnionAddsUp, TotalGoesOn, SetHasFewerBlocks, UnionHasAtMost};
 ghost use Rattle.ipnetwork_sets.specs.DifferenceLaws.{CommonPartIsSettled, DifferenceIsSettled, FreePartIsSettled, UnionIsSettled, DifferenceOfOne, DifferenceOfUnion, DifferenceOfCommonPart};
 ghost use Rattle.ipnetwork_sets.specs.Equality.{SameBlocksAreEqual};
 ghost use Rattle.ipnetwork_sets.specs.QuestionLaws.{NetworkMeetsUnion, WithinIfNothingIsLeft, DisjointIfNothingIsCommon, ComplementIsDisjoint, ComplementMakesTheWhole, FreePartIsADifference, ExclusionIsADifference, FreeBlockLiesInFreePart, AllAddressesAreCounted};
@@ -116,6 +116,11 @@ pub fn fewer_blocks()
 {
     laws::one_block();
 }
+
+/// A union has at most as many blocks as both sets have together.
+pub fn union_counts()
+    ensures { UnionHasAtMost }
+{}
 
 /// The addresses of the sets determine the blocks that each operation returns.
 pub fn settled()

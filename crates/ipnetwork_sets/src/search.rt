@@ -68,7 +68,8 @@ fn last_up_to<N: AddressSpace>(blocks: &[N], addr: N::Addr) -> Option<N>
 // Where the blocks begin among which the search goes on, and how many they are: two at the most.
 fn by_quarters<N: AddressSpace>(blocks: &[N], addr: N::Addr) -> (usize, usize)
     requires { AllPairs (λ a b. a.address < b.address) (map N.pair blocks.now) }
-    ensures { IsSplit (map N.pair blocks.now) (N.number addr) result.0 (result.0 + result.1) }
+    ensures few { result.1 ≤ 2 }
+    ensures split { IsSplit (map N.pair blocks.now) (N.number addr) result.0 (result.0 + result.1) }
 {
     let mut from = 0;
     let mut left = blocks.len();
@@ -80,7 +81,7 @@ fn by_quarters<N: AddressSpace>(blocks: &[N], addr: N::Addr) -> (usize, usize)
 
 // One step of the search among the `left` blocks from `from` on. It reads the last blocks of the first three quarters,
 // all at once, and goes on in one quarter: where that begins, and how many blocks are searched there, as many as the
-// last quarter has.
+// last quarter has: a quarter of them, and less than two more.
 fn quarter_of<N: AddressSpace>(
     blocks: &[N],
     addr: N::Addr,
@@ -90,10 +91,10 @@ fn quarter_of<N: AddressSpace>(
     requires ordered { AllPairs (λ a b. a.address < b.address) (map N.pair blocks.now) }
     requires some { 3 ≤ left }
     requires split { IsSplit (map N.pair blocks.now) (N.number addr) from (from + left) }
-    ensures fewer { result.1 < left }
+    ensures part { 4 * result.1 ≤ left + 6 }
     ensures split { IsSplit (map N.pair blocks.now) (N.number addr) result.0 (result.0 + result.1) }
 {
-    let quarter = (left - 3) / 4 + 1;
+    let quarter = size_of_quarter(left);
     let first = begins_up_to(blocks[from + (quarter - 1)], addr);
     let second = begins_up_to(blocks[from + (2 * quarter - 1)], addr);
     let third = begins_up_to(blocks[from + (3 * quarter - 1)], addr);
@@ -101,6 +102,15 @@ fn quarter_of<N: AddressSpace>(
         from + times_if(first, second, third, quarter),
         left - 3 * quarter,
     )
+}
+
+// How many blocks each of the first three quarters has: a quarter of one block more, rounded down.
+fn size_of_quarter(left: usize) -> usize
+    requires { 3 ≤ left }
+    ensures most { 4 * result ≤ left + 1 }
+    ensures least { left ≤ 4 * result + 2 }
+{
+    (left - 3) / 4 + 1
 }
 
 // The size once for each condition that holds. A sum of three is multiplied, since a compiler makes a branch of a

@@ -19,6 +19,7 @@ use std::marker::Model;
 /// assert!(rt; blocks.eq(["192.0.2.0/25".parse()?, "192.0.3.0/24".parse()?]));
 /// ```
 #[derive(Drop)]
+#[derive_where(Debug; N, N::Addr)]
 pub struct Union<'a, N: AddressSpace> {
     run: Option<RangeBlocks<N>>,
     first: &'a [N],

@@ -6,7 +6,7 @@ ghost use Rattle.ipnetwork_addr.specs.Reading.{Reads};
 ghost use Rattle.ipnetwork_witness.specs.Agreement.{Agree, SameV4};
 
 use crate::laws;
-use ipnetwork_addr::{AddrParseError, Ipv4Addr, laws as addresses};
+use ipnetwork_addr::{AddrParseError, Ipv4Addr};
 use std::net;
 
 /// What the two readers of IPv4 addresses return for a text, this library's and std's, which agree.
@@ -25,8 +25,7 @@ pub fn read_v4(
     ensures theirs { Parses IsIpv4Text text.now result.1 }
     ensures agree { Agree SameV4 result.0 result.1 }
 {
-    laws::v4_texts_are_shared();
-    addresses::v4_text_names_one();
+    laws::v4_readers_agree();
     (Ipv4Addr::read_bytes(text), net::Ipv4Addr::parse_ascii(text))
 }
 
@@ -50,18 +49,4 @@ pub fn agree_v4(
         },
         Err(_) => theirs.is_err(),
     }
-}
-
-/// Whether the two readers agree on a text as an IPv4 address: both return the same octets, or both refuse it. They
-/// do, on every text.
-///
-/// ```
-/// assert!(rt; same_v4(b"192.0.2.1"));
-/// assert!(rt; same_v4(b"192.0.2.01"));
-/// ```
-pub fn same_v4(text: &[u8]) -> bool
-    ensures { IsTrue result }
-{
-    let (ours, theirs) = read_v4(text);
-    agree_v4(&ours, &theirs)
 }

@@ -6,7 +6,7 @@ ghost use Rattle.ipnetwork_addr.specs.Reading.{Reads};
 ghost use Rattle.ipnetwork_witness.specs.Agreement.{Agree, SameV6};
 
 use crate::laws;
-use ipnetwork_addr::{AddrParseError, Ipv6Addr, laws as addresses};
+use ipnetwork_addr::{AddrParseError, Ipv6Addr};
 use std::net;
 
 /// What the two readers of IPv6 addresses return for a text, this library's and std's, which agree.
@@ -25,8 +25,7 @@ pub fn read_v6(
     ensures theirs { Parses IsIpv6Text text.now result.1 }
     ensures agree { Agree SameV6 result.0 result.1 }
 {
-    laws::v6_texts_are_shared();
-    addresses::v6_text_names_one();
+    laws::v6_readers_agree();
     (Ipv6Addr::read_bytes(text), net::Ipv6Addr::parse_ascii(text))
 }
 
@@ -50,18 +49,4 @@ pub fn agree_v6(
         },
         Err(_) => theirs.is_err(),
     }
-}
-
-/// Whether the two readers agree on a text as an IPv6 address: both return the same groups, or both refuse it. They
-/// do, on every text.
-///
-/// ```
-/// assert!(rt; same_v6(b"2001:db8::1"));
-/// assert!(rt; same_v6(b"1::2::3"));
-/// ```
-pub fn same_v6(text: &[u8]) -> bool
-    ensures { IsTrue result }
-{
-    let (ours, theirs) = read_v6(text);
-    agree_v6(&ours, &theirs)
 }

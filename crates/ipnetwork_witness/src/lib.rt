@@ -2,7 +2,7 @@
 //!
 //! std's addresses are proved against a grammar that was written independently. Here the definitions of
 //! `ipnetwork_addr` are checked against it: the laws say that both name the same addresses and print the same texts,
-//! and `same_v4` and `same_v6` read a text with both readers. No other crate uses this one.
+//! and that what the readers of both return for a text agrees. No other crate uses this one.
 //!
 //! Both sides take the text of a decimal number, the definition of a numeral and its value from std. An error in those
 //! would not be noticed here.
@@ -14,5 +14,5 @@ mod ipv4;
 mod ipv6;
 pub mod laws;
 
-pub use ipv4::{agree_v4, read_v4, same_v4};
-pub use ipv6::{agree_v6, read_v6, same_v6};
+pub use ipv4::{agree_v4, read_v4};
+pub use ipv6::{agree_v6, read_v6};

@@ -6,7 +6,7 @@ use Rattle.line_engine.specs.Outputs.{writer_of, waits_in, output_failed}
 use Rattle.cidr_filter.specs.Stands.{stand}
 use Rattle.std.specs.Prelude.{Err}
 use Rattle.cidr_filter.proofs.Failing.{or_none, none_or, or_on, no_read, read_works, not_read}
-use Rattle.cidr_filter.proofs.Kept.{held_fits, held_absent}
+use Rattle.cidr_filter.proofs.Kept.{held_fits, held_absent, kept_piece}
 use Rattle.cidr_filter.proofs.Filtering.{advances_nowhere, ended_ok, piece_more}
 use Rattle.cidr_filter.proofs.Stopping.{failed_now, read_stops, last_stops, endless_stops, piece_stops, long_stops}
 use Rattle.cidr_filter.proofs.log.filter_log.Goals as goal
@@ -66,6 +66,8 @@ pieces-preserved g c =
     let count = c.in-Ok.count in
     let start = c.in-Ok-filter_piece.start in
     let contents = g.W.Write.contents in
+    let next = c.in-Ok-held_of.count in
+    let front = kept_piece c.read_behind.new.buffer c.keep.new.buffer start (held + count) next c.in-Ok-held_of.ensures.within c.keep.ensures.front in
     let more = piece_more c.args.filter.now c.args.counts (g.R.Read.remaining (device_of c.args.reader.now)) (g.R.Read.remaining (device_of c.pieces.reader))
     (g.R.Read.remaining (device_of c.read_behind.new.reader))
     (stand (contents (writer_of c.args.output.now)) (waits_in c.args.output.now) c.args.tally.now)
@@ -73,12 +75,12 @@ pieces-preserved g c =
     (stand (contents (writer_of c.filter_piece.new.output)) (waits_in c.filter_piece.new.output) c.filter_piece.new.tally)
     c.pieces.buffer c.read_behind.new.buffer c.keep.new.buffer c.pieces.invariant.sofar.0 held count start c.in-Ok-held_of.count
     c.pieces.invariant.sofar.1 c.pieces.invariant.sofar.3 c.in-Ok.ensures.read c.in-Ok-filter_piece.ensures.within c.in-Ok-filter_piece.ensures.absent
-    c.in-Ok-filter_piece.ensures.advances c.keep.ensures.front c.in-Ok-held_of.ensures.held in
+    c.in-Ok-filter_piece.ensures.advances front c.in-Ok-held_of.ensures.held in
     record {
       fits = held_fits c.args.filter.now (held + count - start) c.in-Ok-held_of.count c.in-Ok-held_of.ensures.held;
       room = omega (arith, c.keep.ensures.length, c.read_behind.ensures.length, c.pieces.invariant.room);
-      absent = held_absent c.args.filter.now (take (held + count) c.read_behind.new.buffer) c.keep.new.buffer (held + count) start c.in-Ok-held_of.count
-          (length-take-le (held + count) c.read_behind.new.buffer c.in-Ok.ensures.read.0) c.keep.ensures.front c.in-Ok-filter_piece.ensures.absent c.in-Ok-held_of.ensures.held;
+      absent = held_absent (take (held + count) c.read_behind.new.buffer) c.keep.new.buffer start next
+          (omega (arith, length-take-le (held + count) c.read_behind.new.buffer c.in-Ok.ensures.read.0, c.in-Ok-held_of.ensures.within)) front c.in-Ok-filter_piece.ensures.absent;
       sofar = (more.0, more.1, omega (arith, more.2, c.pieces.invariant.sofar.2, c.if-count-room.false), more.3);
       reads = none_or _ _ c.in-Ok.ensures.failed ∙ c.pieces.invariant.reads;
       writes = none_or _ _ c.in-Ok-filter_piece.ensures.writer_failed ∙ c.pieces.invariant.writes;

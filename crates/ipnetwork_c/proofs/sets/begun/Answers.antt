@@ -3,11 +3,11 @@ use Rattle.std.proofs.lemmas.Bool.{iff_false}
 use Rattle.std.proofs.lemmas.List.{length-map}
 use Rattle.ipnetwork_family.specs.Network.{Network}
 use Rattle.ipnetwork_sets.proofs.Lists.{read_pair, not_below}
-use Rattle.ipnetwork_c.proofs.Searching.{search_starts, goes_behind, goes_before, split_met}
+use Rattle.ipnetwork_c.proofs.Searching.{search_starts, goes_behind, goes_before, split_met, between_all, between_behind, between_before, between_met}
 use Rattle.ipnetwork_c.proofs.sets.begun.Goals as goal
 
 pub loop-from-init : goal.loop-from-init
-loop-from-init g c = record { ordered = omega arith; within = omega arith; split = λ up. search_starts g.H.HoldsNetwork.held c.args.list.now (g.N.CidrNetwork.number c.args.addr) }
+loop-from-init g c = record { ordered = omega arith; within = omega arith; between = between_all g.H.HoldsNetwork.held c.args.list.now (g.N.CidrNetwork.number c.args.addr); split = λ up. search_starts g.H.HoldsNetwork.held c.args.list.now (g.N.CidrNetwork.number c.args.addr) }
 
 pub loop-from-preserved-then-begins_up_to : goal.loop-from-preserved-then-begins_up_to
 loop-from-preserved-then-begins_up_to g c =
@@ -21,6 +21,7 @@ loop-from-preserved-then-begins_up_to g c =
     record {
       ordered = omega arith;
       within = within;
+      between = between_behind ns (g.N.CidrNetwork.number c.args.addr) c.loop-from.from c.loop-from.to middle b c.loop-from.invariant.between is (c.begins_up_to.ensures.0 c.if-begins_up_to.true);
       split = λ up. goes_behind ns (g.N.CidrNetwork.number c.args.addr) c.loop-from.from c.loop-from.to middle b up (c.loop-from.invariant.split up) below is
           (c.begins_up_to.ensures.0 c.if-begins_up_to.true);
     }
@@ -37,6 +38,8 @@ loop-from-preserved g c =
     record {
       ordered = omega arith;
       within = omega arith;
+      between = between_before ns (g.N.CidrNetwork.number c.args.addr) c.loop-from.from c.loop-from.to middle b c.loop-from.invariant.between is
+          (not_below b.address (g.N.CidrNetwork.number c.args.addr) (iff_false c.begins_up_to.ensures c.if-begins_up_to.false));
       split = λ up. goes_before ns (g.N.CidrNetwork.number c.args.addr) c.loop-from.from c.loop-from.to middle b up (c.loop-from.invariant.split up) (omega arith) below is
           (not_below b.address (g.N.CidrNetwork.number c.args.addr) (iff_false c.begins_up_to.ensures c.if-begins_up_to.false));
     }
@@ -44,3 +47,10 @@ loop-from-preserved g c =
 pub returns-clause-split : goal.returns-clause-split
 returns-clause-split g c = λ up.
     split_met (map g.H.HoldsNetwork.held c.args.list.now) (g.N.CidrNetwork.number c.args.addr) c.loop-from.from c.loop-from.to (c.loop-from.invariant.split up) c.loop-from-test.false
+
+pub returns-clause-stands : goal.returns-clause-stands
+returns-clause-stands g c =
+    let size = length-map c.args.list.now g.H.HoldsNetwork.held in
+    let within = c.loop-from.invariant.within in
+    between_met (map g.H.HoldsNetwork.held c.args.list.now) (g.N.CidrNetwork.number c.args.addr) c.loop-from.from c.loop-from.to c.loop-from.invariant.between
+    c.loop-from.invariant.ordered c.loop-from-test.false (omega arith)

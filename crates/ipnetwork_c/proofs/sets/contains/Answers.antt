@@ -4,23 +4,47 @@ use Rattle.std.proofs.lemmas.List.{length-map}
 use Rattle.ipnetwork_family.specs.Network.{Network}
 use Rattle.ipnetwork_blocks.proofs.AggregateMapped.{read_map}
 use Rattle.ipnetwork_c.specs.Private.Sets.{SplitsAt}
-use Rattle.ipnetwork_c.proofs.Searching.{weakly, finds_none, finds_last}
+use Rattle.ipnetwork_c.proofs.Searching.{weakly, finds_none, finds_last, none_fits, last_fits, last_does_not_fit}
 use Rattle.ipnetwork_c.proofs.sets.contains.Goals as goal
 
-pub returns-then-count-eq0 : goal.returns-then-count-eq0
-returns-then-count-eq0 g c =
+pub returns-then-count-eq0-clause-answered : goal.returns-then-count-eq0-clause-answered
+returns-then-count-eq0-clause-answered g c =
     let ns : List Network = map g.H.HoldsNetwork.held c.args.list.now in
     let x : ℕ = g.N.CidrNetwork.number c.args.addr in
     finds_none g.N.CidrNetwork.WIDTH ns x c.one_block.ensures.one
     (λ up. subst (λ (i : ℕ). SplitsAt ns x i) c.if-count-eq0.true (c.begun-count.ensures.split (weakly ns up)))
 
-pub returns-then-not-fits : goal.returns-then-not-fits
-returns-then-not-fits g c = λ all.
+pub returns-then-count-eq0-clause-fits : goal.returns-then-count-eq0-clause-fits
+returns-then-count-eq0-clause-fits g c =
+    (c.begun-count.result, c.begun-count.ensures.stands, none_fits g.N.CidrNetwork.WIDTH (map g.H.HoldsNetwork.held c.args.list.now) c.begun-count.result c.if-count-eq0.true)
+
+pub returns-then-not-fits-clause-answered : goal.returns-then-not-fits-clause-answered
+returns-then-not-fits-clause-answered g c = λ all.
     iff_false c.fits.ensures c.if-not-fits.true
     (subst g.H.HoldsNetwork.holds (sym c.index-list-count.is) (all (c.begun-count.result - 1) c.index-list-count.result (omega (arith, c.begun-count.ensures.within))))
 
-pub returns : goal.returns
-returns g c =
+pub returns-then-not-fits-clause-fits : goal.returns-then-not-fits-clause-fits
+returns-then-not-fits-clause-fits g c =
+    let w : ℕ = g.N.CidrNetwork.WIDTH in
+    let ns : List Network = map g.H.HoldsNetwork.held c.args.list.now in
+    let size = length-map c.args.list.now g.H.HoldsNetwork.held in
+    let within = c.begun-count.ensures.within in
+    let last : Network = g.H.HoldsNetwork.held c.index-list-count.result in
+    let is = read_map g.H.HoldsNetwork.held c.args.list.now (c.begun-count.result - 1) c.index-list-count.result (omega arith) c.index-list-count.is in
+    (c.begun-count.result, c.begun-count.ensures.stands, last_does_not_fit w ns c.begun-count.result last (omega arith) (omega arith) is (λ fits. iff_false c.fits.ensures c.if-not-fits.true ((g.met.H.Listed.fitting c.index-list-count.result).1 fits)))
+
+pub returns-clause-fits : goal.returns-clause-fits
+returns-clause-fits g c =
+    let w : ℕ = g.N.CidrNetwork.WIDTH in
+    let ns : List Network = map g.H.HoldsNetwork.held c.args.list.now in
+    let size = length-map c.args.list.now g.H.HoldsNetwork.held in
+    let within = c.begun-count.ensures.within in
+    let last : Network = g.H.HoldsNetwork.held c.index-list-count.result in
+    let is = read_map g.H.HoldsNetwork.held c.args.list.now (c.begun-count.result - 1) c.index-list-count.result (omega arith) c.index-list-count.is in
+    (c.begun-count.result, c.begun-count.ensures.stands, last_fits w ns c.begun-count.result last is ((g.met.H.Listed.fitting c.index-list-count.result).0 (c.fits.ensures.0 c.if-not-fits.false)))
+
+pub returns-clause-answered : goal.returns-clause-answered
+returns-clause-answered g c =
     let w : ℕ = g.N.CidrNetwork.WIDTH in
     let ns : List Network = map g.H.HoldsNetwork.held c.args.list.now in
     let x : ℕ = g.N.CidrNetwork.number c.args.addr in

@@ -1,4 +1,4 @@
-use Rattle.std.proofs.Common.{◌≡◌, ◌-◌, ◌≤◌, ℕ, List, length, map, take, refl, sym, subst, ap, ◌∙◌, arith}
+use Rattle.std.proofs.Common.{◌≡◌, ◌+◌, ◌-◌, ◌≤◌, ℕ, List, length, map, take, refl, sym, subst, ap, ◌∙◌, arith}
 use Rattle.std.specs.List.{AllPairs}
 use Rattle.std.proofs.lemmas.Bool.{iff_false}
 use Rattle.std.proofs.lemmas.List.{length-map, length-take-le, take-map}
@@ -8,7 +8,11 @@ use Rattle.ipnetwork_blocks.proofs.AggregateMapped.{read_map}
 use Rattle.ipnetwork_c.specs.Held.{PrefixFits}
 use Rattle.ipnetwork_c.specs.Tables.{IsTable}
 use Rattle.ipnetwork_c.specs.Tables.TableQuery.{Found, NotFound, Refused}
+use Rattle.std.proofs.lemmas.Option.{slice_get_read}
+use Rattle.ipnetwork_c.specs.Searches.{StandsAt, LastFits, ComesTo}
+use Rattle.ipnetwork_c.specs.Searches.ComesTo.{First, On}
 use Rattle.ipnetwork_c.specs.Private.Sets.{SplitsAt}
+use Rattle.ipnetwork_c.proofs.Searching.{last_fits, last_does_not_fit}
 use Rattle.ipnetwork_c.proofs.TableFinding.{by_address, taken_ascends, search_begins, search_goes_on, search_finds, search_fails}
 use Rattle.ipnetwork_c.proofs.tables.find.Goals as goal
 
@@ -19,13 +23,20 @@ loop-end-init g c =
     record {
       within = c.begun-end.ensures.within;
       searched = λ t. search_begins w ns (g.N.CidrNetwork.number c.args.address) c.begun-end.result t (c.begun-end.ensures.split (by_address w ns t));
+      comes = First c.begun-end.result c.begun-end.ensures.stands;
       index = refl;
     }
 
 pub returns-then-not-fits : goal.returns-then-not-fits
 returns-then-not-fits g c =
+    let w : ℕ = g.N.CidrNetwork.WIDTH in
+    let ns : List Network = map g.H.HoldsNetwork.held c.args.blocks.now in
+    let size = length-map c.args.blocks.now g.H.HoldsNetwork.held in
     let within = c.loop-end.invariant.within in
-    Refused
+    let b : Network = g.H.HoldsNetwork.held c.index-blocks-end.result in
+    let is = read_map g.H.HoldsNetwork.held c.args.blocks.now (c.loop-end.end - 1) c.index-blocks-end.result (omega arith) c.index-blocks-end.is in
+    Refused c.loop-end.end c.loop-end.invariant.comes
+    (last_does_not_fit w ns c.loop-end.end b (omega arith) (omega arith) is (λ fits. iff_false c.fits.ensures c.if-not-fits.true ((g.met.H.Listed.fitting c.index-blocks-end.result).1 fits)))
     (λ all. iff_false c.fits.ensures c.if-not-fits.true ((g.met.H.Listed.fitting c.index-blocks-end.result).1
     (subst (λ h. PrefixFits g.N.CidrNetwork.WIDTH (g.H.HoldsNetwork.held h)) (sym c.index-blocks-end.is) (all (c.loop-end.end - 1) c.index-blocks-end.result (omega arith)))))
     refl c.loop-end.invariant.index
@@ -39,7 +50,10 @@ returns-then-contains g c =
     let b : Network = g.H.HoldsNetwork.held c.index-blocks-end.result in
     let is = read_map g.H.HoldsNetwork.held c.args.blocks.now (c.loop-end.end - 1) c.index-blocks-end.result (omega arith) c.index-blocks-end.is in
     let has : Member w b (g.N.CidrNetwork.number c.args.address) = rw c.held_network-block.ensures at (c.contains.ensures.0 c.if-contains.true) in
+    let again : c.loop-end.end ≡ c.loop-end.end - 1 + 1 = omega arith in
     Found refl (search_finds w ns (g.N.CidrNetwork.number c.args.address) c.loop-end.end b c.loop-end.invariant.searched (omega arith) (omega arith) is has)
+    (subst (ComesTo w ns (g.N.CidrNetwork.number c.args.address)) again c.loop-end.invariant.comes)
+    (subst (LastFits w ns) again (last_fits w ns c.loop-end.end b is ((g.met.H.Listed.fitting c.index-blocks-end.result).0 (c.fits.ensures.0 c.if-not-fits.false))))
 
 pub loop-end-preserved : goal.loop-end-preserved
 loop-end-preserved g c =
@@ -64,7 +78,18 @@ loop-end-preserved g c =
     subst (λ (y : ℕ). SplitsAt (take (end - 1) ns) y next) bound_is
     (subst (λ (l : List Network). SplitsAt l (g.N.CidrNetwork.number c.ip-in-loop-end.result) next) (sym part)
     (c.begun-end-in-loop-end.ensures.split (subst (λ (l : List Network). AllPairs (λ a b. a.address ≤ b.address) l) part (taken_ascends ns (end - 1) (omega arith) (by_address w ns t))))) in
+    let again : end ≡ end - 1 + 1 = omega arith in
+    let stands : StandsAt (take (end - 1) ns) (block_at w x shared).address next =
+    subst (λ (y : ℕ). StandsAt (take (end - 1) ns) y next) bound_is
+    (subst (λ (l : List Network). StandsAt l (g.N.CidrNetwork.number c.ip-in-loop-end.result) next) (sym part) c.begun-end-in-loop-end.ensures.stands) in
     record {
+      comes = On (end - 1) shared next b (subst (ComesTo w ns x) again c.loop-end.invariant.comes)
+          (record {
+            here = slice_get_read ns (length ns) (end - 1) b refl (omega arith) is;
+            fits = (g.met.H.Listed.fitting c.index-blocks-end.result).0 (c.fits.ensures.0 c.if-not-fits.false);
+            has_not = not;
+          })
+          shares stands;
       within = omega (arith, less);
       searched = λ t. search_goes_on w ns x end next shared b t (c.loop-end.invariant.searched t) c.block_at-around.ensures.address (omega arith) (omega arith) is not shares less (split t);
       index = c.loop-end.invariant.index;
@@ -72,6 +97,8 @@ loop-end-preserved g c =
 
 pub returns : goal.returns
 returns g c =
+    let none : c.loop-end.end ≡ 0 = omega arith in
     NotFound refl
     (search_fails g.N.CidrNetwork.WIDTH (map g.H.HoldsNetwork.held c.args.blocks.now) (g.N.CidrNetwork.number c.args.address) c.loop-end.end c.loop-end.invariant.searched (omega arith))
+    (subst (ComesTo g.N.CidrNetwork.WIDTH (map g.H.HoldsNetwork.held c.args.blocks.now) (g.N.CidrNetwork.number c.args.address)) none c.loop-end.invariant.comes)
     c.loop-end.invariant.index

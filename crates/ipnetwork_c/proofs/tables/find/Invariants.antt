@@ -1,4 +1,5 @@
 use Rattle.std.proofs.Common.{◌≡◌, ◌≤◌, length, map}
+use Rattle.ipnetwork_c.specs.Searches.{ComesTo}
 use Rattle.ipnetwork_c.specs.Tables.{IsTable}
 use Rattle.ipnetwork_c.proofs.TableFinding.{IsSearched}
 use Rattle.ipnetwork_c.proofs.tables.find.Given as goal
@@ -7,6 +8,7 @@ abbrev pub invariant-loop-end : goal.invariant-loop-end
 invariant-loop-end g l = record {
   within : l.end ≤ length l.blocks;
   searched : IsTable g.N.CidrNetwork.WIDTH (map g.H.HoldsNetwork.held l.blocks) → IsSearched g.N.CidrNetwork.WIDTH (map g.H.HoldsNetwork.held l.blocks) (g.N.CidrNetwork.number l.address) l.end;
+  comes : ComesTo g.N.CidrNetwork.WIDTH (map g.H.HoldsNetwork.held l.blocks) (g.N.CidrNetwork.number l.address) l.end;
   index : l.index ≡ l.initial.index;
 }
 

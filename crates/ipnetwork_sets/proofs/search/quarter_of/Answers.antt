@@ -1,4 +1,4 @@
-use Rattle.std.proofs.Common.{◌≡◌, ◌+◌, ◌-◌, ◌*◌, ◌/◌, ◌<◌, ◌≤◌, ℕ, List, get_or, map, sym, subst, arith}
+use Rattle.std.proofs.Common.{◌≡◌, ◌+◌, ◌-◌, ◌*◌, ◌<◌, ◌≤◌, ℕ, List, get_or, map, sym, subst, arith}
 use Rattle.std.proofs.lemmas.List.{length-map}
 use Rattle.ipnetwork_family.specs.Network.{Network}
 use Rattle.ipnetwork_sets.specs.Private.Search.{IsSplit}
@@ -7,23 +7,24 @@ use Rattle.ipnetwork_sets.proofs.Searched.{at_most, split_quarters}
 use Rattle.ipnetwork_sets.proofs.search.quarter_of.Goals as goal
 
 pub bounds-blocks-from : goal.bounds-blocks-from
-bounds-blocks-from g c = omega (arith, length-map c.args.blocks.now g.N.CidrNetwork.pair, c.requires.split.within, c.requires.some)
+bounds-blocks-from g c = omega (arith, length-map c.args.blocks.now g.N.CidrNetwork.pair, c.requires.split.within, c.requires.some, c.size_of_quarter-quarter.ensures.most, c.size_of_quarter-quarter.ensures.least)
 
 pub bounds-blocks-from-2 : goal.bounds-blocks-from-2
-bounds-blocks-from-2 g c = omega (arith, length-map c.args.blocks.now g.N.CidrNetwork.pair, c.requires.split.within, c.requires.some)
+bounds-blocks-from-2 g c = omega (arith, length-map c.args.blocks.now g.N.CidrNetwork.pair, c.requires.split.within, c.requires.some, c.size_of_quarter-quarter.ensures.most, c.size_of_quarter-quarter.ensures.least)
 
 pub bounds-blocks-from-3 : goal.bounds-blocks-from-3
-bounds-blocks-from-3 g c = omega (arith, length-map c.args.blocks.now g.N.CidrNetwork.pair, c.requires.split.within, c.requires.some)
+bounds-blocks-from-3 g c = omega (arith, length-map c.args.blocks.now g.N.CidrNetwork.pair, c.requires.split.within, c.requires.some, c.size_of_quarter-quarter.ensures.most, c.size_of_quarter-quarter.ensures.least)
 
 pub overflow_add-result : goal.overflow_add-result
 overflow_add-result g c =
-    let p : ℕ = (c.args.left - 3) / 4 + 1 in
+    let p : ℕ = c.size_of_quarter-quarter.result in
     omega (
       arith,
       length-map c.args.blocks.now g.N.CidrNetwork.pair,
       c.requires.split.within,
       c.requires.some,
       c.times_if.ensures,
+      c.size_of_quarter-quarter.ensures.most,
       at_most c.begins_up_to-first.result p,
       at_most c.begins_up_to-second.result p,
       at_most c.begins_up_to-third.result p,
@@ -36,9 +37,9 @@ returns-clause-split g c =
     let size = length-map c.args.blocks.now g.N.CidrNetwork.pair in
     let from : ℕ = c.args.from in
     let left : ℕ = c.args.left in
-    let p : ℕ = (left - 3) / 4 + 1 in
-    let some : 0 < p = omega arith in
-    let fits : 4 * p ≤ left + 1 = omega (arith, c.requires.some) in
+    let p : ℕ = c.size_of_quarter-quarter.result in
+    let some : 0 < p = omega (arith, c.requires.some, c.size_of_quarter-quarter.ensures.least) in
+    let fits : 4 * p ≤ left + 1 = c.size_of_quarter-quarter.ensures.most in
     let within = c.requires.split.within in
     let a : Network = g.N.CidrNetwork.pair c.index-blocks-from.result in
     let b : Network = g.N.CidrNetwork.pair c.index-blocks-from-2.result in

@@ -1,7 +1,15 @@
-use Rattle.ipnetwork_family.proofs.Bits.{contains_by_mask}
+use Rattle.ipnetwork_addr.proofs.EightSegments.{made_of}
+use Rattle.ipnetwork_family.proofs.EightSegments.{number_of_mask, agree_under}
 use Rattle.ipnetwork_family.proofs.ipv6.Ipv6AddrAddress.agrees.Goals as goal
 
 pub returns : goal.returns
 returns c =
-    let h = contains_by_mask 128 c.args.prefix c.from-2.result c.from.result c.host_ones-mask.result c.requires c.from-2.type_inv c.from.type_inv c.host_ones-mask.ensures in
-    rw (← c.from.ensures, ← c.from-2.ensures) ((λ t. (h.0 t).1), (λ e. h.1 (c.from.type_inv, e)))
+    let whole = agree_under c.args.self c.args.other c.args.prefix c.requires
+    c.segments.ensures.bound c.segments-2.ensures.bound in
+    let asked = rw (
+      made_of c.segments.result c.args.self c.segments.ensures.bound c.segments.ensures.segments,
+      made_of c.segments-2.result c.args.other c.segments-2.ensures.bound
+          c.segments-2.ensures.segments,
+      number_of_mask c.args.prefix c.mask_segments.result.now c.requires c.mask_segments.ensures,
+    ) at c.agree.ensures in
+    ((λ t. whole.0 (asked.0 t)), (λ e. asked.1 (whole.1 e)))

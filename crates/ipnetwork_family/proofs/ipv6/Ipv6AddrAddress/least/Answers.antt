@@ -1,5 +1,13 @@
-use Rattle.ipnetwork_family.proofs.Bits.{clear_hosts}
+use Rattle.std.proofs.Common.{ap₂, ◌∙◌, bit_and}
+use Rattle.ipnetwork_addr.proofs.EightSegments.{made_of}
+use Rattle.ipnetwork_family.proofs.EightSegments.{number_of_mask, least_under}
 use Rattle.ipnetwork_family.proofs.ipv6.Ipv6AddrAddress.least.Goals as goal
 
 pub returns : goal.returns
-returns c = rw (c.from-2.ensures, c.host_ones.ensures, ← c.from.ensures) (clear_hosts 128 c.args.prefix c.from.result c.requires c.from.type_inv)
+returns c =
+    c.from.ensures
+    ∙ c.kept.ensures
+    ∙ ap₂ bit_and (made_of c.segments.result c.args.self c.segments.ensures.bound
+    c.segments.ensures.segments)
+    (number_of_mask c.args.prefix c.mask_segments.result.now c.requires c.mask_segments.ensures)
+    ∙ least_under c.args.self c.args.prefix c.requires c.segments.ensures.bound

@@ -1,6 +1,22 @@
-use Rattle.std.proofs.Common.{refl}
-use Rattle.ipnetwork_family.proofs.Masks.{no_mask}
+use Rattle.std.proofs.Common.{◌≡◌, ◌-◌, ◌∙◌, ap, sym}
+use Rattle.std.specs.Int.Count.{count_leading_zeros}
+use Rattle.std.specs.List.{sum_by}
+use Rattle.std.proofs.lemmas.Bool.{true≢false}
+use Rattle.std.proofs.lemmas.Bool.Decides.{Decides-eqb}
+use Rattle.std.proofs.lemmas.Slice.Eq.{slice_eq-Decides}
+use Rattle.ipnetwork_addr.specs.Digits.{segments_of}
+use Rattle.ipnetwork_family.specs.Network.{mask_of}
+use Rattle.ipnetwork_family.proofs.EightSegments.{ones_of_mask}
 use Rattle.ipnetwork_family.proofs.ipv6.Ipv6AddrAddress.prefix_of_mask.Goals as goal
 
-pub returns-else-mask-host_ones : goal.returns-else-mask-host_ones
-returns-else-mask-host_ones c = rw (← c.from-mask.ensures) (no_mask 128 c.from-mask.result _ c.host_ones.result refl c.host_ones.ensures c.if-mask-host_ones.false)
+pub returns-else-eq : goal.returns-else-eq
+returns-else-eq c = λ p below e.
+    let is : c.segments-segments.result ≡ segments_of (mask_of 128 p) =
+    c.segments-segments.ensures.segments ∙ ap segments_of e in
+    let found : c.leading_ones-prefix.result ≡ p = c.leading_ones-prefix.ensures.sum
+    ∙ ap (sum_by (λ segment. count_leading_zeros 16 (65535 - segment))) is
+    ∙ ones_of_mask p below in
+    let same : c.segments-segments.result ≡ c.mask_segments.result.now = is
+    ∙ ap (λ q. segments_of (mask_of 128 q)) (sym found) ∙ sym c.mask_segments.ensures in
+    true≢false (sym ((slice_eq-Decides Decides-eqb c.segments-segments.result
+    c.mask_segments.result.now c.eq.result c.eq.ensures).1 same) ∙ c.if-eq.false)

@@ -1,0 +1,81 @@
+"""What a row of a column may be, and the text that stands for it."""
+
+from __future__ import annotations
+
+import sys
+from collections.abc import Iterator, Mapping
+from ipaddress import IPv4Address, IPv4Network, IPv6Address, IPv6Network
+from numbers import Real
+from typing import TYPE_CHECKING, Any, Protocol, TypeVar, Union
+
+if TYPE_CHECKING:
+    from . import IPv4Network as _OwnV4
+    from . import IPv6Network as _OwnV6
+
+    _Address = Union[IPv4Address, IPv6Address]
+    _Network = Union[_OwnV4, _OwnV6, IPv4Network, IPv6Network]
+    #: A text, as str or as bytes in ASCII; an address or an interface; a network of one address;
+    #: or None or NaN, for no text.
+    Row = Union[str, bytes, _Address, _Network, float, None]
+    _Row = TypeVar("_Row", covariant=True, bound=Row)
+
+    class Rows(Protocol[_Row]):
+        """A list, a tuple or an array of rows. A single str or bytes is none: whether it contains
+        something may not be asked of every object."""
+
+        def __contains__(self, value: object, /) -> bool: ...
+        def __iter__(self) -> Iterator[_Row]: ...
+
+    #: What a column may be.
+    Column = Union[Rows[Row], Iterator[Row]]
+
+
+def rows_of(given: object) -> list[object]:
+    """The rows of a column, as a list. TypeError of what is none: a single text, a buffer, a
+    mapping, a table of columns."""
+    kind = type(given).__name__
+    if isinstance(given, (str, bytes, bytearray, memoryview, Mapping)):
+        raise TypeError(f"a column is a list, an array or a Series of rows, not one {kind}")
+    shape = getattr(given, "shape", None)
+    if shape is not None and len(shape) != 1:
+        raise TypeError(f"a column has one dimension, and this {kind} has {len(shape)}")
+    column: Any = given
+    rows: list[object] = column.tolist() if hasattr(column, "tolist") else list(column)
+    return rows
+
+
+def _text(number: int, row: object, missing: tuple[object, ...]) -> Union[str, bytes, None]:
+    if isinstance(row, str):
+        # A text with half a surrogate pair, which has no UTF-8, is no address; "?" neither.
+        return row.encode("utf-8", "replace").decode()
+    if isinstance(row, bytes):
+        return row
+    if any(row is each for each in missing) or (isinstance(row, Real) and row != row):
+        return None
+    if isinstance(row, IPv4Address):
+        return IPv4Address.__str__(row)
+    if isinstance(row, IPv6Address):
+        return IPv6Address.__str__(row)
+    if isinstance(row, _networks()):
+        network: Any = row
+        if network.num_addresses == 1:
+            return str(network.network_address)
+        raise TypeError(f"row {number}: {network!r} has more than one address")
+    raise TypeError(
+        f"row {number}: {type(row).__name__} is neither a text nor an address of ipaddress nor None"
+        + (": numbers are taken by the keyword numbers" if isinstance(row, Real) else "")
+    )
+
+
+def _networks() -> tuple[type, ...]:
+    from . import _core
+
+    return (_core.V4, _core.V6, IPv4Network, IPv6Network)
+
+
+def texts_of(rows: list[object]) -> list[Union[str, bytes, None]]:
+    """Each row as a text, or as None where there is none. TypeError, with the number of the row
+    and its type, of a row that is not one of ``Row``."""
+    pandas = sys.modules.get("pandas")
+    missing = (None, getattr(pandas, "NA", None), getattr(pandas, "NaT", None))
+    return [_text(number, row, missing) for number, row in enumerate(rows)]

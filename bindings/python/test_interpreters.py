@@ -1,0 +1,171 @@
+"""Two interpreters of one process at once, each with the package of its own, and several threads of one interpreter.
+
+    test_interpreters.py [unittest's arguments]
+
+Before Python 3.12 the interpreters take turns under one lock; from then on each has its own. What the Python that runs this
+has not is skipped by name.
+"""
+
+import gc
+import importlib.util
+import os
+import sys
+import threading
+import unittest
+import weakref
+from ipaddress import IPv4Address
+
+import ipnetwork
+
+try:
+    import _interpreters as interpreters  # from Python 3.13 on
+except ImportError:
+    try:
+        import _xxsubinterpreters as interpreters
+    except ImportError:
+        interpreters = None
+
+HERE = os.path.dirname(os.path.abspath(__file__))
+
+# What each interpreter asks. `ipnetwork` is imported there once, and `first` is what its classes were at that time.
+ASKED = """
+import array, ipaddress, sys
+sys.path.insert(0, {here!r})
+import ipnetwork
+first = globals().setdefault("first", (ipnetwork.IPv4Network, ipnetwork.IPv6Network))
+assert (ipnetwork.IPv4Network, ipnetwork.IPv6Network) == first
+four, six = ipnetwork.ip_network("10.1.9.32/16"), ipnetwork.ip_network("2001:db8::/32")
+assert (type(four), type(six)) == first, (type(four), type(six), first)
+assert ipaddress.ip_address("10.1.2.3") in four and ipaddress.ip_address("10.2.0.0") not in four
+assert four.subnet_of(ipnetwork.IPv4Network("10.0.0.0/8")) and not four.overlaps(six)
+assert (str(four.netmask), str(four.network_address), four.num_addresses) == ("255.255.0.0", "10.1.0.0", 65536)
+assert (str(four[-1]), four == ipnetwork.IPv4Network(str(four)), four < four) == ("10.1.255.255", True, False)
+allowed, table = ipnetwork.AddressSet([four, six]), ipnetwork.Table([six, four])
+for turn in range({turns}):
+    rows, faults = ipnetwork.read_address_column(b"10.1.2.38.8.8.8::1x", array.array("I", [0, 8, 15, 18, 19]))
+    assert (list(allowed.contains_column(rows)), list(faults)) == ([1, 0, 0, 0], [0, 0, 0, 2])
+    assert memoryview(table.find_column(rows)).cast("q").tolist() == [1, -1, -1, -1]
+    assert list(map(str, ipnetwork.IPv4Network("10.0.0.0/8").subnets())) == ["10.0.0.0/9", "10.128.0.0/9"]
+for wrong, error in (("10.0.0.0/99", ipnetwork.PrefixError), ("a/b/c", ipnetwork.FormatError), ("x", ipnetwork.AddressError)):
+    try:
+        ipnetwork.IPv4Network(wrong)
+    except error:
+        pass
+    else:
+        raise AssertionError(wrong)
+try:
+    "10.1.2.3" in allowed
+except TypeError:
+    pass
+else:
+    raise AssertionError("a text is no address")
+"""
+
+
+def asked(turns):
+    return ASKED.format(here=HERE, turns=turns)
+
+
+def run(number, code):
+    """Runs code in an interpreter, and raises what it raises."""
+    told = interpreters.run_string(number, code)
+    if told is not None:  # from Python 3.13 on it is given back
+        raise AssertionError(getattr(told, "formatted", told))
+
+
+def at_once(calls):
+    """Runs calls in threads of their own, and raises what one of them raises."""
+    errors = []
+
+    def kept(call):
+        try:
+            call()
+        except BaseException as error:
+            errors.append(error)
+
+    threads = [threading.Thread(target=kept, args=(call,)) for call in calls]
+    for thread in threads:
+        thread.start()
+    for thread in threads:
+        thread.join()
+    if errors:
+        raise errors[0]
+
+
+@unittest.skipIf(interpreters is None, "this Python has no module for interpreters")
+@unittest.skipIf(ipnetwork.CORE == "ctypes" and sys.version_info[:2] == (3, 12), "_ctypes of Python 3.12 is of one interpreter")
+class Interpreters(unittest.TestCase):
+    def test_in_turn(self):
+        own = {}
+        exec(asked(1), own)
+        one, other = interpreters.create(), interpreters.create()
+        for number in (one, other, one):
+            run(number, asked(1))
+            exec(asked(1), own)
+        interpreters.destroy(one)
+        run(other, asked(1))
+        exec(asked(1), own)
+        interpreters.destroy(other)
+        exec(asked(1), own)
+
+    def test_at_once(self):
+        numbers = [interpreters.create() for _ in range(2)]
+        at_once([lambda number=number: run(number, asked(3000)) for number in numbers] + [lambda: exec(asked(3000), {})])
+        for number in numbers:
+            interpreters.destroy(number)
+        exec(asked(1), {})
+
+    def test_many_in_a_row(self):
+        for _ in range(10):
+            number = interpreters.create()
+            run(number, asked(1))
+            interpreters.destroy(number)
+
+
+class Threads(unittest.TestCase):
+    def test_what_is_kept_is_made_once(self):
+        for _ in range(200):
+            networks = [ipnetwork.IPv4Network("10.1.9.32/16"), ipnetwork.IPv6Network("2001:db8::/32")]
+            told = []
+            parts = ("ip", "netmask", "network_address", "broadcast_address", "num_addresses")
+
+            def ask():
+                told.append([(str(net), *(getattr(net, part) for part in parts), len(list(net.subnets()))) for net in networks])
+
+            at_once([ask] * 4)
+            self.assertEqual(told, [told[0]] * 4)
+            self.assertEqual(told[0][0][1:3], (IPv4Address("10.1.9.32"), IPv4Address("255.255.0.0")))
+
+    def test_columns(self):
+        at_once([lambda: exec(asked(2000), {})] * 4)
+
+    @unittest.skipUnless(hasattr(sys, "_is_gil_enabled") and not sys._is_gil_enabled(), "no Python with free threads")
+    def test_free(self):
+        exec(asked(1), {})
+        self.assertFalse(sys._is_gil_enabled())
+
+
+@unittest.skipIf(ipnetwork.CORE == "ctypes", "there is no module of C")
+class Modules(unittest.TestCase):
+    def test_a_module_is_released(self):
+        def used():
+            spec = importlib.util.spec_from_file_location("ipnetwork._native", ipnetwork._core.__file__)
+            module = importlib.util.module_from_spec(spec)
+            spec.loader.exec_module(module)
+            four, six = type("Four", (module.V4,), {"version": 4}), type("Six", (module.V6,), {"version": 6})
+            module.register(four, six)
+            four.some = module.ip_network("10.0.0.0/8").netmask
+            self.assertIsNot(module.V4, ipnetwork._core.V4)
+            self.assertIsInstance(module.ip_network("::1"), six)
+            with self.assertRaises(TypeError):
+                module.of_rows(ipnetwork.IPv4Network, bytes(5))
+            return weakref.ref(module), weakref.ref(module.V4), weakref.ref(four)
+
+        for _ in range(20):
+            references = used()
+            gc.collect()
+            self.assertEqual([reference() for reference in references], [None] * 3)
+
+
+if __name__ == "__main__":
+    unittest.main()

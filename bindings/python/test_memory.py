@@ -1,0 +1,117 @@
+"""Calls in loops, the refused ones too: what is in use afterwards is what was in use before."""
+
+import array
+import gc
+import pickle
+import sys
+import tracemalloc
+import unittest
+from ipaddress import IPv4Address, IPv6Address, ip_interface
+
+import ipnetwork
+from ipnetwork import AddressSet, IPv4Network, IPv6Network, Table, ip_network
+
+TEXTS, OFFSETS = b"10.1.2.38.8.8.8::1x", array.array("I", [0, 8, 15, 18, 19])
+NETWORKS = [ip_network("10.0.0.0/8"), ip_network("2001:db8::/32"), ip_network("10.1.9.32/16")]
+SET, OTHER, TABLE = AddressSet(NETWORKS), AddressSet([ip_network("10.64.0.0/10")]), Table(NETWORKS)
+ROWS, _ = ipnetwork.read_address_column(TEXTS, OFFSETS)
+LEAST = 4000  # an object that is lost in each of 500 calls takes at least 8000 bytes
+LAID = [["10.1.2.3", b"::1", None, float("nan")], ["10.1.2.3", "\udcff"], ["10.1.2.3", 7]]
+
+
+def parts(network):
+    for part in ("ip", "netmask", "network_address", "broadcast_address", "num_addresses", "prefixlen"):
+        getattr(network, part)
+    return str(network), hash(network), network == network, network < network, network[0], network[-1], repr(network)
+
+
+CALLS = {
+    "read": lambda: (parts(IPv4Network("10.1.9.32/30")), parts(IPv6Network("::1:2/126")), ip_network("::1"), ip_network(b"\1\2\3\4")),
+    "made": lambda: (IPv4Network.of(IPv4Address("10.0.0.1"), 8), IPv6Network.prefix_of_mask(IPv6Address("ffff::"))),
+    "members": lambda: (list(IPv4Network("10.1.9.32/30")), list(IPv6Network("::1:2/126"))),
+    "asked": lambda: [IPv4Address("10.1.2.3") in NETWORKS[0], IPv6Address("fe80::1%eth0") in NETWORKS[1], NETWORKS[0] in NETWORKS[0]],
+    "two": lambda: [NETWORKS[2].subnet_of(NETWORKS[0]), NETWORKS[0].supernet_of(NETWORKS[2]), NETWORKS[0].overlaps(NETWORKS[1])],
+    "subnets": lambda: list(NETWORKS[2].subnets(2)),
+    "collapse": lambda: list(ipnetwork.collapse_addresses([NETWORKS[0], NETWORKS[2]])),
+    "sets": lambda: (AddressSet(NETWORKS), SET | OTHER, SET & OTHER, SET - OTHER, list(SET), IPv4Address("10.1.2.3") in SET),
+    "tables": lambda: (Table(NETWORKS), TABLE.find(IPv4Address("10.1.2.3")), TABLE.find(IPv6Address("::")), TABLE.find_column(ROWS)),
+    "columns": lambda: (ipnetwork.read_address_column(TEXTS, OFFSETS), IPv4Network.read_column(TEXTS, OFFSETS), SET.contains_column(ROWS)),
+    "printed": lambda: (ipnetwork.print_address_column(ROWS[:51]), IPv4Network.print_column(bytes(10)), NETWORKS[0].contains_column(bytes(8))),
+    "laid": lambda: [ipnetwork._core.layout(rows, None) for rows in LAID],
+    "ipaddress": lambda: (NETWORKS[0].to_ipaddress(), IPv4Network.from_ipaddress(ip_interface("10.0.0.1/8")), pickle.loads(pickle.dumps(NETWORKS))),
+}
+REFUSED = {
+    "text": lambda: IPv4Network("10.0.0.0/99"),
+    "either": lambda: ip_network("x"),
+    "type": lambda: ip_network(7),
+    "again": lambda: NETWORKS[0].__init__("::"),
+    "prefix": lambda: IPv4Network.of(IPv4Address("10.0.0.1"), 99),
+    "mask": lambda: IPv4Network.prefix_of_mask(IPv4Address("10.0.0.1")),
+    "nth": lambda: NETWORKS[0][2**200],
+    "member": lambda: "10.0.0.1" in NETWORKS[0],
+    "family": lambda: NETWORKS[0].subnet_of(NETWORKS[1]),
+    "set": lambda: "10.0.0.1" in SET,
+    "table": lambda: TABLE.find("10.0.0.1"),
+    "part": lambda: SET.contains_column(bytes(16)),
+    "row": lambda: SET.contains_column(bytes(16) + b"\5"),
+    "row of a table": lambda: TABLE.find_column(bytes(16) + b"\5"),
+    "words": lambda: SET.contains_column(array.array("I", [1])),
+    "words of a network": lambda: NETWORKS[0].contains_column(array.array("I", [1])),
+    "offsets": lambda: ipnetwork.read_address_column(TEXTS, array.array("I", [9, 1])),
+    "no offsets": lambda: ipnetwork.read_address_column(TEXTS, array.array("Q", [0])),
+    "printed": lambda: IPv4Network.print_column(bytes(4) + b"\x63"),
+}
+
+
+def used(call, turns):
+    """How many bytes more are in use after a call, many times: the least of some rounds, since what others keep grows once."""
+    rounds = []
+    for _ in range(4):
+        gc.collect()
+        before = tracemalloc.get_traced_memory()[0]
+        for _ in range(turns):
+            call()
+        gc.collect()
+        rounds.append(tracemalloc.get_traced_memory()[0] - before)
+        if rounds[-1] < LEAST:
+            break
+    return min(rounds)
+
+
+class Memory(unittest.TestCase):
+    def setUp(self):
+        tracemalloc.start()
+
+    def tearDown(self):
+        tracemalloc.stop()
+
+    def test_calls(self):
+        for name, call in CALLS.items():
+            with self.subTest(name):
+                self.assertLess(used(call, 500), LEAST)
+
+    def test_refusals(self):
+        for name, call in REFUSED.items():
+
+            def refused():
+                with self.assertRaises((ValueError, TypeError, IndexError)):
+                    call()
+
+            with self.subTest(name):
+                self.assertLess(used(refused, 500), LEAST)
+
+    @unittest.skipIf(sys.version_info >= (3, 12) or not hasattr(sys, "getrefcount"), "references of these objects are not counted")
+    def test_references(self):
+        kept = [None, NotImplemented, True, False]
+        for call in CALLS.values():
+            call()
+        before = [sys.getrefcount(each) for each in kept]
+        for call in CALLS.values():
+            for _ in range(1000):
+                call()
+        for each, count in zip(kept, before):
+            self.assertLess(abs(sys.getrefcount(each) - count), 500, each)
+
+
+if __name__ == "__main__":
+    unittest.main()

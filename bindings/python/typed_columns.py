@@ -1,0 +1,41 @@
+"""Which columns the type hints take, and which they refuse, for `mypy --strict`: a line with "type: ignore" is to be refused."""
+
+from collections.abc import Iterator
+from ipaddress import IPv4Address, ip_interface
+from typing import Union
+
+import numpy
+
+from ipnetwork import AddressSet, IPv4Network, Table, ip_network
+from ipnetwork.columns import find, is_member, layout, read_addresses
+
+which, table = AddressSet([ip_network("10.0.0.0/8")]), Table([ip_network("10.0.0.0/8")])
+texts: list[str] = ["10.1.2.3"]
+rows: list[Union[str, None]] = ["10.1.2.3", None]
+
+
+def each() -> Iterator[IPv4Address]:
+    yield IPv4Address("10.1.2.3")
+
+
+is_member(texts, which)
+is_member(rows, IPv4Network("10.0.0.0/8"))
+is_member([IPv4Address("10.1.2.3"), ip_interface("::1"), ip_network("10.1.2.3"), b"10.1.2.3", None, float("nan")], which)
+is_member(tuple(texts), which)
+is_member(each(), which)
+is_member(numpy.array(texts), which)
+is_member(numpy.array([1], numpy.uint32), which, numbers=4)
+find(texts, table)
+find(numpy.array([[0, 1]], numpy.uint64), table, numbers=6)
+layout(texts)
+read_addresses(rows)
+
+is_member("10.1.2.3", which)  # type: ignore[arg-type]
+is_member(b"10.1.2.3", which)  # type: ignore[arg-type]
+is_member([object()], which)  # type: ignore[list-item]
+is_member([["10.1.2.3"]], which)  # type: ignore[list-item]
+is_member(texts, texts)  # type: ignore[arg-type]
+is_member(texts, which, numbers=32)  # type: ignore[arg-type]
+find("10.1.2.3", table)  # type: ignore[arg-type]
+layout("10.1.2.3")  # type: ignore[arg-type]
+read_addresses("10.1.2.3")  # type: ignore[arg-type]

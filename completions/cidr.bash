@@ -1,0 +1,2 @@
+# Completion of bash for cidr, which takes no arguments.
+complete -W "" cidr

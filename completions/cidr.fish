@@ -1,0 +1,2 @@
+# Completion of fish for cidr, which takes no arguments.
+complete -c cidr -f

@@ -1,0 +1,15 @@
+# Completion of bash for cidr_filter: its options, and files.
+_cidr_filter() {
+    local word="${COMP_WORDS[COMP_CWORD]}" before="${COMP_WORDS[COMP_CWORD - 1]}"
+    case "$before" in
+        --bad) COMPREPLY=($(compgen -W "drop keep stop" -- "$word")) ;;
+        -e | -k | -d) COMPREPLY=() ;;
+        -f) ;;
+        *)
+            if [[ "$word" == -* ]]; then
+                COMPREPLY=($(compgen -W "-f -e -k -d -v -c --longest --bad --help --version -- -" -- "$word"))
+            fi
+            ;;
+    esac
+}
+complete -o default -F _cidr_filter cidr_filter

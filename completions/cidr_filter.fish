@@ -1,0 +1,11 @@
+# Completion of fish for cidr_filter: its options, and files.
+complete -c cidr_filter -s f -r -F -d "The networks of a file"
+complete -c cidr_filter -s e -x -d "A network or a range"
+complete -c cidr_filter -s k -x -d "The address is the Nth field"
+complete -c cidr_filter -s d -x -d "Fields are cut at each single character"
+complete -c cidr_filter -s v -d "Lines whose address is in no network"
+complete -c cidr_filter -s c -d "Print how many lines are selected"
+complete -c cidr_filter -l longest -d "Print the longest network before a line"
+complete -c cidr_filter -l bad -x -a "drop keep stop" -d "A line without an address"
+complete -c cidr_filter -l help -d "Print the help"
+complete -c cidr_filter -l version -d "Print the version"

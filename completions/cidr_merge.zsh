@@ -1,0 +1,13 @@
+#compdef cidr_merge
+# Completion of zsh for cidr_merge: the operation, its options, and files.
+if (( CURRENT == 2 )); then
+    _values 'operation' \
+        'union[the addresses of any list]' \
+        'common[the addresses of both sides]' \
+        'minus[those of the first side that the second has not]' \
+        'differ[those of one side and not of both]' \
+        '--help[print the help]' '--version[print the version]'
+else
+    _arguments '*--ranges[print ranges]' '*--count[print how many addresses]' \
+        '*--skip-bad[pass over refused lines]' '*:list:_files'
+fi

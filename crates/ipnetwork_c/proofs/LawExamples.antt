@@ -1,0 +1,73 @@
+-- What the laws let one conclude, at values that a narrower law does not reach.
+use Rattle.std.proofs.Common.{◌≡◌, ℕ, List, [], ◌∷◌, ◌++◌, take, refl, arith}
+use Rattle.std.specs.Prelude.{Some, replicate}
+use Rattle.ipnetwork_addr.specs.Digits.{digits_in, octets_of, octets_of_v6}
+use Rattle.ipnetwork_addr.specs.declared.ip.IpAddr.TheVariants as addresses
+use Rattle.ipnetwork_family.specs.Network.{Network, IsNetwork}
+use Rattle.ipnetwork.specs.declared.ip_network.IpNetwork.TheVariants.{V4, V6}
+use Rattle.ipnetwork_c.specs.declared.structs.Ipv4InC.{Ipv4InC}
+use Rattle.ipnetwork_c.specs.declared.structs.Ipv6InC.{Ipv6InC}
+use Rattle.ipnetwork_c.specs.Held.{v4_in, v6_in, number_of_octets}
+use Rattle.ipnetwork_c.specs.Either.{held_address, address_in, StandsForIp}
+use Rattle.ipnetwork_c.specs.StructLaws.{OctetsTellTheNumber, OctetsTellTheV4Address, OctetsTellTheV6Address, HeldV4StandsForItself, HeldV6StandsForItself, HeldIpStandsForItself, HeldAddressStandsForItself}
+use Rattle.ipnetwork_c.specs.TextColumns.{AreOffsets, row_text}
+use Rattle.ipnetwork_c.specs.PrintedColumns.{PrintsRows, HasColumnRoom}
+use Rattle.ipnetwork_c.specs.ColumnLaws.{PrintedRowsAreTexts, PrintedOffsetsAreOffsets}
+
+pub seventeen_octets : OctetsTellTheNumber → number_of_octets (digits_in 256 17 0x100000000000000000000000000000000) ≡ 0x100000000000000000000000000000000
+seventeen_octets law = law 17 0x100000000000000000000000000000000 (omega arith)
+
+pub the_last_ipv4_address : OctetsTellTheV4Address → address_in (octets_of 0xffffffff) ≡ Some (addresses.V4 0xffffffff)
+the_last_ipv4_address law = law 0xffffffff (omega arith)
+
+pub the_last_ipv6_address : OctetsTellTheV6Address → address_in (octets_of_v6 0xffffffffffffffffffffffffffffffff) ≡ Some (addresses.V6 0xffffffffffffffffffffffffffffffff)
+the_last_ipv6_address law = law 0xffffffffffffffffffffffffffffffff (omega arith)
+
+-- the last network of each family, of one address and with all bits set
+abbrev last_four : Network
+last_four = record { address = 0xffffffff; prefix = 32 }
+
+abbrev last_six : Network
+last_six = record { address = 0xffffffffffffffffffffffffffffffff; prefix = 128 }
+
+abbrev last_four_in_c : Ipv4InC
+last_four_in_c = record { address = replicate 4 255; prefix = 32 }
+
+abbrev last_six_in_c : Ipv6InC
+last_six_in_c = record { address = replicate 16 255; prefix = 128 }
+
+four_is : IsNetwork 32 last_four
+four_is = record { address_fits = omega arith; prefix_fits = omega arith }
+
+six_is : IsNetwork 128 last_six
+six_is = record { address_fits = omega arith; prefix_fits = omega arith }
+
+pub the_last_ipv4_network : HeldV4StandsForItself → v4_in last_four_in_c ≡ last_four
+the_last_ipv4_network law = law last_four_in_c last_four four_is (refl, refl)
+
+pub the_last_ipv6_network : HeldV6StandsForItself → v6_in last_six_in_c ≡ last_six
+the_last_ipv6_network law = law last_six_in_c last_six six_is (refl, refl)
+
+pub the_last_networks_of_either_family : HeldIpStandsForItself
+    → StandsForIp (record { family = 4; v4 = last_four_in_c; v6 = record { address = replicate 16 0; prefix = 0 } }) (V4 last_four)
+    × StandsForIp (record { family = 6; v4 = record { address = replicate 4 0; prefix = 0 }; v6 = last_six_in_c }) (V6 last_six)
+the_last_networks_of_either_family law = (
+  law (record { family = 4; v4 = last_four_in_c; v6 = record { address = replicate 16 0; prefix = 0 } }) (V4 last_four) four_is (refl, (refl, refl), (refl, refl)),
+  law (record { family = 6; v4 = record { address = replicate 4 0; prefix = 0 }; v6 = last_six_in_c }) (V6 last_six) six_is (refl, (refl, refl), (refl, refl)),
+)
+
+pub the_last_addresses_of_either_family : HeldAddressStandsForItself
+    → (held_address (record { octets = replicate 4 255 ++ replicate 12 0; length = 4 }) ≡ Some (addresses.V4 0xffffffff))
+    × (held_address (record { octets = replicate 16 255; length = 16 }) ≡ Some (addresses.V6 0xffffffffffffffffffffffffffffffff))
+the_last_addresses_of_either_family law = (
+  law (record { octets = replicate 4 255 ++ replicate 12 0; length = 4 }) (addresses.V4 0xffffffff) (omega arith) (refl, refl),
+  law (record { octets = replicate 16 255; length = 16 }) (addresses.V6 0xffffffffffffffffffffffffffffffff) (omega arith) (refl, refl),
+)
+
+-- of three rows the last one is read again, and four offsets are offsets
+pub the_third_row : {R : Type 0} (text : R → List ℕ) (a b c : R) (before after offsets_before offsets : List ℕ) → PrintedRowsAreTexts text → PrintsRows text (a ∷ b ∷ c ∷ []) before after offsets_before offsets → row_text after offsets 2 ≡ text c
+the_third_row text a b c before after offsets_before offsets law prints = law (a ∷ b ∷ c ∷ []) before after offsets_before offsets 2 c prints refl
+
+pub four_offsets : {R : Type 0} (text : R → List ℕ) (a b c : R) (before after offsets_before offsets : List ℕ) → PrintedOffsetsAreOffsets text → PrintsRows text (a ∷ b ∷ c ∷ []) before after offsets_before offsets
+    → HasColumnRoom text (a ∷ b ∷ c ∷ []) before offsets_before → AreOffsets after (take 4 offsets)
+four_offsets text a b c before after offsets_before offsets law prints room = law (a ∷ b ∷ c ∷ []) before after offsets_before offsets prints room

@@ -1,0 +1,193 @@
+-- What the laws of sets let one conclude, where a weaker law would not.
+use Rattle.std.proofs.Common.{◌≡◌, ℕ, ◌<◌, ◌⊎◌, inl, inr, refl, arith, Contains, Some, Ok, Result}
+use Rattle.std.specs.Prelude.{slice_get, IsTrue}
+use Rattle.std.specs.List.Sorted.{IsStrictlyIncreasing}
+use Rattle.ipnetwork_family.specs.Laws.{
+  EndsLaw,
+  SubnetReflexive,
+  SubnetTransitive,
+  SameSet,
+  BlockFits,
+  BlockHasSameSet,
+  Nesting,
+  OverlapSymmetric,
+  OverlapByAddress,
+  OverlapByEnds,
+  SubnetComesAfter,
+  BetweenIsSubnet,
+  MembersLaw,
+  MembershipComputed,
+  SubnetComputed,
+  MasksDiffer,
+  MaskIsComputed,
+  MaskIsConverted,
+}
+use Rattle.ipnetwork_family.specs.Computed.Network.{is_member, is_subnet, prefix_of_mask}
+use Rattle.ipnetwork_family.specs.Masks.{GivesPrefixOfMask}
+use Rattle.ipnetwork_family.specs.Network.{
+  Network,
+  IsNetwork,
+  IsNetworkAtMost,
+  Member,
+  Overlap,
+  low,
+  high,
+  Subnet,
+  members,
+  mask_of,
+}
+use Rattle.ipnetwork_family.specs.declared.error.IpNetworkError.{IpNetworkError}
+
+-- 10.1.9.32/16, 10.1.0.0/16, 10.1.0.0/17 and 10.0.0.0/8
+abbrev pub with_host_bits : Network
+with_host_bits = record { address = 167840032; prefix = 16 }
+
+abbrev pub whole : Network
+whole = record { address = 167837696; prefix = 16 }
+
+abbrev pub half : Network
+half = record { address = 167837696; prefix = 17 }
+
+abbrev pub wide : Network
+wide = record { address = 167772160; prefix = 8 }
+
+with_host_bits_fits : IsNetwork 32 with_host_bits
+with_host_bits_fits = record { address_fits = omega arith; prefix_fits = omega arith }
+
+whole_fits : IsNetwork 32 whole
+whole_fits = record { address_fits = omega arith; prefix_fits = omega arith }
+
+half_fits : IsNetwork 32 half
+half_fits = record { address_fits = omega arith; prefix_fits = omega arith }
+
+wide_fits : IsNetwork 32 wide
+wide_fits = record { address_fits = omega arith; prefix_fits = omega arith }
+
+-- the ends are members, and no member lies past either
+pub least_is_listed : EndsLaw → Member 32 with_host_bits 167837696
+least_is_listed law =
+    (law 32 with_host_bits with_host_bits_fits).low_is_member
+
+pub greatest_is_listed : EndsLaw → Member 32 with_host_bits 167903231
+greatest_is_listed law =
+    (law 32 with_host_bits with_host_bits_fits).high_is_member
+
+pub none_above : EndsLaw → (w : ℕ) (n : Network) → IsNetwork w n → (x : ℕ) → high w n < x
+    → ¬ (Member w n x)
+none_above law w n fits x above member =
+    absurd (omega (arith, ((law w n fits).within x member).1, above))
+
+pub none_below : EndsLaw → (w : ℕ) (n : Network) → IsNetwork w n → (x : ℕ) → x < low w n
+    → ¬ (Member w n x)
+none_below law w n fits x below member =
+    absurd (omega (arith, ((law w n fits).within x member).0, below))
+
+-- one set
+pub in_itself : SubnetReflexive → Subnet 128 with_host_bits with_host_bits
+in_itself law = law 128 with_host_bits
+
+-- three sets of three prefix lengths
+pub half_is_in_wide : SubnetTransitive → Subnet 32 half whole → Subnet 32 whole wide
+    → Subnet 32 half wide
+half_is_in_wide law = law 32 half whole wide
+
+-- host bits make no other set, a prefix length does
+pub same_set : SameSet → Subnet 32 with_host_bits whole × Subnet 32 whole with_host_bits
+same_set law =
+    (law 32 with_host_bits whole with_host_bits_fits whole_fits).1 (refl, refl)
+
+pub other_set : SameSet → ¬ (Subnet 32 half whole × Subnet 32 whole half)
+other_set law both =
+    absurd (omega (arith, ((law 32 half whole half_fits whole_fits).0 both).0))
+
+-- without host bits it is still a network, and of the same addresses
+pub block_fits : BlockFits → IsNetwork 32 whole
+block_fits law = law 32 with_host_bits with_host_bits_fits
+
+pub block_has_no_more : BlockHasSameSet → (x : ℕ) → Member 32 whole x → Member 32 with_host_bits x
+block_has_no_more law x = (law 32 with_host_bits x).0
+
+pub block_has_all : BlockHasSameSet → (x : ℕ) → Member 32 with_host_bits x → Member 32 whole x
+block_has_all law x = (law 32 with_host_bits x).1
+
+-- two sets of two prefix lengths that share an address, from either side
+pub nested : Nesting → Overlap 32 half wide → Subnet 32 half wide ⊎ Subnet 32 wide half
+nested law = law 32 half wide half_fits wide_fits
+
+pub overlaps_back : OverlapSymmetric → Overlap 32 half wide → Overlap 32 wide half
+overlaps_back law = law 32 half wide
+
+pub narrow_in_wide : OverlapByAddress → Overlap 32 half wide
+narrow_in_wide law = (law 32 half wide half_fits wide_fits).1 (inr (omega arith, refl))
+
+pub wide_around_narrow : OverlapByAddress → Overlap 32 wide half
+wide_around_narrow law = (law 32 wide half wide_fits half_fits).1 (inl (omega arith, refl))
+
+pub shares_an_address : OverlapByAddress → Overlap 32 wide half
+    → Member 32 wide half.address ⊎ Member 32 half wide.address
+shares_an_address law = (law 32 wide half wide_fits half_fits).0
+
+pub narrow_by_its_end : OverlapByEnds → Overlap 32 wide half
+narrow_by_its_end law =
+    (law 32 wide half wide_fits half_fits).1 (inl (inr (omega arith, refl)))
+
+pub wide_by_its_end : OverlapByEnds → Overlap 32 half wide
+wide_by_its_end law =
+    (law 32 half wide half_fits wide_fits).1 (inr (inr (omega arith, refl)))
+
+-- in order, a block comes before what lies in it, and all between lies in it too
+pub wide_comes_first : SubnetComesAfter → Subnet 32 half wide → IsNetworkAtMost wide half
+wide_comes_first law = law 32 wide half wide_fits half_fits refl refl
+
+pub between_lies_in_wide : BetweenIsSubnet → Subnet 32 half wide → IsNetworkAtMost wide whole
+    → IsNetworkAtMost whole half → Subnet 32 whole wide
+between_lies_in_wide law =
+    law 32 wide whole half wide_fits whole_fits half_fits refl refl refl
+
+-- the tests say so, and nothing else
+pub greatest_passes : MembershipComputed → IsTrue (is_member 32 with_host_bits 167903231)
+greatest_passes law = (law 32 with_host_bits 167903231).1 (omega arith, refl)
+
+pub passes_as_member : MembershipComputed → (w : ℕ) (n : Network) (x : ℕ)
+    → IsTrue (is_member w n x) → Member w n x
+passes_as_member law w n x = (law w n x).0
+
+pub half_passes : SubnetComputed → Subnet 32 half wide → IsTrue (is_subnet 32 half wide)
+half_passes law = (law 32 half wide half_fits wide_fits).1
+
+pub passes_as_subnet : SubnetComputed → IsTrue (is_subnet 32 half wide) → Subnet 32 half wide
+passes_as_subnet law = (law 32 half wide half_fits wide_fits).0
+
+-- the list ascends, has every member, and nothing else
+pub ascends : MembersLaw → IsStrictlyIncreasing (members 32 with_host_bits)
+ascends law = (law 32 with_host_bits with_host_bits_fits).ascending
+
+pub has_all : MembersLaw → (w : ℕ) (n : Network) → IsNetwork w n → (x : ℕ) → Member w n x
+    → Contains (members w n) x
+has_all law w n fits = (law w n fits).all
+
+pub has_no_more : MembersLaw → (w : ℕ) (n : Network) → IsNetwork w n → (x : ℕ) → ¬ (Member w n x)
+    → ¬ (Contains (members w n) x)
+has_no_more law w n fits x out listed = out ((law w n fits).each x listed)
+
+pub stands_at : MembersLaw → slice_get (members 32 with_host_bits) 65535 ≡ Some 167903231
+stands_at law = (law 32 with_host_bits with_host_bits_fits).at 65535 (omega arith)
+
+-- the masks of no prefix length and of the longest
+pub longest_mask_differs : MasksDiffer → ¬ (mask_of 128 0 ≡ mask_of 128 128)
+longest_mask_differs law same =
+    absurd (omega (arith, law 128 0 128 (omega arith) (omega arith) same))
+
+pub longest_mask_is_computed : MaskIsComputed → prefix_of_mask 128 (mask_of 128 128) ≡ Some 128
+longest_mask_is_computed law = law 128 128 (omega arith)
+
+pub no_mask_is_computed : MaskIsComputed → prefix_of_mask 32 (mask_of 32 0) ≡ Some 0
+no_mask_is_computed law = law 32 0 (omega arith)
+
+-- and what the conversion of a mask gives
+pub mask_gives : MaskIsConverted → GivesPrefixOfMask 128 (mask_of 128 48) (Ok 48)
+mask_gives law = (law 128 48 (Ok 48) (omega arith)).1 refl
+
+pub mask_gives_no_more : MaskIsConverted → (result : Result ℕ IpNetworkError)
+    → GivesPrefixOfMask 128 (mask_of 128 48) result → result ≡ Ok 48
+mask_gives_no_more law result = (law 128 48 result (omega arith)).0

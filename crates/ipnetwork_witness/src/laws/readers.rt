@@ -1,0 +1,39 @@
+//! Laws of the readers: for every text, what this library's reader returns and what std's returns agree.
+ghost use Rattle.std.specs.Prelude.{ℕ, List, Result};
+ghost use Rattle.std.specs.Net.Grammar.{Parses, IsIpv4Text, IsIpv6Text};
+ghost use Rattle.std.specs.declared.net.ipv4_addr.Ipv4Addr as std_v4;
+ghost use Rattle.std.specs.declared.net.ipv6_addr.Ipv6Addr as std_v6;
+ghost use Rattle.std.specs.declared.net.parser.AddrParseError as std_error;
+ghost use Rattle.ipnetwork_addr.specs.declared.error.AddrParseError as error;
+ghost use Rattle.ipnetwork_addr.specs.declared.error.AddrParseError.TheVariants as kinds;
+ghost use Rattle.ipnetwork_addr.specs.Ipv4Text.{NamesV4};
+ghost use Rattle.ipnetwork_addr.specs.Ipv6Text.{NamesV6};
+ghost use Rattle.ipnetwork_addr.specs.Reading.{Reads};
+ghost use Rattle.ipnetwork_witness.specs.Agreement.{Agree, SameV4, SameV6};
+
+use super::{v4_texts_are_shared, v6_texts_are_shared};
+use ipnetwork_addr::laws as addresses;
+
+/// What reading a text as an IPv4 address returns here, and what std returns for it, are addresses of
+/// the same bits or two errors.
+pub fn v4_readers_agree()
+    ensures { (text : List ℕ)
+        (ours : Result ℕ error.AddrParseError) (theirs : Result std_v4.Ipv4Addr std_error.AddrParseError)
+        → Reads NamesV4 kinds.Ipv4 text ours → Parses IsIpv4Text text theirs
+        → Agree SameV4 ours theirs }
+{
+    v4_texts_are_shared();
+    addresses::v4_text_names_one();
+}
+
+/// What reading a text as an IPv6 address returns here, and what std returns for it, are addresses of
+/// the same bits or two errors.
+pub fn v6_readers_agree()
+    ensures { (text : List ℕ)
+        (ours : Result ℕ error.AddrParseError) (theirs : Result std_v6.Ipv6Addr std_error.AddrParseError)
+        → Reads NamesV6 kinds.Ipv6 text ours → Parses IsIpv6Text text theirs
+        → Agree SameV6 ours theirs }
+{
+    v6_texts_are_shared();
+    addresses::v6_text_names_one();
+}
