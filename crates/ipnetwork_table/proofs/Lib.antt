@@ -1,4 +1,5 @@
 mod Keys
+mod LawExamples
 mod Lengths
 pub mod Listing
 mod Longest
