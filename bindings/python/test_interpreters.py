@@ -1,15 +1,16 @@
-"""Two interpreters of one process at once, each with the package of its own, and several threads of one interpreter.
+"""Two interpreters of one process at once, each with a package of its own, and threads of one.
 
     test_interpreters.py [unittest's arguments]
 
-Before Python 3.12 the interpreters take turns under one lock; from then on each has its own. What the Python that runs this
-has not is skipped by name.
+Before Python 3.12 the interpreters take turns under one lock; from then on each has its own. What
+the Python that runs this has not is skipped by name.
 """
 
 import gc
 import importlib.util
 import os
 import sys
+import sysconfig
 import threading
 import unittest
 import weakref
@@ -27,7 +28,7 @@ except ImportError:
 
 HERE = os.path.dirname(os.path.abspath(__file__))
 
-# What each interpreter asks. `ipnetwork` is imported there once, and `first` is what its classes were at that time.
+# What each interpreter asks. `ipnetwork` is imported once; `first` is what its classes were then.
 ASKED = """
 import array, ipaddress, sys
 sys.path.insert(0, {here!r})
@@ -38,15 +39,19 @@ four, six = ipnetwork.ip_network("10.1.9.32/16"), ipnetwork.ip_network("2001:db8
 assert (type(four), type(six)) == first, (type(four), type(six), first)
 assert ipaddress.ip_address("10.1.2.3") in four and ipaddress.ip_address("10.2.0.0") not in four
 assert four.subnet_of(ipnetwork.IPv4Network("10.0.0.0/8")) and not four.overlaps(six)
-assert (str(four.netmask), str(four.network_address), four.num_addresses) == ("255.255.0.0", "10.1.0.0", 65536)
-assert (str(four[-1]), four == ipnetwork.IPv4Network(str(four)), four < four) == ("10.1.255.255", True, False)
+assert (str(four.netmask), str(four.network_address)) == ("255.255.0.0", "10.1.0.0")
+assert (str(four[-1]), four.num_addresses) == ("10.1.255.255", 65536)
+assert four == ipnetwork.IPv4Network(str(four)) and not four < four
 allowed, table = ipnetwork.AddressSet([four, six]), ipnetwork.Table([six, four])
 for turn in range({turns}):
-    rows, faults = ipnetwork.read_address_column(b"10.1.2.38.8.8.8::1x", array.array("I", [0, 8, 15, 18, 19]))
+    offsets = array.array("I", [0, 8, 15, 18, 19])
+    rows, faults = ipnetwork.read_address_column(b"10.1.2.38.8.8.8::1x", offsets)
     assert (list(allowed.contains_column(rows)), list(faults)) == ([1, 0, 0, 0], [0, 0, 0, 2])
     assert memoryview(table.find_column(rows)).cast("q").tolist() == [1, -1, -1, -1]
-    assert list(map(str, ipnetwork.IPv4Network("10.0.0.0/8").subnets())) == ["10.0.0.0/9", "10.128.0.0/9"]
-for wrong, error in (("10.0.0.0/99", ipnetwork.PrefixError), ("a/b/c", ipnetwork.FormatError), ("x", ipnetwork.AddressError)):
+    halves = list(map(str, ipnetwork.IPv4Network("10.0.0.0/8").subnets()))
+    assert halves == ["10.0.0.0/9", "10.128.0.0/9"]
+for wrong, name in (("x", "AddressError"), ("a/b/c", "FormatError"), ("0.0.0.0/99", "PrefixError")):
+    error = getattr(ipnetwork, name)
     try:
         ipnetwork.IPv4Network(wrong)
     except error:
@@ -93,7 +98,10 @@ def at_once(calls):
 
 
 @unittest.skipIf(interpreters is None, "this Python has no module for interpreters")
-@unittest.skipIf(ipnetwork.CORE == "ctypes" and sys.version_info[:2] == (3, 12), "_ctypes of Python 3.12 is of one interpreter")
+@unittest.skipIf(
+    ipnetwork.CORE == "ctypes" and sys.version_info[:2] == (3, 12),
+    "_ctypes of Python 3.12 is for interpreters that share a lock",
+)
 class Interpreters(unittest.TestCase):
     def test_in_turn(self):
         own = {}
@@ -110,7 +118,8 @@ class Interpreters(unittest.TestCase):
 
     def test_at_once(self):
         numbers = [interpreters.create() for _ in range(2)]
-        at_once([lambda number=number: run(number, asked(3000)) for number in numbers] + [lambda: exec(asked(3000), {})])
+        calls = [lambda number=number: run(number, asked(3000)) for number in numbers]
+        at_once([*calls, lambda: exec(asked(3000), {})])
         for number in numbers:
             interpreters.destroy(number)
         exec(asked(1), {})
@@ -125,21 +134,22 @@ class Interpreters(unittest.TestCase):
 class Threads(unittest.TestCase):
     def test_what_is_kept_is_made_once(self):
         for _ in range(200):
-            networks = [ipnetwork.IPv4Network("10.1.9.32/16"), ipnetwork.IPv6Network("2001:db8::/32")]
-            told = []
+            networks = [ipnetwork.ip_network("10.1.9.32/16"), ipnetwork.ip_network("2001:db8::/32")]
             parts = ("ip", "netmask", "network_address", "broadcast_address", "num_addresses")
+            told = []
 
             def ask():
-                told.append([(str(net), *(getattr(net, part) for part in parts), len(list(net.subnets()))) for net in networks])
+                told.append([[str(it), *(getattr(it, part) for part in parts)] for it in networks])
 
             at_once([ask] * 4)
             self.assertEqual(told, [told[0]] * 4)
-            self.assertEqual(told[0][0][1:3], (IPv4Address("10.1.9.32"), IPv4Address("255.255.0.0")))
+            wanted = ["10.1.9.32/16", IPv4Address("10.1.9.32"), IPv4Address("255.255.0.0")]
+            self.assertEqual(told[0][0][:3], wanted)
 
     def test_columns(self):
         at_once([lambda: exec(asked(2000), {})] * 4)
 
-    @unittest.skipUnless(hasattr(sys, "_is_gil_enabled") and not sys._is_gil_enabled(), "no Python with free threads")
+    @unittest.skipUnless(sysconfig.get_config_var("Py_GIL_DISABLED"), "no Python with free threads")
     def test_free(self):
         exec(asked(1), {})
         self.assertFalse(sys._is_gil_enabled())
@@ -149,22 +159,25 @@ class Threads(unittest.TestCase):
 class Modules(unittest.TestCase):
     def test_a_module_is_released(self):
         def used():
-            spec = importlib.util.spec_from_file_location("ipnetwork._native", ipnetwork._core.__file__)
+            path = ipnetwork._core.__file__
+            spec = importlib.util.spec_from_file_location("ipnetwork._native", path)
             module = importlib.util.module_from_spec(spec)
             spec.loader.exec_module(module)
-            four, six = type("Four", (module.V4,), {"version": 4}), type("Six", (module.V6,), {"version": 6})
+            four, six = type("Four", (module.V4,), {}), type("Six", (module.V6,), {})
             module.register(four, six)
-            four.some = module.ip_network("10.0.0.0/8").netmask
+            four.some = module.ip_network("10.0.0.0/8")
+            masks = four.some.netmask, module.ip_network("::/8").netmask
             self.assertIsNot(module.V4, ipnetwork._core.V4)
             self.assertIsInstance(module.ip_network("::1"), six)
             with self.assertRaises(TypeError):
                 module.of_rows(ipnetwork.IPv4Network, bytes(5))
-            return weakref.ref(module), weakref.ref(module.V4), weakref.ref(four)
+            del four.some
+            return [weakref.ref(each) for each in (module, module.V4, four, *masks)]
 
         for _ in range(20):
             references = used()
             gc.collect()
-            self.assertEqual([reference() for reference in references], [None] * 3)
+            self.assertEqual([reference() for reference in references], [None] * 5)
 
 
 if __name__ == "__main__":

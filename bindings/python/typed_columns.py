@@ -1,4 +1,7 @@
-"""Which columns the type hints take, and which they refuse, for `mypy --strict`: a line with "type: ignore" is to be refused."""
+"""Which columns the type hints take, and which they refuse, for `mypy --strict`.
+
+Each line with "type: ignore" is one that the hints are to refuse.
+"""
 
 from collections.abc import Iterator
 from ipaddress import IPv4Address, ip_interface
@@ -20,7 +23,8 @@ def each() -> Iterator[IPv4Address]:
 
 is_member(texts, which)
 is_member(rows, IPv4Network("10.0.0.0/8"))
-is_member([IPv4Address("10.1.2.3"), ip_interface("::1"), ip_network("10.1.2.3"), b"10.1.2.3", None, float("nan")], which)
+is_member([IPv4Address("10.1.2.3"), ip_interface("::1"), ip_network("10.1.2.3"), b"::1"], which)
+is_member([None, float("nan"), "10.1.2.3"], which)
 is_member(tuple(texts), which)
 is_member(each(), which)
 is_member(numpy.array(texts), which)
