@@ -1,6 +1,7 @@
 pub mod EngineTold
 pub mod FirstLines
 pub mod Gained
+pub mod LawExamples
 pub mod MergedParts
 pub mod Printed
 pub mod Taken

@@ -1,3 +1,5 @@
+mod Examples
+mod LawExamples
 mod Parts
 mod PlainTexts
 mod Readings
