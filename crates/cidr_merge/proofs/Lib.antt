@@ -1,4 +1,5 @@
 pub mod Examples
+pub mod LawExamples
 pub mod Merging
 pub mod Parts
 pub mod Putting
