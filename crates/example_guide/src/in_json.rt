@@ -1,11 +1,10 @@
 //! Networks in a JSON list: each is read, and written again in its canonical text.
-#![tactic(auto)]
 
 use ipnetwork::{IpNetwork, JsonFault};
 use serde_json::Value;
 use std::io;
 
-fn main(rt: HostRuntime) -> io::Result<()> {
+pub fn run(rt: &HostRuntime) -> io::Result<()> {
     let list = "[\"10.1.9.32/255.255.0.0\", \"2001:DB8::/032\", \"10/8\", 10]";
     let Ok(Value::Array(values)) = Value::from_str(rt.alloc(), list) else {
         return println!(rt; "no list");

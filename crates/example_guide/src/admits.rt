@@ -1,5 +1,4 @@
 //! Code that is generic over both families: whether one of some networks contains an address.
-#![tactic(auto)]
 
 ghost use Rattle.std.specs.Prelude.{◌↔◌, Any, IsTrue};
 ghost use Rattle.ipnetwork_family.specs.Network.{Member};
@@ -14,7 +13,7 @@ fn admits<N: CidrNetwork>(allowed: &[N], client: N::Addr) -> bool
     allowed.iter().any(|network| network.contains(client))
 }
 
-fn main(rt: HostRuntime) -> io::Result<()> {
+pub fn run(rt: &HostRuntime) -> io::Result<()> {
     let private = [
         Ipv4Network::from(Ipv4Addr::new(192, 0, 2, 7)),
         Ipv4Network::block(Ipv4Addr::new(10, 1, 9, 32), 8).unwrap_or(Ipv4Network::from(

@@ -1,12 +1,11 @@
 //! Which addresses are admitted: those of an allow list that are in no deny list.
-#![tactic(auto)]
 
 use ipnetwork::{Ipv4Addr, Ipv4Network};
 use ipnetwork_sets::AddressSet;
 use std::alloc::{AllocError, Global};
 use std::io;
 
-fn main(rt: HostRuntime) -> io::Result<()> {
+pub fn run(rt: &HostRuntime) -> io::Result<()> {
     let allowed = set_of(
         rt.alloc(),
         &["198.51.100.0/25", "192.0.2.0/24", "198.51.100.128/25"],

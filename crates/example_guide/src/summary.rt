@@ -1,11 +1,10 @@
 //! A summary of networks: the shortest list of blocks with the same addresses.
-#![tactic(auto)]
 
 use ipnetwork::Ipv4Network;
 use ipnetwork_blocks::aggregate_vec;
 use std::io;
 
-fn main(rt: HostRuntime) -> io::Result<()> {
+pub fn run(rt: &HostRuntime) -> io::Result<()> {
     let mut networks = Vec::new(rt.alloc());
     for text in [
         "192.0.2.64/26",

@@ -1,11 +1,10 @@
 //! A routing table: an address is routed by the longest block that contains it.
-#![tactic(auto)]
 
 use ipnetwork::{Ipv4Addr, Ipv4Network};
 use ipnetwork_table::PrefixTable;
 use std::io;
 
-fn main(rt: HostRuntime) -> io::Result<()> {
+pub fn run(rt: &HostRuntime) -> io::Result<()> {
     let mut routes = PrefixTable::new(rt.alloc());
     for (text, port) in [("0.0.0.0/0", 1u8), ("10.1.9.32/16", 3), ("10.0.0.0/8", 2)] {
         if let Ok(network) = text.parse::<Ipv4Network>() {
