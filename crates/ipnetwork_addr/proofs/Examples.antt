@@ -1,5 +1,5 @@
 -- Texts and values at which a misreading of the definitions would show. Each of these computes.
-use Rattle.std.proofs.Common.{◌≡◌, ℕ, ◌^◌, ◌-◌, [], ◌∷◌, length, None, Some, refl, ap, arith, lit≤}
+use Rattle.std.proofs.Common.{◌≡◌, ℕ, ◌^◌, ◌-◌, ◌<◌, true, false, [], ◌∷◌, length, None, Some, refl, ap, arith, lit≤}
 use Rattle.std.specs.Prelude.{codes, Ok, Err}
 use Rattle.std.specs.Fmt.{digits}
 use Rattle.std.specs.Hash.{le_bytes}
@@ -14,7 +14,8 @@ use Rattle.ipnetwork_addr.specs.Computed.Either.{ip_of}
 use Rattle.ipnetwork_addr.specs.Faults.{addr_fault_text}
 use Rattle.ipnetwork_addr.specs.Reading.{Reads}
 use Rattle.ipnetwork_addr.specs.Computed.Reading.{answer_from}
-use Rattle.ipnetwork_addr.specs.Texts.{IsAddressByte, Digit, UpperHex, LowerHex, Dot, Colon}
+use Rattle.ipnetwork_addr.specs.Segments.{number_of_segments}
+use Rattle.ipnetwork_addr.specs.Texts.{IsAddressByte, Digit, UpperHex, LowerHex, Dot, Colon, colon_first}
 use Rattle.ipnetwork_addr.specs.Ipv4Text.{NamesV4}
 use Rattle.ipnetwork_addr.specs.Computed.Ipv4Text.{v4_of}
 use Rattle.ipnetwork_addr.specs.Ipv6Text.{NamesV6}
@@ -40,6 +41,9 @@ eight_groups = refl
 
 pub group_in_front : segments_of (2 ^ 112) ≡ 1 ∷ 0 ∷ 0 ∷ 0 ∷ 0 ∷ 0 ∷ 0 ∷ 0 ∷ []
 group_in_front = refl
+
+pub eight_segments : number_of_segments (0x2001 ∷ 0xdb8 ∷ 0 ∷ 1 ∷ 2 ∷ 3 ∷ 4 ∷ 0xffff ∷ []) ≡ 0x20010db800000001000200030004ffff
+eight_segments = refl
 
 -- ---- either family
 
@@ -149,6 +153,13 @@ ip_fault = refl
 
 -- ---- bytes of addresses
 
+pub none_before_the_dot : (byte : ℕ) → byte < 46 → ¬ (IsAddressByte byte)
+none_before_the_dot byte l (Digit low high) = omega (arith, l, low)
+none_before_the_dot byte l (UpperHex low high) = omega (arith, l, low)
+none_before_the_dot byte l (LowerHex low high) = omega (arith, l, low)
+none_before_the_dot byte l (Dot e) = omega (arith, l, e)
+none_before_the_dot byte l (Colon e) = omega (arith, l, e)
+
 pub slash_is_none : ¬ (IsAddressByte 47)
 slash_is_none (Digit low high) = omega (arith, low)
 slash_is_none (UpperHex low high) = omega (arith, low)
@@ -156,19 +167,37 @@ slash_is_none (LowerHex low high) = omega (arith, low)
 slash_is_none (Dot e) = omega (arith, e)
 slash_is_none (Colon e) = omega (arith, e)
 
-pub letter_g_is_none : ¬ (IsAddressByte 103)
-letter_g_is_none (Digit low high) = omega (arith, high)
-letter_g_is_none (UpperHex low high) = omega (arith, high)
-letter_g_is_none (LowerHex low high) = omega (arith, high)
-letter_g_is_none (Dot e) = omega (arith, e)
-letter_g_is_none (Colon e) = omega (arith, e)
+pub none_before_the_capitals : (byte : ℕ) → 58 < byte → byte < 65 → ¬ (IsAddressByte byte)
+none_before_the_capitals byte l m (Digit low high) = omega (arith, l, high)
+none_before_the_capitals byte l m (UpperHex low high) = omega (arith, m, low)
+none_before_the_capitals byte l m (LowerHex low high) = omega (arith, m, low)
+none_before_the_capitals byte l m (Dot e) = omega (arith, l, e)
+none_before_the_capitals byte l m (Colon e) = omega (arith, l, e)
 
-pub capital_g_is_none : ¬ (IsAddressByte 71)
-capital_g_is_none (Digit low high) = omega (arith, high)
-capital_g_is_none (UpperHex low high) = omega (arith, high)
-capital_g_is_none (LowerHex low high) = omega (arith, low)
-capital_g_is_none (Dot e) = omega (arith, e)
-capital_g_is_none (Colon e) = omega (arith, e)
+pub none_from_capital_g : (byte : ℕ) → 70 < byte → byte < 97 → ¬ (IsAddressByte byte)
+none_from_capital_g byte l m (Digit low high) = omega (arith, l, high)
+none_from_capital_g byte l m (UpperHex low high) = omega (arith, l, high)
+none_from_capital_g byte l m (LowerHex low high) = omega (arith, m, low)
+none_from_capital_g byte l m (Dot e) = omega (arith, l, e)
+none_from_capital_g byte l m (Colon e) = omega (arith, l, e)
+
+pub none_from_letter_g : (byte : ℕ) → 102 < byte → ¬ (IsAddressByte byte)
+none_from_letter_g byte l (Digit low high) = omega (arith, l, high)
+none_from_letter_g byte l (UpperHex low high) = omega (arith, l, high)
+none_from_letter_g byte l (LowerHex low high) = omega (arith, l, high)
+none_from_letter_g byte l (Dot e) = omega (arith, l, e)
+none_from_letter_g byte l (Colon e) = omega (arith, l, e)
+
+-- ---- the first mark of a text
+
+pub colon_before_a_dot : colon_first (codes "1:2.3") ≡ true
+colon_before_a_dot = refl
+
+pub dot_before_a_colon : colon_first (codes "1.2:3") ≡ false
+dot_before_a_colon = refl
+
+pub no_mark : colon_first (codes "12") ≡ false
+no_mark = refl
 
 -- ---- IPv4 texts
 

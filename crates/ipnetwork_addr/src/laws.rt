@@ -3,6 +3,7 @@
 
 mod computed;
 mod texts;
+mod uses;
 mod values;
 
 pub use computed::{

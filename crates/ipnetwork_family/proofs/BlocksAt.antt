@@ -1,6 +1,6 @@
 -- The block of a prefix length that an address lies in. Proofs of the crates above cite these lemmas too, so their
 -- names and statements stay.
-use Rattle.std.proofs.Common.{◌≡◌, ℕ, ◌*◌, ◌/◌, ◌^◌, ◌<◌, ◌≤◌, refl, sym, ap, ◌∙◌}
+use Rattle.std.proofs.Common.{◌≡◌, ℕ, ◌*◌, ◌^◌, ◌<◌, ◌≤◌, refl, sym, ap, ◌∙◌}
 use Rattle.ipnetwork_family.specs.Network.{Network, Member, HostBitsAreZero, IsCidrBlock, block_size, block_at, Subnet}
 use Rattle.ipnetwork_family.proofs.Blocks.{block_fits_too, block_begins, block_same_set, coarser_size}
 

@@ -1,6 +1,6 @@
 -- What the laws of sets let one conclude, where a weaker law would not.
-use Rattle.std.proofs.Common.{◌≡◌, ℕ, ◌<◌, ◌⊎◌, inl, inr, refl, arith, Contains, Some, Ok, Result}
-use Rattle.std.specs.Prelude.{slice_get, IsTrue}
+use Rattle.std.proofs.Common.{◌≡◌, ℕ, ◌<◌, ◌⊎◌, inl, inr, refl, arith, Contains, List, Some, Ok, Err, Result}
+use Rattle.std.specs.Prelude.{◌↔◌, slice_get, IsTrue}
 use Rattle.std.specs.List.Sorted.{IsStrictlyIncreasing}
 use Rattle.ipnetwork_family.specs.Laws.{
   EndsLaw,
@@ -8,6 +8,7 @@ use Rattle.ipnetwork_family.specs.Laws.{
   SubnetTransitive,
   SameSet,
   BlockFits,
+  BlockHasNoHostBits,
   BlockHasSameSet,
   Nesting,
   OverlapSymmetric,
@@ -21,6 +22,7 @@ use Rattle.ipnetwork_family.specs.Laws.{
   MasksDiffer,
   MaskIsComputed,
   MaskIsConverted,
+  SameErrorSaysTheSame,
 }
 use Rattle.ipnetwork_family.specs.Computed.Network.{is_member, is_subnet, prefix_of_mask}
 use Rattle.ipnetwork_family.specs.Masks.{GivesPrefixOfMask}
@@ -28,6 +30,8 @@ use Rattle.ipnetwork_family.specs.Network.{
   Network,
   IsNetwork,
   IsNetworkAtMost,
+  HostBitsAreZero,
+  block_of,
   Member,
   Overlap,
   low,
@@ -36,6 +40,13 @@ use Rattle.ipnetwork_family.specs.Network.{
   members,
   mask_of,
 }
+use Rattle.ipnetwork_addr.specs.declared.error.AddrParseError.TheVariants as kinds
+use Rattle.ipnetwork_family.specs.ErrorTexts.{refusal_of}
+use Rattle.ipnetwork_family.specs.Faults.{SameError}
+use Rattle.ipnetwork_family.specs.Ipv4NetworkText.{ReadsV4Network}
+use Rattle.ipnetwork_family.specs.Ipv6NetworkText.{ReadsV6Network}
+use Rattle.ipnetwork_family.specs.Parsing.{ParsesAsItReads, ParsesV4Network, ParsesV6Network}
+use Rattle.ipnetwork_family.specs.declared.error.CidrFault.{CidrFault}
 use Rattle.ipnetwork_family.specs.declared.error.IpNetworkError.{IpNetworkError}
 
 -- 10.1.9.32/16, 10.1.0.0/16, 10.1.0.0/17 and 10.0.0.0/8
@@ -103,6 +114,13 @@ other_set law both =
 -- without host bits it is still a network, and of the same addresses
 pub block_fits : BlockFits → IsNetwork 32 whole
 block_fits law = law 32 with_host_bits with_host_bits_fits
+
+-- nor has it host bits, whatever the network is: 2^32 + 5 with the prefix length 30, and 5 with 40
+pub block_has_no_host_bits : BlockHasNoHostBits
+    → HostBitsAreZero 32 (block_of 32 (record { address = 4294967301; prefix = 30 }))
+    × HostBitsAreZero 32 (block_of 32 (record { address = 5; prefix = 40 })) × ((n : Network) → HostBitsAreZero 128 (block_of 128 n))
+block_has_no_host_bits law =
+    (law 32 (record { address = 4294967301; prefix = 30 }), law 32 (record { address = 5; prefix = 40 }), law 128)
 
 pub block_has_no_more : BlockHasSameSet → (x : ℕ) → Member 32 whole x → Member 32 with_host_bits x
 block_has_no_more law x = (law 32 with_host_bits x).0
@@ -191,3 +209,16 @@ mask_gives law = (law 128 48 (Ok 48) (omega arith)).1 refl
 pub mask_gives_no_more : MaskIsConverted → (result : Result ℕ IpNetworkError)
     → GivesPrefixOfMask 128 (mask_of 128 48) result → result ≡ Ok 48
 mask_gives_no_more law result = (law 128 48 result (omega arith)).0
+
+-- parsing returns the network that reading returns, and the error for the cause that reading returns
+pub network_is_parsed : ParsesAsItReads ReadsV6Network kinds.Ipv6 ParsesV6Network → (text : List ℕ) (n : Network)
+    → ParsesV6Network text (Ok n) ↔ ReadsV6Network text (Ok n)
+network_is_parsed law text n = law text (Ok n)
+
+pub prefix_is_refused : ParsesAsItReads ReadsV4Network kinds.Ipv4 ParsesV4Network → (text : List ℕ)
+    → ReadsV4Network text (Err CidrFault.Prefix) → ParsesV4Network text (Err IpNetworkError.InvalidPrefix)
+prefix_is_refused law text reads = (law text (Err IpNetworkError.InvalidPrefix)).1 (CidrFault.Prefix, reads, refl)
+
+-- errors that say the same are the same, and no others are
+pub same_errors : SameErrorSaysTheSame → (a b : IpNetworkError) → SameError a b ↔ (refusal_of a ≡ refusal_of b)
+same_errors law = law

@@ -9,13 +9,13 @@ use Rattle.ipnetwork_table.specs.Computed.Longest.{longest_of}
 use Rattle.ipnetwork_table.proofs.Longest.{new_table, with_block}
 use Rattle.ipnetwork_table.proofs.Pairs.{entries_of_sorted}
 
-abbrev net : ℕ → ℕ → Network
+abbrev pub net : ℕ → ℕ → Network
 net address prefix = record { address = address; prefix = prefix }
 
-abbrev Table : Type 0
+abbrev pub Table : Type 0
 Table = FinMap network_cmp ℕ
 
-abbrev routes : List (Network × ℕ)
+abbrev pub routes : List (Network × ℕ)
 routes = (net 0 0, 5) ∷ (net 4 1, 7) ∷ (net 4 3, 9) ∷ []
 
 abbrev table : Table
@@ -63,6 +63,12 @@ pub nine_is_in_none : (exists : AnswerExists ℕ) → AnswerIsOne ℕ → HasNoH
 nine_is_in_none exists one clear =
     let found = exists 3 table 9 blocks in
     one 3 table 9 found.0 None clear found.1 (λ n stored holds. let fits = holds.0 in omega (arith, fits))
+
+-- and an address that is has one
+pub six_has_a_result : (exists : AnswerExists ℕ) → AnswerIsComputed ℕ → AnswerIsOne ℕ → HasNoHostBits 3 table → (exists 3 table 6 blocks).0 ≡ Some (net 4 1, 7)
+six_has_a_result exists computed one clear =
+    let found = exists 3 table 6 blocks in
+    one 3 table 6 found.0 (Some (net 4 1, 7)) clear found.1 (six_is_in_the_half computed)
 
 abbrev changed : Table
 changed = remove (insert (insert empty (net 4 1) 7) (net 4 3) 9) (net 0 0)

@@ -1,3 +1,4 @@
+mod Examples
 mod Keys
 mod LawExamples
 mod Lengths

@@ -1,5 +1,20 @@
+use Rattle.std.proofs.Common.{lit≤}
+use Rattle.std.specs.Prelude.{codes}
+use Rattle.std.specs.Fmt.{digits}
+use Rattle.ipnetwork_addr.specs.Ipv4Text.{NamesV4}
+use Rattle.ipnetwork_addr.specs.Ipv6Text.{NamesV6}
+use Rattle.ipnetwork_addr.specs.declared.ip.IpAddr.TheVariants.{V4, V6}
 use Rattle.ipnetwork_addr.proofs.EitherFamily.{canonical_ip_names}
 use Rattle.ipnetwork_addr.proofs.laws.texts.canonical_ip_names_its_address.Goals as goal
 
 pub returns : goal.returns
 returns c = canonical_ip_names
+
+-- uses in either family
+pub v4_is_named : goal.returns → goal.Start → NamesV4 (codes "255.255.255.255") 4294967295
+unfolding digits
+v4_is_named law c = law c (V4 4294967295) (lit≤ tt)
+
+pub v6_is_named : goal.returns → goal.Start → NamesV6 (codes "::1") 1
+unfolding digits
+v6_is_named law c = law c (V6 1) (lit≤ tt)
