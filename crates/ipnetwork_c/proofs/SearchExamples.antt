@@ -1,8 +1,10 @@
 -- Searches of lists in which a prefix length is past the width, and lists at which a misreading of the definitions would
 -- show.
-use Rattle.std.proofs.Common.{◌≡◌, ◌≢◌, ℕ, zero, suc, ◌+◌, ◌<◌, ◌≤◌, List, [], ◌∷◌, refl, arith}
+use Rattle.std.proofs.Common.{◌≡◌, ◌≢◌, ℕ, zero, suc, ◌+◌, ◌<◌, ◌≤◌, ◌-◌, List, [], ◌∷◌, map, length, get_or, refl, sym, ap, subst, ◌∙◌, arith}
 use Rattle.std.specs.Prelude.{Some, None}
 use Rattle.std.specs.List.{All}
+use Rattle.std.proofs.lemmas.List.{length-map, get_or-map}
+use Rattle.std.proofs.lemmas.Option.{slice_get_within, get_or_from_slice_get}
 use Rattle.ipnetwork_family.specs.Network.{Network}
 use Rattle.ipnetwork_blocks.specs.Aggregate.{InUnion}
 use Rattle.ipnetwork_sets.specs.Sets.{IsAddressSet}
@@ -11,10 +13,9 @@ use Rattle.ipnetwork_c.specs.Numbers.{ok, prefix}
 use Rattle.ipnetwork_c.specs.Held.{v4_in}
 use Rattle.ipnetwork_c.specs.Searches.{StandsAt, LastFits, ComesTo}
 use Rattle.ipnetwork_c.specs.Searches.ComesTo.{First, On}
+use Rattle.ipnetwork_c.specs.Outcomes.Unless.{On, Nothing}
 use Rattle.ipnetwork_c.specs.Lists.{FindsIn, SetQuery}
-use Rattle.ipnetwork_c.specs.Lists.SetQuery.{Answered, Refused}
 use Rattle.ipnetwork_c.specs.Tables.{TableQuery}
-use Rattle.ipnetwork_c.specs.Tables.TableQuery.{Found, NotFound, Refused as table_refused}
 
 -- the address 0.0.0.5 and the prefix length 200
 abbrev past : Network
@@ -41,23 +42,33 @@ comes_to_it i (On zero shared j n comes passes shares stands) = let fits = passe
 comes_to_it i (On (suc k) shared j n comes passes shares stands) = let none : None ≡ Some n = passes.here in cc
 
 pub a_set_of_a_struct_past_the_width_is_refused : (before after code : ℕ) → SetQuery 32 v4_in (past_in_c ∷ []) 5 before after code → (code ≡ prefix) × (after ≡ before)
-a_set_of_a_struct_past_the_width_is_refused before after code (Answered i stands fits is finds) = absurd (does_not_fit i (stands_behind i stands) fits)
-a_set_of_a_struct_past_the_width_is_refused before after code (Refused i stands not some is same) = (is, same)
+a_set_of_a_struct_past_the_width_is_refused before after code (i, stands, On (fits, (is, finds))) = absurd (does_not_fit i (stands_behind i stands) fits)
+a_set_of_a_struct_past_the_width_is_refused before after code (i, stands, Nothing (not, is) same) = (is, same)
 
 pub a_table_of_a_struct_past_the_width_is_refused : (before after code : ℕ) → TableQuery 32 v4_in (past_in_c ∷ []) 5 before after code → (code ≡ prefix) × (after ≡ before)
-a_table_of_a_struct_past_the_width_is_refused before after code (Found is finds comes fits) = absurd (does_not_fit (after + 1) (comes_to_it (after + 1) comes) fits)
-a_table_of_a_struct_past_the_width_is_refused before after code (NotFound is none comes same) = absurd (omega (arith, comes_to_it 0 comes))
-a_table_of_a_struct_past_the_width_is_refused before after code (table_refused i comes not some is same) = (is, same)
+a_table_of_a_struct_past_the_width_is_refused before after code (i, comes, On (fits, goes)) = absurd (does_not_fit i (comes_to_it i comes) fits)
+a_table_of_a_struct_past_the_width_is_refused before after code (i, comes, Nothing (not, is) same) = (is, same)
 
--- no struct at all is none past the width
-pub an_empty_list_is_not_refused : (before after : ℕ) → ¬ (SetQuery 32 v4_in [] 5 before after prefix)
-an_empty_list_is_not_refused before after (Answered i stands fits is finds) = omega (arith, is)
-an_empty_list_is_not_refused before after (Refused i stands not some is same) = not (λ n more none. let e : None ≡ Some n = none in cc)
+-- lists that fit are not refused
+last_of_what_fits : (list : List Ipv4InC) (i : ℕ) → All (λ c. c.prefix ≤ 32) list → LastFits 32 (map v4_in list) i
+last_of_what_fits list i fit n some there =
+    let within : i - 1 < length (map v4_in list) = slice_get_within (map v4_in list) (i - 1) n there in
+    let size = length-map list v4_in in
+    let d : Ipv4InC = record { address = []; prefix = 0 } in
+    let is : get_or (map v4_in list) (i - 1) n ≡ n = get_or_from_slice_get (map v4_in list) (i - 1) n n there in
+    let at : get_or (map v4_in list) (i - 1) n ≡ v4_in (get_or list (i - 1) d) = get_or-map v4_in list (i - 1) d n (omega (arith, within, size)) in
+    let same = ap (λ (m : Network). m.prefix) (sym is ∙ at) in
+    let most : (get_or list (i - 1) d).prefix ≤ 32 = fit (i - 1) d (omega (arith, within, size)) in
+    omega (arith, same, most)
 
-pub an_empty_table_is_not_refused : (before after : ℕ) → ¬ (TableQuery 32 v4_in [] 5 before after prefix)
-an_empty_table_is_not_refused before after (Found is finds comes fits) = omega (arith, is)
-an_empty_table_is_not_refused before after (NotFound is none comes same) = omega (arith, is)
-an_empty_table_is_not_refused before after (table_refused i comes not some is same) = not (λ n more none. let e : None ≡ Some n = none in cc)
+pub a_set_that_fits_is_not_refused : (list : List Ipv4InC) (x before after : ℕ) → All (λ c. c.prefix ≤ 32) list → ¬ (SetQuery 32 v4_in list x before after prefix)
+a_set_that_fits_is_not_refused list x before after fit (i, stands, On (fits, (is, finds))) = omega (arith, is)
+a_set_that_fits_is_not_refused list x before after fit (i, stands, Nothing (not, is) same) = not (last_of_what_fits list i fit)
+
+pub a_table_that_fits_is_not_refused : (list : List Ipv4InC) (x before after : ℕ) → All (λ c. c.prefix ≤ 32) list → ¬ (TableQuery 32 v4_in list x before after prefix)
+a_table_that_fits_is_not_refused list x before after fit (i, comes, On (fits, Nothing (none, is) same)) = omega (arith, is)
+a_table_that_fits_is_not_refused list x before after fit (i, comes, On (fits, On (is, finds))) = omega (arith, is)
+a_table_that_fits_is_not_refused list x before after fit (i, comes, Nothing (not, is) same) = not (last_of_what_fits list i fit)
 
 -- ---- answers of a search
 
@@ -71,11 +82,12 @@ pub an_address_of_a_set_is_found : (w : ℕ) (networks : List Network) (x : ℕ)
 an_address_of_a_set_is_found w networks x set there h = h.missed set refl there
 
 pub an_index_is_not_changed_after_a_fault : (list : List Ipv4InC) (x before after code : ℕ) → code ≢ ok → TableQuery 32 v4_in list x before after code → after ≡ before
-an_index_is_not_changed_after_a_fault list x before after code fault (Found is finds comes fits) = absurd (fault is)
-an_index_is_not_changed_after_a_fault list x before after code fault (NotFound is none comes same) = same
-an_index_is_not_changed_after_a_fault list x before after code fault (table_refused i comes not some is same) = same
+an_index_is_not_changed_after_a_fault list x before after code fault (i, comes, On (fits, Nothing none same)) = same
+an_index_is_not_changed_after_a_fault list x before after code fault (i, comes, On (fits, On (is, finds))) = absurd (fault is)
+an_index_is_not_changed_after_a_fault list x before after code fault (i, comes, Nothing not same) = same
 
--- lists that fit are not refused
-pub lists_that_fit_are_answered : (list : List Ipv4InC) (x before after : ℕ) → All (λ c. c.prefix ≤ 32) list → ¬ (SetQuery 32 v4_in list x before after prefix)
-lists_that_fit_are_answered list x before after fit (Answered i stands fits is finds) = omega (arith, is)
-lists_that_fit_are_answered list x before after fit (Refused i stands not some is same) = some fit
+-- an index that is found is the one before which the search ends
+pub the_index_is_that_of_the_end : (list : List Ipv4InC) (x before after : ℕ) → TableQuery 32 v4_in list x before after ok → ComesTo 32 (map v4_in list) x (after + 1) × LastFits 32 (map v4_in list) (after + 1)
+the_index_is_that_of_the_end list x before after (i, comes, On (fits, Nothing (none, is) same)) = absurd (omega (arith, is))
+the_index_is_that_of_the_end list x before after (i, comes, On (fits, On (is, (end, finds)))) = (subst (ComesTo 32 (map v4_in list) x) end comes, subst (LastFits 32 (map v4_in list)) end fits)
+the_index_is_that_of_the_end list x before after (i, comes, Nothing (not, is) same) = absurd (omega (arith, is))
