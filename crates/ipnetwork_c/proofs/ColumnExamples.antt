@@ -1,11 +1,14 @@
 -- Columns and lists in the caller's memory at which a misreading of the definitions would show.
-use Rattle.std.proofs.Common.{◌≡◌, ◌≢◌, ℕ, zero, suc, ◌+◌, ◌-◌, ◌^◌, ◌<◌, ◌≤◌, List, [], ◌∷◌, map, length, get_or, refl, ap, arith}
+use Rattle.std.proofs.Common.{◌≡◌, ◌≢◌, ℕ, zero, suc, ◌+◌, ◌-◌, ◌^◌, ◌<◌, ◌≤◌, List, [], ◌∷◌, ◌++◌, map, length, get_or, refl, ap, arith}
 use Rattle.std.proofs.lemmas.List.{length-append}
-use Rattle.std.specs.Prelude.{Some, min, flat_map}
+use Rattle.std.specs.Prelude.{Option, Some, min, take, flat_map, codes, replicate}
 use Rattle.std.specs.List.{All}
+use Rattle.std.specs.Fmt.{digits}
 use Rattle.ipnetwork_family.specs.Network.{Network}
+use Rattle.ipnetwork_blocks.specs.Aggregate.{IsAggregate}
 use Rattle.ipnetwork_blocks.specs.LeastList.{IsLeastList}
 use Rattle.ipnetwork_blocks.specs.Ranges.{FromTo}
+use Rattle.ipnetwork_sets.specs.Sets.{IsAddressSet}
 use Rattle.ipnetwork_c.specs.declared.structs.Ipv4InC.{Ipv4InC}
 use Rattle.ipnetwork_c.specs.Numbers.{ok, prefix, short_buffer, no_member, no_offsets, no_range, no_set}
 use Rattle.ipnetwork_c.specs.Held.{PrefixFits, HoldsV4}
@@ -13,9 +16,9 @@ use Rattle.ipnetwork_c.specs.Outcomes.Unless.{On, Nothing}
 use Rattle.ipnetwork_c.specs.Lists.{StandInFront, PutsBlocks, Aggregates}
 use Rattle.ipnetwork_c.specs.Blocks.{RangeOperation, WritesSubnet}
 use Rattle.ipnetwork_c.specs.Sets.{SetOperation, BothFit, BothAreSets}
-use Rattle.ipnetwork_c.specs.Columns.{AnswersRows}
-use Rattle.ipnetwork_c.specs.TextColumns.{row_count, row_text, AreOffsets, ReadsColumn}
-use Rattle.ipnetwork_c.specs.PrintedColumns.{PrintsRows, HasColumnRoom, FirstRefused, PrintsColumn}
+use Rattle.ipnetwork_c.specs.Columns.{member_flag, AnswersRows}
+use Rattle.ipnetwork_c.specs.TextColumns.{row_count, row_text, AreOffsets, ReadsRows, ReadsColumn}
+use Rattle.ipnetwork_c.specs.PrintedColumns.{PrintsRows, HasColumnRoom, FirstRefused, PrintsColumn, v4_fits, v4_refused, v4_text, v6_fits, v6_refused, v6_text, ip_text, address_text}
 
 -- ---- columns of texts
 
@@ -39,6 +42,18 @@ pub no_offsets_read_nothing : {R : Type 0} (Reads : List ℕ → R → R → ℕ
 no_offsets_read_nothing Reads texts offsets before after (On (are, On (room, (is, rows)))) = absurd (omega (arith, is))
 no_offsets_read_nothing Reads texts offsets before after (On (are, Nothing (none, is) same)) = absurd (omega (arith, is))
 no_offsets_read_nothing Reads texts offsets before after (Nothing (not, is) same) = (not, same)
+
+pub texts_without_room_are_not_read : {R : Type 0} (Reads : List ℕ → R → R → ℕ → Type 0) (texts offsets : List ℕ) (before after : List R × List ℕ) → ReadsColumn Reads texts offsets before after short_buffer
+    → ¬ ((row_count offsets ≤ length before.0) × (row_count offsets ≤ length before.1)) × (after ≡ before)
+texts_without_room_are_not_read Reads texts offsets before after (On (are, On (room, (is, rows)))) = absurd (omega (arith, is))
+texts_without_room_are_not_read Reads texts offsets before after (On (are, Nothing (none, is) same)) = (none, same)
+texts_without_room_are_not_read Reads texts offsets before after (Nothing (not, is) same) = absurd (omega (arith, is))
+
+pub texts_with_room_are_read : {R : Type 0} (Reads : List ℕ → R → R → ℕ → Type 0) (texts offsets : List ℕ) (before after : List R × List ℕ) → ReadsColumn Reads texts offsets before after ok
+    → AreOffsets texts offsets × ReadsRows Reads texts offsets (row_count offsets) before.0 after.0 before.1 after.1
+texts_with_room_are_read Reads texts offsets before after (On (are, On (room, (is, rows)))) = (are, rows)
+texts_with_room_are_read Reads texts offsets before after (On (are, Nothing (none, is) same)) = absurd (omega (arith, is))
+texts_with_room_are_read Reads texts offsets before after (Nothing (not, is) same) = absurd (omega (arith, is))
 
 -- ---- columns that are printed
 
@@ -64,6 +79,12 @@ without_room_the_length_is_told Fits Refused text rows before after told_before 
 without_room_the_length_is_told Fits Refused text rows before after told_before told other (On (fit, (told_is, Nothing (none, is) same))) = (none, told_is, same)
 without_room_the_length_is_told Fits Refused text rows before after told_before told other (Nothing (i, r, there, fit, refused) same) = absurd (other r refused)
 
+pub rows_with_room_are_printed : {R : Type 0} (Fits : R → Type 0) (Refused : R → ℕ → Type 0) (text : R → List ℕ) (rows : List R) (before after : List ℕ × List ℕ) (told_before told : ℕ) → ((r : R) → ¬ (Refused r ok))
+    → PrintsColumn Fits Refused text rows (before, told_before) (after, told) ok → All Fits rows × (told ≡ length (flat_map text rows)) × PrintsRows text rows before.0 after.0 before.1 after.1
+rows_with_room_are_printed Fits Refused text rows before after told_before told other (On (fit, (told_is, On (room, (is, (size_is, prints)))))) = (fit, size_is, prints)
+rows_with_room_are_printed Fits Refused text rows before after told_before told other (On (fit, (told_is, Nothing (none, is) same))) = absurd (omega (arith, is))
+rows_with_room_are_printed Fits Refused text rows before after told_before told other (Nothing (i, r, there, fit, refused) same) = absurd (other r refused)
+
 -- of two rows that do not fit the fault is that of the first
 pub the_first_refused_row_is_told : (code : ℕ) → FirstRefused (λ r. r ≡ 0) (λ r fault. fault ≡ r) (7 ∷ 8 ∷ []) code → code ≡ 7
 the_first_refused_row_is_told code (zero, r, there, fit, refused) = let is : Some 7 ≡ Some r = there in let same : 7 ≡ r = cc in omega (arith, same, refused)
@@ -76,7 +97,46 @@ a_byte_behind_the_texts_stays offsets_before offsets h = let behind : 0 ≡ 7 = 
 pub the_last_offset_is_the_end : (texts before : List ℕ) → ¬ (PrintsRows (λ (r : ℕ). (48 + r) ∷ []) (1 ∷ []) before texts (9 ∷ 9 ∷ []) (0 ∷ 9 ∷ []))
 the_last_offset_is_the_end texts before h = let end : 9 ≡ 1 = h.offset 1 (omega arith) in omega (arith, end)
 
+pub an_offset_behind_the_last_stays : (texts before : List ℕ) → ¬ (PrintsRows (λ (r : ℕ). []) [] before texts (9 ∷ 9 ∷ []) (0 ∷ 8 ∷ []))
+an_offset_behind_the_last_stays texts before h = let behind : ◌≡◌ {A = Option ℕ} (Some 8) (Some 9) = h.rest 1 (omega arith) in let is : ◌≡◌ {A = ℕ} 8 9 = cc in omega (arith, is)
+
+pub full_widths_are_printed : v4_fits (record { address = []; prefix = 32 }) × v6_fits (record { address = []; prefix = 128 })
+full_widths_are_printed = (omega arith, omega arith)
+
+pub more_than_the_width_is_refused : v4_refused (record { address = []; prefix = 33 }) prefix × v6_refused (record { address = []; prefix = 129 }) prefix
+more_than_the_width_is_refused = (((λ h. omega (arith, h)), refl), ((λ h. omega (arith, h)), refl))
+
+pub a_full_width_is_not_refused : ¬ (v4_refused (record { address = []; prefix = 32 }) prefix)
+a_full_width_is_not_refused h = h.0 (omega arith)
+
+pub a_row_is_printed_as_its_network : v4_text (record { address = 10 ∷ 0 ∷ 0 ∷ 1 ∷ []; prefix = 8 }) ≡ codes "10.0.0.1/8"
+unfolding digits
+a_row_is_printed_as_its_network = refl
+
+pub a_row_of_ipv6_too : v6_text (record { address = replicate 15 0 ++ 1 ∷ []; prefix = 128 }) ≡ codes "::1/128"
+unfolding digits
+a_row_of_ipv6_too = refl
+
+pub a_row_of_either_family_too : ip_text (record { family = 4; v4 = record { address = 10 ∷ 0 ∷ 0 ∷ 1 ∷ []; prefix = 8 }; v6 = record { address = []; prefix = 0 } }) ≡ codes "10.0.0.1/8"
+unfolding digits
+a_row_of_either_family_too = refl
+
+pub a_row_is_printed_as_its_address : address_text (record { octets = 10 ∷ 0 ∷ 0 ∷ 1 ∷ replicate 12 0; length = 4 }) ≡ codes "10.0.0.1"
+unfolding digits
+a_row_is_printed_as_its_address = refl
+
 -- ---- answers by row
+
+pub a_member_is_told_as_one : member_flag 32 (record { address = 0x0a000000; prefix = 8 }) (10 ∷ 1 ∷ 2 ∷ 3 ∷ []) ≡ 1
+a_member_is_told_as_one = refl
+
+pub what_is_no_member_is_told_as_zero : member_flag 32 (record { address = 0x0a000000; prefix = 8 }) (3 ∷ 2 ∷ 1 ∷ 10 ∷ []) ≡ 0
+what_is_no_member_is_told_as_zero = refl
+
+pub an_answer_behind_the_rows_stays : ¬ (AnswersRows 32 (record { address = 0; prefix = 0 }) [] (7 ∷ []) (8 ∷ []) ok)
+an_answer_behind_the_rows_stays (On (fits, On (room, (is, answers)))) = let same : 8 ≡ 7 = ap (λ (l : List ℕ). get_or l 0 0) answers in omega (arith, same)
+an_answer_behind_the_rows_stays (On (fits, Nothing (none, is) same)) = omega (arith, is)
+an_answer_behind_the_rows_stays (Nothing (not, is) same) = omega (arith, is)
 
 pub rows_without_room_are_not_answered : (w : ℕ) (n : Network) (rows : List (List ℕ)) (before after : List ℕ) → AnswersRows w n rows before after short_buffer → (length before < length rows) × (after ≡ before)
 rows_without_room_are_not_answered w n rows before after (On (fits, On (room, (is, answers)))) = absurd (omega (arith, is))
@@ -99,6 +159,11 @@ pub blocks_without_room_are_counted : {C : Type 0} (w : ℕ) (held : C → Netwo
     → (blocks : List Network) × IsLeastList w set blocks × (length before < length blocks) × (told ≡ min (length blocks) (2 ^ 64 - 1)) × (after ≡ before)
 blocks_without_room_are_counted w held set before after told_before told (blocks, least, (told_is, On (room, (is, stand)))) = absurd (omega (arith, is))
 blocks_without_room_are_counted w held set before after told_before told (blocks, least, (told_is, Nothing (none, is) same)) = (blocks, least, omega (arith, none), told_is, same)
+
+pub blocks_with_room_are_put : {C : Type 0} (w : ℕ) (held : C → Network) (set : ℕ → Type 0) (before after : List C) (told_before told : ℕ) → PutsBlocks w held set (before, told_before) (after, told) ok
+    → (blocks : List Network) × IsLeastList w set blocks × (told ≡ length blocks) × StandInFront held blocks before after
+blocks_with_room_are_put w held set before after told_before told (blocks, least, (told_is, On (room, (is, (size_is, stand))))) = (blocks, least, size_is, stand)
+blocks_with_room_are_put w held set before after told_before told (blocks, least, (told_is, Nothing (none, is) same)) = absurd (omega (arith, is))
 
 pub a_range_that_is_turned_round_is_none : {C : Type 0} (w : ℕ) (held : C → Network) (before after : List C × ℕ) (code : ℕ) → RangeOperation w held 7 6 before after code → (code ≡ no_range) × (after ≡ before)
 a_range_that_is_turned_round_is_none w held before after code (On (order, puts)) = absurd (omega (arith, order))
@@ -123,7 +188,22 @@ pub no_wider_block_lies_within : (before after : Ipv4InC) (code : ℕ) → Write
 no_wider_block_lies_within before after code (On (fit, goes)) = let from = fit.1 in absurd (omega (arith, from))
 no_wider_block_lies_within before after code (Nothing (not, is) same) = (is, same)
 
+pub an_address_is_a_block : (before after : Ipv4InC) (code : ℕ) → WritesSubnet 32 HoldsV4 (record { address = 0; prefix = 31 }) 32 1 before after code → code ≡ ok
+an_address_is_a_block before after code (On (fit, On (below, (is, holds)))) = is
+an_address_is_a_block before after code (On (fit, Nothing (above, is) same)) = absurd (above (omega arith))
+an_address_is_a_block before after code (Nothing (not, is) same) = absurd (not (omega arith, omega arith, omega arith))
+
+pub no_block_is_past_the_width : (before after : Ipv4InC) (code : ℕ) → WritesSubnet 32 HoldsV4 (record { address = 0; prefix = 31 }) 33 0 before after code → code ≡ prefix
+no_block_is_past_the_width before after code (On ((fits, from, to), goes)) = absurd (omega (arith, to))
+no_block_is_past_the_width before after code (Nothing (not, is) same) = is
+
 -- ---- sets
+
+pub both_lists_fit : {C : Type 0} (w : ℕ) (held : C → Network) (first second : List C) → BothFit w held first second → All (λ c. PrefixFits w (held c)) first × All (λ c. PrefixFits w (held c)) second
+both_lists_fit w held first second h = h
+
+pub both_lists_are_those_of_sets : {C : Type 0} (w : ℕ) (held : C → Network) (first second : List C) → BothAreSets w held first second → IsAddressSet w (map held first) × IsAddressSet w (map held second)
+both_lists_are_those_of_sets w held first second h = h
 
 -- a prefix length past the width comes before a list that is none of a set
 pub no_set_fits : {C : Type 0} (w : ℕ) (held : C → Network) (Leaves : List Network → List Network → ℕ → Type 0) (first second : List C) (before after : List C × ℕ) → SetOperation w held Leaves first second before after no_set
@@ -132,6 +212,17 @@ no_set_fits w held Leaves first second before after (On (fit, On (are, (blocks, 
 no_set_fits w held Leaves first second before after (On (fit, On (are, (blocks, least, (told_is, Nothing (none, is) same))))) = absurd (omega (arith, is))
 no_set_fits w held Leaves first second before after (On (fit, Nothing (not, is) same)) = (fit, not, same)
 no_set_fits w held Leaves first second before after (Nothing (not, is) same) = absurd (omega (arith, is))
+
+pub sets_are_put_together : {C : Type 0} (w : ℕ) (held : C → Network) (Leaves : List Network → List Network → ℕ → Type 0) (first second : List C) (before after : List C × ℕ) → SetOperation w held Leaves first second before after ok
+    → BothAreSets w held first second × PutsBlocks w held (Leaves (map held first) (map held second)) before after ok
+sets_are_put_together w held Leaves first second before after (On (fit, On (are, puts))) = (are, puts)
+sets_are_put_together w held Leaves first second before after (On (fit, Nothing (not, is) same)) = absurd (omega (arith, is))
+sets_are_put_together w held Leaves first second before after (Nothing (not, is) same) = absurd (omega (arith, is))
+
+pub an_aggregate_stands_in_front : {C : Type 0} (w : ℕ) (held : C → Network) (before after : List C × ℕ) → Aggregates w held before after ok
+    → (after.1 ≤ length before.0) × IsAggregate w (map held before.0) (map held (take after.1 after.0)) × All (λ c. PrefixFits w (held c)) after.0
+an_aggregate_stands_in_front w held before after (On (fit, (is, done))) = done
+an_aggregate_stands_in_front w held before after (Nothing (not, is) same) = absurd (omega (arith, is))
 
 pub a_refused_list_is_not_aggregated : {C : Type 0} (w : ℕ) (held : C → Network) (before after : List C × ℕ) (code : ℕ) → code ≢ ok → Aggregates w held before after code
     → ¬ (All (λ c. PrefixFits w (held c)) before.0) × (after ≡ before)

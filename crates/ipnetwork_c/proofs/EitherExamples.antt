@@ -1,6 +1,6 @@
 -- Results of calls of either family and of tables, and ends of sets: with which number the answer is there, and with which
 -- nothing has been written.
-use Rattle.std.proofs.Common.{◌≡◌, ◌≢◌, ℕ, ◌+◌, ◌<◌, ◌≤◌, List, [], ◌∷◌, ◌++◌, length, map, drop, refl, arith}
+use Rattle.std.proofs.Common.{◌≡◌, ◌≢◌, ℕ, ◌+◌, ◌<◌, ◌≤◌, List, [], ◌∷◌, ◌++◌, length, map, drop, get_or, refl, arith}
 use Rattle.std.specs.Prelude.{Option, Some, None, take}
 use Rattle.std.specs.List.{All}
 use Rattle.ipnetwork_addr.specs.declared.ip.IpAddr.{IpAddr}
@@ -19,7 +19,7 @@ use Rattle.ipnetwork_c.specs.Answers.{IsFlag, StandsIn, PutsText}
 use Rattle.ipnetwork_c.specs.Columns.{AnswersEach}
 use Rattle.ipnetwork_c.specs.Either.{address_in, MemberQuery, NoAddress, NoIpNetwork, OfNetwork, StandsForIp}
 use Rattle.ipnetwork_c.specs.Either.NoIpNetwork.{NoFamily as ip_no_family, NoPrefix as ip_no_prefix}
-use Rattle.ipnetwork_c.specs.Tables.{TableRows, IsTableOf, MakesTable}
+use Rattle.ipnetwork_c.specs.Tables.{TableQuery, TableRows, IsTableOf, MakesTable}
 use Rattle.ipnetwork_c.specs.Private.Together.{IsEnd}
 use Rattle.ipnetwork_c.specs.Private.Together.IsEnd.{LastOfAll, BlockEnds, BlockBegins}
 
@@ -44,6 +44,11 @@ no_member_is_told_after_a_fault held octets before after code fault (Nothing (no
 pub five_octets_are_of_no_family : (held : IpInC) (before after code : ℕ) → MemberQuery held (1 ∷ 2 ∷ 3 ∷ 4 ∷ 5 ∷ []) before after code → code ≡ no_family
 five_octets_are_of_no_family held before after code (On (a, address_told, goes)) = let none : None ≡ Some a = address_told in cc
 five_octets_are_of_no_family held before after code (Nothing (none, is) same) = is
+
+pub four_octets_are_not_refused : (held : IpInC) (before after code : ℕ) → code ≢ ok → MemberQuery held (1 ∷ 2 ∷ 3 ∷ 4 ∷ []) before after code → NoIpNetwork held code
+four_octets_are_not_refused held before after code fault (On (a, address_told, On (n, stands, (is, flag)))) = absurd (fault is)
+four_octets_are_not_refused held before after code fault (On (a, address_told, Nothing none same)) = none
+four_octets_are_not_refused held before after code fault (Nothing (none, is) same) = let some : Some (addresses.V4 0x01020304) ≡ None = none in cc
 
 pub no_ipv4_address_is_a_member_of_an_ipv6_network : (n : Network) (a : ℕ) → ¬ (IsFlag (IpMember (V6 n) (addresses.V4 a)) 1)
 no_ipv4_address_is_a_member_of_an_ipv6_network n a h = h.1.0 refl
@@ -70,6 +75,9 @@ a_row_has_a_fault_of_its_own Answers before after faults_before h =
     let none : None ≡ Some row.2 = row.5 in
     cc
 
+pub a_fault_behind_the_last_stays : (Answers : ℕ → ℕ → ℕ → ℕ → Type 0) (before after : List ℕ) → ¬ (AnswersEach Answers 0 before after (7 ∷ []) (8 ∷ []))
+a_fault_behind_the_last_stays Answers before after h = let same : ◌≡◌ {A = Option ℕ} (Some 8) (Some 7) = h.fault_rest 0 (omega arith) in let is : ◌≡◌ {A = ℕ} 8 7 = cc in omega (arith, is)
+
 pub a_row_behind_the_last_stays : (Answers : ℕ → ℕ → ℕ → ℕ → Type 0) (faults_before faults : List ℕ) → ¬ (AnswersEach Answers 0 (7 ∷ []) (8 ∷ []) faults_before faults)
 a_row_behind_the_last_stays Answers faults_before faults h = let same : ◌≡◌ {A = Option ℕ} (Some 8) (Some 7) = h.rest 0 (omega arith) in let is : ◌≡◌ {A = ℕ} 8 7 = cc in omega (arith, is)
 
@@ -95,6 +103,11 @@ pub a_table_that_is_made_is_written : {C : Type 0} (w : ℕ) (held : C → Netwo
 a_table_that_is_made_is_written w held networks before after places_before places (On (fit, On (room, (is, table)))) = table
 a_table_that_is_made_is_written w held networks before after places_before places (On (fit, Nothing (none, is) same)) = absurd (omega (arith, is))
 a_table_that_is_made_is_written w held networks before after places_before places (Nothing (not, is) same) = absurd (omega (arith, is))
+
+pub addresses_with_room_are_asked : {C : Type 0} (w : ℕ) (held : C → Network) (list : List C) (asked : List (List ℕ)) (before after : List ℕ × List ℕ) → TableRows w held list asked before after ok
+    → AnswersEach (λ i. TableQuery w held list (number_of_octets (get_or asked i []))) (length asked) before.0 after.0 before.1 after.1
+addresses_with_room_are_asked w held list asked before after (On (room, (is, rows))) = rows
+addresses_with_room_are_asked w held list asked before after (Nothing (none, is) same) = absurd (omega (arith, is))
 
 -- ---- ends
 

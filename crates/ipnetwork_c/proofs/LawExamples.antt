@@ -5,11 +5,14 @@ use Rattle.std.specs.Fmt.{digits}
 use Rattle.ipnetwork_addr.specs.Digits.{digits_in, octets_of, octets_of_v6}
 use Rattle.ipnetwork_addr.specs.Ipv4Text.{canonical_v4}
 use Rattle.ipnetwork_addr.specs.Computed.Ipv6Canonical.{canonical_v6}
-use Rattle.ipnetwork_addr.specs.Either.{canonical_ip}
+use Rattle.ipnetwork_addr.specs.Either.{FitsIp, canonical_ip}
+use Rattle.ipnetwork_addr.specs.declared.ip.IpAddr.{IpAddr}
 use Rattle.ipnetwork_addr.specs.declared.ip.IpAddr.TheVariants as addresses
 use Rattle.ipnetwork_family.specs.Network.{Network, IsNetwork}
 use Rattle.ipnetwork_family.specs.NetworkText.{network_text}
+use Rattle.ipnetwork.specs.declared.ip_network.IpNetwork.{IpNetwork}
 use Rattle.ipnetwork.specs.declared.ip_network.IpNetwork.TheVariants.{V4, V6}
+use Rattle.ipnetwork.specs.IpNetworks.{IsIpNetwork}
 use Rattle.ipnetwork.specs.IpNetworkText.{ip_network_text}
 use Rattle.ipnetwork_c.specs.declared.structs.Ipv4InC.{Ipv4InC}
 use Rattle.ipnetwork_c.specs.declared.structs.Ipv6InC.{Ipv6InC}
@@ -111,6 +114,21 @@ pub a_number_of_no_fault : FaultTextsFit → length (fault_text 0xffffffff) < 40
 a_number_of_no_fault law = law 0xffffffff
 
 -- so a call that is given a buffer of so many bytes is not refused for want of room
-pub nineteen_bytes_are_enough : V4TextsFit → (n : Network) → IsNetwork 32 n → (before after : List ℕ × ℕ) → 19 ≤ length before.0 → ¬ (PutsText (network_text canonical_v4 n) before after short_buffer)
-nineteen_bytes_are_enough law n is before after room (told, On (fits, (done, stands))) = omega (arith, done)
-nineteen_bytes_are_enough law n is before after room (told, Nothing (none, fault) same) = none (omega (arith, room, law n is))
+enough : (text : List ℕ) (size : ℕ) (before after : List ℕ × ℕ) → length text < size → size ≤ length before.0 → ¬ (PutsText text before after short_buffer)
+enough text size before after short room (told, On (fits, (is, stands))) = omega (arith, is)
+enough text size before after short room (told, Nothing (none, is) same) = none (omega (arith, room, short))
+
+pub enough_for_ipv4_networks : V4TextsFit → (n : Network) → IsNetwork 32 n → (before after : List ℕ × ℕ) → 19 ≤ length before.0 → ¬ (PutsText (network_text canonical_v4 n) before after short_buffer)
+enough_for_ipv4_networks law n is before after = enough (network_text canonical_v4 n) 19 before after (law n is)
+
+pub enough_for_ipv6_networks : V6TextsFit → (n : Network) → IsNetwork 128 n → (before after : List ℕ × ℕ) → 44 ≤ length before.0 → ¬ (PutsText (network_text canonical_v6 n) before after short_buffer)
+enough_for_ipv6_networks law n is before after = enough (network_text canonical_v6 n) 44 before after (law n is)
+
+pub enough_for_networks : IpTextsFit → (n : IpNetwork) → IsIpNetwork n → (before after : List ℕ × ℕ) → 44 ≤ length before.0 → ¬ (PutsText (ip_network_text n) before after short_buffer)
+enough_for_networks law n is before after = enough (ip_network_text n) 44 before after (law n is)
+
+pub enough_for_addresses : AddressTextsFit → (a : IpAddr) → FitsIp a → (before after : List ℕ × ℕ) → 40 ≤ length before.0 → ¬ (PutsText (canonical_ip a) before after short_buffer)
+enough_for_addresses law a fits before after = enough (canonical_ip a) 40 before after (law a fits)
+
+pub enough_for_faults : FaultTextsFit → (fault : ℕ) (before after : List ℕ × ℕ) → 40 ≤ length before.0 → ¬ (PutsText (fault_text fault) before after short_buffer)
+enough_for_faults law fault before after = enough (fault_text fault) 40 before after (law fault)

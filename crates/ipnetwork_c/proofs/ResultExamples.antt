@@ -1,23 +1,22 @@
 -- What the results of calls exclude: with which number the answer is there, and with which nothing has been written.
 use Rattle.std.proofs.Common.{◌≡◌, ◌≢◌, ℕ, ◌+◌, ◌-◌, ◌^◌, ◌<◌, ◌≤◌, ◌⊎◌, List, [], ◌∷◌, length, inl, inr, refl, arith}
-use Rattle.std.specs.Prelude.{pos, min, Result, Err}
+use Rattle.std.specs.Prelude.{pos, min, Result, Ok, Err}
 use Rattle.std.specs.declared.cmp.Ordering.TheVariants.{Equal, Greater}
 use Rattle.ipnetwork_addr.specs.Either.{NamesIp}
 use Rattle.ipnetwork_addr.specs.declared.ip.IpAddr.{IpAddr}
 use Rattle.ipnetwork_family.specs.Network.{Network, IsNoMask, mask_of, members}
 use Rattle.ipnetwork_family.specs.declared.error.CidrFault.{CidrFault}
-use Rattle.ipnetwork_family.specs.declared.error.CidrFault.TheVariants.{Addr}
+use Rattle.ipnetwork_family.specs.declared.error.CidrFault.TheVariants.{Format, Addr, Prefix}
 use Rattle.ipnetwork.specs.declared.ip_network.IpNetwork.{IpNetwork}
 use Rattle.ipnetwork_c.specs.declared.structs.IpInC.{IpInC}
 use Rattle.ipnetwork_c.specs.declared.address.AddressInC.{AddressInC}
 use Rattle.ipnetwork_c.specs.Numbers.{ok, address, prefix, short_buffer, no_mask, no_member, order_number, fault_number}
-use Rattle.ipnetwork_c.specs.Held.{PrefixFits}
 use Rattle.ipnetwork_c.specs.Outcomes.{Writes, Needs, Finds, Puts}
 use Rattle.ipnetwork_c.specs.Outcomes.Unless.{On, Nothing}
 use Rattle.ipnetwork_c.specs.Answers.{ReadsInto, IfFit, IsFlag, PutsText, WritesPrefix, HasSize, IsNth, WritesMember}
-use Rattle.ipnetwork_c.specs.Either.{ReadsAddress, OfNetwork, NoIpNetwork, StandsForIp}
+use Rattle.ipnetwork_c.specs.Either.{HoldsAddress, ReadsAddress, OfNetwork, NoIpNetwork, StandsForIp}
 use Rattle.ipnetwork_c.specs.Either.NoIpNetwork.{NoFamily, NoPrefix}
-use Rattle.ipnetwork_c.proofs.MemberCounts.{ends_apart}
+use Rattle.ipnetwork_c.proofs.MemberCounts.{ends_apart, nth_from_least}
 
 -- ---- numbers
 
@@ -85,6 +84,15 @@ pub a_refused_text_leaves_the_struct : {N C : Type 0} (Reads : List ℕ → Resu
 a_refused_text_leaves_the_struct Reads Holds text before after code fault (On (n, reads, (is, holds))) = absurd (fault is)
 a_refused_text_leaves_the_struct Reads Holds text before after code fault (Nothing (cause, (reads, is)) same) = (cause, reads, is, same)
 
+pub a_read_text_is_held : {N C : Type 0} (Reads : List ℕ → Result N CidrFault → Type 0) (Holds : C → N → Type 0) (text : List ℕ) (before after : C) → ReadsInto Reads Holds text before after ok → (n : N) × Reads text (Ok n) × Holds after n
+a_read_text_is_held Reads Holds text before after (On (n, reads, (is, holds))) = (n, reads, holds)
+a_read_text_is_held Reads Holds text before after (Nothing (cause, (reads, is)) same) = absurd (no_cause_is_ok cause is)
+  where
+    no_cause_is_ok : (cause : CidrFault) → ok ≡ fault_number cause → ⊥
+    no_cause_is_ok Format is = omega (arith, is)
+    no_cause_is_ok Addr is = omega (arith, is)
+    no_cause_is_ok Prefix is = omega (arith, is)
+
 -- ---- masks and members
 
 -- a mask is told as its prefix length, and not refused
@@ -95,6 +103,10 @@ a_mask_is_not_refused w p before after fits (Nothing (none, is) same) = none p f
 pub no_mask_has_no_prefix_length : (w mask before after : ℕ) → IsNoMask w mask → ¬ (WritesPrefix w mask before after ok)
 no_mask_has_no_prefix_length w mask before after not (On (is, (within, same))) = not after within same
 no_mask_has_no_prefix_length w mask before after not (Nothing (none, is) same) = omega (arith, is)
+
+pub a_mask_is_told_by_its_prefix_length : (w mask before after : ℕ) → WritesPrefix w mask before after ok → (after ≤ w) × (mask ≡ mask_of w after)
+a_mask_is_told_by_its_prefix_length w mask before after (On (is, (within, same))) = (within, same)
+a_mask_is_told_by_its_prefix_length w mask before after (Nothing (none, is) same) = absurd (omega (arith, is))
 
 pub no_mask_is_not_written : (w mask before after : ℕ) → WritesPrefix w mask before after no_mask → after ≡ before
 no_mask_is_not_written w mask before after (On (is, (within, equal))) = absurd (omega (arith, is))
@@ -111,6 +123,11 @@ pub the_network_and_the_broadcast_address_count : (size : ℕ) → size ≢ 4 �
 the_network_and_the_broadcast_address_count size other h =
     let apart : 0x0a000000 + length (members 32 (record { address = 0x0a000001; prefix = 30 })) ≡ 0x0a000003 + 1 = ends_apart 32 (record { address = 0x0a000001; prefix = 30 }) in
     other (omega (arith, apart, h))
+
+pub the_first_member_is_the_least : IsNth 32 (record { address = 0x0a000001; prefix = 30 }) 0 0x0a000000
+the_first_member_is_the_least =
+    let apart : 0x0a000000 + length (members 32 (record { address = 0x0a000001; prefix = 30 })) ≡ 0x0a000003 + 1 = ends_apart 32 (record { address = 0x0a000001; prefix = 30 }) in
+    nth_from_least 32 (record { address = 0x0a000001; prefix = 30 }) 0 0x0a000000 (omega (arith, apart)) refl
 
 pub a_member_that_is_there_is_written : (w : ℕ) (octets_of : ℕ → List ℕ) (n : Network) (i : ℕ) (before after : List ℕ) → i < length (members w n) → ¬ (WritesMember w octets_of n i before after no_member)
 a_member_that_is_there_is_written w octets_of n i before after there (On (fits, On (x, nth, (is, octets)))) = omega (arith, is)
@@ -132,6 +149,10 @@ no_member_is_written_after_a_fault w octets_of n i before after code fault (Noth
 pub a_named_address_is_not_refused : (text : List ℕ) (a : IpAddr) (before after : AddressInC) (code : ℕ) → NamesIp text a → code ≢ ok → ¬ (ReadsAddress text before after code)
 a_named_address_is_not_refused text a before after code names fault (On (b, also, (is, holds))) = fault is
 a_named_address_is_not_refused text a before after code names fault (Nothing (none, is) same) = none a names
+
+pub a_named_address_is_held : (text : List ℕ) (before after : AddressInC) → ReadsAddress text before after ok → (a : IpAddr) × NamesIp text a × HoldsAddress after a
+a_named_address_is_held text before after (On (b, names, (is, holds))) = (b, names, holds)
+a_named_address_is_held text before after (Nothing (none, is) same) = absurd (omega (arith, is))
 
 pub no_address_leaves_the_struct : (text : List ℕ) (before after : AddressInC) → ReadsAddress text before after address → after ≡ before
 no_address_leaves_the_struct text before after (On (b, also, (is, holds))) = absurd (omega (arith, is))

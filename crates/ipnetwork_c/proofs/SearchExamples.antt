@@ -1,21 +1,23 @@
 -- Searches of lists in which a prefix length is past the width, and lists at which a misreading of the definitions would
 -- show.
-use Rattle.std.proofs.Common.{◌≡◌, ◌≢◌, ℕ, zero, suc, ◌+◌, ◌<◌, ◌≤◌, ◌-◌, List, [], ◌∷◌, map, length, get_or, refl, sym, ap, subst, ◌∙◌, arith}
+use Rattle.std.proofs.Common.{◌≡◌, ◌≢◌, ℕ, zero, suc, ◌+◌, ◌<◌, ◌≤◌, ◌-◌, List, [], ◌∷◌, map, length, get_or, refl, sym, ap, subst, lit<, lit≤, ◌∙◌, arith}
 use Rattle.std.specs.Prelude.{Some, None}
 use Rattle.std.specs.List.{All}
 use Rattle.std.proofs.lemmas.List.{length-map, get_or-map}
-use Rattle.std.proofs.lemmas.Option.{slice_get_within, get_or_from_slice_get}
-use Rattle.ipnetwork_family.specs.Network.{Network}
+use Rattle.std.proofs.lemmas.Option.{slice_get_within, get_or_from_slice_get, same_Some}
+use Rattle.ipnetwork_family.specs.Bits.{SharesBits}
+use Rattle.ipnetwork_family.specs.Network.{Network, Member, IsCidrBlock, block_at}
 use Rattle.ipnetwork_blocks.specs.Aggregate.{InUnion}
 use Rattle.ipnetwork_sets.specs.Sets.{IsAddressSet}
 use Rattle.ipnetwork_c.specs.declared.structs.Ipv4InC.{Ipv4InC}
-use Rattle.ipnetwork_c.specs.Numbers.{ok, prefix}
+use Rattle.ipnetwork_c.specs.Numbers.{ok, prefix, no_member}
 use Rattle.ipnetwork_c.specs.Held.{v4_in}
 use Rattle.ipnetwork_c.specs.Searches.{StandsAt, LastFits, ComesTo}
 use Rattle.ipnetwork_c.specs.Searches.ComesTo.{First, On}
 use Rattle.ipnetwork_c.specs.Outcomes.Unless.{On, Nothing}
 use Rattle.ipnetwork_c.specs.Lists.{FindsIn, SetQuery}
-use Rattle.ipnetwork_c.specs.Tables.{TableQuery}
+use Rattle.ipnetwork_c.specs.Tables.{IsTable, FindsLongest, TableQuery}
+use Rattle.ipnetwork_c.proofs.TableFinding.{around_both}
 
 -- the address 0.0.0.5 and the prefix length 200
 abbrev past : Network
@@ -70,7 +72,71 @@ a_table_that_fits_is_not_refused list x before after fit (i, comes, On (fits, No
 a_table_that_fits_is_not_refused list x before after fit (i, comes, On (fits, On (is, finds))) = omega (arith, is)
 a_table_that_fits_is_not_refused list x before after fit (i, comes, Nothing (not, is) same) = not (last_of_what_fits list i fit)
 
+-- 10.1.0.0/16 has the address: the search does not go on to the struct before it
+abbrev past_wide : Network
+past_wide = record { address = 0x0a000000; prefix = 200 }
+
+abbrev narrow : Network
+narrow = record { address = 0x0a010000; prefix = 16 }
+
+stands_behind_both : (i : ℕ) → StandsAt (past_wide ∷ narrow ∷ []) 0x0a010001 i → i ≡ 2
+stands_behind_both zero h = let later : 0x0a010001 < 0x0a000000 = h.next past_wide refl in absurd (omega (arith, later))
+stands_behind_both (suc zero) h = let later : 0x0a010001 < 0x0a010000 = h.next narrow refl in absurd (omega (arith, later))
+stands_behind_both (suc (suc zero)) h = refl
+stands_behind_both (suc (suc (suc i))) h = let within : suc (suc (suc i)) ≤ 2 = h.within in absurd (omega (arith, within))
+
+stays_at_the_first : (i : ℕ) → ComesTo 32 (past_wide ∷ narrow ∷ []) 0x0a010001 i → i ≡ 2
+stays_at_the_first i (First j stands) = stands_behind_both j stands
+stays_at_the_first i (On zero shared j n comes passes shares stands) = let fits = passes.fits in let same : Some past_wide ≡ Some n = passes.here in let is : 200 ≡ n.prefix = cc in absurd (omega (arith, is, fits))
+stays_at_the_first i (On (suc zero) shared j n comes passes shares stands) = let same : Some narrow ≡ Some n = passes.here in absurd (passes.has_not (subst (λ (m : Network). Member 32 m 0x0a010001) (same_Some _ _ same) (lit< tt, refl)))
+stays_at_the_first i (On (suc (suc k)) shared j n comes passes shares stands) = let none : None ≡ Some n = passes.here in cc
+
+pub a_struct_that_the_search_does_not_come_to_is_not_judged : (before after : ℕ) → ¬ (TableQuery 32 v4_in (record { address = 10 ∷ 0 ∷ 0 ∷ 0 ∷ []; prefix = 200 } ∷ record { address = 10 ∷ 1 ∷ 0 ∷ 0 ∷ []; prefix = 16 } ∷ []) 0x0a010001 before after prefix)
+a_struct_that_the_search_does_not_come_to_is_not_judged before after (i, comes, On (fits, Nothing (none, is) same)) = omega (arith, is)
+a_struct_that_the_search_does_not_come_to_is_not_judged before after (i, comes, On (fits, On (is, finds))) = omega (arith, is)
+a_struct_that_the_search_does_not_come_to_is_not_judged before after (i, comes, Nothing (not, is) same) =
+    not (subst (LastFits 32 (past_wide ∷ narrow ∷ [])) (sym (stays_at_the_first i comes)) (λ n some there. let told : Some narrow ≡ Some n = there in let prefix_is : 16 ≡ n.prefix = cc in omega (arith, prefix_is)))
+
+-- 10.2.0.0 is not in 10.1.0.0/16: the search goes on to the struct before it, which begins no later than a block with both
+comes_to_the_first_too : (i : ℕ) → ComesTo 32 (past_wide ∷ narrow ∷ []) 0x0a020000 i → 0 < i
+comes_to_the_first_too i (First j stands) = first j stands
+  where
+    first : (j : ℕ) → StandsAt (past_wide ∷ narrow ∷ []) 0x0a020000 j → 0 < j
+    first zero h = let later : 0x0a020000 < 0x0a000000 = h.next past_wide refl in absurd (omega (arith, later))
+    first (suc j) h = omega arith
+comes_to_the_first_too i (On zero shared j n comes passes shares stands) = let fits = passes.fits in let same : Some past_wide ≡ Some n = passes.here in let is : 200 ≡ n.prefix = cc in absurd (omega (arith, is, fits))
+comes_to_the_first_too i (On (suc zero) shared j n comes passes shares stands) =
+    let same : Some narrow ≡ Some n = passes.here in
+    let address_is = ap (λ (m : Network). m.address) (same_Some _ _ same) in
+    let shared_by = subst (λ (a : ℕ). SharesBits 32 a 0x0a020000 shared) (sym address_is) shares in
+    let wide : Network = record { address = 0x0a000000; prefix = 8 } in
+    let is : IsCidrBlock 32 wide = record { network = record { address_fits = lit< tt; prefix_fits = lit≤ tt }; block = refl } in
+    let begins = around_both 32 wide 0x0a010000 0x0a020000 shared is (lit< tt) (lit< tt, refl) (lit≤ tt) (lit≤ tt) shared_by in
+    behind j begins stands
+  where
+    behind : (j : ℕ) → 0x0a000000 ≤ (block_at 32 0x0a020000 shared).address → StandsAt (past_wide ∷ []) (block_at 32 0x0a020000 shared).address j → 0 < j
+    behind zero from h = let later = h.next past_wide refl in absurd (omega (arith, from, later))
+    behind (suc j) from h = omega arith
+comes_to_the_first_too i (On (suc (suc k)) shared j n comes passes shares stands) = let none : None ≡ Some n = passes.here in cc
+
+pub a_struct_around_the_address_is_judged : (before after : ℕ) → ¬ (TableQuery 32 v4_in (record { address = 10 ∷ 0 ∷ 0 ∷ 0 ∷ []; prefix = 200 } ∷ record { address = 10 ∷ 1 ∷ 0 ∷ 0 ∷ []; prefix = 16 } ∷ []) 0x0a020000 before after no_member)
+a_struct_around_the_address_is_judged before after (i, comes, On (fits, Nothing (none, is) same)) = let some = comes_to_the_first_too i comes in omega (arith, some, none.0)
+a_struct_around_the_address_is_judged before after (i, comes, On (fits, On (is, finds))) = omega (arith, is)
+a_struct_around_the_address_is_judged before after (i, comes, Nothing (not, is) same) = omega (arith, is)
+
+pub no_search_stands_behind_a_later_address : ¬ (StandsAt (past ∷ []) 4 1)
+no_search_stands_behind_a_later_address h = let before : 5 ≤ 4 = h.last past (omega arith) refl in omega (arith, before)
+
 -- ---- answers of a search
+
+pub a_set_is_answered : {C : Type 0} (w : ℕ) (held : C → Network) (list : List C) (x before after : ℕ) → SetQuery w held list x before after ok → FindsIn w (map held list) x after
+a_set_is_answered w held list x before after (i, stands, On (fits, (is, finds))) = finds
+a_set_is_answered w held list x before after (i, stands, Nothing (not, is) same) = absurd (omega (arith, is))
+
+pub no_member_of_a_table_is_none : {C : Type 0} (w : ℕ) (held : C → Network) (list : List C) (x before after : ℕ) → TableQuery w held list x before after no_member → IsTable w (map held list) → ¬ (InUnion w (map held list) x)
+no_member_of_a_table_is_none w held list x before after (i, comes, On (fits, Nothing (none, is) same)) = none.1
+no_member_of_a_table_is_none w held list x before after (i, comes, On (fits, On (is, finds))) = absurd (omega (arith, is))
+no_member_of_a_table_is_none w held list x before after (i, comes, Nothing (not, is) same) = absurd (omega (arith, is))
 
 pub an_answer_is_one_or_zero : (w : ℕ) (networks : List Network) (x : ℕ) → ¬ (FindsIn w networks x 2)
 an_answer_is_one_or_zero w networks x h = let most = h.flag in omega (arith, most)
@@ -87,7 +153,7 @@ an_index_is_not_changed_after_a_fault list x before after code fault (i, comes, 
 an_index_is_not_changed_after_a_fault list x before after code fault (i, comes, Nothing not same) = same
 
 -- an index that is found is the one before which the search ends
-pub the_index_is_that_of_the_end : (list : List Ipv4InC) (x before after : ℕ) → TableQuery 32 v4_in list x before after ok → ComesTo 32 (map v4_in list) x (after + 1) × LastFits 32 (map v4_in list) (after + 1)
+pub the_index_is_that_of_the_end : (list : List Ipv4InC) (x before after : ℕ) → TableQuery 32 v4_in list x before after ok → ComesTo 32 (map v4_in list) x (after + 1) × LastFits 32 (map v4_in list) (after + 1) × FindsLongest 32 (map v4_in list) x after
 the_index_is_that_of_the_end list x before after (i, comes, On (fits, Nothing (none, is) same)) = absurd (omega (arith, is))
-the_index_is_that_of_the_end list x before after (i, comes, On (fits, On (is, (end, finds)))) = (subst (ComesTo 32 (map v4_in list) x) end comes, subst (LastFits 32 (map v4_in list)) end fits)
+the_index_is_that_of_the_end list x before after (i, comes, On (fits, On (is, (end, finds)))) = (subst (ComesTo 32 (map v4_in list) x) end comes, subst (LastFits 32 (map v4_in list)) end fits, finds)
 the_index_is_that_of_the_end list x before after (i, comes, Nothing (not, is) same) = absurd (omega (arith, is))

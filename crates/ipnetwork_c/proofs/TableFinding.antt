@@ -44,7 +44,7 @@ search_begins w ns x end t h = record {
 }
 
 -- a block that has an address, and begins up to another one before it, begins with the bits that both share
-around_both : (w : ℕ) (b : Network) (a x shared : ℕ) → IsCidrBlock w b → x < 2 ^ w → Member w b x → b.address ≤ a → a ≤ x → SharesBits w a x shared → b.address ≤ (block_at w x shared).address
+pub around_both : (w : ℕ) (b : Network) (a x shared : ℕ) → IsCidrBlock w b → x < 2 ^ w → Member w b x → b.address ≤ a → a ≤ x → SharesBits w a x shared → b.address ≤ (block_at w x shared).address
 around_both w b a x shared h fits m from to s =
     let i = within_member w b x m in
     let block = h.block in

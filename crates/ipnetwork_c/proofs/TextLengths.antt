@@ -10,12 +10,11 @@ use Rattle.ipnetwork_addr.specs.Texts.{dot, colon}
 use Rattle.ipnetwork_addr.specs.Digits.{octets_of, segments_of}
 use Rattle.ipnetwork_addr.specs.Ipv4Text.{canonical_v4}
 use Rattle.ipnetwork_addr.specs.Ipv6Canonical.{hex, hex_groups}
-use Rattle.ipnetwork_addr.specs.Computed.Ipv6Canonical.{gap_among, longer_run, gapped, zeros_in_front, canonical_v6}
+use Rattle.ipnetwork_addr.specs.Computed.Ipv6Canonical.{gap_among, gapped, zeros_in_front, canonical_v6}
 use Rattle.ipnetwork_addr.specs.declared.ip.IpAddr.TheVariants as addresses
 use Rattle.ipnetwork_addr.proofs.Hexes.{hex_three, hex_four, hex_groups-cons}
 use Rattle.ipnetwork_addr.proofs.Ipv6Printed.{fit_take, fit_drop, segments_fit}
-use Rattle.ipnetwork_family.specs.Network.{Network}
-use Rattle.ipnetwork_family.specs.NetworkText.{slash, network_text}
+use Rattle.ipnetwork_family.specs.NetworkText.{slash}
 use Rattle.ipnetwork.specs.declared.ip_network.IpNetwork.TheVariants.{V4, V6}
 use Rattle.ipnetwork_c.specs.Numbers.{fault_texts}
 use Rattle.ipnetwork_c.specs.TextLaws.{V4TextsFit, V6TextsFit, AddressTextsFit, IpTextsFit, FaultTextsFit}
