@@ -1031,6 +1031,24 @@ static void columns_of_texts(void) {
     CHECK("NULL", ipnetwork_v6_read_column(NULL, 0, &none, 1, NULL, 0, NULL, 0) == YES);
     none = 1;
     CHECK("NULL", ipnetwork_read_column(NULL, 0, &none, 1, NULL, 0, NULL, 0) == IPNETWORK_NO_OFFSETS);
+    /* Offsets of 32 bits that a number with a sign, or a sum of 32 bits, has not. */
+    static const uint32_t wide[] = {2, 0x7fffffff, 0x80000000, 0x80000001, 0xfffffffe, 0xffffffff};
+    for (size_t i = 0; i < sizeof wide / sizeof *wide; i++) {
+        uint32_t ends[] = {0, wide[i]}, begins[] = {wide[i], 1};
+        ipnetwork_v4 four = v4("10.0.0.0/8");
+        ipnetwork_v6 six = v6("::/0");
+        ipnetwork_ip ip = {4, four, six};
+        ipnetwork_address address = {{0}, 16};
+        uint8_t fault = 77;
+        for (size_t turn = 0; turn < 2; turn++) {
+            const uint32_t *offsets = turn == 0 ? ends : begins;
+            CHECK("wide", ipnetwork_v4_read_column("1", 1, offsets, 2, &four, 1, &fault, 1) == IPNETWORK_NO_OFFSETS);
+            CHECK("wide", ipnetwork_v6_read_column("1", 1, offsets, 2, &six, 1, &fault, 1) == IPNETWORK_NO_OFFSETS);
+            CHECK("wide", ipnetwork_read_column("1", 1, offsets, 2, &ip, 1, &fault, 1) == IPNETWORK_NO_OFFSETS);
+            CHECK("wide", ipnetwork_address_read_column("1", 1, offsets, 2, &address, 1, &fault, 1) == IPNETWORK_NO_OFFSETS);
+        }
+        CHECK("wide", four.prefix == 8 && six.prefix == 0 && ip.family == 4 && address.length == 16 && fault == 77);
+    }
 }
 
 /* Families and addresses of either length. */

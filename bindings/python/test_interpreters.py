@@ -6,6 +6,7 @@ Before Python 3.12 the interpreters take turns under one lock; from then on each
 the Python that runs this has not is skipped by name.
 """
 
+import collections
 import gc
 import importlib.util
 import os
@@ -14,7 +15,7 @@ import sysconfig
 import threading
 import unittest
 import weakref
-from ipaddress import IPv4Address
+from ipaddress import IPv4Address, IPv6Address
 
 import ipnetwork
 
@@ -27,6 +28,7 @@ except ImportError:
         interpreters = None
 
 HERE = os.path.dirname(os.path.abspath(__file__))
+ENDS = ("10.0.0.0", 32), ("::", 128)
 
 # What each interpreter asks. `ipnetwork` is imported once; `first` is what its classes were then.
 ASKED = """
@@ -166,18 +168,29 @@ class Modules(unittest.TestCase):
             four, six = type("Four", (module.V4,), {}), type("Six", (module.V6,), {})
             module.register(four, six)
             four.some = module.ip_network("10.0.0.0/8")
-            masks = four.some.netmask, module.ip_network("::/8").netmask
+            for text, bits in ENDS:
+                for prefix in range(bits + 1):  # each has a mask, which the module keeps
+                    module.ip_network(f"{text}/{prefix}")
             self.assertIsNot(module.V4, ipnetwork._core.V4)
             self.assertIsInstance(module.ip_network("::1"), six)
             with self.assertRaises(TypeError):
                 module.of_rows(ipnetwork.IPv4Network, bytes(5))
             del four.some
-            return [weakref.ref(each) for each in (module, module.V4, four, *masks)]
+            return [weakref.ref(each) for each in (module, module.V4, four)]
 
+        def alive():
+            # A weak reference tells nothing of what a module lost and did not let go of: its
+            # collection cleared that too. What is lost is among all objects still.
+            gc.collect()
+            count = collections.Counter(map(type, gc.get_objects()))
+            return count[IPv4Address], count[IPv6Address]
+
+        before = alive()
         for _ in range(20):
             references = used()
             gc.collect()
-            self.assertEqual([reference() for reference in references], [None] * 5)
+            self.assertEqual([reference() for reference in references], [None] * 3)
+        self.assertEqual(alive(), before)
 
 
 if __name__ == "__main__":

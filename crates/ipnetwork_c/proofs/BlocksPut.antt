@@ -8,7 +8,7 @@ use Rattle.ipnetwork_family.specs.Network.{Network}
 use Rattle.ipnetwork_blocks.specs.LeastList.{IsLeastList}
 use Rattle.ipnetwork_blocks.proofs.LeastLists.{least_unique}
 use Rattle.ipnetwork_c.specs.Lists.{PutsBlocks}
-use Rattle.ipnetwork_c.specs.Lists.PutsBlocks.{Put, TooShort}
+use Rattle.ipnetwork_c.specs.Outcomes.Unless.{On, Nothing}
 use Rattle.ipnetwork_c.specs.Private.Writing.{HasBlocks, AddsBlocks}
 
 -- ---- blocks in the front of a list
@@ -124,19 +124,20 @@ twice_kept n wanted told is told_is =
     (cases_lt n (2 ^ 64 - 1))
 
 -- there are more than the list has room for
-pub too_many : {C : Type 0} (w : ℕ) (held : C → Network) (S : ℕ → Type 0) (before : List C) (blocks : List Network) (wanted told : ℕ) → IsLeastList w S blocks → wanted ≡ min (length blocks) (2 ^ 128 - 1)
-    → length before < wanted → told ≡ min wanted (2 ^ 64 - 1) → PutsBlocks w held S before before told 4
-too_many w held S before blocks wanted told least is more told_is =
+pub too_many : {C : Type 0} (w : ℕ) (held : C → Network) (S : ℕ → Type 0) (before : List C) (blocks : List Network) (told_before wanted told : ℕ) → IsLeastList w S blocks → wanted ≡ min (length blocks) (2 ^ 128 - 1)
+    → length before < wanted → told ≡ min wanted (2 ^ 64 - 1) → PutsBlocks w held S (before, told_before) (before, told) 4
+too_many w held S before blocks told_before wanted told least is more told_is =
     let most = min-le_left (length blocks) (2 ^ 128 - 1) in
-    TooShort blocks least (omega (arith, is, more, most)) refl (twice_kept (length blocks) wanted told is told_is) refl
+    (blocks, least, (twice_kept (length blocks) wanted told is told_is, Nothing ((λ room. omega (arith, is, more, most, room)), refl) refl))
 
 -- there is room for them, and they are put there
-pub all_put : {C : Type 0} (w : ℕ) (held : C → Network) (S : ℕ → Type 0) (before after : List C) (counted blocks : List Network) (wanted told again : ℕ) → IsLeastList w S counted → wanted ≡ min (length counted) (2 ^ 128 - 1)
-    → wanted ≤ length before → length before < 2 ^ 64 → told ≡ min wanted (2 ^ 64 - 1) → IsLeastList w S blocks → HasBlocks held blocks before after again → PutsBlocks w held S before after told 0
-all_put w held S before after counted blocks wanted told again least is room few told_is once has =
+pub all_put : {C : Type 0} (w : ℕ) (held : C → Network) (S : ℕ → Type 0) (before after : List C) (counted blocks : List Network) (told_before wanted told again : ℕ) → IsLeastList w S counted → wanted ≡ min (length counted) (2 ^ 128 - 1)
+    → wanted ≤ length before → length before < 2 ^ 64 → told ≡ min wanted (2 ^ 64 - 1) → IsLeastList w S blocks → HasBlocks held blocks before after again → PutsBlocks w held S (before, told_before) (after, told) 0
+all_put w held S before after counted blocks told_before wanted told again least is room few told_is once has =
     let same : counted ≡ blocks = least_unique w S counted blocks least once in
     let long : length counted ≡ length blocks = ap length same in
     let exact : wanted ≡ length counted = kept_is (length counted) wanted (2 ^ 128 - 1) is (omega (arith, room, few)) in
     let small : wanted ≤ 2 ^ 64 - 1 = omega (arith, room, few) in
     let fits : length blocks ≤ length before = omega (arith, exact, long, room) in
-    Put blocks once fits refl (told_is ∙ min-eq_left small ∙ exact ∙ long) (has.front fits)
+    let kept : told ≡ min (length blocks) (2 ^ 64 - 1) = twice_kept (length counted) wanted told is told_is ∙ ap (λ k. min k (2 ^ 64 - 1)) long in
+    (blocks, once, (kept, On (fits, (refl, (told_is ∙ min-eq_left small ∙ exact ∙ long, has.front fits)))))

@@ -1,17 +1,30 @@
 -- What the laws let one conclude, at values that a narrower law does not reach.
-use Rattle.std.proofs.Common.{◌≡◌, ℕ, List, [], ◌∷◌, ◌++◌, take, refl, arith}
+use Rattle.std.proofs.Common.{◌≡◌, ℕ, ◌<◌, ◌≤◌, List, [], ◌∷◌, ◌++◌, length, take, refl, arith}
 use Rattle.std.specs.Prelude.{Some, replicate}
+use Rattle.std.specs.Fmt.{digits}
 use Rattle.ipnetwork_addr.specs.Digits.{digits_in, octets_of, octets_of_v6}
+use Rattle.ipnetwork_addr.specs.Ipv4Text.{canonical_v4}
+use Rattle.ipnetwork_addr.specs.Computed.Ipv6Canonical.{canonical_v6}
+use Rattle.ipnetwork_addr.specs.Either.{FitsIp, canonical_ip}
+use Rattle.ipnetwork_addr.specs.declared.ip.IpAddr.{IpAddr}
 use Rattle.ipnetwork_addr.specs.declared.ip.IpAddr.TheVariants as addresses
 use Rattle.ipnetwork_family.specs.Network.{Network, IsNetwork}
+use Rattle.ipnetwork_family.specs.NetworkText.{network_text}
+use Rattle.ipnetwork.specs.declared.ip_network.IpNetwork.{IpNetwork}
 use Rattle.ipnetwork.specs.declared.ip_network.IpNetwork.TheVariants.{V4, V6}
+use Rattle.ipnetwork.specs.IpNetworks.{IsIpNetwork}
+use Rattle.ipnetwork.specs.IpNetworkText.{ip_network_text}
 use Rattle.ipnetwork_c.specs.declared.structs.Ipv4InC.{Ipv4InC}
 use Rattle.ipnetwork_c.specs.declared.structs.Ipv6InC.{Ipv6InC}
+use Rattle.ipnetwork_c.specs.Numbers.{short_buffer, fault_text}
 use Rattle.ipnetwork_c.specs.Held.{v4_in, v6_in, number_of_octets}
+use Rattle.ipnetwork_c.specs.Outcomes.Unless.{On, Nothing}
+use Rattle.ipnetwork_c.specs.Answers.{PutsText}
 use Rattle.ipnetwork_c.specs.Either.{held_address, address_in, StandsForIp}
 use Rattle.ipnetwork_c.specs.StructLaws.{OctetsTellTheNumber, OctetsTellTheV4Address, OctetsTellTheV6Address, HeldV4StandsForItself, HeldV6StandsForItself, HeldIpStandsForItself, HeldAddressStandsForItself}
 use Rattle.ipnetwork_c.specs.TextColumns.{AreOffsets, row_text}
 use Rattle.ipnetwork_c.specs.PrintedColumns.{PrintsRows, HasColumnRoom}
+use Rattle.ipnetwork_c.specs.TextLaws.{V4TextsFit, V6TextsFit, IpTextsFit, AddressTextsFit, FaultTextsFit}
 use Rattle.ipnetwork_c.specs.ColumnLaws.{PrintedRowsAreTexts, PrintedOffsetsAreOffsets}
 
 pub seventeen_octets : OctetsTellTheNumber → number_of_octets (digits_in 256 17 0x100000000000000000000000000000000) ≡ 0x100000000000000000000000000000000
@@ -71,3 +84,51 @@ the_third_row text a b c before after offsets_before offsets law prints = law (a
 pub four_offsets : {R : Type 0} (text : R → List ℕ) (a b c : R) (before after offsets_before offsets : List ℕ) → PrintedOffsetsAreOffsets text → PrintsRows text (a ∷ b ∷ c ∷ []) before after offsets_before offsets
     → HasColumnRoom text (a ∷ b ∷ c ∷ []) before offsets_before → AreOffsets after (take 4 offsets)
 four_offsets text a b c before after offsets_before offsets law prints room = law (a ∷ b ∷ c ∷ []) before after offsets_before offsets prints room
+
+-- the longest texts have just room, with the zero byte behind them, and in one byte less they have none
+pub the_longest_ipv4_network : V4TextsFit → length (network_text canonical_v4 last_four) < 19
+the_longest_ipv4_network law = law last_four four_is
+
+pub the_longest_ipv4_network_has_18_bytes : length (network_text canonical_v4 last_four) ≡ 18
+unfolding digits
+the_longest_ipv4_network_has_18_bytes = refl
+
+pub the_longest_ipv6_network : V6TextsFit → length (network_text canonical_v6 last_six) < 44
+the_longest_ipv6_network law = law last_six six_is
+
+pub the_longest_ipv6_network_has_43_bytes : length (network_text canonical_v6 last_six) ≡ 43
+unfolding digits
+the_longest_ipv6_network_has_43_bytes = refl
+
+pub the_longest_networks_of_either_family : IpTextsFit → (length (ip_network_text (V4 last_four)) < 44) × (length (ip_network_text (V6 last_six)) < 44)
+the_longest_networks_of_either_family law = (law (V4 last_four) four_is, law (V6 last_six) six_is)
+
+pub the_longest_addresses : AddressTextsFit → (length (canonical_ip (addresses.V4 0xffffffff)) < 40) × (length (canonical_ip (addresses.V6 0xffffffffffffffffffffffffffffffff)) < 40)
+the_longest_addresses law = (law (addresses.V4 0xffffffff) (omega arith), law (addresses.V6 0xffffffffffffffffffffffffffffffff) (omega arith))
+
+pub the_longest_address_has_39_bytes : length (canonical_ip (addresses.V6 0xffffffffffffffffffffffffffffffff)) ≡ 39
+unfolding digits
+the_longest_address_has_39_bytes = refl
+
+pub a_number_of_no_fault : FaultTextsFit → length (fault_text 0xffffffff) < 40
+a_number_of_no_fault law = law 0xffffffff
+
+-- so a call that is given a buffer of so many bytes is not refused for want of room
+enough : (text : List ℕ) (size : ℕ) (before after : List ℕ × ℕ) → length text < size → size ≤ length before.0 → ¬ (PutsText text before after short_buffer)
+enough text size before after short room (told, On (fits, (is, stands))) = omega (arith, is)
+enough text size before after short room (told, Nothing (none, is) same) = none (omega (arith, room, short))
+
+pub enough_for_ipv4_networks : V4TextsFit → (n : Network) → IsNetwork 32 n → (before after : List ℕ × ℕ) → 19 ≤ length before.0 → ¬ (PutsText (network_text canonical_v4 n) before after short_buffer)
+enough_for_ipv4_networks law n is before after = enough (network_text canonical_v4 n) 19 before after (law n is)
+
+pub enough_for_ipv6_networks : V6TextsFit → (n : Network) → IsNetwork 128 n → (before after : List ℕ × ℕ) → 44 ≤ length before.0 → ¬ (PutsText (network_text canonical_v6 n) before after short_buffer)
+enough_for_ipv6_networks law n is before after = enough (network_text canonical_v6 n) 44 before after (law n is)
+
+pub enough_for_networks : IpTextsFit → (n : IpNetwork) → IsIpNetwork n → (before after : List ℕ × ℕ) → 44 ≤ length before.0 → ¬ (PutsText (ip_network_text n) before after short_buffer)
+enough_for_networks law n is before after = enough (ip_network_text n) 44 before after (law n is)
+
+pub enough_for_addresses : AddressTextsFit → (a : IpAddr) → FitsIp a → (before after : List ℕ × ℕ) → 40 ≤ length before.0 → ¬ (PutsText (canonical_ip a) before after short_buffer)
+enough_for_addresses law a fits before after = enough (canonical_ip a) 40 before after (law a fits)
+
+pub enough_for_faults : FaultTextsFit → (fault : ℕ) (before after : List ℕ × ℕ) → 40 ≤ length before.0 → ¬ (PutsText (fault_text fault) before after short_buffer)
+enough_for_faults law fault before after = enough (fault_text fault) 40 before after (law fault)

@@ -4,6 +4,7 @@ pub mod Octets
 pub mod Offsets
 pub mod Families
 pub mod MemberCounts
+pub mod TextLengths
 pub mod Truths
 pub mod Rows
 pub mod Searching

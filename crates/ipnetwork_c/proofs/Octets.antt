@@ -6,6 +6,7 @@ use native.Mathlib.Nat.{pow-suc}
 use Rattle.std.proofs.lemmas.Int.Digits.{number_push}
 use Rattle.std.proofs.lemmas.Nat.{div-add-mod'}
 use Rattle.ipnetwork_addr.specs.Digits.{digits_in, octets_of, octets_of_v6}
+use Rattle.ipnetwork_addr.specs.Either.{FitsIp}
 use Rattle.ipnetwork_addr.specs.declared.ip.IpAddr.{IpAddr}
 use Rattle.ipnetwork_addr.specs.declared.ip.IpAddr.TheVariants as addresses
 use Rattle.ipnetwork_family.specs.Network.{Network, IsNetwork}
@@ -16,7 +17,7 @@ use Rattle.ipnetwork_c.specs.declared.structs.Ipv4InC.{Ipv4InC}
 use Rattle.ipnetwork_c.specs.declared.structs.Ipv6InC.{Ipv6InC}
 use Rattle.ipnetwork_c.specs.declared.structs.IpInC.{IpInC}
 use Rattle.ipnetwork_c.specs.declared.address.AddressInC.{AddressInC}
-use Rattle.ipnetwork_c.specs.Either.{IsIpAddress, HoldsAddress, held_address, address_in, HoldsIp, StandsForIp}
+use Rattle.ipnetwork_c.specs.Either.{HoldsAddress, held_address, address_in, HoldsIp, StandsForIp}
 use Rattle.ipnetwork_c.proofs.Families.{v4_told, v6_told}
 use Rattle.ipnetwork_c.specs.Held.{v4_in, v6_in, HoldsV4, HoldsV6, number_of_octets}
 
@@ -39,7 +40,7 @@ v6_again held n is holds =
 first_four : (a : ℕ) → take 4 (octets_of a ++ replicate 12 0) ≡ octets_of a
 first_four a = refl
 
-pub address_again : (held : AddressInC) (a : IpAddr) → IsIpAddress a → HoldsAddress held a → held_address held ≡ Some a
+pub address_again : (held : AddressInC) (a : IpAddr) → FitsIp a → HoldsAddress held a → held_address held ≡ Some a
 address_again held (addresses.V4 a) fits holds =
     let octets : number_of_octets (take 4 held.octets) ≡ a = ap (λ (l : List ℕ). number_of_octets (take 4 l)) holds.0 ∙ ap number_of_octets (first_four a) ∙ number_again 4 a fits in
     rw holds.1 (ap (λ (x : ℕ). Some (addresses.V4 x)) octets)
@@ -47,10 +48,10 @@ address_again held (addresses.V6 a) fits holds =
     let octets : number_of_octets held.octets ≡ a = ap number_of_octets holds.0 ∙ number_again 16 a fits in
     rw holds.1 (ap (λ (x : ℕ). Some (addresses.V6 x)) octets)
 
-pub v4_octets_again : (a : ℕ) → IsIpAddress (addresses.V4 a) → address_in (octets_of a) ≡ Some (addresses.V4 a)
+pub v4_octets_again : (a : ℕ) → FitsIp (addresses.V4 a) → address_in (octets_of a) ≡ Some (addresses.V4 a)
 v4_octets_again a fits = ap (λ (x : ℕ). Some (addresses.V4 x)) (number_again 4 a fits)
 
-pub v6_octets_again : (a : ℕ) → IsIpAddress (addresses.V6 a) → address_in (octets_of_v6 a) ≡ Some (addresses.V6 a)
+pub v6_octets_again : (a : ℕ) → FitsIp (addresses.V6 a) → address_in (octets_of_v6 a) ≡ Some (addresses.V6 a)
 v6_octets_again a fits = ap (λ (x : ℕ). Some (addresses.V6 x)) (number_again 16 a fits)
 
 pub ip_again : (held : IpInC) (n : IpNetwork) → IsIpNetwork n → HoldsIp held n → StandsForIp held n

@@ -1,7 +1,7 @@
 -- Where an address stands in the list of a set, and what that tells of the set.
 use Rattle.std.proofs.Common.{◌≡◌, ◌↔◌, ℕ, ◌+◌, ◌-◌, ◌<◌, ◌≤◌, List, length, map, get_or, Bool, true, false, IsTrue, refl, sym, ap, subst, ◌∙◌, ⊎_elim, arith}
 use Rattle.std.specs.Int.{from_bool}
-use Rattle.std.specs.List.{All, AllPairs}
+use Rattle.std.specs.List.{AllPairs}
 use Rattle.std.proofs.lemmas.Bool.{cases_lt}
 use Rattle.std.proofs.lemmas.List.{length-map, get_or_default}
 use Rattle.ipnetwork_family.specs.Network.{Network, Member}
@@ -13,7 +13,7 @@ use Rattle.std.proofs.lemmas.Option.{get_or_from_slice_get, slice_get_within, sl
 use Rattle.ipnetwork_c.specs.Held.{PrefixFits}
 use Rattle.ipnetwork_c.specs.Searches.{StandsAt, LastFits}
 use Rattle.ipnetwork_c.specs.Lists.{FindsIn, SetQuery}
-use Rattle.ipnetwork_c.specs.Lists.SetQuery.{Answered, Refused}
+use Rattle.ipnetwork_c.specs.Outcomes.Unless.{On, Nothing}
 use Rattle.ipnetwork_c.specs.Private.Sets.{SplitsAt, EndFits, EndDoesNotFit}
 use Rattle.ipnetwork_c.proofs.Truths.{no_true}
 
@@ -154,7 +154,7 @@ none_fits w ns i none n some got = absurd (omega arith)
 
 -- what a search tells of an address, whichever way its number is written
 pub set_answered : {C : Type 0} (w : ℕ) (held : C → Network) (list : List C) (y x before after : ℕ) → y ≡ x → EndFits w (map held list) y → FindsIn w (map held list) y after → SetQuery w held list x before after 0
-set_answered w held list y x before after is ends finds = subst (λ (z : ℕ). SetQuery w held list z before after 0) is (Answered ends.0 ends.1 ends.2 refl finds)
+set_answered w held list y x before after is ends finds = subst (λ (z : ℕ). SetQuery w held list z before after 0) is (ends.0, ends.1, On (ends.2, (refl, finds)))
 
-pub set_refused : {C : Type 0} (w : ℕ) (held : C → Network) (list : List C) (y x before : ℕ) → y ≡ x → EndDoesNotFit w (map held list) y → ¬ (All (λ c. PrefixFits w (held c)) list) → SetQuery w held list x before before 3
-set_refused w held list y x before is ends some = subst (λ (z : ℕ). SetQuery w held list z before before 3) is (Refused ends.0 ends.1 ends.2 some refl refl)
+pub set_refused : {C : Type 0} (w : ℕ) (held : C → Network) (list : List C) (y x before : ℕ) → y ≡ x → EndDoesNotFit w (map held list) y → SetQuery w held list x before before 3
+set_refused w held list y x before is ends = subst (λ (z : ℕ). SetQuery w held list z before before 3) is (ends.0, ends.1, Nothing (ends.2, refl) refl)

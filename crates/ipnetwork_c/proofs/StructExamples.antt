@@ -11,7 +11,7 @@ use Rattle.ipnetwork_c.specs.declared.structs.IpInC.{IpInC}
 use Rattle.ipnetwork_c.specs.declared.address.AddressInC.{AddressInC}
 use Rattle.ipnetwork_c.specs.Numbers.{prefix, no_family}
 use Rattle.ipnetwork_c.specs.Held.{HoldsV4}
-use Rattle.ipnetwork_c.specs.Either.{HoldsIp, ip_in, IsIpAddress, IpPrefixFits, HoldsAddress, held_address, NoIpNetwork, StandsForIp}
+use Rattle.ipnetwork_c.specs.Either.{HoldsIp, ip_in, IpPrefixFits, HoldsAddress, held_address, NoIpNetwork, StandsForIp}
 use Rattle.ipnetwork_c.specs.Either.NoIpNetwork.{NoFamily, NoPrefix}
 
 -- ---- networks
@@ -122,9 +122,3 @@ sixteen_octets_are_an_ipv6_address = refl
 
 pub five_octets_are_held_by_none : held_address (record { octets = replicate 16 0; length = 5 }) ≡ None
 five_octets_are_held_by_none = refl
-
-pub the_greatest_ipv4_address_fits : IsIpAddress (addresses.V4 0xffffffff)
-the_greatest_ipv4_address_fits = omega arith
-
-pub no_ipv4_address_has_33_bits : ¬ (IsIpAddress (addresses.V4 0x100000000))
-no_ipv4_address_has_33_bits h = omega (arith, h)

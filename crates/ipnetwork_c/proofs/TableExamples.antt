@@ -1,5 +1,6 @@
 -- Tables at which a misreading of `IsTable`, `FindsLongest` or `IsTableOf` would show: 10.0.0.0/8, and 10.1.0.0/16 twice.
 use Rattle.std.proofs.Common.{◌≡◌, ℕ, zero, suc, ◌<◌, ◌≤◌, List, [], ◌∷◌, get_or, refl, inl, inr, lit<, lit≤, ap, arith, ⊎_elim}
+use Rattle.std.proofs.lemmas.List.Sorted.{sum_by-IsPermutation}
 use Rattle.ipnetwork_family.specs.Network.{Network, IsCidrBlock, IsNetworkAtMost}
 use Rattle.ipnetwork_c.specs.Tables.{IsTable, FindsLongest, IsTableOf, row_block}
 
@@ -72,6 +73,13 @@ a_row_is_the_block_of_its_network = refl
 
 pub other_places_are_beside_no_table : ¬ (IsTableOf 32 (narrow ∷ wide ∷ []) (wide ∷ narrow ∷ []) (0 ∷ 1 ∷ []))
 other_places_are_beside_no_table t = let h : 8 ≡ 16 = ap (λ (n : Network). n.prefix) (t.block 0 wide (lit< tt)) in omega (arith, h)
+
+-- and each of them once
+pub no_network_stands_twice : ¬ (IsTableOf 32 (wide ∷ narrow ∷ []) (wide ∷ wide ∷ []) (0 ∷ 0 ∷ []))
+no_network_stands_twice t = let same : 0 ≡ 1 = sum_by-IsPermutation (λ (place : ℕ). place) (0 ∷ 1 ∷ []) (0 ∷ 0 ∷ []) t.once in omega (arith, same)
+
+pub no_network_is_left_out : (places : List ℕ) → ¬ (IsTableOf 32 (wide ∷ []) [] places)
+no_network_is_left_out places t = let rows : 0 ≡ 1 = t.rows in omega (arith, rows)
 
 -- of equal blocks that of the later network comes later
 pub equal_blocks_are_not_turned : ¬ (IsTableOf 32 (narrow ∷ narrow ∷ []) (narrow ∷ narrow ∷ []) (1 ∷ 0 ∷ []))

@@ -10,7 +10,7 @@ use Rattle.ipnetwork_family.proofs.BlocksAt.{block_at_network, block_at_subnet}
 use Rattle.ipnetwork_blocks.specs.Aggregate.{InUnion}
 use Rattle.ipnetwork_blocks.proofs.LeastLists.{own_address}
 use Rattle.ipnetwork_c.specs.Tables.{IsTable, FindsLongest, TableQuery}
-use Rattle.ipnetwork_c.specs.Tables.TableQuery.{Found, NotFound, Refused}
+use Rattle.ipnetwork_c.specs.Outcomes.Unless.{On, Nothing}
 use Rattle.ipnetwork_c.specs.Private.Sets.{SplitsAt}
 
 pub by_address : (w : ℕ) (ns : List Network) → IsTable w ns → AllPairs (λ a b. a.address ≤ b.address) ns
@@ -44,7 +44,7 @@ search_begins w ns x end t h = record {
 }
 
 -- a block that has an address, and begins up to another one before it, begins with the bits that both share
-around_both : (w : ℕ) (b : Network) (a x shared : ℕ) → IsCidrBlock w b → x < 2 ^ w → Member w b x → b.address ≤ a → a ≤ x → SharesBits w a x shared → b.address ≤ (block_at w x shared).address
+pub around_both : (w : ℕ) (b : Network) (a x shared : ℕ) → IsCidrBlock w b → x < 2 ^ w → Member w b x → b.address ≤ a → a ≤ x → SharesBits w a x shared → b.address ≤ (block_at w x shared).address
 around_both w b a x shared h fits m from to s =
     let i = within_member w b x m in
     let block = h.block in
@@ -125,7 +125,7 @@ search_fails w ns x end h none t u =
     (h t).behind k u.0 (omega arith) u.1.1 (subst (λ (n : Network). Member w n x) (sym u.1.2) u.2)
 
 -- the number of a fault that a search returns is that of a byte
-pub fault_is_byte : {C : Type 0} {w : ℕ} {held : C → Network} {list : List C} {x before after code : ℕ} → TableQuery w held list x before after code → code < 256
-fault_is_byte (Found is _ _ _) = omega (arith, is)
-fault_is_byte (NotFound is _ _ _) = omega (arith, is)
-fault_is_byte (Refused _ _ _ _ is _) = omega (arith, is)
+pub fault_is_byte : {C : Type 0} {before after code : ℕ} (w : ℕ) (held : C → Network) (list : List C) (x : ℕ) → TableQuery w held list x before after code → code < 256
+fault_is_byte _ _ _ _ (_, _, Nothing (_, is) _) = omega (arith, is)
+fault_is_byte _ _ _ _ (_, _, On (_, Nothing (_, is) _)) = omega (arith, is)
+fault_is_byte _ _ _ _ (_, _, On (_, On (is, _))) = omega (arith, is)

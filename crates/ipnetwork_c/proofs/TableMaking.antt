@@ -17,8 +17,8 @@ use denote.Param.Members.{Mut}
 use denote.Ref.{Bor}
 use Rattle.ipnetwork_family.specs.Network.{Network, IsCidrBlock, IsNetworkAtMost}
 use Rattle.ipnetwork_c.specs.Held.{PrefixFits}
-use Rattle.ipnetwork_c.specs.Tables.{MakesTable, row_block}
-use Rattle.ipnetwork_c.specs.Tables.MakesTable.{Made}
+use Rattle.ipnetwork_c.specs.Tables.{MakesTable, IsTableOf, row_block}
+use Rattle.ipnetwork_c.specs.Outcomes.Unless.{On}
 use Rattle.ipnetwork_c.specs.Private.Tables.{place_cmp}
 
 place_cmp_total : (w : ℕ) (ns : List Network) → IsTotalOrder (place_cmp w ns)
@@ -94,7 +94,7 @@ pub made : {C : Type 0} (held : C → Network) (w : ℕ) (networks before rows :
     → length networks ≤ length before → length networks ≤ length places_before → numbers ≡ range_with_len 0 (length networks)
     → IsPermutation (take (length networks) (numbers ++ drop (length networks) places_before)) order → IsSorted (place_cmp w (map held networks)) order → length rows ≡ length networks
     → ((k : ℕ) (d : Network) → k < length order → get_or (map held rows) k d ≡ row_block w (map held networks) (get_or order k 0)) → All (IsCidrBlock w) (map held rows)
-    → MakesTable w held networks before (rows ++ drop (length networks) before) places_before (order ++ drop (length networks) (numbers ++ drop (length networks) places_before)) 0
+    → MakesTable w held networks (before, places_before) (rows ++ drop (length networks) before, order ++ drop (length networks) (numbers ++ drop (length networks) places_before)) 0
 made held w networks before rows places_before numbers order fits room places_room numbered moved sorted size put blocks =
     let n : ℕ = length networks in
     let ns : List Network = map held networks in
@@ -105,12 +105,11 @@ made held w networks before rows places_before numbers order fits room places_ro
     let rows_size : length (map held rows) ≡ n = length-map rows held ∙ size in
     let both = in_order_at w ns (map held rows) order (rows_size ∙ sym order_size) put sorted in
     let rest : drop n (numbers ++ drop n places_before) ≡ drop n places_before = ap (λ k. drop k (numbers ++ drop n places_before)) (sym count) ∙ drop-append_seam numbers (drop n places_before) in
-    Made fits room places_room refl rows order
-    (record {
+    let table : IsTableOf w ns (map held rows) order = record {
       once = subst (λ (l : List ℕ). IsPermutation l order) (numbered ∙ ap (range_with_len 0) (sym ns_size)) whole;
       rows = rows_size ∙ sym ns_size;
       block = λ i d l. put i d (omega (arith, l, rows_size, order_size));
       table = record { blocks = blocks; ascending = λ i j d l m. (both i j d l m).0 };
       equal = λ i j d l m. (both i j d l m).1;
-    })
-    refl (ap (λ r. order ++ r) rest)
+    } in
+    On (fits, On ((room, places_room), (refl, (rows, order, table, refl, ap (λ r. order ++ r) rest))))

@@ -1,11 +1,14 @@
 -- A truth as a byte, and an order as a number of 32 bits.
 use Rattle.std.proofs.Common.{◌≡◌, ◌↔◌, ℕ, ℤ, to_z, of_z, w32, Bool, true, false, IsTrue, arith, refl}
 use Rattle.std.proofs.Math.Bool.{beq}
-use Rattle.std.specs.Prelude.{not}
+use Rattle.std.specs.Prelude.{not, List}
+use Rattle.std.specs.List.{All}
 use Rattle.std.specs.Int.{from_bool}
 use Rattle.std.specs.declared.cmp.Ordering.{Ordering}
 use Rattle.std.specs.declared.cmp.Ordering.TheVariants.{Less, Equal, Greater}
+use Rattle.ipnetwork_family.specs.Network.{Network}
 use Rattle.ipnetwork_c.specs.Numbers.{order_number}
+use Rattle.ipnetwork_c.specs.Held.{PrefixFits}
 use Rattle.ipnetwork_c.specs.Answers.{IsFlag}
 
 pub no_true : IsTrue false → ⊥
@@ -25,3 +28,7 @@ do_not_differ true true h = refl
 do_not_differ true false h = cc
 do_not_differ false true h = cc
 do_not_differ false false h = refl
+
+-- what is true of each row, said otherwise
+pub fits_too : {C : Type 0} (holds : C → Type 0) (held : C → Network) (w : ℕ) → ((c : C) → holds c ↔ PrefixFits w (held c)) → (list : List C) → All holds list → All (λ c. PrefixFits w (held c)) list
+fits_too holds held w same list all k d l = (same _).0 (all k d l)

@@ -3,19 +3,20 @@ use Rattle.std.specs.Prelude.{◌≡◌, ℕ, ◌<◌, ◌≤◌, List, ◌++◌
 use Rattle.std.specs.Int.{from_bool}
 use Rattle.ipnetwork_family.specs.Network.{Network}
 use Rattle.ipnetwork_family.specs.Computed.Network.{is_member}
-use Rattle.ipnetwork_c.specs.Numbers.{ok, prefix, short_buffer}
+use Rattle.ipnetwork_c.specs.Numbers.{short_buffer}
 use Rattle.ipnetwork_c.specs.Held.{PrefixFits, number_of_octets}
+use Rattle.ipnetwork_c.specs.Outcomes.{Writes, Needs}
+use Rattle.ipnetwork_c.specs.Answers.{IfFit}
 
 -- whether the address of these octets is a member of the network, as 1 or 0
 abbrev pub member_flag : ℕ → Network → List ℕ → ℕ
 member_flag w n octets = from_bool (is_member w n (number_of_octets octets))
 
--- each row is answered as the call for one address answers it, and answers after those of the rows are unchanged; or
--- nothing is written
-pub data AnswersRows (w : ℕ) (n : Network) (rows : List (List ℕ)) (before after : List ℕ) (code : ℕ) : Type 0 where
-  Answered : PrefixFits w n → length rows ≤ length before → code ≡ ok → after ≡ map (member_flag w n) rows ++ drop (length rows) before → AnswersRows w n rows before after code
-  NoRoom : PrefixFits w n → length before < length rows → code ≡ short_buffer → after ≡ before → AnswersRows w n rows before after code
-  NoNetwork : ¬ (PrefixFits w n) → code ≡ prefix → after ≡ before → AnswersRows w n rows before after code
+-- each row is answered as the call for one address answers it, if there is room for as many answers, and those after them
+-- are unchanged
+abbrev pub AnswersRows : ℕ → Network → List (List ℕ) → List ℕ → List ℕ → ℕ → Type 0
+AnswersRows w n rows before =
+    IfFit (PrefixFits w n) (Needs (length rows ≤ length before) short_buffer (Writes (λ after. after ≡ map (member_flag w n) rows ++ drop (length rows) before))) before
 
 -- each of the first rows is answered as the call for one answers it, with a fault of its own, and the others stay
 pub record AnswersEach {R : Type 0} (Answers : ℕ → R → R → ℕ → Type 0) (count : ℕ) (before after : List R) (faults_before faults : List ℕ) : Type 0 where

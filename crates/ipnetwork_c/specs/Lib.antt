@@ -1,5 +1,6 @@
 pub mod Numbers
 pub mod Held
+pub mod Outcomes
 pub mod Searches
 pub mod Answers
 pub mod Either
@@ -12,4 +13,5 @@ pub mod TextColumns
 pub mod PrintedColumns
 pub mod ColumnLaws
 pub mod StructLaws
+pub mod TextLaws
 pub mod Private

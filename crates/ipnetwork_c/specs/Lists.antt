@@ -1,19 +1,20 @@
 -- Lists of blocks that a call reads, or leaves, in the caller's memory.
-use Rattle.std.specs.Prelude.{◌≡◌, ℕ, ◌-◌, ◌^◌, ◌<◌, ◌≤◌, min, List, ◌++◌, drop, length, map, take}
+use Rattle.std.specs.Prelude.{◌≡◌, ℕ, ◌≤◌, List, ◌++◌, drop, length, map, take}
 use Rattle.std.specs.List.{All}
 use Rattle.ipnetwork_family.specs.Network.{Network}
 use Rattle.ipnetwork_blocks.specs.Aggregate.{InUnion, IsAggregate}
 use Rattle.ipnetwork_blocks.specs.LeastList.{IsLeastList}
 use Rattle.ipnetwork_sets.specs.Sets.{IsAddressSet}
-use Rattle.ipnetwork_c.specs.Numbers.{ok, prefix, short_buffer}
 use Rattle.ipnetwork_c.specs.Held.{PrefixFits}
+use Rattle.ipnetwork_c.specs.Outcomes.{Writes, Puts}
+use Rattle.ipnetwork_c.specs.Answers.{IfFit}
 use Rattle.ipnetwork_c.specs.Searches.{StandsAt, LastFits}
 
--- the aggregate of the networks of a list is put in its front, and its length is returned; after it are networks still.
--- If the prefix length of one does not fit, nothing is written
-pub data Aggregates {C : Type 0} (w : ℕ) (held : C → Network) (before after : List C) (told_before told code : ℕ) : Type 0 where
-  Done : All (λ c. PrefixFits w (held c)) before → code ≡ ok → told ≤ length before → IsAggregate w (map held before) (map held (take told after)) → All (λ c. PrefixFits w (held c)) after → Aggregates w held before after told_before told code
-  Refused : ¬ (All (λ c. PrefixFits w (held c)) before) → code ≡ prefix → told ≡ told_before → after ≡ before → Aggregates w held before after told_before told code
+-- the aggregate of the networks of a list is put in its front, and its length is returned; after it are networks still
+abbrev pub Aggregates : {C : Type 0} → ℕ → (C → Network) → List C × ℕ → List C × ℕ → ℕ → Type 0
+Aggregates w held before =
+    IfFit (All (λ c. PrefixFits w (held c)) before.0)
+    (Writes (λ after. (after.1 ≤ length before.0) × IsAggregate w (map held before.0) (map held (take after.1 after.0)) × All (λ c. PrefixFits w (held c)) after.0)) before
 
 -- the byte says whether an address lies in the union of the networks: it is 1 only if it does, and if the networks are
 -- the blocks of a set, always then
@@ -23,10 +24,10 @@ pub record FindsIn (w : ℕ) (networks : List Network) (x byte : ℕ) : Type 0 w
   pub missed : IsAddressSet w networks → byte ≡ 0 → ¬ (InUnion w networks x)
 
 -- the question whether an address lies in the set of a list is answered, if the prefix length of the last network that
--- begins at the address or before it fits; if it does not, the number is `prefix`
-pub data SetQuery {C : Type 0} (w : ℕ) (held : C → Network) (list : List C) (x before after code : ℕ) : Type 0 where
-  Answered : (i : ℕ) → StandsAt (map held list) x i → LastFits w (map held list) i → code ≡ ok → FindsIn w (map held list) x after → SetQuery w held list x before after code
-  Refused : (i : ℕ) → StandsAt (map held list) x i → ¬ (LastFits w (map held list) i) → ¬ (All (λ c. PrefixFits w (held c)) list) → code ≡ prefix → after ≡ before → SetQuery w held list x before after code
+-- begins at the address or before it fits
+abbrev pub SetQuery : {C : Type 0} → ℕ → (C → Network) → List C → ℕ → ℕ → ℕ → ℕ → Type 0
+SetQuery w held list x before after code =
+    (i : ℕ) × StandsAt (map held list) x i × IfFit (LastFits w (map held list) i) (Writes (FindsIn w (map held list) x)) before after code
 
 -- the blocks stand in the front of the list, and nothing else of it has changed
 pub record StandInFront {C : Type 0} (held : C → Network) (blocks : List Network) (before after : List C) : Type 0 where
@@ -34,8 +35,7 @@ pub record StandInFront {C : Type 0} (held : C → Network) (blocks : List Netwo
   pub blocks_are : map held front ≡ blocks
   pub list : after ≡ front ++ drop (length blocks) before
 
--- the least list of blocks of a set is put in the front of a list, and its length is returned; if there is no room,
--- only that length is returned, or the greatest number of 64 bits if it is greater
-pub data PutsBlocks {C : Type 0} (w : ℕ) (held : C → Network) (set : ℕ → Type 0) (before after : List C) (told code : ℕ) : Type 0 where
-  Put : (blocks : List Network) → IsLeastList w set blocks → length blocks ≤ length before → code ≡ ok → told ≡ length blocks → StandInFront held blocks before after → PutsBlocks w held set before after told code
-  TooShort : (blocks : List Network) → IsLeastList w set blocks → length before < length blocks → code ≡ short_buffer → told ≡ min (length blocks) (2 ^ 64 - 1) → after ≡ before → PutsBlocks w held set before after told code
+-- the least list of blocks of a set is put in the front of a list
+abbrev pub PutsBlocks : {C : Type 0} → ℕ → (C → Network) → (ℕ → Type 0) → List C × ℕ → List C × ℕ → ℕ → Type 0
+PutsBlocks w held set before after code =
+    (blocks : List Network) × IsLeastList w set blocks × Puts (length blocks ≤ length before.0) (length blocks) (StandInFront held blocks before.0) before after code

@@ -1,6 +1,7 @@
 -- What one call writes, another reads as the same.
 use Rattle.std.specs.Prelude.{◌≡◌, ℕ, ◌^◌, ◌<◌, Some}
 use Rattle.ipnetwork_addr.specs.Digits.{digits_in, octets_of, octets_of_v6}
+use Rattle.ipnetwork_addr.specs.Either.{FitsIp}
 use Rattle.ipnetwork_addr.specs.declared.ip.IpAddr.{IpAddr}
 use Rattle.ipnetwork_addr.specs.declared.ip.IpAddr.TheVariants as addresses
 use Rattle.ipnetwork_family.specs.Network.{Network, IsNetwork}
@@ -11,7 +12,7 @@ use Rattle.ipnetwork_c.specs.declared.structs.Ipv6InC.{Ipv6InC}
 use Rattle.ipnetwork_c.specs.declared.structs.IpInC.{IpInC}
 use Rattle.ipnetwork_c.specs.declared.address.AddressInC.{AddressInC}
 use Rattle.ipnetwork_c.specs.Held.{v4_in, v6_in, HoldsV4, HoldsV6, number_of_octets}
-use Rattle.ipnetwork_c.specs.Either.{IsIpAddress, HoldsAddress, held_address, address_in, HoldsIp, StandsForIp}
+use Rattle.ipnetwork_c.specs.Either.{HoldsAddress, held_address, address_in, HoldsIp, StandsForIp}
 
 -- the octets of a number, as many as it needs, stand for that number
 abbrev pub OctetsTellTheNumber : Type 0
@@ -37,4 +38,4 @@ HeldIpStandsForItself = (held : IpInC) (n : IpNetwork) → IsIpNetwork n → Hol
 
 -- a struct that holds an address of either family stands for it
 abbrev pub HeldAddressStandsForItself : Type 0
-HeldAddressStandsForItself = (held : AddressInC) (a : IpAddr) → IsIpAddress a → HoldsAddress held a → held_address held ≡ Some a
+HeldAddressStandsForItself = (held : AddressInC) (a : IpAddr) → FitsIp a → HoldsAddress held a → held_address held ≡ Some a

@@ -1,13 +1,14 @@
 -- Columns of texts: the bytes of all texts, one after the other, and the offsets at which each begins and the last ends.
-use Rattle.std.specs.Prelude.{◌≡◌, ◌⊎◌, ℕ, ◌+◌, ◌-◌, ◌<◌, ◌≤◌, List, length, get_or, slice_range}
+use Rattle.std.specs.Prelude.{ℕ, ◌+◌, ◌-◌, ◌<◌, ◌≤◌, List, length, get_or, slice_range}
 use Rattle.ipnetwork_family.specs.Ipv4NetworkText.{ReadsV4Network}
 use Rattle.ipnetwork_family.specs.Ipv6NetworkText.{ReadsV6Network}
 use Rattle.ipnetwork.specs.IpNetworkText.{ReadsIpNetwork}
 use Rattle.ipnetwork_c.specs.declared.structs.Ipv4InC.{Ipv4InC}
 use Rattle.ipnetwork_c.specs.declared.structs.Ipv6InC.{Ipv6InC}
 use Rattle.ipnetwork_c.specs.declared.structs.IpInC.{IpInC}
-use Rattle.ipnetwork_c.specs.Numbers.{ok, short_buffer, no_offsets}
+use Rattle.ipnetwork_c.specs.Numbers.{short_buffer, no_offsets}
 use Rattle.ipnetwork_c.specs.Held.{HoldsV4, HoldsV6}
+use Rattle.ipnetwork_c.specs.Outcomes.{Writes, Needs}
 use Rattle.ipnetwork_c.specs.Answers.{ReadsInto}
 use Rattle.ipnetwork_c.specs.Columns.{AnswersEach}
 use Rattle.ipnetwork_c.specs.Either.{HoldsIp}
@@ -29,12 +30,11 @@ pub record AreOffsets (texts offsets : List ℕ) : Type 0 where
 abbrev pub ReadsRows : {R : Type 0} → (List ℕ → R → R → ℕ → Type 0) → List ℕ → List ℕ → ℕ → List R → List R → List ℕ → List ℕ → Type 0
 ReadsRows Reads texts offsets = AnswersEach (λ i. Reads (row_text texts offsets i))
 
--- a column is read, row by row; or nothing is written, since the offsets are not offsets of the texts, or there is no
--- room for as many rows
-pub data ReadsColumn {R : Type 0} (Reads : List ℕ → R → R → ℕ → Type 0) (texts offsets : List ℕ) (before after : List R) (faults_before faults : List ℕ) (code : ℕ) : Type 0 where
-  Read : AreOffsets texts offsets → code ≡ ok → row_count offsets ≤ length before → row_count offsets ≤ length faults_before → ReadsRows Reads texts offsets (row_count offsets) before after faults_before faults → ReadsColumn Reads texts offsets before after faults_before faults code
-  NoRoom : AreOffsets texts offsets → code ≡ short_buffer → (length before < row_count offsets) ⊎ (length faults_before < row_count offsets) → after ≡ before → faults ≡ faults_before → ReadsColumn Reads texts offsets before after faults_before faults code
-  NoOffsets : ¬ (AreOffsets texts offsets) → code ≡ no_offsets → after ≡ before → faults ≡ faults_before → ReadsColumn Reads texts offsets before after faults_before faults code
+-- a column is read, row by row, if it has offsets of the texts, and room for as many rows and faults
+abbrev pub ReadsColumn : {R : Type 0} → (List ℕ → R → R → ℕ → Type 0) → List ℕ → List ℕ → List R × List ℕ → List R × List ℕ → ℕ → Type 0
+ReadsColumn Reads texts offsets before =
+    Needs (AreOffsets texts offsets) no_offsets (Needs ((row_count offsets ≤ length before.0) × (row_count offsets ≤ length before.1)) short_buffer
+    (Writes (λ after. ReadsRows Reads texts offsets (row_count offsets) before.0 after.0 before.1 after.1))) before
 
 -- what the calls for one text leave and return
 abbrev pub v4_reads : List ℕ → Ipv4InC → Ipv4InC → ℕ → Type 0

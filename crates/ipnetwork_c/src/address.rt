@@ -1,6 +1,9 @@
 //! Addresses of either family for C.
-ghost use Rattle.std.specs.Prelude.{◌≡◌};
-ghost use Rattle.ipnetwork_c.specs.Either.{HoldsAddress, held_address, ReadsAddress, WritesAddressText};
+ghost use Rattle.std.specs.Prelude.{◌≡◌, Some};
+ghost use Rattle.ipnetwork_addr.specs.Either.{canonical_ip};
+ghost use Rattle.ipnetwork_c.specs.Outcomes.{Finds};
+ghost use Rattle.ipnetwork_c.specs.Answers.{PutsText};
+ghost use Rattle.ipnetwork_c.specs.Either.{HoldsAddress, held_address, ReadsAddress, NoAddress};
 
 use crate::fault::{ADDRESS, NO_FAMILY, OK};
 use crate::structs::address_of;
@@ -76,7 +79,7 @@ pub extern "C" fn ipnetwork_address_canonical(
     buffer: &mut [u8],
     length: &mut usize,
 ) -> u32
-    ensures { WritesAddressText address.now buffer.old buffer.new length.old length.new result }
+    ensures { Finds (λ a. held_address address.now ≡ Some a) (NoAddress address.now) (λ a. PutsText (canonical_ip a)) (buffer.old, length.old) (buffer.new, length.new) result }
 {
     match address.address() {
         Some(address) => text::tell_address(&address, buffer, length),

@@ -13,7 +13,7 @@ use ipnetwork_blocks::aggregate_held;
 /// `PREFIX` if the prefix length of one is greater than 32.
 #[unsafe(no_mangle)]
 pub extern "C" fn ipnetwork_v4_aggregate(networks: &mut [Ipv4InC], count: &mut usize) -> u32
-    ensures { Aggregates 32 v4_in networks.old networks.new count.old count.new result }
+    ensures { Aggregates 32 v4_in (networks.old, count.old) (networks.new, count.new) result }
 {
     if !v4_all_fit(networks) {
         return PREFIX;
@@ -25,7 +25,7 @@ pub extern "C" fn ipnetwork_v4_aggregate(networks: &mut [Ipv4InC], count: &mut u
 /// The same for IPv6, for prefix lengths up to 128.
 #[unsafe(no_mangle)]
 pub extern "C" fn ipnetwork_v6_aggregate(networks: &mut [Ipv6InC], count: &mut usize) -> u32
-    ensures { Aggregates 128 v6_in networks.old networks.new count.old count.new result }
+    ensures { Aggregates 128 v6_in (networks.old, count.old) (networks.new, count.new) result }
 {
     if !v6_all_fit(networks) {
         return PREFIX;

@@ -1,7 +1,7 @@
 //! The numbers of faults, as the header names them.
-ghost use Rattle.std.specs.Prelude.{◌≡◌, length as len};
+ghost use Rattle.std.specs.Prelude.{◌≡◌};
 ghost use Rattle.ipnetwork_c.specs.Numbers.{fault_number, fault_text};
-ghost use Rattle.ipnetwork_c.specs.Answers.{CopyResult};
+ghost use Rattle.ipnetwork_c.specs.Answers.{PutsText};
 
 use crate::text;
 use ipnetwork::CidrFault;
@@ -64,8 +64,7 @@ fn words_of(fault: u32) -> &'static str
 /// buffer has no room for both: then only the length is written.
 #[unsafe(no_mangle)]
 pub extern "C" fn ipnetwork_fault_text(fault: u32, buffer: &mut [u8], length: &mut usize) -> u32
-    ensures told { length.new ≡ len (fault_text fault) }
-    ensures put { CopyResult (fault_text fault) buffer.old buffer.new result }
+    ensures { PutsText (fault_text fault) (buffer.old, length.old) (buffer.new, length.new) result }
 {
     text::tell(words_of(fault).as_bytes(), buffer, length)
 }

@@ -7,7 +7,8 @@ ghost use Rattle.ipnetwork_family.specs.NetworkText.{network_text};
 ghost use Rattle.ipnetwork_family.specs.Ipv4NetworkText.{ReadsV4Network};
 ghost use Rattle.ipnetwork_c.specs.Numbers.{order_number};
 ghost use Rattle.ipnetwork_c.specs.Held.{v4_in, HoldsV4, PrefixFits, number_of_octets};
-ghost use Rattle.ipnetwork_c.specs.Answers.{ReadsInto, QueryResult, IsFlag, HasSize, WritesText, WritesPrefix, WritesMember};
+ghost use Rattle.ipnetwork_c.specs.Answers.{ReadsInto, IfFit, IsFlag, HasSize, PutsText, WritesPrefix, WritesMember};
+ghost use Rattle.ipnetwork_c.specs.Outcomes.{Writes};
 
 use crate::fault::{self, NO_MASK, NO_MEMBER, OK, PREFIX};
 use crate::order::number_of_order;
@@ -33,7 +34,7 @@ pub extern "C" fn ipnetwork_v4_read(text: &[u8], network: &mut Ipv4InC) -> u32
 /// The network of this address, host bits kept, and this prefix length; `PREFIX` if that is greater than 32.
 #[unsafe(no_mangle)]
 pub extern "C" fn ipnetwork_v4_new(address: &[u8; 4], prefix: u8, network: &mut Ipv4InC) -> u32
-    ensures { QueryResult (prefix ≤ 32) (λ held. (held.address ≡ address.now) × (held.prefix ≡ prefix)) network.old network.new result }
+    ensures { IfFit (prefix ≤ 32) (Writes (λ held. (held.address ≡ address.now) × (held.prefix ≡ prefix))) network.old network.new result }
 {
     if prefix > 32 {
         return PREFIX;
@@ -54,7 +55,7 @@ pub extern "C" fn ipnetwork_v4_canonical(
     buffer: &mut [u8],
     length: &mut usize,
 ) -> u32
-    ensures { WritesText 32 (v4_in network.now) (network_text canonical_v4 (v4_in network.now)) buffer.old buffer.new length.old length.new result }
+    ensures { IfFit (PrefixFits 32 (v4_in network.now)) (PutsText (network_text canonical_v4 (v4_in network.now))) (buffer.old, length.old) (buffer.new, length.new) result }
 {
     match network.network() {
         Some(network) => text::tell(network.canonical().as_str().as_bytes(), buffer, length),
@@ -69,7 +70,7 @@ pub extern "C" fn ipnetwork_v4_contains(
     address: &[u8; 4],
     answer: &mut u8,
 ) -> u32
-    ensures { QueryResult (PrefixFits 32 (v4_in network.now)) (IsFlag (Member 32 (v4_in network.now) (number_of_octets address.now))) answer.old answer.new result }
+    ensures { IfFit (PrefixFits 32 (v4_in network.now)) (Writes (IsFlag (Member 32 (v4_in network.now) (number_of_octets address.now)))) answer.old answer.new result }
 {
     match network.network() {
         Some(network) => {
@@ -83,7 +84,7 @@ pub extern "C" fn ipnetwork_v4_contains(
 /// The least member: the address with its host bits cleared. `PREFIX` if the prefix length is greater than 32.
 #[unsafe(no_mangle)]
 pub extern "C" fn ipnetwork_v4_network(network: &Ipv4InC, address: &mut [u8; 4]) -> u32
-    ensures { QueryResult (PrefixFits 32 (v4_in network.now)) (λ octets. octets ≡ octets_of (low 32 (v4_in network.now))) address.old address.new result }
+    ensures { IfFit (PrefixFits 32 (v4_in network.now)) (Writes (λ octets. octets ≡ octets_of (low 32 (v4_in network.now)))) address.old address.new result }
 {
     match network.network() {
         Some(network) => {
@@ -97,7 +98,7 @@ pub extern "C" fn ipnetwork_v4_network(network: &Ipv4InC, address: &mut [u8; 4])
 /// The greatest member: the address with its host bits set. `PREFIX` if the prefix length is greater than 32.
 #[unsafe(no_mangle)]
 pub extern "C" fn ipnetwork_v4_broadcast(network: &Ipv4InC, address: &mut [u8; 4]) -> u32
-    ensures { QueryResult (PrefixFits 32 (v4_in network.now)) (λ octets. octets ≡ octets_of (high 32 (v4_in network.now))) address.old address.new result }
+    ensures { IfFit (PrefixFits 32 (v4_in network.now)) (Writes (λ octets. octets ≡ octets_of (high 32 (v4_in network.now)))) address.old address.new result }
 {
     match network.network() {
         Some(network) => {
@@ -112,7 +113,7 @@ pub extern "C" fn ipnetwork_v4_broadcast(network: &Ipv4InC, address: &mut [u8; 4
 /// is greater than 32.
 #[unsafe(no_mangle)]
 pub extern "C" fn ipnetwork_v4_mask(network: &Ipv4InC, mask: &mut [u8; 4]) -> u32
-    ensures { QueryResult (PrefixFits 32 (v4_in network.now)) (λ octets. octets ≡ octets_of (mask_of 32 network.now.prefix)) mask.old mask.new result }
+    ensures { IfFit (PrefixFits 32 (v4_in network.now)) (Writes (λ octets. octets ≡ octets_of (mask_of 32 network.now.prefix))) mask.old mask.new result }
 {
     match network.network() {
         Some(network) => {
@@ -140,7 +141,7 @@ pub extern "C" fn ipnetwork_v4_prefix_of_mask(mask: &[u8; 4], prefix: &mut u8) -
 /// The number of members, 2^32 at prefix length 0. `PREFIX` if the prefix length is greater than 32.
 #[unsafe(no_mangle)]
 pub extern "C" fn ipnetwork_v4_size(network: &Ipv4InC, size: &mut u64) -> u32
-    ensures { QueryResult (PrefixFits 32 (v4_in network.now)) (HasSize 32 (v4_in network.now)) size.old size.new result }
+    ensures { IfFit (PrefixFits 32 (v4_in network.now)) (Writes (HasSize 32 (v4_in network.now))) size.old size.new result }
 {
     match network.network() {
         Some(network) => {
@@ -177,7 +178,7 @@ pub extern "C" fn ipnetwork_v4_is_subnet_of(
     outer: &Ipv4InC,
     answer: &mut u8,
 ) -> u32
-    ensures { QueryResult (PrefixFits 32 (v4_in inner.now) × PrefixFits 32 (v4_in outer.now)) (IsFlag (Subnet 32 (v4_in inner.now) (v4_in outer.now))) answer.old answer.new result }
+    ensures { IfFit (PrefixFits 32 (v4_in inner.now) × PrefixFits 32 (v4_in outer.now)) (Writes (IsFlag (Subnet 32 (v4_in inner.now) (v4_in outer.now)))) answer.old answer.new result }
 {
     match (inner.network(), outer.network()) {
         (Some(inner), Some(outer)) => {
@@ -191,7 +192,7 @@ pub extern "C" fn ipnetwork_v4_is_subnet_of(
 /// Whether some address is a member of both, as 1 or 0. `PREFIX` if a prefix length is greater than 32.
 #[unsafe(no_mangle)]
 pub extern "C" fn ipnetwork_v4_overlaps(one: &Ipv4InC, other: &Ipv4InC, answer: &mut u8) -> u32
-    ensures { QueryResult (PrefixFits 32 (v4_in one.now) × PrefixFits 32 (v4_in other.now)) (IsFlag (Overlap 32 (v4_in one.now) (v4_in other.now))) answer.old answer.new result }
+    ensures { IfFit (PrefixFits 32 (v4_in one.now) × PrefixFits 32 (v4_in other.now)) (Writes (IsFlag (Overlap 32 (v4_in one.now) (v4_in other.now)))) answer.old answer.new result }
 {
     match (one.network(), other.network()) {
         (Some(one), Some(other)) => {
@@ -206,7 +207,7 @@ pub extern "C" fn ipnetwork_v4_overlaps(one: &Ipv4InC, other: &Ipv4InC, answer: 
 /// equal. `PREFIX` if a prefix length is greater than 32.
 #[unsafe(no_mangle)]
 pub extern "C" fn ipnetwork_v4_compare(one: &Ipv4InC, other: &Ipv4InC, order: &mut i32) -> u32
-    ensures { QueryResult (PrefixFits 32 (v4_in one.now) × PrefixFits 32 (v4_in other.now)) (λ told. told ≡ order_number (network_cmp (v4_in one.now) (v4_in other.now))) order.old order.new result }
+    ensures { IfFit (PrefixFits 32 (v4_in one.now) × PrefixFits 32 (v4_in other.now)) (Writes (λ told. told ≡ order_number (network_cmp (v4_in one.now) (v4_in other.now)))) order.old order.new result }
 {
     match (one.network(), other.network()) {
         (Some(one), Some(other)) => {

@@ -7,7 +7,8 @@ ghost use Rattle.ipnetwork_family.specs.NetworkText.{network_text};
 ghost use Rattle.ipnetwork_family.specs.Ipv6NetworkText.{ReadsV6Network};
 ghost use Rattle.ipnetwork_c.specs.Numbers.{order_number};
 ghost use Rattle.ipnetwork_c.specs.Held.{v6_in, HoldsV6, PrefixFits, number_of_octets};
-ghost use Rattle.ipnetwork_c.specs.Answers.{ReadsInto, QueryResult, IsFlag, HasSize, WritesText, WritesPrefix, WritesMember};
+ghost use Rattle.ipnetwork_c.specs.Answers.{ReadsInto, IfFit, IsFlag, HasSize, PutsText, WritesPrefix, WritesMember};
+ghost use Rattle.ipnetwork_c.specs.Outcomes.{Writes};
 
 use crate::fault::{self, NO_MASK, NO_MEMBER, OK, PREFIX};
 use crate::order::number_of_order;
@@ -33,7 +34,7 @@ pub extern "C" fn ipnetwork_v6_read(text: &[u8], network: &mut Ipv6InC) -> u32
 /// The network of this address, host bits kept, and this prefix length; `PREFIX` if that is greater than 128.
 #[unsafe(no_mangle)]
 pub extern "C" fn ipnetwork_v6_new(address: &[u8; 16], prefix: u8, network: &mut Ipv6InC) -> u32
-    ensures { QueryResult (prefix ≤ 128) (λ held. (held.address ≡ address.now) × (held.prefix ≡ prefix)) network.old network.new result }
+    ensures { IfFit (prefix ≤ 128) (Writes (λ held. (held.address ≡ address.now) × (held.prefix ≡ prefix))) network.old network.new result }
 {
     if prefix > 128 {
         return PREFIX;
@@ -54,7 +55,7 @@ pub extern "C" fn ipnetwork_v6_canonical(
     buffer: &mut [u8],
     length: &mut usize,
 ) -> u32
-    ensures { WritesText 128 (v6_in network.now) (network_text canonical_v6 (v6_in network.now)) buffer.old buffer.new length.old length.new result }
+    ensures { IfFit (PrefixFits 128 (v6_in network.now)) (PutsText (network_text canonical_v6 (v6_in network.now))) (buffer.old, length.old) (buffer.new, length.new) result }
 {
     match network.network() {
         Some(network) => text::tell(network.canonical().as_str().as_bytes(), buffer, length),
@@ -69,7 +70,7 @@ pub extern "C" fn ipnetwork_v6_contains(
     address: &[u8; 16],
     answer: &mut u8,
 ) -> u32
-    ensures { QueryResult (PrefixFits 128 (v6_in network.now)) (IsFlag (Member 128 (v6_in network.now) (number_of_octets address.now))) answer.old answer.new result }
+    ensures { IfFit (PrefixFits 128 (v6_in network.now)) (Writes (IsFlag (Member 128 (v6_in network.now) (number_of_octets address.now)))) answer.old answer.new result }
 {
     match network.contains(address) {
         Some(member) => {
@@ -83,7 +84,7 @@ pub extern "C" fn ipnetwork_v6_contains(
 /// The least member: the address with its host bits cleared. `PREFIX` if the prefix length is greater than 128.
 #[unsafe(no_mangle)]
 pub extern "C" fn ipnetwork_v6_network(network: &Ipv6InC, address: &mut [u8; 16]) -> u32
-    ensures { QueryResult (PrefixFits 128 (v6_in network.now)) (λ octets. octets ≡ octets_of_v6 (low 128 (v6_in network.now))) address.old address.new result }
+    ensures { IfFit (PrefixFits 128 (v6_in network.now)) (Writes (λ octets. octets ≡ octets_of_v6 (low 128 (v6_in network.now)))) address.old address.new result }
 {
     match network.network() {
         Some(network) => {
@@ -97,7 +98,7 @@ pub extern "C" fn ipnetwork_v6_network(network: &Ipv6InC, address: &mut [u8; 16]
 /// The greatest member: the address with its host bits set. `PREFIX` if the prefix length is greater than 128.
 #[unsafe(no_mangle)]
 pub extern "C" fn ipnetwork_v6_broadcast(network: &Ipv6InC, address: &mut [u8; 16]) -> u32
-    ensures { QueryResult (PrefixFits 128 (v6_in network.now)) (λ octets. octets ≡ octets_of_v6 (high 128 (v6_in network.now))) address.old address.new result }
+    ensures { IfFit (PrefixFits 128 (v6_in network.now)) (Writes (λ octets. octets ≡ octets_of_v6 (high 128 (v6_in network.now)))) address.old address.new result }
 {
     match network.network() {
         Some(network) => {
@@ -112,7 +113,7 @@ pub extern "C" fn ipnetwork_v6_broadcast(network: &Ipv6InC, address: &mut [u8; 1
 /// is greater than 128.
 #[unsafe(no_mangle)]
 pub extern "C" fn ipnetwork_v6_mask(network: &Ipv6InC, mask: &mut [u8; 16]) -> u32
-    ensures { QueryResult (PrefixFits 128 (v6_in network.now)) (λ octets. octets ≡ octets_of_v6 (mask_of 128 network.now.prefix)) mask.old mask.new result }
+    ensures { IfFit (PrefixFits 128 (v6_in network.now)) (Writes (λ octets. octets ≡ octets_of_v6 (mask_of 128 network.now.prefix))) mask.old mask.new result }
 {
     match network.network() {
         Some(network) => {
@@ -141,7 +142,7 @@ pub extern "C" fn ipnetwork_v6_prefix_of_mask(mask: &[u8; 16], prefix: &mut u8) 
 /// greater than 128.
 #[unsafe(no_mangle)]
 pub extern "C" fn ipnetwork_v6_size(network: &Ipv6InC, size: &mut [u8; 17]) -> u32
-    ensures { QueryResult (PrefixFits 128 (v6_in network.now)) (λ octets. HasSize 128 (v6_in network.now) (number_of_octets octets)) size.old size.new result }
+    ensures { IfFit (PrefixFits 128 (v6_in network.now)) (Writes (λ octets. HasSize 128 (v6_in network.now) (number_of_octets octets))) size.old size.new result }
 {
     match network.network() {
         Some(network) => {
@@ -178,7 +179,7 @@ pub extern "C" fn ipnetwork_v6_is_subnet_of(
     outer: &Ipv6InC,
     answer: &mut u8,
 ) -> u32
-    ensures { QueryResult (PrefixFits 128 (v6_in inner.now) × PrefixFits 128 (v6_in outer.now)) (IsFlag (Subnet 128 (v6_in inner.now) (v6_in outer.now))) answer.old answer.new result }
+    ensures { IfFit (PrefixFits 128 (v6_in inner.now) × PrefixFits 128 (v6_in outer.now)) (Writes (IsFlag (Subnet 128 (v6_in inner.now) (v6_in outer.now)))) answer.old answer.new result }
 {
     match (inner.network(), outer.network()) {
         (Some(inner), Some(outer)) => {
@@ -192,7 +193,7 @@ pub extern "C" fn ipnetwork_v6_is_subnet_of(
 /// Whether some address is a member of both, as 1 or 0. `PREFIX` if a prefix length is greater than 128.
 #[unsafe(no_mangle)]
 pub extern "C" fn ipnetwork_v6_overlaps(one: &Ipv6InC, other: &Ipv6InC, answer: &mut u8) -> u32
-    ensures { QueryResult (PrefixFits 128 (v6_in one.now) × PrefixFits 128 (v6_in other.now)) (IsFlag (Overlap 128 (v6_in one.now) (v6_in other.now))) answer.old answer.new result }
+    ensures { IfFit (PrefixFits 128 (v6_in one.now) × PrefixFits 128 (v6_in other.now)) (Writes (IsFlag (Overlap 128 (v6_in one.now) (v6_in other.now)))) answer.old answer.new result }
 {
     match (one.network(), other.network()) {
         (Some(one), Some(other)) => {
@@ -207,7 +208,7 @@ pub extern "C" fn ipnetwork_v6_overlaps(one: &Ipv6InC, other: &Ipv6InC, answer: 
 /// equal. `PREFIX` if a prefix length is greater than 128.
 #[unsafe(no_mangle)]
 pub extern "C" fn ipnetwork_v6_compare(one: &Ipv6InC, other: &Ipv6InC, order: &mut i32) -> u32
-    ensures { QueryResult (PrefixFits 128 (v6_in one.now) × PrefixFits 128 (v6_in other.now)) (λ told. told ≡ order_number (network_cmp (v6_in one.now) (v6_in other.now))) order.old order.new result }
+    ensures { IfFit (PrefixFits 128 (v6_in one.now) × PrefixFits 128 (v6_in other.now)) (Writes (λ told. told ≡ order_number (network_cmp (v6_in one.now) (v6_in other.now)))) order.old order.new result }
 {
     match (one.network(), other.network()) {
         (Some(one), Some(other)) => {

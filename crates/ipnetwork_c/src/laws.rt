@@ -1,11 +1,13 @@
-//! The laws of the structs and columns for C. Each function's contract is a law. It takes nothing and does nothing.
+//! The laws of the structs, texts and columns for C. Each function's contract is a law. It takes nothing and does nothing.
 //! They are not called from C.
 
 mod columns;
 mod structs;
+mod texts;
 
 pub use columns::printed_columns_are_columns;
 pub use structs::{
     held_address_stands_for_itself, held_ip_stands_for_itself, held_v4_stands_for_itself,
     held_v6_stands_for_itself, octets_tell_the_address, octets_tell_the_number,
 };
+pub use texts::texts_fit_their_buffers;

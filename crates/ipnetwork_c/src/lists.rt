@@ -1,7 +1,8 @@
 //! Questions about lists of networks in the caller's memory, in any order, host bits or not.
 ghost use Rattle.std.specs.Prelude.{◌↔◌, All, Any, IsTrue};
 ghost use Rattle.ipnetwork_family.specs.Network.{Member};
-ghost use Rattle.ipnetwork_c.specs.Answers.{QueryResult, IsFlag};
+ghost use Rattle.ipnetwork_c.specs.Answers.{IfFit, IsFlag};
+ghost use Rattle.ipnetwork_c.specs.Outcomes.{Writes};
 ghost use Rattle.ipnetwork_c.specs.Held.{v4_in, v6_in, PrefixFits, number_of_octets};
 
 use crate::fault::{OK, PREFIX};
@@ -15,7 +16,7 @@ pub extern "C" fn ipnetwork_v4_list_contains(
     address: &[u8; 4],
     answer: &mut u8,
 ) -> u32
-    ensures { QueryResult (All (λ held. PrefixFits 32 (v4_in held)) networks.now) (IsFlag (Any (λ held. Member 32 (v4_in held) (number_of_octets address.now)) networks.now)) answer.old answer.new result }
+    ensures { IfFit (All (λ held. PrefixFits 32 (v4_in held)) networks.now) (Writes (IsFlag (Any (λ held. Member 32 (v4_in held) (number_of_octets address.now)) networks.now))) answer.old answer.new result }
 {
     if !v4_all_fit(networks) {
         return PREFIX;
@@ -51,7 +52,7 @@ pub extern "C" fn ipnetwork_v6_list_contains(
     address: &[u8; 16],
     answer: &mut u8,
 ) -> u32
-    ensures { QueryResult (All (λ held. PrefixFits 128 (v6_in held)) networks.now) (IsFlag (Any (λ held. Member 128 (v6_in held) (number_of_octets address.now)) networks.now)) answer.old answer.new result }
+    ensures { IfFit (All (λ held. PrefixFits 128 (v6_in held)) networks.now) (Writes (IsFlag (Any (λ held. Member 128 (v6_in held) (number_of_octets address.now)) networks.now))) answer.old answer.new result }
 {
     if !v6_all_fit(networks) {
         return PREFIX;

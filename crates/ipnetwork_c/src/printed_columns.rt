@@ -1,9 +1,9 @@
 //! Columns of networks and addresses printed in one call, in the layout of Arrow: the bytes of all texts, one after the
 //! other, and the offsets at which each begins and the last ends.
-ghost use Rattle.std.specs.Prelude.{◌≡◌, ◌≢◌, ℕ, Some, ◌+◌, ◌^◌, ◌<◌, ◌≤◌, ◌++◌, length as len, take, drop, flat_map, slice_get};
+ghost use Rattle.std.specs.Prelude.{◌≡◌, ◌≢◌, ◌+◌, ◌^◌, ◌<◌, ◌≤◌, ◌++◌, length as len, take, drop, flat_map};
 ghost use Rattle.std.specs.List.{All};
-ghost use Rattle.ipnetwork_c.specs.PrintedColumns.{PrintsRows, PrintsColumn, v4_fits, v4_refused, v4_text, v6_fits, v6_refused, v6_text, ip_fits, ip_text, address_fits, address_refused, address_text};
-ghost use Rattle.ipnetwork_c.specs.Either.{NoIpNetwork};
+ghost use Rattle.ipnetwork_c.specs.PrintedColumns.{PrintsRows, FirstRefused, PrintsColumn, v4_fits, v4_refused, v4_text, v6_fits, v6_refused, v6_text, ip_fits, ip_text, address_fits, address_text};
+ghost use Rattle.ipnetwork_c.specs.Either.{NoIpNetwork, NoAddress};
 
 use crate::address::AddressInC;
 use crate::fault::{NO_FAMILY, OK, PREFIX, SHORT_BUFFER};
@@ -100,7 +100,7 @@ impl PrintsRow for IpInC {
 impl PrintsRow for AddressInC {
     ghost fits = { address_fits };
 
-    ghost refused = { address_refused };
+    ghost refused = { NoAddress };
 
     ghost text = { address_text };
 
@@ -124,7 +124,7 @@ impl PrintsRow for AddressInC {
 // The fault of the first row that is refused; 0 if none is.
 fn first_fault<R: PrintsRow>(rows: &[R]) -> u32
     ensures none { result ≡ 0 → All R.fits rows.now }
-    ensures one { result ≢ 0 → (i : ℕ) × (r : R) × (slice_get rows.now i ≡ Some r) × All R.fits (take i rows.now) × R.refused r result }
+    ensures one { result ≢ 0 → FirstRefused R.fits R.refused rows.now result }
 {
     for row in 0..rows.len() {
         let fault = rows[row].row_fault();
@@ -142,7 +142,7 @@ fn print_rows<R: PrintsRow>(
     offsets: &mut [u32],
     length: &mut usize,
 ) -> u32
-    ensures { PrintsColumn R.fits R.refused R.text rows.now texts.old texts.new offsets.old offsets.new length.old length.new result }
+    ensures { PrintsColumn R.fits R.refused R.text rows.now ((texts.old, offsets.old), length.old) ((texts.new, offsets.new), length.new) result }
 {
     let fault = first_fault(rows);
     if fault != OK {
@@ -208,7 +208,7 @@ pub extern "C" fn ipnetwork_v4_print_column(
     offsets: &mut [u32],
     length: &mut usize,
 ) -> u32
-    ensures { PrintsColumn v4_fits v4_refused v4_text networks.now texts.old texts.new offsets.old offsets.new length.old length.new result }
+    ensures { PrintsColumn v4_fits v4_refused v4_text networks.now ((texts.old, offsets.old), length.old) ((texts.new, offsets.new), length.new) result }
 {
     print_rows(networks, texts, offsets, length)
 }
@@ -221,7 +221,7 @@ pub extern "C" fn ipnetwork_v6_print_column(
     offsets: &mut [u32],
     length: &mut usize,
 ) -> u32
-    ensures { PrintsColumn v6_fits v6_refused v6_text networks.now texts.old texts.new offsets.old offsets.new length.old length.new result }
+    ensures { PrintsColumn v6_fits v6_refused v6_text networks.now ((texts.old, offsets.old), length.old) ((texts.new, offsets.new), length.new) result }
 {
     print_rows(networks, texts, offsets, length)
 }
@@ -235,7 +235,7 @@ pub extern "C" fn ipnetwork_print_column(
     offsets: &mut [u32],
     length: &mut usize,
 ) -> u32
-    ensures { PrintsColumn ip_fits NoIpNetwork ip_text networks.now texts.old texts.new offsets.old offsets.new length.old length.new result }
+    ensures { PrintsColumn ip_fits NoIpNetwork ip_text networks.now ((texts.old, offsets.old), length.old) ((texts.new, offsets.new), length.new) result }
 {
     print_rows(networks, texts, offsets, length)
 }
@@ -249,7 +249,7 @@ pub extern "C" fn ipnetwork_address_print_column(
     offsets: &mut [u32],
     length: &mut usize,
 ) -> u32
-    ensures { PrintsColumn address_fits address_refused address_text addresses.now texts.old texts.new offsets.old offsets.new length.old length.new result }
+    ensures { PrintsColumn address_fits NoAddress address_text addresses.now ((texts.old, offsets.old), length.old) ((texts.new, offsets.new), length.new) result }
 {
     print_rows(addresses, texts, offsets, length)
 }

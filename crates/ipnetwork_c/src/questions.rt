@@ -1,10 +1,12 @@
 //! The questions about networks of either family. Each is refused if a struct stands for no network: `NO_FAMILY` if its
 //! family is neither 4 nor 6, else `PREFIX` if its prefix length is greater than the family's width.
 ghost use Rattle.std.specs.Prelude.{◌≡◌};
+ghost use Rattle.ipnetwork.specs.IpNetworkText.{ip_network_text};
 ghost use Rattle.ipnetwork.specs.IpNetworks.{ip_low, ip_high, ip_mask_of, IpSubnet, IpOverlap, ip_network_cmp};
 ghost use Rattle.ipnetwork_c.specs.Numbers.{order_number};
-ghost use Rattle.ipnetwork_c.specs.Answers.{IsFlag};
-ghost use Rattle.ipnetwork_c.specs.Either.{IpQuery, IpPairQuery, WritesIpText, HoldsAddress};
+ghost use Rattle.ipnetwork_c.specs.Outcomes.{Writes};
+ghost use Rattle.ipnetwork_c.specs.Answers.{IsFlag, PutsText};
+ghost use Rattle.ipnetwork_c.specs.Either.{OfNetwork, HoldsAddress};
 
 use crate::address::AddressInC;
 use crate::fault::OK;
@@ -17,7 +19,7 @@ use crate::text;
 /// written.
 #[unsafe(no_mangle)]
 pub extern "C" fn ipnetwork_canonical(network: &IpInC, buffer: &mut [u8], length: &mut usize) -> u32
-    ensures { WritesIpText network.now buffer.old buffer.new length.old length.new result }
+    ensures { OfNetwork network.now (λ n. PutsText (ip_network_text n)) (buffer.old, length.old) (buffer.new, length.new) result }
 {
     match network.network() {
         Ok(network) => text::tell_network(&network, buffer, length),
@@ -28,7 +30,7 @@ pub extern "C" fn ipnetwork_canonical(network: &IpInC, buffer: &mut [u8], length
 /// The least member: the address with its host bits cleared.
 #[unsafe(no_mangle)]
 pub extern "C" fn ipnetwork_network(network: &IpInC, address: &mut AddressInC) -> u32
-    ensures { IpQuery network.now (λ n held. HoldsAddress held (ip_low n)) address.old address.new result }
+    ensures { OfNetwork network.now (λ n. Writes (λ held. HoldsAddress held (ip_low n))) address.old address.new result }
 {
     match network.network() {
         Ok(network) => {
@@ -42,7 +44,7 @@ pub extern "C" fn ipnetwork_network(network: &IpInC, address: &mut AddressInC) -
 /// The greatest member: the address with its host bits set.
 #[unsafe(no_mangle)]
 pub extern "C" fn ipnetwork_broadcast(network: &IpInC, address: &mut AddressInC) -> u32
-    ensures { IpQuery network.now (λ n held. HoldsAddress held (ip_high n)) address.old address.new result }
+    ensures { OfNetwork network.now (λ n. Writes (λ held. HoldsAddress held (ip_high n))) address.old address.new result }
 {
     match network.network() {
         Ok(network) => {
@@ -56,7 +58,7 @@ pub extern "C" fn ipnetwork_broadcast(network: &IpInC, address: &mut AddressInC)
 /// The mask, in the network's family.
 #[unsafe(no_mangle)]
 pub extern "C" fn ipnetwork_mask(network: &IpInC, mask: &mut AddressInC) -> u32
-    ensures { IpQuery network.now (λ n held. HoldsAddress held (ip_mask_of n)) mask.old mask.new result }
+    ensures { OfNetwork network.now (λ n. Writes (λ held. HoldsAddress held (ip_mask_of n))) mask.old mask.new result }
 {
     match network.network() {
         Ok(network) => {
@@ -71,7 +73,7 @@ pub extern "C" fn ipnetwork_mask(network: &IpInC, mask: &mut AddressInC) -> u32
 /// Host bits are ignored. The first struct is checked first.
 #[unsafe(no_mangle)]
 pub extern "C" fn ipnetwork_is_subnet_of(inner: &IpInC, outer: &IpInC, answer: &mut u8) -> u32
-    ensures { IpPairQuery inner.now outer.now (λ a b. IsFlag (IpSubnet a b)) answer.old answer.new result }
+    ensures { OfNetwork inner.now (λ a. OfNetwork outer.now (λ b. Writes (IsFlag (IpSubnet a b)))) answer.old answer.new result }
 {
     let inner = match inner.network() {
         Ok(network) => network,
@@ -89,7 +91,7 @@ pub extern "C" fn ipnetwork_is_subnet_of(inner: &IpInC, outer: &IpInC, answer: &
 /// Whether some address is a member of both, as 1 or 0. The first struct is checked first.
 #[unsafe(no_mangle)]
 pub extern "C" fn ipnetwork_overlaps(one: &IpInC, other: &IpInC, answer: &mut u8) -> u32
-    ensures { IpPairQuery one.now other.now (λ a b. IsFlag (IpOverlap a b)) answer.old answer.new result }
+    ensures { OfNetwork one.now (λ a. OfNetwork other.now (λ b. Writes (IsFlag (IpOverlap a b)))) answer.old answer.new result }
 {
     let one = match one.network() {
         Ok(network) => network,
@@ -108,7 +110,7 @@ pub extern "C" fn ipnetwork_overlaps(one: &IpInC, other: &IpInC, answer: &mut u8
 /// IPv6 network; in a family the address decides, then the prefix length. The first struct is checked first.
 #[unsafe(no_mangle)]
 pub extern "C" fn ipnetwork_compare(one: &IpInC, other: &IpInC, order: &mut i32) -> u32
-    ensures { IpPairQuery one.now other.now (λ a b told. told ≡ order_number (ip_network_cmp a b)) order.old order.new result }
+    ensures { OfNetwork one.now (λ a. OfNetwork other.now (λ b. Writes (λ told. told ≡ order_number (ip_network_cmp a b)))) order.old order.new result }
 {
     let one = match one.network() {
         Ok(network) => network,

@@ -21,7 +21,7 @@ fn operate<N: AddressSpace, H: Listed<N>>(
     blocks: &mut [H],
     count: &mut usize,
 ) -> u32
-    ensures { SetOperation N.WIDTH H.held (kept_by operation N.WIDTH) first.now second.now blocks.old blocks.new count.old count.new result }
+    ensures { SetOperation N.WIDTH H.held (kept_by operation N.WIDTH) first.now second.now (blocks.old, count.old) (blocks.new, count.new) result }
 {
     if !all_fit::<N, H>(first) || !all_fit::<N, H>(second) {
         return PREFIX;
@@ -49,7 +49,7 @@ pub extern "C" fn ipnetwork_v4_union(
     blocks: &mut [Ipv4InC],
     count: &mut usize,
 ) -> u32
-    ensures { SetOperation 32 v4_in (InEither 32) first.now second.now blocks.old blocks.new count.old count.new result }
+    ensures { SetOperation 32 v4_in (InEither 32) first.now second.now (blocks.old, count.old) (blocks.new, count.new) result }
 {
     operate::<Ipv4Network, Ipv4InC>(Operation::Union, first, second, blocks, count)
 }
@@ -62,7 +62,7 @@ pub extern "C" fn ipnetwork_v6_union(
     blocks: &mut [Ipv6InC],
     count: &mut usize,
 ) -> u32
-    ensures { SetOperation 128 v6_in (InEither 128) first.now second.now blocks.old blocks.new count.old count.new result }
+    ensures { SetOperation 128 v6_in (InEither 128) first.now second.now (blocks.old, count.old) (blocks.new, count.new) result }
 {
     operate::<Ipv6Network, Ipv6InC>(Operation::Union, first, second, blocks, count)
 }
@@ -75,7 +75,7 @@ pub extern "C" fn ipnetwork_v4_intersection(
     blocks: &mut [Ipv4InC],
     count: &mut usize,
 ) -> u32
-    ensures { SetOperation 32 v4_in (InBoth 32) first.now second.now blocks.old blocks.new count.old count.new result }
+    ensures { SetOperation 32 v4_in (InBoth 32) first.now second.now (blocks.old, count.old) (blocks.new, count.new) result }
 {
     operate::<Ipv4Network, Ipv4InC>(Operation::Intersection, first, second, blocks, count)
 }
@@ -88,7 +88,7 @@ pub extern "C" fn ipnetwork_v6_intersection(
     blocks: &mut [Ipv6InC],
     count: &mut usize,
 ) -> u32
-    ensures { SetOperation 128 v6_in (InBoth 128) first.now second.now blocks.old blocks.new count.old count.new result }
+    ensures { SetOperation 128 v6_in (InBoth 128) first.now second.now (blocks.old, count.old) (blocks.new, count.new) result }
 {
     operate::<Ipv6Network, Ipv6InC>(Operation::Intersection, first, second, blocks, count)
 }
@@ -102,7 +102,7 @@ pub extern "C" fn ipnetwork_v4_difference(
     blocks: &mut [Ipv4InC],
     count: &mut usize,
 ) -> u32
-    ensures { SetOperation 32 v4_in (InFirstAlone 32) first.now second.now blocks.old blocks.new count.old count.new result }
+    ensures { SetOperation 32 v4_in (InFirstAlone 32) first.now second.now (blocks.old, count.old) (blocks.new, count.new) result }
 {
     operate::<Ipv4Network, Ipv4InC>(Operation::Difference, first, second, blocks, count)
 }
@@ -115,7 +115,7 @@ pub extern "C" fn ipnetwork_v6_difference(
     blocks: &mut [Ipv6InC],
     count: &mut usize,
 ) -> u32
-    ensures { SetOperation 128 v6_in (InFirstAlone 128) first.now second.now blocks.old blocks.new count.old count.new result }
+    ensures { SetOperation 128 v6_in (InFirstAlone 128) first.now second.now (blocks.old, count.old) (blocks.new, count.new) result }
 {
     operate::<Ipv6Network, Ipv6InC>(Operation::Difference, first, second, blocks, count)
 }

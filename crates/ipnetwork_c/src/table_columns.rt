@@ -16,7 +16,7 @@ pub extern "C" fn ipnetwork_v4_table_find_column(
     indexes: &mut [usize],
     faults: &mut [u8],
 ) -> u32
-    ensures { TableRows 32 v4_in blocks.now addresses.now indexes.old indexes.new faults.old faults.new result }
+    ensures { TableRows 32 v4_in blocks.now addresses.now (indexes.old, faults.old) (indexes.new, faults.new) result }
 {
     if indexes.len() < addresses.len() || faults.len() < addresses.len() {
         return SHORT_BUFFER;
@@ -42,7 +42,7 @@ pub extern "C" fn ipnetwork_v6_table_find_column(
     indexes: &mut [usize],
     faults: &mut [u8],
 ) -> u32
-    ensures { TableRows 128 v6_in blocks.now addresses.now indexes.old indexes.new faults.old faults.new result }
+    ensures { TableRows 128 v6_in blocks.now addresses.now (indexes.old, faults.old) (indexes.new, faults.new) result }
 {
     if indexes.len() < addresses.len() || faults.len() < addresses.len() {
         return SHORT_BUFFER;

@@ -26,7 +26,7 @@ pub extern "C" fn ipnetwork_v4_table_make(
     blocks: &mut [Ipv4InC],
     places: &mut [usize],
 ) -> u32
-    ensures { MakesTable 32 v4_in networks.now blocks.old blocks.new places.old places.new result }
+    ensures { MakesTable 32 v4_in networks.now (blocks.old, places.old) (blocks.new, places.new) result }
 {
     make::<Ipv4Network, Ipv4InC>(networks, blocks, places)
 }
@@ -38,7 +38,7 @@ pub extern "C" fn ipnetwork_v6_table_make(
     blocks: &mut [Ipv6InC],
     places: &mut [usize],
 ) -> u32
-    ensures { MakesTable 128 v6_in networks.now blocks.old blocks.new places.old places.new result }
+    ensures { MakesTable 128 v6_in networks.now (blocks.old, places.old) (blocks.new, places.new) result }
 {
     make::<Ipv6Network, Ipv6InC>(networks, blocks, places)
 }
@@ -49,7 +49,7 @@ fn make<N: AddressSpace, H: Listed<N>>(
     blocks: &mut [H],
     places: &mut [usize],
 ) -> u32
-    ensures { MakesTable N.WIDTH H.held networks.now blocks.old blocks.new places.old places.new result }
+    ensures { MakesTable N.WIDTH H.held networks.now (blocks.old, places.old) (blocks.new, places.new) result }
 {
     if !all_fit::<N, H>(networks) {
         return PREFIX;

@@ -1,6 +1,5 @@
 //! Texts put into a buffer of C.
-ghost use Rattle.std.specs.Prelude.{◌≡◌, length as len};
-ghost use Rattle.ipnetwork_c.specs.Answers.{CopyResult};
+ghost use Rattle.ipnetwork_c.specs.Answers.{PutsText};
 ghost use Rattle.ipnetwork_c.specs.Private.Texts.{CopiesText};
 ghost use Rattle.ipnetwork_addr.specs.Either.{canonical_ip};
 ghost use Rattle.ipnetwork.specs.IpNetworkText.{ip_network_text};
@@ -24,8 +23,7 @@ pub(crate) fn put(text: &[u8], buffer: &mut [u8]) -> bool
 
 /// Puts a text into a buffer, and its length into `length`. `SHORT_BUFFER` if there is no room for the text.
 pub(crate) fn tell(text: &[u8], buffer: &mut [u8], length: &mut usize) -> u32
-    ensures told { length.new ≡ len text.now }
-    ensures put { CopyResult text.now buffer.old buffer.new result }
+    ensures { PutsText text.now (buffer.old, length.old) (buffer.new, length.new) result }
 {
     *length = text.len();
     if put(text, buffer) { OK } else { SHORT_BUFFER }
@@ -33,16 +31,14 @@ pub(crate) fn tell(text: &[u8], buffer: &mut [u8], length: &mut usize) -> u32
 
 /// The canonical text of a network of either family, as `tell` puts it.
 pub(crate) fn tell_network(network: &IpNetwork, buffer: &mut [u8], length: &mut usize) -> u32
-    ensures told { length.new ≡ len (ip_network_text network.now) }
-    ensures put { CopyResult (ip_network_text network.now) buffer.old buffer.new result }
+    ensures { PutsText (ip_network_text network.now) (buffer.old, length.old) (buffer.new, length.new) result }
 {
     tell(network.canonical().as_str().as_bytes(), buffer, length)
 }
 
 /// The canonical text of an address of either family, as `tell` puts it.
 pub(crate) fn tell_address(address: &IpAddr, buffer: &mut [u8], length: &mut usize) -> u32
-    ensures told { length.new ≡ len (canonical_ip address.now) }
-    ensures put { CopyResult (canonical_ip address.now) buffer.old buffer.new result }
+    ensures { PutsText (canonical_ip address.now) (buffer.old, length.old) (buffer.new, length.new) result }
 {
     tell(address.canonical().as_str().as_bytes(), buffer, length)
 }

@@ -1,6 +1,6 @@
 use Rattle.std.proofs.Common.{refl}
-use Rattle.ipnetwork_c.specs.Either.ReadsAddress.{Named}
+use Rattle.ipnetwork_c.specs.Outcomes.Unless.{On}
 use Rattle.ipnetwork_c.proofs.address.ipnetwork_address_read.Goals as goal
 
 pub returns-in-Ok : goal.returns-in-Ok
-returns-in-Ok c = Named _ c.in-Ok.ensures refl c.of.ensures
+returns-in-Ok c = On (_, c.in-Ok.ensures, (refl, c.of.ensures))

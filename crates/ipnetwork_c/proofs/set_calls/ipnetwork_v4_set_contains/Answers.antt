@@ -6,4 +6,4 @@ pub returns-in-Some : goal.returns-in-Some
 returns-in-Some c = set_answered 32 v4_in c.args.blocks.now _ _ _ _ c.from.ensures c.in-Some.ensures.fits c.in-Some.ensures.answered
 
 pub returns-in-None : goal.returns-in-None
-returns-in-None c = set_refused 32 v4_in c.args.blocks.now _ _ _ c.from.ensures c.in-None.ensures.fits c.in-None.ensures.answered
+returns-in-None c = set_refused 32 v4_in c.args.blocks.now _ _ _ c.from.ensures c.in-None.ensures.fits

@@ -5,14 +5,13 @@ use Rattle.std.proofs.lemmas.List.{length-map, length-take-le, take-map}
 use Rattle.ipnetwork_family.specs.Bits.{SharesBits}
 use Rattle.ipnetwork_family.specs.Network.{Network, Member, block_at}
 use Rattle.ipnetwork_blocks.proofs.AggregateMapped.{read_map}
-use Rattle.ipnetwork_c.specs.Held.{PrefixFits}
 use Rattle.ipnetwork_c.specs.Tables.{IsTable}
-use Rattle.ipnetwork_c.specs.Tables.TableQuery.{Found, NotFound, Refused}
+use Rattle.ipnetwork_c.specs.Outcomes.Unless.{On, Nothing}
 use Rattle.std.proofs.lemmas.Option.{slice_get_read}
-use Rattle.ipnetwork_c.specs.Searches.{StandsAt, LastFits, ComesTo}
+use Rattle.ipnetwork_c.specs.Searches.{StandsAt, ComesTo}
 use Rattle.ipnetwork_c.specs.Searches.ComesTo.{First, On}
 use Rattle.ipnetwork_c.specs.Private.Sets.{SplitsAt}
-use Rattle.ipnetwork_c.proofs.Searching.{last_fits, last_does_not_fit}
+use Rattle.ipnetwork_c.proofs.Searching.{none_fits, last_fits, last_does_not_fit}
 use Rattle.ipnetwork_c.proofs.TableFinding.{by_address, taken_ascends, search_begins, search_goes_on, search_finds, search_fails}
 use Rattle.ipnetwork_c.proofs.tables.find.Goals as goal
 
@@ -35,11 +34,8 @@ returns-then-not-fits g c =
     let within = c.loop-end.invariant.within in
     let b : Network = g.H.HoldsNetwork.held c.index-blocks-end.result in
     let is = read_map g.H.HoldsNetwork.held c.args.blocks.now (c.loop-end.end - 1) c.index-blocks-end.result (omega arith) c.index-blocks-end.is in
-    Refused c.loop-end.end c.loop-end.invariant.comes
-    (last_does_not_fit w ns c.loop-end.end b (omega arith) (omega arith) is (λ fits. iff_false c.fits.ensures c.if-not-fits.true ((g.met.H.Listed.fitting c.index-blocks-end.result).1 fits)))
-    (λ all. iff_false c.fits.ensures c.if-not-fits.true ((g.met.H.Listed.fitting c.index-blocks-end.result).1
-    (subst (λ h. PrefixFits g.N.CidrNetwork.WIDTH (g.H.HoldsNetwork.held h)) (sym c.index-blocks-end.is) (all (c.loop-end.end - 1) c.index-blocks-end.result (omega arith)))))
-    refl c.loop-end.invariant.index
+    let not = last_does_not_fit w ns c.loop-end.end b (omega arith) (omega arith) is (λ fits. iff_false c.fits.ensures c.if-not-fits.true ((g.met.H.Listed.fitting c.index-blocks-end.result).1 fits)) in
+    (c.loop-end.end, c.loop-end.invariant.comes, Nothing (not, refl) c.loop-end.invariant.index)
 
 pub returns-then-contains : goal.returns-then-contains
 returns-then-contains g c =
@@ -51,9 +47,9 @@ returns-then-contains g c =
     let is = read_map g.H.HoldsNetwork.held c.args.blocks.now (c.loop-end.end - 1) c.index-blocks-end.result (omega arith) c.index-blocks-end.is in
     let has : Member w b (g.N.CidrNetwork.number c.args.address) = rw c.held_network-block.ensures at (c.contains.ensures.0 c.if-contains.true) in
     let again : c.loop-end.end ≡ c.loop-end.end - 1 + 1 = omega arith in
-    Found refl (search_finds w ns (g.N.CidrNetwork.number c.args.address) c.loop-end.end b c.loop-end.invariant.searched (omega arith) (omega arith) is has)
-    (subst (ComesTo w ns (g.N.CidrNetwork.number c.args.address)) again c.loop-end.invariant.comes)
-    (subst (LastFits w ns) again (last_fits w ns c.loop-end.end b is ((g.met.H.Listed.fitting c.index-blocks-end.result).0 (c.fits.ensures.0 c.if-not-fits.false))))
+    let fits = last_fits w ns c.loop-end.end b is ((g.met.H.Listed.fitting c.index-blocks-end.result).0 (c.fits.ensures.0 c.if-not-fits.false)) in
+    let finds = search_finds w ns (g.N.CidrNetwork.number c.args.address) c.loop-end.end b c.loop-end.invariant.searched (omega arith) (omega arith) is has in
+    (c.loop-end.end, c.loop-end.invariant.comes, On (fits, On (refl, (again, finds))))
 
 pub loop-end-preserved : goal.loop-end-preserved
 loop-end-preserved g c =
@@ -98,7 +94,7 @@ loop-end-preserved g c =
 pub returns : goal.returns
 returns g c =
     let none : c.loop-end.end ≡ 0 = omega arith in
-    NotFound refl
-    (search_fails g.N.CidrNetwork.WIDTH (map g.H.HoldsNetwork.held c.args.blocks.now) (g.N.CidrNetwork.number c.args.address) c.loop-end.end c.loop-end.invariant.searched (omega arith))
-    (subst (ComesTo g.N.CidrNetwork.WIDTH (map g.H.HoldsNetwork.held c.args.blocks.now) (g.N.CidrNetwork.number c.args.address)) none c.loop-end.invariant.comes)
-    c.loop-end.invariant.index
+    let w : ℕ = g.N.CidrNetwork.WIDTH in
+    let ns : List Network = map g.H.HoldsNetwork.held c.args.blocks.now in
+    let fails = search_fails w ns (g.N.CidrNetwork.number c.args.address) c.loop-end.end c.loop-end.invariant.searched none in
+    (c.loop-end.end, c.loop-end.invariant.comes, On (none_fits w ns c.loop-end.end none, Nothing ((none, fails), refl) c.loop-end.invariant.index))
