@@ -1,6 +1,5 @@
 -- Where the replies and the line stand after a line, a piece, and the end.
 use Rattle.std.proofs.Common.{◌≡◌, ℕ, ◌+◌, Bool, true, false, List, [], ◌∷◌, ◌++◌, length, take, drop, ◌==◌, refl, sym, ap, ◌∙◌, subst, append-nil, append_assoc, take-append-drop}
-use Rattle.std.proofs.lemmas.List.{take_more}
 use Rattle.std.proofs.Math.Dec.{eqb-suc-zero}
 use Rattle.std.proofs.Math.Seq.{take-add}
 use Rattle.std.proofs.KnownBytes.{Appends-nil, Appends-trans, Appends-kept}
@@ -13,7 +12,7 @@ use Rattle.line_engine.specs.Answers.{LineGets, IsBeginning, asked}
 use Rattle.line_engine.specs.Private.Line.{Holds}
 use Rattle.line_engine.specs.Outputs.{AppendsBeginning}
 use Rattle.line_engine.specs.Private.Progress.{lines_from, pending_from, last_line, Stand, HandsOn, Gathers, Stops, GathersLine, StopsAtLine, GathersPiece, StopsInPiece}
-use Rattle.line_engine.proofs.BytesLemmas.{HasNo, IsFirst}
+use Rattle.line_engine.proofs.BytesLemmas.{HasNo, IsFirst, first_line}
 use Rattle.line_engine.proofs.Lines.{pending-append, lines-append, lines_none, pending_none, lines_feed, pending_line, begins_after}
 use Rattle.line_engine.proofs.Turns.{concat-append, turns-append, first_of_all, first_of_more, first-append, same_turn, same_first}
 
@@ -102,10 +101,6 @@ module _ {S : Type 0} (Gets : S → List ℕ → List ℕ → S → Type 0) wher
   pub piece_begins : (max : ℕ) (line : Line) (a : Stand S) → GathersPiece Gets max line line a a []
   unfolding pending_from lines_from
   piece_begins max line a = λ p holds. (holds, gathers_none a)
-
--- the first line of a rest, and its line feed
-first_line : (rest : List ℕ) (n : ℕ) → IsFirst 10 rest n → take (n + 1) rest ≡ take n rest ++ 10 ∷ []
-first_line rest n f = take_more rest n 0 f.within ∙ ap (λ c. take n rest ++ c ∷ []) f.there
 
 -- the lines before it, and then it
 lines_and_one : (piece rest : List ℕ) (start n : ℕ) → rest ≡ drop start piece → IsFirst 10 rest n

@@ -1,5 +1,6 @@
 pub mod BytesLemmas
 pub mod Gathering
+pub mod HandingOut
 pub mod Kept
 pub mod Lines
 pub mod Putting
