@@ -1,9 +1,11 @@
+mod CauseExamples
 mod Causes
 mod Examples
 mod EitherNetworks
 mod Families
 mod FamilyQuestions
 mod FirstMarks
+mod LawExamples
 mod Listings
 mod Masked
 mod Parsed

@@ -9,7 +9,6 @@ use Rattle.ipnetwork_addr.specs.declared.ip.IpAddr.{IpAddr}
 use Rattle.ipnetwork_addr.specs.declared.ip.IpAddr.TheVariants as addresses
 use Rattle.ipnetwork_family.specs.Network.{members}
 use Rattle.ipnetwork_family.specs.Laws.{MembersLaw}
-use Rattle.ipnetwork.specs.declared.ip_network.IpNetwork.{IpNetwork}
 use Rattle.ipnetwork.specs.declared.ip_network.IpNetwork.TheVariants.{V4, V6}
 use Rattle.ipnetwork.specs.Laws.{IpMembersAreListed, IpMembersAscend}
 

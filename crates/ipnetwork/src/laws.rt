@@ -5,6 +5,7 @@ mod families;
 mod json_texts;
 mod sets;
 mod texts;
+mod uses;
 mod values;
 
 pub use families::{

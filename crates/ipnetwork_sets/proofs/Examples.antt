@@ -1,5 +1,5 @@
 -- Counts, ranges, lists, free blocks and texts at which a misreading of the definitions would show.
-use Rattle.std.proofs.Common.{◌≡◌, ℕ, ◌-◌, ◌*◌, ◌/◌, ◌^◌, ◌+◌, ◌<◌, ◌≤◌, sym, refl, subst, ⊎_elim, ap, arith, List, [], ◌∷◌, ◌++◌, length, Ok, Err}
+use Rattle.std.proofs.Common.{◌≡◌, ◌∙◌, ℕ, ◌-◌, ◌*◌, ◌/◌, ◌^◌, ◌+◌, ◌<◌, ◌≤◌, sym, refl, subst, ⊎_elim, ap, arith, List, [], ◌∷◌, ◌++◌, length, Ok, Err}
 use Rattle.std.specs.List.{Contains}
 use Rattle.ipnetwork_family.specs.Network.{Network, IsCidrBlock, Member}
 use Rattle.ipnetwork_family.proofs.Blocks.{subnet_from}
@@ -7,11 +7,11 @@ use Rattle.ipnetwork_family.specs.declared.error.NetworkSizeError.{NetworkSizeEr
 use Rattle.ipnetwork_blocks.specs.LeastList.{IsLeastList}
 use Rattle.ipnetwork_blocks.specs.Ranges.{FromTo}
 use Rattle.ipnetwork_blocks.specs.Private.RangeList.{blocks_within}
-use Rattle.ipnetwork_blocks.proofs.LeastLists.{contains_cons, contains_nil, least_unique}
-use Rattle.ipnetwork_blocks.proofs.RangeLists.{least_from_to}
-use Rattle.ipnetwork_sets.specs.Counts.{FitsNumber}
+use Rattle.ipnetwork_blocks.proofs.LeastLists.{contains_cons, contains_nil, contains_head, contains_tail, least_unique}
+use Rattle.ipnetwork_blocks.proofs.RangeLists.{least_from_to, least_from_after}
+use Rattle.ipnetwork_sets.specs.Counts.{FitsNumber, count_number}
 use Rattle.ipnetwork_sets.specs.FreeBlocks.{IsFreeBlock, NoBlockIsFree, IsFirstFree}
-use Rattle.ipnetwork_sets.specs.RangeLists.{IsRangeList, AreBlocksOf}
+use Rattle.ipnetwork_sets.specs.RangeLists.{IsRangeList, InRanges, AreBlocksOf}
 use Rattle.ipnetwork_sets.specs.Sets.{AddsLeastList, AddsFirstOfLeastList, MeetsUnion}
 use Rattle.ipnetwork_sets.specs.Texts.{lines_of}
 use Rattle.ipnetwork_sets.specs.declared.address_count.AddressCount.TheVariants.{Number, AllOfIpv6}
@@ -29,6 +29,33 @@ greatest_number_is_not_refused fault h = omega (arith, h)
 
 pub all_of_ipv6_is_refused : (n : ℕ) → ¬ (FitsNumber AllOfIpv6 (Ok n))
 all_of_ipv6_is_refused n h = omega (arith, h.0)
+
+pub number_of_all_of_ipv6 : count_number AllOfIpv6 ≡ 340282366920938463463374607431768211456
+number_of_all_of_ipv6 = refl
+
+-- ---- a range has both its ends and nothing beside them, and one that is turned round has nothing
+
+pub last_is_in_the_range : InRanges ((7, 7) ∷ (2, 4) ∷ []) 4
+last_is_in_the_range = ((2, 4), contains_tail (7, 7) ((2, 4) ∷ []) (2, 4) (contains_head (2, 4) []), (omega arith, omega arith))
+
+pub first_is_in_the_range : InRanges ((2, 4) ∷ []) 2
+first_is_in_the_range = ((2, 4), contains_head (2, 4) [], (omega arith, omega arith))
+
+in_one_range : (first last x : ℕ) → InRanges ((first, last) ∷ []) x → (first ≤ x) × (x ≤ last)
+in_one_range first last x (r, c, m) =
+    ⊎_elim
+    (λ (e : (first, last) ≡ r). subst (λ (s : ℕ × ℕ). (s.0 ≤ x) × (x ≤ s.1)) (sym e) m)
+    (λ (none : Contains [] r). absurd (contains_nil r none))
+    (contains_cons (first, last) [] r c)
+
+pub before_the_range : ¬ (InRanges ((2, 4) ∷ []) 1)
+before_the_range h = omega (arith, (in_one_range 2 4 1 h).0)
+
+pub behind_the_range : ¬ (InRanges ((2, 4) ∷ []) 5)
+behind_the_range h = omega (arith, (in_one_range 2 4 5 h).1)
+
+pub range_without_addresses : (x : ℕ) → ¬ (InRanges ((4, 3) ∷ []) x)
+range_without_addresses x h = let m = in_one_range 4 3 x h in omega (arith, m.0, m.1)
 
 -- ---- ranges that touch are one
 
@@ -87,6 +114,16 @@ pub blocks_of_two : AreBlocksOf 3 ((3, 3) ∷ (2, 2) ∷ []) (net 3 3 ∷ net 2 
 unfolding blocks_within
 blocks_of_two = (net 3 3 ∷ [], net 2 3 ∷ [], least_from_to 3 3 3 (omega arith), (net 2 3 ∷ [], [], least_from_to 3 2 2 (omega arith), refl, refl), refl)
 
+-- no others follow them,
+pub blocks_of_one : (blocks : List Network) → AreBlocksOf 3 ((1, 2) ∷ []) blocks → blocks ≡ net 1 3 ∷ net 2 3 ∷ []
+blocks_of_one blocks (first, others, least, none, all) =
+    all ∙ ap (λ (xs : List Network). xs ++ others) (least_unique 3 (FromTo 1 2) first (net 1 3 ∷ net 2 3 ∷ []) least one_and_two)
+    ∙ ap (λ (ys : List Network). net 1 3 ∷ net 2 3 ∷ ys) none
+
+-- and those of a range that is turned round are none
+pub no_blocks_of_none : AreBlocksOf 3 ((3, 2) ∷ []) []
+no_blocks_of_none = ([], [], least_from_after 3 3 2 (omega arith), refl, refl)
+
 -- ---- the first of the quarters that are free, if the first quarter is taken
 
 is_block : (a p : ℕ) → a < 8 → p < 4 → a ≡ a / 2 ^ (3 - p) * 2 ^ (3 - p) → IsCidrBlock 3 (net a p)
@@ -117,6 +154,16 @@ third_quarter_is_not_first h = omega (arith, h.first (net 2 2) second_quarter)
 
 pub some_quarter_is_free : ¬ (NoBlockIsFree 3 (net 0 0) (net 0 2 ∷ []) 2)
 some_quarter_is_free none = none (net 2 2) second_quarter
+
+-- whatever the networks are, the first is free, and none that is free begins before it; and where one is free, some is
+pub first_is_free : (w p : ℕ) (n b : Network) (ns : List Network) → IsFirstFree w n ns p b → IsFreeBlock w n ns p b
+first_is_free w p n b ns h = h.one
+
+pub none_before_the_first : (w p : ℕ) (n b other : Network) (ns : List Network) → IsFirstFree w n ns p b → other.address < b.address → ¬ (IsFreeBlock w n ns p other)
+none_before_the_first w p n b other ns h before free = omega (arith, h.first other free, before)
+
+pub not_none_if_one_is_free : (w p : ℕ) (n b : Network) (ns : List Network) → IsFreeBlock w n ns p b → ¬ (NoBlockIsFree w n ns p)
+not_none_if_one_is_free w p n b ns free none = none b free
 
 -- ---- a line feed comes after each text, the last one too
 

@@ -1,0 +1,37 @@
+-- Causes at which a misreading of the definitions would show: a text has no two of them.
+use Rattle.std.proofs.Common.{ℕ, List, None, Some, arith}
+use Rattle.std.specs.Prelude.{codes}
+use Rattle.ipnetwork_addr.specs.Either.{NamesIp}
+use Rattle.ipnetwork_addr.specs.declared.ip.IpAddr.{IpAddr}
+use Rattle.ipnetwork_family.specs.NetworkText.{before_slash, HasSeveralSlashes, HasNoSuffix}
+use Rattle.ipnetwork_family.specs.declared.error.CidrFault.{CidrFault}
+use Rattle.ipnetwork_family.specs.declared.error.CidrFault.TheVariants.{Format, Addr, Prefix}
+use Rattle.ipnetwork.specs.IpNetworkText.{NamesIpNetwork, IsIpCause, IsIpSuffix, TellsIpCause}
+use Rattle.ipnetwork.specs.declared.ip_network.IpNetwork.{IpNetwork}
+
+pub one_slash_is_not_format : ¬ (IsIpCause (codes "10.0.0.0/33") Format)
+one_slash_is_not_format h = omega (arith, h)
+
+pub several_slashes_are_not_addr : (text : List ℕ) → HasSeveralSlashes text → ¬ (IsIpCause text Addr)
+several_slashes_are_not_addr text several (few, none) = omega (arith, several, few)
+
+pub several_slashes_are_not_prefix : (text : List ℕ) → HasSeveralSlashes text → ¬ (IsIpCause text Prefix)
+several_slashes_are_not_prefix text several (few, some) = omega (arith, several, few)
+
+-- an address of either family is enough
+pub address_is_not_addr : (text : List ℕ) (a : IpAddr) → NamesIp (before_slash text) a → ¬ (IsIpCause text Addr)
+address_is_not_addr text a named (few, none) = none a named
+
+pub no_address_is_not_prefix : (text : List ℕ) → ((a : IpAddr) → ¬ (NamesIp (before_slash text) a)) → ¬ (IsIpCause text Prefix)
+no_address_is_not_prefix text none (few, (a, named, refused)) = none a named
+
+-- the suffix that is refused is one of the family of the address
+pub suffix_is_of_the_family : (text : List ℕ) → ((a : IpAddr) → NamesIp (before_slash text) a → ¬ (HasNoSuffix (IsIpSuffix a) text)) → ¬ (IsIpCause text Prefix)
+suffix_is_of_the_family text given (few, (a, named, refused)) = given a named refused
+
+-- nothing is told of the texts that name a network, and of no others
+pub nothing_is_told : (text : List ℕ) → TellsIpCause text None → (n : IpNetwork) × NamesIpNetwork text n
+nothing_is_told text named = named
+
+pub a_cause_is_told : (text : List ℕ) (fault : CidrFault) (n : IpNetwork) → TellsIpCause text (Some fault) → IsIpCause text fault × ¬ (NamesIpNetwork text n)
+a_cause_is_told text fault n told = (told.0, told.1 n)
