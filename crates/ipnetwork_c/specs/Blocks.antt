@@ -9,8 +9,7 @@ use Rattle.ipnetwork_c.specs.Outcomes.{Writes, Needs}
 use Rattle.ipnetwork_c.specs.Answers.{IfFit}
 use Rattle.ipnetwork_c.specs.Lists.{PutsBlocks}
 
--- the least list of blocks of the addresses from first to last is put in the front of a list; `no_range` if first comes
--- after last
+-- the least list of blocks of the addresses from first to last is put in a list; `no_range` if first comes after last
 abbrev pub RangeOperation : {C : Type 0} → ℕ → (C → Network) → ℕ → ℕ → List C × ℕ → List C × ℕ → ℕ → Type 0
 RangeOperation w held first last = Needs (first ≤ last) no_range (PutsBlocks w held (FromTo first last))
 

@@ -12,8 +12,7 @@ use Rattle.ipnetwork_c.specs.Answers.{IfFit}
 abbrev pub member_flag : ℕ → Network → List ℕ → ℕ
 member_flag w n octets = from_bool (is_member w n (number_of_octets octets))
 
--- each row is answered as the call for one address answers it, if there is room for as many answers, and those after them
--- are unchanged
+-- each row is answered as the call for one address answers it, if there is room, and answers after these are unchanged
 abbrev pub AnswersRows : ℕ → Network → List (List ℕ) → List ℕ → List ℕ → ℕ → Type 0
 AnswersRows w n rows before =
     IfFit (PrefixFits w n) (Needs (length rows ≤ length before) short_buffer (Writes (λ after. after ≡ map (member_flag w n) rows ++ drop (length rows) before))) before

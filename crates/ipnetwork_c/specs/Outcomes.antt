@@ -24,8 +24,7 @@ Needs Holds fault GoesOn = Unless (IsFault fault (¬ Holds)) (λ before after co
 abbrev pub Finds : {A M : Type 0} → (A → Type 0) → (ℕ → Type 0) → (A → M → M → ℕ → Type 0) → M → M → ℕ → Type 0
 Finds {A} Is Refuses GoesOn = Unless Refuses (λ before after code. (a : A) × Is a × GoesOn a before after code)
 
--- what has room is put, and its size beside it; what has none is not, and the size is the greatest number of 64 bits if it
--- is greater
+-- what has room is put, and its size beside it; what has none is not, and its size is told as far as 64 bits go
 abbrev pub Puts : {M : Type 0} → Type 0 → ℕ → (M → Type 0) → M × ℕ → M × ℕ → ℕ → Type 0
 Puts HasRoom size Put before after code =
     (after.1 ≡ min size (2 ^ 64 - 1)) × Needs HasRoom short_buffer (Writes (λ put. (after.1 ≡ size) × Put put)) before.0 after.0 code

@@ -17,8 +17,7 @@ BothFit w held first second = All (λ c. PrefixFits w (held c)) first × All (λ
 abbrev pub BothAreSets : {C : Type 0} → ℕ → (C → Network) → List C → List C → Type 0
 BothAreSets w held first second = IsAddressSet w (map held first) × IsAddressSet w (map held second)
 
--- of two sets, the least list of the addresses that an operation leaves is put in the front of a list; `no_set` if a list is
--- that of no set
+-- the least list of what an operation leaves of two sets is put in a list; `no_set` if one of the lists is that of none
 abbrev pub SetOperation : {C : Type 0} → ℕ → (C → Network) → (List Network → List Network → ℕ → Type 0) → List C → List C → List C × ℕ → List C × ℕ → ℕ → Type 0
 SetOperation w held Leaves first second =
     IfFit (BothFit w held first second) (Needs (BothAreSets w held first second) no_set (PutsBlocks w held (Leaves (map held first) (map held second))))

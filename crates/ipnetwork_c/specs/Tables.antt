@@ -32,8 +32,7 @@ TableQuery w held list x before after code =
     (Unless (IsFault no_member ((i ≡ 0) × (IsTable w (map held list) → ¬ (InUnion w (map held list) x)))) (Writes (λ index. (i ≡ index + 1) × FindsLongest w (map held list) x index)))
     before after code
 
--- each of many addresses is asked, if there is room for as many answers, with an index and a fault of its own, which are those
--- of the call for one address
+-- each address is asked as the call for one asks it, with an index and a fault of its own, if there is room for these
 abbrev pub TableRows : {C : Type 0} → ℕ → (C → Network) → List C → List (List ℕ) → List ℕ × List ℕ → List ℕ × List ℕ → ℕ → Type 0
 TableRows w held list addresses before =
     Needs ((length addresses ≤ length before.0) × (length addresses ≤ length before.1)) short_buffer
