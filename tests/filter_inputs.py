@@ -2,6 +2,7 @@
 log in parts. Each function yields a name, whether the row is as it should be, and what was got."""
 
 import ipaddress
+import itertools
 import os
 import random
 import resource
@@ -105,6 +106,22 @@ def prefix_lengths(program, folder):
                 got = run([program, *option, "-e", str(network)], log, folder)
                 wrong += [] if got == wanted else [(str(network), option, got)]
     yield "each prefix length", not wrong, wrong
+
+
+def orders(program, folder):
+    """Options say the same in each of their orders."""
+    log = b"x,10.0.0.1\nx,11.0.0.1\n10.0.0.2,y\n"
+    for last, output in (
+        ("--longest", b"10.0.0.0/8\tx,10.0.0.1\n-\t10.0.0.2,y\n"),
+        ("-v", b"x,11.0.0.1\n10.0.0.2,y\n"),
+        ("-c", b"2\n"),
+    ):
+        options = (["-k", "2"], ["-d", ","], ["--bad", "keep"], ["-e", "10.0.0.0/8"], [last])
+        wrong = []
+        for order in itertools.permutations(options):
+            got = run([program, *sum(order, [])], log, folder)
+            wrong += [] if got == (output, b"", 0) else [(order, got)]
+        yield f"orders of options, {last}", not wrong, wrong
 
 
 def numbers_of_logs(program, folder):

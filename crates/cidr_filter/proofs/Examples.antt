@@ -1,7 +1,6 @@
 -- Values at which a misreading of the definitions would show.
-use Rattle.std.proofs.Common.{◌≡◌, ℕ, length, List, [], ◌∷◌, Bool, true, false, not, ◌&&◌, ◌||◌, ◌==◌, ◌∙◌, inl, inr, refl, ap, subst, arith}
-use Rattle.std.specs.Prelude.{codes, bytes_eq, if◌then◌else◌, String, Some, None}
-use Rattle.std.specs.List.{list_all}
+use Rattle.std.proofs.Common.{◌≡◌, ℕ, length, List, [], ◌∷◌, Bool, true, false, inl, inr, refl, subst, arith}
+use Rattle.std.specs.Prelude.{codes, String, Some, None}
 use Rattle.std.specs.Fmt.{digits}
 use Rattle.std.specs.String.{string_bytes}
 use Rattle.std.specs.Str.Lines.{lines}
@@ -18,8 +17,6 @@ use Rattle.cidr_filter.specs.Filters.{IsListed, Judges, is_selected, is_refused,
 use Rattle.cidr_filter.specs.Lines.{LogLine, log_lines, ended_lines, content, printed}
 use Rattle.cidr_filter.specs.Listed.{IsStored, IsLongestBlock}
 use Rattle.cidr_filter.specs.Logs.{logs_of, IsAllOf, IsFirstOf, FiltersLogs}
-use Rattle.cidr_filter.specs.Options.{number_of, field_option, separator_option, bad_option, letters_option, begins, in_one_word, option_of}
-use Rattle.cidr_filter.specs.CommandLines.{files_among, names_in, inputs_among, is_plain, is_name}
 use Rattle.cidr_filter.specs.Reading.{ReadsOptions}
 use Rattle.program_io.specs.Endings.{Ending, HasTold, HasWritten}
 use Rattle.cidr_filter.specs.Runs.{total_text, EndsLogs}
@@ -152,137 +149,6 @@ line_selected = refl
 
 pub line_counted : output_of (by false bads.Drop) true (verdicts.Inside None) (ended (codes "a")) ≡ []
 line_counted = refl
-
--- ---- options
-
-pub number_in_decimal : number_of (codes "4294967295") ≡ 4294967295
-number_in_decimal = refl
-
-pub greatest_field : field_option (codes "4294967295") ≡ Some (choices.Field 4294967295)
-greatest_field = refl
-
-pub field_too_great : field_option (codes "4294967296") ≡ None
-field_too_great = refl
-
-pub first_field : field_option (codes "01") ≡ Some (choices.Field 1)
-first_field = refl
-
-pub no_field_zero : field_option (codes "0") ≡ None
-no_field_zero = refl
-
-pub no_signed_field : field_option (codes "+1") ≡ None
-no_signed_field = refl
-
-pub comma : separator_option (codes ",") ≡ Some (choices.Separator 44)
-comma = refl
-
-pub tab : separator_option (9 ∷ []) ≡ Some (choices.Separator 9)
-tab = refl
-
-pub last_byte_of_ascii : separator_option (127 ∷ []) ≡ Some (choices.Separator 127)
-last_byte_of_ascii = refl
-
-pub no_zero_byte : separator_option (0 ∷ []) ≡ None
-no_zero_byte = refl
-
-pub no_line_feed : separator_option (10 ∷ []) ≡ None
-no_line_feed = refl
-
-pub no_return : separator_option (13 ∷ []) ≡ None
-no_return = refl
-
-pub no_byte_past_ascii : separator_option (128 ∷ []) ≡ None
-no_byte_past_ascii = refl
-
-pub bad_word : bad_option (codes "stop") ≡ Some (choices.Bad bads.Stop)
-bad_word = refl
-
-pub other_bad_word : bad_option (codes "Stop") ≡ None
-other_bad_word = refl
-
-pub letters_together : letters_option (codes "vc") ≡ Some (choices.Letters true true)
-letters_together = refl
-
-pub one_letter : letters_option (codes "c") ≡ Some (choices.Letters false true)
-one_letter = refl
-
-pub other_letter : letters_option (codes "vx") ≡ None
-other_letter = refl
-
-pub field_in_one_word : in_one_word (codes "-k3") ≡ Some (choices.Field 3)
-field_in_one_word = refl
-
-pub separator_in_one_word : in_one_word (codes "-d,") ≡ Some (choices.Separator 44)
-separator_in_one_word = refl
-
-pub bad_in_one_word : in_one_word (codes "--bad=keep") ≡ Some (choices.Bad bads.Keep)
-bad_in_one_word = refl
-
-pub longest_word : in_one_word (codes "--longest") ≡ Some choices.Longest
-longest_word = refl
-
-pub dashes_are_no_option : in_one_word (codes "--") ≡ None
-dashes_are_no_option = refl
-
-pub dash_is_no_option : in_one_word (codes "-") ≡ None
-dash_is_no_option = refl
-
-pub list_of_standard_input : {Z : Type 0} (name value : String Z) → string_bytes name ≡ codes "-f" → string_bytes value ≡ codes "-" → option_of (name ∷ value ∷ []) ≡ Some choices.Input
-list_of_standard_input name value n v = rw (n, v)
-
--- whatever the value is, if it is not empty: a dash and an option too
-pub any_text : {Z : Type 0} (name value : String Z) → string_bytes name ≡ codes "-e" → (length (string_bytes value) == 0) ≡ false → option_of (name ∷ value ∷ []) ≡ Some choices.Text
-any_text name value n some = rw (n, some)
-
-pub text_dash : {Z : Type 0} (name value : String Z) → string_bytes name ≡ codes "-e" → string_bytes value ≡ codes "-" → option_of (name ∷ value ∷ []) ≡ Some choices.Text
-text_dash name value n v = rw (n, v)
-
-pub no_empty_text : {Z : Type 0} (name value : String Z) → string_bytes name ≡ codes "-e" → string_bytes value ≡ [] → option_of (name ∷ value ∷ []) ≡ None
-no_empty_text name value n v = rw (n, v)
-
-pub list_dashes : {Z : Type 0} (name value : String Z) → string_bytes name ≡ codes "-f" → string_bytes value ≡ codes "--" → option_of (name ∷ value ∷ []) ≡ Some choices.File
-list_dashes name value n v = rw (n, v)
-
-pub any_list : {Z : Type 0} (name value : String Z) → string_bytes name ≡ codes "-f" → (length (string_bytes value) == 0) ≡ false → bytes_eq (string_bytes value) (codes "-") ≡ false
-    → option_of (name ∷ value ∷ []) ≡ Some choices.File
-any_list name value n some other = rw (n, some, other)
-
-pub no_empty_list : {Z : Type 0} (name value : String Z) → string_bytes name ≡ codes "-f" → string_bytes value ≡ [] → option_of (name ∷ value ∷ []) ≡ None
-no_empty_list name value n v = rw (n, v)
-
-pub empty_word_is_no_option : in_one_word [] ≡ None
-empty_word_is_no_option = refl
-
--- a word that does not begin with a dash is no option
-pub plain_word_is_no_option : (byte : ℕ) (bytes : List ℕ) → (byte == 45) ≡ false → in_one_word (byte ∷ bytes) ≡ None
-plain_word_is_no_option byte bytes other = rw other
-
-pub option_without_its_value : {Z : Type 0} (name : String Z) → string_bytes name ≡ codes "-e" → option_of (name ∷ []) ≡ None
-option_without_its_value name n = rw n
-
-pub files_behind_dashes : {Z : Type 0} (dashes file : String Z) → string_bytes dashes ≡ codes "--" → string_bytes file ≡ codes "--" → files_among (dashes ∷ file ∷ []) ≡ Some (file ∷ [])
-files_behind_dashes dashes file d f =
-    ap (λ (t : List ℕ). if bytes_eq t (codes "--") then names_in (file ∷ []) else if list_all is_plain (dashes ∷ file ∷ []) then names_in (dashes ∷ file ∷ []) else None) d
-    ∙ ap (λ (t : List ℕ). if not (length t == 0) && true then Some (file ∷ []) else None) f
-
-pub no_empty_file : {Z : Type 0} (file : String Z) → string_bytes file ≡ [] → files_among (file ∷ []) ≡ None
-no_empty_file file f =
-    ap (λ (t : List ℕ). if bytes_eq t (codes "--") then Some [] else if (bytes_eq t (codes "-") || not (begins (codes "-") t)) && true then if not (length t == 0) && true then Some (file ∷ []) else None else None) f
-
-pub no_empty_file_behind_dashes : {Z : Type 0} (dashes one file : String Z) → string_bytes dashes ≡ codes "--" → string_bytes one ≡ codes "a" → string_bytes file ≡ []
-    → files_among (dashes ∷ one ∷ file ∷ []) ≡ None
-no_empty_file_behind_dashes dashes one file d o f =
-    ap (λ (t : List ℕ). if bytes_eq t (codes "--") then names_in (one ∷ file ∷ []) else if list_all is_plain (dashes ∷ one ∷ file ∷ []) then names_in (dashes ∷ one ∷ file ∷ []) else None) d
-    ∙ ap (λ (t : List ℕ). if is_name one && (not (length t == 0) && true) then Some (one ∷ file ∷ []) else None) f
-    ∙ ap (λ (t : List ℕ). if not (length t == 0) && false then Some (one ∷ file ∷ []) else None) o
-
-pub no_option_among_files : {Z : Type 0} (file option : String Z) → string_bytes file ≡ codes "a" → string_bytes option ≡ codes "-v" → files_among (file ∷ option ∷ []) ≡ None
-no_option_among_files file option f o =
-    ap (λ (t : List ℕ). if bytes_eq t (codes "--") then names_in (option ∷ []) else if (bytes_eq t (codes "-") || not (begins (codes "-") t)) && (is_plain option && true) then names_in (file ∷ option ∷ []) else None) f
-    ∙ ap (λ (t : List ℕ). if (bytes_eq t (codes "-") || not (begins (codes "-") t)) && true then names_in (file ∷ option ∷ []) else None) o
-
-pub no_file_is_standard_input : (Z : Type 0) → inputs_among {Z = Z} [] ≡ 1
-no_file_is_standard_input Z = refl
 
 -- ---- what is told
 

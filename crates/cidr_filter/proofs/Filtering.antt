@@ -7,7 +7,7 @@ use Rattle.std.specs.Str.Lines.{strip_carriage_return}
 use Rattle.std.proofs.KnownBytes.{Consumes-trans}
 use Rattle.byte_search.specs.Bytes.{IsAbsent}
 use Rattle.std.proofs.lemmas.Bool.{eqb-true}
-use Rattle.std.proofs.lemmas.List.{length-take-le, take-take, take_all, nil_from_length}
+use Rattle.std.proofs.lemmas.List.{length-take-le, take_all, nil_from_length}
 use Rattle.std.proofs.lemmas.List.Folds.{list_all-append}
 use Rattle.line_engine.specs.Outputs.{Puts}
 use Rattle.line_engine.proofs.Putting.{puts_nothing, puts_out, puts_more}

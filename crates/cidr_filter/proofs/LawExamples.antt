@@ -1,13 +1,22 @@
 -- What the laws let one conclude, where a weaker law would not.
 use Rattle.std.proofs.Common.{◌≡◌, ℕ, ◌<◌, length, Bool, true, false, List, [], ◌∷◌, ◌++◌, inl, inr, refl, sym, ap, ◌∙◌, arith}
-use Rattle.std.specs.Prelude.{codes, Some, None}
+use Rattle.std.specs.Prelude.{codes, Some, None, String}
+use Rattle.std.specs.List.{list_all, list_any}
+use Rattle.std.specs.String.{string_bytes}
 use Rattle.ipnetwork.specs.declared.ip_network.IpNetwork.TheVariants.{V4, V6}
+use Rattle.program_io.specs.declared.usage.Subject.TheVariants as subjects
+use Rattle.cidr_filter.specs.CommandLines.{AsksNothing}
 use Rattle.cidr_filter.specs.Filters.{Judges, Filters}
-use Rattle.cidr_filter.specs.Laws.{LinesHaveOneVerdict, LogsHaveOneOutput, OutputsOfPartsFollow, LinesThatEndRunsAreWhole}
+use Rattle.cidr_filter.specs.Laws.{LinesHaveOneVerdict, LogsHaveOneOutput, OutputsOfPartsFollow, LinesThatEndRunsAreWhole, is_one_of, begins_with, is_option_word, OthersAreNoOptions, OthersAskForNothing, WordsHaveOneFault}
 use Rattle.cidr_filter.specs.Lines.{LogLine, log_lines, content}
+use Rattle.cidr_filter.specs.Options.{option_of}
+use Rattle.cidr_filter.specs.Usage.{about, HasFault}
 use Rattle.cidr_filter.specs.declared.filter.Filter.{Filter}
 use Rattle.cidr_filter.specs.declared.filter.Verdict.{Verdict}
 use Rattle.cidr_filter.specs.declared.filter.Verdict.TheVariants as verdicts
+use Rattle.cidr_filter.specs.declared.options.Choice.TheVariants as choices
+use Rattle.cidr_filter.specs.declared.usage.Problem.TheVariants as problems
+use Rattle.cidr_filter.specs.declared.usage.UsageFault.{UsageFault}
 use Rattle.cidr_filter.proofs.LogLines.{ended}
 
 -- ---- one verdict
@@ -88,3 +97,42 @@ pub long_line_is_not_lost : LinesThatEndRunsAreWhole → (filter : Filter) (read
 long_line_is_not_lost law filter read rest line e long judges none =
     let whole = law filter read rest [] [] line verdicts.TooLong e (inr (inr long)) judges in
     omega (arith, ap length (sym none ∙ whole.2))
+
+-- ---- words that are no options
+
+-- a letter beside an option, a letter more, one less, and a letter of none, whatever follows
+pub no_other_letter : {Z : Type 0} (word : String Z) (others : List (String Z)) → OthersAreNoOptions (word ∷ others) → string_bytes word ≡ codes "--longesu" → option_of (word ∷ others) ≡ None
+no_other_letter word others law w = law (ap is_option_word w)
+
+pub no_more_letters : {Z : Type 0} (word : String Z) (others : List (String Z)) → OthersAreNoOptions (word ∷ others) → string_bytes word ≡ codes "-ff" → option_of (word ∷ others) ≡ None
+no_more_letters word others law w = law (ap is_option_word w)
+
+pub no_fewer_letters : {Z : Type 0} (word : String Z) (others : List (String Z)) → OthersAreNoOptions (word ∷ others) → string_bytes word ≡ codes "--ba" → option_of (word ∷ others) ≡ None
+no_fewer_letters word others law w = law (ap is_option_word w)
+
+pub no_third_flag : {Z : Type 0} (word : String Z) (others : List (String Z)) → OthersAreNoOptions (word ∷ others) → string_bytes word ≡ codes "-w" → option_of (word ∷ others) ≡ None
+no_third_flag word others law w = law (ap is_option_word w)
+
+-- nor does such a word ask for something behind an option
+pub not_behind_an_option : {Z : Type 0} (flag word : String Z) (others : List (String Z)) → OthersAskForNothing (flag ∷ word ∷ others) → string_bytes flag ≡ codes "-v" → string_bytes word ≡ codes "--longesu"
+    → AsksNothing (flag ∷ word ∷ others)
+not_behind_an_option flag word others law f w =
+    law (choices.Letters true false ∷ []) word others (rw f, rw f) (ap is_option_word w) (ap (begins_with (codes "-")) w) (ap (is_one_of (codes "-" ∷ codes "--" ∷ [])) w)
+
+-- the law leaves out the words of options, and no others
+pub words_of_options : list_all is_option_word (codes "-f" ∷ codes "-e" ∷ codes "-k" ∷ codes "-k3" ∷ codes "-d" ∷ codes "-d," ∷ codes "--bad" ∷ codes "--bad=drop" ∷ codes "--longest" ∷ codes "-v" ∷ codes "-c" ∷ codes "-vc" ∷ []) ≡ true
+words_of_options = refl
+
+pub words_of_none :
+    list_any is_option_word ([] ∷ codes "-" ∷ codes "--" ∷ codes "f" ∷ codes "-fx" ∷ codes "-e10.0.0.0/8" ∷ codes "-K" ∷ codes "--bad-drop" ∷ codes "--longest=" ∷ codes "--help" ∷ codes "-vx" ∷ codes "-xv" ∷ []) ≡ false
+words_of_none = refl
+
+-- ---- one fault
+
+-- two words are not both the first that is wrong
+pub not_two_words : {Z : Type 0} (words : List (String Z)) → WordsHaveOneFault words → HasFault words (about (subjects.Word 0) problems.NoOption) → HasFault words (about (subjects.Word 1) problems.NoOption) → ⊥
+not_two_words words law p q = cc (ap (λ (fault : UsageFault). fault.subject) (law (about (subjects.Word 0) problems.NoOption) (about (subjects.Word 1) problems.NoOption) p q))
+
+-- nor is one word wrong in two ways
+pub not_two_problems : {Z : Type 0} (words : List (String Z)) → WordsHaveOneFault words → HasFault words (about (subjects.Word 0) problems.NoOption) → HasFault words (about (subjects.Word 0) problems.AfterFile) → ⊥
+not_two_problems words law p q = cc (ap (λ (fault : UsageFault). fault.problem) (law (about (subjects.Word 0) problems.NoOption) (about (subjects.Word 0) problems.AfterFile) p q))

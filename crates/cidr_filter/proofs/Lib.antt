@@ -1,6 +1,7 @@
 pub mod Alike
 pub mod Examples
 pub mod Failing
+pub mod Faults
 pub mod Filtering
 pub mod Judging
 pub mod Kept
@@ -9,6 +10,7 @@ pub mod LogLines
 pub mod LogParts
 pub mod LogsInTurn
 pub mod OneOutput
+pub mod OptionExamples
 pub mod Parts
 pub mod ReadInTurn
 pub mod Requests
@@ -16,4 +18,5 @@ pub mod Runs
 pub mod Stopping
 pub mod Tables
 pub mod Told
+pub mod UsageExamples
 pub mod WholeLines

@@ -15,7 +15,7 @@ value_or : {X : Type 0} → X → Option X → X
 value_or default None = default
 value_or default (Some value) = value
 
-same_value : {X : Type 0} (a b : X) → Some a ≡ Some b → a ≡ b
+pub same_value : {X : Type 0} (a b : X) → Some a ≡ Some b → a ≡ b
 unfolding value_or
 same_value a b e = ap (value_or a) e
 

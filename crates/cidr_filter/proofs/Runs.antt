@@ -14,12 +14,12 @@ use Rattle.line_engine.proofs.Putting.{begins_after_puts}
 use Rattle.program_io.specs.Endings.{Ending, HasTold, HasWritten, status_of, end_text}
 use Rattle.program_io.specs.Messages.{Tells}
 use Rattle.program_io.specs.Lists.{KnownLists}
-use Rattle.cidr_filter.specs.CommandLines.{Asks}
+use Rattle.cidr_filter.specs.Commands.{Asks}
 use Rattle.cidr_filter.specs.Filters.{Filters}
 use Rattle.cidr_filter.specs.Lines.{LogLine}
 use Rattle.cidr_filter.specs.Logs.{logs_of, HaltsBy}
 use Rattle.cidr_filter.specs.Reading.{Stops, HoldsRead}
-use Rattle.cidr_filter.specs.Runs.{FailsWriting, Wrote, Refuses, StopsAtLog, total_text, FiltersAll, EndsFiltering, EndsRequest, EndsAs}
+use Rattle.cidr_filter.specs.Runs.{FailsWriting, Wrote, Refuses, StopsAtLog, total_text, FiltersAll, EndsFiltering, EndsRequest, About, EndsAs}
 use Rattle.cidr_filter.specs.Stands.{Stand, stand, Counts}
 use Rattle.program_io.specs.Told.{was_refused, fault_text}
 use Rattle.cidr_filter.specs.Told.{refusals_text, line_text, log_fault_text}
@@ -396,10 +396,10 @@ module _ {Z W E : Type 0} (known : KnownLists) (words : List (String Z)) (reques
     )
 
 -- a command that is known
-pub ends_by : {Z W E : Type 0} (help version usage : List ℕ) (known : KnownLists) (words : List (String Z)) (command other : Command) (end : Ending W E) → command ≡ other
-    → Asks words command → EndsAs help version usage known words other end → (asked : Command) × Asks words asked × EndsAs help version usage known words asked end
-ends_by help version usage known words command other end e asks ends =
-    (command, asks, subst (λ (c : Command). EndsAs help version usage known words c end) (sym e) ends)
+pub ends_by : {Z W E : Type 0} (about : About) (known : KnownLists) (words : List (String Z)) (command other : Command) (end : Ending W E) → command ≡ other
+    → Asks words command → EndsAs about known words other end → (asked : Command) × Asks words asked × EndsAs about known words asked end
+ends_by about known words command other end e asks ends =
+    (command, asks, subst (λ (c : Command). EndsAs about known words c end) (sym e) ends)
 
 -- nothing was told before
 pub all_by : {W E T F : Type 0} (filter : Filter) (counts : Bool) (known : KnownLists) (names : List (List ℕ)) (holds : W → Option (List ℕ)) (tells : E → Option (List ℕ))

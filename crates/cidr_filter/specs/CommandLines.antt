@@ -6,8 +6,6 @@ use Rattle.cidr_filter.specs.Options.{is, begins, option_of, behind_option, fiel
 use Rattle.cidr_filter.specs.declared.filter.Bad.TheVariants as bads
 use Rattle.cidr_filter.specs.declared.options.Choice.{Choice}
 use Rattle.cidr_filter.specs.declared.command_line.Request.{Request}
-use Rattle.cidr_filter.specs.declared.command_line.Command.{Command}
-use Rattle.cidr_filter.specs.declared.command_line.Command.TheVariants as commands
 
 -- the words are these options and then the rest
 abbrev pub Begin : {Z : Type 0} → List (String Z) → List Choice → List (String Z) → Type 0
@@ -40,6 +38,9 @@ inputs_among (file ∷ files) = count_by (is (codes "-")) (file ∷ files)
 abbrev pub is_crossed : Request → Bool
 is_crossed request = request.longest && (request.inverts || request.counts)
 
+abbrev pub are_crossed : List Choice → Bool
+are_crossed options = list_any is_longest options && (list_any inverts_in options || list_any counts_in options)
+
 -- the words are options, as many as there are, and FILEs. There is a list, standard input is named at most once, and
 -- `--longest` is not given together with `-v` or `-c`. The request has the last of each option, and its FILEs begin
 -- after the options
@@ -64,15 +65,3 @@ pub record Says {Z : Type 0} (words : List (String Z)) (request : Request) : Typ
 -- the words ask for nothing that a request says
 abbrev pub AsksNothing : {Z : Type 0} → List (String Z) → Type 0
 AsksNothing words = (request : Request) → ¬ (Says words request)
-
--- the only word is this text
-abbrev pub is_only : {Z : Type 0} → List ℕ → List (String Z) → Bool
-is_only text [] = false
-is_only text (word ∷ others) = length others == 0 && is text word
-
--- the words ask for this
-abbrev pub Asks : {Z : Type 0} → List (String Z) → Command → Type 0
-Asks words commands.Help = is_only (codes "--help") words ≡ true
-Asks words commands.Version = is_only (codes "--version") words ≡ true
-Asks words (commands.Filter request) = Says words request
-Asks words commands.Usage = (is_only (codes "--help") words ≡ false) × (is_only (codes "--version") words ≡ false) × AsksNothing words

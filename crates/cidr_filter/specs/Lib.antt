@@ -1,5 +1,6 @@
 -- What the contracts of this crate cite.
 pub mod CommandLines
+pub mod Commands
 pub mod Fields
 pub mod Filters
 pub mod Laws
@@ -13,3 +14,4 @@ pub mod Runs
 pub mod Stands
 pub mod Stops
 pub mod Told
+pub mod Usage

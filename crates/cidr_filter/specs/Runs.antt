@@ -9,11 +9,13 @@ use Rattle.program_io.specs.Messages.{Tells}
 use Rattle.program_io.specs.Told.{was_refused, fault_text}
 use Rattle.program_io.specs.declared.reading.ReadFault.{ReadFault}
 use Rattle.program_io.specs.Lists.{KnownLists}
+use Rattle.program_io.specs.Usage.{usage_text}
 use Rattle.cidr_filter.specs.Filters.{Filters}
 use Rattle.cidr_filter.specs.Logs.{logs_of, FiltersLogs, HaltsBy}
 use Rattle.cidr_filter.specs.Reading.{IsReadOf, Stops, HoldsRead}
 use Rattle.cidr_filter.specs.Lines.{LogLine}
 use Rattle.cidr_filter.specs.Told.{refusals_text, log_fault_text}
+use Rattle.cidr_filter.specs.Usage.{problem_text}
 use Rattle.cidr_filter.specs.declared.command_line.Command.{Command}
 use Rattle.cidr_filter.specs.declared.command_line.Command.TheVariants as commands
 use Rattle.cidr_filter.specs.declared.command_line.Request.{Request}
@@ -102,10 +104,16 @@ EndsRequest {Z} {W} {E} known words request end = (refused : Refused) × (told :
     × (StopsReading known words refused (record end { errors = told })
     ⊎ ((read : ReadLists) × IsReadOf known words read × (read.refused ≡ refused) × EndsFiltering known words request read (record end { errors = told })))
 
--- how a run ends if the words ask for this. The three texts are those of `--help` and of `--version`, and what is
--- reported for words that are not a command
-abbrev pub EndsAs : {Z W E : Type 0} → List ℕ → List ℕ → List ℕ → KnownLists → List (String Z) → Command → Ending W E → Type 0
-EndsAs help version usage known words commands.Help end = EndsPrinting help end
-EndsAs help version usage known words commands.Version end = EndsPrinting version end
-EndsAs help version usage known words (commands.Filter request) end = EndsRequest known words request end
-EndsAs help version usage known words commands.Usage end = Refuses usage end
+-- what the program says of itself: its name, what `--help` and `--version` print, and its usage
+pub record About : Type 0 where
+  pub name : List ℕ
+  pub help : List ℕ
+  pub version : List ℕ
+  pub usage : List ℕ
+
+-- how a run ends if the words ask for this
+abbrev pub EndsAs : {Z W E : Type 0} → About → KnownLists → List (String Z) → Command → Ending W E → Type 0
+EndsAs about known words commands.Help end = EndsPrinting about.help end
+EndsAs about known words commands.Version end = EndsPrinting about.version end
+EndsAs about known words (commands.Filter request) end = EndsRequest known words request end
+EndsAs about known words (commands.Usage fault) end = Refuses (usage_text about.name about.usage words fault.subject (problem_text fault.problem)) end

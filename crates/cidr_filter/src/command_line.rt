@@ -1,12 +1,15 @@
 //! What the arguments ask for.
-ghost use Rattle.std.specs.Prelude.{◌≡◌, ◌+◌, ◌≤◌, ◌||◌, None, Some, drop, length, nat_le, if◌then◌else◌, IfSome, MatchOption};
-ghost use Rattle.std.specs.List.{list_all};
-ghost use Rattle.cidr_filter.specs.CommandLines.{is_only, is_crossed, is_plain, is_name, files_among, inputs_among, Says, AsksNothing, Asks};
-ghost use Rattle.cidr_filter.specs.Options.{option_of, behind_option, is_list, is_input, field_said, separator_said, bad_said, inverts_in, counts_in, is_longest};
-ghost use Rattle.cidr_filter.specs.Private.Requests.{IfFilter};
+ghost use Rattle.std.specs.Prelude.{◌≡◌, ◌+◌, ◌≤◌, ◌||◌, drop, length, nat_le, if◌then◌else◌, IfOk, IfErr};
+ghost use Rattle.cidr_filter.specs.CommandLines.{is_crossed, inputs_among, Says, AsksNothing};
+ghost use Rattle.cidr_filter.specs.Commands.{is_only, Asks};
+ghost use Rattle.cidr_filter.specs.Options.{is_input, field_said, separator_said, bad_said, inverts_in, counts_in, is_longest};
+ghost use Rattle.cidr_filter.specs.Private.Requests.{IfFilter, BeginsWith, behind_dashes};
+ghost use Rattle.cidr_filter.specs.Usage.{HasFault, together_by};
 
 use crate::filter::Bad;
 use crate::options::{Choice, behind, choice_at, is, is_list};
+use crate::usage::{Problem, UsageFault, about, rest_fault};
+use program_io::usage::Subject;
 
 /// What a run is asked for. Its options are the words before `files`, and the FILEs those from there on.
 #[derive(Clone, Copy, Debug, PartialEq, Eq)]
@@ -36,8 +39,21 @@ pub enum Command {
     Version,
     /// Lines of logs.
     Filter(Request),
-    /// Nothing: the words are not a command.
-    Usage,
+    /// Nothing: the words are not a command, for this reason.
+    Usage(UsageFault),
+}
+
+/// What the options of a command line say.
+#[derive(Clone, Copy, Debug, PartialEq, Eq)]
+pub(crate) struct Options {
+    /// A request without FILEs.
+    pub(crate) request: Request,
+    /// Whether a list is among them.
+    pub(crate) has_list: bool,
+    /// How often they name standard input.
+    pub(crate) inputs: usize,
+    /// The index after them.
+    pub(crate) behind: usize,
 }
 
 /// What the words after the program's name ask for. Does not allocate.
@@ -52,8 +68,8 @@ pub fn command_of(words: &[String]) -> Command
         return Command::Version;
     }
     match request_of(words) {
-        Some(request) => Command::Filter(request),
-        None => Command::Usage,
+        Ok(request) => Command::Filter(request),
+        Err(fault) => Command::Usage(fault),
     }
 }
 
@@ -64,10 +80,31 @@ fn is_only(words: &[String], text: &str) -> bool
     words.len() == 1 && is(&words[0], text)
 }
 
-// What the options say, and where the FILEs begin.
-fn request_of(words: &[String]) -> Option<Request>
-    ensures within { IfSome result (λ request. request.files ≤ length words.now) }
-    ensures asked { MatchOption result (AsksNothing words.now) (Says words.now) }
+// What the options and the FILEs say, if they are right.
+fn request_of(words: &[String]) -> Result<Request, UsageFault>
+    ensures within { IfOk result (λ request. request.files ≤ length words.now) }
+    ensures asked { IfOk result (Says words.now) }
+    ensures nothing { IfErr result (λ _. AsksNothing words.now) }
+    ensures wrong { IfErr result (HasFault words.now) }
+{
+    let said = options_of(words);
+    if let Some(fault) = rest_fault(words, said.behind) {
+        return Err(fault);
+    }
+    let place = files_from(words, said.behind);
+    let is_read_once = at_most_one(said.inputs, inputs_among(&words[place..]));
+    match together_problem(is_crossed(said.request), said.has_list, is_read_once) {
+        Some(problem) => Err(about(Subject::CommandLine, problem)),
+        None => Ok(Request {
+            files: place,
+            ..said.request
+        }),
+    }
+}
+
+// What the options say.
+fn options_of(words: &[String]) -> Options
+    ensures { BeginsWith words.now result }
 {
     let mut request = Request {
         field: 1,
@@ -87,16 +124,25 @@ fn request_of(words: &[String]) -> Option<Request>
         inputs += inputs_in(choice);
         at = behind(words, at);
     }
-    if is_crossed(request) {
-        return None;
+    Options {
+        request,
+        has_list,
+        inputs,
+        behind: at,
     }
-    let Some(place) = files_from(words, at) else {
-        return None;
-    };
-    request.files = place;
-    let files = &words[place..];
-    if has_list && at_most_one(inputs, inputs_among(files)) {
-        Some(request)
+}
+
+// What is wrong with words that are right by themselves, by whether `--longest` is beside `-v` or `-c`, whether there is
+// a list, and whether standard input is read once at the most.
+fn together_problem(are_crossed: bool, has_list: bool, is_read_once: bool) -> Option<Problem>
+    ensures { result ≡ together_by are_crossed has_list is_read_once }
+{
+    if are_crossed {
+        Some(Problem::Crossed)
+    } else if !has_list {
+        Some(Problem::NoList)
+    } else if !is_read_once {
+        Some(Problem::InputTwice)
     } else {
         None
     }
@@ -171,62 +217,15 @@ fn inputs_among(files: &[String]) -> usize
     count
 }
 
-// The index of the first FILE, among words from an index on that do not begin with an option.
-fn files_from(words: &[String], at: usize) -> Option<usize>
+// The index of the first FILE, which may stand after a `--`.
+fn files_from(words: &[String], at: usize) -> usize
     requires { at ≤ length words.now }
-    ensures within { IfSome result (λ place. place ≤ length words.now) }
-    ensures files { MatchOption result (files_among (drop at words.now) ≡ None) (λ place. files_among (drop at words.now) ≡ Some (drop place words.now)) }
+    ensures within { result ≤ length words.now }
+    ensures files { drop result words.now ≡ behind_dashes (drop at words.now) }
 {
     if at < words.len() && is(&words[at], "--") {
-        if are_names(&words[at + 1..]) {
-            return Some(at + 1);
-        }
-        return None;
-    }
-    if !are_plain(&words[at..]) {
-        return None;
-    }
-    if are_names(&words[at..]) {
-        Some(at)
+        at + 1
     } else {
-        None
+        at
     }
-}
-
-// Whether no word is empty.
-fn are_names(words: &[String]) -> bool
-    ensures { result ≡ list_all is_name words.now }
-{
-    for word in words {
-        if !is_name(word) {
-            return false;
-        }
-    }
-    true
-}
-
-// Whether a word is not empty.
-fn is_name(word: &String) -> bool
-    ensures { result ≡ is_name word.now }
-{
-    !word.as_bytes().is_empty()
-}
-
-// Whether no word looks like an option.
-fn are_plain(words: &[String]) -> bool
-    ensures { result ≡ list_all is_plain words.now }
-{
-    for word in words {
-        if !is_plain(word) {
-            return false;
-        }
-    }
-    true
-}
-
-// Whether a word is `-`, or does not begin with a `-`.
-fn is_plain(word: &String) -> bool
-    ensures { result ≡ is_plain word.now }
-{
-    is(word, "-") || !word.as_bytes().starts_with(b"-".as_slice())
 }

@@ -37,6 +37,9 @@ Examples:
 /// What `--version` prints.
 pub(crate) const VERSION: &str = "cidr_filter 0.1.0\n";
 
-/// What is reported for arguments that are not a command.
+/// The name of the program.
+pub(crate) const PROGRAM: &str = "cidr_filter";
+
+/// How the program is used: what is reported for arguments that are not a command, after what is wrong with them.
 pub(crate) const USAGE: &str =
     "usage: cidr_filter [-v] [-c] [-k N] [-d CHAR] [--bad drop|keep|stop] [--longest] (-f LIST | -e TEXT).. [FILE..]; try --help\n";

@@ -1,6 +1,6 @@
-//! What follows from the clause of a log. Each function's contract is a law: it does nothing, and a proof that calls it
+//! What follows from the clauses of a command line and of a log. Each function's contract is a law: it does nothing, and a proof that calls it
 //! may use the law.
-ghost use Rattle.cidr_filter.specs.Laws.{LinesHaveOneVerdict, LogsHaveOneOutput, OutputsOfPartsFollow, LinesThatEndRunsAreWhole};
+ghost use Rattle.cidr_filter.specs.Laws.{OthersAreNoOptions, OthersAskForNothing, WordsHaveOneFault, LinesHaveOneVerdict, LogsHaveOneOutput, OutputsOfPartsFollow, LinesThatEndRunsAreWhole};
 
 use ipnetwork_addr::laws::ip_text_names_one;
 use ipnetwork_table::laws::blocks_of_any_width_that_meet;
@@ -24,3 +24,19 @@ pub fn outputs_of_parts_follow()
 pub fn lines_that_end_runs_are_whole()
     ensures { LinesThatEndRunsAreWhole }
 {}
+
+/// A word other than those of the options is none of them, whatever follows it. If it begins with a `-`, and is neither
+/// `-` nor `--`, then the words ask for nothing where it stands behind options.
+pub fn other_words_are_no_options(words: &[String])
+    ensures option { OthersAreNoOptions words.now }
+    ensures command { OthersAskForNothing words.now }
+{
+    let _words = words;
+}
+
+/// Of the words of a command line at most one fault is reported.
+pub fn words_have_one_fault(words: &[String])
+    ensures { WordsHaveOneFault words.now }
+{
+    let _words = words;
+}

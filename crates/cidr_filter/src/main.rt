@@ -14,13 +14,14 @@ mod printing;
 mod reading;
 mod run;
 mod telling;
+mod usage;
 
-use crate::help::USAGE;
+use crate::help::{PROGRAM, USAGE};
 use crate::run::run;
 use line_engine::output::Output;
 use program_io::arguments::arguments;
-use program_io::ending::refuse_arguments;
 use program_io::system::System;
+use program_io::usage::{Usage, refuse_arguments};
 use std::process::ExitCode;
 
 /// The most bytes that wait to be written to standard output.
@@ -45,7 +46,14 @@ fn main(rt: HostRuntime) -> ExitCode {
                 &mut errors,
             )
         }
-        Err(fault) => refuse_arguments(fault, USAGE, &mut errors),
+        Err(fault) => refuse_arguments(
+            fault,
+            Usage {
+                program: PROGRAM,
+                line: USAGE,
+            },
+            &mut errors,
+        ),
     };
     let _ = errors.finish();
     ExitCode::from(status)

@@ -64,8 +64,8 @@ pub(crate) fn choice_at(words: &[String], at: usize) -> Option<Choice>
     choice_with(word, words[at + 1].as_bytes())
 }
 
-// Whether the value of an option is the next word.
-fn takes_next(word: &String) -> bool
+/// Whether the value of an option is the next word.
+pub(crate) fn takes_next(word: &String) -> bool
     ensures { result ≡ takes_next word.now }
 {
     is(word, "-f") || is(word, "-e") || is(word, "-k") || is(word, "-d") || is(word, "--bad")

@@ -1,24 +1,28 @@
 //! The run that the program makes.
 ghost use Rattle.std.specs.Prelude.{◌≡◌, ◌≤◌, length, codes};
 ghost use Rattle.program_io.specs.Messages.{Tells};
+ghost use Rattle.program_io.specs.Usage.{usage_text};
 ghost use Rattle.program_io.specs.Lists.{known_of};
-ghost use Rattle.cidr_filter.specs.CommandLines.{Asks};
+ghost use Rattle.cidr_filter.specs.Commands.{Asks};
 ghost use Rattle.cidr_filter.specs.Logs.{logs_of};
 ghost use Rattle.cidr_filter.specs.Runs.{EndsRequest, EndsAs};
+ghost use Rattle.cidr_filter.specs.Usage.{problem_text};
 ghost use Rattle.cidr_filter.specs.Private.Runs.{EndsBy, EndsListed};
 
 use crate::command_line::{Command, Request, command_of};
 use crate::filter::{Filter, LINE_MAX};
-use crate::help::{HELP, USAGE, VERSION};
+use crate::help::{HELP, PROGRAM, USAGE, VERSION};
 use crate::listed::Listed;
 use crate::logs::filter_logs;
 use crate::reading::read_listed;
 use crate::telling::tell_refusals;
+use crate::usage::UsageFault;
 use line_engine::output::Output;
-use program_io::ending::{FAILED, print_text, refuse_usage};
+use program_io::ending::{FAILED, print_text};
 use program_io::lists::OpenLists;
 use program_io::messages::tell;
 use program_io::telling::tell_fault;
+use program_io::usage::{Usage, refuse_usage};
 use std::alloc::{AllocError, Global};
 use std::io::Write;
 
@@ -33,15 +37,27 @@ pub(crate) fn run<L: OpenLists, W: Write, E: Write>(
     output: &mut Output<'_, W>,
     errors: &mut Output<'_, E>,
 ) -> u8
-    ensures { (command : Command) × Asks words.now command × EndsAs HELP.now VERSION.now USAGE.now (known_of L.bytes_of L.may_open L.may_fail lists.now) words.now command
+    ensures { (command : Command) × Asks words.now command × EndsAs (record { name = PROGRAM.now; help = HELP.now; version = VERSION.now; usage = USAGE.now }) (known_of L.bytes_of L.may_open L.may_fail lists.now) words.now command
         (record { holds = W.contents; output = output.old; output_after = output.new; tells = E.contents; errors = errors.old; errors_after = errors.new; status = result }) }
 {
     match command_of(words) {
         Command::Help => print_text(HELP, output, errors),
         Command::Version => print_text(VERSION, output, errors),
         Command::Filter(request) => filter(alloc, request, words, lists, output, errors),
-        Command::Usage => refuse_usage(USAGE, errors),
+        Command::Usage(fault) => refuse_words(words, fault, errors),
     }
+}
+
+// Reports what is wrong with the words, and how the program is used, and returns the exit status for that.
+fn refuse_words<E: Write>(words: &[String], fault: UsageFault, errors: &mut Output<'_, E>) -> u8
+    ensures status { result ≡ 2 }
+    ensures told { Tells E.contents errors.old errors.new (usage_text PROGRAM.now USAGE.now words.now fault.subject (problem_text fault.problem)) }
+{
+    let usage = Usage {
+        program: PROGRAM,
+        line: USAGE,
+    };
+    refuse_usage(usage, words, fault.subject, fault.problem.text(), errors)
 }
 
 // Reads the lists, reports the refused lines, and then filters the logs.

@@ -4,8 +4,6 @@ use Rattle.std.specs.Io.KnownBytes.{Appends}
 use Rattle.line_engine.specs.Outputs.{writer_of, waits_in, output_failed}
 use Rattle.line_engine.specs.declared.output.Output.{Output}
 use Rattle.program_io.specs.Messages.{Tells}
-use Rattle.program_io.specs.declared.arguments.ArgumentsFault.{ArgumentsFault}
-use Rattle.program_io.specs.declared.arguments.ArgumentsFault.TheVariants.{NotText, OutOfMemory}
 
 -- the exit status of a program: this one if its output was written, and 2 if not
 abbrev pub status_of : {T E : Type 0} → Result T E → ℕ → ℕ
@@ -18,13 +16,6 @@ failure_text failed = if failed then codes "write error\n" else []
 -- what is reported about that output
 abbrev pub end_text : {T E : Type 0} → Result T E → List ℕ
 end_text written = failure_text (is_err written)
-
--- what is reported if the arguments cannot be read
-abbrev pub arguments_text : ArgumentsFault → List ℕ → List ℕ
--- how the program is used
-arguments_text NotText usage = usage
--- that memory ran out
-arguments_text OutOfMemory usage = codes "out of memory\n"
 
 -- the writer and the error writer of a run, before it and after it, what each says that it holds, and the exit status
 pub record Ending (W E : Type 0) : Type 0 where

@@ -5,3 +5,4 @@ pub mod Messages
 pub mod Private
 pub mod Reading
 pub mod Told
+pub mod Usage

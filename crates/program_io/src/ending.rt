@@ -2,10 +2,9 @@
 ghost use Rattle.std.specs.Prelude.{◌≡◌, ◌++◌, if◌then◌else◌, OnOk, is_err};
 ghost use Rattle.std.specs.Io.KnownBytes.{Appends};
 ghost use Rattle.line_engine.specs.Outputs.{writer_of, waits_in, output_failed};
-ghost use Rattle.program_io.specs.Endings.{status_of, failure_text, end_text, arguments_text};
+ghost use Rattle.program_io.specs.Endings.{status_of, failure_text, end_text};
 ghost use Rattle.program_io.specs.Messages.{Tells};
 
-use crate::arguments::ArgumentsFault;
 use crate::messages::tell;
 use line_engine::fault::RunFault;
 use line_engine::output::Output;
@@ -67,44 +66,4 @@ fn write_text<W: Write>(text: &str, output: &mut Output<'_, W>) -> Result<(), Ru
 {
     output.put(text.as_bytes())?;
     output.finish()
-}
-
-/// Reports how the program is used, and returns the exit status 2.
-///
-/// ```
-/// let mut slice = [0; 64];
-/// let mut errors = line_engine::output::Output::new(Vec::new(rt.alloc()), &mut slice);
-/// assert_eq!(rt; program_io::ending::refuse_usage("usage: cidr_merge union FILE..\n", &mut errors), 2);
-/// ```
-pub fn refuse_usage<E: Write>(usage: &str, errors: &mut Output<'_, E>) -> u8
-    ensures status { result ≡ 2 }
-    ensures told { Tells E.contents errors.old errors.new usage.now }
-{
-    tell(usage, errors);
-    FAILED
-}
-
-/// Reports why the arguments cannot be read, and returns the exit status 2.
-///
-/// ```
-/// let mut slice = [0; 64];
-/// let mut errors = line_engine::output::Output::new(Vec::new(rt.alloc()), &mut slice);
-/// let fault = program_io::arguments::ArgumentsFault::OutOfMemory;
-/// assert_eq!(rt; program_io::ending::refuse_arguments(fault, "usage: cidr_merge union FILE..\n", &mut errors), 2);
-/// ```
-pub fn refuse_arguments<E: Write>(
-    fault: ArgumentsFault,
-    usage: &str,
-    errors: &mut Output<'_, E>,
-) -> u8
-    ensures status { result ≡ 2 }
-    ensures told { Tells E.contents errors.old errors.new (arguments_text fault usage.now) }
-{
-    match fault {
-        ArgumentsFault::NotText => refuse_usage(usage, errors),
-        ArgumentsFault::OutOfMemory => {
-            tell("out of memory\n", errors);
-            FAILED
-        }
-    }
 }

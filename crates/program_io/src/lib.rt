@@ -8,3 +8,4 @@ pub mod messages;
 pub mod reading;
 pub mod system;
 pub mod telling;
+pub mod usage;

@@ -5,7 +5,7 @@ use Rattle.cidr_filter.specs.CommandLines.{Begin}
 use Rattle.cidr_filter.specs.Options.{is_list, is_input, field_said, separator_said, bad_said, inverts_in, counts_in, is_longest}
 use Rattle.cidr_filter.specs.declared.filter.Bad.TheVariants as bads
 use Rattle.cidr_filter.specs.declared.options.Choice.{Choice}
-use Rattle.cidr_filter.proofs.command_line.request_of.Given as goal
+use Rattle.cidr_filter.proofs.command_line.options_of.Given as goal
 
 abbrev pub invariant-options : goal.invariant-options
 invariant-options l = record {

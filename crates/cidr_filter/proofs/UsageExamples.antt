@@ -1,0 +1,154 @@
+-- Command lines that are refused, at which a misreading of the definitions would show.
+use Rattle.std.proofs.Common.{◌≡◌, List, [], ◌∷◌, true, false, inl, inr, refl}
+use Rattle.std.specs.Prelude.{codes, String, Some, None}
+use Rattle.std.specs.String.{string_bytes}
+use Rattle.program_io.specs.declared.usage.Subject.TheVariants as subjects
+use Rattle.cidr_filter.specs.Commands.{is_only, Asks}
+use Rattle.cidr_filter.specs.Usage.{about, value_problem, word_problem, option_fault, rest_fault, together_by, HasFault}
+use Rattle.cidr_filter.specs.declared.command_line.Command.TheVariants as commands
+use Rattle.cidr_filter.specs.declared.options.Choice.TheVariants as choices
+use Rattle.cidr_filter.specs.declared.usage.Problem.TheVariants as problems
+
+-- ---- a word by itself
+
+pub no_field : word_problem (codes "-k0") ≡ problems.Field
+no_field = refl
+
+pub no_separator : word_problem (codes "-d--") ≡ problems.Separator
+no_separator = refl
+
+pub no_bad : word_problem (codes "--bad=") ≡ problems.Bad
+no_bad = refl
+
+pub no_bad_by_its_letter : word_problem (codes "--bae=drop") ≡ problems.NoOption
+no_bad_by_its_letter = refl
+
+pub help_beside_others : word_problem (codes "--help") ≡ problems.NotAlone
+help_beside_others = refl
+
+pub version_beside_others : word_problem (codes "--version") ≡ problems.NotAlone
+version_beside_others = refl
+
+pub help_and_more : word_problem (codes "--help=") ≡ problems.NoOption
+help_and_more = refl
+
+pub letter_and_another : word_problem (codes "-vx") ≡ problems.NoOption
+letter_and_another = refl
+
+-- ---- an option and its value
+
+pub value_of_a_list : {Z : Type 0} (name : String Z) → string_bytes name ≡ codes "-f" → value_problem name ≡ problems.Name
+value_of_a_list name n = rw n
+
+pub value_of_a_text : {Z : Type 0} (name : String Z) → string_bytes name ≡ codes "-e" → value_problem name ≡ problems.Text
+value_of_a_text name n = rw n
+
+pub value_of_a_field : {Z : Type 0} (name : String Z) → string_bytes name ≡ codes "-k" → value_problem name ≡ problems.Field
+value_of_a_field name n = rw n
+
+pub value_of_a_separator : {Z : Type 0} (name : String Z) → string_bytes name ≡ codes "-d" → value_problem name ≡ problems.Separator
+value_of_a_separator name n = rw n
+
+pub value_of_bad : {Z : Type 0} (name : String Z) → string_bytes name ≡ codes "--bad" → value_problem name ≡ problems.Bad
+value_of_bad name n = rw n
+
+pub option_and_value : {Z : Type 0} (name value : String Z) → string_bytes name ≡ codes "-d" → option_fault 7 (name ∷ value ∷ []) ≡ about (subjects.Value 7 8) problems.Separator
+option_and_value name value n = rw n
+
+pub option_and_no_value : {Z : Type 0} (name : String Z) → string_bytes name ≡ codes "--bad" → option_fault 7 (name ∷ []) ≡ about (subjects.Word 7) problems.NoValue
+option_and_no_value name n = rw n
+
+pub word_and_another : {Z : Type 0} (word other : String Z) → string_bytes word ≡ codes "-k0" → option_fault 7 (word ∷ other ∷ []) ≡ about (subjects.Word 7) problems.Field
+word_and_another word other w = rw w
+
+-- ---- FILEs
+
+pub option_after_a_file : {Z : Type 0} (file option empty : String Z) → string_bytes file ≡ codes "a" → string_bytes option ≡ codes "-v" → rest_fault 3 (file ∷ option ∷ empty ∷ []) ≡ Some (about (subjects.Word 4) problems.AfterFile)
+option_after_a_file file option empty f o = rw (f, o)
+
+pub dashes_after_a_file : {Z : Type 0} (file dashes : String Z) → string_bytes file ≡ codes "-" → string_bytes dashes ≡ codes "--" → rest_fault 3 (file ∷ dashes ∷ []) ≡ Some (about (subjects.Word 4) problems.AfterFile)
+dashes_after_a_file file dashes f d = rw (f, d)
+
+-- the first of two faults
+pub empty_file_before_an_option : {Z : Type 0} (empty option : String Z) → string_bytes empty ≡ [] → rest_fault 3 (empty ∷ option ∷ []) ≡ Some (about (subjects.Word 3) problems.Name)
+empty_file_before_an_option empty option e = rw e
+
+pub empty_file_behind_dashes : {Z : Type 0} (dashes option empty : String Z) → string_bytes dashes ≡ codes "--" → string_bytes option ≡ codes "-v" → string_bytes empty ≡ []
+    → rest_fault 3 (dashes ∷ option ∷ empty ∷ []) ≡ Some (about (subjects.Word 5) problems.Name)
+empty_file_behind_dashes dashes option empty d o e = rw (d, o, e)
+
+pub right_files : {Z : Type 0} (one two : String Z) → string_bytes one ≡ codes "-" → string_bytes two ≡ codes "a" → rest_fault 3 (one ∷ two ∷ []) ≡ None
+right_files one two o t = rw (o, t)
+
+pub no_files : (Z : Type 0) → rest_fault {Z = Z} 3 [] ≡ None
+no_files Z = refl
+
+-- ---- right words that are wrong together
+
+pub longest_counted : together_by true false false ≡ Some problems.Crossed
+longest_counted = refl
+
+pub nothing_listed : together_by false false false ≡ Some problems.NoList
+nothing_listed = refl
+
+pub input_read_twice : together_by false true false ≡ Some problems.InputTwice
+input_read_twice = refl
+
+pub nothing_wrong : together_by false true true ≡ None
+nothing_wrong = refl
+
+-- ---- whole command lines
+
+pub a_zero : {Z : Type 0} (flag name value : String Z) → string_bytes flag ≡ codes "-v" → string_bytes name ≡ codes "-k" → string_bytes value ≡ codes "0"
+    → HasFault (flag ∷ name ∷ value ∷ []) (about (subjects.Value 1 2) problems.Field)
+a_zero flag name value f n v = record {
+  options = choices.Letters true false ∷ [];
+  rest = name ∷ value ∷ [];
+  begin = (rw f, rw f);
+  no_more = rw (n, v);
+  is_fault = inl (rw n);
+}
+
+-- nothing is asked for
+pub no_words : (Z : Type 0) → HasFault {Z = Z} [] (about subjects.CommandLine problems.NoList)
+no_words Z = record {
+  options = [];
+  rest = [];
+  begin = refl;
+  no_more = refl;
+  is_fault = inr ([], problems.NoList, refl, refl, refl);
+}
+
+-- the list and the log are standard input
+pub list_and_log : {Z : Type 0} (name dash : String Z) → string_bytes name ≡ codes "-f" → string_bytes dash ≡ codes "-" → HasFault (name ∷ dash ∷ []) (about subjects.CommandLine problems.InputTwice)
+list_and_log name dash n d = record {
+  options = choices.Input ∷ [];
+  rest = [];
+  begin = (rw (n, d), rw n);
+  no_more = refl;
+  is_fault = inr ([], problems.InputTwice, refl, refl, refl);
+}
+
+pub longest_and_v : {Z : Type 0} (one two : String Z) → string_bytes one ≡ codes "--longest" → string_bytes two ≡ codes "-v" → HasFault (one ∷ two ∷ []) (about subjects.CommandLine problems.Crossed)
+longest_and_v one two o t = record {
+  options = choices.Longest ∷ choices.Letters true false ∷ [];
+  rest = [];
+  begin = (rw o, (rw (o, t), rw (o, t)));
+  no_more = refl;
+  is_fault = inr ([], problems.Crossed, refl, refl, refl);
+}
+
+-- ---- what is asked for
+
+-- `--help` and `--version` are asked for by these words alone
+pub help_alone : {Z : Type 0} (words : List (String Z)) → Asks words commands.Help → is_only (codes "--help") words ≡ true
+help_alone words asks = asks
+
+pub version_alone : {Z : Type 0} (words : List (String Z)) → Asks words commands.Version → is_only (codes "--version") words ≡ true
+version_alone words asks = asks
+
+pub one_word_alone : {Z : Type 0} (word other : String Z) → is_only (codes "--help") (word ∷ other ∷ []) ≡ false
+one_word_alone word other = refl
+
+pub no_word_alone : (Z : Type 0) → is_only {Z = Z} (codes "--help") [] ≡ false
+no_word_alone Z = refl
