@@ -4,4 +4,5 @@ pub mod Gained
 pub mod LawExamples
 pub mod MergedParts
 pub mod Printed
+pub mod PartExamples
 pub mod Taken
