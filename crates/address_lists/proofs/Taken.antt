@@ -1,6 +1,6 @@
 -- What lines that are taken add to the addresses.
-use Rattle.std.proofs.Common.{◌≡◌, ◌↔◌, ◌⊎◌, ◌≤◌, inl, inr, ⊎_elim, ℕ, List, [], ◌∷◌, refl, sym, ap, subst, ◌∙◌, arith, length}
-use Rattle.std.specs.Prelude.{Bool, true, false, Option, None, Some, Result, Ok, Err, nat_lt, if◌then◌else◌}
+use Rattle.std.proofs.Common.{◌≡◌, ◌↔◌, ◌⊎◌, ◌≤◌, inl, inr, ⊎_elim, ℕ, List, [], ◌∷◌, ◌++◌, refl, sym, ap, subst, ◌∙◌, arith, length}
+use Rattle.std.specs.Prelude.{map, Bool, true, false, Option, None, Some, Result, Ok, Err, nat_lt, if◌then◌else◌}
 use Rattle.std.specs.List.{Contains}
 use Rattle.std.proofs.lemmas.Bool.{ltb-true, ltb-false}
 use Rattle.ipnetwork_addr.specs.declared.ip.IpAddr.{IpAddr}
@@ -93,3 +93,9 @@ turns_take before after [] [] h = ap read_by h
 turns_take before after [] (reply ∷ replies) h = absurd h
 turns_take before after (line ∷ ls) [] h = absurd h
 turns_take before after (line ∷ ls) (reply ∷ replies) h = (read_by h.0, h.1.1, turns_take h.0 after ls replies h.2)
+
+-- a line more
+pub takes_more : {X : Type 0} (now : X → List ℕ) (before mid after : ReadLists) (done : List X) (line : X) → TakesLines before (map now done) mid → Takes mid (asked 1024 (now line)) after
+    → TakesLines before (map now (done ++ line ∷ [])) after
+takes_more now before mid after [] line taken takes = (after, subst (λ (l : ReadLists). Takes l (asked 1024 (now line)) after) taken takes, refl)
+takes_more now before mid after (x ∷ done) line taken takes = (taken.0, taken.1, takes_more now taken.0 mid after done line taken.2 takes)

@@ -1,5 +1,8 @@
 //! `ListReader` as a handler of lines.
+ghost use Rattle.std.specs.Prelude.{None, Some};
+ghost use Rattle.address_lists.specs.Lists.{Takes};
 ghost use Rattle.address_lists.specs.Private.Taking.{MayTake};
+ghost use Rattle.address_lists.specs.ReadBy.{read_by};
 
 use crate::fault::LineFault;
 use crate::list_reader::ListReader;
@@ -19,6 +22,19 @@ impl LineHandler for ListReader {
     ghost may_get = { MayTake };
 
     fn answer(&mut self, line: &[u8], _replies: &mut Buffer<'_>) {
+        self.take_line(line);
+    }
+
+    fn answer_too_long(&mut self, _replies: &mut Buffer<'_>) {
+        self.refuse_long_line();
+    }
+}
+
+impl ListReader {
+    /// Takes a line of at most 1,024 bytes, unless memory has run out.
+    pub(crate) fn take_line(&mut self, line: &[u8])
+        ensures { Takes (read_by self.old) (Some line.now) (read_by self.new) }
+    {
         if self.is_out_of_memory() {
             return;
         }
@@ -30,7 +46,10 @@ impl LineHandler for ListReader {
         }
     }
 
-    fn answer_too_long(&mut self, _replies: &mut Buffer<'_>) {
+    /// Refuses a longer line, unless memory has run out.
+    pub(crate) fn refuse_long_line(&mut self)
+        ensures { Takes (read_by self.old) None (read_by self.new) }
+    {
         if self.is_out_of_memory() {
             return;
         }

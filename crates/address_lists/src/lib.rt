@@ -13,5 +13,5 @@ mod refusals;
 
 pub use fault::LineFault;
 pub use list_reader::ListReader;
-pub use read::{LINE_MAX, read_list};
+pub use read::{LINE_MAX, read_list, read_text};
 pub use refusals::{REFUSALS_MAX, Refusal, Refusals};

@@ -1,9 +1,10 @@
 //! Reads lists.
-ghost use Rattle.std.specs.Prelude.{◌≡◌, ◌||◌, ℕ, List, Some, OnOk, IfErr, IsFalse};
+ghost use Rattle.std.specs.Prelude.{◌≡◌, ◌||◌, ℕ, List, Some, OnOk, IfErr};
 ghost use Rattle.std.specs.Str.Lines.{lines};
+ghost use Rattle.line_engine.specs.Answers.{asked};
 ghost use Rattle.line_engine.specs.Run.{ended_by_read};
 ghost use Rattle.line_engine.specs.Watched.{device_of, has_failed};
-ghost use Rattle.address_lists.specs.Lists.{at_list, TakesLines};
+ghost use Rattle.address_lists.specs.Lists.{at_list, Takes, TakesLines};
 ghost use Rattle.address_lists.specs.ReadBy.{read_by};
 ghost use Rattle.address_lists.specs.Stopped.{TakesBefore};
 
@@ -66,4 +67,34 @@ pub fn read_list<R: Read>(
         reader,
         &mut nowhere,
     )
+}
+
+/// Reads a text as a list to its end, as `read_list` reads its bytes. No read can fail. `list` is a number that the
+/// caller chooses, by which refused lines name the text. Allocates only for what the text names.
+///
+/// ```
+/// let mut lists = ListReader::new(rt.alloc(), Refusals::new());
+/// read_text(&mut lists, 1, "192.0.2.7\n10.0.0.0/33");
+/// let (v4, _, refusals) = lists.into_sets();
+/// assert_eq!(rt; v4.blocks(), ["192.0.2.7/32".parse()?].as_slice());
+/// assert_eq!(rt; refusals.kept()[0].line, 2);
+/// ```
+pub fn read_text(lists: &mut ListReader, list: usize, text: &str)
+    ensures { TakesLines (at_list (read_by lists.old) list) (lines text.now) (read_by lists.new) }
+{
+    lists.begin(list);
+    for line in text.lines() {
+        read_line(lists, line.as_bytes());
+    }
+}
+
+// Takes a line, unless it is too long.
+fn read_line(lists: &mut ListReader, line: &[u8])
+    ensures { Takes (read_by lists.old) (asked 1024 line.now) (read_by lists.new) }
+{
+    if line.len() > LINE_MAX {
+        lists.refuse_long_line();
+    } else {
+        lists.take_line(line);
+    }
 }

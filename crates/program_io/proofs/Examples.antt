@@ -4,14 +4,17 @@ use Rattle.std.specs.Prelude.{codes, String, Some, Ok, Err}
 use Rattle.std.specs.Fmt.{digits}
 use Rattle.std.specs.String.{string_bytes}
 use Rattle.std.specs.Str.Lines.{lines}
-use Rattle.address_lists.specs.Lists.{ReadLists, at_list}
+use Rattle.address_lists.specs.Lists.{ReadLists, at_list, TakesLines}
 use Rattle.address_lists.specs.Refusals.{Refused}
 use Rattle.line_engine.specs.declared.fault.RunFault.TheVariants as faults
 use Rattle.program_io.specs.Lists.{KnownLists}
 use Rattle.program_io.specs.Private.Readings.{end_of}
-use Rattle.program_io.specs.Reading.{ReadsList, StopsAt}
+use Rattle.program_io.specs.Reading.{ReadsList, StopsAt, StopsAtText}
 use Rattle.program_io.specs.Told.{fault_text, more_text}
+use Rattle.program_io.specs.Usage.{subject_text, usage_text, arguments_text}
+use Rattle.program_io.specs.declared.arguments.ArgumentsFault.TheVariants as arguments
 use Rattle.program_io.specs.declared.reading.ReadFault.TheVariants.{Open, Read, OutOfMemory}
+use Rattle.program_io.specs.declared.usage.Subject.TheVariants.{CommandLine, Word, Value}
 
 -- ---- what is told
 
@@ -62,3 +65,36 @@ what_fails known name before refused has sound h = elim h.1 [
 ] where
   too_few : 2 ^ 64 - 1 < 4 → ⊥
   too_few l = omega (arith, l)
+
+-- memory alone stops the reading of a text, and then all its lines were taken before
+pub a_text_is_read : (number place : ℕ) (text : List ℕ) (before : ReadLists) (refused : Refused) → StopsAtText number text before (Read place) refused → ⊥
+a_text_is_read number place text before refused h = h
+
+pub a_text_is_opened : (number place : ℕ) (text : List ℕ) (before : ReadLists) (refused : Refused) → StopsAtText number text before (Open place) refused → ⊥
+a_text_is_opened number place text before refused h = h
+
+pub memory_for_a_text : (number : ℕ) (text : List ℕ) (before : ReadLists) (refused : Refused) (stops : StopsAtText number text before OutOfMemory refused)
+    → TakesLines (at_list before number) (lines text) stops.0 × (stops.0.is_out_of_memory ≡ true)
+memory_for_a_text number text before refused stops = (stops.1, stops.2)
+
+-- ---- what is told of a command line
+
+pub an_empty_word : {Z : Type 0} (word : String Z) → string_bytes word ≡ [] → subject_text (word ∷ []) (Word 0) ≡ codes "'': "
+an_empty_word word e = rw e
+
+pub a_word : {Z : Type 0} (minus option : String Z) → string_bytes option ≡ codes "-x"
+    → usage_text (codes "p") (codes "usage: p\n") (minus ∷ option ∷ []) (Word 1) (codes "not an option") ≡ codes "p: -x: not an option\nusage: p\n"
+a_word minus option e = rw e
+
+pub the_value_of_an_option : {Z : Type 0} (option value : String Z) → string_bytes option ≡ codes "-k" → string_bytes value ≡ codes "0"
+    → usage_text (codes "p") (codes "usage: p\n") (option ∷ value ∷ []) (Value 0 1) (codes "is no number") ≡ codes "p: -k: 0 is no number\nusage: p\n"
+the_value_of_an_option option value o v = rw (o, v)
+
+pub no_word : {Z : Type 0} (words : List (String Z)) → usage_text (codes "p") (codes "usage: p\n") words CommandLine (codes "no FILE") ≡ codes "p: no FILE\nusage: p\n"
+no_word words = refl
+
+pub an_argument_that_is_no_text : arguments_text arguments.NotText (codes "p") (codes "usage: p\n") ≡ codes "p: an argument is not UTF-8\nusage: p\n"
+an_argument_that_is_no_text = refl
+
+pub arguments_without_memory : arguments_text arguments.OutOfMemory (codes "p") (codes "usage: p\n") ≡ codes "out of memory\n"
+arguments_without_memory = refl

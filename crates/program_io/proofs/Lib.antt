@@ -1,3 +1,4 @@
 pub mod Examples
 pub mod NamedLists
+pub mod PartExamples
 pub mod Told

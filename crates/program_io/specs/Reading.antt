@@ -31,10 +31,10 @@ StopsAt known number name before (Read place) refused = (place ≡ number) × Fa
 -- memory runs out for an entry of it
 StopsAt known number name before OutOfMemory refused = (after : ReadLists) × ReadsFirst known number name before after × (after.is_out_of_memory ≡ true) × (refused ≡ after.refused)
 
--- what is known of a text that is read as a list: its bytes, and that opening it does not fail
-abbrev pub text_known : List ℕ → KnownLists
-text_known text = record { bytes_of = λ _. Some text; may_open = λ _ opened. opened ≡ true; may_fail = λ _. Unit {0} }
-
--- the reading of the text, which refused lines name by the number, stops like that of a list with the same bytes
+-- the reading of the text, which refused lines name by the number, stops, and these are the refused lines then
 abbrev pub StopsAtText : ℕ → List ℕ → ReadLists → ReadFault → Refused → Type 0
-StopsAtText number text before fault refused = StopsAt (text_known text) number text before fault refused
+-- a text is not opened, and no read of it fails
+StopsAtText number text before (Open place) refused = ⊥
+StopsAtText number text before (Read place) refused = ⊥
+-- memory runs out for an entry of it
+StopsAtText number text before OutOfMemory refused = (after : ReadLists) × TakesLines (at_list before number) (lines text) after × (after.is_out_of_memory ≡ true) × (refused ≡ after.refused)

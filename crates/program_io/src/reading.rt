@@ -58,7 +58,7 @@ pub fn read_named<L: OpenLists>(
     end_of(read, place, reader.is_out_of_memory())
 }
 
-/// Reads a text, which is the word at the index `place`, as a list to its end.
+/// Reads a text, which is the word at the index `place`, as a list to its end. Only memory can run out.
 ///
 /// ```
 /// let mut reader = address_lists::ListReader::new(rt.alloc(), address_lists::Refusals::new());
@@ -71,9 +71,11 @@ pub fn read_text(text: &str, place: usize, reader: &mut ListReader) -> Result<()
     ensures memory { OnOk result ((read_by reader.new).is_out_of_memory ≡ false) }
     ensures stopped { IfErr result (λ fault. StopsAtText place text.now (read_by reader.old) fault (read_by reader.new).refused) }
 {
-    let mut list = Watched::new(text.as_bytes());
-    let end = read_list(reader, place, &mut list);
-    end_of(end, place, reader.is_out_of_memory())
+    address_lists::read_text(reader, place, text);
+    if reader.is_out_of_memory() {
+        return Err(ReadFault::OutOfMemory);
+    }
+    Ok(())
 }
 
 // How the reading of the list at a place ends, by how its lines were taken, and whether memory ran out.
