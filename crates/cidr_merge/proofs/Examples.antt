@@ -1,6 +1,6 @@
 -- Values at which a misreading of the definitions would show. Each of these computes.
-use Rattle.std.proofs.Common.{◌≡◌, ℕ, List, ◌∷◌, [], true, false, refl}
-use Rattle.std.specs.Prelude.{codes, String, Some, None}
+use Rattle.std.proofs.Common.{◌≡◌, ◌==◌, ℕ, Bool, List, ◌∷◌, [], true, false, not, refl, length}
+use Rattle.std.specs.Prelude.{codes, String, Some, None, ◌&&◌, ◌||◌}
 use Rattle.std.specs.Fmt.{digits}
 use Rattle.std.specs.String.{string_bytes}
 use Rattle.ipnetwork_family.specs.Network.{Network}
@@ -9,7 +9,7 @@ use Rattle.ipnetwork_blocks.specs.Aggregate.{InUnion}
 use Rattle.list_entries.specs.declared.entry.EntryFault.TheVariants.{Prefix}
 use Rattle.address_lists.specs.declared.fault.LineFault.TheVariants.{Entry}
 use Rattle.cidr_merge.specs.Answers.{IsLeft, IsLeftOfSecond, AreBoth, merged, merged_ranges, block_line, range_line}
-use Rattle.cidr_merge.specs.CommandLines.{is, begins_dashed, is_dashed, is_name, is_option, operation_named, options_of, lists_of, are_options, are_lists, are_sides, before_dashes, behind_dashes, form_of}
+use Rattle.cidr_merge.specs.CommandLines.{is, begins_dashed, is_dashed, is_name, is_option, is_only, operation_called, operation_named, options_of, lists_of, are_options, are_lists, are_sides, before_dashes, behind_dashes, form_of}
 use Rattle.cidr_merge.specs.Runs.{answer_status}
 use Rattle.cidr_merge.specs.Told.{refusals_text}
 use Rattle.cidr_merge.specs.declared.command_line.Operation.TheVariants.{Union, Common, Minus, Differ}
@@ -192,3 +192,20 @@ no_first_side dashes other d = rw d
 
 pub sides_of_a_union : {Z : Type 0} (list dashes other : String Z) → is (codes "--") list ≡ false → is (codes "--") dashes ≡ true → is (codes "--") other ≡ false → are_sides Union (list ∷ dashes ∷ other ∷ []) ≡ false
 sides_of_a_union list dashes other l d o = rw (l, d, o)
+
+-- ---- every word
+
+pub one_byte_begins_with_no_dash : (byte : ℕ) → begins_dashed (byte ∷ []) ≡ false
+one_byte_begins_with_no_dash byte = refl
+
+pub no_option_is_a_name : {Z : Type 0} (word : String Z) → is_dashed word ≡ true → is (codes "--") word ≡ false → is_name word ≡ false
+no_option_is_a_name word dashed dashes = by (length (string_bytes word) == 0) where
+  by : (b : Bool) → (not b && (not (is_dashed word) || is (codes "--") word)) ≡ false
+  by true = refl
+  by false = rw (dashed, dashes)
+
+pub the_only_word : {Z : Type 0} (text : List ℕ) (word : String Z) → is_only text (word ∷ []) ≡ is text word
+the_only_word text word = refl
+
+pub the_names_of_operations : (operation_called (codes "union") ≡ Some Union) × (operation_called (codes "common") ≡ Some Common) × (operation_called (codes "minus") ≡ Some Minus) × (operation_called (codes "differ") ≡ Some Differ)
+the_names_of_operations = (refl, refl, refl, refl)

@@ -1,7 +1,11 @@
--- What the law lets one conclude, where a weaker law would not.
-use Rattle.std.proofs.Common.{◌≡◌, ℕ, List, [], ◌∷◌, ap, arith, length}
-use Rattle.std.specs.Prelude.{codes, map}
+-- What the laws let one conclude, where weaker laws would not.
+use Rattle.std.proofs.Common.{◌≡◌, ◌≢◌, ◌∙◌, ℕ, List, [], ◌∷◌, false, ap, sym, arith, length, refl}
+use Rattle.std.specs.Prelude.{bytes_eq, codes, map, None}
+use Rattle.std.proofs.lemmas.Bool.{true≢false}
+use Rattle.std.proofs.lemmas.Slice.Eq.{bytes_eq-Decides}
 use Rattle.std.specs.Str.Lines.{lines}
+use Rattle.cidr_merge.specs.CommandLines.{operation_called, is_option_text}
+use Rattle.cidr_merge.specs.Laws.{NoOtherOperation, NoOtherOption}
 use Rattle.cidr_merge.specs.Parts.{UnionPrints, HaveLines, AreShort, UnionsOfPartsPrintTheSame}
 
 -- a list may be cut into two parts, and into three
@@ -21,3 +25,27 @@ pub no_other_text : UnionsOfPartsPrintTheSame → (one other whole joined : List
 no_other_text law one other whole joined first second parts a b have short all prints =
     let e : 5 ≡ 11 = ap length (of_two_parts law one other whole joined first second (codes "10.0.0.0/8\n") (codes "::/0\n") parts a b have short all prints) in
     omega (arith, e)
+
+-- ---- names
+
+other : (text name : List ℕ) → bytes_eq text name ≡ false → text ≢ name
+other text name e same = true≢false (sym ((bytes_eq-Decides text name).1 same) ∙ e)
+
+-- a word that is shorter than a name by a letter or two, and one that differs from it by a letter
+pub diff_is_no_operation : NoOtherOperation → operation_called (codes "diff") ≡ None
+diff_is_no_operation law = law (codes "diff") (other _ _ refl) (other _ _ refl) (other _ _ refl) (other _ _ refl)
+
+pub common_in_capitals_is_no_operation : NoOtherOperation → operation_called (codes "COMMON") ≡ None
+common_in_capitals_is_no_operation law = law (codes "COMMON") (other _ _ refl) (other _ _ refl) (other _ _ refl) (other _ _ refl)
+
+pub an_empty_word_is_no_operation : NoOtherOperation → operation_called [] ≡ None
+an_empty_word_is_no_operation law = law [] (other _ _ refl) (other _ _ refl) (other _ _ refl) (other _ _ refl)
+
+pub skip_is_no_option : NoOtherOption → is_option_text (codes "--skip") ≡ false
+skip_is_no_option law = law (codes "--skip") (other _ _ refl) (other _ _ refl) (other _ _ refl)
+
+pub dashes_are_no_option : NoOtherOption → is_option_text (codes "--") ≡ false
+dashes_are_no_option law = law (codes "--") (other _ _ refl) (other _ _ refl) (other _ _ refl)
+
+pub counts_is_no_option : NoOtherOption → is_option_text (codes "--counts") ≡ false
+counts_is_no_option law = law (codes "--counts") (other _ _ refl) (other _ _ refl) (other _ _ refl)

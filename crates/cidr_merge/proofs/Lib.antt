@@ -1,6 +1,9 @@
 pub mod Examples
+pub mod Faults
 pub mod LawExamples
 pub mod Merging
+pub mod Names
+pub mod PartExamples
 pub mod Parts
 pub mod Putting
 pub mod ReadInTurn
@@ -8,3 +11,4 @@ pub mod Requests
 pub mod Runs
 pub mod Stopping
 pub mod Totals
+pub mod UsageExamples

@@ -8,9 +8,9 @@ use Rattle.program_io.specs.Endings.{Ending, IsSilent}
 use Rattle.program_io.specs.Lists.{KnownLists}
 use Rattle.program_io.specs.Messages.{Tells}
 use Rattle.program_io.specs.Told.{fault_text}
-use Rattle.cidr_merge.specs.CommandLines.{Asks}
+use Rattle.cidr_merge.specs.Commands.{Asks}
 use Rattle.cidr_merge.specs.Reading.{ReadsSide, ReadsSides}
-use Rattle.cidr_merge.specs.Runs.{EndsAnswering, EndsMerging, EndsAs}
+use Rattle.cidr_merge.specs.Runs.{EndsAnswering, EndsMerging, About, EndsAs}
 use Rattle.cidr_merge.specs.Stopping.{Stops, StopsInSides}
 use Rattle.cidr_merge.specs.Told.{refusals_text}
 use Rattle.cidr_merge.specs.declared.command_line.Command.{Command}
@@ -82,7 +82,7 @@ stopped {Z} {W} {E} {T} read known words request refused fault end told e stops 
     (refused, told, tells, inl (fault, subst (λ (r : Result T ReadFault). IfErr r (λ f. StopsInSides known words request f refused)) e stops, silent, why))
 
 -- a command that is known
-pub ends_by : {Z W E : Type 0} (help version usage : List ℕ) (known : KnownLists) (words : List (String Z)) (command other : Command) (end : Ending W E) → command ≡ other
-    → Asks words command → EndsAs help version usage known words other end → (asked : Command) × Asks words asked × EndsAs help version usage known words asked end
-ends_by help version usage known words command other end e asks ends =
-    (command, asks, subst (λ (c : Command). EndsAs help version usage known words c end) (sym e) ends)
+pub ends_by : {Z W E : Type 0} (about : About) (known : KnownLists) (words : List (String Z)) (command other : Command) (end : Ending W E) → command ≡ other
+    → Asks words command → EndsAs about known words other end → (asked : Command) × Asks words asked × EndsAs about known words asked end
+ends_by about known words command other end e asks ends =
+    (command, asks, subst (λ (c : Command). EndsAs about known words c end) (sym e) ends)

@@ -7,8 +7,6 @@ use Rattle.cidr_merge.specs.declared.command_line.Operation.TheVariants.{Union, 
 use Rattle.cidr_merge.specs.declared.command_line.Form.{Form}
 use Rattle.cidr_merge.specs.declared.command_line.Form.TheVariants.{Blocks, Ranges, Counts}
 use Rattle.cidr_merge.specs.declared.command_line.Request.{Request}
-use Rattle.cidr_merge.specs.declared.command_line.Command.{Command}
-use Rattle.cidr_merge.specs.declared.command_line.Command.TheVariants.{Help, Version, Merge, Usage}
 
 -- the word is this text
 abbrev pub is : {Z : Type 0} → List ℕ → String Z → Bool
@@ -22,13 +20,16 @@ abbrev pub has : {Z : Type 0} → List ℕ → List (String Z) → Bool
 has text words = nat_lt 0 (count text words)
 
 -- the operation that is called so
-abbrev pub operation_named : {Z : Type 0} → String Z → Option Operation
-operation_named word =
-    if is (codes "union") word then Some Union
-    else if is (codes "common") word then Some Common
-    else if is (codes "minus") word then Some Minus
-    else if is (codes "differ") word then Some Differ
+abbrev pub operation_called : List ℕ → Option Operation
+operation_called text =
+    if bytes_eq text (codes "union") then Some Union
+    else if bytes_eq text (codes "common") then Some Common
+    else if bytes_eq text (codes "minus") then Some Minus
+    else if bytes_eq text (codes "differ") then Some Differ
     else None
+
+abbrev pub operation_named : {Z : Type 0} → String Z → Option Operation
+operation_named word = operation_called (string_bytes word)
 
 -- the text begins with a `-` (byte 45), and is not only that
 abbrev pub begins_dashed : List ℕ → Bool
@@ -54,8 +55,11 @@ abbrev pub behind_dashes : {Z : Type 0} → List (String Z) → List (String Z)
 behind_dashes lists = drop (position_or_len (is (codes "--")) lists + 1) lists
 
 -- there are three options, and the two that say how to print exclude each other
+abbrev pub is_option_text : List ℕ → Bool
+is_option_text text = bytes_eq text (codes "--ranges") || bytes_eq text (codes "--count") || bytes_eq text (codes "--skip-bad")
+
 abbrev pub is_option : {Z : Type 0} → String Z → Bool
-is_option word = is (codes "--ranges") word || is (codes "--count") word || is (codes "--skip-bad") word
+is_option word = is_option_text (string_bytes word)
 
 abbrev pub are_options : {Z : Type 0} → List (String Z) → Bool
 are_options options = list_all is_option options && not (has (codes "--ranges") options && has (codes "--count") options)
@@ -103,10 +107,3 @@ AreForNone words = (operation : Operation) → ¬ (AreFor words operation)
 abbrev pub is_only : {Z : Type 0} → List ℕ → List (String Z) → Bool
 is_only text [] = false
 is_only text (word ∷ others) = length others == 0 && is text word
-
--- the words ask for this
-abbrev pub Asks : {Z : Type 0} → List (String Z) → Command → Type 0
-Asks words Help = is_only (codes "--help") words ≡ true
-Asks words Version = is_only (codes "--version") words ≡ true
-Asks words (Merge request) = AreFor words request.operation × Says words request
-Asks words Usage = (is_only (codes "--help") words ≡ false) × (is_only (codes "--version") words ≡ false) × AreForNone words

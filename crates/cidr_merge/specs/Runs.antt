@@ -12,7 +12,9 @@ use Rattle.program_io.specs.declared.reading.ReadFault.{ReadFault}
 use Rattle.cidr_merge.specs.Answers.{IsAnswer}
 use Rattle.cidr_merge.specs.Reading.{ReadsSides}
 use Rattle.cidr_merge.specs.Stopping.{StopsInSides}
+use Rattle.program_io.specs.Usage.{usage_text}
 use Rattle.cidr_merge.specs.Told.{refusals_text}
+use Rattle.cidr_merge.specs.Usage.{problem_text}
 use Rattle.cidr_merge.specs.declared.command_line.Command.{Command}
 use Rattle.cidr_merge.specs.declared.command_line.Command.TheVariants.{Help, Version, Merge, Usage}
 use Rattle.cidr_merge.specs.declared.command_line.Operation.{Operation}
@@ -57,10 +59,16 @@ EndsMerging {Z} {W} {E} known words request end = (refused : Refused) × (told :
     × (StopsReading known words request refused (record end { errors = told })
     ⊎ ((first second : Sets) × ReadsSides known words request first second refused × EndsAnswering request (was_refused refused) first second (record end { errors = told })))
 
--- how a run ends if the words ask for this. The three texts are those of `--help` and of `--version`, and what is
--- reported for words that are not a command
-abbrev pub EndsAs : {Z W E : Type 0} → List ℕ → List ℕ → List ℕ → KnownLists → List (String Z) → Command → Ending W E → Type 0
-EndsAs help version usage known words Help end = EndsPrinting help end
-EndsAs help version usage known words Version end = EndsPrinting version end
-EndsAs help version usage known words (Merge request) end = EndsMerging known words request end
-EndsAs help version usage known words Usage end = IsSilent end × HasTold end usage
+-- what the program says of itself: its name, what `--help` and `--version` print, and its usage
+pub record About : Type 0 where
+  pub name : List ℕ
+  pub help : List ℕ
+  pub version : List ℕ
+  pub usage : List ℕ
+
+-- how a run ends if the words ask for this
+abbrev pub EndsAs : {Z W E : Type 0} → About → KnownLists → List (String Z) → Command → Ending W E → Type 0
+EndsAs about known words Help end = EndsPrinting about.help end
+EndsAs about known words Version end = EndsPrinting about.version end
+EndsAs about known words (Merge request) end = EndsMerging known words request end
+EndsAs about known words (Usage fault) end = IsSilent end × HasTold end (usage_text about.name about.usage words fault.subject (problem_text fault.problem))

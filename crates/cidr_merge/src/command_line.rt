@@ -1,8 +1,12 @@
 //! What the arguments ask for.
-ghost use Rattle.std.specs.Prelude.{◌≡◌, ◌≤◌, codes, length, IfSome, MatchOption};
-ghost use Rattle.std.specs.List.{list_all, position_or_len, prefix_len};
-ghost use Rattle.cidr_merge.specs.CommandLines.{is, count, has, is_only, is_option, is_name, are_two_sides, is_dashed, operation_named, are_options, are_lists, are_sides, form_of, AreFor, AreForNone, Says, Asks};
+ghost use Rattle.std.specs.Prelude.{◌≡◌, Some, length, IfOk, MatchResult};
+ghost use Rattle.cidr_merge.specs.CommandLines.{operation_named, form_of, AreFor, AreForNone, Says};
+ghost use Rattle.cidr_merge.specs.Commands.{Asks};
 ghost use Rattle.cidr_merge.specs.Private.Words.{IsWithin, AsksWithin};
+ghost use Rattle.cidr_merge.specs.Usage.{fault_in};
+
+use crate::usage::{Problem, UsageFault, fault_of, fault_of_word, nothing_said};
+use crate::words::{has, is, is_only, options_count, place_of};
 
 /// What is done with the lists.
 #[derive(Clone, Copy, Debug, PartialEq, Eq)]
@@ -54,8 +58,8 @@ pub enum Command {
     Version,
     /// An operation on lists.
     Merge(Request),
-    /// Nothing: the words are not a command.
-    Usage,
+    /// Nothing: the words are not a command, for this reason.
+    Usage(UsageFault),
 }
 
 /// What the words after the program's name ask for. Does not allocate.
@@ -70,34 +74,31 @@ pub fn command_of(words: &[String]) -> Command
         return Command::Version;
     }
     match request_of(words) {
-        Some(request) => Command::Merge(request),
-        None => Command::Usage,
+        Ok(request) => Command::Merge(request),
+        Err(fault) => Command::Usage(fault),
     }
-}
-
-// Whether there is one word, and it is this text.
-fn is_only(words: &[String], text: &str) -> bool
-    ensures { result ≡ is_only text.now words.now }
-{
-    words.len() == 1 && is(&words[0], text)
 }
 
 // The operation, its options and its lists.
-fn request_of(words: &[String]) -> Option<Request>
-    ensures within { IfSome result (IsWithin (length words.now)) }
-    ensures asked { MatchOption result (AreForNone words.now) (λ request. AreFor words.now request.operation × Says words.now request) }
+fn request_of(words: &[String]) -> Result<Request, UsageFault>
+    ensures within { IfOk result (IsWithin (length words.now)) }
+    ensures asked { MatchResult result (λ request. AreFor words.now request.operation × Says words.now request) (λ fault. AreForNone words.now × (fault_in words.now ≡ Some fault)) }
 {
-    let (name, others) = words.split_first()?;
-    let operation = operation_of(name)?;
+    let Some((name, others)) = words.split_first() else {
+        return Err(nothing_said());
+    };
+    let Some(operation) = operation_of(name) else {
+        return Err(fault_of_word(0, Problem::NotAnOperation));
+    };
     let count = options_count(others);
     let options = &others[..count];
     let lists = &others[count..];
-    if !are_options(options) || !are_lists(lists) || !are_sides(operation, lists) {
-        return None;
+    if let Some(fault) = fault_of(operation, options, lists) {
+        return Err(fault);
     }
     let first = 1 + count;
     let middle = first + place_of(lists, "--");
-    Some(Request {
+    Ok(Request {
         operation,
         form: form_of(options),
         skips_bad: has(options, "--skip-bad"),
@@ -124,98 +125,6 @@ fn operation_of(word: &String) -> Option<Operation>
     }
 }
 
-// How many words stand before the first that is `-` or does not begin with `-`.
-fn options_count(words: &[String]) -> usize
-    ensures within { result ≤ length words.now }
-    ensures count { result ≡ prefix_len is_dashed words.now }
-{
-    let mut count = 0;
-    while count < words.len() && is_dashed(&words[count]) {
-        count += 1;
-    }
-    count
-}
-
-// Whether a word begins with a `-`, and is not only that.
-fn is_dashed(word: &String) -> bool
-    ensures { result ≡ is_dashed word.now }
-{
-    match word.as_bytes() {
-        [] => false,
-        [byte, bytes @ ..] => !bytes.is_empty() && *byte == b'-',
-    }
-}
-
-// Whether these are options, and at most one of them says how to print.
-fn are_options(words: &[String]) -> bool
-    ensures { result ≡ are_options words.now }
-{
-    are_all_options(words) && !(has(words, "--ranges") && has(words, "--count"))
-}
-
-// Whether each word is an option.
-fn are_all_options(words: &[String]) -> bool
-    ensures { result ≡ list_all is_option words.now }
-{
-    for word in words {
-        if !is_option(word) {
-            return false;
-        }
-    }
-    true
-}
-
-// Whether a word is an option.
-fn is_option(word: &String) -> bool
-    ensures { result ≡ is_option word.now }
-{
-    is(word, "--ranges") || is(word, "--count") || is(word, "--skip-bad")
-}
-
-// Whether these are names of lists, standard input at most once, with at most one `--`.
-fn are_lists(words: &[String]) -> bool
-    ensures { result ≡ are_lists words.now }
-{
-    are_all_names(words) && count_of(words, "-") <= 1 && count_of(words, "--") <= 1
-}
-
-// Whether each word names a list, or is `--`.
-fn are_all_names(words: &[String]) -> bool
-    ensures { result ≡ list_all is_name words.now }
-{
-    for word in words {
-        if !is_name(word) {
-            return false;
-        }
-    }
-    true
-}
-
-// Whether a word names a list, or is `--`.
-fn is_name(word: &String) -> bool
-    ensures { result ≡ is_name word.now }
-{
-    !word.is_empty() && (!is_dashed(word) || is(word, "--"))
-}
-
-// Whether the sides are those that the operation wants: each has a list, and only the union has no second one.
-fn are_sides(operation: Operation, lists: &[String]) -> bool
-    ensures { result ≡ are_sides operation lists.now }
-{
-    match operation {
-        Operation::Union => !lists.is_empty() && !has(lists, "--"),
-        _ => are_two_sides(lists),
-    }
-}
-
-// Whether there are lists before a `--` and after it.
-fn are_two_sides(lists: &[String]) -> bool
-    ensures { result ≡ are_two_sides lists.now }
-{
-    let middle = place_of(lists, "--");
-    middle > 0 && lists.len() - middle > 1
-}
-
 // How these options say to print.
 fn form_of(options: &[String]) -> Form
     ensures { result ≡ form_of options.now }
@@ -227,43 +136,4 @@ fn form_of(options: &[String]) -> Form
     } else {
         Form::Blocks
     }
-}
-
-// Whether a word is this text.
-fn is(word: &String, text: &str) -> bool
-    ensures { result ≡ is text.now word.now }
-{
-    word.as_str() == text
-}
-
-// Whether a word among these is this text.
-fn has(words: &[String], text: &str) -> bool
-    ensures { result ≡ has text.now words.now }
-{
-    count_of(words, text) > 0
-}
-
-// How many of the words are this text.
-fn count_of(words: &[String], text: &str) -> usize
-    ensures { result ≡ count text.now words.now }
-{
-    let mut count = 0;
-    for word in words {
-        if is(word, text) {
-            count += 1;
-        }
-    }
-    count
-}
-
-// The place of the first word that is this text, or the number of words.
-fn place_of(words: &[String], text: &str) -> usize
-    ensures within { result ≤ length words.now }
-    ensures place { result ≡ position_or_len (is text.now) words.now }
-{
-    let mut place = 0;
-    while place < words.len() && !is(&words[place], text) {
-        place += 1;
-    }
-    place
 }

@@ -32,6 +32,9 @@ Examples:
 /// What `--version` prints.
 pub(crate) const VERSION: &str = "cidr_merge 0.1.0\n";
 
-/// What is reported for arguments that are not a command.
+/// The name of the program.
+pub(crate) const PROGRAM: &str = "cidr_merge";
+
+/// What is reported for arguments that are not a command, after what is wrong with them.
 pub(crate) const USAGE: &str =
     "usage: cidr_merge union|common|minus|differ [OPTION..] FILE.. [-- FILE..]; try --help\n";

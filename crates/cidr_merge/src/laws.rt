@@ -1,5 +1,6 @@
-//! What follows from the clauses of a run. The function's contract is a law: it does nothing, and a proof that calls it
-//! may use the law.
+//! What follows from the clauses of a run. The contract of each function is a law: it does nothing, and a proof that
+//! calls it may use the law.
+ghost use Rattle.cidr_merge.specs.Laws.{NoOtherOperation, NoOtherOption};
 ghost use Rattle.cidr_merge.specs.Parts.{UnionsOfPartsPrintTheSame};
 
 use address_lists::laws::{lines_add_what_they_name, printed_lists_name_their_networks};
@@ -14,3 +15,13 @@ pub fn unions_of_parts_print_the_same()
     printed_lists_name_their_networks();
     same_union();
 }
+
+/// No word but `union`, `common`, `minus` and `differ` names an operation.
+pub fn no_other_operations()
+    ensures { NoOtherOperation }
+{}
+
+/// No word but `--ranges`, `--count` and `--skip-bad` is an option of an operation.
+pub fn no_other_options()
+    ensures { NoOtherOption }
+{}

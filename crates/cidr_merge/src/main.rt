@@ -13,13 +13,15 @@ mod run;
 mod sides;
 mod sweep;
 mod telling;
+mod usage;
+mod words;
 
-use crate::help::USAGE;
+use crate::help::{PROGRAM, USAGE};
 use crate::run::run;
 use line_engine::output::Output;
 use program_io::arguments::arguments;
-use program_io::ending::refuse_arguments;
 use program_io::system::System;
+use program_io::usage::{Usage, refuse_arguments};
 use std::process::ExitCode;
 
 /// The most bytes that wait to be written to standard output.
@@ -44,7 +46,13 @@ fn main(rt: HostRuntime) -> ExitCode {
                 &mut errors,
             )
         }
-        Err(fault) => refuse_arguments(fault, USAGE, &mut errors),
+        Err(fault) => {
+            let usage = Usage {
+                program: PROGRAM,
+                line: USAGE,
+            };
+            refuse_arguments(fault, usage, &mut errors)
+        }
     };
     let _ = errors.finish();
     ExitCode::from(status)

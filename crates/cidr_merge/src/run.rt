@@ -3,25 +3,30 @@ ghost use Rattle.std.specs.Prelude.{◌≡◌, ◌++◌, ℕ, List, length, OnOk
 ghost use Rattle.std.specs.Io.KnownBytes.{Appends};
 ghost use Rattle.line_engine.specs.Outputs.{writer_of, waits_in, output_failed};
 ghost use Rattle.cidr_merge.specs.Answers.{IsAnswer};
-ghost use Rattle.cidr_merge.specs.CommandLines.{Asks};
+ghost use Rattle.cidr_merge.specs.Commands.{Asks};
 ghost use Rattle.cidr_merge.specs.Private.Words.{IsWithin};
 ghost use Rattle.cidr_merge.specs.Reading.{ReadsSides};
 ghost use Rattle.cidr_merge.specs.Runs.{answer_status, EndsAnswering, EndsMerging, EndsAs};
 ghost use Rattle.cidr_merge.specs.Stopping.{StopsInSides};
+ghost use Rattle.cidr_merge.specs.Usage.{problem_text};
 ghost use Rattle.program_io.specs.Lists.{known_of};
+ghost use Rattle.program_io.specs.Messages.{Tells};
+ghost use Rattle.program_io.specs.Usage.{usage_text};
 
 use crate::command_line::{Command, Operation, Request, command_of};
-use crate::help::{HELP, USAGE, VERSION};
+use crate::help::{HELP, PROGRAM, USAGE, VERSION};
 use crate::printing::print;
 use crate::reading::{Sets, read_side};
 use crate::telling::tell_refusals;
+use crate::usage::UsageFault;
 use address_lists::Refusals;
 use line_engine::fault::RunFault;
 use line_engine::output::Output;
-use program_io::ending::{FAILED, end, print_text, refuse_usage};
+use program_io::ending::{FAILED, end, print_text};
 use program_io::lists::OpenLists;
 use program_io::reading::ReadFault;
 use program_io::telling::tell_fault;
+use program_io::usage::{Usage, refuse_usage};
 use std::alloc::Global;
 use std::io::Write;
 
@@ -42,15 +47,27 @@ pub(crate) fn run<L: OpenLists, W: Write, E: Write>(
     output: &mut Output<'_, W>,
     errors: &mut Output<'_, E>,
 ) -> u8
-    ensures { (command : Command) × Asks words.now command × EndsAs HELP.now VERSION.now USAGE.now (known_of L.bytes_of L.may_open L.may_fail lists.now) words.now command
+    ensures { (command : Command) × Asks words.now command × EndsAs (record { name = PROGRAM.now; help = HELP.now; version = VERSION.now; usage = USAGE.now }) (known_of L.bytes_of L.may_open L.may_fail lists.now) words.now command
         (record { holds = W.contents; output = output.old; output_after = output.new; tells = E.contents; errors = errors.old; errors_after = errors.new; status = result }) }
 {
     match command_of(words) {
         Command::Help => print_text(HELP, output, errors),
         Command::Version => print_text(VERSION, output, errors),
         Command::Merge(request) => merge(alloc, request, words, lists, output, errors),
-        Command::Usage => refuse_usage(USAGE, errors),
+        Command::Usage(fault) => refuse(fault, words, errors),
     }
+}
+
+// Reports what is wrong with the words.
+fn refuse<E: Write>(fault: UsageFault, words: &[String], errors: &mut Output<'_, E>) -> u8
+    ensures status { result ≡ 2 }
+    ensures told { Tells E.contents errors.old errors.new (usage_text PROGRAM.now USAGE.now words.now fault.subject (problem_text fault.problem)) }
+{
+    let usage = Usage {
+        program: PROGRAM,
+        line: USAGE,
+    };
+    refuse_usage(usage, words, fault.subject, fault.problem.text(), errors)
 }
 
 // Reads the lists of both sides, and prints what the operation leaves of them.

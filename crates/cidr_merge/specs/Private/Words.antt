@@ -12,4 +12,4 @@ abbrev pub AsksWithin : ℕ → Command → Type 0
 AsksWithin count Help = Unit {0}
 AsksWithin count Version = Unit {0}
 AsksWithin count (Merge request) = IsWithin count request
-AsksWithin count Usage = Unit {0}
+AsksWithin count (Usage fault) = Unit {0}

@@ -1,7 +1,7 @@
 use Rattle.std.proofs.Common.{length, ◌-◌, ◌≡◌, ◌+◌, ◌≤◌, drop}
 use Rattle.std.specs.List.{prefix_len}
 use Rattle.cidr_merge.specs.CommandLines.{is_dashed}
-use Rattle.cidr_merge.proofs.command_line.options_count.Given as goal
+use Rattle.cidr_merge.proofs.words.options_count.Given as goal
 
 abbrev pub invariant-loop-count : goal.invariant-loop-count
 invariant-loop-count l = record {

@@ -1,7 +1,7 @@
 use Rattle.std.proofs.Common.{length, ◌-◌, ◌≡◌, ◌+◌, ◌≤◌, drop}
 use Rattle.std.specs.List.{position_or_len}
 use Rattle.cidr_merge.specs.CommandLines.{is}
-use Rattle.cidr_merge.proofs.command_line.place_of.Given as goal
+use Rattle.cidr_merge.proofs.words.place_of.Given as goal
 
 abbrev pub invariant-loop-place : goal.invariant-loop-place
 invariant-loop-place l = record {

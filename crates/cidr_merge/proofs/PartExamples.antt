@@ -1,0 +1,113 @@
+-- What the definitions promise, part by part: a definition without one of these parts would not give it.
+use Rattle.std.proofs.Common.{◌≡◌, ◌+◌, ◌≤◌, ◌↔◌, ◌⊎◌, inl, inr, ◌++◌, ◌∙◌, sym, not, ℕ, Bool, List, [], ◌∷◌, true, false, length, drop}
+use Rattle.std.specs.Prelude.{codes, ◌&&◌, String, Some, slice_range}
+use Rattle.std.specs.List.{Contains}
+use Rattle.std.specs.String.{string_bytes}
+use Rattle.ipnetwork_blocks.specs.Aggregate.{IsAggregate}
+use Rattle.address_lists.specs.Lists.{ReadLists, nothing_read, at_list, TakesLines}
+use Rattle.address_lists.specs.Refusals.{Refused, no_refusals}
+use Rattle.line_engine.specs.Outputs.{output_failed}
+use Rattle.line_engine.specs.declared.output.Output.{Output}
+use Rattle.program_io.specs.Endings.{Ending, HasTold, HasWritten}
+use Rattle.program_io.specs.Lists.{KnownLists}
+use Rattle.program_io.specs.Messages.{Tells}
+use Rattle.program_io.specs.Reading.{StopsAt}
+use Rattle.program_io.specs.Told.{was_refused, fault_text}
+use Rattle.program_io.specs.Usage.{usage_text}
+use Rattle.program_io.specs.declared.reading.ReadFault.{ReadFault}
+use Rattle.cidr_merge.specs.Answers.{IsAnswer}
+use Rattle.cidr_merge.specs.CommandLines.{has, operation_named, options_of, lists_of, before_dashes, behind_dashes, are_options, are_lists, are_sides, form_of, AreFor, Says, AreForNone}
+use Rattle.cidr_merge.specs.Commands.{Asks}
+use Rattle.cidr_merge.specs.Parts.{UnionPrints, HaveLines, AreShort}
+use Rattle.cidr_merge.specs.Reading.{ReadsLists, ReadsSide, ReadsSides}
+use Rattle.cidr_merge.specs.Runs.{answer_status, WritesAnswer, FailsToWrite, StopsReading, EndsAnswering, EndsMerging, About, EndsAs}
+use Rattle.cidr_merge.specs.Stopping.{Stops, StopsInSides}
+use Rattle.cidr_merge.specs.Told.{refusals_text}
+use Rattle.cidr_merge.specs.Usage.{problem_text, fault_in}
+use Rattle.cidr_merge.specs.declared.command_line.Command.TheVariants.{Usage}
+use Rattle.cidr_merge.specs.declared.command_line.Form.TheVariants.{Blocks}
+use Rattle.cidr_merge.specs.declared.command_line.Operation.{Operation}
+use Rattle.cidr_merge.specs.declared.command_line.Operation.TheVariants.{Union}
+use Rattle.cidr_merge.specs.declared.command_line.Request.{Request}
+use Rattle.cidr_merge.specs.declared.reading.Sets.{Sets}
+use Rattle.cidr_merge.specs.declared.usage.UsageFault.{UsageFault}
+
+-- ---- command lines
+
+pub what_an_operation_needs : {Z : Type 0} (name : String Z) (others : List (String Z)) (operation : Operation) → AreFor (name ∷ others) operation
+    → (operation_named name ≡ Some operation) × (are_options (options_of (name ∷ others)) ≡ true) × (are_lists (lists_of (name ∷ others)) ≡ true) × (are_sides operation (lists_of (name ∷ others)) ≡ true)
+what_an_operation_needs name others operation h = h
+
+pub what_a_request_says : {Z : Type 0} (words : List (String Z)) (request : Request) → Says words request
+    → (request.form ≡ form_of (options_of words)) × (request.skips_bad ≡ has (codes "--skip-bad") (options_of words))
+    × (slice_range words request.first request.middle ≡ before_dashes (lists_of words)) × (drop request.second words ≡ behind_dashes (lists_of words))
+what_a_request_says words request h = (h.form, h.skips, h.firsts, h.seconds)
+
+pub what_no_command_is : {Z : Type 0} (words : List (String Z)) (fault : UsageFault) → Asks words (Usage fault) → AreForNone words × (fault_in words ≡ Some fault)
+what_no_command_is words fault h = (h.2, h.3)
+
+-- ---- what was read
+
+pub what_a_side_has : {Z : Type 0} (known : KnownLists) (number : ℕ) (names : List (String Z)) (before refused : Refused) (sets : Sets) → ReadsSide known number names before sets refused
+    → (read : ReadLists) × ReadsLists known number names (nothing_read before) read × (read.is_out_of_memory ≡ false) × IsAggregate 32 read.v4 sets.v4 × IsAggregate 128 read.v6 sets.v6 × (read.refused ≡ refused)
+what_a_side_has known number names before refused sets h = (h.read, h.lists, h.memory, h.v4, h.v6, h.refused_lines)
+
+pub what_both_sides_have : {Z : Type 0} (known : KnownLists) (words : List (String Z)) (request : Request) (first second : Sets) (refused : Refused) → ReadsSides known words request first second refused
+    → (between : Refused) × ReadsSide known request.first (slice_range words request.first request.middle) no_refusals first between × ReadsSide known request.second (drop request.second words) between second refused
+what_both_sides_have known words request first second refused h = (h.between, h.firsts, h.seconds)
+
+pub where_the_reading_stops : {Z : Type 0} (known : KnownLists) (number : ℕ) (names : List (String Z)) (before : ReadLists) (fault : ReadFault) (refused : Refused) (h : Stops known number names before fault refused)
+    → (names ≡ h.first ++ h.name ∷ h.others) × ReadsLists known number h.first before h.between × (h.between.is_out_of_memory ≡ false)
+    × StopsAt known (number + length h.first) (string_bytes h.name) h.between fault refused
+where_the_reading_stops known number names before fault refused h = (h.cut, h.reads, h.memory, h.stops)
+
+pub what_stops_both_sides : {Z : Type 0} (known : KnownLists) (words : List (String Z)) (request : Request) (fault : ReadFault) (refused : Refused) → StopsInSides known words request fault refused
+    → Stops known request.first (slice_range words request.first request.middle) (nothing_read no_refusals) fault refused
+    ⊎ ((first : Sets) × (between : Refused) × ReadsSide known request.first (slice_range words request.first request.middle) no_refusals first between
+    × Stops known request.second (drop request.second words) (nothing_read between) fault refused)
+what_stops_both_sides known words request fault refused h = h
+
+-- ---- how a run ends
+
+pub what_a_run_tells : {Z W E : Type 0} (known : KnownLists) (words : List (String Z)) (request : Request) (end : Ending W E) → EndsMerging known words request end
+    → (refused : Refused) × (told : Output E) × Tells end.tells end.errors told (refusals_text words refused)
+    × (StopsReading known words request refused (record end { errors = told })
+    ⊎ ((first second : Sets) × ReadsSides known words request first second refused × EndsAnswering request (was_refused refused) first second (record end { errors = told })))
+what_a_run_tells known words request end h = h
+
+pub what_a_reading_that_stops_tells : {Z W E : Type 0} (known : KnownLists) (words : List (String Z)) (request : Request) (refused : Refused) (end : Ending W E) → StopsReading known words request refused end
+    → (fault : ReadFault) × StopsInSides known words request fault refused × (end.output_after ≡ end.output) × (end.status ≡ 2) × HasTold end (fault_text words fault)
+what_a_reading_that_stops_tells known words request refused end h = (h.0, h.1, h.2.0, h.2.1, h.3)
+
+pub nothing_for_refused_lines : {W E : Type 0} (request : Request) (first second : Sets) (end : Ending W E) → request.skips_bad ≡ false → EndsAnswering request true first second end
+    → (end.output_after ≡ end.output) × (end.status ≡ 2)
+nothing_for_refused_lines request first second end keeps (inl h) = (h.1.0, h.1.1)
+nothing_for_refused_lines request first second end keeps (inr h) = absurd (let bad : (true && not request.skips_bad) ≡ true = rw keeps in let q = sym bad ∙ h.0 in cc)
+
+pub an_answer_or_a_failed_write : {W E : Type 0} (request : Request) (first second : Sets) (end : Ending W E) → EndsAnswering request false first second end
+    → FailsToWrite end ⊎ WritesAnswer request false first second end
+an_answer_or_a_failed_write request first second end (inl h) = absurd (let q = h.0 in cc)
+an_answer_or_a_failed_write request first second end (inr h) = h.1
+
+pub what_an_answer_is : {W E : Type 0} (request : Request) (skips : Bool) (first second : Sets) (end : Ending W E) → WritesAnswer request skips first second end
+    → ((text : List ℕ) × IsAnswer request.operation request.form first second text × HasWritten end text) × HasTold end [] × (end.status ≡ answer_status request.operation skips first second)
+what_an_answer_is request skips first second end h = ((h.0, h.1, h.2), h.3, h.4)
+
+pub what_a_failed_writer_is : {W E : Type 0} (end : Ending W E) → FailsToWrite end → (output_failed end.output_after ≡ true) × HasTold end (codes "write error\n") × (end.status ≡ 2)
+what_a_failed_writer_is end h = h
+
+pub what_is_told_of_no_command : {Z W E : Type 0} (about : About) (known : KnownLists) (words : List (String Z)) (fault : UsageFault) (end : Ending W E) → EndsAs about known words (Usage fault) end
+    → (end.output_after ≡ end.output) × (end.status ≡ 2) × HasTold end (usage_text about.name about.usage words fault.subject (problem_text fault.problem))
+what_is_told_of_no_command about known words fault end h = (h.0.0, h.0.1, h.1)
+
+-- ---- what the laws take: no more than this
+
+pub a_union_prints : (list : List (List ℕ)) (text : List ℕ) (number : ℕ) (read : ReadLists) (sets others : Sets) → TakesLines (at_list (nothing_read no_refusals) number) list read → read.is_out_of_memory ≡ false
+    → IsAggregate 32 read.v4 sets.v4 → IsAggregate 128 read.v6 sets.v6 → IsAnswer Union Blocks sets others text → UnionPrints list text
+a_union_prints list text number read sets others takes memory v4 v6 answer = record { number = number; read = read; sets = sets; others = others; takes = takes; memory = memory; v4 = v4; v6 = v6; answer = answer }
+
+pub lines_of_1024_bytes_are_short : (list : List (List ℕ)) → ((line : List ℕ) → Contains list line → length line ≤ 1024) → AreShort list
+lines_of_1024_bytes_are_short list short = short
+
+pub lines_in_any_order : (lists : List (List (List ℕ))) (whole : List (List ℕ)) → ((line : List ℕ) → Contains whole line ↔ ((list : List (List ℕ)) × Contains lists list × Contains list line)) → HaveLines lists whole
+lines_in_any_order lists whole same = same

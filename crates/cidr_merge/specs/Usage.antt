@@ -1,0 +1,110 @@
+-- What is wrong with words that are not a command.
+use Rattle.std.specs.Prelude.{ℕ, ◌+◌, ◌&&◌, Bool, not, List, [], ◌∷◌, Option, None, Some, length, nat_le, nat_lt, if◌then◌else◌, codes, bytes_eq, String}
+use Rattle.std.specs.List.{list_all, position_or_len, prefix_len}
+use Rattle.program_io.specs.Told.{name_at}
+use Rattle.program_io.specs.declared.usage.Subject.TheVariants.{CommandLine, Word}
+use Rattle.cidr_merge.specs.CommandLines.{is, count, has, operation_named, options_of, lists_of, before_dashes, behind_dashes, is_option, is_name}
+use Rattle.cidr_merge.specs.declared.command_line.Operation.{Operation}
+use Rattle.cidr_merge.specs.declared.command_line.Operation.TheVariants.{Union, Common, Minus, Differ}
+use Rattle.cidr_merge.specs.declared.usage.Problem.{Problem}
+use Rattle.cidr_merge.specs.declared.usage.Problem.TheVariants as problems
+use Rattle.cidr_merge.specs.declared.usage.UsageFault.{UsageFault}
+
+-- what is reported of a word, or of all of them
+abbrev pub problem_text : Problem → List ℕ
+problem_text problems.NoOperation = codes "no operation"
+problem_text problems.NotAnOperation = codes "not an operation"
+problem_text problems.NotAnOption = codes "not an option of an operation"
+problem_text problems.RangesAndCount = codes "not together with --count"
+problem_text problems.EmptyName = codes "not the name of a file"
+problem_text problems.OptionAmongLists = codes "not a FILE; options stand before the first one"
+problem_text problems.InputTwice = codes "standard input can be read only once"
+problem_text problems.SecondSideOfUnion = codes "union has no second side"
+problem_text problems.ThirdSide = codes "there are only two sides"
+problem_text problems.NoList = codes "no FILE"
+problem_text problems.OneSide = codes "no second side"
+problem_text problems.EmptyFirstSide = codes "no FILE before it"
+problem_text problems.EmptySecondSide = codes "no FILE after it"
+
+-- there is no word
+abbrev pub no_operation : UsageFault
+no_operation = record { subject = CommandLine; problem = problems.NoOperation }
+
+-- the word at the index has this problem
+abbrev pub at_word : ℕ → Problem → UsageFault
+at_word place problem = record { subject = Word place; problem = problem }
+
+-- the first of two faults
+abbrev pub first_of : Option UsageFault → Option UsageFault → Option UsageFault
+first_of (Some fault) other = Some fault
+first_of None other = other
+
+-- the place of the first word that is not so, if there is one
+abbrev pub first_not : {Z : Type 0} → (String Z → Bool) → List (String Z) → Option ℕ
+first_not test words = if list_all test words then None else Some (prefix_len test words)
+
+-- a text that is no option is the `--` before the second side, or none that an operation has
+abbrev pub option_problem : List ℕ → Problem
+option_problem text = if bytes_eq text (codes "--") then problems.EmptyFirstSide else problems.NotAnOption
+
+-- what is wrong with the options, of which the first is the second word: the first word that is none, or `--ranges`
+-- that is given together with `--count`
+abbrev pub options_fault : {Z : Type 0} → List (String Z) → Option UsageFault
+options_fault options =
+    if not (list_all is_option options) then Some (at_word (1 + prefix_len is_option options) (option_problem (name_at options (prefix_len is_option options))))
+    else if has (codes "--ranges") options && has (codes "--count") options then Some (at_word (1 + position_or_len (is (codes "--ranges")) options) problems.RangesAndCount)
+    else None
+
+-- a text that names no list is empty, or begins with a `-`
+abbrev pub name_problem : List ℕ → Problem
+name_problem [] = problems.EmptyName
+name_problem (byte ∷ bytes) = problems.OptionAmongLists
+
+-- what is wrong with the names of the lists, of which the first is the word at the index: the first word that is none,
+-- or a `-` that stands there again
+abbrev pub lists_fault : {Z : Type 0} → ℕ → List (String Z) → Option UsageFault
+lists_fault first lists =
+    if not (list_all is_name lists) then Some (at_word (first + prefix_len is_name lists) (name_problem (name_at lists (prefix_len is_name lists))))
+    else if not (nat_le (count (codes "-") lists) 1) then Some (at_word (first + position_or_len (is (codes "-")) lists) problems.InputTwice)
+    else None
+
+-- what is wrong with the lists of the union: a `--`, or that there is none
+abbrev pub union_fault : {Z : Type 0} → ℕ → List (String Z) → Option UsageFault
+union_fault first lists =
+    if has (codes "--") lists then Some (at_word (first + position_or_len (is (codes "--")) lists) problems.SecondSideOfUnion)
+    else if not (nat_lt 0 (length lists)) then Some (at_word 0 problems.NoList)
+    else None
+
+-- no list is on the second side: there is no `--`, or none stands after it
+abbrev pub no_second_side : {Z : Type 0} → ℕ → List (String Z) → UsageFault
+no_second_side first lists = if has (codes "--") lists then at_word (first + position_or_len (is (codes "--")) lists) problems.EmptySecondSide else at_word 0 problems.OneSide
+
+-- what is wrong with the sides of another operation: more than one `--`, or a side without a list
+abbrev pub sides_fault : {Z : Type 0} → ℕ → List (String Z) → Option UsageFault
+sides_fault first lists =
+    if not (nat_le (count (codes "--") lists) 1) then Some (at_word (first + position_or_len (is (codes "--")) lists) problems.ThirdSide)
+    else if not (nat_lt 0 (length (behind_dashes lists))) then Some (no_second_side first lists)
+    else if not (nat_lt 0 (length (before_dashes lists))) then Some (at_word (first + position_or_len (is (codes "--")) lists) problems.EmptyFirstSide)
+    else None
+
+-- what is wrong with the lists of an operation, if their names are right
+abbrev pub parts_fault : {Z : Type 0} → Operation → ℕ → List (String Z) → Option UsageFault
+parts_fault Union first lists = union_fault first lists
+parts_fault Common first lists = sides_fault first lists
+parts_fault Minus first lists = sides_fault first lists
+parts_fault Differ first lists = sides_fault first lists
+
+-- what is wrong with the options of an operation and its lists, which are all words after the first
+abbrev pub fault_among : {Z : Type 0} → Operation → List (String Z) → List (String Z) → Option UsageFault
+fault_among operation options lists =
+    first_of (options_fault options) (first_of (lists_fault (1 + length options) lists) (parts_fault operation (1 + length options) lists))
+
+-- what is wrong with words of which the first names this operation, or none
+abbrev pub fault_for : {Z : Type 0} → Option Operation → List (String Z) → Option UsageFault
+fault_for None words = Some (at_word 0 problems.NotAnOperation)
+fault_for (Some operation) words = fault_among operation (options_of words) (lists_of words)
+
+-- what is wrong with the words, if they are for no operation
+abbrev pub fault_in : {Z : Type 0} → List (String Z) → Option UsageFault
+fault_in [] = Some no_operation
+fault_in (name ∷ others) = fault_for (operation_named name) (name ∷ others)

@@ -1,0 +1,84 @@
+//! Words of a command line.
+ghost use Rattle.std.specs.Prelude.{◌≡◌, ◌≤◌, length};
+ghost use Rattle.std.specs.List.{position_or_len, prefix_len};
+ghost use Rattle.program_io.specs.Told.{name_at};
+ghost use Rattle.cidr_merge.specs.CommandLines.{is, count, has, is_only, is_dashed};
+
+/// Whether a word is this text.
+pub(crate) fn is(word: &String, text: &str) -> bool
+    ensures { result ≡ is text.now word.now }
+{
+    word.as_str() == text
+}
+
+/// Whether a word among these is this text.
+pub(crate) fn has(words: &[String], text: &str) -> bool
+    ensures { result ≡ has text.now words.now }
+{
+    count_of(words, text) > 0
+}
+
+/// How many of the words are this text.
+pub(crate) fn count_of(words: &[String], text: &str) -> usize
+    ensures { result ≡ count text.now words.now }
+{
+    let mut count = 0;
+    for word in words {
+        if is(word, text) {
+            count += 1;
+        }
+    }
+    count
+}
+
+/// The place of the first word that is this text, or the number of words.
+pub(crate) fn place_of(words: &[String], text: &str) -> usize
+    ensures within { result ≤ length words.now }
+    ensures place { result ≡ position_or_len (is text.now) words.now }
+{
+    let mut place = 0;
+    while place < words.len() && !is(&words[place], text) {
+        place += 1;
+    }
+    place
+}
+
+/// Whether there is one word, and it is this text.
+pub(crate) fn is_only(words: &[String], text: &str) -> bool
+    ensures { result ≡ is_only text.now words.now }
+{
+    words.len() == 1 && is(&words[0], text)
+}
+
+/// Whether a word begins with a `-`, and is not only that.
+pub(crate) fn is_dashed(word: &String) -> bool
+    ensures { result ≡ is_dashed word.now }
+{
+    match word.as_bytes() {
+        [] => false,
+        [byte, bytes @ ..] => !bytes.is_empty() && *byte == b'-',
+    }
+}
+
+/// How many words stand before the first that is `-` or does not begin with `-`.
+pub(crate) fn options_count(words: &[String]) -> usize
+    ensures within { result ≤ length words.now }
+    ensures count { result ≡ prefix_len is_dashed words.now }
+{
+    let mut count = 0;
+    while count < words.len() && is_dashed(&words[count]) {
+        count += 1;
+    }
+    count
+}
+
+/// The word at this place; past the last word, an empty text.
+pub(crate) fn text_at(words: &[String], place: usize) -> &str
+    ensures { result.now ≡ name_at words.now place }
+{
+    if let Some(word) = words.get(place) {
+        word.as_str()
+    } else {
+        ""
+    }
+}
