@@ -8,17 +8,17 @@ use Rattle.ipnetwork_addr.specs.Either.{NamesIp}
 use Rattle.ipnetwork_addr.specs.declared.ip.IpAddr.{IpAddr}
 use Rattle.ipnetwork.specs.IpNetworks.{IpMember}
 use Rattle.ipnetwork.specs.declared.ip_network.IpNetwork.TheVariants.{V4}
-use Rattle.list_entries.specs.declared.entry.EntryFault.TheVariants.{Prefix}
-use Rattle.address_lists.specs.Lists.{ReadLists, at_list, TakesLines}
-use Rattle.address_lists.specs.declared.fault.LineFault.TheVariants.{Entry}
-use Rattle.program_io.specs.Lists.{KnownLists}
+use Rattle.lists.specs.declared.entry.EntryFault.TheVariants.{Prefix}
+use Rattle.lists.specs.Lists.{ReadLists, at_list, TakesLines}
+use Rattle.lists.specs.declared.fault.LineFault.TheVariants.{Entry}
+use Rattle.lists.specs.KnownLists.{KnownLists}
 use Rattle.cidr_filter.specs.Fields.{field_of}
 use Rattle.cidr_filter.specs.Filters.{IsListed, Judges, is_selected, is_refused, mark_of, output_of}
 use Rattle.cidr_filter.specs.Lines.{LogLine, log_lines, ended_lines, content, printed}
 use Rattle.cidr_filter.specs.Listed.{IsStored, IsLongestBlock}
 use Rattle.cidr_filter.specs.Logs.{logs_of, IsAllOf, IsFirstOf, FiltersLogs}
 use Rattle.cidr_filter.specs.Reading.{ReadsOptions}
-use Rattle.program_io.specs.Endings.{Ending, HasTold, HasWritten}
+use Rattle.program.specs.Endings.{Ending, HasTold, HasWritten}
 use Rattle.cidr_filter.specs.Runs.{total_text, EndsLogs}
 use Rattle.cidr_filter.specs.Told.{refusals_text, log_fault_text}
 use Rattle.cidr_filter.specs.declared.filter.Bad.{Bad}

@@ -8,7 +8,7 @@ use Rattle.std.proofs.lemmas.Option.{none-some}
 use Rattle.line_engine.specs.Answers.{IsBeginning}
 use Rattle.line_engine.specs.Outputs.{Puts}
 use Rattle.line_engine.proofs.Putting.{puts_nothing, puts_more}
-use Rattle.program_io.specs.Lists.{KnownLists}
+use Rattle.lists.specs.KnownLists.{KnownLists}
 use Rattle.cidr_filter.specs.Lines.{LogLine, lines_in, log_lines, ended_lines}
 use Rattle.cidr_filter.specs.Logs.{IsAllOf, IsFirstOf, FiltersLogs, RefusesAfter, HaltsBy}
 use Rattle.cidr_filter.specs.Stands.{Stand, Counts}

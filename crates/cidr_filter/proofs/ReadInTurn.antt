@@ -7,17 +7,17 @@ use Rattle.std.specs.Str.Lines.{lines}
 use Rattle.std.proofs.lemmas.List.{get_or-drop}
 use Rattle.std.proofs.lemmas.Option.{none-some}
 use Rattle.ipnetwork_family.specs.Network.{Network}
-use Rattle.address_lists.specs.Lists.{ReadLists, nothing_read, at_list, TakesLines}
-use Rattle.address_lists.specs.Refusals.{Refused, no_refusals}
-use Rattle.program_io.specs.Lists.{KnownLists}
-use Rattle.program_io.specs.Reading.{ReadsList, StopsAt, StopsAtText}
-use Rattle.program_io.specs.declared.reading.ReadFault.{ReadFault}
-use Rattle.program_io.proofs.Told.{name_within}
+use Rattle.lists.specs.Lists.{ReadLists, nothing_read, at_list, TakesLines}
+use Rattle.lists.specs.Refusals.{Refused, no_refusals}
+use Rattle.lists.specs.KnownLists.{KnownLists}
+use Rattle.lists.specs.Reading.{ReadsList, StopsAt, StopsAtText}
+use Rattle.lists.specs.declared.named.ReadFault.{ReadFault}
+use Rattle.program.proofs.Told.{name_within}
 use Rattle.cidr_filter.specs.CommandLines.{Begin}
 use Rattle.cidr_filter.specs.Listed.{HasBlocksOf}
 use Rattle.cidr_filter.specs.Options.{option_of, behind_option, takes_next, in_one_word, field_option, separator_option, bad_option, letters_option, is_field, is_separator, is_letter, number_of, begins, is_list}
 use Rattle.cidr_filter.specs.Reading.{ReadsOption, next_place, ReadsOptions, ReadsLists, StopsAtOption, Stops, HoldsRead}
-use Rattle.program_io.specs.Told.{name_at}
+use Rattle.program.specs.Told.{name_at}
 use Rattle.cidr_filter.specs.Private.Reading.{ReadsAll, HasBlocks}
 use Rattle.cidr_filter.specs.declared.filter.Bad.TheVariants as bads
 use Rattle.cidr_filter.specs.declared.listed.Listed.{Listed}

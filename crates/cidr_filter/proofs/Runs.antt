@@ -6,14 +6,14 @@ use Rattle.std.specs.Io.KnownBytes.{Appends}
 use Rattle.std.proofs.lemmas.Bool.{ne_eqb}
 use Rattle.std.proofs.lemmas.Bool.Decides.{nat_tests}
 use Rattle.std.proofs.lemmas.List.{take_all, take_more, map_push}
-use Rattle.address_lists.specs.Lists.{ReadLists, nothing_read}
-use Rattle.address_lists.specs.Refusals.{Refused, no_refusals}
+use Rattle.lists.specs.Lists.{ReadLists, nothing_read}
+use Rattle.lists.specs.Refusals.{Refused, no_refusals}
 use Rattle.line_engine.specs.declared.output.Output.{Output}
 use Rattle.line_engine.specs.Outputs.{writer_of, waits_in, output_failed, Puts, AppendsBeginning}
 use Rattle.line_engine.proofs.Putting.{begins_after_puts}
-use Rattle.program_io.specs.Endings.{Ending, HasTold, HasWritten, status_of, end_text}
-use Rattle.program_io.specs.Messages.{Tells}
-use Rattle.program_io.specs.Lists.{KnownLists}
+use Rattle.program.specs.Endings.{Ending, HasTold, HasWritten, status_of, end_text}
+use Rattle.program.specs.Messages.{Tells}
+use Rattle.lists.specs.KnownLists.{KnownLists}
 use Rattle.cidr_filter.specs.Commands.{Asks}
 use Rattle.cidr_filter.specs.Filters.{Filters}
 use Rattle.cidr_filter.specs.Lines.{LogLine}
@@ -21,7 +21,7 @@ use Rattle.cidr_filter.specs.Logs.{logs_of, HaltsBy}
 use Rattle.cidr_filter.specs.Reading.{Stops, HoldsRead}
 use Rattle.cidr_filter.specs.Runs.{FailsWriting, Wrote, Refuses, StopsAtLog, total_text, FiltersAll, EndsFiltering, EndsRequest, About, EndsAs}
 use Rattle.cidr_filter.specs.Stands.{Stand, stand, Counts}
-use Rattle.program_io.specs.Told.{was_refused, fault_text}
+use Rattle.program.specs.Told.{was_refused, fault_text}
 use Rattle.cidr_filter.specs.Told.{refusals_text, line_text, log_fault_text}
 use Rattle.cidr_filter.specs.Private.Reading.{ReadsAll}
 use Rattle.cidr_filter.specs.Private.Runs.{FiltersNames, PutsBy, HandsOn, StopsBy, EndsListed, EndsBy}
@@ -32,7 +32,7 @@ use Rattle.cidr_filter.specs.declared.listed.Listed.{Listed}
 use Rattle.cidr_filter.specs.declared.log.LogFault.{LogFault}
 use Rattle.cidr_filter.specs.declared.log.LogFault.TheVariants as faults
 use Rattle.cidr_filter.specs.declared.log.Tally.{Tally}
-use Rattle.program_io.specs.declared.reading.ReadFault.{ReadFault}
+use Rattle.lists.specs.declared.named.ReadFault.{ReadFault}
 use Rattle.cidr_filter.proofs.LogsInTurn.{names_both, some_first, filters_both, puts_then_all}
 use Rattle.cidr_filter.proofs.Stopping.{failed_now}
 

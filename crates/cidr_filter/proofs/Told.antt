@@ -5,8 +5,8 @@ use Rattle.std.specs.String.{string_bytes}
 use Rattle.std.proofs.lemmas.List.{take_all, drop_all}
 use Rattle.std.proofs.lemmas.Bool.{cases_lt}
 use Rattle.std.proofs.lemmas.Bool.Decides.{nat_tests}
-use Rattle.program_io.specs.Told.{name_at}
-use Rattle.program_io.proofs.Told.{name_within, name_past}
+use Rattle.program.specs.Told.{name_at}
+use Rattle.program.proofs.Told.{name_within, name_past}
 use Rattle.cidr_filter.specs.Filters.{one_if}
 use Rattle.cidr_filter.specs.Options.{is, takes_next, behind_option}
 use Rattle.cidr_filter.specs.Told.{is_text, texts_in}

@@ -2,7 +2,7 @@
 use Rattle.std.proofs.Common.{◌≡◌, List, [], ◌∷◌, true, false, inl, inr, refl}
 use Rattle.std.specs.Prelude.{codes, String, Some, None}
 use Rattle.std.specs.String.{string_bytes}
-use Rattle.program_io.specs.declared.usage.Subject.TheVariants as subjects
+use Rattle.program.specs.declared.usage.Subject.TheVariants as subjects
 use Rattle.cidr_filter.specs.Commands.{is_only, Asks}
 use Rattle.cidr_filter.specs.Usage.{about, value_problem, word_problem, option_fault, rest_fault, together_by, HasFault}
 use Rattle.cidr_filter.specs.declared.command_line.Command.TheVariants as commands

@@ -2,12 +2,12 @@
 use Rattle.std.specs.Prelude.{◌≡◌, ℕ, ◌+◌, ◌-◌, Bool, true, false, List, [], ◌∷◌, length, None, Some, String}
 use Rattle.std.specs.Str.Lines.{lines}
 use Rattle.ipnetwork_blocks.specs.Aggregate.{IsAggregate}
-use Rattle.address_lists.specs.Lists.{ReadLists, nothing_read, at_list, TakesLines}
-use Rattle.address_lists.specs.Refusals.{Refused, no_refusals}
-use Rattle.program_io.specs.Lists.{KnownLists}
-use Rattle.program_io.specs.Reading.{ReadsList, StopsAt, StopsAtText}
-use Rattle.program_io.specs.Told.{name_at}
-use Rattle.program_io.specs.declared.reading.ReadFault.{ReadFault}
+use Rattle.lists.specs.Lists.{ReadLists, nothing_read, at_list, TakesLines}
+use Rattle.lists.specs.Refusals.{Refused, no_refusals}
+use Rattle.lists.specs.KnownLists.{KnownLists}
+use Rattle.lists.specs.Reading.{ReadsList, StopsAt, StopsAtText}
+use Rattle.program.specs.Told.{name_at}
+use Rattle.lists.specs.declared.named.ReadFault.{ReadFault}
 use Rattle.cidr_filter.specs.CommandLines.{Begin}
 use Rattle.cidr_filter.specs.Listed.{HasBlocksOf}
 use Rattle.cidr_filter.specs.Options.{option_of, behind_option}

@@ -1,15 +1,15 @@
 -- How a run ends: its exit status, what was written, and what was reported.
 use Rattle.std.specs.Prelude.{◌≡◌, ℕ, ◌-◌, ◌^◌, min, List, [], ◌∷◌, ◌++◌, Bool, true, false, ◌⊎◌, if◌then◌else◌, length, nat_lt, drop, codes, decimal, String}
-use Rattle.address_lists.specs.Lists.{ReadLists, nothing_read}
-use Rattle.address_lists.specs.Refusals.{Refused, no_refusals}
+use Rattle.lists.specs.Lists.{ReadLists, nothing_read}
+use Rattle.lists.specs.Refusals.{Refused, no_refusals}
 use Rattle.line_engine.specs.declared.output.Output.{Output}
 use Rattle.line_engine.specs.Outputs.{writer_of, waits_in, output_failed, AppendsBeginning}
-use Rattle.program_io.specs.Endings.{Ending, IsSilent, HasTold, HasWritten, EndsPrinting}
-use Rattle.program_io.specs.Messages.{Tells}
-use Rattle.program_io.specs.Told.{was_refused, fault_text}
-use Rattle.program_io.specs.declared.reading.ReadFault.{ReadFault}
-use Rattle.program_io.specs.Lists.{KnownLists}
-use Rattle.program_io.specs.Usage.{usage_text}
+use Rattle.program.specs.Endings.{Ending, IsSilent, HasTold, HasWritten, EndsPrinting}
+use Rattle.program.specs.Messages.{Tells}
+use Rattle.program.specs.Told.{was_refused, fault_text}
+use Rattle.lists.specs.declared.named.ReadFault.{ReadFault}
+use Rattle.lists.specs.KnownLists.{KnownLists}
+use Rattle.program.specs.Usage.{usage_text}
 use Rattle.cidr_filter.specs.Filters.{Filters}
 use Rattle.cidr_filter.specs.Logs.{logs_of, FiltersLogs, HaltsBy}
 use Rattle.cidr_filter.specs.Reading.{IsReadOf, Stops, HoldsRead}

@@ -1,10 +1,10 @@
 -- What is reported on standard error.
 use Rattle.std.specs.Prelude.{ℕ, ◌+◌, ◌-◌, ◌^◌, min, ◌&&◌, Bool, List, [], ◌∷◌, ◌++◌, nat_lt, if◌then◌else◌, codes, bytes_eq, decimal, take, String}
 use Rattle.std.specs.List.{flat_map}
-use Rattle.address_lists.specs.Faults.{line_fault_text}
-use Rattle.address_lists.specs.Refusals.{Refused}
-use Rattle.address_lists.specs.declared.refusals.Refusal.{Refusal}
-use Rattle.program_io.specs.Told.{name_at, more_text}
+use Rattle.lists.specs.Faults.{line_fault_text}
+use Rattle.lists.specs.Refusals.{Refused}
+use Rattle.lists.specs.declared.refusals.Refusal.{Refusal}
+use Rattle.program.specs.Told.{name_at, more_text}
 use Rattle.cidr_filter.specs.Filters.{one_if}
 use Rattle.cidr_filter.specs.Options.{is, takes_next}
 use Rattle.cidr_filter.specs.declared.log.LogFault.{LogFault}

@@ -9,7 +9,7 @@ ghost use Rattle.cidr_filter.specs.Usage.{HasFault, together_by};
 use crate::filter::Bad;
 use crate::options::{Choice, behind, choice_at, is, is_list};
 use crate::usage::{Problem, UsageFault, about, rest_fault};
-use program_io::usage::Subject;
+use program::usage::Subject;
 
 /// What a run is asked for. Its options are the words before `files`, and the FILEs those from there on.
 #[derive(Clone, Copy, Debug, PartialEq, Eq)]

@@ -2,7 +2,6 @@
 ghost use Rattle.std.specs.Prelude.{◌≡◌, ◌<◌, ◌++◌, ◌||◌, ◌∷◌, [], true, false, decimal, length, nat_lt, if◌then◌else◌, is_err, OnOk, OnErr, IfErr};
 ghost use Rattle.std.specs.Io.KnownBytes.{Appends};
 ghost use Rattle.line_engine.specs.Outputs.{writer_of, waits_in, output_failed, Puts, AppendsBeginning};
-ghost use Rattle.program_io.specs.Lists.{known_of};
 ghost use Rattle.cidr_filter.specs.Logs.{logs_of};
 ghost use Rattle.cidr_filter.specs.Runs.{EndsLogs, StopsAtLog, total_text};
 ghost use Rattle.cidr_filter.specs.Stands.{stand};
@@ -14,9 +13,9 @@ use crate::telling::tell_log_fault;
 use line_engine::fault::RunFault;
 use line_engine::output::Output;
 use line_engine::watched::Watched;
-use program_io::ending::{FAILED, end};
-use program_io::lists::OpenLists;
-use program_io::messages::number_text;
+use lists::OpenLists;
+use program::ending::{FAILED, end};
+use program::messages::number_text;
 use std::io::Write;
 
 /// The exit status if a line was selected.
@@ -36,7 +35,7 @@ pub(crate) fn filter_logs<L: OpenLists, W: Write, E: Write>(
     errors: &mut Output<'_, E>,
 ) -> u8
     requires { 1048578 < length buffer.old }
-    ensures { EndsLogs filter.now counts (known_of L.bytes_of L.may_open L.may_fail lists.now) (logs_of files.now)
+    ensures { EndsLogs filter.now counts (L.known lists.now) (logs_of files.now)
         (record { holds = W.contents; output = output.old; output_after = output.new; tells = E.contents; errors = errors.old; errors_after = errors.new; status = result }) }
 {
     let mut tally = Tally {
@@ -65,10 +64,10 @@ fn filter_each<L: OpenLists, W: Write, E: Write>(
     errors: &mut Output<'_, E>,
 ) -> bool
     requires { 1048578 < length buffer.old }
-    ensures all { result ≡ true → (errors.new ≡ errors.old) × FiltersNames filter.now counts (known_of L.bytes_of L.may_open L.may_fail lists.now) (logs_of files.now)
+    ensures all { result ≡ true → (errors.new ≡ errors.old) × FiltersNames filter.now counts (L.known lists.now) (logs_of files.now)
         (stand (W.contents (writer_of output.old)) (waits_in output.old) tally.old)
         (stand (W.contents (writer_of output.new)) (waits_in output.new) tally.new) }
-    ensures stopped { result ≡ false → StopsAtLog filter.now counts (known_of L.bytes_of L.may_open L.may_fail lists.now) (logs_of files.now)
+    ensures stopped { result ≡ false → StopsAtLog filter.now counts (L.known lists.now) (logs_of files.now)
         (record { holds = W.contents; output = output.old; output_after = output.new; tells = E.contents; errors = errors.old; errors_after = errors.new; status = 2 }) }
 {
     if files.is_empty() {
@@ -96,10 +95,10 @@ fn filter_one<L: OpenLists, W: Write, E: Write>(
     errors: &mut Output<'_, E>,
 ) -> bool
     requires { 1048578 < length buffer.old }
-    ensures all { result ≡ true → (errors.new ≡ errors.old) × FiltersNames filter.now counts (known_of L.bytes_of L.may_open L.may_fail lists.now) (name.now ∷ [])
+    ensures all { result ≡ true → (errors.new ≡ errors.old) × FiltersNames filter.now counts (L.known lists.now) (name.now ∷ [])
         (stand (W.contents (writer_of output.old)) (waits_in output.old) tally.old)
         (stand (W.contents (writer_of output.new)) (waits_in output.new) tally.new) }
-    ensures stopped { result ≡ false → StopsAtLog filter.now counts (known_of L.bytes_of L.may_open L.may_fail lists.now) (name.now ∷ [])
+    ensures stopped { result ≡ false → StopsAtLog filter.now counts (L.known lists.now) (name.now ∷ [])
         (record { holds = W.contents; output = output.old; output_after = output.new; tells = E.contents; errors = errors.old; errors_after = errors.new; status = 2 }) }
 {
     match filter_named(filter, counts, name, lists, buffer, output, tally) {
@@ -122,10 +121,10 @@ fn filter_named<L: OpenLists, W: Write>(
     tally: &mut Tally,
 ) -> Result<(), LogFault>
     requires { 1048578 < length buffer.old }
-    ensures ok { OnOk result (FiltersName filter.now counts (known_of L.bytes_of L.may_open L.may_fail lists.now) name.now
+    ensures ok { OnOk result (FiltersName filter.now counts (L.known lists.now) name.now
         (stand (W.contents (writer_of output.old)) (waits_in output.old) tally.old)
         (stand (W.contents (writer_of output.new)) (waits_in output.new) tally.new)) }
-    ensures err { IfErr result (NameStops filter.now counts (known_of L.bytes_of L.may_open L.may_fail lists.now) name.now (output_failed output.new)
+    ensures err { IfErr result (NameStops filter.now counts (L.known lists.now) name.now (output_failed output.new)
         (stand (W.contents (writer_of output.old)) (waits_in output.old) tally.old)
         (stand (W.contents (writer_of output.new)) (waits_in output.new) tally.new)) }
 {

@@ -1,20 +1,17 @@
 //! Reads the lists of a run.
 ghost use Rattle.std.specs.Prelude.{◌≡◌, ◌+◌, ◌≤◌, false, true, drop, length, Some, OnOk, IfOk, IfErr};
-ghost use Rattle.address_lists.specs.Lists.{nothing_read};
-ghost use Rattle.address_lists.specs.Refusals.{no_refusals};
-ghost use Rattle.address_lists.specs.ReadBy.{read_by};
-ghost use Rattle.program_io.specs.Lists.{known_of};
-ghost use Rattle.program_io.specs.Told.{name_at};
+ghost use Rattle.lists.specs.Lists.{nothing_read};
+ghost use Rattle.lists.specs.Refusals.{no_refusals};
+ghost use Rattle.lists.specs.ReadBy.{read_by};
+ghost use Rattle.program.specs.Told.{name_at};
 ghost use Rattle.cidr_filter.specs.Options.{option_of};
 ghost use Rattle.cidr_filter.specs.Reading.{ReadsOption, ReadsLists, StopsAtOption, Stops, HoldsRead};
 ghost use Rattle.cidr_filter.specs.Private.Reading.{ReadsAll, HasBlocks};
 
 use crate::listed::{Listed, Sets, Tables};
 use crate::options::{Choice, behind, choice_at, is_list};
-use address_lists::{ListReader, Refusals};
 use ipnetwork::{Ipv4Network, Ipv6Network};
-use program_io::lists::OpenLists;
-use program_io::reading::{ReadFault, read_named, read_text};
+use lists::{ListReader, OpenLists, ReadFault, Refusals, read_named, read_text};
 use std::alloc::{AllocError, Global};
 
 /// Reads the lists that the options name, in their order. Returns the networks (as blocks if `longest`, and else as a
@@ -25,8 +22,8 @@ pub(crate) fn read_listed<L: OpenLists>(
     words: &[String],
     longest: bool,
 ) -> (Result<Listed, AllocError>, Refusals, Result<(), ReadFault>)
-    ensures read { OnOk result.2 (ReadsAll (known_of L.bytes_of L.may_open L.may_fail lists.now) words.now longest result.0 result.1) }
-    ensures stopped { IfErr result.2 (λ fault. Stops (known_of L.bytes_of L.may_open L.may_fail lists.now) words.now (nothing_read no_refusals) fault result.1) }
+    ensures read { OnOk result.2 (ReadsAll (L.known lists.now) words.now longest result.0 result.1) }
+    ensures stopped { IfErr result.2 (λ fault. Stops (L.known lists.now) words.now (nothing_read no_refusals) fault result.1) }
 {
     let mut reader = ListReader::new(alloc, Refusals::new());
     let end = read_lists(lists, words, &mut reader);
@@ -59,9 +56,9 @@ fn read_lists<L: OpenLists>(
     reader: &mut ListReader,
 ) -> Result<(), ReadFault>
     requires memory { (read_by reader.old).is_out_of_memory ≡ false }
-    ensures read { OnOk result (ReadsLists (known_of L.bytes_of L.may_open L.may_fail lists.now) words.now (read_by reader.old) (read_by reader.new)) }
+    ensures read { OnOk result (ReadsLists (L.known lists.now) words.now (read_by reader.old) (read_by reader.new)) }
     ensures memory { OnOk result ((read_by reader.new).is_out_of_memory ≡ false) }
-    ensures stopped { IfErr result (λ fault. Stops (known_of L.bytes_of L.may_open L.may_fail lists.now) words.now (read_by reader.old) fault (read_by reader.new).refused) }
+    ensures stopped { IfErr result (λ fault. Stops (L.known lists.now) words.now (read_by reader.old) fault (read_by reader.new).refused) }
 {
     let mut at = 0;
     'options: while let Some(choice) = choice_at(words, at) {
@@ -82,9 +79,9 @@ fn read_option<L: OpenLists>(
     requires within { at ≤ length words.now }
     requires option { option_of (drop at words.now) ≡ Some choice }
     requires memory { (read_by reader.old).is_out_of_memory ≡ false }
-    ensures read { OnOk result (ReadsOption (known_of L.bytes_of L.may_open L.may_fail lists.now) (at + 1) choice (name_at (drop at words.now) 1) (read_by reader.old) (read_by reader.new)) }
+    ensures read { OnOk result (ReadsOption (L.known lists.now) (at + 1) choice (name_at (drop at words.now) 1) (read_by reader.old) (read_by reader.new)) }
     ensures memory { OnOk result ((read_by reader.new).is_out_of_memory ≡ false) }
-    ensures stopped { IfErr result (λ fault. StopsAtOption (known_of L.bytes_of L.may_open L.may_fail lists.now) (at + 1) choice (name_at (drop at words.now) 1) (read_by reader.old) fault (read_by reader.new).refused) }
+    ensures stopped { IfErr result (λ fault. StopsAtOption (L.known lists.now) (at + 1) choice (name_at (drop at words.now) 1) (read_by reader.old) fault (read_by reader.new).refused) }
 {
     if !is_list(choice) {
         return Ok(());

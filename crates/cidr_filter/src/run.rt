@@ -1,8 +1,7 @@
 //! The run that the program makes.
 ghost use Rattle.std.specs.Prelude.{◌≡◌, ◌≤◌, length, codes};
-ghost use Rattle.program_io.specs.Messages.{Tells};
-ghost use Rattle.program_io.specs.Usage.{usage_text};
-ghost use Rattle.program_io.specs.Lists.{known_of};
+ghost use Rattle.program.specs.Messages.{Tells};
+ghost use Rattle.program.specs.Usage.{usage_text};
 ghost use Rattle.cidr_filter.specs.Commands.{Asks};
 ghost use Rattle.cidr_filter.specs.Logs.{logs_of};
 ghost use Rattle.cidr_filter.specs.Runs.{EndsRequest, EndsAs};
@@ -18,11 +17,11 @@ use crate::reading::read_listed;
 use crate::telling::tell_refusals;
 use crate::usage::UsageFault;
 use line_engine::output::Output;
-use program_io::ending::{FAILED, print_text};
-use program_io::lists::OpenLists;
-use program_io::messages::tell;
-use program_io::telling::tell_fault;
-use program_io::usage::{Usage, refuse_usage};
+use lists::OpenLists;
+use program::ending::{FAILED, print_text};
+use program::messages::tell;
+use program::telling::tell_fault;
+use program::usage::{Usage, refuse_usage};
 use std::alloc::{AllocError, Global};
 use std::io::Write;
 
@@ -37,7 +36,7 @@ pub(crate) fn run<L: OpenLists, W: Write, E: Write>(
     output: &mut Output<'_, W>,
     errors: &mut Output<'_, E>,
 ) -> u8
-    ensures { (command : Command) × Asks words.now command × EndsAs (record { name = PROGRAM.now; help = HELP.now; version = VERSION.now; usage = USAGE.now }) (known_of L.bytes_of L.may_open L.may_fail lists.now) words.now command
+    ensures { (command : Command) × Asks words.now command × EndsAs (record { name = PROGRAM.now; help = HELP.now; version = VERSION.now; usage = USAGE.now }) (L.known lists.now) words.now command
         (record { holds = W.contents; output = output.old; output_after = output.new; tells = E.contents; errors = errors.old; errors_after = errors.new; status = result }) }
 {
     match command_of(words) {
@@ -70,7 +69,7 @@ fn filter<L: OpenLists, W: Write, E: Write>(
     errors: &mut Output<'_, E>,
 ) -> u8
     requires { request.files ≤ length words.now }
-    ensures { EndsRequest (known_of L.bytes_of L.may_open L.may_fail lists.now) words.now request
+    ensures { EndsRequest (L.known lists.now) words.now request
         (record { holds = W.contents; output = output.old; output_after = output.new; tells = E.contents; errors = errors.old; errors_after = errors.new; status = result }) }
 {
     let (listed, refusals, read) = read_listed(alloc, lists, words, request.longest);
@@ -100,7 +99,7 @@ fn filter_by<L: OpenLists, W: Write, E: Write>(
     output: &mut Output<'_, W>,
     errors: &mut Output<'_, E>,
 ) -> u8
-    ensures { EndsBy (known_of L.bytes_of L.may_open L.may_fail lists.now) request listed (logs_of files.now)
+    ensures { EndsBy (L.known lists.now) request listed (logs_of files.now)
         (record { holds = W.contents; output = output.old; output_after = output.new; tells = E.contents; errors = errors.old; errors_after = errors.new; status = result }) }
 {
     match listed {
@@ -119,7 +118,7 @@ fn filter_listed<L: OpenLists, W: Write, E: Write>(
     output: &mut Output<'_, W>,
     errors: &mut Output<'_, E>,
 ) -> u8
-    ensures { EndsListed (known_of L.bytes_of L.may_open L.may_fail lists.now) request listed (logs_of files.now)
+    ensures { EndsListed (L.known lists.now) request listed (logs_of files.now)
         (record { holds = W.contents; output = output.old; output_after = output.new; tells = E.contents; errors = errors.old; errors_after = errors.new; status = result }) }
 {
     let Ok(mut buffer) = vec![in alloc; 0u8; BUFFER_LEN] else {

@@ -1,16 +1,16 @@
 //! Messages on the error writer. If a write of one fails, nothing else changes.
 ghost use Rattle.std.specs.Prelude.{◌≡◌, ◌++◌, codes, take};
-ghost use Rattle.program_io.specs.Messages.{Tells};
+ghost use Rattle.program.specs.Messages.{Tells};
 ghost use Rattle.cidr_filter.specs.Filters.{one_if};
 ghost use Rattle.cidr_filter.specs.Options.{is};
 ghost use Rattle.cidr_filter.specs.Told.{is_text, texts_in, refusal_place, refusal_line, refusals_text, line_text, log_fault_text};
 
 use crate::log::LogFault;
 use crate::options::{behind, is};
-use address_lists::{Refusal, Refusals};
 use line_engine::output::Output;
-use program_io::messages::{tell, tell_number};
-use program_io::telling::{tell_more, tell_name};
+use lists::{Refusal, Refusals};
+use program::messages::{tell, tell_number};
+use program::telling::{tell_more, tell_name};
 use std::io::Write;
 
 /// Reports the refused lines: the first hundred, and how many more there were.

@@ -4,7 +4,7 @@ ghost use Rattle.cidr_filter.specs.CommandLines.{is_plain, is_name};
 ghost use Rattle.cidr_filter.specs.Usage.{about, problem_text, value_problem, word_problem, option_fault, names_fault, files_fault, rest_fault};
 
 use crate::options::{is, takes_next};
-use program_io::usage::Subject;
+use program::usage::Subject;
 
 /// What is wrong with a word, with the value of an option, or with a command line.
 #[derive(Clone, Copy, Debug, PartialEq, Eq)]

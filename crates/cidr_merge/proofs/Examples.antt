@@ -6,8 +6,8 @@ use Rattle.std.specs.String.{string_bytes}
 use Rattle.ipnetwork_family.specs.Network.{Network}
 use Rattle.ipnetwork_family.specs.Family.{v4_family}
 use Rattle.ipnetwork_blocks.specs.Aggregate.{InUnion}
-use Rattle.list_entries.specs.declared.entry.EntryFault.TheVariants.{Prefix}
-use Rattle.address_lists.specs.declared.fault.LineFault.TheVariants.{Entry}
+use Rattle.lists.specs.declared.entry.EntryFault.TheVariants.{Prefix}
+use Rattle.lists.specs.declared.fault.LineFault.TheVariants.{Entry}
 use Rattle.cidr_merge.specs.Answers.{IsLeft, IsLeftOfSecond, AreBoth, merged, merged_ranges, block_line, range_line}
 use Rattle.cidr_merge.specs.CommandLines.{is, begins_dashed, is_dashed, is_name, is_option, is_only, operation_called, operation_named, options_of, lists_of, are_options, are_lists, are_sides, before_dashes, behind_dashes, form_of}
 use Rattle.cidr_merge.specs.Runs.{answer_status}

@@ -4,17 +4,17 @@ use Rattle.std.specs.Prelude.{codes, ◌&&◌, String, Some, slice_range}
 use Rattle.std.specs.List.{Contains}
 use Rattle.std.specs.String.{string_bytes}
 use Rattle.ipnetwork_blocks.specs.Aggregate.{IsAggregate}
-use Rattle.address_lists.specs.Lists.{ReadLists, nothing_read, at_list, TakesLines}
-use Rattle.address_lists.specs.Refusals.{Refused, no_refusals}
+use Rattle.lists.specs.Lists.{ReadLists, nothing_read, at_list, TakesLines}
+use Rattle.lists.specs.Refusals.{Refused, no_refusals}
 use Rattle.line_engine.specs.Outputs.{output_failed}
 use Rattle.line_engine.specs.declared.output.Output.{Output}
-use Rattle.program_io.specs.Endings.{Ending, HasTold, HasWritten}
-use Rattle.program_io.specs.Lists.{KnownLists}
-use Rattle.program_io.specs.Messages.{Tells}
-use Rattle.program_io.specs.Reading.{StopsAt}
-use Rattle.program_io.specs.Told.{was_refused, fault_text}
-use Rattle.program_io.specs.Usage.{usage_text}
-use Rattle.program_io.specs.declared.reading.ReadFault.{ReadFault}
+use Rattle.program.specs.Endings.{Ending, HasTold, HasWritten}
+use Rattle.lists.specs.KnownLists.{KnownLists}
+use Rattle.program.specs.Messages.{Tells}
+use Rattle.lists.specs.Reading.{StopsAt}
+use Rattle.program.specs.Told.{was_refused, fault_text}
+use Rattle.program.specs.Usage.{usage_text}
+use Rattle.lists.specs.declared.named.ReadFault.{ReadFault}
 use Rattle.cidr_merge.specs.Answers.{IsAnswer}
 use Rattle.cidr_merge.specs.CommandLines.{has, operation_named, options_of, lists_of, before_dashes, behind_dashes, are_options, are_lists, are_sides, form_of, AreFor, Says, AreForNone}
 use Rattle.cidr_merge.specs.Commands.{Asks}

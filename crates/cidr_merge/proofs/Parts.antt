@@ -17,10 +17,10 @@ use Rattle.ipnetwork_blocks.specs.Aggregate.{InUnion, IsAggregate}
 use Rattle.ipnetwork_blocks.specs.AggregateLaws.{AggregateHasUnion}
 use Rattle.ipnetwork_blocks.specs.LeastList.{IsLeastList}
 use Rattle.ipnetwork_blocks.proofs.LeastLists.{contains_cons, contains_head, contains_tail, contains_nil, least_of_same, least_of_none, least_unique}
-use Rattle.address_lists.specs.Lists.{HasAddress, nothing_read, at_list, LinesName, LinesAddWhatTheyName}
-use Rattle.address_lists.specs.Printed.{printed, PrintedListsNameTheirNetworks}
-use Rattle.address_lists.specs.Refusals.{no_refusals}
-use Rattle.address_lists.proofs.Printed.{contains_map, map_contains}
+use Rattle.lists.specs.Lists.{HasAddress, nothing_read, at_list, LinesName, LinesAddWhatTheyName}
+use Rattle.lists.specs.Printed.{printed, PrintedListsNameTheirNetworks}
+use Rattle.lists.specs.Refusals.{no_refusals}
+use Rattle.lists.proofs.Printed.{contains_map, map_contains}
 use Rattle.cidr_merge.specs.Answers.{IsLeft, IsLeftOfSecond, merged, block_line, AreBlockLines}
 use Rattle.cidr_merge.specs.Parts.{UnionPrints, UnionsPrint, HaveLines, AreShort, UnionsOfPartsPrintTheSame}
 use Rattle.cidr_merge.specs.declared.command_line.Operation.TheVariants.{Union}

@@ -4,10 +4,10 @@ use Rattle.std.specs.Prelude.{Result, Ok, Err, OnOk, String, slice_range}
 use Rattle.std.specs.String.{string_bytes}
 use Rattle.std.proofs.lemmas.List.{take_more, get_or-drop, take_all}
 use Rattle.ipnetwork_blocks.specs.Aggregate.{IsAggregate}
-use Rattle.address_lists.specs.Lists.{ReadLists, nothing_read}
-use Rattle.address_lists.specs.Refusals.{Refused}
-use Rattle.program_io.specs.Lists.{KnownLists}
-use Rattle.program_io.specs.Reading.{ReadsList}
+use Rattle.lists.specs.Lists.{ReadLists, nothing_read}
+use Rattle.lists.specs.Refusals.{Refused}
+use Rattle.lists.specs.KnownLists.{KnownLists}
+use Rattle.lists.specs.Reading.{ReadsList}
 use Rattle.cidr_merge.specs.Reading.{ReadsLists, ReadsSide}
 use Rattle.cidr_merge.specs.declared.reading.Sets.{Sets}
 

@@ -1,13 +1,13 @@
 -- How a run ends.
 use Rattle.std.proofs.Common.{◌≡◌, ◌==◌, ℕ, List, Bool, not, sym, subst, inl, inr, length}
 use Rattle.std.specs.Prelude.{Result, Ok, Err, OnOk, IfErr, String, slice_range}
-use Rattle.address_lists.specs.Lists.{nothing_read}
-use Rattle.address_lists.specs.Refusals.{Refused, no_refusals}
+use Rattle.lists.specs.Lists.{nothing_read}
+use Rattle.lists.specs.Refusals.{Refused, no_refusals}
 use Rattle.line_engine.specs.declared.output.Output.{Output}
-use Rattle.program_io.specs.Endings.{Ending, IsSilent}
-use Rattle.program_io.specs.Lists.{KnownLists}
-use Rattle.program_io.specs.Messages.{Tells}
-use Rattle.program_io.specs.Told.{fault_text}
+use Rattle.program.specs.Endings.{Ending, IsSilent}
+use Rattle.lists.specs.KnownLists.{KnownLists}
+use Rattle.program.specs.Messages.{Tells}
+use Rattle.program.specs.Told.{fault_text}
 use Rattle.cidr_merge.specs.Commands.{Asks}
 use Rattle.cidr_merge.specs.Reading.{ReadsSide, ReadsSides}
 use Rattle.cidr_merge.specs.Runs.{EndsAnswering, EndsMerging, About, EndsAs}
@@ -15,7 +15,7 @@ use Rattle.cidr_merge.specs.Stopping.{Stops, StopsInSides}
 use Rattle.cidr_merge.specs.Told.{refusals_text}
 use Rattle.cidr_merge.specs.declared.command_line.Command.{Command}
 use Rattle.cidr_merge.specs.declared.command_line.Request.{Request}
-use Rattle.program_io.specs.declared.reading.ReadFault.{ReadFault}
+use Rattle.lists.specs.declared.named.ReadFault.{ReadFault}
 use Rattle.cidr_merge.specs.declared.reading.Sets.{Sets}
 use Rattle.cidr_merge.proofs.ReadInTurn.{slice_rest}
 

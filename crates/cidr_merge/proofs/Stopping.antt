@@ -3,13 +3,13 @@ use Rattle.std.proofs.Common.{◌≡◌, ◌<◌, ◌≤◌, ◌+◌, ◌-◌, �
 use Rattle.std.proofs.Math.Seq.{take-add}
 use Rattle.std.specs.Prelude.{Result, Ok, Err, OnOk, IfErr, String, slice_range}
 use Rattle.std.specs.String.{string_bytes}
-use Rattle.address_lists.specs.Lists.{ReadLists, nothing_read}
-use Rattle.address_lists.specs.Refusals.{Refused}
-use Rattle.program_io.specs.Lists.{KnownLists}
-use Rattle.program_io.specs.Reading.{StopsAt}
+use Rattle.lists.specs.Lists.{ReadLists, nothing_read}
+use Rattle.lists.specs.Refusals.{Refused}
+use Rattle.lists.specs.KnownLists.{KnownLists}
+use Rattle.lists.specs.Reading.{StopsAt}
 use Rattle.cidr_merge.specs.Reading.{ReadsLists, ReadsSide}
 use Rattle.cidr_merge.specs.Stopping.{Stops}
-use Rattle.program_io.specs.declared.reading.ReadFault.{ReadFault}
+use Rattle.lists.specs.declared.named.ReadFault.{ReadFault}
 use Rattle.cidr_merge.specs.declared.reading.Sets.{Sets}
 use Rattle.cidr_merge.proofs.ReadInTurn.{slice_more, slice_count, slice_none}
 

@@ -2,7 +2,7 @@
 use Rattle.std.proofs.Common.{◌≡◌, ℕ, List, ◌∷◌, [], refl}
 use Rattle.std.specs.Prelude.{codes, String, Some, None}
 use Rattle.std.specs.String.{string_bytes}
-use Rattle.program_io.specs.Usage.{usage_text}
+use Rattle.program.specs.Usage.{usage_text}
 use Rattle.cidr_merge.specs.CommandLines.{operation_named, AreFor}
 use Rattle.cidr_merge.specs.Usage.{problem_text, at_word, fault_in}
 use Rattle.cidr_merge.specs.declared.command_line.Operation.{Operation}

@@ -3,8 +3,8 @@ use Rattle.std.specs.Prelude.{◌≡◌, ◌↔◌, ◌≤◌, ℕ, false, List,
 use Rattle.std.specs.List.{Contains}
 use Rattle.std.specs.Str.Lines.{lines}
 use Rattle.ipnetwork_blocks.specs.Aggregate.{IsAggregate}
-use Rattle.address_lists.specs.Lists.{ReadLists, nothing_read, at_list, TakesLines}
-use Rattle.address_lists.specs.Refusals.{no_refusals}
+use Rattle.lists.specs.Lists.{ReadLists, nothing_read, at_list, TakesLines}
+use Rattle.lists.specs.Refusals.{no_refusals}
 use Rattle.cidr_merge.specs.Answers.{IsAnswer}
 use Rattle.cidr_merge.specs.declared.command_line.Operation.TheVariants.{Union}
 use Rattle.cidr_merge.specs.declared.command_line.Form.TheVariants.{Blocks}

@@ -2,10 +2,10 @@
 use Rattle.std.specs.Prelude.{◌≡◌, ℕ, ◌+◌, List, [], ◌∷◌, false, String, slice_range, drop}
 use Rattle.std.specs.String.{string_bytes}
 use Rattle.ipnetwork_blocks.specs.Aggregate.{IsAggregate}
-use Rattle.address_lists.specs.Lists.{ReadLists, nothing_read}
-use Rattle.address_lists.specs.Refusals.{Refused, no_refusals}
-use Rattle.program_io.specs.Lists.{KnownLists}
-use Rattle.program_io.specs.Reading.{ReadsList}
+use Rattle.lists.specs.Lists.{ReadLists, nothing_read}
+use Rattle.lists.specs.Refusals.{Refused, no_refusals}
+use Rattle.lists.specs.KnownLists.{KnownLists}
+use Rattle.lists.specs.Reading.{ReadsList}
 use Rattle.cidr_merge.specs.declared.command_line.Request.{Request}
 use Rattle.cidr_merge.specs.declared.reading.Sets.{Sets}
 

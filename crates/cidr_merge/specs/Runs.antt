@@ -1,18 +1,18 @@
 -- How a run ends: its exit status, what was written, and what was reported.
 use Rattle.std.specs.Prelude.{◌≡◌, ℕ, List, [], Bool, true, false, not, ◌&&◌, ◌⊎◌, if◌then◌else◌, codes, String}
-use Rattle.address_lists.specs.Refusals.{Refused}
+use Rattle.lists.specs.Refusals.{Refused}
 use Rattle.ipnetwork_sets.specs.Equality.{same_blocks}
 use Rattle.line_engine.specs.declared.output.Output.{Output}
 use Rattle.line_engine.specs.Outputs.{output_failed}
-use Rattle.program_io.specs.Endings.{Ending, IsSilent, HasTold, HasWritten, EndsPrinting}
-use Rattle.program_io.specs.Lists.{KnownLists}
-use Rattle.program_io.specs.Messages.{Tells}
-use Rattle.program_io.specs.Told.{was_refused, fault_text}
-use Rattle.program_io.specs.declared.reading.ReadFault.{ReadFault}
+use Rattle.program.specs.Endings.{Ending, IsSilent, HasTold, HasWritten, EndsPrinting}
+use Rattle.lists.specs.KnownLists.{KnownLists}
+use Rattle.program.specs.Messages.{Tells}
+use Rattle.program.specs.Told.{was_refused, fault_text}
+use Rattle.lists.specs.declared.named.ReadFault.{ReadFault}
 use Rattle.cidr_merge.specs.Answers.{IsAnswer}
 use Rattle.cidr_merge.specs.Reading.{ReadsSides}
 use Rattle.cidr_merge.specs.Stopping.{StopsInSides}
-use Rattle.program_io.specs.Usage.{usage_text}
+use Rattle.program.specs.Usage.{usage_text}
 use Rattle.cidr_merge.specs.Told.{refusals_text}
 use Rattle.cidr_merge.specs.Usage.{problem_text}
 use Rattle.cidr_merge.specs.declared.command_line.Command.{Command}

@@ -1,11 +1,11 @@
 -- Where the reading of lists stops.
 use Rattle.std.specs.Prelude.{◌≡◌, ℕ, ◌+◌, List, ◌∷◌, ◌++◌, ◌⊎◌, false, String, length, slice_range, drop}
 use Rattle.std.specs.String.{string_bytes}
-use Rattle.address_lists.specs.Lists.{ReadLists, nothing_read}
-use Rattle.address_lists.specs.Refusals.{Refused, no_refusals}
-use Rattle.program_io.specs.Lists.{KnownLists}
-use Rattle.program_io.specs.Reading.{StopsAt}
-use Rattle.program_io.specs.declared.reading.ReadFault.{ReadFault}
+use Rattle.lists.specs.Lists.{ReadLists, nothing_read}
+use Rattle.lists.specs.Refusals.{Refused, no_refusals}
+use Rattle.lists.specs.KnownLists.{KnownLists}
+use Rattle.lists.specs.Reading.{StopsAt}
+use Rattle.lists.specs.declared.named.ReadFault.{ReadFault}
 use Rattle.cidr_merge.specs.Reading.{ReadsLists, ReadsSide}
 use Rattle.cidr_merge.specs.declared.command_line.Request.{Request}
 use Rattle.cidr_merge.specs.declared.reading.Sets.{Sets}

@@ -1,10 +1,10 @@
 -- What is reported about refused lines.
 use Rattle.std.specs.Prelude.{ℕ, List, ◌++◌, codes, decimal, String}
 use Rattle.std.specs.List.{flat_map}
-use Rattle.address_lists.specs.Faults.{line_fault_text}
-use Rattle.address_lists.specs.Refusals.{Refused}
-use Rattle.address_lists.specs.declared.refusals.Refusal.{Refusal}
-use Rattle.program_io.specs.Told.{name_at, more_text}
+use Rattle.lists.specs.Faults.{line_fault_text}
+use Rattle.lists.specs.Refusals.{Refused}
+use Rattle.lists.specs.declared.refusals.Refusal.{Refusal}
+use Rattle.program.specs.Told.{name_at, more_text}
 
 -- what is reported about a refused line: the list, the number of the line, and why it is refused
 abbrev pub refusal_line : {Z : Type 0} → List (String Z) → Refusal → List ℕ

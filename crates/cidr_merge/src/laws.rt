@@ -3,8 +3,8 @@
 ghost use Rattle.cidr_merge.specs.Laws.{NoOtherOperation, NoOtherOption};
 ghost use Rattle.cidr_merge.specs.Parts.{UnionsOfPartsPrintTheSame};
 
-use address_lists::laws::{lines_add_what_they_name, printed_lists_name_their_networks};
 use ipnetwork_blocks::laws::same_union;
+use lists::laws::{lines_add_what_they_name, printed_lists_name_their_networks};
 
 /// A list may be merged in parts, of any number and in any order: the union of what the unions of the parts print
 /// prints what the union of the list does.

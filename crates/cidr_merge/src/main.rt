@@ -19,9 +19,9 @@ mod words;
 use crate::help::{PROGRAM, USAGE};
 use crate::run::run;
 use line_engine::output::Output;
-use program_io::arguments::arguments;
-use program_io::system::System;
-use program_io::usage::{Usage, refuse_arguments};
+use program::arguments::arguments;
+use program::system::System;
+use program::usage::{Usage, refuse_arguments};
 use std::process::ExitCode;
 
 /// The most bytes that wait to be written to standard output.

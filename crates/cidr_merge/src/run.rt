@@ -9,9 +9,8 @@ ghost use Rattle.cidr_merge.specs.Reading.{ReadsSides};
 ghost use Rattle.cidr_merge.specs.Runs.{answer_status, EndsAnswering, EndsMerging, EndsAs};
 ghost use Rattle.cidr_merge.specs.Stopping.{StopsInSides};
 ghost use Rattle.cidr_merge.specs.Usage.{problem_text};
-ghost use Rattle.program_io.specs.Lists.{known_of};
-ghost use Rattle.program_io.specs.Messages.{Tells};
-ghost use Rattle.program_io.specs.Usage.{usage_text};
+ghost use Rattle.program.specs.Messages.{Tells};
+ghost use Rattle.program.specs.Usage.{usage_text};
 
 use crate::command_line::{Command, Operation, Request, command_of};
 use crate::help::{HELP, PROGRAM, USAGE, VERSION};
@@ -19,14 +18,12 @@ use crate::printing::print;
 use crate::reading::{Sets, read_side};
 use crate::telling::tell_refusals;
 use crate::usage::UsageFault;
-use address_lists::Refusals;
 use line_engine::fault::RunFault;
 use line_engine::output::Output;
-use program_io::ending::{FAILED, end, print_text};
-use program_io::lists::OpenLists;
-use program_io::reading::ReadFault;
-use program_io::telling::tell_fault;
-use program_io::usage::{Usage, refuse_usage};
+use lists::{OpenLists, ReadFault, Refusals};
+use program::ending::{FAILED, end, print_text};
+use program::telling::tell_fault;
+use program::usage::{Usage, refuse_usage};
 use std::alloc::Global;
 use std::io::Write;
 
@@ -47,7 +44,7 @@ pub(crate) fn run<L: OpenLists, W: Write, E: Write>(
     output: &mut Output<'_, W>,
     errors: &mut Output<'_, E>,
 ) -> u8
-    ensures { (command : Command) × Asks words.now command × EndsAs (record { name = PROGRAM.now; help = HELP.now; version = VERSION.now; usage = USAGE.now }) (known_of L.bytes_of L.may_open L.may_fail lists.now) words.now command
+    ensures { (command : Command) × Asks words.now command × EndsAs (record { name = PROGRAM.now; help = HELP.now; version = VERSION.now; usage = USAGE.now }) (L.known lists.now) words.now command
         (record { holds = W.contents; output = output.old; output_after = output.new; tells = E.contents; errors = errors.old; errors_after = errors.new; status = result }) }
 {
     match command_of(words) {
@@ -80,7 +77,7 @@ fn merge<L: OpenLists, W: Write, E: Write>(
     errors: &mut Output<'_, E>,
 ) -> u8
     requires { IsWithin (length words.now) request }
-    ensures { EndsMerging (known_of L.bytes_of L.may_open L.may_fail lists.now) words.now request
+    ensures { EndsMerging (L.known lists.now) words.now request
         (record { holds = W.contents; output = output.old; output_after = output.new; tells = E.contents; errors = errors.old; errors_after = errors.new; status = result }) }
 {
     let (first, second, refusals, read) = read_sides(alloc, request, words, lists);
@@ -109,8 +106,8 @@ fn read_sides<L: OpenLists>(
     lists: &L,
 ) -> (Sets, Sets, Refusals, Result<(), ReadFault>)
     requires { IsWithin (length words.now) request }
-    ensures read { OnOk result.3 (ReadsSides (known_of L.bytes_of L.may_open L.may_fail lists.now) words.now request result.0 result.1 result.2) }
-    ensures stopped { IfErr result.3 (λ fault. StopsInSides (known_of L.bytes_of L.may_open L.may_fail lists.now) words.now request fault result.2) }
+    ensures read { OnOk result.3 (ReadsSides (L.known lists.now) words.now request result.0 result.1 result.2) }
+    ensures stopped { IfErr result.3 (λ fault. StopsInSides (L.known lists.now) words.now request fault result.2) }
 {
     let (first, refusals, read) = read_side(
         alloc,

@@ -5,7 +5,7 @@ ghost use Rattle.cidr_merge.specs.Usage.{problem_text, no_operation, at_word, fi
 
 use crate::command_line::Operation;
 use crate::words::{count_of, has, is, is_dashed, place_of, text_at};
-use program_io::usage::Subject;
+use program::usage::Subject;
 
 /// What is wrong with a word, or with all of them.
 #[derive(Clone, Copy, Debug, PartialEq, Eq)]

@@ -1,7 +1,7 @@
 //! Words of a command line.
 ghost use Rattle.std.specs.Prelude.{◌≡◌, ◌≤◌, length};
 ghost use Rattle.std.specs.List.{position_or_len, prefix_len};
-ghost use Rattle.program_io.specs.Told.{name_at};
+ghost use Rattle.program.specs.Told.{name_at};
 ghost use Rattle.cidr_merge.specs.CommandLines.{is, count, has, is_only, is_dashed};
 
 /// Whether a word is this text.

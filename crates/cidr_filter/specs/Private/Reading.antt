@@ -1,9 +1,9 @@
 -- What is read of lists, step by step.
 use Rattle.std.specs.Prelude.{◌≡◌, Bool, List, Result, IfOk, String}
-use Rattle.address_lists.specs.Lists.{ReadLists}
-use Rattle.address_lists.specs.Refusals.{Refused}
+use Rattle.lists.specs.Lists.{ReadLists}
+use Rattle.lists.specs.Refusals.{Refused}
 use Rattle.ipnetwork_family.specs.Network.{Network}
-use Rattle.program_io.specs.Lists.{KnownLists}
+use Rattle.lists.specs.KnownLists.{KnownLists}
 use Rattle.cidr_filter.specs.Listed.{HasBlocksOf}
 use Rattle.cidr_filter.specs.Reading.{IsReadOf, HoldsRead}
 use Rattle.cidr_filter.specs.declared.listed.Listed.{Listed}

@@ -1,11 +1,11 @@
 -- How a run ends, step by step.
 use Rattle.std.specs.Prelude.{◌≡◌, ℕ, ◌-◌, ◌^◌, min, ◌⊎◌, Bool, IsTrue, List, [], ◌++◌, length, codes, Result, Ok, Err}
 use Rattle.line_engine.specs.Outputs.{Puts, AppendsBeginning}
-use Rattle.program_io.specs.Lists.{KnownLists}
+use Rattle.lists.specs.KnownLists.{KnownLists}
 use Rattle.cidr_filter.specs.Filters.{Filters}
 use Rattle.cidr_filter.specs.Lines.{LogLine, log_lines}
 use Rattle.cidr_filter.specs.Logs.{FiltersLogs, IsAllOf, HaltsBy}
-use Rattle.program_io.specs.Endings.{Ending, HasTold, HasWritten}
+use Rattle.program.specs.Endings.{Ending, HasTold, HasWritten}
 use Rattle.cidr_filter.specs.Runs.{FailsWriting, EndsLogs, Refuses, filter_of}
 use Rattle.cidr_filter.specs.Stands.{Stand, Counts}
 use Rattle.cidr_filter.specs.Told.{log_fault_text}

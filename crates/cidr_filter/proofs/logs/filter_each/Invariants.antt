@@ -1,7 +1,6 @@
 use Rattle.std.proofs.Common.{◌≡◌, ◌<◌, length, map, take}
 use Rattle.std.specs.String.{string_bytes}
 use Rattle.line_engine.specs.Outputs.{writer_of, waits_in}
-use Rattle.program_io.specs.Lists.{known_of}
 use Rattle.cidr_filter.specs.Stands.{stand}
 use Rattle.cidr_filter.specs.Private.Runs.{FiltersNames}
 use Rattle.cidr_filter.proofs.logs.filter_each.Given as goal
@@ -10,7 +9,7 @@ abbrev pub invariant-loop-file : goal.invariant-loop-file
 invariant-loop-file g l = record {
   room : 1048578 < length l.buffer;
   silent : l.errors ≡ l.initial.errors;
-  names : FiltersNames l.filter l.counts (known_of g.L.OpenLists.bytes_of g.L.OpenLists.may_open g.L.OpenLists.may_fail l.lists) (map string_bytes (take l.file-index l.files))
+  names : FiltersNames l.filter l.counts (g.L.OpenLists.known l.lists) (map string_bytes (take l.file-index l.files))
       (stand (g.W.Write.contents (writer_of l.initial.output)) (waits_in l.initial.output) l.initial.tally)
       (stand (g.W.Write.contents (writer_of l.output)) (waits_in l.output) l.tally);
 }

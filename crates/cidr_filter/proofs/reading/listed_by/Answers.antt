@@ -1,4 +1,4 @@
-use Rattle.address_lists.specs.ReadBy.{read_by}
+use Rattle.lists.specs.ReadBy.{read_by}
 use Rattle.cidr_filter.proofs.ReadInTurn.{blocks_held}
 use Rattle.cidr_filter.proofs.reading.listed_by.Goals as goal
 

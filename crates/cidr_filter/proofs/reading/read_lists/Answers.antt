@@ -1,10 +1,9 @@
 use Rattle.std.proofs.Common.{◌++◌, ◌∷◌, ◌∙◌, [], ℕ, refl, sym, subst, arith, drop}
 use Rattle.std.proofs.lemmas.Result.{err_from_is_err_and}
-use Rattle.address_lists.specs.ReadBy.{read_by}
-use Rattle.program_io.specs.Lists.{known_of}
+use Rattle.lists.specs.ReadBy.{read_by}
 use Rattle.cidr_filter.specs.CommandLines.{Begin}
 use Rattle.cidr_filter.specs.Reading.{ReadsOption, StopsAtOption}
-use Rattle.program_io.specs.Told.{name_at}
+use Rattle.program.specs.Told.{name_at}
 use Rattle.cidr_filter.proofs.ReadInTurn.{reads_more, place_behind}
 use Rattle.cidr_filter.proofs.Requests.{begin_more}
 use Rattle.cidr_filter.proofs.reading.read_lists.Goals as goal
@@ -23,7 +22,7 @@ options-preserved g c =
     let choice = c.in-Some.choice in
     let at = c.options.at in
     let rest = drop at words in
-    let known = known_of g.L.OpenLists.bytes_of g.L.OpenLists.may_open g.L.OpenLists.may_fail c.args.lists.now in
+    let known = g.L.OpenLists.known c.args.lists.now in
     record {
       within = c.behind-at.ensures.within;
       memory = c.in_ok-read_option.ensures.memory;
@@ -62,6 +61,6 @@ returns-in_err-read_option-clause-stopped g c =
       next = sym c.choice_at.ensures ∙ c.in-Some.is;
       in_turn = said.2;
       memory = c.options.invariant.memory;
-      stops = subst (λ (n : ℕ). StopsAtOption (known_of g.L.OpenLists.bytes_of g.L.OpenLists.may_open g.L.OpenLists.may_fail c.args.lists.now) n c.in-Some.choice (name_at rest 1) (read_by c.options.reader) c.in_err-read_option.field-0.0 (read_by c.read_option.new.reader).refused)
+      stops = subst (λ (n : ℕ). StopsAtOption (g.L.OpenLists.known c.args.lists.now) n c.in-Some.choice (name_at rest 1) (read_by c.options.reader) c.in_err-read_option.field-0.0 (read_by c.read_option.new.reader).refused)
           (sym (place_behind words c.options.at c.options.invariant.within)) c.in_err-read_option.ensures.stopped;
     })

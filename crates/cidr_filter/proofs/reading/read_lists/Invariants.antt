@@ -1,6 +1,5 @@
 use Rattle.std.proofs.Common.{◌≡◌, ◌≤◌, ◌-◌, List, false, length, drop}
-use Rattle.address_lists.specs.ReadBy.{read_by}
-use Rattle.program_io.specs.Lists.{known_of}
+use Rattle.lists.specs.ReadBy.{read_by}
 use Rattle.cidr_filter.specs.CommandLines.{Begin}
 use Rattle.cidr_filter.specs.Reading.{ReadsOptions}
 use Rattle.cidr_filter.specs.declared.options.Choice.{Choice}
@@ -11,7 +10,7 @@ invariant-options g l = record {
   within : l.at ≤ length l.words;
   memory : (read_by l.reader).is_out_of_memory ≡ false;
   said : (options : List Choice) × Begin l.words options (drop l.at l.words)
-      × ReadsOptions (known_of g.L.OpenLists.bytes_of g.L.OpenLists.may_open g.L.OpenLists.may_fail l.lists) l.words l.words options (read_by l.initial.reader) (read_by l.reader);
+      × ReadsOptions (g.L.OpenLists.known l.lists) l.words l.words options (read_by l.initial.reader) (read_by l.reader);
 }
 
 abbrev pub decreases-options : goal.decreases-options

@@ -1,6 +1,6 @@
 use Rattle.std.proofs.Common.{subst, List, ℕ}
-use Rattle.program_io.specs.Messages.{Tells}
-use Rattle.program_io.specs.Usage.{usage_text}
+use Rattle.program.specs.Messages.{Tells}
+use Rattle.program.specs.Usage.{usage_text}
 use Rattle.cidr_filter.specs.declared.help.TheConstants.{PROGRAM, USAGE}
 use Rattle.cidr_filter.proofs.run.refuse_words.Goals as goal
 

@@ -1,4 +1,4 @@
-use Rattle.program_io.proofs.Told.{tells_more}
+use Rattle.program.proofs.Told.{tells_more}
 use Rattle.cidr_filter.proofs.telling.tell_of.Goals as goal
 
 pub returns : goal.returns

@@ -1,7 +1,7 @@
 use Rattle.std.proofs.Common.{◌++◌, ◌∙◌, sym, ap, decimal, codes, take}
 use Rattle.std.specs.Prelude.{Bool, if◌then◌else◌}
-use Rattle.program_io.proofs.Told.{tells_more, tells_same}
-use Rattle.program_io.specs.Told.{name_at}
+use Rattle.program.proofs.Told.{tells_more, tells_same}
+use Rattle.program.specs.Told.{name_at}
 use Rattle.cidr_filter.specs.Told.{texts_in}
 use Rattle.cidr_filter.proofs.telling.tell_place.Goals as goal
 

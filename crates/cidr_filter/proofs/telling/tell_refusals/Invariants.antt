@@ -1,6 +1,6 @@
 use Rattle.std.proofs.Common.{take}
 use Rattle.std.specs.List.{flat_map}
-use Rattle.program_io.specs.Messages.{Tells}
+use Rattle.program.specs.Messages.{Tells}
 use Rattle.cidr_filter.specs.Told.{refusal_line}
 use Rattle.cidr_filter.proofs.telling.tell_refusals.Given as goal
 

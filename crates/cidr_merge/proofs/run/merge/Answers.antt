@@ -1,17 +1,16 @@
 use Rattle.std.proofs.Common.{refl}
-use Rattle.program_io.specs.Lists.{known_of}
 use Rattle.cidr_merge.proofs.Runs.{merged, stopped}
 use Rattle.cidr_merge.proofs.run.merge.Goals as goal
 
 pub returns-in-Ok : goal.returns-in-Ok
 returns-in-Ok g c =
     let r = c.read_sides-first.result in
-    merged r.3 c.in-Ok.field-0 (known_of g.L.OpenLists.bytes_of g.L.OpenLists.may_open g.L.OpenLists.may_fail c.args.lists.now) c.args.words.now c.args.request r.0 r.1 r.2 c.is_empty.result
+    merged r.3 c.in-Ok.field-0 (g.L.OpenLists.known c.args.lists.now) c.args.words.now c.args.request r.0 r.1 r.2 c.is_empty.result
     (record { holds = g.W.Write.contents; output = c.args.output.now; output_after = c.answer.new.output; tells = g.E.Write.contents; errors = c.args.errors.now; errors_after = c.answer.new.errors; status = c.answer.result })
     c.tell_refusals.new.errors c.in-Ok.is c.read_sides-first.ensures.read c.tell_refusals.ensures c.is_empty.ensures c.answer.ensures
 
 pub returns : goal.returns
 returns g c =
-    stopped c.read_sides-first.result.3 (known_of g.L.OpenLists.bytes_of g.L.OpenLists.may_open g.L.OpenLists.may_fail c.args.lists.now) c.args.words.now c.args.request c.read_sides-first.result.2 c.in-Err.fault
+    stopped c.read_sides-first.result.3 (g.L.OpenLists.known c.args.lists.now) c.args.words.now c.args.request c.read_sides-first.result.2 c.in-Err.fault
     (record { holds = g.W.Write.contents; output = c.args.output.now; output_after = c.args.output.now; tells = g.E.Write.contents; errors = c.args.errors.now; errors_after = c.tell_fault.new.errors; status = 2 })
     c.tell_refusals.new.errors c.in-Err.is c.read_sides-first.ensures.stopped c.tell_refusals.ensures (refl, refl) c.tell_fault.ensures

@@ -1,4 +1,4 @@
-use Rattle.program_io.proofs.Told.{tells_more, tells_same}
+use Rattle.program.proofs.Told.{tells_more, tells_same}
 use Rattle.cidr_merge.proofs.telling.tell_refusal.Goals as goal
 
 pub returns : goal.returns

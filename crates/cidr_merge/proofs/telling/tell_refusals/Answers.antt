@@ -1,8 +1,8 @@
 use Rattle.std.proofs.Common.{◌+◌, ◌∙◌, ap, take, arith}
 use Rattle.std.specs.List.{flat_map}
 use Rattle.std.proofs.lemmas.List.{take_more, take_all}
-use Rattle.program_io.proofs.Told.{tells_more, tells_same, tells_nothing, tells_line}
-use Rattle.program_io.specs.Told.{more_text}
+use Rattle.program.proofs.Told.{tells_more, tells_same, tells_nothing, tells_line}
+use Rattle.program.specs.Told.{more_text}
 use Rattle.cidr_merge.specs.Told.{refusal_line}
 use Rattle.cidr_merge.proofs.telling.tell_refusals.Goals as goal
 

@@ -1,7 +1,0 @@
-use Rattle.std.proofs.Common.{refl}
-use Rattle.address_lists.specs.ReadBy.{read_by}
-use Rattle.address_lists.proofs.Gained.{pushed}
-use Rattle.address_lists.proofs.list_reader.ListReader.take.Goals as goal
-
-pub returns : goal.returns
-returns c = pushed (read_by c.args.self.now) _ c.args.entry c.push_entry-pushed.result c.requires c.push_entry-pushed.ensures refl refl refl c.is_err-self.ensures.value

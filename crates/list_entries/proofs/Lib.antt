@@ -1,6 +1,0 @@
-mod Examples
-mod LawExamples
-mod Parts
-mod PlainTexts
-mod Readings
-mod Trims

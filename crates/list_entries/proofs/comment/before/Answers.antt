@@ -1,8 +1,0 @@
-use Rattle.list_entries.proofs.Trims.{none_before, found_before}
-use Rattle.list_entries.proofs.comment.before.Goals as goal
-
-pub returns-in-Some : goal.returns-in-Some
-returns-in-Some c = found_before c.args.byte c.args.text.now c.in-Some.end c.in-Some.ensures
-
-pub returns-in-None : goal.returns-in-None
-returns-in-None c = none_before c.args.byte c.args.text.now c.in-None.ensures

@@ -1,4 +1,0 @@
-pub mod Entries
-pub mod Laws
-pub mod Lines
-pub mod Private

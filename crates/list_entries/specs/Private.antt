@@ -1,2 +1,0 @@
--- What the private functions promise each other.
-pub mod Parts

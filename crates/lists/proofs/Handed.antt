@@ -1,0 +1,260 @@
+-- The lines of a list, as they are handed out.
+use Rattle.std.proofs.Common.{◌≡◌, ◌∙◌, inl, ℕ, ◌+◌, ◌-◌, ◌^◌, ◌<◌, ◌≤◌, true, false, true≢false, List, [], ◌∷◌, ◌++◌, length, take, refl, sym, ap, subst, append_assoc, append-nil, length-append, arith}
+use Rattle.std.proofs.Math.Seq.{take-append_seam}
+use Rattle.std.proofs.KnownBytes.{Consumes-nil, Consumes-trans, Consumes-kept}
+use Rattle.std.proofs.lemmas.Bool.{ltb-true, ltb-false}
+use Rattle.std.specs.Io.KnownBytes.{Consumes, Keeps, IsAtEnd}
+use Rattle.std.specs.Prelude.{Bool, Option, None, Some, nat_lt}
+use Rattle.std.specs.Str.Lines.{lines, strip_carriage_return}
+use Rattle.line_engine.specs.Answers.{asked, complete_part}
+use Rattle.line_engine.specs.LineBuffers.{Buffered, waits, HasNoFeed, Holds, IsFirstLine, Gives}
+use Rattle.line_engine.specs.Private.Progress.{lines_from, pending_from, last_line}
+use Rattle.line_engine.specs.declared.fault.RunFault.TheVariants.{Read, InputTooLong}
+use Rattle.line_engine.specs.declared.line_buffer.NextLine.TheVariants.{Line, TooLong, Ask, End}
+use Rattle.line_engine.specs.declared.line_end.LineEnd.{LineEnd}
+use Rattle.line_engine.specs.declared.line_end.LineEnd.TheVariants.{LineFeed, ReturnAndLineFeed, EndOfInput}
+use Rattle.line_engine.proofs.FirstLines.{has_no}
+use Rattle.line_engine.proofs.Lines.{lines-append, pending-append, lines_split, lines_complete, lines_line, lines_last}
+use Rattle.lists.specs.Lists.{ReadLists, Takes, TakesLines}
+use Rattle.lists.specs.Private.Waiting.{Leaves, TakesSome, HasNoLine, TakesWhole}
+use Rattle.lists.specs.Stopped.{TakesBefore}
+
+-- ---- lists of lines
+
+snoc_front : {A : Type 0} (a b : List A) (x y : A) → a ++ x ∷ [] ≡ b ++ y ∷ [] → a ≡ b
+snoc_front a b x y e =
+    let same : length a ≡ length b = omega (arith, ap length e, length-append a (x ∷ []), length-append b (y ∷ [])) in
+    sym (take-append_seam a (x ∷ [])) ∙ ap (take (length a)) e ∙ ap (λ n. take n (b ++ y ∷ [])) same ∙ take-append_seam b (y ∷ [])
+
+one_more : (taken : List (List ℕ)) (line : List ℕ) (others : List (List ℕ)) → taken ++ line ∷ others ≡ (taken ++ line ∷ []) ++ others
+one_more taken line others = sym (append_assoc taken (line ∷ []) others)
+
+lines_nothing : lines [] ≡ []
+unfolding last_line
+lines_nothing = lines_last [] tt
+
+-- a line feed behind some bytes ends the line that they leave
+feed_lines : (read : List ℕ) → lines (read ++ 10 ∷ []) ≡ lines (complete_part read) ++ strip_carriage_return (pending_from [] read) ∷ []
+unfolding lines_from pending_from last_line
+feed_lines read =
+    lines_split [] (read ++ 10 ∷ []) tt
+    ∙ ap (λ p. lines_from [] (read ++ 10 ∷ []) ++ last_line p) (pending-append [] read (10 ∷ []))
+    ∙ append-nil (lines_from [] (read ++ 10 ∷ []))
+    ∙ lines-append [] read (10 ∷ [])
+    ∙ ap (λ ls. ls ++ strip_carriage_return (pending_from [] read) ∷ []) (sym (lines_complete [] read tt))
+
+-- the lines before pending bytes that have no line feed are those that are complete
+pub complete_lines : (read : List ℕ) (taken : List (List ℕ)) (pending : List ℕ) → HasNoFeed pending → Leaves false read taken pending → lines (complete_part read) ≡ taken
+complete_lines read taken pending none leaves =
+    snoc_front (lines (complete_part read)) taken (strip_carriage_return (pending_from [] read)) (strip_carriage_return pending)
+    (sym (feed_lines read) ∙ leaves (10 ∷ []) ∙ ap (λ ls. taken ++ ls) (lines_line pending [] (has_no pending none) ∙ ap (λ ls. strip_carriage_return pending ∷ ls) lines_nothing))
+
+-- ---- lines that are taken
+
+pub takes_both : (before between after : ReadLists) (first others : List (List ℕ)) → TakesLines before first between → TakesLines between others after → TakesLines before (first ++ others) after
+takes_both before between after [] others h k = subst (λ (l : ReadLists). TakesLines l others after) h k
+takes_both before between after (line ∷ first) others h k = (h.0, h.1, takes_both h.0 between after first others h.2 k)
+
+-- without memory, any lines are taken as nothing
+pub takes_nothing : (lists : ReadLists) (ls : List (List ℕ)) → lists.is_out_of_memory ≡ true → TakesLines lists ls lists
+takes_nothing lists [] out = refl
+takes_nothing lists (line ∷ ls) out = (lists, inl (out, refl), takes_nothing lists ls out)
+
+asked_short : (line : List ℕ) → length line ≤ 1024 → (b : Bool) → nat_lt 1024 (length line) ≡ b → asked 1024 line ≡ Some line
+asked_short line short true e = absurd (let long = ltb-true 1024 (length line) e in omega (arith, short, long))
+asked_short line short false e = rw e refl
+
+asked_long : (line : List ℕ) → 1024 < length line → (b : Bool) → nat_lt 1024 (length line) ≡ b → asked 1024 line ≡ None
+asked_long line long true e = rw e refl
+asked_long line long false e = absurd (let short = ltb-false 1024 (length line) e in omega (arith, short, long))
+
+-- ---- one line
+
+leaves_feed : (ended : Bool) (pending : List ℕ) (taken : List (List ℕ)) (now line after : List ℕ)
+    → Leaves ended pending taken now → ((rest : List ℕ) → lines (now ++ rest) ≡ line ∷ lines (after ++ rest)) → Leaves ended pending (taken ++ line ∷ []) after
+leaves_feed false pending taken now line after h f = λ more. h more ∙ ap (λ ls. taken ++ ls) (f more) ∙ one_more taken line (lines (after ++ more))
+leaves_feed true pending taken now line after h f =
+    h ∙ ap (λ ls. taken ++ ls) (ap lines (sym (append-nil now)) ∙ f [] ∙ ap (λ l. line ∷ lines l) (append-nil after)) ∙ one_more taken line (lines after)
+
+leaves_line : (end : LineEnd) (ended : Bool) (pending : List ℕ) (taken : List (List ℕ)) (now line after : List ℕ)
+    → Leaves ended pending taken now → IsFirstLine end ended now line after → Leaves ended pending (taken ++ line ∷ []) after
+leaves_line LineFeed ended pending taken now line after h f = leaves_feed ended pending taken now line after h f
+leaves_line ReturnAndLineFeed ended pending taken now line after h f = leaves_feed ended pending taken now line after h f
+leaves_line EndOfInput false pending taken now line after h f = absurd (true≢false (sym f.0))
+leaves_line EndOfInput true pending taken now line after h f =
+    h ∙ ap (λ ls. taken ++ ls) f.2 ∙ sym (append-nil (taken ++ line ∷ [])) ∙ ap (λ ls. (taken ++ line ∷ []) ++ ls) (sym (ap lines f.1 ∙ lines_nothing))
+
+pub takes_none : (held : Buffered) (lists : ReadLists) (pending : List ℕ) → Holds held pending → TakesSome held lists lists pending
+takes_none held lists pending h = record { taken = []; now = pending; holds = h; leaves = elim held.ended as (λ v. Leaves v pending [] pending) [ false ↦ λ more. refl | true ↦ refl ]; takes = refl }
+
+some_more : (old new : Buffered) (before between after : ReadLists) (pending line rest : List ℕ) (end : LineEnd) → (s : TakesSome old before between pending)
+    → Holds new rest → IsFirstLine end new.ended s.now line rest → new.ended ≡ old.ended → Takes between (asked 1024 line) after → TakesSome new before after pending
+some_more old new before between after pending line rest end s holds first same took = record {
+  taken = s.taken ++ line ∷ [];
+  now = rest;
+  holds = holds;
+  leaves = leaves_line end new.ended pending s.taken s.now line rest (subst (λ e. Leaves e pending s.taken s.now) (sym same) s.leaves) first;
+  takes = takes_both before between after s.taken (line ∷ []) s.takes (after, took, refl);
+}
+
+pub takes_line : (old new : Buffered) (before between after : ReadLists) (pending line : List ℕ) (end : LineEnd) → TakesSome old before between pending
+    → ((now : List ℕ) → Holds old now → Gives new now (Line end)) → new.ended ≡ old.ended → new.limit ≡ 1024 → line ≡ new.line
+    → Takes between (Some line) after → TakesSome new before after pending
+takes_line old new before between after pending line end s gives same limit is took =
+    let given = gives s.now s.holds in
+    let hands = given.0 in
+    let short : length line ≤ 1024 = omega (arith, given.1, limit, ap length is) in
+    some_more old new before between after pending line hands.after end s hands.holds
+    (subst (λ l. IsFirstLine end new.ended s.now l hands.after) (sym is) hands.first) same
+    (subst (λ q. Takes between q after) (sym (asked_short line short (nat_lt 1024 (length line)) refl)) took)
+
+pub takes_too_long : (old new : Buffered) (before between after : ReadLists) (pending : List ℕ) → TakesSome old before between pending
+    → ((now : List ℕ) → Holds old now → Gives new now TooLong) → new.ended ≡ old.ended → new.limit ≡ 1024
+    → Takes between None after → TakesSome new before after pending
+takes_too_long old new before between after pending s gives same limit took =
+    let given = gives s.now s.holds in
+    let line = given.0 in
+    let hands = given.2 in
+    some_more old new before between after pending line hands.after given.1 s hands.holds hands.first same
+    (subst (λ q. Takes between q after) (sym (asked_long line (omega (arith, given.3, limit)) (nat_lt 1024 (length line)) refl)) took)
+
+pub takes_whole : (old new : Buffered) (before after : ReadLists) (pending : List ℕ) → TakesSome old before after pending
+    → ((now : List ℕ) → Holds old now → Gives new now Ask) → new.ended ≡ old.ended → TakesWhole new before after pending
+takes_whole old new before after pending s gives same =
+    let given = gives s.now s.holds in
+    record {
+      some = record { taken = s.taken; now = s.now; holds = given.0; leaves = subst (λ e. Leaves e pending s.taken s.now) (sym same) s.leaves; takes = s.takes };
+      idle = subst (λ e. HasNoLine e new s.now) (sym given.3) (given.1, given.2);
+    }
+
+pub takes_all : (old new : Buffered) (before after : ReadLists) (pending : List ℕ) → TakesSome old before after pending
+    → ((now : List ℕ) → Holds old now → Gives new now End) → new.ended ≡ old.ended → TakesWhole new before after pending
+takes_all old new before after pending s gives same =
+    let given = gives s.now s.holds in
+    record {
+      some = record { taken = s.taken; now = []; holds = given.1; leaves = subst (λ e. Leaves e pending s.taken []) (sym same) (subst (λ l. Leaves old.ended pending s.taken l) given.0 s.leaves); takes = s.takes };
+      idle = subst (λ e. HasNoLine e new []) (sym given.2) refl;
+    }
+
+-- ---- a whole list
+
+-- the bytes that were read so far, the lines of them that were taken, and the others, which are pending
+pub record TakesSoFar (left rest : Option (List ℕ)) (held : Buffered) (start now : ReadLists) (room : ℕ) : Type 0 where
+  pub read : List ℕ
+  pub consumed : Consumes left rest read
+  pub counted : length read + room ≡ 2 ^ 64 - 1
+  pub pending : List ℕ
+  pub holds : Holds held pending
+  pub none : HasNoFeed pending
+  pub taken : List (List ℕ)
+  pub leaves : Leaves false read taken pending
+  pub takes : TakesLines start taken now
+
+no_feed : HasNoFeed []
+no_feed place low high = absurd (omega (arith, high))
+
+pub takes_begins : (left : Option (List ℕ)) (held : Buffered) (start now : ReadLists) → now ≡ start → Holds held [] → TakesSoFar left left held start now (2 ^ 64 - 1)
+takes_begins left held start now begun holds = record {
+  read = [];
+  consumed = Consumes-nil left;
+  counted = omega arith;
+  pending = [];
+  holds = holds;
+  none = no_feed;
+  taken = [];
+  leaves = λ more. refl;
+  takes = begun;
+}
+
+-- what was pending, with the bytes of one more read behind it
+grown : (read chunk pending : List ℕ) (taken : List (List ℕ)) → Leaves false read taken pending → Leaves false (read ++ chunk) taken (pending ++ chunk)
+grown read chunk pending taken h = λ more.
+    ap lines (append_assoc read chunk more) ∙ h (chunk ++ more) ∙ ap (λ l. taken ++ lines l) (sym (append_assoc pending chunk more))
+
+joined : (read pending now : List ℕ) (taken more : List (List ℕ)) → Leaves false read taken pending → Leaves false pending more now → Leaves false read (taken ++ more) now
+joined read pending now taken more h k = λ rest. h rest ∙ ap (λ ls. taken ++ ls) (k rest) ∙ sym (append_assoc taken more (lines (now ++ rest)))
+
+pub goes_idle : (left between : Option (List ℕ)) (old mid new : Buffered) (start before after : ReadLists) (room : ℕ) → TakesSoFar left between old start before room
+    → (chunk : List ℕ) → ((pending : List ℕ) → Holds old pending → Holds mid (pending ++ chunk))
+    → ((pending : List ℕ) → Holds mid pending → TakesWhole new before after pending) → new.ended ≡ false → HasNoFeed (waits new)
+goes_idle left between old mid new start before after room s chunk more took going =
+    let whole = took (s.pending ++ chunk) (more s.pending s.holds) in
+    (subst (λ e. HasNoLine e new whole.some.now) going whole.idle).1
+
+pub goes_on : (left between rest : Option (List ℕ)) (old mid new : Buffered) (start before after : ReadLists) (room less count : ℕ) → (s : TakesSoFar left between old start before room)
+    → (chunk : List ℕ) → length chunk ≡ count → count ≤ room → less ≡ room - count → Consumes between rest chunk → ((pending : List ℕ) → Holds old pending → Holds mid (pending ++ chunk))
+    → ((pending : List ℕ) → Holds mid pending → TakesWhole new before after pending) → new.ended ≡ false → TakesSoFar left rest new start after less
+goes_on left between rest old mid new start before after room less count s chunk counted within is consumed more took going =
+    let whole = took (s.pending ++ chunk) (more s.pending s.holds) in
+    let some = whole.some in
+    let idle = subst (λ e. HasNoLine e new some.now) going whole.idle in
+    record {
+      read = s.read ++ chunk;
+      consumed = Consumes-trans left between rest s.read chunk s.consumed consumed;
+      counted = omega (arith, length-append s.read chunk, s.counted, counted, within, is);
+      pending = some.now;
+      holds = some.holds;
+      none = idle.0;
+      taken = s.taken ++ some.taken;
+      leaves = joined (s.read ++ chunk) (s.pending ++ chunk) some.now s.taken some.taken (grown s.read chunk s.pending s.taken s.leaves)
+          (subst (λ e. Leaves e (s.pending ++ chunk) some.taken some.now) going some.leaves);
+      takes = takes_both start before after s.taken some.taken s.takes some.takes;
+    }
+
+whole_input : (left rest : Option (List ℕ)) (input read : List ℕ) → left ≡ Some input → Consumes left rest read → IsAtEnd rest → input ≡ read
+whole_input None rest input read e consumed at_end = absurd (let q = e in cc)
+whole_input (Some text) None input read e consumed at_end = absurd consumed
+whole_input (Some text) (Some more) input read e consumed at_end =
+    let same : text ≡ input = (let q = e in cc) in
+    sym same ∙ consumed ∙ ap (λ l. read ++ l) at_end ∙ append-nil read
+
+others_of : (left rest : Option (List ℕ)) (input read : List ℕ) → left ≡ Some input → Consumes left rest read → (others : List ℕ) × (input ≡ read ++ others)
+others_of None rest input read e consumed = absurd (let q = e in cc)
+others_of (Some text) None input read e consumed = absurd consumed
+others_of (Some text) (Some more) input read e consumed = let same : text ≡ input = (let q = e in cc) in (more, sym same ∙ consumed)
+
+-- a read failed
+pub stops_reading : (left between rest : Option (List ℕ)) (held : Buffered) (start now : ReadLists) (room : ℕ) → TakesSoFar left between held start now room → Keeps between rest
+    → TakesBefore left rest Read start now
+stops_reading left between rest held start now room s keeps = (
+  s.read,
+  Consumes-kept left between rest s.read s.consumed keeps,
+  subst (λ ls. TakesLines start ls now) (sym (complete_lines s.read s.taken s.pending s.none s.leaves)) s.takes,
+)
+
+-- there are more bytes than 64 bits count
+pub stops_too_long : (left between rest : Option (List ℕ)) (held : Buffered) (start now : ReadLists) (room : ℕ) (s : TakesSoFar left between held start now room) (chunk : List ℕ)
+    → Consumes between rest chunk → room < length chunk → TakesBefore left rest InputTooLong start now
+stops_too_long left between rest held start now room s chunk consumed more = (
+  s.read ++ chunk,
+  s.read,
+  Consumes-trans left between rest s.read chunk s.consumed consumed,
+  omega (arith, length-append s.read chunk, s.counted, more),
+  (chunk, refl),
+  subst (λ ls. TakesLines start ls now) (sym (complete_lines s.read s.taken s.pending s.none s.leaves)) s.takes,
+)
+
+-- the input has ended
+pub ends : (left between rest : Option (List ℕ)) (old mid new : Buffered) (start before after : ReadLists) (room : ℕ) → TakesSoFar left between old start before room → (chunk : List ℕ)
+    → Consumes between rest chunk → IsAtEnd rest → ((pending : List ℕ) → Holds old pending → Holds mid (pending ++ chunk))
+    → ((pending : List ℕ) → Holds mid pending → TakesWhole new before after pending) → new.ended ≡ true
+    → (input : List ℕ) → left ≡ Some input → TakesLines start (lines input) after
+ends left between rest old mid new start before after room s chunk consumed at_end more took ended input is =
+    let whole = took (s.pending ++ chunk) (more s.pending s.holds) in
+    let some = whole.some in
+    let read = s.read ++ chunk in
+    let nothing : some.now ≡ [] = subst (λ e. HasNoLine e new some.now) ended whole.idle in
+    let rest_of : lines (s.pending ++ chunk) ≡ some.taken ++ lines some.now = subst (λ e. Leaves e (s.pending ++ chunk) some.taken some.now) ended some.leaves in
+    let cut : lines read ≡ s.taken ++ some.taken =
+    ap lines (sym (append-nil read)) ∙ grown s.read chunk s.pending s.taken s.leaves [] ∙ ap (λ l. s.taken ++ lines l) (append-nil (s.pending ++ chunk))
+    ∙ ap (λ ls. s.taken ++ ls) (rest_of ∙ ap (λ l. some.taken ++ lines l) nothing ∙ ap (λ ls. some.taken ++ ls) lines_nothing ∙ append-nil some.taken) in
+    let all : input ≡ read = whole_input left rest input read is (Consumes-trans left between rest s.read chunk s.consumed consumed) at_end in
+    subst (λ ls. TakesLines start ls after) (sym (ap lines all ∙ cut)) (takes_both start before after s.taken some.taken s.takes some.takes)
+
+-- memory has run out
+pub runs_out : (left rest : Option (List ℕ)) (held : Buffered) (start now : ReadLists) (room : ℕ) → TakesSoFar left rest held start now room → now.is_out_of_memory ≡ true
+    → (input : List ℕ) → left ≡ Some input → TakesLines start (lines input) now
+runs_out left rest held start now room s out input is =
+    let others = others_of left rest input s.read is s.consumed in
+    subst (λ ls. TakesLines start ls now) (sym (ap lines others.1 ∙ s.leaves others.0))
+    (takes_both start now now s.taken (lines (s.pending ++ others.0)) s.takes (takes_nothing now (lines (s.pending ++ others.0)) out))

@@ -1,0 +1,15 @@
+pub mod Handed
+pub mod EntryExamples
+pub mod EntryLawExamples
+pub mod FirstLines
+pub mod Gained
+pub mod LawExamples
+pub mod MergedParts
+pub mod NamedLists
+pub mod PartExamples
+pub mod Parts
+pub mod PlainTexts
+pub mod Printed
+pub mod Readings
+pub mod Taken
+pub mod Trims

@@ -1,0 +1,71 @@
+-- Which lines of a list name addresses, and why others are refused.
+use Rattle.std.specs.Prelude.{◌≡◌, ◌≢◌, ◌≤◌, ◌<◌, ◌==◌, ◌⊎◌, ℕ, Bool, List, [], length, Option, None, Some, Result, Ok, Err, MatchResult}
+use Rattle.std.specs.List.{before_first, after_first, position_or_len}
+use Rattle.ipnetwork_addr.specs.Either.{NamesIp}
+use Rattle.ipnetwork_addr.specs.declared.ip.IpAddr.{IpAddr}
+use Rattle.ipnetwork_addr.specs.declared.ip.IpAddr.TheVariants.{V4, V6}
+use Rattle.ipnetwork.specs.IpNetworkText.{NamesIpNetwork, IsIpCause}
+use Rattle.ipnetwork_family.specs.declared.error.CidrFault.TheVariants as causes
+use Rattle.lists.specs.Lines.{before_comment, trimmed}
+use Rattle.lists.specs.declared.entry.Entry.{Entry}
+use Rattle.lists.specs.declared.entry.Entry.TheVariants as entries
+use Rattle.lists.specs.declared.entry.EntryFault.{EntryFault}
+use Rattle.lists.specs.declared.entry.EntryFault.TheVariants as faults
+
+-- `-`
+abbrev pub is_dash : ℕ → Bool
+is_dash byte = byte == 45
+
+-- the text contains a `-`
+abbrev pub HasDash : List ℕ → Type 0
+HasDash text = position_or_len is_dash text < length text
+
+-- the texts, without the blanks around them, name these addresses
+abbrev pub NamesEnds : List ℕ → List ℕ → IpAddr → IpAddr → Type 0
+NamesEnds before after first last = NamesIp (trimmed before) first × NamesIp (trimmed after) last
+
+-- what stands before the first `-` of the text and what stands after it name these addresses
+abbrev pub NamesBoth : List ℕ → IpAddr → IpAddr → Type 0
+NamesBoth text first last = NamesEnds (before_first is_dash text) (after_first is_dash text) first last
+
+-- the addresses are of one family, and the first is not after the last
+abbrev pub IsRange : IpAddr → IpAddr → Type 0
+IsRange (V4 first) (V4 last) = first ≤ last
+IsRange (V4 first) (V6 last) = ⊥
+IsRange (V6 first) (V4 last) = ⊥
+IsRange (V6 first) (V6 last) = first ≤ last
+
+-- the text names the entry
+abbrev pub NamesEntry : List ℕ → Entry → Type 0
+-- a network, without a `-`
+NamesEntry text (entries.Network n) = ¬ (HasDash text) × NamesIpNetwork text n
+-- a range, with one
+NamesEntry text (entries.Range first last) = HasDash text × NamesBoth text first last × IsRange first last
+
+-- why a text names no entry
+abbrev pub IsEntryCause : List ℕ → EntryFault → Type 0
+-- it contains two or more `/`
+IsEntryCause text faults.Format = ¬ (HasDash text) × IsIpCause text causes.Format
+-- else what stands before the `/` is an address of neither family; or an end of a range is not an address
+IsEntryCause text faults.Address = (¬ (HasDash text) × IsIpCause text causes.Addr) ⊎ (HasDash text × ((first last : IpAddr) → ¬ (NamesBoth text first last)))
+-- else what stands after the `/` is not a suffix of that address's family
+IsEntryCause text faults.Prefix = ¬ (HasDash text) × IsIpCause text causes.Prefix
+-- both ends are addresses, of two families, or the last before the first
+IsEntryCause text faults.Range = HasDash text × ((first : IpAddr) × (last : IpAddr) × NamesBoth text first last × ¬ (IsRange first last))
+
+-- the entry that a text names, or the cause if it names none
+abbrev pub ReadsText : List ℕ → Result Entry EntryFault → Type 0
+ReadsText text result =
+    MatchResult result (NamesEntry text) (λ fault. IsEntryCause text fault × ((entry : Entry) → ¬ (NamesEntry text entry)))
+
+-- the text of the entry of a line: what stands before a comment, without the blanks around it
+abbrev pub entry_text : List ℕ → List ℕ
+entry_text line = trimmed (before_comment line)
+
+-- what reading a line returns
+abbrev pub ReadsEntry : List ℕ → Result (Option Entry) EntryFault → Type 0
+-- nothing, if nothing is left of it
+ReadsEntry line (Ok None) = entry_text line ≡ []
+-- and else its entry, or why it has none
+ReadsEntry line (Ok (Some entry)) = (entry_text line ≢ []) × NamesEntry (entry_text line) entry
+ReadsEntry line (Err fault) = (entry_text line ≢ []) × IsEntryCause (entry_text line) fault × ((entry : Entry) → ¬ (NamesEntry (entry_text line) entry))

@@ -1,0 +1,15 @@
+-- What the contracts of this crate cite.
+pub mod Added
+pub mod Entries
+pub mod Faults
+pub mod KnownLists
+pub mod Laws
+pub mod Lines
+pub mod Lists
+pub mod Merges
+pub mod Printed
+pub mod Private
+pub mod ReadBy
+pub mod Reading
+pub mod Refusals
+pub mod Stopped

@@ -1,0 +1,107 @@
+-- What the lines of lists name.
+use Rattle.std.specs.Prelude.{◌≡◌, ℕ, ◌+◌, ◌-◌, ◌^◌, ◌↔◌, ◌⊎◌, ◌≤◌, Bool, true, false, List, [], ◌∷◌, Option, None, Some, Result, Ok, Err, min, length}
+use Rattle.std.specs.List.{Contains}
+use Rattle.ipnetwork_addr.specs.declared.ip.IpAddr.{IpAddr}
+use Rattle.ipnetwork_addr.specs.declared.ip.IpAddr.TheVariants.{V4, V6}
+use Rattle.ipnetwork_family.specs.Network.{Network}
+use Rattle.ipnetwork.specs.IpNetworks.{IpMember}
+use Rattle.ipnetwork_blocks.specs.Aggregate.{InUnion}
+use Rattle.line_engine.specs.Answers.{asked}
+use Rattle.lists.specs.Entries.{IsRange, ReadsEntry}
+use Rattle.lists.specs.declared.entry.Entry.{Entry}
+use Rattle.lists.specs.declared.entry.Entry.TheVariants as entries
+use Rattle.lists.specs.declared.entry.EntryFault.{EntryFault}
+use Rattle.lists.specs.Added.{AddsEntry}
+use Rattle.lists.specs.Refusals.{Refused, with_refusal}
+use Rattle.lists.specs.declared.fault.LineFault.{LineFault}
+use Rattle.lists.specs.declared.fault.LineFault.TheVariants as faults
+
+-- what was read of lists: the networks of each family, the refused lines, the number of the list and of the line that
+-- was read last, and whether memory ran out for a network
+pub record ReadLists : Type 0 where
+  pub v4 : List Network
+  pub v6 : List Network
+  pub refused : Refused
+  pub list : ℕ
+  pub line : ℕ
+  pub is_out_of_memory : Bool
+
+-- nothing yet, except lines that were refused before
+abbrev pub nothing_read : Refused → ReadLists
+nothing_read refused = record { v4 = []; v6 = []; refused = refused; list = 0; line = 0; is_out_of_memory = false }
+
+-- the same, at the beginning of a list
+abbrev pub at_list : ReadLists → ℕ → ReadLists
+at_list lists number = record lists { list = number; line = 0 }
+
+-- the same, at the next line; the number of a line has 64 bits
+abbrev pub at_next_line : ReadLists → ReadLists
+at_next_line lists = record lists { line = min (lists.line + 1) (2 ^ 64 - 1) }
+
+-- an address of the networks that were read
+abbrev pub HasAddress : ReadLists → IpAddr → Type 0
+HasAddress lists (V4 a) = InUnion 32 lists.v4 a
+HasAddress lists (V6 a) = InUnion 128 lists.v6 a
+
+-- the entry names the address
+abbrev pub Names : Entry → IpAddr → Type 0
+-- a network names its members
+Names (entries.Network n) a = IpMember n a
+-- a range names the addresses from the first to the last
+Names (entries.Range first last) a = IsRange first a × IsRange a last
+
+-- the second has the networks of the first and, after them, those of the entry, and so the addresses of both; nothing
+-- else has changed
+pub record Gains (before : ReadLists) (entry : Entry) (after : ReadLists) : Type 0 where
+  pub networks : AddsEntry before.v4 before.v6 entry after.v4 after.v6
+  pub addresses : (a : IpAddr) → HasAddress after a ↔ (HasAddress before a ⊎ Names entry a)
+  pub refused : after.refused ≡ before.refused
+  pub list : after.list ≡ before.list
+  pub line : after.line ≡ before.line
+  pub memory : after.is_out_of_memory ≡ false
+
+-- memory ran out for what the entry names
+pub record RunsOut (before after : ReadLists) : Type 0 where
+  pub refused : after.refused ≡ before.refused
+  pub memory : after.is_out_of_memory ≡ true
+
+-- the entry was taken, or memory ran out for it
+abbrev pub TakesEntry : ReadLists → Entry → ReadLists → Type 0
+TakesEntry before entry after = Gains before entry after ⊎ RunsOut before after
+
+-- the line is refused for this reason
+abbrev pub refusing : ReadLists → LineFault → ReadLists
+refusing lists fault = record lists { refused = with_refusal lists.refused (record { list = lists.list; line = lists.line; fault = fault }) }
+
+-- what a line says is taken: nothing, an entry, or that it is refused
+abbrev pub TakesReading : ReadLists → Result (Option Entry) EntryFault → ReadLists → Type 0
+TakesReading before (Ok None) after = after ≡ before
+TakesReading before (Ok (Some entry)) after = TakesEntry before entry after
+TakesReading before (Err fault) after = after ≡ refusing before (faults.Entry fault)
+
+-- a line is taken, or it is too long
+abbrev pub TakesLine : ReadLists → Option (List ℕ) → ReadLists → Type 0
+TakesLine before None after = after ≡ refusing (at_next_line before) faults.Length
+TakesLine before (Some line) after = (reading : Result (Option Entry) EntryFault) × ReadsEntry line reading × TakesReading (at_next_line before) reading after
+
+-- once memory has run out, nothing more is read
+abbrev pub Takes : ReadLists → Option (List ℕ) → ReadLists → Type 0
+Takes before line after = ((before.is_out_of_memory ≡ true) × (after ≡ before)) ⊎ ((before.is_out_of_memory ≡ false) × TakesLine before line after)
+
+-- these lines are taken in turn; one of more than 1,024 bytes is too long
+abbrev pub TakesLines : ReadLists → List (List ℕ) → ReadLists → Type 0
+TakesLines before [] after = after ≡ before
+TakesLines before (line ∷ lines) after = (between : ReadLists) × Takes before (asked 1024 line) between × TakesLines between lines after
+
+-- the line names the address: it has at most 1,024 bytes, and an entry that does
+abbrev pub LineNames : List ℕ → IpAddr → Type 0
+LineNames line a = (entry : Entry) × (length line ≤ 1024) × ReadsEntry line (Ok (Some entry)) × Names entry a
+
+-- one of the lines names the address
+abbrev pub LinesName : List (List ℕ) → IpAddr → Type 0
+LinesName lines a = (line : List ℕ) × Contains lines line × LineNames line a
+
+-- lines that are taken add the addresses that they name, and no others, unless memory runs out
+abbrev pub LinesAddWhatTheyName : Type 0
+LinesAddWhatTheyName = (before after : ReadLists) (lines : List (List ℕ)) → TakesLines before lines after → after.is_out_of_memory ≡ false
+    → (a : IpAddr) → HasAddress after a ↔ (HasAddress before a ⊎ LinesName lines a)

@@ -1,0 +1,5 @@
+-- What the private functions promise each other.
+pub mod Parts
+pub mod Readings
+pub mod Taking
+pub mod Waiting

@@ -1,0 +1,44 @@
+-- The two kinds of entries, each by itself.
+use Rattle.std.specs.Prelude.{ℕ, List, Result, MatchResult}
+use Rattle.ipnetwork.specs.IpNetworkText.{NamesIpNetwork, IsIpCause}
+use Rattle.ipnetwork.specs.declared.ip_network.IpNetwork.{IpNetwork}
+use Rattle.ipnetwork_addr.specs.declared.ip.IpAddr.{IpAddr}
+use Rattle.ipnetwork_family.specs.declared.error.CidrFault.TheVariants as causes
+use Rattle.lists.specs.Entries.{NamesEnds, IsRange}
+use Rattle.lists.specs.declared.entry.Entry.{Entry}
+use Rattle.lists.specs.declared.entry.Entry.TheVariants as entries
+use Rattle.lists.specs.declared.entry.EntryFault.{EntryFault}
+use Rattle.lists.specs.declared.entry.EntryFault.TheVariants as faults
+
+-- the entry is the network that the text names
+abbrev pub IsNamedNetwork : List ℕ → Entry → Type 0
+IsNamedNetwork text (entries.Network n) = NamesIpNetwork text n
+IsNamedNetwork text (entries.Range first last) = ⊥
+
+-- why a text names no network
+abbrev pub IsNetworkFault : List ℕ → EntryFault → Type 0
+IsNetworkFault text faults.Format = IsIpCause text causes.Format
+IsNetworkFault text faults.Address = IsIpCause text causes.Addr
+IsNetworkFault text faults.Prefix = IsIpCause text causes.Prefix
+IsNetworkFault text faults.Range = ⊥
+
+-- the network that the text names, or why it names none
+abbrev pub ReadsNetworkText : List ℕ → Result Entry EntryFault → Type 0
+ReadsNetworkText text result =
+    MatchResult result (IsNamedNetwork text) (λ fault. IsNetworkFault text fault × ((n : IpNetwork) → ¬ (NamesIpNetwork text n)))
+
+-- the entry is the range of these ends
+abbrev pub IsRangeOf : List ℕ → List ℕ → Entry → Type 0
+IsRangeOf before after (entries.Network n) = ⊥
+IsRangeOf before after (entries.Range first last) = NamesEnds before after first last × IsRange first last
+
+-- why the ends are those of no range
+abbrev pub IsRangeFault : List ℕ → List ℕ → EntryFault → Type 0
+IsRangeFault before after faults.Format = ⊥
+IsRangeFault before after faults.Prefix = ⊥
+IsRangeFault before after faults.Address = (first last : IpAddr) → ¬ (NamesEnds before after first last)
+IsRangeFault before after faults.Range = (first : IpAddr) × (last : IpAddr) × NamesEnds before after first last × ¬ (IsRange first last)
+
+-- the range of these ends, or why there is none
+abbrev pub ReadsRange : List ℕ → List ℕ → Result Entry EntryFault → Type 0
+ReadsRange before after result = MatchResult result (IsRangeOf before after) (IsRangeFault before after)

@@ -1,0 +1,10 @@
+-- How the reading of a list ends.
+use Rattle.std.specs.Prelude.{ℕ, Bool, Result, Ok, Err, if◌then◌else◌}
+use Rattle.line_engine.specs.declared.fault.RunFault.{RunFault}
+use Rattle.lists.specs.declared.named.ReadFault.{ReadFault}
+use Rattle.lists.specs.declared.named.ReadFault.TheVariants.{Read, OutOfMemory}
+
+-- how the reading of the list at a place ends, by how its lines were taken, and whether there was no memory for one
+abbrev pub end_of : Result (Unit {0}) RunFault → ℕ → Bool → Result (Unit {0}) ReadFault
+end_of (Ok done) place out = if out then Err OutOfMemory else Ok done
+end_of (Err fault) place out = if out then Err OutOfMemory else Err (Read place)

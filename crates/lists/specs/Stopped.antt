@@ -1,0 +1,22 @@
+-- What is taken of a list that is not read to its end.
+use Rattle.std.specs.Prelude.{ℕ, ◌-◌, ◌^◌, ◌<◌, List, length, Option}
+use Rattle.std.specs.Io.KnownBytes.{Consumes}
+use Rattle.std.specs.Str.Lines.{lines}
+use Rattle.line_engine.specs.Answers.{complete_part, IsBeginning}
+use Rattle.line_engine.specs.declared.fault.RunFault.{RunFault}
+use Rattle.line_engine.specs.declared.fault.RunFault.TheVariants.{Read, Write, InputTooLong}
+use Rattle.lists.specs.Lists.{ReadLists, TakesLines}
+
+-- the lines that these bytes complete are taken, and no others
+abbrev pub TakesComplete : List ℕ → ReadLists → ReadLists → Type 0
+TakesComplete bytes before after = TakesLines before (lines (complete_part bytes)) after
+
+-- what is taken before the reading stops, by what stops it. The reader had the first bytes, and has the second left
+abbrev pub TakesBefore : Option (List ℕ) → Option (List ℕ) → RunFault → ReadLists → ReadLists → Type 0
+-- a read failed: the lines that the bytes complete that were read
+TakesBefore remained remains Read before after = (read : List ℕ) × Consumes remained remains read × TakesComplete read before after
+-- more bytes were read than 64 bits count: the lines that some first ones of them complete
+TakesBefore remained remains InputTooLong before after =
+    (read : List ℕ) × (first : List ℕ) × Consumes remained remains read × (2 ^ 64 - 1 < length read) × IsBeginning first read × TakesComplete first before after
+-- no write fails: the lines get no replies, so that none is written
+TakesBefore remained remains Write before after = ⊥

@@ -1,0 +1,41 @@
+//! Why a line is refused.
+ghost use Rattle.std.specs.Prelude.{◌≡◌};
+ghost use Rattle.lists.specs.Faults.{line_fault_text};
+
+use crate::EntryFault;
+
+/// Why a line of a list is refused.
+///
+/// ```
+/// let mut lists = ListReader::new(rt.alloc(), Refusals::new());
+/// read_list(&mut lists, 1, &mut line_engine::watched::Watched::new(b"10.0.0.0/33".as_slice()))?;
+/// let (_, _, refusals) = lists.into_sets();
+/// assert_eq!(rt; refusals.kept()[0].fault, LineFault::Entry(EntryFault::Prefix));
+/// ```
+#[derive(Clone, Copy, Debug, PartialEq, Eq)]
+pub enum LineFault {
+    /// The line names no addresses.
+    Entry(EntryFault),
+    /// The line has more than 1,024 bytes, not counting its line end.
+    Length,
+}
+
+impl LineFault {
+    /// The fault in one word: `format`, `address`, `prefix`, `range` or `length`.
+    ///
+    /// ```
+    /// assert_eq!(rt; LineFault::Entry(EntryFault::Prefix).text(), "prefix");
+    /// assert_eq!(rt; LineFault::Length.text(), "length");
+    /// ```
+    pub fn text(self) -> &'static str
+        ensures { result.now ≡ line_fault_text self }
+    {
+        match self {
+            LineFault::Entry(EntryFault::Format) => "format",
+            LineFault::Entry(EntryFault::Address) => "address",
+            LineFault::Entry(EntryFault::Prefix) => "prefix",
+            LineFault::Entry(EntryFault::Range) => "range",
+            LineFault::Length => "length",
+        }
+    }
+}

@@ -1,0 +1,69 @@
+//! The laws of entries and of lists. Each function's contract is a law; it does nothing, and a proof whose function
+//! calls it may use the law.
+ghost use Rattle.lists.specs.Lists.{LinesAddWhatTheyName};
+ghost use Rattle.lists.specs.Merges.{MergesOfPartsMerge};
+ghost use Rattle.lists.specs.Printed.{PrintedListsNameTheirNetworks};
+ghost use Rattle.lists.specs.Laws.{OneReading, NetworkTextsAreEntries, AddressTextsAreRanges};
+
+use ipnetwork::laws as networks;
+use ipnetwork::laws::{canonical_ip_network_bytes, canonical_ip_network_names_it};
+use ipnetwork_addr::laws as addresses;
+use ipnetwork_blocks::laws::{of_the_union, same_union};
+
+/// A line has one reading: it is empty, it names one entry, or it is refused for one cause.
+pub fn line_says_one_thing()
+    ensures { OneReading }
+{
+    networks::ip_network_text_names_one();
+    addresses::ip_text_names_one();
+}
+
+/// A line that is the text of a network, and nothing else, names that network: no text of a network contains a `-`, a
+/// blank or a mark of a comment.
+pub fn network_texts_are_entries()
+    ensures { NetworkTextsAreEntries }
+{
+    addresses::v4_text_bytes();
+    addresses::v6_text_bytes();
+    addresses::v4_text_is_computed();
+    addresses::v6_text_is_computed();
+}
+
+/// A line of two address texts with a `-` between them names the addresses from the first to the last, if they are of
+/// one family and in that order.
+pub fn address_texts_are_ranges()
+    ensures { AddressTextsAreRanges }
+{
+    addresses::v4_text_bytes();
+    addresses::v6_text_bytes();
+    addresses::v4_text_is_computed();
+    addresses::v6_text_is_computed();
+}
+
+/// Lines that are taken add the addresses that they name, and no others, unless memory runs out for them.
+pub fn lines_add_what_they_name()
+    ensures { LinesAddWhatTheyName }
+{
+    line_says_one_thing();
+}
+
+/// A list may be merged in parts, of any number and in any order: the merge of the parts' merges is the merge of the
+/// whole.
+pub fn merges_of_parts_merge()
+    ensures { MergesOfPartsMerge }
+{
+    same_union();
+    of_the_union();
+}
+
+/// A list that was printed, each network in its canonical text with a line feed, names the addresses of its networks
+/// and no others, if no line has more than 1,024 bytes (no such text has more than 43, which is a clause of
+/// `canonical`).
+pub fn printed_lists_name_their_networks()
+    ensures { PrintedListsNameTheirNetworks }
+{
+    line_says_one_thing();
+    network_texts_are_entries();
+    canonical_ip_network_names_it();
+    canonical_ip_network_bytes();
+}

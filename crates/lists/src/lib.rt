@@ -1,0 +1,25 @@
+//! Lists of networks: what their lines name, read into the networks of each family, and which lines are refused.
+//!
+//! A line is a network, a range of addresses, or empty. A comment begins with `#` or `;`. Only the networks that a list
+//! names take memory.
+#![tactic(auto)]
+
+mod comment;
+mod entry;
+mod fault;
+pub mod laws;
+mod list_reader;
+mod named;
+mod networks;
+mod open_lists;
+mod range;
+mod read;
+mod refusals;
+
+pub use entry::{Entry, EntryFault, read_entry};
+pub use fault::LineFault;
+pub use list_reader::ListReader;
+pub use named::{ReadFault, read_named, read_text};
+pub use open_lists::OpenLists;
+pub use read::{LINE_MAX, read_list};
+pub use refusals::{REFUSALS_MAX, Refusal, Refusals};

@@ -1,0 +1,92 @@
+//! Reads a list by its name.
+ghost use Rattle.std.specs.Prelude.{◌≡◌, false, OnOk, IfErr};
+ghost use Rattle.std.specs.Str.Lines.{lines};
+ghost use Rattle.lists.specs.Lists.{at_list, TakesLines};
+ghost use Rattle.lists.specs.ReadBy.{read_by};
+ghost use Rattle.lists.specs.Private.Readings.{end_of};
+ghost use Rattle.lists.specs.Reading.{ReadsList, StopsAt, StopsAtText};
+
+use crate::list_reader::ListReader;
+use crate::open_lists::OpenLists;
+use crate::read::{read_list, take_text};
+use line_engine::fault::RunFault;
+use line_engine::watched::Watched;
+
+/// Why lists were not read to the end.
+///
+/// ```
+/// let fault = lists::ReadFault::Open(1);
+/// assert!(rt; fault != lists::ReadFault::Read(1));
+/// ```
+#[derive(Clone, Copy, Debug, PartialEq, Eq)]
+pub enum ReadFault {
+    /// The list that is named by the word at this index cannot be opened.
+    Open(usize),
+    /// The list that is named by the word at this index cannot be read.
+    Read(usize),
+    /// Out of memory for what the lists name.
+    OutOfMemory,
+}
+
+/// Opens the list of this name, which is the word at the index `place`, reads it to the end, and closes it.
+///
+/// The refused lines are added to the earlier ones, even if the reading ends with a fault.
+///
+/// ```
+/// use lists::{ReadFault, read_named};
+///
+/// let system = program::system::System::new(&rt);
+/// let mut reader = lists::ListReader::new(rt.alloc(), lists::Refusals::new());
+/// assert_eq!(rt; read_named(&system, "no such file", 1, &mut reader), Err(ReadFault::Open(1)));
+/// ```
+pub fn read_named<L: OpenLists>(
+    lists: &L,
+    name: &str,
+    place: usize,
+    reader: &mut ListReader,
+) -> Result<(), ReadFault>
+    ensures read { OnOk result (ReadsList (L.known lists.now) place name.now (read_by reader.old) (read_by reader.new)) }
+    ensures memory { OnOk result ((read_by reader.new).is_out_of_memory ≡ false) }
+    ensures stopped { IfErr result (λ fault. StopsAt (L.known lists.now) place name.now (read_by reader.old) fault (read_by reader.new).refused) }
+{
+    let Ok(list) = lists.open(name) else {
+        return Err(ReadFault::Open(place));
+    };
+    let mut list = Watched::new(list);
+    let read = read_list(reader, place, &mut list);
+    lists.close(name, list);
+    end_of(read, place, reader.is_out_of_memory())
+}
+
+/// Reads a text, which is the word at the index `place`, as a list to its end. Only memory can run out.
+///
+/// ```
+/// let mut reader = lists::ListReader::new(rt.alloc(), lists::Refusals::new());
+/// assert_eq!(rt; lists::read_text("10.0.0.0/8", 1, &mut reader), Ok(()));
+/// let (v4, _, _) = reader.into_sets();
+/// assert_eq!(rt; v4.blocks().len(), 1);
+/// ```
+pub fn read_text(text: &str, place: usize, reader: &mut ListReader) -> Result<(), ReadFault>
+    ensures read { OnOk result (TakesLines (at_list (read_by reader.old) place) (lines text.now) (read_by reader.new)) }
+    ensures memory { OnOk result ((read_by reader.new).is_out_of_memory ≡ false) }
+    ensures stopped { IfErr result (λ fault. StopsAtText place text.now (read_by reader.old) fault (read_by reader.new).refused) }
+{
+    take_text(reader, place, text);
+    if reader.is_out_of_memory() {
+        return Err(ReadFault::OutOfMemory);
+    }
+    Ok(())
+}
+
+// How the reading of the list at a place ends, by how its lines were taken, and whether memory ran out.
+fn end_of(read: Result<(), RunFault>, place: usize, is_out_of_memory: bool) -> Result<(), ReadFault>
+    ensures { result ≡ end_of read place is_out_of_memory }
+{
+    if is_out_of_memory {
+        return Err(ReadFault::OutOfMemory);
+    }
+    match read {
+        Ok(()) => Ok(()),
+        Err(_) => Err(ReadFault::Read(place)),
+    }
+}

@@ -1,0 +1,53 @@
+//! Where lists come from.
+ghost use Rattle.std.specs.Prelude.{◌≡◌, ℕ, IsTrue, List as Bytes, Some, IfOk, is_ok};
+ghost use Rattle.line_engine.specs.Watched.{has_failed};
+ghost use Rattle.lists.specs.KnownLists.{KnownLists, nothing_known};
+
+use line_engine::watched::Watched;
+use std::io;
+use std::io::Read;
+
+/// Opens lists by their names, and closes them.
+///
+/// ```
+/// // Whether there is a list of this name.
+/// fn is_there<L: lists::OpenLists>(lists: &L, name: &str) -> bool {
+///     lists.open(name).is_ok()
+/// }
+///
+/// assert!(rt; is_there(&program::system::System::new(&rt), "-"));
+/// ```
+pub trait OpenLists {
+    /// A list that was opened.
+    type List: Read + Drop;
+
+    // What is known of its lists.
+    ghost known: { Self → KnownLists } = { λ _. nothing_known };
+
+    /// Opens the list of this name. The error is the system's.
+    ///
+    /// ```
+    /// use lists::OpenLists;
+    ///
+    /// let system = program::system::System::new(&rt);
+    /// assert!(rt; system.open("-").is_ok());
+    /// assert!(rt; system.open("no such file").is_err());
+    /// ```
+    fn open(&self, name: &str) -> io::Result<Self::List>
+        ensures bytes { IfOk result (λ list. (bytes : Bytes ℕ) → (known self.now).bytes_of name.now ≡ Some bytes → Self.List.remaining list ≡ Some bytes) }
+        ensures opened { (known self.now).may_open name.now (is_ok result) };
+
+    /// Closes the list of this name. The contract records whether a read of it failed.
+    ///
+    /// ```
+    /// use line_engine::watched::Watched;
+    /// use lists::OpenLists;
+    ///
+    /// let system = program::system::System::new(&rt);
+    /// let list = Watched::new(system.open("-")?);
+    /// assert!(rt; !list.failed());
+    /// system.close("-", list);
+    /// ```
+    fn close(&self, name: &str, list: Watched<Self::List>)
+        ensures failed { IsTrue (has_failed list) → (known self.now).may_fail name.now };
+}

@@ -1,0 +1,42 @@
+//! The range of addresses between two ends.
+ghost use Rattle.lists.specs.Entries.{IsRange};
+ghost use Rattle.lists.specs.Private.Parts.{ReadsRange};
+ghost use Rattle.std.specs.Prelude.{◌↔◌, ◌≡◌, IsTrue, MatchResult};
+
+use crate::comment::trim;
+use crate::entry::{Entry, EntryFault};
+use ipnetwork::IpAddr;
+
+/// The range of which these texts name the ends.
+pub(crate) fn read_range(before: &[u8], after: &[u8]) -> Result<Entry, EntryFault>
+    ensures { ReadsRange before.now after.now result }
+{
+    let Ok(first) = IpAddr::read_bytes(trim(before)) else {
+        return Err(EntryFault::Address);
+    };
+    let Ok(last) = IpAddr::read_bytes(trim(after)) else {
+        return Err(EntryFault::Address);
+    };
+    between(first, last)
+}
+
+/// The range from one address to another.
+fn between(first: IpAddr, last: IpAddr) -> Result<Entry, EntryFault>
+    ensures { MatchResult result (λ entry. (entry ≡ Entry.Range first last) × IsRange first last) (λ fault. (fault ≡ EntryFault.Range) × ¬ (IsRange first last)) }
+{
+    if !is_range(&first, &last) {
+        return Err(EntryFault::Range);
+    }
+    let range = Entry::Range { first, last };
+    Ok(range)
+}
+
+/// Whether the addresses are of one family, and the first is not after the last.
+fn is_range(first: &IpAddr, last: &IpAddr) -> bool
+    ensures { IsTrue result ↔ IsRange first.now last.now }
+{
+    if let (IpAddr::V4(_), IpAddr::V6(_)) = (first, last) {
+        return false;
+    }
+    first <= last
+}

@@ -1,0 +1,114 @@
+//! Reads lists.
+ghost use Rattle.std.specs.Prelude.{◌≡◌, ◌||◌, ℕ, List, Some, OnOk, IfErr};
+ghost use Rattle.std.specs.Str.Lines.{lines};
+ghost use Rattle.line_engine.specs.Answers.{asked};
+ghost use Rattle.line_engine.specs.LineBuffers.{Holds};
+ghost use Rattle.line_engine.specs.Run.{ended_by_read};
+ghost use Rattle.line_engine.specs.Watched.{device_of, has_failed};
+ghost use Rattle.lists.specs.Lists.{at_list, Takes, TakesLines};
+ghost use Rattle.lists.specs.Private.Waiting.{TakesWhole};
+ghost use Rattle.lists.specs.ReadBy.{read_by};
+ghost use Rattle.lists.specs.Stopped.{TakesBefore};
+
+use crate::list_reader::ListReader;
+use line_engine::fault::RunFault;
+use line_engine::line_buffer::{LineBuffer, NextLine};
+use line_engine::watched::Watched;
+use std::io::Read;
+
+/// The most bytes of a line, not counting its line end.
+///
+/// ```
+/// let line = [b'#'].repeat(rt.alloc(), LINE_MAX + 1)?;
+/// let mut lists = ListReader::new(rt.alloc(), Refusals::new());
+/// read_list(&mut lists, 1, &mut line_engine::watched::Watched::new(line.as_slice()))?;
+/// assert_eq!(rt; lists.into_sets().2.kept()[0].fault, LineFault::Length);
+/// ```
+pub const LINE_MAX: usize = 1024;
+
+/// The most bytes that are read and not yet taken.
+const BUFFER_MAX: usize = 65536;
+
+/// Reads a list to its end, or until memory runs out. `list` is a number that the caller chooses, by which refused lines name the list.
+///
+/// `RunFault::Read` if a read failed: exactly the lines that were complete before were read. `RunFault::InputTooLong`
+/// if there are more than 18,446,744,073,709,551,615 bytes. Allocates only for what the list names, unless the device
+/// allocates.
+///
+/// ```
+/// let mut lists = ListReader::new(rt.alloc(), Refusals::new());
+/// let list = b"# private\n10.0.0.0/8\n10.0.0.0/33\n".as_slice();
+/// read_list(&mut lists, 1, &mut line_engine::watched::Watched::new(list))?;
+/// let (v4, _, refusals) = lists.into_sets();
+/// assert_eq!(rt; v4.blocks(), ["10.0.0.0/8".parse()?].as_slice());
+/// assert_eq!(rt; refusals.kept()[0].line, 3);
+/// ```
+pub fn read_list<R: Read>(
+    lists: &mut ListReader,
+    list: usize,
+    reader: &mut Watched<R>,
+) -> Result<(), RunFault>
+    ensures taken { OnOk result ((input : List ℕ) → R.remaining (device_of reader.old) ≡ Some input → TakesLines (at_list (read_by lists.old) list) (lines input) (read_by lists.new)) }
+    ensures stopped { IfErr result (λ fault. TakesBefore (R.remaining (device_of reader.old)) (R.remaining (device_of reader.new)) fault (at_list (read_by lists.old) list) (read_by lists.new)) }
+    ensures failed { has_failed reader.new ≡ (has_failed reader.old || ended_by_read result) }
+{
+    lists.begin(list);
+    let mut slice = [0u8; BUFFER_MAX];
+    let mut lines = LineBuffer::new(&mut slice, LINE_MAX);
+    let mut room = u64::MAX;
+    'reads: loop {
+        let count = match lines.ask(reader) {
+            Ok(count) => count,
+            Err(_) => return Err(RunFault::Read),
+        };
+        if count as u64 > room {
+            return Err(RunFault::InputTooLong);
+        }
+        room -= count as u64;
+        take_whole_lines(lists, &mut lines);
+        if count == 0 {
+            return Ok(());
+        }
+        if lists.is_out_of_memory() {
+            return Ok(());
+        }
+    }
+}
+
+// Takes the lines that are whole.
+fn take_whole_lines(lists: &mut ListReader, lines: &mut LineBuffer<'_>)
+    requires { lines.old.limit ≡ 1024 }
+    ensures taken { (pending : List ℕ) → Holds lines.old pending → TakesWhole lines.new (read_by lists.old) (read_by lists.new) pending }
+    ensures limit { lines.new.limit ≡ lines.old.limit }
+    ensures ended { lines.new.ended ≡ lines.old.ended }
+{
+    'lines: loop {
+        match lines.next() {
+            NextLine::Line(_) => lists.take_line(lines.line()),
+            NextLine::TooLong => lists.refuse_long_line(),
+            NextLine::Ask => return,
+            NextLine::End => return,
+        }
+    }
+}
+
+// Reads a text as a list to its end, as `read_list` reads its bytes. Refused lines name the text by the number `list`.
+pub(crate) fn take_text(lists: &mut ListReader, list: usize, text: &str)
+    ensures { TakesLines (at_list (read_by lists.old) list) (lines text.now) (read_by lists.new) }
+{
+    lists.begin(list);
+    for line in text.lines() {
+        read_line(lists, line.as_bytes());
+    }
+}
+
+// Takes a line, unless it is too long.
+fn read_line(lists: &mut ListReader, line: &[u8])
+    ensures { Takes (read_by lists.old) (asked 1024 line.now) (read_by lists.new) }
+{
+    if line.len() > LINE_MAX {
+        lists.refuse_long_line();
+    } else {
+        lists.take_line(line);
+    }
+}

@@ -1,0 +1,146 @@
+//! The refused lines of lists.
+ghost use Rattle.std.specs.Prelude.{◌≡◌, ◌==◌, length};
+ghost use Rattle.lists.specs.Refusals.{no_refusals, with_refusal};
+
+use crate::fault::LineFault;
+use std::marker::Model;
+
+/// How many refused lines are kept.
+///
+/// ```
+/// let list = b"x\n".repeat(rt.alloc(), 103)?;
+/// let mut lists = ListReader::new(rt.alloc(), Refusals::new());
+/// read_list(&mut lists, 1, &mut line_engine::watched::Watched::new(list.as_slice()))?;
+/// let (_, _, refusals) = lists.into_sets();
+/// assert_eq!(rt; refusals.kept().len(), REFUSALS_MAX);
+/// ```
+pub const REFUSALS_MAX: usize = 100;
+
+/// A refused line.
+///
+/// ```
+/// let mut lists = ListReader::new(rt.alloc(), Refusals::new());
+/// read_list(&mut lists, 7, &mut line_engine::watched::Watched::new(b"10.0.0.1\n10.0.0.256".as_slice()))?;
+/// let (_, _, refusals) = lists.into_sets();
+/// let fault = LineFault::Entry(EntryFault::Address);
+/// assert_eq!(rt; refusals.kept()[0], Refusal { list: 7, line: 2, fault });
+/// ```
+#[derive(Clone, Copy, Debug, PartialEq, Eq)]
+pub struct Refusal {
+    /// The number that the caller gave the list.
+    pub list: usize,
+    /// The number of the line in its list, from 1 on.
+    pub line: u64,
+    /// Why it is refused.
+    pub fault: LineFault,
+}
+
+/// The first hundred refused lines, in the order in which they were read, and how many more there were.
+///
+/// ```
+/// let list = b"x\n".repeat(rt.alloc(), 103)?;
+/// let mut lists = ListReader::new(rt.alloc(), Refusals::new());
+/// read_list(&mut lists, 1, &mut line_engine::watched::Watched::new(list.as_slice()))?;
+/// let (_, _, refusals) = lists.into_sets();
+/// assert_eq!(rt; (refusals.kept().len(), refusals.more()), (100, 3));
+/// ```
+#[derive(Debug, Drop)]
+pub struct Refusals {
+    slots: [Refusal; REFUSALS_MAX],
+    count: usize,
+    more: u64,
+}
+
+// What stands in a slot that is not used.
+const UNUSED: Refusal = Refusal {
+    list: 0,
+    line: 0,
+    fault: LineFault::Length,
+};
+
+// A contract sees the refused lines that are kept, and how many more there were.
+impl Model for Refusals {
+    ghost use Rattle.std.specs.Prelude.{◌≤◌, take};
+    ghost use Rattle.lists.specs.Refusals.{Refused};
+
+    ghost Value = { Refused };
+
+    ghost view = { λ r. record { kept = take r.count r.slots; more = r.more } };
+
+    ghost invariant = { λ r. r.count ≤ 100 };
+}
+
+impl Refusals {
+    /// No refused lines.
+    ///
+    /// ```
+    /// let refusals = Refusals::new();
+    /// assert_eq!(rt; (refusals.kept().len(), refusals.more()), (0, 0));
+    /// ```
+    pub fn new() -> Refusals
+        ensures { result ≡ no_refusals }
+    {
+        Refusals {
+            slots: [UNUSED; REFUSALS_MAX],
+            count: 0,
+            more: 0,
+        }
+    }
+
+    /// Adds a refused line.
+    pub(crate) fn add(&mut self, refusal: Refusal)
+        ensures { self.new ≡ with_refusal self.old refusal }
+    {
+        if self.count < REFUSALS_MAX {
+            self.slots[self.count] = refusal;
+            self.count += 1;
+        } else {
+            self.more = self.more.saturating_add(1);
+        }
+    }
+
+    /// The refused lines that are kept: the first hundred.
+    ///
+    /// ```
+    /// let mut lists = ListReader::new(rt.alloc(), Refusals::new());
+    /// read_list(&mut lists, 1, &mut line_engine::watched::Watched::new(b"1.1.1.1/8/8\nx".as_slice()))?;
+    /// let (_, _, refusals) = lists.into_sets();
+    /// assert_eq!(rt; refusals.kept()[0].fault.text(), "format");
+    /// assert_eq!(rt; refusals.kept()[1].fault.text(), "address");
+    /// ```
+    pub fn kept(&self) -> &[Refusal]
+        ensures { result.now ≡ self.now.kept }
+    {
+        &self.slots[..self.count]
+    }
+
+    /// How many more refused lines there were, up to 18,446,744,073,709,551,615.
+    ///
+    /// ```
+    /// let list = b"x\n".repeat(rt.alloc(), 103)?;
+    /// let mut lists = ListReader::new(rt.alloc(), Refusals::new());
+    /// read_list(&mut lists, 1, &mut line_engine::watched::Watched::new(list.as_slice()))?;
+    /// let (_, _, refusals) = lists.into_sets();
+    /// assert_eq!(rt; refusals.more(), 3);
+    /// ```
+    pub fn more(&self) -> u64
+        ensures { result ≡ self.now.more }
+    {
+        self.more
+    }
+
+    /// Whether no refused line is kept.
+    ///
+    /// ```
+    /// let mut lists = ListReader::new(rt.alloc(), Refusals::new());
+    /// read_list(&mut lists, 1, &mut line_engine::watched::Watched::new(b"::/129".as_slice()))?;
+    /// let (_, _, refusals) = lists.into_sets();
+    /// assert!(rt; Refusals::new().is_empty());
+    /// assert!(rt; !refusals.is_empty());
+    /// ```
+    pub fn is_empty(&self) -> bool
+        ensures { result ≡ (length self.now.kept == 0) }
+    {
+        self.kept().is_empty()
+    }
+}

@@ -1,0 +1,100 @@
+-- Values at which a misreading of the definitions would show. Each of these computes.
+use Rattle.std.proofs.Common.{◌≡◌, ◌-◌, ◌^◌, ◌<◌, ℕ, List, ◌∷◌, [], true, false, inl, inr, refl, arith}
+use Rattle.std.specs.Prelude.{codes, String, Some, Ok, Err}
+use Rattle.std.specs.Fmt.{digits}
+use Rattle.std.specs.String.{string_bytes}
+use Rattle.std.specs.Str.Lines.{lines}
+use Rattle.lists.specs.Lists.{ReadLists, at_list, TakesLines}
+use Rattle.lists.specs.Refusals.{Refused}
+use Rattle.line_engine.specs.declared.fault.RunFault.TheVariants as faults
+use Rattle.lists.specs.KnownLists.{KnownLists}
+use Rattle.lists.specs.Private.Readings.{end_of}
+use Rattle.lists.specs.Reading.{ReadsList, StopsAt, StopsAtText}
+use Rattle.program.specs.Told.{fault_text, more_text}
+use Rattle.program.specs.Usage.{subject_text, usage_text, arguments_text}
+use Rattle.program.specs.declared.arguments.ArgumentsFault.TheVariants as arguments
+use Rattle.lists.specs.declared.named.ReadFault.TheVariants.{Open, Read, OutOfMemory}
+use Rattle.program.specs.declared.usage.Subject.TheVariants.{CommandLine, Word, Value}
+
+-- ---- what is told
+
+pub no_more : more_text 0 ≡ []
+no_more = refl
+
+pub some_more : more_text 12 ≡ codes "12 more refused lines\n"
+unfolding digits
+some_more = refl
+
+pub a_refused_list : {Z : Type 0} (union list : String Z) → string_bytes list ≡ codes "-" → fault_text (union ∷ list ∷ []) (Read 1) ≡ codes "-: cannot read\n"
+a_refused_list union list e = rw e
+
+pub a_missing_list : {Z : Type 0} (union list : String Z) → string_bytes list ≡ codes "x" → fault_text (union ∷ list ∷ []) (Open 1) ≡ codes "x: cannot open\n"
+a_missing_list union list e = rw e
+
+-- ---- where the reading stops
+
+-- a list that was read to its end is no fault, and one for which there was no memory is that, also if a read failed
+pub a_list_is_read : (done : Unit {0}) → end_of (Ok done) 1 false ≡ Ok done
+a_list_is_read done = refl
+
+pub a_read_fails : end_of (Err faults.Read) 1 false ≡ Err (Read 1)
+a_read_fails = refl
+
+pub no_memory : end_of (Err faults.Read) 1 true ≡ Err OutOfMemory
+no_memory = refl
+
+-- a list that is read was opened, and one that cannot be opened was not
+pub what_is_read_was_opened : (known : KnownLists) (number : ℕ) (name : List ℕ) (before after : ReadLists) → ReadsList known number name before after → known.may_open name true
+what_is_read_was_opened known number name before after h = h.0
+
+pub what_is_not_opened : (known : KnownLists) (number place : ℕ) (name : List ℕ) (before : ReadLists) (refused : Refused) → StopsAt known number name before (Open place) refused
+    → (place ≡ number) × known.may_open name false × (refused ≡ before.refused)
+what_is_not_opened known number place name before refused h = h
+
+-- a read that fails before any line was read leaves the refused lines of the lists before
+pub a_read_that_fails_at_once : (known : KnownLists) (name : List ℕ) (before : ReadLists) → known.may_open name true → known.may_fail name → before.is_out_of_memory ≡ false
+    → StopsAt known 1 name before (Read 1) before.refused
+a_read_that_fails_at_once known name before opened fails memory = (refl, inl fails, at_list before 1, (opened, λ input e. ([], lines input, refl, refl)), memory, refl)
+
+-- a list that is known to have a line, and of which no read fails, is not told as one that cannot be read
+pub what_fails : (known : KnownLists) (name : List ℕ) (before : ReadLists) (refused : Refused) → known.bytes_of name ≡ Some (codes "::1\n") → (known.may_fail name → ⊥)
+    → StopsAt known 1 name before (Read 1) refused → ⊥
+what_fails known name before refused has sound h = elim h.1 [
+  | inl fails ↦ sound fails
+  | inr many ↦ too_few (many (codes "::1\n") has)
+] where
+  too_few : 2 ^ 64 - 1 < 4 → ⊥
+  too_few l = omega (arith, l)
+
+-- memory alone stops the reading of a text, and then all its lines were taken before
+pub a_text_is_read : (number place : ℕ) (text : List ℕ) (before : ReadLists) (refused : Refused) → StopsAtText number text before (Read place) refused → ⊥
+a_text_is_read number place text before refused h = h
+
+pub a_text_is_opened : (number place : ℕ) (text : List ℕ) (before : ReadLists) (refused : Refused) → StopsAtText number text before (Open place) refused → ⊥
+a_text_is_opened number place text before refused h = h
+
+pub memory_for_a_text : (number : ℕ) (text : List ℕ) (before : ReadLists) (refused : Refused) (stops : StopsAtText number text before OutOfMemory refused)
+    → TakesLines (at_list before number) (lines text) stops.0 × (stops.0.is_out_of_memory ≡ true)
+memory_for_a_text number text before refused stops = (stops.1, stops.2)
+
+-- ---- what is told of a command line
+
+pub an_empty_word : {Z : Type 0} (word : String Z) → string_bytes word ≡ [] → subject_text (word ∷ []) (Word 0) ≡ codes "'': "
+an_empty_word word e = rw e
+
+pub a_word : {Z : Type 0} (minus option : String Z) → string_bytes option ≡ codes "-x"
+    → usage_text (codes "p") (codes "usage: p\n") (minus ∷ option ∷ []) (Word 1) (codes "not an option") ≡ codes "p: -x: not an option\nusage: p\n"
+a_word minus option e = rw e
+
+pub the_value_of_an_option : {Z : Type 0} (option value : String Z) → string_bytes option ≡ codes "-k" → string_bytes value ≡ codes "0"
+    → usage_text (codes "p") (codes "usage: p\n") (option ∷ value ∷ []) (Value 0 1) (codes "is no number") ≡ codes "p: -k: 0 is no number\nusage: p\n"
+the_value_of_an_option option value o v = rw (o, v)
+
+pub no_word : {Z : Type 0} (words : List (String Z)) → usage_text (codes "p") (codes "usage: p\n") words CommandLine (codes "no FILE") ≡ codes "p: no FILE\nusage: p\n"
+no_word words = refl
+
+pub an_argument_that_is_no_text : arguments_text arguments.NotText (codes "p") (codes "usage: p\n") ≡ codes "p: an argument is not UTF-8\nusage: p\n"
+an_argument_that_is_no_text = refl
+
+pub arguments_without_memory : arguments_text arguments.OutOfMemory (codes "p") (codes "usage: p\n") ≡ codes "out of memory\n"
+arguments_without_memory = refl

@@ -1,0 +1,74 @@
+-- What the definitions promise, part by part: a definition without one of these parts would not give it.
+use Rattle.std.proofs.Common.{◌≡◌, ◌++◌, ◌-◌, ◌^◌, ◌<◌, ◌⊎◌, ℕ, Bool, List, true, false, length, refl}
+use Rattle.std.specs.Prelude.{IsTrue, IsFalse, Option, Some, Result, Ok, Err, codes, if◌then◌else◌}
+use Rattle.std.specs.Io.KnownBytes.{Appends}
+use Rattle.std.specs.Str.Lines.{lines}
+use Rattle.lists.specs.Lists.{ReadLists, at_list, TakesLines}
+use Rattle.lists.specs.Refusals.{Refused}
+use Rattle.line_engine.specs.Outputs.{writer_of, waits_in, output_failed, Puts}
+use Rattle.line_engine.specs.declared.output.Output.{Output}
+use Rattle.program.specs.Endings.{status_of, failure_text, end_text, Ending, IsSilent, HasTold, HasWritten, EndsPrinting}
+use Rattle.lists.specs.KnownLists.{KnownLists, known_of}
+use Rattle.program.specs.Messages.{Tells}
+use Rattle.lists.specs.Reading.{ReadsList, ReadsFirst, FailsReading, StopsAt}
+use Rattle.lists.specs.declared.named.ReadFault.TheVariants.{Read, OutOfMemory}
+
+-- ---- messages
+
+pub what_is_told : {W : Type 0} (contents : W → Option (List ℕ)) (old new : Output W) (text : List ℕ) → Tells contents old new text → IsFalse (output_failed new)
+    → Puts (contents (writer_of old)) (waits_in old) (contents (writer_of new)) (waits_in new) text
+what_is_told contents old new text h works = h.told works
+
+pub a_failed_writer_stays_failed : {W : Type 0} (contents : W → Option (List ℕ)) (old new : Output W) (text : List ℕ) → Tells contents old new text → IsTrue (output_failed old) → IsTrue (output_failed new)
+a_failed_writer_stays_failed contents old new text h failed = h.failed failed
+
+-- ---- endings
+
+pub the_status_that_is_asked_for : (T E : Type 0) (done : T) → status_of {T = T} {E = E} (Ok done) 3 ≡ 3
+the_status_that_is_asked_for T E done = refl
+
+pub the_status_of_a_failed_write : (T E : Type 0) (fault : E) → status_of {T = T} {E = E} (Err fault) 0 ≡ 2
+the_status_of_a_failed_write T E fault = refl
+
+pub what_is_told_of_a_failed_write : (T E : Type 0) (fault : E) → end_text {T = T} {E = E} (Err fault) ≡ codes "write error\n"
+what_is_told_of_a_failed_write T E fault = refl
+
+pub nothing_is_told_of_a_write : (T E : Type 0) (done : T) → end_text {T = T} {E = E} (Ok done) ≡ codes ""
+nothing_is_told_of_a_write T E done = refl
+
+pub what_is_silent : {W E : Type 0} (end : Ending W E) → IsSilent end → (end.output_after ≡ end.output) × (end.status ≡ 2)
+what_is_silent end h = h
+
+pub what_was_told : {W E : Type 0} (end : Ending W E) (text : List ℕ) → HasTold end text → Tells end.tells end.errors end.errors_after text
+what_was_told end text h = h
+
+pub what_was_written : {W E : Type 0} (end : Ending W E) (text : List ℕ) → HasWritten end text → Appends (end.holds (writer_of end.output)) (end.holds (writer_of end.output_after)) (waits_in end.output ++ text)
+what_was_written end text h = h
+
+pub what_was_printed : {W E : Type 0} (end : Ending W E) (text : List ℕ) → EndsPrinting text end
+    → (end.status ≡ (if output_failed end.output_after then 2 else 0)) × (end.status ≡ 0 → HasWritten end text) × HasTold end (failure_text (output_failed end.output_after))
+what_was_printed end text h = h
+
+-- ---- lists
+
+pub what_is_known : {S : Type 0} (bytes_of : S → List ℕ → Option (List ℕ)) (may_open : S → List ℕ → Bool → Type 0) (may_fail : S → List ℕ → Type 0) (lists : S)
+    → ((known_of bytes_of may_open may_fail lists).bytes_of ≡ bytes_of lists) × ((known_of bytes_of may_open may_fail lists).may_open ≡ may_open lists) × ((known_of bytes_of may_open may_fail lists).may_fail ≡ may_fail lists)
+what_is_known bytes_of may_open may_fail lists = (refl, refl, refl)
+
+pub what_is_read : (known : KnownLists) (number : ℕ) (name input : List ℕ) (before after : ReadLists) → ReadsList known number name before after → known.bytes_of name ≡ Some input → TakesLines (at_list before number) (lines input) after
+what_is_read known number name input before after h e = h.1 input e
+
+pub what_is_read_first : (known : KnownLists) (number : ℕ) (name input : List ℕ) (before after : ReadLists) → ReadsFirst known number name before after → known.bytes_of name ≡ Some input
+    → (first : List (List ℕ)) × (others : List (List ℕ)) × (lines input ≡ first ++ others) × TakesLines (at_list before number) first after
+what_is_read_first known number name input before after h e = h.1 input e
+
+pub why_a_reading_fails : (known : KnownLists) (name : List ℕ) → FailsReading known name → known.may_fail name ⊎ ((input : List ℕ) → known.bytes_of name ≡ Some input → 2 ^ 64 - 1 < length input)
+why_a_reading_fails known name h = h
+
+pub what_a_failed_read_leaves : (known : KnownLists) (number place : ℕ) (name : List ℕ) (before : ReadLists) (refused : Refused) → StopsAt known number name before (Read place) refused
+    → (place ≡ number) × FailsReading known name × (after : ReadLists) × ReadsFirst known number name before after × (after.is_out_of_memory ≡ false) × (refused ≡ after.refused)
+what_a_failed_read_leaves known number place name before refused h = h
+
+pub what_no_memory_leaves : (known : KnownLists) (number : ℕ) (name : List ℕ) (before : ReadLists) (refused : Refused) → StopsAt known number name before OutOfMemory refused
+    → (after : ReadLists) × ReadsFirst known number name before after × (after.is_out_of_memory ≡ true) × (refused ≡ after.refused)
+what_no_memory_leaves known number name before refused h = h

@@ -1,0 +1,5 @@
+-- What the contracts of this crate cite.
+pub mod Endings
+pub mod Messages
+pub mod Told
+pub mod Usage

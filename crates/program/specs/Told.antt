@@ -1,0 +1,26 @@
+-- Messages on standard error about lists.
+use Rattle.std.specs.Prelude.{ℕ, zero, suc, Bool, not, ◌==◌, List, [], ◌∷◌, ◌++◌, length, nat_lt, if◌then◌else◌, codes, decimal, String}
+use Rattle.std.specs.String.{string_bytes}
+use Rattle.lists.specs.Refusals.{Refused}
+use Rattle.lists.specs.declared.named.ReadFault.{ReadFault}
+use Rattle.lists.specs.declared.named.ReadFault.TheVariants.{Open, Read, OutOfMemory}
+
+-- the word at an index; past the last word, nothing
+abbrev pub name_at : {Z : Type 0} → List (String Z) → ℕ → List ℕ
+name_at [] place = []
+name_at (word ∷ words) zero = string_bytes word
+name_at (word ∷ words) (suc place) = name_at words place
+
+-- whether a line was refused
+abbrev pub was_refused : Refused → Bool
+was_refused refused = not (length refused.kept == 0)
+
+-- what is reported about refused lines that are not kept: how many there are
+abbrev pub more_text : ℕ → List ℕ
+more_text more = if nat_lt 0 more then decimal more ++ codes " more refused lines\n" else []
+
+-- what is reported if lists were not read to the end
+abbrev pub fault_text : {Z : Type 0} → List (String Z) → ReadFault → List ℕ
+fault_text words (Open place) = name_at words place ++ codes ": cannot open\n"
+fault_text words (Read place) = name_at words place ++ codes ": cannot read\n"
+fault_text words OutOfMemory = codes "out of memory\n"

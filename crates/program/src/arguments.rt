@@ -1,0 +1,48 @@
+//! The arguments of the program.
+use std::alloc::Global;
+use std::env;
+use std::io::ErrorKind;
+use std::rt::Env;
+
+/// Why the arguments cannot be read.
+///
+/// ```
+/// let fault = program::arguments::ArgumentsFault::NotText;
+/// assert!(rt; fault != program::arguments::ArgumentsFault::OutOfMemory);
+/// ```
+#[derive(Clone, Copy, Debug, PartialEq, Eq)]
+pub enum ArgumentsFault {
+    /// An argument is not UTF-8.
+    NotText,
+    /// Out of memory.
+    OutOfMemory,
+}
+
+/// The arguments after the program's name, in order. Each is a `String` of its own, in memory of the program's
+/// allocator.
+///
+/// ```
+/// assert!(rt; program::arguments::arguments(&rt).is_ok());
+/// ```
+pub fn arguments<R: Env + Alloc<A = Global>>(rt: &R) -> Result<Vec<String>, ArgumentsFault> {
+    let mut words = match env::args(rt) {
+        Ok(words) => words,
+        Err(error) => return Err(arguments_fault(error.kind())),
+    };
+    let _program = words.next();
+    let mut all = Vec::new(rt.alloc());
+    for word in words {
+        if all.push(word).is_err() {
+            return Err(ArgumentsFault::OutOfMemory);
+        }
+    }
+    Ok(all)
+}
+
+// Why they could not be read.
+fn arguments_fault(kind: ErrorKind) -> ArgumentsFault {
+    match kind {
+        ErrorKind::OutOfMemory => ArgumentsFault::OutOfMemory,
+        _ => ArgumentsFault::NotText,
+    }
+}

@@ -1,0 +1,69 @@
+//! How a program ends: its exit status, and what it reports on the error writer.
+ghost use Rattle.std.specs.Prelude.{◌≡◌, ◌++◌, if◌then◌else◌, OnOk, is_err};
+ghost use Rattle.std.specs.Io.KnownBytes.{Appends};
+ghost use Rattle.line_engine.specs.Outputs.{writer_of, waits_in, output_failed};
+ghost use Rattle.program.specs.Endings.{status_of, failure_text, end_text};
+ghost use Rattle.program.specs.Messages.{Tells};
+
+use crate::messages::tell;
+use line_engine::fault::RunFault;
+use line_engine::output::Output;
+use std::io::Write;
+
+/// The exit status of a program that could not do what it was asked.
+///
+/// ```
+/// assert_eq!(rt; program::ending::FAILED, 2);
+/// ```
+pub const FAILED: u8 = 2;
+
+/// Returns `status` if the output was written; otherwise reports `write error` and returns 2.
+///
+/// ```
+/// let mut slice = [0; 64];
+/// let mut errors = line_engine::output::Output::new(Vec::new(rt.alloc()), &mut slice);
+/// assert_eq!(rt; program::ending::end(Ok(()), 1, &mut errors), 1);
+/// assert_eq!(rt; program::ending::end(Err(line_engine::fault::RunFault::Write), 1, &mut errors), 2);
+/// ```
+pub fn end<E: Write>(written: Result<(), RunFault>, status: u8, errors: &mut Output<'_, E>) -> u8
+    ensures status { result ≡ status_of written status }
+    ensures told { Tells E.contents errors.old errors.new (end_text written) }
+{
+    if written.is_err() {
+        tell("write error\n", errors);
+        return FAILED;
+    }
+    tell("", errors);
+    status
+}
+
+/// Writes what waits and then a text, and returns the exit status: 0, or 2 if a write failed, which is reported as
+/// `write error`.
+///
+/// ```
+/// let (slice, error_slice) = (&mut [0; 64], &mut [0; 64]);
+/// let mut output = line_engine::output::Output::new(Vec::new(rt.alloc()), slice);
+/// let mut errors = line_engine::output::Output::new(Vec::new(rt.alloc()), error_slice);
+/// assert_eq!(rt; program::ending::print_text("cidr_merge 1\n", &mut output, &mut errors), 0);
+/// ```
+pub fn print_text<W: Write, E: Write>(
+    text: &str,
+    output: &mut Output<'_, W>,
+    errors: &mut Output<'_, E>,
+) -> u8
+    ensures status { result ≡ (if output_failed output.new then 2 else 0) }
+    ensures written { result ≡ 0 → Appends (W.contents (writer_of output.old)) (W.contents (writer_of output.new)) (waits_in output.old ++ text.now) }
+    ensures told { Tells E.contents errors.old errors.new (failure_text (output_failed output.new)) }
+{
+    let written = write_text(text, output);
+    end(written, 0, errors)
+}
+
+// Writes what waits and then a text.
+fn write_text<W: Write>(text: &str, output: &mut Output<'_, W>) -> Result<(), RunFault>
+    ensures written { OnOk result (Appends (W.contents (writer_of output.old)) (W.contents (writer_of output.new)) (waits_in output.old ++ text.now)) }
+    ensures failed { output_failed output.new ≡ is_err result }
+{
+    output.put(text.as_bytes())?;
+    output.finish()
+}

@@ -1,0 +1,9 @@
+//! What programs that read lists share: their arguments, the files they open, and what they report on standard error.
+#![tactic(auto)]
+
+pub mod arguments;
+pub mod ending;
+pub mod messages;
+pub mod system;
+pub mod telling;
+pub mod usage;

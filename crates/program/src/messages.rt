@@ -1,0 +1,49 @@
+//! Messages on the error writer. If a write of one fails, nothing else changes.
+ghost use Rattle.std.specs.Prelude.{◌≡◌, decimal};
+ghost use Rattle.program.specs.Messages.{Tells};
+
+use arrayvec::ArrayString;
+use ipnetwork_addr::decimal::push_number;
+use line_engine::output::Output;
+use std::io::Write;
+
+/// Writes a text to the error writer. If that fails, now or earlier, the text is lost, and nothing else happens.
+///
+/// ```
+/// let mut slice = [0; 64];
+/// let mut errors = line_engine::output::Output::new(Vec::new(rt.alloc()), &mut slice);
+/// program::messages::tell("out of memory\n", &mut errors);
+/// assert_eq!(rt; errors.finish(), Ok(()));
+/// ```
+pub fn tell<E: Write>(text: &str, errors: &mut Output<'_, E>)
+    ensures { Tells E.contents errors.old errors.new text.now }
+{
+    let _ = errors.put(text.as_bytes());
+}
+
+/// Writes a number in decimal to the error writer.
+///
+/// ```
+/// let mut slice = [0; 64];
+/// let mut errors = line_engine::output::Output::new(Vec::new(rt.alloc()), &mut slice);
+/// program::messages::tell_number(1024, &mut errors);
+/// assert_eq!(rt; errors.finish(), Ok(()));
+/// ```
+pub fn tell_number<E: Write>(number: u64, errors: &mut Output<'_, E>)
+    ensures { Tells E.contents errors.old errors.new (decimal number) }
+{
+    tell(number_text(number).as_str(), errors);
+}
+
+/// A number in decimal.
+///
+/// ```
+/// assert_eq!(rt; program::messages::number_text(1024).as_str(), "1024");
+/// ```
+pub fn number_text(number: u64) -> ArrayString<40>
+    ensures { result.bytes ≡ decimal number }
+{
+    let mut text = ArrayString::new();
+    push_number(&mut text, u128::from(number));
+    text
+}

@@ -1,4 +1,0 @@
-pub mod Examples
-pub mod NamedLists
-pub mod PartExamples
-pub mod Told
