@@ -1,9 +1,6 @@
 -- What is asked by a line that is too long, and by one that is not.
-use Rattle.std.proofs.Common.{◌≡◌, ℕ, ◌<◌, ◌≤◌, true, false, List, None, Some, length, cond, refl, ap}
+use Rattle.std.proofs.Common.{◌≡◌, ℕ, ◌<◌, ◌≤◌, List, length, cond, ap}
 use Rattle.std.proofs.lemmas.Bool.{lt-ltb, le-ltb}
-use Rattle.std.specs.Prelude.{nat_lt}
-use Rattle.line_engine.specs.Answers.{asked}
-use Rattle.cidr.specs.Private.Replies.{request_asked}
 use Rattle.cidr.specs.Requests.{too_long, request_in, request_of}
 use Rattle.cidr.specs.Words.{words}
 
@@ -14,11 +11,3 @@ request_long l h = ap (λ v. cond v too_long (request_in (words l))) (lt-ltb 102
 pub request_short : (l : List ℕ) → length l ≤ 1024 → request_of l ≡ request_in (words l)
 unfolding request_of
 request_short l h = ap (λ v. cond v too_long (request_in (words l))) (le-ltb 1024 (length l) h)
-
--- what a line asks is what the engine has of it
-pub request_told : (l : List ℕ) → request_asked (asked 1024 l) ≡ request_of l
-unfolding request_of
-request_told l = elim (nat_lt 1024 (length l)) as (λ v. request_asked (cond v None (Some l)) ≡ cond v too_long (request_in (words l))) [
-  | true ↦ refl
-  | false ↦ refl
-]

@@ -4,9 +4,9 @@
 ghost use Rattle.std.specs.Prelude.{◌≡◌, is_ok, if◌then◌else◌};
 ghost use Rattle.std.specs.Process.{exit_status};
 
+mod answering;
 mod commands;
 mod dispatch;
-mod handler;
 mod laws;
 mod names;
 mod replies;

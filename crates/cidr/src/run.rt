@@ -6,19 +6,16 @@ ghost use Rattle.line_engine.specs.Watched.{device_of, has_failed};
 ghost use Rattle.cidr.specs.Output.{IsOutput};
 ghost use Rattle.cidr.specs.Run.{Ran};
 
-use crate::route_tables::RouteTables;
+use crate::answering::{Answering, LINE_MAX};
 use ipnetwork_table::laws;
 use line_engine::fault::RunFault;
-use line_engine::run::answer_lines;
+use line_engine::line_buffer::{LineBuffer, NextLine};
 use line_engine::watched::Watched;
 use std::alloc::Global;
 use std::io::{Read, Write};
 
-/// The most bytes that are asked for at a time.
-const PIECE_MAX: usize = 65536;
-
-/// A line of this many bytes is too long, with or without its carriage return.
-const REST_MAX: usize = 1026;
+/// The most bytes that are read and not answered yet.
+const BUFFER_MAX: usize = 65536;
 
 /// The most bytes of replies that wait.
 const WAITING_MAX: usize = 65536;
@@ -64,7 +61,7 @@ pub fn run<R: Read, W: Write>(
 /// These two are not clauses, but follow from them: each line that a read completes is answered before the next read;
 /// nothing is written or flushed after a read that failed or passed the limit. If a body did otherwise, the next read
 /// or that write might fail, and then no result would meet the clauses. No call is made on a device after one that
-/// failed: each call of the engine's devices requires that none has.
+/// failed: `ask`, `write_whole` and `finish` call no device that has.
 ///
 /// These two are only tested: if a read passes the limit, no line that it completes is answered; the writer is
 /// flushed once, after the last answer.
@@ -103,19 +100,53 @@ pub fn run_limited<R: Read, W: Write>(
     ensures succeeds { (input : List ℕ) → R.remaining (device_of reader.old) ≡ Some input → length input ≤ limit
         → IsFalse (has_failed reader.new) → IsFalse (has_failed writer.new) → IsOk result }
 {
+    if reader.failed() {
+        return Err(RunFault::Read);
+    }
+    if writer.failed() {
+        return Err(RunFault::Write);
+    }
+    answer_all(alloc, limit, reader, writer)
+}
+
+/// Answers each line, on devices that have not failed.
+fn answer_all<R: Read, W: Write>(
+    alloc: Global,
+    limit: u32,
+    reader: &mut Watched<R>,
+    writer: &mut Watched<W>,
+) -> Result<(), RunFault>
+    requires reader_works { IsFalse (has_failed reader.old) }
+    requires writer_works { IsFalse (has_failed writer.old) }
+    ensures ran { Ran limit
+        (R.remaining (device_of reader.old)) (R.remaining (device_of reader.new))
+        (W.contents (device_of writer.old)) (W.contents (device_of writer.new)) result }
+    ensures reader_failed { has_failed reader.new ≡ (has_failed reader.old || ended_by_read result) }
+    ensures writer_failed { has_failed writer.new ≡ (has_failed writer.old || ended_by_write result) }
+{
     // Does nothing: the proof of this body needs the law.
     laws::answer_is_computed::<u32>();
-    let mut routes = RouteTables::new(alloc);
-    let mut piece = [0u8; PIECE_MAX];
-    let mut rest = [0u8; REST_MAX];
+    let mut buffer = [0u8; BUFFER_MAX];
     let mut waiting = [0u8; WAITING_MAX];
-    answer_lines(
-        &mut routes,
-        u64::from(limit),
-        &mut piece,
-        &mut rest,
-        &mut waiting,
-        reader,
-        writer,
-    )
+    let mut lines = LineBuffer::new(&mut buffer, LINE_MAX);
+    let mut answering = Answering::new(alloc, &mut waiting);
+    let mut room = u64::from(limit);
+    'lines: loop {
+        match lines.next() {
+            NextLine::Line(_) => answering.answer_line(lines.line(), writer)?,
+            NextLine::TooLong => answering.answer_too_long(writer)?,
+            NextLine::Ask => {
+                answering.hand_on(writer)?;
+                let count = lines.ask(reader)? as u64;
+                if count > room {
+                    return Err(RunFault::InputTooLong);
+                }
+                room -= count;
+            }
+            NextLine::End => {
+                answering.hand_on(writer)?;
+                return writer.finish();
+            }
+        }
+    }
 }

@@ -9,7 +9,7 @@ use Rattle.std.specs.Prelude.{slice_index}
 use Rattle.std.specs.Str.Lines.{lines, strip_carriage_return}
 use borrow.Rule.Slice.PartMut.{put_mid, post_of}
 use Rattle.byte_search.specs.Bytes.{IsAbsent, IsNext}
-use Rattle.line_engine.specs.LineBuffers.{Buffered, waits, HasNoFeed, IsDropped, Holds, IsFirstLine, HandsOut, Gives}
+use Rattle.line_engine.specs.LineBuffers.{Buffered, waits, HasNoFeed, IsDropped, IsPending, IsFirstLine, HandsOut, Gives}
 use Rattle.line_engine.specs.LineEnds.{end_bytes}
 use Rattle.line_engine.specs.Private.Cuts.{HasFeed, IsCut}
 use Rattle.line_engine.specs.Private.Progress.{last_line}
@@ -84,12 +84,12 @@ gone_empty held gone h e = subst (λ v. IsDropped v held.limit gone) e h
 gone_long : (held : Buffered) (gone : List ℕ) → IsDropped held.dropped held.limit gone → held.dropped ≡ true → held.limit + 2 ≤ length gone
 gone_long held gone h e = (subst (λ v. IsDropped v held.limit gone) e h).1
 
-holds_these : (held : Buffered) (bytes : List ℕ) → held.dropped ≡ false → bytes ≡ waits held → Holds held bytes
+holds_these : (held : Buffered) (bytes : List ℕ) → held.dropped ≡ false → bytes ≡ waits held → IsPending held bytes
 holds_these held bytes clean is = record { gone = []; dropped = subst (λ v. IsDropped v held.limit []) (sym clean) refl; bytes = is }
 
 -- ---- a line that a line feed ends
 
-hands_out : (old new : Buffered) (pending : List ℕ) (at : ℕ) (end : LineEnd) → (h : Holds old pending) → IsFirst 10 (waits old) at
+hands_out : (old new : Buffered) (pending : List ℕ) (at : ℕ) (end : LineEnd) → (h : IsPending old pending) → IsFirst 10 (waits old) at
     → HowEnds (h.gone ++ take at (waits old)) end → new.dropped ≡ false → waits new ≡ drop (at + 1) (waits old)
     → HandsOut new pending (strip_carriage_return (h.gone ++ take at (waits old))) end
 hands_out old new pending at end h first ends clean after =
@@ -107,7 +107,7 @@ hands_out old new pending at end h first ends clean after =
           (λ more. ap (λ l. lines (l ++ more)) now ∙ ap lines (append_assoc raw (10 ∷ waits new) more) ∙ lines_line raw (waits new ++ more) none);
     }
 
-gives_line : (old new : Buffered) (pending : List ℕ) (at : ℕ) (end : LineEnd) → Holds old pending → old.dropped ≡ false → IsFirst 10 (waits old) at
+gives_line : (old new : Buffered) (pending : List ℕ) (at : ℕ) (end : LineEnd) → IsPending old pending → old.dropped ≡ false → IsFirst 10 (waits old) at
     → new.dropped ≡ false → waits new ≡ drop (at + 1) (waits old) → new.line ≡ strip_carriage_return (take at (waits old)) → length new.line ≤ new.limit
     → HowEnds (take at (waits old)) end → new.whole ≡ take at (waits old) ++ 10 ∷ [] → Gives new pending (Line end)
 gives_line old new pending at end h undropped first clean after line fits ends whole =
@@ -119,7 +119,7 @@ gives_line old new pending at end h undropped first clean after line fits ends w
       whole ∙ ends.1 ∙ ap (λ l. l ++ end_bytes end) (sym line),
     )
 
-gives_too_long : (old new : Buffered) (pending : List ℕ) (at : ℕ) → Holds old pending → IsFirst 10 (waits old) at
+gives_too_long : (old new : Buffered) (pending : List ℕ) (at : ℕ) → IsPending old pending → IsFirst 10 (waits old) at
     → new.dropped ≡ false → waits new ≡ drop (at + 1) (waits old) → new.limit ≡ old.limit
     → (old.dropped ≡ true) ⊎ (new.limit < length (strip_carriage_return (take at (waits old)))) × (old.dropped ≡ false) → Gives new pending TooLong
 gives_too_long old new pending at h first clean after same long =
@@ -161,7 +161,7 @@ at_places buffer start end limit dropped ended line whole =
     record { bytes = buffer; start = start; end = end; limit = limit; dropped = dropped; ended = ended; line = line; whole = whole }
 
 pub waits_line : (buffer : List ℕ) (start end limit : ℕ) (dropped ended : Bool) (line whole : List ℕ) (cut : Cut) (pending : List ℕ)
-    → Holds (at_places buffer start end limit dropped ended line whole) pending → IsCut (drop start (take end buffer)) cut → dropped ≡ false → cut.content ≤ limit
+    → IsPending (at_places buffer start end limit dropped ended line whole) pending → IsCut (drop start (take end buffer)) cut → dropped ≡ false → cut.content ≤ limit
     → Gives (at_places buffer (start + (cut.before + 1)) end limit dropped ended (drop start (take (start + cut.content) buffer)) (drop start (take (start + (cut.before + 1)) buffer))) pending (Line cut.end)
 waits_line buffer start end limit dropped ended line whole cut pending h is_cut undropped short =
     let waiting = drop start (take end buffer) in
@@ -174,7 +174,7 @@ waits_line buffer start end limit dropped ended line whole cut pending h is_cut 
     (front_of start end (cut.before + 1) buffer (omega (arith, is_cut.feed.within)) ∙ first_line waiting cut.before first)
 
 pub waits_too_long : (buffer : List ℕ) (start end limit : ℕ) (dropped dropped_now ended : Bool) (line whole after whole_now : List ℕ) (cut : Cut) (pending : List ℕ)
-    → Holds (at_places buffer start end limit dropped ended line whole) pending → IsCut (drop start (take end buffer)) cut
+    → IsPending (at_places buffer start end limit dropped ended line whole) pending → IsCut (drop start (take end buffer)) cut
     → dropped_now ≡ false → (dropped ≡ true) ⊎ (limit < cut.content) × (dropped ≡ false)
     → Gives (at_places buffer (start + (cut.before + 1)) end limit dropped_now ended after whole_now) pending TooLong
 waits_too_long buffer start end limit dropped dropped_now ended line whole after whole_now cut pending h is_cut clean long =
@@ -203,14 +203,14 @@ hands_last new pending none some clean nothing ended = record {
   first = (ended, refl, lines_only pending none some);
 }
 
-none_pending : (held : Buffered) (pending : List ℕ) → Holds held pending → HasNoFeed (waits held) → HasNo 10 pending
+none_pending : (held : Buffered) (pending : List ℕ) → IsPending held pending → HasNoFeed (waits held) → HasNo 10 pending
 none_pending held pending h none = subst (HasNo 10) (sym h.bytes) (no_append h.gone (waits held) (gone_none held h.gone h.dropped) (has_no (waits held) none))
 
-counted : (held : Buffered) (pending : List ℕ) → (h : Holds held pending) → length pending ≡ length h.gone + length (waits held)
+counted : (held : Buffered) (pending : List ℕ) → (h : IsPending held pending) → length pending ≡ length h.gone + length (waits held)
 counted held pending h = ap length h.bytes ∙ length-append h.gone (waits held)
 
 pub ends_line : (buffer : List ℕ) (start end limit : ℕ) (dropped ended : Bool) (line whole : List ℕ) (pending : List ℕ)
-    → Holds (at_places buffer start end limit dropped ended line whole) pending → HasNoFeed (drop start (take end buffer)) → dropped ≡ false → ended ≡ true
+    → IsPending (at_places buffer start end limit dropped ended line whole) pending → HasNoFeed (drop start (take end buffer)) → dropped ≡ false → ended ≡ true
     → 0 < end - start → end ≤ length buffer → end - start ≤ limit
     → Gives (at_places buffer end end limit dropped ended (drop start (take end buffer)) (drop start (take end buffer))) pending (Line EndOfInput)
 ends_line buffer start end limit dropped ended line whole pending h none clean at_end some within short =
@@ -226,7 +226,7 @@ ends_line buffer start end limit dropped ended line whole pending h none clean a
     )
 
 pub ends_too_long : (buffer : List ℕ) (start end limit : ℕ) (dropped dropped_now ended : Bool) (line whole after whole_now : List ℕ) (pending : List ℕ)
-    → Holds (at_places buffer start end limit dropped ended line whole) pending → HasNoFeed (drop start (take end buffer)) → dropped_now ≡ false → ended ≡ true
+    → IsPending (at_places buffer start end limit dropped ended line whole) pending → HasNoFeed (drop start (take end buffer)) → dropped_now ≡ false → ended ≡ true
     → end ≤ length buffer → (dropped ≡ true) ⊎ (limit < end - start) × (dropped ≡ false)
     → Gives (at_places buffer end end limit dropped_now ended after whole_now) pending TooLong
 ends_too_long buffer start end limit dropped dropped_now ended line whole after whole_now pending h none clean at_end within long =
@@ -248,15 +248,15 @@ kept_front old new start end order within e =
     let size = length-take-le count part (omega (arith, order, within, length-drop start old)) in
     ap (take count) e ∙ take-append-le count (take count part) (drop (0 + count) old) (omega (arith, size)) ∙ take-take count count part (omega arith) ∙ between_is old start end
 
-pub all_dropped : (old new : Buffered) (pending : List ℕ) → Holds old pending → HasNoFeed (waits old) → old.limit + 2 ≤ length (waits old)
-    → new.dropped ≡ true → new.limit ≡ old.limit → waits new ≡ [] → Holds new pending
+pub all_dropped : (old new : Buffered) (pending : List ℕ) → IsPending old pending → HasNoFeed (waits old) → old.limit + 2 ≤ length (waits old)
+    → new.dropped ≡ true → new.limit ≡ old.limit → waits new ≡ [] → IsPending new pending
 all_dropped old new pending h none long dropped same nothing = record {
   gone = pending;
   dropped = subst (λ v. IsDropped v new.limit pending) (sym dropped) (absent pending (none_pending old pending h none), omega (arith, counted old pending h, long, same));
   bytes = sym (append-nil pending) ∙ ap (λ l. pending ++ l) (sym nothing);
 }
 
-pub holds_more : (old new : Buffered) (chunk pending : List ℕ) → Holds old pending → new.dropped ≡ old.dropped → new.limit ≡ old.limit → waits new ≡ waits old ++ chunk → Holds new (pending ++ chunk)
+pub holds_more : (old new : Buffered) (chunk pending : List ℕ) → IsPending old pending → new.dropped ≡ old.dropped → new.limit ≡ old.limit → waits new ≡ waits old ++ chunk → IsPending new (pending ++ chunk)
 holds_more old new chunk pending h dropped limit more = record {
   gone = h.gone;
   dropped = subst (λ n. IsDropped new.dropped n h.gone) (sym limit) (subst (λ v. IsDropped v old.limit h.gone) (sym dropped) h.dropped);

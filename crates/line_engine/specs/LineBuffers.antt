@@ -9,6 +9,7 @@ use Rattle.line_engine.specs.declared.line_end.LineEnd.TheVariants.{LineFeed, Re
 use Rattle.line_engine.specs.declared.line_buffer.NextLine.{NextLine}
 use Rattle.line_engine.specs.declared.line_buffer.NextLine.TheVariants.{Line, TooLong, Ask, End}
 
+-- a buffer, the bytes that wait in it, and the line that was handed out last
 pub record Buffered : Type 0 where
   -- the buffer, and the places in it from which and up to which bytes wait
   pub bytes : List ℕ
@@ -38,7 +39,7 @@ IsDropped false limit bytes = bytes ≡ []
 IsDropped true limit bytes = HasNoFeed bytes × (limit + 2 ≤ length bytes)
 
 -- these bytes are pending, that is, were read and are not yet handed out: those that were dropped, and those that wait
-pub record Holds (held : Buffered) (pending : List ℕ) : Type 0 where
+pub record IsPending (held : Buffered) (pending : List ℕ) : Type 0 where
   pub gone : List ℕ
   pub dropped : IsDropped held.dropped held.limit gone
   pub bytes : pending ≡ gone ++ waits held
@@ -53,7 +54,7 @@ IsFirstLine EndOfInput ended pending line after = (ended ≡ true) × (after ≡
 -- of the pending bytes this line was handed out, with the bytes that end it, and the others are pending still
 pub record HandsOut (held : Buffered) (pending line : List ℕ) (end : LineEnd) : Type 0 where
   pub after : List ℕ
-  pub holds : Holds held after
+  pub holds : IsPending held after
   pub bytes : pending ≡ line ++ end_bytes end ++ after
   pub first : IsFirstLine end held.ended pending line after
 
@@ -64,9 +65,9 @@ Gives new pending (Line end) = HandsOut new pending new.line end × (length new.
 -- a line that is longer
 Gives new pending TooLong = (line : List ℕ) × (end : LineEnd) × HandsOut new pending line end × (new.limit < length line)
 -- nothing: no line is whole yet
-Gives new pending Ask = Holds new pending × HasNoFeed pending × HasNoFeed (waits new) × (new.ended ≡ false)
+Gives new pending Ask = IsPending new pending × HasNoFeed pending × HasNoFeed (waits new) × (new.ended ≡ false)
 -- nothing: all lines were handed out
-Gives new pending End = (pending ≡ []) × Holds new [] × (new.ended ≡ true)
+Gives new pending End = (pending ≡ []) × IsPending new [] × (new.ended ≡ true)
 
 -- a measure of what there is to hand out
 abbrev pub work : Buffered → ℕ
@@ -80,11 +81,11 @@ IsLess old new Ask = Unit {0}
 IsLess old new End = Unit {0}
 
 -- a read gave this many bytes, which are pending behind those that were; none only at the end of the input
-pub record Reads (left rest : Option (List ℕ)) (old new : Buffered) (count : ℕ) : Type 0 where
+pub record Receives (left rest : Option (List ℕ)) (old new : Buffered) (count : ℕ) : Type 0 where
   pub chunk : List ℕ
   pub counted : length chunk ≡ count
   pub consumed : Consumes left rest chunk
-  pub holds : (pending : List ℕ) → Holds old pending → Holds new (pending ++ chunk)
+  pub holds : (pending : List ℕ) → IsPending old pending → IsPending new (pending ++ chunk)
   pub at_end : count ≡ 0 → IsAtEnd rest
 
 -- the bytes that wait stay where they are

@@ -100,7 +100,7 @@ impl<'b> Model for LineBuffer<'b> {
 }
 
 impl<'b> LineBuffer<'b> {
-    ghost use Rattle.line_engine.specs.LineBuffers.{waits, HasNoFeed, Holds, Gives, IsLess, Reads, Settles, Stays};
+    ghost use Rattle.line_engine.specs.LineBuffers.{waits, HasNoFeed, IsPending, Gives, IsLess, Receives, Settles, Stays};
     ghost use Rattle.line_engine.specs.Private.Cuts.{IsCut};
 
     /// No bytes yet. A line of more than `limit` bytes, not counting those that end it, is too long.
@@ -115,7 +115,7 @@ impl<'b> LineBuffer<'b> {
     /// ```
     pub fn new(buffer: &'b mut [u8], limit: usize) -> LineBuffer<'b>
         requires { limit + 2 ≤ length buffer.old }
-        ensures holds { Holds result [] }
+        ensures holds { IsPending result [] }
         ensures empty { waits result ≡ [] }
         ensures ended { result.ended ≡ false }
         ensures limit { result.limit ≡ limit }
@@ -179,7 +179,7 @@ impl<'b> LineBuffer<'b> {
     /// ```
     pub fn is_too_long(&self) -> bool
         requires { HasNoFeed (waits self.now) }
-        ensures { (pending : List ℕ) → Holds self.now pending → (IsTrue result ↔ (self.now.limit + 1 < length pending)) }
+        ensures { (pending : List ℕ) → IsPending self.now pending → (IsTrue result ↔ (self.now.limit + 1 < length pending)) }
     {
         self.dropped || self.end - self.start >= self.limit + 2
     }
@@ -199,7 +199,7 @@ impl<'b> LineBuffer<'b> {
     /// assert_eq!(rt; lines.next(), NextLine::Ask);
     /// ```
     pub fn next(&mut self) -> NextLine
-        ensures gives { (pending : List ℕ) → Holds self.old pending → Gives self.new pending result }
+        ensures gives { (pending : List ℕ) → IsPending self.old pending → Gives self.new pending result }
         ensures less { IsLess self.old self.new result }
         ensures unmoved { self.new.bytes ≡ self.old.bytes }
         ensures limit { self.new.limit ≡ self.old.limit }
@@ -235,7 +235,7 @@ impl<'b> LineBuffer<'b> {
     // What comes next if no line feed waits.
     fn next_unended(&mut self) -> NextLine
         requires { HasNoFeed (waits self.old) }
-        ensures gives { (pending : List ℕ) → Holds self.old pending → Gives self.new pending result }
+        ensures gives { (pending : List ℕ) → IsPending self.old pending → Gives self.new pending result }
         ensures less { IsLess self.old self.new result }
         ensures unmoved { self.new.bytes ≡ self.old.bytes }
         ensures limit { self.new.limit ≡ self.old.limit }
@@ -282,12 +282,12 @@ impl<'b> LineBuffer<'b> {
         requires { HasNoFeed (waits self.old) }
 
         // What was read, and whether the input has ended.
-        ensures read { IfOk result (Reads (R.remaining (device_of reader.old)) (R.remaining (device_of reader.new)) self.old self.new) }
+        ensures read { IfOk result (Receives (R.remaining (device_of reader.old)) (R.remaining (device_of reader.new)) self.old self.new) }
         ensures ended { IfOk result (λ count. self.new.ended ≡ (count == 0)) }
 
         // After a fault nothing is lost.
         ensures err { OnErr result (Keeps (R.remaining (device_of reader.old)) (R.remaining (device_of reader.new))) }
-        ensures kept { OnErr result ((pending : List ℕ) → Holds self.old pending → Holds self.new pending) }
+        ensures kept { OnErr result ((pending : List ℕ) → IsPending self.old pending → IsPending self.new pending) }
         ensures kept_ended { OnErr result (self.new.ended ≡ self.old.ended) }
         ensures fault { IsOkUnless result RunFault.Read }
         ensures failed { has_failed reader.new ≡ (has_failed reader.old || is_err result) }
@@ -314,7 +314,7 @@ impl<'b> LineBuffer<'b> {
     // dropped if they are all of it.
     fn make_room(&mut self)
         requires { HasNoFeed (waits self.old) }
-        ensures holds { (pending : List ℕ) → Holds self.old pending → Holds self.new pending }
+        ensures holds { (pending : List ℕ) → IsPending self.old pending → IsPending self.new pending }
         ensures room { self.new.end < length self.new.bytes }
         ensures stays { self.old.end < length self.old.bytes → 0 < length (waits self.old) → self.new ≡ self.old }
         ensures front { length self.old.bytes ≤ self.old.end → self.new.start ≡ 0 }

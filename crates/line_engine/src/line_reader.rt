@@ -30,7 +30,7 @@ pub struct LineReader<'b, R> {
 }
 
 impl<'b, R: Read> LineReader<'b, R> {
-    ghost use Rattle.line_engine.specs.LineBuffers.{waits, HasNoFeed, Holds, Gives, IsLess, Reads, Settles};
+    ghost use Rattle.line_engine.specs.LineBuffers.{waits, HasNoFeed, IsPending, Gives, IsLess, Receives, Settles};
     ghost use Rattle.line_engine.specs.LineReaders.{source_of, buffered};
 
     /// The lines of a device, none of which is read yet. A line of more than `limit` bytes, not counting those that end
@@ -48,7 +48,7 @@ impl<'b, R: Read> LineReader<'b, R> {
     pub fn new(source: Watched<R>, buffer: &'b mut [u8], limit: usize) -> LineReader<'b, R>
         requires { limit + 2 ≤ length buffer.old }
         ensures source { source_of result ≡ source }
-        ensures holds { Holds (buffered result) [] }
+        ensures holds { IsPending (buffered result) [] }
         ensures empty { waits (buffered result) ≡ [] }
         ensures ended { (buffered result).ended ≡ false }
         ensures limit { (buffered result).limit ≡ limit }
@@ -110,7 +110,7 @@ impl<'b, R: Read> LineReader<'b, R> {
     /// ```
     pub fn is_too_long(&self) -> bool
         requires { HasNoFeed (waits (buffered self.now)) }
-        ensures { (pending : List ℕ) → Holds (buffered self.now) pending
+        ensures { (pending : List ℕ) → IsPending (buffered self.now) pending
             → (IsTrue result ↔ ((buffered self.now).limit + 1 < length pending)) }
     {
         self.buffer.is_too_long()
@@ -130,7 +130,7 @@ impl<'b, R: Read> LineReader<'b, R> {
     /// assert_eq!(rt; lines.next(), NextLine::End);
     /// ```
     pub fn next(&mut self) -> NextLine
-        ensures gives { (pending : List ℕ) → Holds (buffered self.old) pending → Gives (buffered self.new) pending result }
+        ensures gives { (pending : List ℕ) → IsPending (buffered self.old) pending → Gives (buffered self.new) pending result }
         ensures less { IsLess (buffered self.old) (buffered self.new) result }
         ensures unmoved { (buffered self.new).bytes ≡ (buffered self.old).bytes }
         ensures uncalled { source_of self.new ≡ source_of self.old }
@@ -156,11 +156,11 @@ impl<'b, R: Read> LineReader<'b, R> {
     /// ```
     pub fn ask(&mut self) -> Result<usize, RunFault>
         requires { HasNoFeed (waits (buffered self.old)) }
-        ensures read { IfOk result (Reads (R.remaining (device_of (source_of self.old))) (R.remaining (device_of (source_of self.new)))
+        ensures read { IfOk result (Receives (R.remaining (device_of (source_of self.old))) (R.remaining (device_of (source_of self.new)))
             (buffered self.old) (buffered self.new)) }
         ensures ended { IfOk result (λ count. (buffered self.new).ended ≡ (count == 0)) }
         ensures err { OnErr result (Keeps (R.remaining (device_of (source_of self.old))) (R.remaining (device_of (source_of self.new)))) }
-        ensures kept { OnErr result ((pending : List ℕ) → Holds (buffered self.old) pending → Holds (buffered self.new) pending) }
+        ensures kept { OnErr result ((pending : List ℕ) → IsPending (buffered self.old) pending → IsPending (buffered self.new) pending) }
         ensures kept_ended { OnErr result ((buffered self.new).ended ≡ (buffered self.old).ended) }
         ensures fault { IsOkUnless result RunFault.Read }
         ensures failed { has_failed (source_of self.new) ≡ (has_failed (source_of self.old) || is_err result) }

@@ -7,13 +7,13 @@ use Rattle.std.specs.Io.KnownBytes.{Consumes, Keeps, IsAtEnd}
 use Rattle.std.specs.Prelude.{Bool, Option, None, Some, nat_lt}
 use Rattle.std.specs.Str.Lines.{lines, strip_carriage_return}
 use Rattle.line_engine.specs.Answers.{asked, complete_part}
-use Rattle.line_engine.specs.LineBuffers.{Buffered, waits, HasNoFeed, Holds, IsFirstLine, Gives}
+use Rattle.line_engine.specs.LineBuffers.{Buffered, waits, HasNoFeed, IsPending, IsFirstLine, Gives}
 use Rattle.line_engine.specs.Private.Progress.{lines_from, pending_from, last_line}
 use Rattle.line_engine.specs.declared.fault.RunFault.TheVariants.{Read, InputTooLong}
 use Rattle.line_engine.specs.declared.line_buffer.NextLine.TheVariants.{Line, TooLong, Ask, End}
 use Rattle.line_engine.specs.declared.line_end.LineEnd.{LineEnd}
 use Rattle.line_engine.specs.declared.line_end.LineEnd.TheVariants.{LineFeed, ReturnAndLineFeed, EndOfInput}
-use Rattle.line_engine.proofs.FirstLines.{has_no}
+use Rattle.line_engine.proofs.HandingOut.{has_no}
 use Rattle.line_engine.proofs.Lines.{lines-append, pending-append, lines_split, lines_complete, lines_line, lines_last}
 use Rattle.lists.specs.Lists.{ReadLists, Takes, TakesLines}
 use Rattle.lists.specs.Private.Waiting.{Leaves, TakesSome, HasNoLine, TakesWhole}
@@ -84,11 +84,11 @@ leaves_line EndOfInput false pending taken now line after h f = absurd (true≢f
 leaves_line EndOfInput true pending taken now line after h f =
     h ∙ ap (λ ls. taken ++ ls) f.2 ∙ sym (append-nil (taken ++ line ∷ [])) ∙ ap (λ ls. (taken ++ line ∷ []) ++ ls) (sym (ap lines f.1 ∙ lines_nothing))
 
-pub takes_none : (held : Buffered) (lists : ReadLists) (pending : List ℕ) → Holds held pending → TakesSome held lists lists pending
+pub takes_none : (held : Buffered) (lists : ReadLists) (pending : List ℕ) → IsPending held pending → TakesSome held lists lists pending
 takes_none held lists pending h = record { taken = []; now = pending; holds = h; leaves = elim held.ended as (λ v. Leaves v pending [] pending) [ false ↦ λ more. refl | true ↦ refl ]; takes = refl }
 
 some_more : (old new : Buffered) (before between after : ReadLists) (pending line rest : List ℕ) (end : LineEnd) → (s : TakesSome old before between pending)
-    → Holds new rest → IsFirstLine end new.ended s.now line rest → new.ended ≡ old.ended → Takes between (asked 1024 line) after → TakesSome new before after pending
+    → IsPending new rest → IsFirstLine end new.ended s.now line rest → new.ended ≡ old.ended → Takes between (asked 1024 line) after → TakesSome new before after pending
 some_more old new before between after pending line rest end s holds first same took = record {
   taken = s.taken ++ line ∷ [];
   now = rest;
@@ -98,7 +98,7 @@ some_more old new before between after pending line rest end s holds first same 
 }
 
 pub takes_line : (old new : Buffered) (before between after : ReadLists) (pending line : List ℕ) (end : LineEnd) → TakesSome old before between pending
-    → ((now : List ℕ) → Holds old now → Gives new now (Line end)) → new.ended ≡ old.ended → new.limit ≡ 1024 → line ≡ new.line
+    → ((now : List ℕ) → IsPending old now → Gives new now (Line end)) → new.ended ≡ old.ended → new.limit ≡ 1024 → line ≡ new.line
     → Takes between (Some line) after → TakesSome new before after pending
 takes_line old new before between after pending line end s gives same limit is took =
     let given = gives s.now s.holds in
@@ -109,7 +109,7 @@ takes_line old new before between after pending line end s gives same limit is t
     (subst (λ q. Takes between q after) (sym (asked_short line short (nat_lt 1024 (length line)) refl)) took)
 
 pub takes_too_long : (old new : Buffered) (before between after : ReadLists) (pending : List ℕ) → TakesSome old before between pending
-    → ((now : List ℕ) → Holds old now → Gives new now TooLong) → new.ended ≡ old.ended → new.limit ≡ 1024
+    → ((now : List ℕ) → IsPending old now → Gives new now TooLong) → new.ended ≡ old.ended → new.limit ≡ 1024
     → Takes between None after → TakesSome new before after pending
 takes_too_long old new before between after pending s gives same limit took =
     let given = gives s.now s.holds in
@@ -119,7 +119,7 @@ takes_too_long old new before between after pending s gives same limit took =
     (subst (λ q. Takes between q after) (sym (asked_long line (omega (arith, given.3, limit)) (nat_lt 1024 (length line)) refl)) took)
 
 pub takes_whole : (old new : Buffered) (before after : ReadLists) (pending : List ℕ) → TakesSome old before after pending
-    → ((now : List ℕ) → Holds old now → Gives new now Ask) → new.ended ≡ old.ended → TakesWhole new before after pending
+    → ((now : List ℕ) → IsPending old now → Gives new now Ask) → new.ended ≡ old.ended → TakesWhole new before after pending
 takes_whole old new before after pending s gives same =
     let given = gives s.now s.holds in
     record {
@@ -128,7 +128,7 @@ takes_whole old new before after pending s gives same =
     }
 
 pub takes_all : (old new : Buffered) (before after : ReadLists) (pending : List ℕ) → TakesSome old before after pending
-    → ((now : List ℕ) → Holds old now → Gives new now End) → new.ended ≡ old.ended → TakesWhole new before after pending
+    → ((now : List ℕ) → IsPending old now → Gives new now End) → new.ended ≡ old.ended → TakesWhole new before after pending
 takes_all old new before after pending s gives same =
     let given = gives s.now s.holds in
     record {
@@ -144,7 +144,7 @@ pub record TakesSoFar (left rest : Option (List ℕ)) (held : Buffered) (start n
   pub consumed : Consumes left rest read
   pub counted : length read + room ≡ 2 ^ 64 - 1
   pub pending : List ℕ
-  pub holds : Holds held pending
+  pub holds : IsPending held pending
   pub none : HasNoFeed pending
   pub taken : List (List ℕ)
   pub leaves : Leaves false read taken pending
@@ -153,7 +153,7 @@ pub record TakesSoFar (left rest : Option (List ℕ)) (held : Buffered) (start n
 no_feed : HasNoFeed []
 no_feed place low high = absurd (omega (arith, high))
 
-pub takes_begins : (left : Option (List ℕ)) (held : Buffered) (start now : ReadLists) → now ≡ start → Holds held [] → TakesSoFar left left held start now (2 ^ 64 - 1)
+pub takes_begins : (left : Option (List ℕ)) (held : Buffered) (start now : ReadLists) → now ≡ start → IsPending held [] → TakesSoFar left left held start now (2 ^ 64 - 1)
 takes_begins left held start now begun holds = record {
   read = [];
   consumed = Consumes-nil left;
@@ -175,15 +175,15 @@ joined : (read pending now : List ℕ) (taken more : List (List ℕ)) → Leaves
 joined read pending now taken more h k = λ rest. h rest ∙ ap (λ ls. taken ++ ls) (k rest) ∙ sym (append_assoc taken more (lines (now ++ rest)))
 
 pub goes_idle : (left between : Option (List ℕ)) (old mid new : Buffered) (start before after : ReadLists) (room : ℕ) → TakesSoFar left between old start before room
-    → (chunk : List ℕ) → ((pending : List ℕ) → Holds old pending → Holds mid (pending ++ chunk))
-    → ((pending : List ℕ) → Holds mid pending → TakesWhole new before after pending) → new.ended ≡ false → HasNoFeed (waits new)
+    → (chunk : List ℕ) → ((pending : List ℕ) → IsPending old pending → IsPending mid (pending ++ chunk))
+    → ((pending : List ℕ) → IsPending mid pending → TakesWhole new before after pending) → new.ended ≡ false → HasNoFeed (waits new)
 goes_idle left between old mid new start before after room s chunk more took going =
     let whole = took (s.pending ++ chunk) (more s.pending s.holds) in
     (subst (λ e. HasNoLine e new whole.some.now) going whole.idle).1
 
 pub goes_on : (left between rest : Option (List ℕ)) (old mid new : Buffered) (start before after : ReadLists) (room less count : ℕ) → (s : TakesSoFar left between old start before room)
-    → (chunk : List ℕ) → length chunk ≡ count → count ≤ room → less ≡ room - count → Consumes between rest chunk → ((pending : List ℕ) → Holds old pending → Holds mid (pending ++ chunk))
-    → ((pending : List ℕ) → Holds mid pending → TakesWhole new before after pending) → new.ended ≡ false → TakesSoFar left rest new start after less
+    → (chunk : List ℕ) → length chunk ≡ count → count ≤ room → less ≡ room - count → Consumes between rest chunk → ((pending : List ℕ) → IsPending old pending → IsPending mid (pending ++ chunk))
+    → ((pending : List ℕ) → IsPending mid pending → TakesWhole new before after pending) → new.ended ≡ false → TakesSoFar left rest new start after less
 goes_on left between rest old mid new start before after room less count s chunk counted within is consumed more took going =
     let whole = took (s.pending ++ chunk) (more s.pending s.holds) in
     let some = whole.some in
@@ -236,8 +236,8 @@ stops_too_long left between rest held start now room s chunk consumed more = (
 
 -- the input has ended
 pub ends : (left between rest : Option (List ℕ)) (old mid new : Buffered) (start before after : ReadLists) (room : ℕ) → TakesSoFar left between old start before room → (chunk : List ℕ)
-    → Consumes between rest chunk → IsAtEnd rest → ((pending : List ℕ) → Holds old pending → Holds mid (pending ++ chunk))
-    → ((pending : List ℕ) → Holds mid pending → TakesWhole new before after pending) → new.ended ≡ true
+    → Consumes between rest chunk → IsAtEnd rest → ((pending : List ℕ) → IsPending old pending → IsPending mid (pending ++ chunk))
+    → ((pending : List ℕ) → IsPending mid pending → TakesWhole new before after pending) → new.ended ≡ true
     → (input : List ℕ) → left ≡ Some input → TakesLines start (lines input) after
 ends left between rest old mid new start before after room s chunk consumed at_end more took ended input is =
     let whole = took (s.pending ++ chunk) (more s.pending s.holds) in

@@ -2,7 +2,7 @@
 ghost use Rattle.std.specs.Prelude.{◌≡◌, ◌||◌, ℕ, List, Some, OnOk, IfErr};
 ghost use Rattle.std.specs.Str.Lines.{lines};
 ghost use Rattle.line_engine.specs.Answers.{asked};
-ghost use Rattle.line_engine.specs.LineBuffers.{Holds};
+ghost use Rattle.line_engine.specs.LineBuffers.{IsPending};
 ghost use Rattle.line_engine.specs.Run.{ended_by_read};
 ghost use Rattle.line_engine.specs.Watched.{device_of, has_failed};
 ghost use Rattle.lists.specs.Lists.{at_list, Takes, TakesLines};
@@ -78,7 +78,7 @@ pub fn read_list<R: Read>(
 // Takes the lines that are whole.
 fn take_whole_lines(lists: &mut ListReader, lines: &mut LineBuffer<'_>)
     requires { lines.old.limit ≡ 1024 }
-    ensures taken { (pending : List ℕ) → Holds lines.old pending → TakesWhole lines.new (read_by lists.old) (read_by lists.new) pending }
+    ensures taken { (pending : List ℕ) → IsPending lines.old pending → TakesWhole lines.new (read_by lists.old) (read_by lists.new) pending }
     ensures limit { lines.new.limit ≡ lines.old.limit }
     ensures ended { lines.new.ended ≡ lines.old.ended }
 {

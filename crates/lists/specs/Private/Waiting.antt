@@ -1,7 +1,7 @@
 -- How far the lines of a list were taken.
 use Rattle.std.specs.Prelude.{◌≡◌, ℕ, Bool, true, false, List, [], ◌++◌}
 use Rattle.std.specs.Str.Lines.{lines}
-use Rattle.line_engine.specs.LineBuffers.{Buffered, waits, HasNoFeed, Holds}
+use Rattle.line_engine.specs.LineBuffers.{Buffered, waits, HasNoFeed, IsPending}
 use Rattle.lists.specs.Lists.{ReadLists, TakesLines}
 
 -- these lines, and those of the bytes that are pending now, are the lines of what was pending: whatever is read after
@@ -14,7 +14,7 @@ Leaves true pending taken now = lines pending ≡ taken ++ lines now
 pub record TakesSome (held : Buffered) (before after : ReadLists) (pending : List ℕ) : Type 0 where
   pub taken : List (List ℕ)
   pub now : List ℕ
-  pub holds : Holds held now
+  pub holds : IsPending held now
   pub leaves : Leaves held.ended pending taken now
   pub takes : TakesLines before taken after
 

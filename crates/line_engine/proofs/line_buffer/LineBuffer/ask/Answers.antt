@@ -1,6 +1,6 @@
 use Rattle.std.proofs.Common.{◌<◌, ◌≤◌, ◌-◌, length, take, drop, refl, sym, subst, arith, length-take, length-drop}
 use Rattle.std.proofs.lemmas.List.{length-take-le}
-use Rattle.line_engine.specs.LineBuffers.{Holds}
+use Rattle.line_engine.specs.LineBuffers.{IsPending}
 use Rattle.line_engine.proofs.HandingOut.{holds_more, waits_more}
 use Rattle.line_engine.proofs.line_buffer.LineBuffer.ask.Goals as goal
 
@@ -17,7 +17,7 @@ returns-clause-read g c =
       chunk = take count part;
       counted = length-take-le count part c.in-Ok.ensures.bound.0;
       consumed = c.in-Ok.ensures.bytes.0;
-      holds = λ pending h. holds_more _ _ (take count part) pending (subst (λ v. Holds v pending) (sym c.self.view_is) (c.make_room.ensures.holds pending h)) refl refl
+      holds = λ pending h. holds_more _ _ (take count part) pending (subst (λ v. IsPending v pending) (sym c.self.view_is) (c.make_room.ensures.holds pending h)) refl refl
           (waits_more inside.start inside.end count buffer part order c.self.invariant.0.within c.in-Ok.ensures.bound.0);
       at_end = λ none. c.in-Ok.ensures.bytes.1 none some;
     }

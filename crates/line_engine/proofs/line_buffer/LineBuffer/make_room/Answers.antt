@@ -1,6 +1,6 @@
 use Rattle.std.proofs.Common.{◌+◌, ◌≤◌, length, take, drop, refl, sym, subst, arith, length-take, length-drop}
 use Rattle.std.proofs.Math.Seq.{drop-nil}
-use Rattle.line_engine.specs.LineBuffers.{waits, HasNoFeed, Holds}
+use Rattle.line_engine.specs.LineBuffers.{waits, HasNoFeed, IsPending}
 use Rattle.line_engine.proofs.HandingOut.{all_dropped}
 use Rattle.line_engine.proofs.line_buffer.LineBuffer.make_room.Goals as goal
 
@@ -15,5 +15,5 @@ returns-then-self-size-2-clause-holds c = λ pending h.
       length-drop inside.start (take inside.end inside.buffer.now),
       length-take inside.end inside.buffer.now,
     ) in
-    all_dropped _ _ pending (subst (λ v. Holds v pending) (sym c.self.view_is) h)
+    all_dropped _ _ pending (subst (λ v. IsPending v pending) (sym c.self.view_is) h)
     (subst (λ v. HasNoFeed (waits v)) (sym c.self.view_is) c.requires) size refl refl (drop-nil inside.start)

@@ -1,5 +1,5 @@
 use Rattle.std.proofs.Common.{inl, inr, refl, sym, subst, arith}
-use Rattle.line_engine.specs.LineBuffers.{waits, Holds}
+use Rattle.line_engine.specs.LineBuffers.{waits, IsPending}
 use Rattle.line_engine.specs.Private.Cuts.{IsCut}
 use Rattle.line_engine.proofs.HandingOut.{waits_line, waits_too_long}
 use Rattle.line_engine.proofs.line_buffer.LineBuffer.next.Goals as goal
@@ -7,17 +7,17 @@ use Rattle.line_engine.proofs.line_buffer.LineBuffer.next.Goals as goal
 pub returns-then-self-clause-gives : goal.returns-then-self-clause-gives
 returns-then-self-clause-gives c = λ pending h.
     let inside = c.self.inside in
-    waits_too_long inside.buffer.now inside.start inside.end inside.limit inside.dropped _ inside.ended _ _ _ _ c.in-Some.cut pending (subst (λ v. Holds v pending) (sym c.self.view_is) h)
+    waits_too_long inside.buffer.now inside.start inside.end inside.limit inside.dropped _ inside.ended _ _ _ _ c.in-Some.cut pending (subst (λ v. IsPending v pending) (sym c.self.view_is) h)
     (subst (λ v. IsCut (waits v) c.in-Some.cut) (sym c.self.view_is) c.in-Some.ensures) refl (inl c.if-self.true)
 
 pub returns-then-cut-self-clause-gives : goal.returns-then-cut-self-clause-gives
 returns-then-cut-self-clause-gives c = λ pending h.
     let inside = c.self.inside in
-    waits_too_long inside.buffer.now inside.start inside.end inside.limit inside.dropped _ inside.ended _ _ _ _ c.in-Some.cut pending (subst (λ v. Holds v pending) (sym c.self.view_is) h)
+    waits_too_long inside.buffer.now inside.start inside.end inside.limit inside.dropped _ inside.ended _ _ _ _ c.in-Some.cut pending (subst (λ v. IsPending v pending) (sym c.self.view_is) h)
     (subst (λ v. IsCut (waits v) c.in-Some.cut) (sym c.self.view_is) c.in-Some.ensures) c.if-self.false (inr (c.if-cut-self.true, c.if-self.false))
 
 pub returns-clause-gives : goal.returns-clause-gives
 returns-clause-gives c = λ pending h.
     let inside = c.self.inside in
-    waits_line inside.buffer.now inside.start inside.end inside.limit inside.dropped inside.ended _ _ c.in-Some.cut pending (subst (λ v. Holds v pending) (sym c.self.view_is) h)
+    waits_line inside.buffer.now inside.start inside.end inside.limit inside.dropped inside.ended _ _ c.in-Some.cut pending (subst (λ v. IsPending v pending) (sym c.self.view_is) h)
     (subst (λ v. IsCut (waits v) c.in-Some.cut) (sym c.self.view_is) c.in-Some.ensures) c.if-self.false (omega (arith, c.if-cut-self.false))

@@ -1,6 +1,6 @@
 use Rattle.std.proofs.Common.{◌≤◌, inl, inr, length, take, refl, sym, subst, arith}
 use Rattle.std.proofs.lemmas.List.{length-take-le}
-use Rattle.line_engine.specs.LineBuffers.{waits, HasNoFeed, Holds}
+use Rattle.line_engine.specs.LineBuffers.{waits, HasNoFeed, IsPending}
 use Rattle.line_engine.proofs.HandingOut.{absent_behind, ends_line, ends_too_long}
 use Rattle.line_engine.proofs.line_buffer.LineBuffer.next_unended.Goals as goal
 
@@ -25,19 +25,19 @@ invariant_of-self c =
 pub returns-then-self-clause-gives : goal.returns-then-self-clause-gives
 returns-then-self-clause-gives c = λ pending h.
     let inside = c.self.inside in
-    ends_too_long inside.buffer.now inside.start inside.end inside.limit inside.dropped _ inside.ended _ _ _ _ pending (subst (λ v. Holds v pending) (sym c.self.view_is) h)
+    ends_too_long inside.buffer.now inside.start inside.end inside.limit inside.dropped _ inside.ended _ _ _ _ pending (subst (λ v. IsPending v pending) (sym c.self.view_is) h)
     (subst (λ v. HasNoFeed (waits v)) (sym c.self.view_is) c.requires) refl c.if-not-self.false c.self.invariant.0.within (inl c.if-self.true)
 
 pub returns-then-count-self-clause-gives : goal.returns-then-count-self-clause-gives
 returns-then-count-self-clause-gives c = λ pending h.
     let inside = c.self.inside in
-    ends_too_long inside.buffer.now inside.start inside.end inside.limit inside.dropped _ inside.ended _ _ _ _ pending (subst (λ v. Holds v pending) (sym c.self.view_is) h)
+    ends_too_long inside.buffer.now inside.start inside.end inside.limit inside.dropped _ inside.ended _ _ _ _ pending (subst (λ v. IsPending v pending) (sym c.self.view_is) h)
     (subst (λ v. HasNoFeed (waits v)) (sym c.self.view_is) c.requires) c.if-self.false c.if-not-self.false c.self.invariant.0.within
     (inr (c.if-count-self.true, c.if-self.false))
 
 pub returns-clause-gives : goal.returns-clause-gives
 returns-clause-gives c = λ pending h.
     let inside = c.self.inside in
-    ends_line inside.buffer.now inside.start inside.end inside.limit inside.dropped inside.ended _ _ pending (subst (λ v. Holds v pending) (sym c.self.view_is) h)
+    ends_line inside.buffer.now inside.start inside.end inside.limit inside.dropped inside.ended _ _ pending (subst (λ v. IsPending v pending) (sym c.self.view_is) h)
     (subst (λ v. HasNoFeed (waits v)) (sym c.self.view_is) c.requires) c.if-self.false c.if-not-self.false
     (omega (arith, c.if-count-eq0.false)) c.self.invariant.0.within (omega (arith, c.if-count-self.false))

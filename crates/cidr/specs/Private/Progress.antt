@@ -1,0 +1,60 @@
+-- How far a run has come.
+use Rattle.std.specs.Prelude.{◌≡◌, ℕ, ◌+◌, Bool, true, List, [], ◌++◌, length, Option}
+use Rattle.std.specs.Io.KnownBytes.{Consumes, IsAtEnd}
+use Rattle.std.specs.Str.Lines.{lines}
+use Rattle.line_engine.specs.Answers as engine
+use Rattle.line_engine.specs.LineBuffers.{Buffered, IsPending}
+use Rattle.line_engine.specs.Outputs.{AppendsBeginning, Puts}
+use Rattle.cidr.specs.declared.answering.Answering.{Answering}
+use Rattle.cidr.specs.Output.{MayGet, MayAnswer, replies}
+use Rattle.cidr.specs.Private.Routes.{routes_of}
+use Rattle.cidr.specs.Requests.{request_of}
+use Rattle.cidr.specs.Routes.{Routes, no_routes}
+
+pub record Standing : Type 0 where
+  -- what the writer holds, if it tells
+  pub holds : Option (List ℕ)
+  -- the replies that wait to be written
+  pub waits : List ℕ
+  -- the routes
+  pub routes : Routes
+
+abbrev pub standing : Option (List ℕ) → Answering → Standing
+standing holds answering = record { holds = holds; waits = answering.waiting.items; routes = routes_of answering.routes }
+
+-- as a run begins
+abbrev pub begun : Option (List ℕ) → Standing
+begun holds = record { holds = holds; waits = []; routes = no_routes }
+
+-- from the one stand to the other these lines got answers, which were written behind what waited, or wait
+pub record Answered (from to : Standing) (asks : List (List ℕ)) : Type 0 where
+  pub answers : List (List ℕ)
+  pub turns : MayAnswer from.routes asks answers to.routes
+  pub puts : Puts from.holds from.waits to.holds to.waits (replies answers)
+
+-- answers that the first of these lines may get, one after the other
+abbrev pub FirstMayAnswer : Routes → List (List ℕ) → List (List ℕ) → Type 0
+FirstMayAnswer = engine.FirstInTurn (λ before line answer after. MayGet before (request_of line) answer after)
+
+-- from this stand on, the writer failed within what waited and answers to the first of these lines
+pub record FailsWithin (from : Standing) (holds : Option (List ℕ)) (asks : List (List ℕ)) : Type 0 where
+  pub answers : List (List ℕ)
+  pub turns : FirstMayAnswer from.routes asks answers
+  pub took : AppendsBeginning from.holds holds (from.waits ++ replies answers)
+
+-- these lines, and then those of what is pending, are the lines of what was read, whatever is read after it
+abbrev pub AreFirst : Bool → List ℕ → List (List ℕ) → List ℕ → Type 0
+AreFirst ended read asks pending = (more : List ℕ) → (ended ≡ true → more ≡ []) → lines (read ++ more) ≡ asks ++ lines (pending ++ more)
+
+-- what was read, within a limit of which there is room for so many more bytes: its first lines got answers, and what
+-- follows them is pending
+pub record RunSoFar (limit room : ℕ) (held : Buffered) (left rest : Option (List ℕ)) (start now : Standing) : Type 0 where
+  pub read : List ℕ
+  pub consumed : Consumes left rest read
+  pub counted : length read + room ≡ limit
+  pub at_end : held.ended ≡ true → IsAtEnd rest
+  pub pending : List ℕ
+  pub holds : IsPending held pending
+  pub asks : List (List ℕ)
+  pub first : AreFirst held.ended read asks pending
+  pub answers : Answered start now asks
