@@ -1,4 +1,4 @@
-use Rattle.std.proofs.Common.{◌≤◌, inl, inr, length, take, refl, sym, subst, arith}
+use Rattle.std.proofs.Common.{inl, inr, take, refl, sym, subst, arith}
 use Rattle.std.proofs.lemmas.List.{length-take-le}
 use Rattle.line_engine.specs.LineBuffers.{waits, HasNoFeed, IsPending}
 use Rattle.line_engine.proofs.HandingOut.{absent_behind, ends_line, ends_too_long}
