@@ -124,6 +124,33 @@ def orders(program, folder):
         yield f"orders of options, {last}", not wrong, wrong
 
 
+def fields(program, folder):
+    """An address in one field of 5,000: it is found by the number of that field, and by no other."""
+    numbers = [*range(1, 300), 1000, 1001, 1024, 4096, 4999, 5000]
+    wrong = []
+    for number in numbers:
+        log = (b"x " * (number - 1) + b"10.0.0.1" + b" x" * (5000 - number)) + b"\n"
+        for asked in (number - 1 or 5001, number, number + 1):
+            got = run([program, "-f", "list", "-k", str(asked)], log, folder)
+            wanted = (log, b"", 0) if asked == number else (b"", b"", 1)
+            wrong += [] if got == wanted else [(number, asked)]
+    yield "fields", not wrong, wrong
+
+
+def numbers_of_lists(program, folder):
+    """One to twenty LISTs, and as many TEXTs: an address of each is found."""
+    for n in range(20):
+        with open(os.path.join(folder, f"list {n}"), "w") as f:
+            f.write(f"11.0.0.{n}\n")
+    log = "".join(f"11.0.0.{n}\n" for n in range(21))
+    for count in range(1, 21):
+        wanted = ("".join(f"11.0.0.{n}\n" for n in range(count)).encode(), b"", 0)
+        for name, option, value in (("lists", "-f", "list {}"), ("texts", "-e", "11.0.0.{}")):
+            words = [word for n in range(count) for word in (option, value.format(n))]
+            got = run([program, *words], log.encode(), folder)
+            yield f"{count} {name}", got == wanted, got
+
+
 def numbers_of_logs(program, folder):
     """No FILE, which is standard input, up to twenty, in their order."""
     names = [f"log {n}" for n in range(20)]

@@ -1,5 +1,5 @@
 -- Values at which a misreading of the definitions would show.
-use Rattle.std.proofs.Common.{◌≡◌, ℕ, length, List, [], ◌∷◌, Bool, true, false, inl, inr, refl, subst, arith}
+use Rattle.std.proofs.Common.{◌≡◌, ℕ, length, List, [], ◌∷◌, Bool, true, false, inl, inr, refl, subst, arith, drop, sym, ◌∙◌, ◌⊎◌, true≢false}
 use Rattle.std.specs.Prelude.{codes, String, Some, None}
 use Rattle.std.specs.Fmt.{digits}
 use Rattle.std.specs.String.{string_bytes}
@@ -12,6 +12,7 @@ use Rattle.lists.specs.declared.entry.EntryFault.TheVariants.{Prefix}
 use Rattle.lists.specs.Lists.{ReadLists, at_list, TakesLines}
 use Rattle.lists.specs.declared.fault.LineFault.TheVariants.{Entry}
 use Rattle.lists.specs.KnownLists.{KnownLists}
+use Rattle.program.specs.Told.{was_refused}
 use Rattle.cidr_filter.specs.Fields.{field_of}
 use Rattle.cidr_filter.specs.Filters.{IsListed, Judges, is_selected, is_refused, mark_of, output_of}
 use Rattle.cidr_filter.specs.Lines.{LogLine, log_lines, ended_lines, content, printed}
@@ -20,11 +21,14 @@ use Rattle.cidr_filter.specs.Logs.{logs_of, IsAllOf, IsFirstOf, FiltersLogs}
 use Rattle.cidr_filter.specs.Reading.{ReadsOptions}
 use Rattle.program.specs.Endings.{Ending, HasTold, HasWritten}
 use Rattle.cidr_filter.specs.Runs.{total_text, EndsLogs}
+use Rattle.program.specs.Told.{was_refused}
 use Rattle.cidr_filter.specs.Told.{refusals_text, log_fault_text}
 use Rattle.cidr_filter.specs.declared.filter.Bad.{Bad}
 use Rattle.cidr_filter.specs.declared.filter.Bad.TheVariants as bads
 use Rattle.cidr_filter.specs.declared.filter.Filter.{Filter}
 use Rattle.cidr_filter.specs.declared.filter.Verdict.TheVariants as verdicts
+use Rattle.cidr_filter.specs.declared.command_line.Request.{Request}
+use Rattle.cidr_filter.specs.declared.listed.Listed.{Listed}
 use Rattle.cidr_filter.specs.declared.listed.Listed.TheVariants.{Addresses, Blocks}
 use Rattle.cidr_filter.specs.declared.listed.Tables.{Tables}
 use Rattle.cidr_filter.specs.declared.log.LogFault.TheVariants as faults
@@ -106,14 +110,14 @@ pub no_longer_block : (tables : Tables) (address : IpAddr) → let wide = V4 (re
     IsLongestBlock tables address wide → IsStored tables narrow → IpMember narrow address → ⊥
 no_longer_block tables address longest stored member = omega (arith, longest.longest (V4 (record { address = 167772160; prefix = 16 })) stored member)
 
-pub inside_is_selected : is_selected (by false bads.Keep) (verdicts.Inside None) ≡ true
-inside_is_selected = refl
+pub inside_is_selected : (bad : Bad) → is_selected (by false bad) (verdicts.Inside None) ≡ true
+inside_is_selected bad = refl
 
-pub outside_is_not : is_selected (by false bads.Keep) verdicts.Outside ≡ false
-outside_is_not = refl
+pub outside_is_not : (bad : Bad) → is_selected (by false bad) verdicts.Outside ≡ false
+outside_is_not bad = refl
 
-pub outside_of_none : is_selected (by true bads.Drop) verdicts.Outside ≡ true
-outside_of_none = refl
+pub outside_of_none : (bad : Bad) → is_selected (by true bad) verdicts.Outside ≡ true
+outside_of_none bad = refl
 
 pub bad_dropped_also_inverted : is_selected (by true bads.Drop) verdicts.Bad ≡ false
 bad_dropped_also_inverted = refl
@@ -189,8 +193,24 @@ pub the_number_of_lines : total_text true 12 ≡ codes "12\n"
 unfolding digits
 the_number_of_lines = refl
 
+-- up to what 64 bits count
+pub no_greater_number : total_text true 18446744073709551616 ≡ codes "18446744073709551615\n"
+unfolding digits
+no_greater_number = refl
+
+pub no_greater_line : log_fault_text (codes "log") 18446744073709551615 faults.Address ≡ codes "log:18446744073709551615: refused address\n"
+unfolding digits
+no_greater_line = refl
+
 pub no_number : total_text false 12 ≡ []
 no_number = refl
+
+-- without a refused line a run is not silent: there is no memory, or the logs are filtered
+pub not_silent : {Z W E : Type 0} (known : KnownLists) (words : List (String Z)) (request : Request) (read : ReadLists) (end : Ending W E) → was_refused read.refused ≡ false → EndsFiltering known words request read end
+    → Refuses (codes "out of memory\n") end
+    ⊎ ((listed : Listed) × HoldsRead request.longest read listed × EndsLogs (filter_of request listed) request.counts known (logs_of (drop request.files words)) end)
+not_silent known words request read end none (inl ends) = absurd (true≢false (sym ends.0 ∙ none))
+not_silent known words request read end none (inr ends) = ends.1
 
 pub standard_input : (Z : Type 0) → logs_of {Z = Z} [] ≡ codes "-" ∷ []
 standard_input Z = refl

@@ -1,13 +1,20 @@
 -- Options and FILEs at which a misreading of the definitions would show.
 use Rattle.std.proofs.Common.{◌≡◌, ℕ, length, List, [], ◌∷◌, Bool, true, false, not, ◌&&◌, ◌||◌, ◌==◌, ◌∙◌, refl, ap}
-use Rattle.std.specs.Prelude.{codes, bytes_eq, if◌then◌else◌, String, Some, None}
+use Rattle.std.specs.Prelude.{codes, bytes_eq, nat_le, nat_lt, if◌then◌else◌, String, Some, None}
 use Rattle.std.specs.List.{list_all}
+use Rattle.std.specs.Char.{is_ascii_digit}
 use Rattle.std.specs.String.{string_bytes}
 use Rattle.cidr_filter.specs.CommandLines.{files_among, names_in, inputs_among, is_plain, is_name}
 use Rattle.cidr_filter.specs.Options.{number_of, field_option, separator_option, bad_option, letters_option, begins, in_one_word, option_of, field_said, separator_said, bad_said}
 use Rattle.cidr_filter.specs.declared.filter.Bad.{Bad}
 use Rattle.cidr_filter.specs.declared.filter.Bad.TheVariants as bads
 use Rattle.cidr_filter.specs.declared.options.Choice.TheVariants as choices
+
+are_four : (a b c d : Bool) → a ≡ true → b ≡ true → c ≡ true → d ≡ true → (a && b && c && d) ≡ true
+are_four a b c d p q r s = rw (p, q, r, s)
+
+are_all : (a b c d : Bool) → a ≡ true → b ≡ false → c ≡ false → d ≡ false → (a && not b && not c && not d) ≡ true
+are_all a b c d p q r s = rw (p, q, r, s)
 
 pub number_in_decimal : number_of (codes "4294967295") ≡ 4294967295
 number_in_decimal = refl
@@ -26,6 +33,12 @@ no_field_zero = refl
 
 pub no_signed_field : field_option (codes "+1") ≡ None
 no_signed_field = refl
+
+-- every other number in digits is the number of a field
+pub any_field : (text : List ℕ) → nat_lt 0 (length text) ≡ true → list_all is_ascii_digit text ≡ true → nat_lt 0 (number_of text) ≡ true → nat_le (number_of text) 4294967295 ≡ true
+    → field_option text ≡ Some (choices.Field (number_of text))
+any_field text some digits above below =
+    ap (λ b. if b then Some (choices.Field (number_of text)) else None) (are_four (nat_lt 0 (length text)) (list_all is_ascii_digit text) (nat_lt 0 (number_of text)) (nat_le (number_of text) 4294967295) some digits above below)
 
 pub comma : separator_option (codes ",") ≡ Some (choices.Separator 44)
 comma = refl
@@ -47,6 +60,10 @@ no_return = refl
 
 pub no_byte_past_ascii : separator_option (128 ∷ []) ≡ None
 no_byte_past_ascii = refl
+
+-- every other byte of ASCII separates fields
+pub any_separator : (byte : ℕ) → nat_lt byte 128 ≡ true → (byte == 10) ≡ false → (byte == 13) ≡ false → (byte == 0) ≡ false → separator_option (byte ∷ []) ≡ Some (choices.Separator byte)
+any_separator byte small feed return zero = ap (λ b. if b then Some (choices.Separator byte) else None) (are_all (nat_lt byte 128) (byte == 10) (byte == 13) (byte == 0) small feed return zero)
 
 pub bad_word : bad_option (codes "stop") ≡ Some (choices.Bad bads.Stop)
 bad_word = refl
