@@ -10,6 +10,7 @@ pub mod PartExamples
 pub mod Parts
 pub mod PlainTexts
 pub mod Printed
+pub mod ReadingExamples
 pub mod Readings
 pub mod Taken
 pub mod Trims

@@ -1,17 +1,11 @@
 -- What the definitions promise, part by part: a definition without one of these parts would not give it.
-use Rattle.std.proofs.Common.{◌≡◌, ◌++◌, ◌-◌, ◌^◌, ◌<◌, ◌⊎◌, ℕ, Bool, List, true, false, length, refl}
-use Rattle.std.specs.Prelude.{IsTrue, IsFalse, Option, Some, Result, Ok, Err, codes, if◌then◌else◌}
+use Rattle.std.proofs.Common.{◌≡◌, ◌++◌, ℕ, List, refl}
+use Rattle.std.specs.Prelude.{IsTrue, IsFalse, Option, Ok, Err, codes, if◌then◌else◌}
 use Rattle.std.specs.Io.KnownBytes.{Appends}
-use Rattle.std.specs.Str.Lines.{lines}
-use Rattle.lists.specs.Lists.{ReadLists, at_list, TakesLines}
-use Rattle.lists.specs.Refusals.{Refused}
 use Rattle.line_engine.specs.Outputs.{writer_of, waits_in, output_failed, Puts}
 use Rattle.line_engine.specs.declared.output.Output.{Output}
 use Rattle.program.specs.Endings.{status_of, failure_text, end_text, Ending, IsSilent, HasTold, HasWritten, EndsPrinting}
-use Rattle.lists.specs.KnownLists.{KnownLists, known_of}
 use Rattle.program.specs.Messages.{Tells}
-use Rattle.lists.specs.Reading.{ReadsList, ReadsFirst, FailsReading, StopsAt}
-use Rattle.lists.specs.declared.named.ReadFault.TheVariants.{Read, OutOfMemory}
 
 -- ---- messages
 
@@ -48,27 +42,3 @@ what_was_written end text h = h
 pub what_was_printed : {W E : Type 0} (end : Ending W E) (text : List ℕ) → EndsPrinting text end
     → (end.status ≡ (if output_failed end.output_after then 2 else 0)) × (end.status ≡ 0 → HasWritten end text) × HasTold end (failure_text (output_failed end.output_after))
 what_was_printed end text h = h
-
--- ---- lists
-
-pub what_is_known : {S : Type 0} (bytes_of : S → List ℕ → Option (List ℕ)) (may_open : S → List ℕ → Bool → Type 0) (may_fail : S → List ℕ → Type 0) (lists : S)
-    → ((known_of bytes_of may_open may_fail lists).bytes_of ≡ bytes_of lists) × ((known_of bytes_of may_open may_fail lists).may_open ≡ may_open lists) × ((known_of bytes_of may_open may_fail lists).may_fail ≡ may_fail lists)
-what_is_known bytes_of may_open may_fail lists = (refl, refl, refl)
-
-pub what_is_read : (known : KnownLists) (number : ℕ) (name input : List ℕ) (before after : ReadLists) → ReadsList known number name before after → known.bytes_of name ≡ Some input → TakesLines (at_list before number) (lines input) after
-what_is_read known number name input before after h e = h.1 input e
-
-pub what_is_read_first : (known : KnownLists) (number : ℕ) (name input : List ℕ) (before after : ReadLists) → ReadsFirst known number name before after → known.bytes_of name ≡ Some input
-    → (first : List (List ℕ)) × (others : List (List ℕ)) × (lines input ≡ first ++ others) × TakesLines (at_list before number) first after
-what_is_read_first known number name input before after h e = h.1 input e
-
-pub why_a_reading_fails : (known : KnownLists) (name : List ℕ) → FailsReading known name → known.may_fail name ⊎ ((input : List ℕ) → known.bytes_of name ≡ Some input → 2 ^ 64 - 1 < length input)
-why_a_reading_fails known name h = h
-
-pub what_a_failed_read_leaves : (known : KnownLists) (number place : ℕ) (name : List ℕ) (before : ReadLists) (refused : Refused) → StopsAt known number name before (Read place) refused
-    → (place ≡ number) × FailsReading known name × (after : ReadLists) × ReadsFirst known number name before after × (after.is_out_of_memory ≡ false) × (refused ≡ after.refused)
-what_a_failed_read_leaves known number place name before refused h = h
-
-pub what_no_memory_leaves : (known : KnownLists) (number : ℕ) (name : List ℕ) (before : ReadLists) (refused : Refused) → StopsAt known number name before OutOfMemory refused
-    → (after : ReadLists) × ReadsFirst known number name before after × (after.is_out_of_memory ≡ true) × (refused ≡ after.refused)
-what_no_memory_leaves known number name before refused h = h

@@ -3,4 +3,4 @@ use Rattle.lists.specs.ReadBy.{read_by}
 use Rattle.lists.proofs.named.read_text.Goals as goal
 
 pub returns-then-is_out_of_memory-clause-stopped : goal.returns-then-is_out_of_memory-clause-stopped
-returns-then-is_out_of_memory-clause-stopped c = (read_by c.read_text.new.lists, c.read_text.ensures, sym c.is_out_of_memory.ensures ∙ c.if-is_out_of_memory.true, refl)
+returns-then-is_out_of_memory-clause-stopped c = (read_by c.take_text.new.lists, c.take_text.ensures, sym c.is_out_of_memory.ensures ∙ c.if-is_out_of_memory.true, refl)
