@@ -1,4 +1,4 @@
-"""Rows of `tests/filter` over inputs of every kind: each byte, each prefix length, short reads, a
+"""Rows of `tests/cidr_filter` over inputs of every kind: each byte, each prefix length, short reads, a
 log in parts. Each function yields a name, whether the row is as it should be, and what was got."""
 
 import ipaddress
