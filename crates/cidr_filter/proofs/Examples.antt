@@ -18,10 +18,9 @@ use Rattle.cidr_filter.specs.Filters.{IsListed, Judges, is_selected, is_refused,
 use Rattle.cidr_filter.specs.Lines.{LogLine, log_lines, ended_lines, content, printed}
 use Rattle.cidr_filter.specs.Listed.{IsStored, IsLongestBlock}
 use Rattle.cidr_filter.specs.Logs.{logs_of, IsAllOf, IsFirstOf, FiltersLogs}
-use Rattle.cidr_filter.specs.Reading.{ReadsOptions}
+use Rattle.cidr_filter.specs.Reading.{ReadsOptions, HoldsRead}
 use Rattle.program.specs.Endings.{Ending, HasTold, HasWritten}
-use Rattle.cidr_filter.specs.Runs.{total_text, EndsLogs}
-use Rattle.program.specs.Told.{was_refused}
+use Rattle.cidr_filter.specs.Runs.{total_text, EndsLogs, EndsFiltering, Refuses, filter_of}
 use Rattle.cidr_filter.specs.Told.{refusals_text, log_fault_text}
 use Rattle.cidr_filter.specs.declared.filter.Bad.{Bad}
 use Rattle.cidr_filter.specs.declared.filter.Bad.TheVariants as bads
