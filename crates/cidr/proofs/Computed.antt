@@ -5,9 +5,9 @@ use Rattle.std.specs.Str.Lines.{lines}
 use Rattle.cidr.specs.Output.{Gets, RunsOut, MayGet, InTurn, MayAnswer, out_of_memory, replies}
 use Rattle.cidr.specs.Computed.Output.{request_answer, next_routes, answers_from}
 use Rattle.cidr.specs.Laws.Outputs.{FullIsComputed, ComputedIsAllowed, UnrefusedIsComputed}
-use Rattle.line_engine.specs.Answers.{FirstInTurn}
 use Rattle.cidr.specs.Requests.{Request, Add, Drop, Find, Plain, request_of}
 use Rattle.cidr.specs.Routes.{Routes, no_routes}
+use Rattle.cidr.specs.Turns.{FirstInTurn}
 use Rattle.cidr.proofs.Found.{find_some, find_one}
 use Rattle.cidr.proofs.Keys.{KeyLaws, HasClearKeys, no_keys, added_key, dropped_key}
 use Rattle.cidr.proofs.Turns.{LineMayGet}

@@ -19,5 +19,6 @@ pub mod Requests
 pub mod RouteLines
 pub mod Runs
 pub mod Splits
+pub mod Succeeds
 pub mod Turns
 pub mod UnrefusedLines

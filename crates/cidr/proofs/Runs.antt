@@ -3,13 +3,12 @@ use Rattle.std.proofs.Common.{◌≡◌, ℕ, ◌+◌, ◌-◌, ◌*◌, ◌<◌
 use Rattle.std.proofs.KnownBytes.{Appends-nil, Appends-trans, Appends-kept, Consumes-nil, Consumes-trans, Consumes-kept}
 use Rattle.std.proofs.lemmas.Bool.Decides.{eqb_tells}
 use Rattle.std.specs.Io.KnownBytes.{Appends, Consumes, Keeps}
-use Rattle.std.specs.Prelude.{Option, Result, Ok, Err, OnErr, IsOkUnless}
+use Rattle.std.specs.Prelude.{Option, Result, Ok, Err, IsOkUnless}
 use Rattle.std.specs.Str.Lines.{lines}
 use Rattle.ipnetwork_table.specs.Laws.{AnswerIsComputed}
 use Rattle.line_engine.proofs.HandingOut.{has_no}
 use Rattle.line_engine.proofs.Lines.{begins_longer, begins_after, begins_with_nothing, first_are_complete}
 use Rattle.line_engine.proofs.Putting.{puts_nothing, puts_more, puts_out, puts_waiting}
-use Rattle.line_engine.proofs.Turns as engine
 use Rattle.line_engine.specs.Answers.{complete_part, IsBeginning}
 use Rattle.line_engine.specs.LineBuffers.{Buffered, IsPending, IsFirstLine, HandsOut, Gives, Receives, work}
 use Rattle.line_engine.specs.Outputs.{AppendsBeginning, Puts}
@@ -24,13 +23,9 @@ use Rattle.cidr.specs.Requests.{request_of}
 use Rattle.cidr.specs.Routes.{Routes, no_routes}
 use Rattle.cidr.specs.Run.{Ran}
 use Rattle.cidr.proofs.Computed.{goes_on_to_all}
-use Rattle.cidr.proofs.Turns.{LineMayGet, replies-append, turns-append}
+use Rattle.cidr.proofs.Turns.{LineMayGet, replies-append, answers-append, first_of_all, first_of_more, first-append}
 
 -- ---- answers
-
-pub on_err_any : {T E P : Type 0} (result : Result T E) → P → OnErr result P
-on_err_any (Ok x) p = tt
-on_err_any (Err e) p = p
 
 pub no_answers : (a : Standing) → Answered a a []
 no_answers a = record { answers = []; turns = refl; puts = puts_nothing a.holds a.waits }
@@ -43,7 +38,7 @@ written a holds waits took none = record { answers = []; turns = refl; puts = pu
 answers_more : (a b c : Standing) (ls ms : List (List ℕ)) → Answered a b ls → Answered b c ms → Answered a c (ls ++ ms)
 answers_more a b c ls ms f g = record {
   answers = f.answers ++ g.answers;
-  turns = turns-append a.routes b.routes c.routes ls ms f.answers g.answers f.turns g.turns;
+  turns = answers-append a.routes b.routes c.routes ls ms f.answers g.answers f.turns g.turns;
   puts = subst (Puts a.holds a.waits c.holds c.waits) (sym (replies-append f.answers g.answers))
       (puts_more a.holds b.holds c.holds a.waits b.waits c.waits (replies f.answers) (replies g.answers) f.puts g.puts);
 }
@@ -75,7 +70,7 @@ fails_later a b holds ls ms f g =
     ∙ ap (λ l. a.waits ++ l) (sym (replies-append f.answers g.answers)) in
     record {
       answers = f.answers ++ g.answers;
-      turns = engine.first-append LineMayGet a.routes b.routes ls ms f.answers g.answers f.turns g.turns;
+      turns = first-append LineMayGet a.routes b.routes ls ms f.answers g.answers f.turns g.turns;
       took = (
         f.puts.0 ++ g.took.0,
         Appends-trans a.holds b.holds holds f.puts.0 g.took.0 f.puts.1 g.took.1,
@@ -87,7 +82,7 @@ fails_later a b holds ls ms f g =
 fails_behind : (a b : Standing) (holds : Option (List ℕ)) (ls : List (List ℕ)) → Answered a b ls → Keeps b.holds holds → FailsWithin a holds ls
 fails_behind a b holds ls f keeps = record {
   answers = f.answers;
-  turns = engine.first_of_all LineMayGet a.routes b.routes ls f.answers f.turns;
+  turns = first_of_all LineMayGet a.routes b.routes ls f.answers f.turns;
   took = (f.puts.0, Appends-kept _ _ _ _ f.puts.1 keeps, (b.waits, f.puts.2));
 }
 
@@ -287,7 +282,7 @@ stopped : AnswerIsComputed ℕ → (limit : ℕ) (left rest held holds : Option 
 stopped computed limit left rest held holds read asks others consumed within same f =
     let firsts = f.answers in
     let turns : FirstMayAnswer no_routes (lines read) firsts =
-    subst (λ (ls : List (List ℕ)). FirstMayAnswer no_routes ls firsts) (sym same) (engine.first_of_more LineMayGet no_routes asks others firsts f.turns) in
+    subst (λ (ls : List (List ℕ)). FirstMayAnswer no_routes ls firsts) (sym same) (first_of_more LineMayGet no_routes asks others firsts f.turns) in
     let all = goes_on_to_all computed no_routes (lines read) firsts turns in
     record {
       read = read;

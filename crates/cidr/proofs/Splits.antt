@@ -3,11 +3,10 @@ use Rattle.std.proofs.Common.{◌≡◌, ℕ, List, [], ◌∷◌, ◌++◌, sym
 use Rattle.std.specs.Str.Lines.{lines}
 use Rattle.cidr.specs.Output.{MayAnswer, IsOutputFrom, replies}
 use Rattle.cidr.specs.Laws.Outputs.{EndsALine, IsOutputInParts, SplitsAtLineEnds, PlainPartsRunAlone}
-use Rattle.line_engine.specs.Private.Progress.{lines_from, pending_from, last_line}
 use Rattle.cidr.specs.Routes.{Routes, no_routes}
-use Rattle.line_engine.proofs.Lines.{lines-append, pending-append, lines_split}
+use Rattle.line_engine.proofs.Lines.{lines_from, pending_from, last_line, lines-append, pending-append, lines_split}
 use Rattle.cidr.proofs.PlainLines.{plain_turns}
-use Rattle.cidr.proofs.Turns.{replies-append, turns-append}
+use Rattle.cidr.proofs.Turns.{replies-append, answers-append}
 
 feed_alone : (p : List ℕ) → pending_from p (10 ∷ []) ≡ []
 unfolding pending_from
@@ -55,7 +54,7 @@ splits front back output before after ends = (
   λ h.
       let one = h.3 in
       let two = h.4 in
-      let turns = turns-append before h.0 after (lines front) (lines back) one.0 two.0 one.1 two.1 in (
+      let turns = answers-append before h.0 after (lines front) (lines back) one.0 two.0 one.1 two.1 in (
         one.0 ++ two.0,
         subst (λ (ls : List (List ℕ)). MayAnswer before ls (one.0 ++ two.0) after) (sym (lines_of_both front back ends)) turns,
         h.5 ∙ ap₂ (λ a b. a ++ b) one.2 two.2 ∙ sym (replies-append one.0 two.0),

@@ -7,4 +7,5 @@ pub mod Private
 pub mod Requests
 pub mod Routes
 pub mod Run
+pub mod Turns
 pub mod Words

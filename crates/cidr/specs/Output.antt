@@ -2,10 +2,10 @@
 use Rattle.std.specs.Prelude.{◌≡◌, ℕ, ◌⊎◌, List, [], ◌∷◌, ◌++◌, Option, None, Some, codes}
 use Rattle.std.specs.List.{flat_map}
 use Rattle.std.specs.Str.Lines.{lines}
-use Rattle.line_engine.specs.Answers as engine
 use Rattle.cidr.specs.Finding.{Finds}
 use Rattle.cidr.specs.Requests.{Request, Add, Drop, Find, Plain, request_of}
 use Rattle.cidr.specs.Routes.{Routes, no_routes, number_at, with_number, without}
+use Rattle.cidr.specs.Turns as turns
 
 -- the answer to `add` and to `drop`, by the number that the block had
 abbrev pub added : Option ℕ → List ℕ
@@ -44,7 +44,7 @@ MayGet before request answer after = Gets before request answer after ⊎ RunsOu
 
 -- starting with the routes `before`, these lines get these answers in turn, one each, and leave the routes `after`
 abbrev pub InTurn : (Routes → Request → List ℕ → Routes → Type 0) → Routes → List (List ℕ) → List (List ℕ) → Routes → Type 0
-InTurn Get = engine.InTurn (λ before line answer after. Get before (request_of line) answer after)
+InTurn Get = turns.InTurn (λ before line answer after. Get before (request_of line) answer after)
 
 -- the answers that these lines may get
 abbrev pub MayAnswer : Routes → List (List ℕ) → List (List ℕ) → Routes → Type 0

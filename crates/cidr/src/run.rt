@@ -1,7 +1,7 @@
 //! The run that the program makes, and what it promises.
 ghost use Rattle.std.specs.Prelude.{◌≡◌, ◌||◌, List, ℕ, Err, OnOk, IsOk, IsFalse, IsTrue, IfSome, Some, ◌≤◌, length};
 ghost use Rattle.std.specs.Io.KnownBytes.{Appends};
-ghost use Rattle.line_engine.specs.Run.{ended_by_read, ended_by_write};
+ghost use Rattle.line_engine.specs.Faults.{ended_by_read, ended_by_write};
 ghost use Rattle.line_engine.specs.Watched.{device_of, has_failed};
 ghost use Rattle.cidr.specs.Output.{IsOutput};
 ghost use Rattle.cidr.specs.Run.{Ran};

@@ -12,14 +12,12 @@ use Rattle.byte_search.specs.Bytes.{IsAbsent, IsNext}
 use Rattle.line_engine.specs.LineBuffers.{Buffered, waits, HasNoFeed, IsDropped, IsPending, IsFirstLine, HandsOut, Gives}
 use Rattle.line_engine.specs.LineEnds.{end_bytes}
 use Rattle.line_engine.specs.Private.Cuts.{HasFeed, IsCut}
-use Rattle.line_engine.specs.Private.Progress.{last_line}
 use Rattle.line_engine.specs.declared.line_buffer.NextLine.TheVariants.{Line, TooLong}
 use Rattle.line_engine.specs.declared.line_end.Cut.{Cut}
 use Rattle.line_engine.specs.declared.line_end.LineEnd.{LineEnd}
 use Rattle.line_engine.specs.declared.line_end.LineEnd.TheVariants.{LineFeed, ReturnAndLineFeed, EndOfInput}
-use Rattle.line_engine.proofs.BytesLemmas.{HasNo, IsFirst, none_behind, first_behind, split_text, first_line}
-use Rattle.line_engine.proofs.Kept.{strip_length}
-use Rattle.line_engine.proofs.Lines.{lines_line, lines_last}
+use Rattle.line_engine.proofs.BytesLemmas.{HasNo, IsFirst, none_behind, first_behind, split_text, first_line, strip_length}
+use Rattle.line_engine.proofs.Lines.{last_line, lines_line, lines_last}
 
 -- ---- bytes without a line feed
 

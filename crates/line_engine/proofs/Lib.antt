@@ -1,9 +1,6 @@
 pub mod BytesLemmas
-pub mod Gathering
 pub mod HandingOut
-pub mod Kept
+mod LineExamples
 pub mod Lines
 pub mod Putting
-pub mod Runs
-pub mod Turns
 pub mod Writes

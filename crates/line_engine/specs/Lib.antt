@@ -6,5 +6,4 @@ pub mod LineEnds
 pub mod LineReaders
 pub mod Outputs
 pub mod Private
-pub mod Run
 pub mod Watched

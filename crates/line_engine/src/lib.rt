@@ -1,20 +1,15 @@
-//! Answers the lines of a reader on a writer, piece by piece.
+//! The lines of a reader, and bytes for a writer, over devices that are not called again once a call of them failed.
 //!
-//! A [`handler::LineHandler`] decides what a line gets, and may keep state from one line to the next.
-//! [`run::answer_lines`] reads pieces, hands the handler each line in turn, gathers the replies, and writes those for
-//! the lines of a piece before it reads the next piece. It works in slices that the caller lends, and does not
-//! allocate.
+//! [`line_buffer::LineBuffer`] hands out the lines of what it is told to read, where they lie in a slice that the caller
+//! lends, and [`line_reader::LineReader`] is one with its reader. [`output::Output`] gathers what is to be written in
+//! such a slice. [`watched::Watched`] knows whether a call of its device failed. Nothing here allocates.
 #![tactic(auto)]
 
 pub mod buffer;
 pub mod fault;
-pub mod handler;
-mod line;
 pub mod line_buffer;
 pub mod line_end;
 pub mod line_reader;
 pub mod output;
-mod pieces;
-mod replies;
-pub mod run;
 pub mod watched;
+mod writing;

@@ -1,30 +1,23 @@
 -- The lines of a list, as they are handed out.
-use Rattle.std.proofs.Common.{◌≡◌, ◌∙◌, inl, ℕ, ◌+◌, ◌-◌, ◌^◌, ◌<◌, ◌≤◌, true, false, true≢false, List, [], ◌∷◌, ◌++◌, length, take, refl, sym, ap, subst, append_assoc, append-nil, length-append, arith}
-use Rattle.std.proofs.Math.Seq.{take-append_seam}
+use Rattle.std.proofs.Common.{◌≡◌, ◌∙◌, inl, ℕ, ◌+◌, ◌-◌, ◌^◌, ◌<◌, ◌≤◌, true, false, true≢false, List, [], ◌∷◌, ◌++◌, length, refl, sym, ap, subst, append_assoc, append-nil, length-append, arith}
 use Rattle.std.proofs.KnownBytes.{Consumes-nil, Consumes-trans, Consumes-kept}
 use Rattle.std.proofs.lemmas.Bool.{ltb-true, ltb-false}
 use Rattle.std.specs.Io.KnownBytes.{Consumes, Keeps, IsAtEnd}
 use Rattle.std.specs.Prelude.{Bool, Option, None, Some, nat_lt}
-use Rattle.std.specs.Str.Lines.{lines, strip_carriage_return}
+use Rattle.std.specs.Str.Lines.{lines}
 use Rattle.line_engine.specs.Answers.{asked, complete_part}
 use Rattle.line_engine.specs.LineBuffers.{Buffered, waits, HasNoFeed, IsPending, IsFirstLine, Gives}
-use Rattle.line_engine.specs.Private.Progress.{lines_from, pending_from, last_line}
 use Rattle.line_engine.specs.declared.fault.RunFault.TheVariants.{Read, InputTooLong}
 use Rattle.line_engine.specs.declared.line_buffer.NextLine.TheVariants.{Line, TooLong, Ask, End}
 use Rattle.line_engine.specs.declared.line_end.LineEnd.{LineEnd}
 use Rattle.line_engine.specs.declared.line_end.LineEnd.TheVariants.{LineFeed, ReturnAndLineFeed, EndOfInput}
 use Rattle.line_engine.proofs.HandingOut.{has_no}
-use Rattle.line_engine.proofs.Lines.{lines-append, pending-append, lines_split, lines_complete, lines_line, lines_last}
+use Rattle.line_engine.proofs.Lines.{last_line, lines_last, first_are_complete}
 use Rattle.lists.specs.Lists.{ReadLists, Takes, TakesLines}
 use Rattle.lists.specs.Private.Waiting.{Leaves, TakesSome, HasNoLine, TakesWhole}
 use Rattle.lists.specs.Stopped.{TakesBefore}
 
 -- ---- lists of lines
-
-snoc_front : {A : Type 0} (a b : List A) (x y : A) → a ++ x ∷ [] ≡ b ++ y ∷ [] → a ≡ b
-snoc_front a b x y e =
-    let same : length a ≡ length b = omega (arith, ap length e, length-append a (x ∷ []), length-append b (y ∷ [])) in
-    sym (take-append_seam a (x ∷ [])) ∙ ap (take (length a)) e ∙ ap (λ n. take n (b ++ y ∷ [])) same ∙ take-append_seam b (y ∷ [])
 
 one_more : (taken : List (List ℕ)) (line : List ℕ) (others : List (List ℕ)) → taken ++ line ∷ others ≡ (taken ++ line ∷ []) ++ others
 one_more taken line others = sym (append_assoc taken (line ∷ []) others)
@@ -33,21 +26,9 @@ lines_nothing : lines [] ≡ []
 unfolding last_line
 lines_nothing = lines_last [] tt
 
--- a line feed behind some bytes ends the line that they leave
-feed_lines : (read : List ℕ) → lines (read ++ 10 ∷ []) ≡ lines (complete_part read) ++ strip_carriage_return (pending_from [] read) ∷ []
-unfolding lines_from pending_from last_line
-feed_lines read =
-    lines_split [] (read ++ 10 ∷ []) tt
-    ∙ ap (λ p. lines_from [] (read ++ 10 ∷ []) ++ last_line p) (pending-append [] read (10 ∷ []))
-    ∙ append-nil (lines_from [] (read ++ 10 ∷ []))
-    ∙ lines-append [] read (10 ∷ [])
-    ∙ ap (λ ls. ls ++ strip_carriage_return (pending_from [] read) ∷ []) (sym (lines_complete [] read tt))
-
 -- the lines before pending bytes that have no line feed are those that are complete
 pub complete_lines : (read : List ℕ) (taken : List (List ℕ)) (pending : List ℕ) → HasNoFeed pending → Leaves false read taken pending → lines (complete_part read) ≡ taken
-complete_lines read taken pending none leaves =
-    snoc_front (lines (complete_part read)) taken (strip_carriage_return (pending_from [] read)) (strip_carriage_return pending)
-    (sym (feed_lines read) ∙ leaves (10 ∷ []) ∙ ap (λ ls. taken ++ ls) (lines_line pending [] (has_no pending none) ∙ ap (λ ls. strip_carriage_return pending ∷ ls) lines_nothing))
+complete_lines read taken pending none leaves = first_are_complete read taken pending (has_no pending none) (leaves (10 ∷ []))
 
 -- ---- lines that are taken
 

@@ -3,7 +3,7 @@ use Rattle.std.proofs.Common.{◌≡◌, ◌<◌, ◌-◌, ◌^◌, [], ℕ, Lis
 use Rattle.std.specs.Prelude.{Option, None, Some, Result, Ok, Err, OnOk, IfErr}
 use Rattle.std.specs.Io.KnownBytes.{Consumes}
 use Rattle.std.specs.Str.Lines.{lines}
-use Rattle.line_engine.specs.Run.{ended_by_read}
+use Rattle.line_engine.specs.Faults.{ended_by_read}
 use Rattle.line_engine.specs.declared.fault.RunFault.{RunFault}
 use Rattle.line_engine.specs.declared.fault.RunFault.TheVariants as faults
 use Rattle.lists.specs.Lists.{ReadLists, at_list, TakesLines}

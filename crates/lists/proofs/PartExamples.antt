@@ -1,6 +1,6 @@
 -- What the definitions promise, part by part, and values at which a misreading of them would show.
 use Rattle.std.proofs.Common.{◌≡◌, ◌↔◌, ◌⊎◌, ◌≤◌, ◌<◌, ◌+◌, ◌-◌, ◌^◌, ◌++◌, ℕ, List, [], ◌∷◌, true, false, min, length, refl}
-use Rattle.std.specs.Prelude.{Option, None, Some, Result, Ok, Err, nat_lt, codes}
+use Rattle.std.specs.Prelude.{Option, None, Some, Result, Ok, Err}
 use Rattle.std.specs.Io.KnownBytes.{Consumes}
 use Rattle.std.specs.List.{Contains}
 use Rattle.std.specs.Str.Lines.{lines}
@@ -10,7 +10,7 @@ use Rattle.ipnetwork_family.specs.Network.{Network}
 use Rattle.ipnetwork_blocks.specs.Aggregate.{InUnion}
 use Rattle.line_engine.specs.Answers.{complete_part, IsBeginning}
 use Rattle.line_engine.specs.declared.fault.RunFault.TheVariants as runs
-use Rattle.lists.specs.Entries.{IsRange, ReadsEntry}
+use Rattle.lists.specs.Entries.{ReadsEntry}
 use Rattle.lists.specs.declared.entry.Entry.{Entry}
 use Rattle.lists.specs.declared.entry.Entry.TheVariants as entries
 use Rattle.lists.specs.declared.entry.EntryFault.{EntryFault}

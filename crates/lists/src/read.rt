@@ -3,7 +3,7 @@ ghost use Rattle.std.specs.Prelude.{◌≡◌, ◌||◌, ℕ, List, Some, OnOk, 
 ghost use Rattle.std.specs.Str.Lines.{lines};
 ghost use Rattle.line_engine.specs.Answers.{asked};
 ghost use Rattle.line_engine.specs.LineBuffers.{IsPending};
-ghost use Rattle.line_engine.specs.Run.{ended_by_read};
+ghost use Rattle.line_engine.specs.Faults.{ended_by_read};
 ghost use Rattle.line_engine.specs.Watched.{device_of, has_failed};
 ghost use Rattle.lists.specs.Lists.{at_list, Takes, TakesLines};
 ghost use Rattle.lists.specs.Private.Waiting.{TakesWhole};

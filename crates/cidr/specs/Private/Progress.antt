@@ -2,7 +2,6 @@
 use Rattle.std.specs.Prelude.{◌≡◌, ℕ, ◌+◌, Bool, true, List, [], ◌++◌, length, Option}
 use Rattle.std.specs.Io.KnownBytes.{Consumes, IsAtEnd}
 use Rattle.std.specs.Str.Lines.{lines}
-use Rattle.line_engine.specs.Answers as engine
 use Rattle.line_engine.specs.LineBuffers.{Buffered, IsPending}
 use Rattle.line_engine.specs.Outputs.{AppendsBeginning, Puts}
 use Rattle.cidr.specs.declared.answering.Answering.{Answering}
@@ -10,6 +9,7 @@ use Rattle.cidr.specs.Output.{MayGet, MayAnswer, replies}
 use Rattle.cidr.specs.Private.Routes.{routes_of}
 use Rattle.cidr.specs.Requests.{request_of}
 use Rattle.cidr.specs.Routes.{Routes, no_routes}
+use Rattle.cidr.specs.Turns as turns
 
 pub record Standing : Type 0 where
   -- what the writer holds, if it tells
@@ -34,7 +34,7 @@ pub record Answered (from to : Standing) (asks : List (List ℕ)) : Type 0 where
 
 -- answers that the first of these lines may get, one after the other
 abbrev pub FirstMayAnswer : Routes → List (List ℕ) → List (List ℕ) → Type 0
-FirstMayAnswer = engine.FirstInTurn (λ before line answer after. MayGet before (request_of line) answer after)
+FirstMayAnswer = turns.FirstInTurn (λ before line answer after. MayGet before (request_of line) answer after)
 
 -- from this stand on, the writer failed within what waited and answers to the first of these lines
 pub record FailsWithin (from : Standing) (holds : Option (List ℕ)) (asks : List (List ℕ)) : Type 0 where

@@ -5,8 +5,8 @@ ghost use Rattle.line_engine.specs.Outputs.{AppendsBeginning};
 ghost use Rattle.line_engine.specs.Watched.{device_of, has_failed};
 
 use crate::fault::RunFault;
-use crate::replies::write_whole;
 use crate::watched::Watched;
+use crate::writing::write_whole;
 use std::io::Write;
 
 impl<D: Write> Watched<D> {

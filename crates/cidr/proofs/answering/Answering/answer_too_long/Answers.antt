@@ -4,7 +4,8 @@ use Rattle.cidr.specs.Output.{MayGet}
 use Rattle.cidr.specs.Private.Routes.{routes_of}
 use Rattle.cidr.specs.Requests.{Request, request_of}
 use Rattle.cidr.proofs.LongLines.{request_long}
-use Rattle.cidr.proofs.Runs.{on_err_any, one_answer, fails_at_once}
+use Rattle.line_engine.proofs.Putting.{on_err_any}
+use Rattle.cidr.proofs.Runs.{one_answer, fails_at_once}
 use Rattle.cidr.proofs.answering.Answering.answer_too_long.Goals as goal
 
 pub returns-in_err-make_room-clause-err : goal.returns-in_err-make_room-clause-err

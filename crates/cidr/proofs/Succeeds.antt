@@ -1,0 +1,38 @@
+-- A run that is Ok wrote an output of the whole input, and a run over devices that do not fail is Ok.
+use Rattle.std.proofs.Common.{◌≡◌, ℕ, ◌≤◌, List, ◌++◌, length, refl, sym, ap, ◌∙◌, subst, arith, append-nil, length-append}
+use Rattle.std.proofs.Math.Bool.{or-true}
+use Rattle.std.specs.Io.KnownBytes.{Appends, Consumes}
+use Rattle.std.specs.Prelude.{Bool, true, false, ◌||◌, Option, None, Some, Result, Ok, Err, OnOk, IfSome, is_ok}
+use Rattle.line_engine.specs.Faults.{ended_by_read, ended_by_write}
+use Rattle.line_engine.specs.declared.fault.RunFault.{RunFault}
+use Rattle.line_engine.specs.declared.fault.RunFault.TheVariants.{Read, Write, InputTooLong}
+use Rattle.cidr.specs.Output.{IsOutput}
+use Rattle.cidr.specs.Run.{Ran}
+
+-- where a run is Ok, an output of all that the reader had was written
+pub ran_output : (limit : ℕ) (left rest held holds : Option (List ℕ)) (result : Result (Unit {0}) RunFault)
+    → Ran limit left rest held holds result → OnOk result (IfSome left (λ input. (output : List ℕ) × IsOutput input output × Appends held holds output))
+ran_output limit left rest held holds (Err fault) ran = tt
+ran_output limit None rest held holds (Ok done) ran = tt
+ran_output limit (Some xs) None held holds (Ok done) ran = absurd ran.reads
+ran_output limit (Some xs) (Some ys) held holds (Ok done) ran =
+    let read : ran.read ≡ xs = sym (ran.reads ∙ ap (λ l. ran.read ++ l) ran.ends.0 ∙ append-nil ran.read) in
+    (ran.written, subst (λ (input : List ℕ). IsOutput input ran.written) read ran.ends.2, ran.writes)
+
+-- no more is read than there is
+read_fits : (input read : List ℕ) (rest : Option (List ℕ)) → Consumes (Some input) rest read → length read ≤ length input
+read_fits input read None took = absurd took
+read_fits input read (Some ys) took = omega (arith, ap length took, length-append read ys)
+
+or_true_not_false : (b : Bool) → (b || true) ≡ false → ⊥
+or_true_not_false b e = let t = or-true b in cc
+
+-- where no device failed and the input fits, a run is Ok
+pub ran_succeeds : (limit : ℕ) (left rest held holds : Option (List ℕ)) (result : Result (Unit {0}) RunFault) (reader_was writer_was : Bool)
+    → Ran limit left rest held holds result → (input : List ℕ) → left ≡ Some input → length input ≤ limit
+    → (reader_was || ended_by_read result) ≡ false → (writer_was || ended_by_write result) ≡ false → is_ok result ≡ true
+ran_succeeds limit left rest held holds (Ok done) rw ww ran input e fits r w = refl
+ran_succeeds limit left rest held holds (Err Read) rw ww ran input e fits r w = absurd (or_true_not_false rw r)
+ran_succeeds limit left rest held holds (Err Write) rw ww ran input e fits r w = absurd (or_true_not_false ww w)
+ran_succeeds limit left rest held holds (Err InputTooLong) rw ww ran input e fits r w =
+    absurd (omega (arith, ran.ends.0, read_fits input ran.read rest (subst (λ (o : Option (List ℕ)). Consumes o rest ran.read) e ran.reads)))
