@@ -1,25 +1,28 @@
 -- How a log is filtered, line by line.
-use Rattle.std.proofs.Common.{◌≡◌, ℕ, ◌+◌, ◌-◌, ◌<◌, ◌≤◌, ◌==◌, ◌&&◌, zero, suc, Bool, true, false, List, [], ◌∷◌, ◌++◌, length, length-drop, inl, inr, take, drop, refl, sym, ap, ◌∙◌, subst, arith, append_assoc, append-nil, length-append}
+use Rattle.std.proofs.Common.{◌≡◌, ℕ, ◌+◌, ◌-◌, ◌*◌, ◌^◌, ◌<◌, ◌≤◌, ◌==◌, ◌&&◌, ◌⊎◌, Bool, true, false, if◌then◌else◌, List, [], ◌∷◌, ◌++◌, length, inl, inr, take, refl, sym, ap, ◌∙◌, subst, true≢false, arith, append_assoc, append-nil, length-append, length-take, length-drop}
 use Rattle.std.specs.Prelude.{Option, Result, Ok, Err, OnOk}
-use Rattle.std.specs.Io.KnownBytes.{Appends, Consumes}
+use Rattle.std.specs.Io.KnownBytes.{Appends}
 use Rattle.std.specs.List.{list_all}
-use Rattle.std.specs.Str.Lines.{strip_carriage_return}
-use Rattle.std.proofs.KnownBytes.{Consumes-trans}
-use Rattle.byte_search.specs.Bytes.{IsAbsent}
-use Rattle.std.proofs.lemmas.Bool.{eqb-true}
-use Rattle.std.proofs.lemmas.List.{length-take-le, take_all, nil_from_length}
+use Rattle.std.proofs.KnownBytes.{Consumes-nil, Consumes-trans}
+use Rattle.std.proofs.Math.Nat.{mul_comm}
+use Rattle.std.proofs.lemmas.Bool.Decides.{eqb_tells}
 use Rattle.std.proofs.lemmas.List.Folds.{list_all-append}
+use Rattle.std.proofs.lemmas.Nat.{mul-add-lt}
+use Rattle.line_engine.specs.LineBuffers.{Buffered, IsPending, HandsOut, Gives, Receives, work}
 use Rattle.line_engine.specs.Outputs.{Puts}
+use Rattle.line_engine.specs.declared.line_buffer.NextLine.TheVariants.{Line, TooLong, Ask}
+use Rattle.line_engine.specs.declared.line_end.LineEnd.{LineEnd}
+use Rattle.line_engine.proofs.BytesLemmas.{HasNo}
+use Rattle.line_engine.proofs.HandingOut.{has_no}
 use Rattle.line_engine.proofs.Putting.{puts_nothing, puts_out, puts_more}
-use Rattle.line_engine.proofs.BytesLemmas.{HasNo, none_behind}
-use Rattle.cidr_filter.specs.Filters.{Judges, is_selected, one_if, output_of, Filters}
-use Rattle.cidr_filter.specs.Lines.{LogLine, log_lines}
+use Rattle.cidr_filter.specs.Filters.{Judges, is_refused, is_selected, one_if, output_of}
+use Rattle.cidr_filter.specs.Lines.{LogLine, log_lines, printed}
 use Rattle.cidr_filter.specs.Stands.{Stand, Counts, Goes}
-use Rattle.cidr_filter.specs.Stops.{Ends}
-use Rattle.cidr_filter.specs.Private.Progress.{FiltersLine, Alike, Advances, FiltersRest, IsHeld, ReadsBehind}
+use Rattle.cidr_filter.specs.Private.Progress.{feed_behind, shown, FiltersLine, AreFirst, FiltersSoFar}
 use Rattle.cidr_filter.specs.declared.filter.Filter.{Filter}
-use Rattle.cidr_filter.proofs.Alike.{alike_refl, alike_trans, alike_behind, alike_length, filters_alike, long_lines}
-use Rattle.cidr_filter.proofs.LogLines.{ended, unended, lines_line, lines_last}
+use Rattle.cidr_filter.specs.declared.filter.Verdict.{Verdict}
+use Rattle.cidr_filter.specs.declared.filter.Verdict.TheVariants as verdicts
+use Rattle.cidr_filter.proofs.Handed.{log_line, printed_is, IsFirstOf, handed_first}
 use Rattle.cidr_filter.proofs.LogParts.{both}
 
 -- ---- stands
@@ -36,7 +39,7 @@ counts_none old new same within = omega (arith, within, same)
 pub goes_nowhere : (old : Stand) → Goes old old [] 0 0
 goes_nowhere old = (puts_nothing old.holds old.waits, counts_none old.selected old.selected refl, counts_none old.lines old.lines refl)
 
-pub goes_on : (old mid new : Stand) (first second : List ℕ) (one two m n : ℕ) → Goes old mid first one m → Goes mid new second two n → Goes old new (first ++ second) (one + two) (m + n)
+goes_on : (old mid new : Stand) (first second : List ℕ) (one two m n : ℕ) → Goes old mid first one m → Goes mid new second two n → Goes old new (first ++ second) (one + two) (m + n)
 goes_on old mid new first second one two m n p q = (
   puts_more old.holds mid.holds new.holds old.waits mid.waits new.waits first second p.0 q.0,
   counts_more old.selected mid.selected new.selected one two p.1 q.1,
@@ -44,200 +47,203 @@ goes_on old mid new first second one two m n p q = (
 )
 
 -- what waited is handed on
-goes_out : (mid new : Stand) → new.selected ≡ mid.selected → new.lines ≡ mid.lines → new.waits ≡ [] → Appends mid.holds new.holds mid.waits → Goes mid new [] 0 0
+pub goes_out : (mid new : Stand) → new.selected ≡ mid.selected → new.lines ≡ mid.lines → new.waits ≡ [] → Appends mid.holds new.holds mid.waits → Goes mid new [] 0 0
 goes_out mid new same lines none h =
     (puts_out mid.holds new.holds mid.waits new.waits none h, counts_none mid.selected new.selected same, counts_none mid.lines new.lines lines)
 
-HasNo-take : (text : List ℕ) (count : ℕ) → HasNo 10 text → HasNo 10 (take count text)
-HasNo-take [] zero h = tt
-HasNo-take [] (suc count) h = tt
-HasNo-take (x ∷ text) zero h = tt
-HasNo-take (x ∷ text) (suc count) h = (h.0, HasNo-take text count h.1)
-
-module _ (filter : Filter) (counts : Bool) where
-  -- ---- advances
-
-  -- nothing was filtered
-  pub advances_nowhere : (old : Stand) (bytes : List ℕ) → Advances filter counts old old bytes bytes
-  advances_nowhere old bytes = record {
-    first = [];
-    added = [];
-    count = 0;
-    goes = goes_nowhere old;
-    filters = (refl, refl);
-    ended = refl;
-    leaves = λ rest. alike_refl filter (log_lines (bytes ++ rest));
-  }
-
-  pub advances_on : (old mid new : Stand) (bytes between left : List ℕ) → Advances filter counts old mid bytes between → Advances filter counts mid new between left
-      → Advances filter counts old new bytes left
-  advances_on old mid new bytes between left p q = record {
-    first = p.first ++ q.first;
-    added = p.added ++ q.added;
-    count = p.count + q.count;
-    goes = subst (λ (n : ℕ). Goes old new (p.added ++ q.added) (p.count + q.count) n) (sym (length-append p.first q.first))
-        (goes_on old mid new p.added q.added p.count q.count (length p.first) (length q.first) p.goes q.goes);
-    filters = both filter counts p.first q.first p.added q.added p.count q.count p.filters q.filters;
-    ended = list_all-append (λ line. line.is_ended) p.first q.first ∙ ap (λ b. b && list_all (λ line. line.is_ended) q.first) p.ended ∙ q.ended;
-    leaves = λ rest.
-        subst (λ (ls : List LogLine). Alike filter (log_lines (bytes ++ rest)) ls) (sym (append_assoc p.first q.first (log_lines (left ++ rest))))
-        (alike_trans filter (log_lines (bytes ++ rest)) (p.first ++ log_lines (between ++ rest)) (p.first ++ (q.first ++ log_lines (left ++ rest))) (p.leaves rest)
-        (alike_behind filter p.first (log_lines (between ++ rest)) (q.first ++ log_lines (left ++ rest)) (q.leaves rest)));
-  }
-
-  -- what waited is handed on
-  pub advances_out : (old mid new : Stand) (bytes left : List ℕ) → Advances filter counts old mid bytes left → new.selected ≡ mid.selected → new.lines ≡ mid.lines → new.waits ≡ []
-      → Appends mid.holds new.holds mid.waits → Advances filter counts old new bytes left
-  advances_out old mid new bytes left p same lines none h =
-      advances_on old mid new bytes left left p
-      (record {
-        first = [];
-        added = [];
-        count = 0;
-        goes = goes_out mid new same lines none h;
-        filters = (refl, refl);
-        ended = refl;
-        leaves = λ rest. alike_refl filter (log_lines (left ++ rest));
-      })
-
-  -- a line
-  pub line_advances : (old new : Stand) (line stripped bytes left : List ℕ) → bytes ≡ line ++ 10 ∷ left → HasNo 10 line → stripped ≡ strip_carriage_return line
-      → FiltersLine filter counts line stripped old new → Advances filter counts old new bytes left
-  line_advances old new line stripped bytes left e none strips f =
-      let judges = subst (λ (l : List ℕ). Judges filter l f.0) strips f.1 in
-      let added = output_of filter counts f.0 (ended line) in
-      record {
-        first = ended line ∷ [];
-        added = added;
-        count = one_if (is_selected filter f.0);
-        goes = f.3;
-        filters = (f.0, [], 0, judges, f.2, (refl, refl), sym (append-nil added), omega arith);
-        ended = refl;
-        leaves = λ rest.
-            subst (λ (b : List ℕ). Alike filter (log_lines (b ++ rest)) (ended line ∷ log_lines (left ++ rest))) (sym e)
-            (subst (λ (ls : List LogLine). Alike filter ls (ended line ∷ log_lines (left ++ rest))) (sym (ap log_lines (append_assoc line (10 ∷ left) rest) ∙ lines_line line (left ++ rest) none))
-            (alike_refl filter (ended line ∷ log_lines (left ++ rest))));
-      }
-
-  -- ---- the last line
-
-  rest_of_line : (old mid new : Stand) (bytes : List ℕ) → HasNo 10 bytes → (length bytes == 0) ≡ false → FiltersLine filter counts bytes bytes old mid
-      → new.selected ≡ mid.selected → new.lines ≡ mid.lines → new.waits ≡ [] → Appends mid.holds new.holds mid.waits → FiltersRest filter counts bytes old new
-  rest_of_line old mid new bytes none some f same lines empty h =
-      let added = output_of filter counts f.0 (unended bytes) in
-      let count = one_if (is_selected filter f.0) in
-      let one = lines_last bytes none some in (
-        added ++ [],
-        count + 0,
-        subst (λ (n : ℕ). Goes old new (added ++ []) (count + 0) n) (sym (ap length one)) (goes_on old mid new added [] count 0 1 0 f.3 (goes_out mid new same lines empty h)),
-        subst (λ (ls : List LogLine). Filters filter counts ls (added ++ []) (count + 0)) (sym one) (f.0, [], 0, f.1, f.2, (refl, refl), refl, refl),
-      )
-
-  -- what waited is handed on, behind no line or the last one
-  pub rest_handed : {T E : Type 0} (result : Result T E) (old new : Stand) (bytes : List ℕ) → (length bytes == 0) ≡ true → new.selected ≡ old.selected → new.lines ≡ old.lines
-      → OnOk result (new.waits ≡ []) → OnOk result (Appends old.holds new.holds old.waits) → OnOk result (FiltersRest filter counts bytes old new)
-  rest_handed (Ok x) old new bytes none same lines empty h =
-      subst (λ (b : List ℕ). FiltersRest filter counts b old new) (sym (nil_from_length bytes (eqb-true (length bytes) 0 none))) ([], 0, goes_out old new same lines empty h, (refl, refl))
-  rest_handed (Err e) old new bytes none same lines empty h = tt
-
-  pub line_handed : {T E : Type 0} (result : Result T E) (old mid new : Stand) (bytes : List ℕ) → HasNo 10 bytes → (length bytes == 0) ≡ false → FiltersLine filter counts bytes bytes old mid
-      → new.selected ≡ mid.selected → new.lines ≡ mid.lines → OnOk result (new.waits ≡ []) → OnOk result (Appends mid.holds new.holds mid.waits) → OnOk result (FiltersRest filter counts bytes old new)
-  line_handed (Ok x) old mid new bytes none some f same lines empty h = rest_of_line old mid new bytes none some f same lines empty h
-  line_handed (Err e) old mid new bytes none some f same lines empty h = tt
-
-  -- ---- what is held of what is left
-
-  pub held_advances : (old new : Stand) (bytes left kept : List ℕ) (count held : ℕ) → length left ≡ count → HasNo 10 left → take held kept ≡ take held left → IsHeld filter count held
-      → Advances filter counts old new bytes left → Advances filter counts old new bytes (take held kept)
-  held_advances old new bytes left kept count held counted none front (inl all) p =
-      subst (λ (l : List ℕ). Advances filter counts old new bytes l) (sym (front ∙ take_all held left (omega (arith, all.1, counted)))) p
-  held_advances old new bytes left kept count held counted none front (inr long) p =
-      let fewer : held ≤ count = omega (arith, long.0, long.1) in
-      let first : take held kept ≡ take held left = front in
-      let few : length (take held left) ≡ held = length-take-le held left (omega (arith, fewer, counted)) in
-      let size : 1048577 < length (take held kept) = omega (arith, ap length first, few, long.1) in
-      let clear : HasNo 10 (take held kept) = subst (HasNo 10) (sym first) (HasNo-take left held none) in
-      record {
-        first = p.first;
-        added = p.added;
-        count = p.count;
-        goes = p.goes;
-        filters = p.filters;
-        ended = p.ended;
-        leaves = λ rest.
-            alike_trans filter (log_lines (bytes ++ rest)) (p.first ++ log_lines (left ++ rest)) (p.first ++ log_lines (take held kept ++ rest)) (p.leaves rest)
-            (alike_behind filter p.first (log_lines (left ++ rest)) (log_lines (take held kept ++ rest))
-            (long_lines filter left (take held kept) rest long.2 none clear (omega (arith, counted, long.0)) size));
-      }
-
-  -- the rest of a log, behind what is left of it
-  pub behind : (old new : Stand) (bytes left chunk : List ℕ) → Advances filter counts old new bytes left → Advances filter counts old new (bytes ++ chunk) (left ++ chunk)
-  behind old new bytes left chunk p = record {
-    first = p.first;
-    added = p.added;
-    count = p.count;
-    goes = p.goes;
-    filters = p.filters;
-    ended = p.ended;
-    leaves = λ rest.
-        subst (λ (b : List ℕ). Alike filter (log_lines b) (p.first ++ log_lines ((left ++ chunk) ++ rest))) (sym (append_assoc bytes chunk rest))
-        (subst (λ (b : List ℕ). Alike filter (log_lines (bytes ++ (chunk ++ rest))) (p.first ++ log_lines b)) (sym (append_assoc left chunk rest)) (p.leaves (chunk ++ rest)));
-  }
-
-  -- what was filtered, with nothing behind it
-  pub lines_of : (old new : Stand) (bytes left : List ℕ) (p : Advances filter counts old new bytes left) → Alike filter (log_lines bytes) (p.first ++ log_lines left)
-  lines_of old new bytes left p =
-      subst (λ (b : List ℕ). Alike filter (log_lines b) (p.first ++ log_lines left)) (append-nil bytes)
-      (subst (λ (b : List ℕ). Alike filter (log_lines (bytes ++ [])) (p.first ++ log_lines b)) (append-nil left) (p.leaves []))
-
-  -- ---- pieces
-
-  pub ended_ok : {T E : Type 0} (result : Result T E) (remained mid remains : Option (List ℕ)) (old now new : Stand) (was buffer read : List ℕ) (held count : ℕ)
-      → Consumes remained mid read → Advances filter counts old now read (take held was) → ReadsBehind mid remains was buffer held count → count ≡ 0
-      → OnOk result (FiltersRest filter counts (take held buffer) now new) → OnOk result (Ends filter counts remained remains old new)
-  ended_ok (Err e) remained mid remains old now new was buffer read held count took p reads none f = tt
-  ended_ok (Ok x) remained mid remains old now new was buffer read held count took p reads none f =
-      let chunk = reads.1 in
-      let same : take held was ++ chunk ≡ take held buffer = sym reads.4 ∙ ap (λ n. take n buffer) (omega (arith, none)) in
-      let all = subst (λ (l : List ℕ). Advances filter counts old now (read ++ chunk) l) same (behind old now read (take held was) chunk p) in
-      let lines = lines_of old now (read ++ chunk) (take held buffer) all in
-      let added = all.added ++ f.0 in
-      let number = all.count + f.1 in
-      let size : length (log_lines (read ++ chunk)) ≡ length all.first + length (log_lines (take held buffer)) =
-      alike_length filter (log_lines (read ++ chunk)) (all.first ++ log_lines (take held buffer)) lines ∙ length-append all.first (log_lines (take held buffer)) in
-      record {
-        read = read ++ chunk;
-        added = added;
-        count = number;
-        reads = Consumes-trans remained mid remains read chunk took reads.3;
-        end = reads.5 none;
-        goes = subst (λ (n : ℕ). Goes old new added number n) (sym size)
-            (goes_on old now new all.added f.0 all.count f.1 (length all.first) (length (log_lines (take held buffer))) all.goes f.2);
-        filters = filters_alike filter counts (log_lines (read ++ chunk)) (all.first ++ log_lines (take held buffer)) added number lines
-            (both filter counts all.first (log_lines (take held buffer)) all.added f.0 all.count f.1 all.filters f.3);
-      }
-
-  -- a piece more
-  pub piece_more : (remained mid remains : Option (List ℕ)) (old now new : Stand) (was buffer kept read : List ℕ) (held count start next : ℕ)
-      → Consumes remained mid read → Advances filter counts old now read (take held was) → ReadsBehind mid remains was buffer held count
-      → start ≤ length (take (held + count) buffer) → IsAbsent 10 (take (held + count) buffer) start (length (take (held + count) buffer))
-      → Advances filter counts now new (take (held + count) buffer) (drop start (take (held + count) buffer))
-      → take next kept ≡ take next (drop start (take (held + count) buffer)) → IsHeld filter (held + count - start) next
-      → (more : List ℕ) × Consumes remained remains more × (length more ≡ length read + count) × Advances filter counts old new more (take next kept)
-  piece_more remained mid remains old now new was buffer kept read held count start next took p reads within absent q front is =
-      let chunk = reads.1 in
-      let piece = take (held + count) buffer in
-      let size : length piece ≡ held + count = length-take-le (held + count) buffer reads.0 in
-      let all = subst (λ (l : List ℕ). Advances filter counts old now (read ++ chunk) l) (sym reads.4) (behind old now read (take held was) chunk p) in (
-        read ++ chunk,
-        Consumes-trans remained mid remains read chunk took reads.3,
-        length-append read chunk ∙ ap (λ n. length read + n) reads.2,
-        held_advances old new (read ++ chunk) (drop start piece) kept (held + count - start) next
-            (length-drop start piece ∙ ap (λ n. n - start) size) (none_behind 10 piece start absent) front is
-            (advances_on old now new (read ++ chunk) piece (drop start piece) all q),
-      )
+-- behind what was put
+pub goes_still : (old mid new : Stand) (added : List ℕ) (count lines : ℕ) → Goes old mid added count lines → Goes mid new [] 0 0 → Goes old new added count lines
+goes_still old mid new added count lines p q =
+    let more = goes_on old mid new added [] count 0 lines 0 p q in (
+      subst (Puts old.holds old.waits new.holds new.waits) (append-nil added) more.0,
+      subst (Counts old.selected new.selected) (omega arith) more.1,
+      subst (Counts old.lines new.lines) (omega arith) more.2,
+    )
 
 pub put_two_ok : {T E : Type 0} (result : Result T E) (held mid holds : Option (List ℕ)) (waited between waits first second : List ℕ) → Puts held waited mid between first
     → OnOk result (Puts mid between holds waits second) → OnOk result (Puts held waited holds waits (first ++ second))
 put_two_ok (Ok x) held mid holds waited between waits first second p q = puts_more held mid holds waited between waits first second p q
 put_two_ok (Err e) held mid holds waited between waits first second p q = tt
+
+-- ---- what was read, so far
+
+pub all_lines : (ended : Bool) (read : List ℕ) (first : List LogLine) (pending : List ℕ) → AreFirst ended read first pending → log_lines read ≡ first ++ log_lines pending
+all_lines ended read first pending h = ap log_lines (sym (append-nil read)) ∙ h [] (λ e. refl) ∙ ap (λ l. first ++ log_lines l) (append-nil pending)
+
+-- one line more
+next_first : (ended : Bool) (read : List ℕ) (first : List LogLine) (pending line after : List ℕ) (end : LineEnd) → AreFirst ended read first pending → IsFirstOf ended pending line after end
+    → AreFirst ended read (first ++ log_line line end ∷ []) after
+next_first ended read first pending line after end h is more e =
+    h more e ∙ ap (λ ls. first ++ ls) (is.lines more e) ∙ sym (append_assoc first (log_line line end ∷ []) (log_lines (after ++ more)))
+
+first_still : (ended : Bool) (read : List ℕ) (first : List LogLine) (pending chunk : List ℕ) → AreFirst false read first pending → AreFirst ended (read ++ chunk) first (pending ++ chunk)
+first_still ended read first pending chunk h more e =
+    ap log_lines (append_assoc read chunk more) ∙ h (chunk ++ more) (λ f. absurd (true≢false (sym f))) ∙ ap (λ l. first ++ log_lines l) (sym (append_assoc pending chunk more))
+
+ended_too : (ended : Bool) (line : LogLine) → ended ≡ false → (line.is_ended ≡ true) ⊎ (ended ≡ true) → line.is_ended ≡ true
+ended_too ended line going (inl e) = e
+ended_too ended line going (inr e) = absurd (true≢false (sym e ∙ going))
+
+no_bytes : (count : ℕ) → (count == 0) ≡ true → count ≡ 0
+no_bytes count e = elim (eqb_tells count 0) [
+  | inl same ↦ same.1
+  | inr apart ↦ absurd (true≢false (sym e ∙ apart.0))
+]
+
+module _ (filter : Filter) (counts : Bool) where
+  pub begins : (room : ℕ) (held : Buffered) (remained : Option (List ℕ)) (old : Stand) → room ≡ 2 ^ 64 - 1 → IsPending held [] → held.ended ≡ false
+      → FiltersSoFar filter counts room held remained remained old old
+  begins room held remained old all h going = record {
+    read = [];
+    reads = Consumes-nil remained;
+    counted = omega (arith, all);
+    at_end = λ e. absurd (true≢false (sym e ∙ going));
+    pending = [];
+    holds = h;
+    first = [];
+    lines = λ more e. refl;
+    ended = λ e. refl;
+    added = [];
+    count = 0;
+    filters = (refl, refl);
+    goes = goes_nowhere old;
+  }
+
+  module _ (room : ℕ) (was now : Buffered) (remained remains : Option (List ℕ)) (old mid : Stand) (s : FiltersSoFar filter counts room was remained remains old mid) (same : now.ended ≡ was.ended) where
+    still_first : AreFirst now.ended s.read s.first s.pending
+    still_first = subst (λ (e : Bool). AreFirst e s.read s.first s.pending) (sym same) s.lines
+
+    -- a line more, whose output was put
+    one_more : (new : Stand) (line : List ℕ) (end : LineEnd) (verdict : Verdict) → HandsOut now s.pending line end → Judges filter line verdict → is_refused filter verdict ≡ false
+        → Goes mid new (output_of filter counts verdict (log_line line end)) (one_if (is_selected filter verdict)) 1 → FiltersSoFar filter counts room now remained remains old new
+    one_more new line end verdict hands judges passes goes =
+        let next = log_line line end in
+        let is = handed_first now s.pending line end hands in
+        let added = output_of filter counts verdict next in
+        let count = one_if (is_selected filter verdict) in
+        record {
+          read = s.read;
+          reads = s.reads;
+          counted = s.counted;
+          at_end = λ e. s.at_end (sym same ∙ e);
+          pending = hands.after;
+          holds = hands.holds;
+          first = s.first ++ next ∷ [];
+          lines = next_first now.ended s.read s.first s.pending line hands.after end still_first is;
+          ended = λ e.
+              list_all-append (λ line. line.is_ended) s.first (next ∷ [])
+              ∙ ap (λ b. b && list_all (λ line. line.is_ended) (next ∷ [])) (s.ended (sym same ∙ e))
+              ∙ ap (λ b. b && true) (ended_too now.ended next e is.whole);
+          added = s.added ++ added;
+          count = s.count + count;
+          filters = both filter counts s.first (next ∷ []) s.added added s.count count s.filters
+              (verdict, [], 0, subst (λ l. Judges filter l verdict) (sym is.is) judges, passes, (refl, refl), sym (append-nil added), omega arith);
+          goes = subst (λ (n : ℕ). Goes old new (s.added ++ added) (s.count + count) n) (sym (length-append s.first (next ∷ [])))
+              (goes_on old mid new s.added added s.count count (length s.first) 1 s.goes goes);
+        }
+
+    -- the line that was handed out was filtered
+    pub after_line : (new : Stand) (end : LineEnd) (line whole : List ℕ) → ((pending : List ℕ) → IsPending was pending → Gives now pending (Line end)) → line ≡ now.line → whole ≡ now.whole
+        → FiltersLine filter counts line (whole ++ feed_behind end) mid new → FiltersSoFar filter counts room now remained remains old new
+    after_line new end line whole gives is all f =
+        let given = gives s.pending s.holds in
+        let text : whole ++ feed_behind end ≡ printed (log_line now.line end) = ap (λ l. l ++ feed_behind end) (all ∙ given.2) ∙ printed_is now.line end in
+        one_more new now.line end f.0 given.0 (subst (λ l. Judges filter l f.0) is f.1) f.2
+        (subst (λ t. Goes mid new (shown filter counts f.0 t) (one_if (is_selected filter f.0)) 1) text f.3)
+
+    -- one that is too long was dropped
+    pub after_long : (new : Stand) → ((pending : List ℕ) → IsPending was pending → Gives now pending TooLong) → now.limit ≡ 1048576 → is_refused filter verdicts.TooLong ≡ false
+        → Goes mid new [] 0 1 → FiltersSoFar filter counts room now remained remains old new
+    after_long new gives limit passes goes =
+        let given = gives s.pending s.holds in
+        one_more new given.0 given.1 verdicts.TooLong given.2 (omega (arith, given.3, limit)) passes goes
+
+    -- what waited was written
+    pub handed_on : (new : Stand) → IsPending now s.pending → Goes mid new [] 0 0 → FiltersSoFar filter counts room now remained remains old new
+    handed_on new holds goes = record {
+      read = s.read;
+      reads = s.reads;
+      counted = s.counted;
+      at_end = λ e. s.at_end (sym same ∙ e);
+      pending = s.pending;
+      holds = holds;
+      first = s.first;
+      lines = still_first;
+      ended = λ e. s.ended (sym same ∙ e);
+      added = s.added;
+      count = s.count;
+      filters = s.filters;
+      goes = goes_still old mid new s.added s.count (length s.first) s.goes goes;
+    }
+
+  -- what was read before the device is asked: no line of what is pending is whole
+  pub record Idle (room : ℕ) (held : Buffered) (remained remains : Option (List ℕ)) (old now : Stand) : Type 0 where
+    pub sofar : FiltersSoFar filter counts room held remained remains old now
+    pub going : held.ended ≡ false
+    pub none : HasNo 10 sofar.pending
+
+  pub before_asking : (room : ℕ) (was now : Buffered) (remained remains : Option (List ℕ)) (old mid new : Stand) → FiltersSoFar filter counts room was remained remains old mid
+      → ((pending : List ℕ) → IsPending was pending → Gives now pending Ask) → now.ended ≡ was.ended → Goes mid new [] 0 0 → Idle room now remained remains old new
+  unfolding handed_on
+  before_asking room was now remained remains old mid new s gives same goes =
+      let given = gives s.pending s.holds in
+      record { sofar = handed_on room was now remained remains old mid s same new given.0 goes; going = given.3; none = has_no s.pending given.1 }
+
+  pub after_asking : (room left count : ℕ) (was now : Buffered) (remained mid remains : Option (List ℕ)) (old new : Stand) → Idle room was remained mid old new
+      → Receives mid remains was now count → now.ended ≡ (count == 0) → count ≤ room → left ≡ room - count → FiltersSoFar filter counts left now remained remains old new
+  after_asking room left count was now remained mid remains old new idle r ended fits lefts =
+      let s = idle.sofar in
+      record {
+        read = s.read ++ r.chunk;
+        reads = Consumes-trans remained mid remains s.read r.chunk s.reads r.consumed;
+        counted = omega (arith, length-append s.read r.chunk, s.counted, r.counted, fits, lefts);
+        at_end = λ e. r.at_end (no_bytes count (sym ended ∙ e));
+        pending = s.pending ++ r.chunk;
+        holds = r.holds s.pending s.holds;
+        first = s.first;
+        lines = first_still now.ended s.read s.first s.pending r.chunk (subst (λ (e : Bool). AreFirst e s.read s.first s.pending) idle.going s.lines);
+        ended = λ e. s.ended idle.going;
+        added = s.added;
+        count = s.count;
+        filters = s.filters;
+        goes = s.goes;
+      }
+
+-- ---- that it ends
+
+-- what there is to read and to hand out, in a buffer of so many bytes: the bytes that may still be read, and the end of
+-- the log, each before all lines that the buffer may have
+abbrev pub to_do : ℕ → ℕ → Buffered → ℕ
+to_do size room held = (room + (if held.ended then 0 else 1)) * (size + 2) + work held
+
+pub less_to_hand : (size room : ℕ) (was now : Buffered) → now.ended ≡ was.ended → work now < work was → to_do size room now < to_do size room was
+less_to_hand size room was now same less = by _ _ (ap (λ e. (room + (if e then 0 else 1)) * (size + 2)) same) where
+  by : (a b : ℕ) → a ≡ b → a + work now < b + work was
+  by a b e = omega (arith, e, less)
+
+work_bound : (held : Buffered) → work held ≤ length held.bytes + 1
+work_bound held =
+    let one : (if held.dropped then 1 else 0) ≤ 1 = elim held.dropped as (λ v. (if v then 1 else 0) ≤ 1) [ true ↦ omega arith | false ↦ omega arith ] in
+    omega (arith, one, length-drop held.start (take held.end held.bytes), length-take held.end held.bytes)
+
+-- a read gave some bytes, or came to the end of the log
+fewer : (room count : ℕ) (was now : Bool) → was ≡ false → now ≡ (count == 0) → count ≤ room → room - count + (if now then 0 else 1) < room + (if was then 0 else 1)
+fewer room count was now going ended fits =
+    let one : ◌≡◌ {A = ℕ} (if was then 0 else 1) 1 = ap (λ v. if v then 0 else 1) going in
+    elim (eqb_tells count 0) [
+      | inl none ↦
+          let zero : ◌≡◌ {A = ℕ} (if now then 0 else 1) 0 = ap (λ v. if v then 0 else 1) (ended ∙ none.0) in
+          omega (arith, zero, one, none.1, fits)
+      | inr some ↦
+          let too : ◌≡◌ {A = ℕ} (if now then 0 else 1) 1 = ap (λ v. if v then 0 else 1) (ended ∙ some.0) in
+          omega (arith, too, one, some.1, fits)
+    ]
+
+pub less_to_read : (size room count : ℕ) (was now : Buffered) → was.ended ≡ false → now.ended ≡ (count == 0) → count ≤ room → length now.bytes ≡ size → to_do size (room - count) now < to_do size room was
+less_to_read size room count was now going ended fits same =
+    let left = room - count + (if now.ended then 0 else 1) in
+    let all = room + (if was.ended then 0 else 1) in
+    by (left * (size + 2) + work now) ((size + 2) * all) (all * (size + 2))
+    (mul-add-lt left (size + 2) (work now) all (fewer room count was.ended now.ended going ended fits) (omega (arith, work_bound now, same))) (mul_comm (size + 2) all) where
+      by : (x y z : ℕ) → x < y → y ≡ z → x < z + work was
+      by x y z less e = omega (arith, less, e)

@@ -1,10 +1,9 @@
-pub mod Alike
 pub mod Examples
 pub mod Failing
 pub mod Faults
 pub mod Filtering
+pub mod Handed
 pub mod Judging
-pub mod Kept
 pub mod LawExamples
 pub mod LogLines
 pub mod LogParts

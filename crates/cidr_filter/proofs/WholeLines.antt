@@ -2,6 +2,7 @@
 use Rattle.std.proofs.Common.{◌≡◌, ℕ, ◌<◌, ◌⊎◌, true, List, [], ◌∷◌, ◌++◌, length, inl, inr, sym, ap, ◌∙◌, subst, arith, append_assoc, append-nil, length-append, true≢false}
 use Rattle.std.proofs.lemmas.Bool.{ne_eqb}
 use Rattle.line_engine.proofs.BytesLemmas.{HasNo, HasNo-push}
+use Rattle.line_engine.proofs.Kept.{strip_length}
 use Rattle.line_engine.proofs.Lines.{newline_cases}
 use Rattle.cidr_filter.specs.Filters.{Judges}
 use Rattle.cidr_filter.specs.Laws.{LinesThatEndRunsAreWhole}
@@ -9,8 +10,7 @@ use Rattle.cidr_filter.specs.Lines.{LogLine, log_lines, content}
 use Rattle.cidr_filter.specs.declared.filter.Filter.{Filter}
 use Rattle.cidr_filter.specs.declared.filter.Verdict.{Verdict}
 use Rattle.cidr_filter.specs.declared.filter.Verdict.TheVariants as verdicts
-use Rattle.cidr_filter.proofs.Alike.{strip_length, some_bytes}
-use Rattle.cidr_filter.proofs.LogLines.{ended, unended, lines_line, lines_last}
+use Rattle.cidr_filter.proofs.LogLines.{ended, unended, lines_line, lines_last, some_bytes}
 
 -- two lists that are the same
 first_of : (x y : LogLine) (xs ys : List LogLine) → x ∷ xs ≡ y ∷ ys → x ≡ y
@@ -40,13 +40,13 @@ long_told filter verdicts.TooLong line other long longer judges = longer
 module _ (filter : Filter) (verdict : Verdict) (rest : List ℕ) where
   -- a beginning of a line that is too long
   long_first : (p after : List ℕ) → HasNo 10 p → 1048577 < length p → Judges filter p verdict → Goes filter verdict (log_lines (p ++ after)) []
-  long_first p [] none long judges = (unended p, [], ap log_lines (append-nil p) ∙ lines_last p none (some_bytes filter p long), judges)
+  long_first p [] none long judges = (unended p, [], ap log_lines (append-nil p) ∙ lines_last p none (some_bytes p long), judges)
   long_first p (c ∷ after) none long judges = elim (newline_cases c) [
     | inl e ↦ (
       ended p,
       log_lines after,
       ap (λ b. log_lines (p ++ b ∷ after)) e ∙ lines_line p after none,
-      long_told filter verdict p (content (ended p)) (omega (arith, long)) (omega (arith, long, strip_length filter p)) judges,
+      long_told filter verdict p (content (ended p)) (omega (arith, long)) (omega (arith, long, strip_length p)) judges,
     )
     | inr e ↦
         let size : 1048577 < length (p ++ c ∷ []) = omega (arith, long, length-append p (c ∷ [])) in

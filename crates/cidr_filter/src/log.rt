@@ -1,19 +1,17 @@
 //! Filters the lines of a log.
-ghost use Rattle.std.specs.Prelude.{◌≡◌, ◌||◌, ◌<◌, ◌≤◌, ◌++◌, ◌∷◌, ◌+◌, [], if◌then◌else◌, length, take, drop, false, IsTrue, OnOk, OnErr, IfOk, IfErr, IsOkUnless, Err, is_err};
-ghost use Rattle.std.specs.Str.Lines.{strip_carriage_return};
-ghost use Rattle.byte_search.specs.Bytes.{IsAbsent};
-ghost use Rattle.std.specs.Io.KnownBytes.{Keeps, Appends};
+ghost use Rattle.std.specs.Prelude.{◌≡◌, ◌||◌, ◌≤◌, ◌++◌, [], if◌then◌else◌, length, IsTrue, OnOk, OnErr, IfErr, IsOkUnless, Err};
 ghost use Rattle.line_engine.specs.Outputs.{writer_of, output_failed, waits_in, AppendsBeginning};
 ghost use Rattle.line_engine.specs.Watched.{device_of, has_failed};
-ghost use Rattle.cidr_filter.specs.Filters.{is_dropped, mark_of};
-ghost use Rattle.cidr_filter.specs.Stands.{stand, Goes};
+ghost use Rattle.cidr_filter.specs.Filters.{mark_of};
+ghost use Rattle.cidr_filter.specs.Stands.{stand, stand_of, Goes};
 ghost use Rattle.cidr_filter.specs.Stops.{Ends, Stops, ended_by_read, ended_by_write};
 ghost use Rattle.cidr_filter.specs.Private.Judging.{fault_of};
-ghost use Rattle.cidr_filter.specs.Private.Progress.{FiltersLine, FiltersRest, LineStops, Advances, StopsIn, ReadsBehind, IsHeld};
+ghost use Rattle.cidr_filter.specs.Private.Progress.{feed_behind, FiltersLine, LineStops};
 
-use crate::filter::{Bad, Filter, LINE_MAX, Verdict};
+use crate::filter::{Filter, LINE_MAX, Verdict};
 use crate::printing::print_line;
-use byte_search::find_from;
+use line_engine::line_buffer::{LineBuffer, NextLine};
+use line_engine::line_end::LineEnd;
 use line_engine::output::Output;
 use line_engine::watched::Watched;
 use std::io::{Read, Write};
@@ -47,7 +45,7 @@ pub struct Tally {
 /// Filters the lines of a log: those that are selected are written, or, if `counts`, only counted.
 ///
 /// What is selected of the lines that a read completes is written before the next read. After a failed read nothing is
-/// written.
+/// written. If a line that is too long ends the run, it does so before its end is read.
 pub fn filter_log<R: Read, W: Write>(
     filter: &Filter,
     counts: bool,
@@ -56,7 +54,7 @@ pub fn filter_log<R: Read, W: Write>(
     output: &mut Output<'_, W>,
     tally: &mut Tally,
 ) -> Result<(), LogFault>
-    requires room { 1048578 < length buffer.old }
+    requires room { 1048578 ≤ length buffer.old }
     ensures ok { OnOk result (Ends filter.now counts (R.remaining (device_of reader.old)) (R.remaining (device_of reader.new))
         (stand (W.contents (writer_of output.old)) (waits_in output.old) tally.old)
         (stand (W.contents (writer_of output.new)) (waits_in output.new) tally.new)) }
@@ -71,211 +69,65 @@ pub fn filter_log<R: Read, W: Write>(
     ensures written { OnOk result (waits_in output.new ≡ []) }
     ensures handed_on { result ≡ Err LogFault.Read → waits_in output.old ≡ [] → waits_in output.new ≡ [] }
 {
-    let mut held = 0;
+    let refuses_long_lines = filter.refuses(&Verdict::TooLong);
+    let mut lines = LineBuffer::new(buffer, LINE_MAX);
     let mut room = u64::MAX;
-    'pieces: loop {
-        let count = match read_behind(reader, buffer, held) {
-            Ok(count) => count,
-            Err(_) => return Err(LogFault::Read),
-        };
-        if count == 0 {
-            return finish(filter, counts, &buffer[..held], output, tally);
-        }
-        if count as u64 > room {
-            return Err(LogFault::Endless);
-        }
-        room -= count as u64;
-        let end = held + count;
-        let start = match filter_piece(filter, counts, &buffer[..end], held, output, tally) {
-            Ok(start) => start,
-            Err(fault) => return Err(fault),
-        };
-        held = match held_of(filter, end - start) {
-            Ok(count) => count,
-            Err(_) => return Err(LogFault::Length),
-        };
-        keep(buffer, start, held);
-    }
-}
-
-// Reads bytes after those that are held, and returns how many were read.
-fn read_behind<R: Read>(
-    reader: &mut Watched<R>,
-    buffer: &mut [u8],
-    held: usize,
-) -> Result<usize, LogFault>
-    requires { held < length buffer.old }
-    ensures length { length buffer.new ≡ length buffer.old }
-    ensures read { IfOk result (ReadsBehind (R.remaining (device_of reader.old)) (R.remaining (device_of reader.new)) buffer.old buffer.new held) }
-    ensures failed { has_failed reader.new ≡ (has_failed reader.old || is_err result) }
-    ensures kept { OnErr result (Keeps (R.remaining (device_of reader.old)) (R.remaining (device_of reader.new))) }
-    ensures fault { IsOkUnless result LogFault.Read }
-{
-    match reader.read(&mut buffer[held..]) {
-        Ok(count) => Ok(count),
-        Err(_) => Err(LogFault::Read),
-    }
-}
-
-// Moves the `held` bytes from `start` on to the front of the buffer, unless they stand there. Further back stands only
-// what the last read put behind a line feed, so a byte is moved at most once.
-fn keep(buffer: &mut [u8], start: usize, held: usize)
-    requires within { start + held ≤ length buffer.old }
-    ensures length { length buffer.new ≡ length buffer.old }
-    ensures front { take held buffer.new ≡ take held (drop start buffer.old) }
-{
-    if start == 0 {
-        return;
-    }
-    buffer.copy_within(start..start + held, 0);
-}
-
-// How many of these bytes, which no line feed follows, are held. Of a line that is too long, only as many are needed as
-// show that.
-fn held_of(filter: &Filter, count: usize) -> Result<usize, LogFault>
-    ensures held { IfOk result (IsHeld filter.now count) }
-    ensures within { IfOk result (λ held. held ≤ count) }
-    ensures stopped { OnErr result ((1048577 < count) × (is_dropped filter.now.bad ≡ false)) }
-    ensures fault { IsOkUnless result LogFault.Length }
-{
-    if count <= LINE_MAX + 1 {
-        return Ok(count);
-    }
-    if filter.bad != Bad::Drop {
-        return Err(LogFault::Length);
-    }
-    Ok(LINE_MAX + 2)
-}
-
-// Filters the lines that a piece completes, writes, and returns the place after the last of them.
-fn filter_piece<W: Write>(
-    filter: &Filter,
-    counts: bool,
-    piece: &[u8],
-    held: usize,
-    output: &mut Output<'_, W>,
-    tally: &mut Tally,
-) -> Result<usize, LogFault>
-    requires within { held ≤ length piece.now }
-    requires absent { IsAbsent 10 (take held piece.now) 0 held }
-    ensures within { IfOk result (λ start. start ≤ length piece.now) }
-    ensures absent { IfOk result (λ start. IsAbsent 10 piece.now start (length piece.now)) }
-    ensures advances { IfOk result (λ start. Advances filter.now counts
-        (stand (W.contents (writer_of output.old)) (waits_in output.old) tally.old)
-        (stand (W.contents (writer_of output.new)) (waits_in output.new) tally.new) piece.now (drop start piece.now)) }
-    ensures err { IfErr result (StopsIn filter.now counts ⊥ piece.now (output_failed output.new)
-        (stand (W.contents (writer_of output.old)) (waits_in output.old) tally.old)
-        (stand (W.contents (writer_of output.new)) (waits_in output.new) tally.new)) }
-    ensures writer_failed { output_failed output.new ≡ (output_failed output.old || ended_by_write result) }
-    ensures emptied { OnOk result (waits_in output.new ≡ []) }
-{
-    let start = match filter_lines(filter, counts, piece, held, output, tally) {
-        Ok(start) => start,
-        Err(fault) => return Err(fault),
-    };
-    match hand_on(output) {
-        Ok(()) => Ok(start),
-        Err(fault) => Err(fault),
-    }
-}
-
-// Filters the lines that a piece completes, and returns the place after the last of them. No line feed is among the
-// first `held` bytes.
-fn filter_lines<W: Write>(
-    filter: &Filter,
-    counts: bool,
-    piece: &[u8],
-    held: usize,
-    output: &mut Output<'_, W>,
-    tally: &mut Tally,
-) -> Result<usize, LogFault>
-    requires within { held ≤ length piece.now }
-    requires absent { IsAbsent 10 (take held piece.now) 0 held }
-    ensures within { IfOk result (λ start. start ≤ length piece.now) }
-    ensures absent { IfOk result (λ start. IsAbsent 10 piece.now start (length piece.now)) }
-    ensures advances { IfOk result (λ start. Advances filter.now counts
-        (stand (W.contents (writer_of output.old)) (waits_in output.old) tally.old)
-        (stand (W.contents (writer_of output.new)) (waits_in output.new) tally.new) piece.now (drop start piece.now)) }
-    ensures err { IfErr result (StopsIn filter.now counts ⊥ piece.now (output_failed output.new)
-        (stand (W.contents (writer_of output.old)) (waits_in output.old) tally.old)
-        (stand (W.contents (writer_of output.new)) (waits_in output.new) tally.new)) }
-    ensures writer_failed { output_failed output.new ≡ (output_failed output.old || ended_by_write result) }
-{
-    let mut start = 0;
-    let mut from = held;
     'lines: loop {
-        let Some(end) = find_from(piece, from, b'\n') else {
-            return Ok(start);
-        };
-        let line = &piece[start..end];
-        let content = without_carriage_return(line);
-        if let Err(fault) = filter_line(filter, counts, line, content, output, tally) {
-            return Err(fault);
+        match lines.next() {
+            NextLine::Line(end) => {
+                let line = lines.line();
+                let whole = lines.whole_line();
+                if let Err(fault) = filter_line(filter, counts, line, whole, end, output, tally) {
+                    return Err(fault);
+                }
+            }
+            NextLine::TooLong => {
+                if refuses_long_lines {
+                    return Err(LogFault::Length);
+                }
+                tally.lines = tally.lines.saturating_add(1);
+            }
+            NextLine::Ask => {
+                let Ok(_) = output.hand_on() else {
+                    return Err(LogFault::Write);
+                };
+                if refuses_long_lines && lines.is_too_long() {
+                    return Err(LogFault::Length);
+                }
+                let Ok(count) = lines.ask(reader) else {
+                    return Err(LogFault::Read);
+                };
+                if count as u64 > room {
+                    return Err(LogFault::Endless);
+                }
+                room -= count as u64;
+            }
+            NextLine::End => match output.hand_on() {
+                Ok(()) => return Ok(()),
+                Err(_) => return Err(LogFault::Write),
+            },
         }
-        start = end + 1;
-        from = start;
     }
 }
 
-// Filters what follows the last line feed, and writes.
-fn finish<W: Write>(
-    filter: &Filter,
-    counts: bool,
-    line: &[u8],
-    output: &mut Output<'_, W>,
-    tally: &mut Tally,
-) -> Result<(), LogFault>
-    requires absent { IsAbsent 10 line.now 0 (length line.now) }
-    ensures ok { OnOk result (FiltersRest filter.now counts line.now
-        (stand (W.contents (writer_of output.old)) (waits_in output.old) tally.old)
-        (stand (W.contents (writer_of output.new)) (waits_in output.new) tally.new)) }
-    ensures err { IfErr result (StopsIn filter.now counts (Unit {0}) line.now (output_failed output.new)
-        (stand (W.contents (writer_of output.old)) (waits_in output.old) tally.old)
-        (stand (W.contents (writer_of output.new)) (waits_in output.new) tally.new)) }
-    ensures writer_failed { output_failed output.new ≡ (output_failed output.old || ended_by_write result) }
-    ensures emptied { OnOk result (waits_in output.new ≡ []) }
-{
-    if line.is_empty() {
-        return hand_on(output);
-    }
-    if let Err(fault) = filter_line(filter, counts, line, line, output, tally) {
-        return Err(fault);
-    }
-    hand_on(output)
-}
-
-// Writes what waits.
-fn hand_on<W: Write>(output: &mut Output<'_, W>) -> Result<(), LogFault>
-    ensures ok { OnOk result (Appends (W.contents (writer_of output.old)) (W.contents (writer_of output.new)) (waits_in output.old)) }
-    ensures emptied { OnOk result (waits_in output.new ≡ []) }
-    ensures err { OnErr result (AppendsBeginning (W.contents (writer_of output.old)) (W.contents (writer_of output.new)) (waits_in output.old)) }
-    ensures writer_failed { output_failed output.new ≡ (output_failed output.old || ended_by_write result) }
-    ensures fault { IsOkUnless result LogFault.Write }
-{
-    match output.hand_on() {
-        Ok(()) => Ok(()),
-        Err(_) => Err(LogFault::Write),
-    }
-}
-
-// Filters a line. `content` is the line without its end.
+// Filters a line within the limit. `whole` is the line as it was read, with its end.
 fn filter_line<W: Write>(
     filter: &Filter,
     counts: bool,
     line: &[u8],
-    content: &[u8],
+    whole: &[u8],
+    end: LineEnd,
     output: &mut Output<'_, W>,
     tally: &mut Tally,
 ) -> Result<(), LogFault>
-    ensures ok { OnOk result (FiltersLine filter.now counts line.now content.now
-        (stand (W.contents (writer_of output.old)) (waits_in output.old) tally.old)
-        (stand (W.contents (writer_of output.new)) (waits_in output.new) tally.new)) }
-    ensures err { IfErr result (LineStops filter.now counts line.now content.now (output_failed output.new)
-        (stand (W.contents (writer_of output.old)) (waits_in output.old) tally.old)
-        (stand (W.contents (writer_of output.new)) (waits_in output.new) tally.new)) }
+    ensures ok { OnOk result (FiltersLine filter.now counts line.now (whole.now ++ feed_behind end)
+        (stand_of W.contents output.old tally.old) (stand_of W.contents output.new tally.new)) }
+    ensures err { IfErr result (LineStops filter.now counts line.now (whole.now ++ feed_behind end)
+        (output_failed output.new)
+        (stand_of W.contents output.old tally.old) (stand_of W.contents output.new tally.new)) }
     ensures writer_failed { output_failed output.new ≡ (output_failed output.old || ended_by_write result) }
 {
-    let verdict = filter.judge(content);
+    let verdict = filter.judge(line);
     if filter.refuses(&verdict) {
         return Err(refusal_of(&verdict));
     }
@@ -283,7 +135,7 @@ fn filter_line<W: Write>(
     if !filter.selects(&verdict) {
         return Ok(());
     }
-    select_line(filter, counts, &verdict, line, output, tally)
+    select_line(filter, counts, &verdict, whole, end, output, tally)
 }
 
 // Counts a line, and writes it unless lines are only counted.
@@ -291,17 +143,18 @@ fn select_line<W: Write>(
     filter: &Filter,
     counts: bool,
     verdict: &Verdict,
-    line: &[u8],
+    whole: &[u8],
+    end: LineEnd,
     output: &mut Output<'_, W>,
     tally: &mut Tally,
 ) -> Result<(), LogFault>
     ensures ok { OnOk result (Goes
-        (stand (W.contents (writer_of output.old)) (waits_in output.old) tally.old)
-        (stand (W.contents (writer_of output.new)) (waits_in output.new) tally.new)
-        (if counts then [] else mark_of filter.now.listed verdict.now ++ (line.now ++ 10 ∷ [])) 1 0) }
+        (stand_of W.contents output.old tally.old) (stand_of W.contents output.new tally.new)
+        (if counts then [] else mark_of filter.now.listed verdict.now ++ (whole.now ++ feed_behind end)) 1 0) }
     ensures err { OnErr result (IsTrue (output_failed output.new)) }
-    ensures beginning { OnErr result (AppendsBeginning (W.contents (writer_of output.old)) (W.contents (writer_of output.new))
-        (waits_in output.old ++ (if counts then [] else mark_of filter.now.listed verdict.now ++ (line.now ++ 10 ∷ [])))) }
+    ensures beginning { OnErr result (AppendsBeginning
+        (W.contents (writer_of output.old)) (W.contents (writer_of output.new)) (waits_in output.old
+        ++ (if counts then [] else mark_of filter.now.listed verdict.now ++ (whole.now ++ feed_behind end)))) }
     ensures fault { IsOkUnless result LogFault.Write }
     ensures writer_failed { output_failed output.new ≡ (output_failed output.old || ended_by_write result) }
 {
@@ -309,7 +162,7 @@ fn select_line<W: Write>(
     if counts {
         return Ok(());
     }
-    match print_line(&filter.listed, verdict, line, output) {
+    match print_line(&filter.listed, verdict, whole, end, output) {
         Ok(()) => Ok(()),
         Err(_) => Err(LogFault::Write),
     }
@@ -322,15 +175,5 @@ fn refusal_of(verdict: &Verdict) -> LogFault
     match *verdict {
         Verdict::TooLong => LogFault::Length,
         _ => LogFault::Address,
-    }
-}
-
-// The line without one carriage return at its end.
-fn without_carriage_return(line: &[u8]) -> &[u8]
-    ensures { result.now ≡ strip_carriage_return line.now }
-{
-    match line.split_last() {
-        Some((last, front)) if *last == b'\r' => front,
-        _ => line,
     }
 }

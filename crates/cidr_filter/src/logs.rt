@@ -1,5 +1,5 @@
 //! Filters the logs of a run in turn.
-ghost use Rattle.std.specs.Prelude.{◌≡◌, ◌<◌, ◌++◌, ◌||◌, ◌∷◌, [], true, false, decimal, length, nat_lt, if◌then◌else◌, is_err, OnOk, OnErr, IfErr};
+ghost use Rattle.std.specs.Prelude.{◌≡◌, ◌≤◌, ◌++◌, ◌||◌, ◌∷◌, [], true, false, decimal, length, nat_lt, if◌then◌else◌, is_err, OnOk, OnErr, IfErr};
 ghost use Rattle.std.specs.Io.KnownBytes.{Appends};
 ghost use Rattle.line_engine.specs.Outputs.{writer_of, waits_in, output_failed, Puts, AppendsBeginning};
 ghost use Rattle.cidr_filter.specs.Logs.{logs_of};
@@ -34,7 +34,7 @@ pub(crate) fn filter_logs<L: OpenLists, W: Write, E: Write>(
     output: &mut Output<'_, W>,
     errors: &mut Output<'_, E>,
 ) -> u8
-    requires { 1048578 < length buffer.old }
+    requires { 1048578 ≤ length buffer.old }
     ensures { EndsLogs filter.now counts (L.known lists.now) (logs_of files.now)
         (record { holds = W.contents; output = output.old; output_after = output.new; tells = E.contents; errors = errors.old; errors_after = errors.new; status = result }) }
 {
@@ -63,7 +63,7 @@ fn filter_each<L: OpenLists, W: Write, E: Write>(
     tally: &mut Tally,
     errors: &mut Output<'_, E>,
 ) -> bool
-    requires { 1048578 < length buffer.old }
+    requires { 1048578 ≤ length buffer.old }
     ensures all { result ≡ true → (errors.new ≡ errors.old) × FiltersNames filter.now counts (L.known lists.now) (logs_of files.now)
         (stand (W.contents (writer_of output.old)) (waits_in output.old) tally.old)
         (stand (W.contents (writer_of output.new)) (waits_in output.new) tally.new) }
@@ -94,7 +94,7 @@ fn filter_one<L: OpenLists, W: Write, E: Write>(
     tally: &mut Tally,
     errors: &mut Output<'_, E>,
 ) -> bool
-    requires { 1048578 < length buffer.old }
+    requires { 1048578 ≤ length buffer.old }
     ensures all { result ≡ true → (errors.new ≡ errors.old) × FiltersNames filter.now counts (L.known lists.now) (name.now ∷ [])
         (stand (W.contents (writer_of output.old)) (waits_in output.old) tally.old)
         (stand (W.contents (writer_of output.new)) (waits_in output.new) tally.new) }
@@ -120,7 +120,7 @@ fn filter_named<L: OpenLists, W: Write>(
     output: &mut Output<'_, W>,
     tally: &mut Tally,
 ) -> Result<(), LogFault>
-    requires { 1048578 < length buffer.old }
+    requires { 1048578 ≤ length buffer.old }
     ensures ok { OnOk result (FiltersName filter.now counts (L.known lists.now) name.now
         (stand (W.contents (writer_of output.old)) (waits_in output.old) tally.old)
         (stand (W.contents (writer_of output.new)) (waits_in output.new) tally.new)) }

@@ -2,39 +2,71 @@
 ghost use Rattle.std.specs.Prelude.{◌≡◌, ◌||◌, ◌++◌, ◌∷◌, [], OnOk, OnErr, is_err};
 ghost use Rattle.line_engine.specs.Outputs.{writer_of, waits_in, output_failed, Puts, AppendsBeginning};
 ghost use Rattle.cidr_filter.specs.Filters.{mark_of, block_text, block_in};
+ghost use Rattle.cidr_filter.specs.Private.Progress.{feed_behind};
 
 use crate::filter::Verdict;
 use crate::listed::Listed;
 use ipnetwork::IpNetwork;
 use line_engine::fault::RunFault;
+use line_engine::line_end::LineEnd;
 use line_engine::output::Output;
 use std::io::Write;
 
-/// Writes a line of this verdict and a line feed, and before it, with `--longest`, the block that holds its address.
+/// Writes a line of this verdict, and before it, with `--longest`, the block that holds its address. `whole` is the line
+/// as it was read, with its end; if that is no line feed, one is written.
 pub(crate) fn print_line<W: Write>(
     listed: &Listed,
     verdict: &Verdict,
-    line: &[u8],
+    whole: &[u8],
+    end: LineEnd,
     output: &mut Output<'_, W>,
 ) -> Result<(), RunFault>
-    ensures ok { OnOk result (Puts (W.contents (writer_of output.old)) (waits_in output.old) (W.contents (writer_of output.new)) (waits_in output.new)
-        (mark_of listed.now verdict.now ++ (line.now ++ 10 ∷ []))) }
+    ensures ok { OnOk result (Puts
+        (W.contents (writer_of output.old)) (waits_in output.old)
+        (W.contents (writer_of output.new)) (waits_in output.new)
+        (mark_of listed.now verdict.now ++ (whole.now ++ feed_behind end))) }
     ensures failed { output_failed output.new ≡ (output_failed output.old || is_err result) }
-    ensures beginning { OnErr result (AppendsBeginning (W.contents (writer_of output.old)) (W.contents (writer_of output.new))
-        (waits_in output.old ++ (mark_of listed.now verdict.now ++ (line.now ++ 10 ∷ [])))) }
+    ensures beginning { OnErr result (AppendsBeginning
+        (W.contents (writer_of output.old)) (W.contents (writer_of output.new))
+        (waits_in output.old ++ (mark_of listed.now verdict.now ++ (whole.now ++ feed_behind end)))) }
 {
     put_mark(listed, verdict, output)?;
-    put_line(line, output)
+    put_line(whole, end, output)
 }
 
-// Writes a line and a line feed.
-fn put_line<W: Write>(line: &[u8], output: &mut Output<'_, W>) -> Result<(), RunFault>
-    ensures ok { OnOk result (Puts (W.contents (writer_of output.old)) (waits_in output.old) (W.contents (writer_of output.new)) (waits_in output.new) (line.now ++ 10 ∷ [])) }
+// Writes a line as it was read, and a line feed if it has none.
+fn put_line<W: Write>(
+    whole: &[u8],
+    end: LineEnd,
+    output: &mut Output<'_, W>,
+) -> Result<(), RunFault>
+    ensures ok { OnOk result (Puts
+        (W.contents (writer_of output.old)) (waits_in output.old)
+        (W.contents (writer_of output.new)) (waits_in output.new) (whole.now ++ feed_behind end)) }
     ensures failed { output_failed output.new ≡ (output_failed output.old || is_err result) }
-    ensures beginning { OnErr result (AppendsBeginning (W.contents (writer_of output.old)) (W.contents (writer_of output.new)) (waits_in output.old ++ (line.now ++ 10 ∷ []))) }
+    ensures beginning { OnErr result (AppendsBeginning
+        (W.contents (writer_of output.old)) (W.contents (writer_of output.new))
+        (waits_in output.old ++ (whole.now ++ feed_behind end))) }
 {
-    output.put(line)?;
-    output.put(b"\n")
+    output.put(whole)?;
+    put_feed(end, output)
+}
+
+// Writes a line feed behind a line that has none.
+fn put_feed<W: Write>(end: LineEnd, output: &mut Output<'_, W>) -> Result<(), RunFault>
+    ensures ok { OnOk result (Puts
+        (W.contents (writer_of output.old)) (waits_in output.old)
+        (W.contents (writer_of output.new)) (waits_in output.new) (feed_behind end)) }
+    ensures failed { output_failed output.new ≡ (output_failed output.old || is_err result) }
+    ensures beginning { OnErr result (AppendsBeginning
+        (W.contents (writer_of output.old)) (W.contents (writer_of output.new))
+        (waits_in output.old ++ feed_behind end)) }
+{
+    match end {
+        LineEnd::LineFeed => Ok(()),
+        LineEnd::ReturnAndLineFeed => Ok(()),
+        LineEnd::EndOfInput => output.put(b"\n"),
+    }
 }
 
 // Writes what stands before a line of this verdict.

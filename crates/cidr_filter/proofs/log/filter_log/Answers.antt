@@ -1,133 +1,131 @@
-use Rattle.std.proofs.Common.{[], ◌+◌, ◌-◌, ◌∙◌, refl, take, arith}
-use Rattle.std.proofs.KnownBytes.{Consumes-nil}
-use Rattle.std.proofs.lemmas.List.{length-take-le}
-use Rattle.line_engine.specs.Watched.{device_of, has_failed}
-use Rattle.line_engine.specs.Outputs.{writer_of, waits_in, output_failed}
-use Rattle.cidr_filter.specs.Stands.{stand}
-use Rattle.std.specs.Prelude.{Err}
-use Rattle.cidr_filter.proofs.Failing.{or_none, none_or, or_on, no_read, read_works, not_read}
-use Rattle.cidr_filter.proofs.Kept.{held_fits, held_absent, kept_piece}
-use Rattle.cidr_filter.proofs.Filtering.{advances_nowhere, ended_ok, piece_more}
-use Rattle.cidr_filter.proofs.Stopping.{failed_now, read_stops, last_stops, endless_stops, piece_stops, long_stops}
+use Rattle.std.proofs.Common.{◌-◌, ◌∙◌, length, ap, refl, sym, arith}
+use Rattle.line_engine.specs.Outputs.{output_failed}
+use Rattle.line_engine.specs.Watched.{has_failed}
+use Rattle.line_engine.proofs.Putting.{puts_nothing}
+use Rattle.line_engine.proofs.Writes.{still_works}
+use Rattle.cidr_filter.proofs.Filtering.{counts_none, goes_out, begins, after_line, after_long, before_asking, after_asking, less_to_hand, less_to_read}
+use Rattle.cidr_filter.proofs.Stopping.{failed_now, line_stops, long_line_stops, log_ends, writing_stops, read_stops, endless_stops, long_stops}
 use Rattle.cidr_filter.proofs.log.filter_log.Goals as goal
 
-pub pieces-init : goal.pieces-init
-pieces-init g c = record {
-  fits = omega arith;
-  room = c.requires.room;
-  absent = λ place low high. absurd (omega (arith, low, high));
-  sofar = ([], Consumes-nil _, omega arith, advances_nowhere c.args.filter.now c.args.counts _ []);
+pub lines-init : goal.lines-init
+lines-init g c = record {
+  sofar = begins c.args.filter.now c.args.counts _ c.new-lines.result _ _ refl c.new-lines.ensures.holds c.new-lines.ensures.ended;
+  limit = c.new-lines.ensures.limit;
+  size = refl;
   reads = refl;
   writes = refl;
-  handed = λ h. h;
 }
 
-pub returns-then-count-eq0-clause-ok : goal.returns-then-count-eq0-clause-ok
-returns-then-count-eq0-clause-ok g c =
-    ended_ok c.args.filter.now c.args.counts c.finish.result _ _ _ _ _ _ c.pieces.buffer c.read_behind.new.buffer c.pieces.invariant.sofar.0 c.pieces.held c.in-Ok.count
-    c.pieces.invariant.sofar.1 c.pieces.invariant.sofar.3 c.in-Ok.ensures.read c.if-count-eq0.true c.finish.ensures.ok
+-- ---- a line
 
 pub returns-in-Err-clause-err : goal.returns-in-Err-clause-err
 returns-in-Err-clause-err g c =
-    let sofar = c.pieces.invariant.sofar in
-    let stops =
-    read_stops c.args.filter.now c.args.counts _ _ _ _ _ c.pieces.buffer c.pieces.buffer sofar.0 c.pieces.held 0 sofar.1 sofar.3 (omega (arith, c.pieces.invariant.fits, c.pieces.invariant.room))
-    c.pieces.invariant.absent c.in-Err.ensures.kept in
-    (failed_now (has_failed c.read_behind.new.reader) _ c.in-Err.ensures.failed, stops.0, stops.1, stops.2)
+    line_stops c.args.filter.now c.args.counts c.lines.room c.lines.lines c.next.new.self _ _ _ _ c.lines.invariant.sofar c.next.ensures.ended _ c.in-Line.end c.line-line.result.now
+    c.whole_line-whole.result.now c.in-Line.ensures.gives c.line-line.ensures c.whole_line-whole.ensures (has_failed c.lines.reader) (output_failed c.filter_line.new.output) c.in-Err.fault
+    c.in-Err.ensures.err
 
-pub returns-then-count-eq0-clause-err : goal.returns-then-count-eq0-clause-err
-returns-then-count-eq0-clause-err g c =
-    let sofar = c.pieces.invariant.sofar in
-    last_stops c.args.filter.now c.args.counts _ _ _ _ _ c.pieces.buffer c.read_behind.new.buffer sofar.0 c.pieces.held c.in-Ok.count sofar.1 sofar.3 c.in-Ok.ensures.read
-    c.finish.result _ _ (output_failed c.finish.new.output) c.if-count-eq0.true c.finish.ensures.err
+pub lines-preserved-in_default : goal.lines-preserved-in_default
+lines-preserved-in_default g c = record {
+  sofar = after_line c.args.filter.now c.args.counts c.lines.room c.lines.lines c.next.new.self _ _ _ _ c.lines.invariant.sofar c.next.ensures.ended _ c.in-Line.end c.line-line.result.now
+      c.whole_line-whole.result.now c.in-Line.ensures.gives c.line-line.ensures c.whole_line-whole.ensures c.in_default.ensures.ok;
+  limit = c.next.ensures.limit ∙ c.lines.invariant.limit;
+  size = ap length c.next.ensures.unmoved ∙ c.lines.invariant.size;
+  reads = c.lines.invariant.reads;
+  writes = still_works _ _ _ c.in_default.ensures.writer_failed c.lines.invariant.writes;
+}
+
+-- ---- a line that is too long
+
+pub returns-then-refuses_long_lines-clause-err : goal.returns-then-refuses_long_lines-clause-err
+returns-then-refuses_long_lines-clause-err g c =
+    long_line_stops c.args.filter.now c.args.counts c.lines.room c.lines.lines c.next.new.self _ _ _ _ c.lines.invariant.sofar c.next.ensures.ended c.in-TooLong.ensures.gives
+    (c.next.ensures.limit ∙ c.lines.invariant.limit) (sym c.refuses-refuses_long_lines.ensures ∙ c.if-refuses_long_lines.true)
+
+pub lines-preserved-in-TooLong : goal.lines-preserved-in-TooLong
+lines-preserved-in-TooLong g c = record {
+  sofar = after_long c.args.filter.now c.args.counts c.lines.room c.lines.lines c.next.new.self _ _ _ _ c.lines.invariant.sofar c.next.ensures.ended _ c.in-TooLong.ensures.gives
+      (c.next.ensures.limit ∙ c.lines.invariant.limit) (sym c.refuses-refuses_long_lines.ensures ∙ c.if-refuses_long_lines.false)
+      (puts_nothing _ _, counts_none c.lines.tally.selected c.lines.tally.selected refl, λ within. c.saturating_add-tally.ensures);
+  limit = c.next.ensures.limit ∙ c.lines.invariant.limit;
+  size = ap length c.next.ensures.unmoved ∙ c.lines.invariant.size;
+  reads = c.lines.invariant.reads;
+  writes = c.lines.invariant.writes;
+}
+
+-- ---- more bytes are needed
+
+pub returns-in_default-hand_on-clause-err : goal.returns-in_default-hand_on-clause-err
+returns-in_default-hand_on-clause-err g c = (
+  failed_now (output_failed c.hand_on.new.self) _ c.in_default-hand_on.ensures.failed,
+  writing_stops c.args.filter.now c.args.counts c.lines.room c.lines.lines _ _ _ _ _ c.lines.invariant.sofar c.in_default-hand_on.ensures.err,
+)
+
+pub is_too_long-requires : goal.is_too_long-requires
+is_too_long-requires g c = (c.in-Ask.ensures.gives c.lines.invariant.sofar.pending c.lines.invariant.sofar.holds).2
+
+pub returns-then-is_too_long-clause-err : goal.returns-then-is_too_long-clause-err
+returns-then-is_too_long-clause-err g c =
+    let idle = before_asking c.args.filter.now c.args.counts c.lines.room c.lines.lines c.next.new.self _ _ _ _ _ c.lines.invariant.sofar c.in-Ask.ensures.gives c.next.ensures.ended
+    (goes_out _ _ refl refl c.in-Ok.ensures.emptied c.in-Ok.ensures.ok) in
+    let long = (c.is_too_long.ensures idle.sofar.pending idle.sofar.holds).0 c.if-is_too_long.true in
+    long_stops c.args.filter.now c.args.counts c.lines.room c.next.new.self _ _ _ _ idle (omega (arith, long, c.next.ensures.limit, c.lines.invariant.limit))
+    (sym c.refuses-refuses_long_lines.ensures ∙ c.if-refuses_long_lines-2.true)
+
+pub ask-requires : goal.ask-requires
+ask-requires g c = (c.in-Ask.ensures.gives c.lines.invariant.sofar.pending c.lines.invariant.sofar.holds).2
+
+pub returns-in_default-ask-clause-err : goal.returns-in_default-ask-clause-err
+returns-in_default-ask-clause-err g c =
+    let idle = before_asking c.args.filter.now c.args.counts c.lines.room c.lines.lines c.next.new.self _ _ _ _ _ c.lines.invariant.sofar c.in-Ask.ensures.gives c.next.ensures.ended
+    (goes_out _ _ refl refl c.in-Ok.ensures.emptied c.in-Ok.ensures.ok) in
+    let stops = read_stops c.args.filter.now c.args.counts c.lines.room c.next.new.self _ _ _ _ _ idle c.in_default-ask.ensures.err in
+    (failed_now (has_failed c.ask.new.reader) _ c.in_default-ask.ensures.failed, stops.0, stops.1, stops.2)
 
 pub returns-then-count-room-clause-err : goal.returns-then-count-room-clause-err
 returns-then-count-room-clause-err g c =
-    let sofar = c.pieces.invariant.sofar in
-    endless_stops c.args.filter.now c.args.counts _ _ _ _ _ c.pieces.buffer c.read_behind.new.buffer sofar.0 c.pieces.held c.in-Ok.count sofar.1 sofar.3 c.in-Ok.ensures.read
-    (omega (arith, c.pieces.invariant.fits, c.pieces.invariant.room)) c.pieces.invariant.absent (omega (arith, sofar.2, c.if-count-room.true))
+    let idle = before_asking c.args.filter.now c.args.counts c.lines.room c.lines.lines c.next.new.self _ _ _ _ _ c.lines.invariant.sofar c.in-Ask.ensures.gives c.next.ensures.ended
+    (goes_out _ _ refl refl c.in-Ok.ensures.emptied c.in-Ok.ensures.ok) in
+    endless_stops c.args.filter.now c.args.counts c.lines.room c.next.new.self _ _ _ _ _ idle c.ask.new.self c.in-Ok-ask.count c.in-Ok-ask.ensures.read c.if-count-room.true
 
-pub returns-in-Err-filter_piece-clause-err : goal.returns-in-Err-filter_piece-clause-err
-returns-in-Err-filter_piece-clause-err g c =
-    let sofar = c.pieces.invariant.sofar in
-    piece_stops c.args.filter.now c.args.counts _ _ _ _ _ c.pieces.buffer c.read_behind.new.buffer sofar.0 c.pieces.held c.in-Ok.count sofar.1 sofar.3 c.in-Ok.ensures.read
-    _ _ (output_failed c.filter_piece.new.output) c.in-Err-filter_piece.fault c.in-Err-filter_piece.ensures.err
-
-pub returns-in-Err-held_of-clause-err : goal.returns-in-Err-held_of-clause-err
-returns-in-Err-held_of-clause-err g c =
-    let sofar = c.pieces.invariant.sofar in
-    long_stops c.args.filter.now c.args.counts _ _ _ _ _ c.pieces.buffer c.read_behind.new.buffer sofar.0 c.pieces.held c.in-Ok.count sofar.1 sofar.3 c.in-Ok.ensures.read
-    _ c.in-Ok-filter_piece.start c.in-Ok-filter_piece.ensures.within c.in-Ok-filter_piece.ensures.absent c.in-Ok-filter_piece.ensures.advances
-    c.in-Err-held_of.ensures.stopped.0 c.in-Err-held_of.ensures.stopped.1
-
-pub pieces-preserved : goal.pieces-preserved
-pieces-preserved g c =
-    let held = c.pieces.held in
-    let count = c.in-Ok.count in
-    let start = c.in-Ok-filter_piece.start in
-    let contents = g.W.Write.contents in
-    let next = c.in-Ok-held_of.count in
-    let front = kept_piece c.read_behind.new.buffer c.keep.new.buffer start (held + count) next c.in-Ok-held_of.ensures.within c.keep.ensures.front in
-    let more = piece_more c.args.filter.now c.args.counts (g.R.Read.remaining (device_of c.args.reader.now)) (g.R.Read.remaining (device_of c.pieces.reader))
-    (g.R.Read.remaining (device_of c.read_behind.new.reader))
-    (stand (contents (writer_of c.args.output.now)) (waits_in c.args.output.now) c.args.tally.now)
-    (stand (contents (writer_of c.pieces.output)) (waits_in c.pieces.output) c.pieces.tally)
-    (stand (contents (writer_of c.filter_piece.new.output)) (waits_in c.filter_piece.new.output) c.filter_piece.new.tally)
-    c.pieces.buffer c.read_behind.new.buffer c.keep.new.buffer c.pieces.invariant.sofar.0 held count start c.in-Ok-held_of.count
-    c.pieces.invariant.sofar.1 c.pieces.invariant.sofar.3 c.in-Ok.ensures.read c.in-Ok-filter_piece.ensures.within c.in-Ok-filter_piece.ensures.absent
-    c.in-Ok-filter_piece.ensures.advances front c.in-Ok-held_of.ensures.held in
+pub lines-preserved : goal.lines-preserved
+lines-preserved g c =
+    let before = c.lines.invariant in
+    let asked = c.in-Ok-ask.ensures in
+    let idle = before_asking c.args.filter.now c.args.counts c.lines.room c.lines.lines c.next.new.self _ _ _ _ _ before.sofar c.in-Ask.ensures.gives c.next.ensures.ended
+    (goes_out _ _ refl refl c.in-Ok.ensures.emptied c.in-Ok.ensures.ok) in
     record {
-      fits = held_fits c.args.filter.now (held + count - start) c.in-Ok-held_of.count c.in-Ok-held_of.ensures.held;
-      room = omega (arith, c.keep.ensures.length, c.read_behind.ensures.length, c.pieces.invariant.room);
-      absent = held_absent (take (held + count) c.read_behind.new.buffer) c.keep.new.buffer start next
-          (omega (arith, length-take-le (held + count) c.read_behind.new.buffer c.in-Ok.ensures.read.0, c.in-Ok-held_of.ensures.within)) front c.in-Ok-filter_piece.ensures.absent;
-      sofar = (more.0, more.1, omega (arith, more.2, c.pieces.invariant.sofar.2, c.if-count-room.false), more.3);
-      reads = none_or _ _ c.in-Ok.ensures.failed ∙ c.pieces.invariant.reads;
-      writes = none_or _ _ c.in-Ok-filter_piece.ensures.writer_failed ∙ c.pieces.invariant.writes;
-      handed = λ h. c.in-Ok-filter_piece.ensures.emptied;
+      sofar = after_asking c.args.filter.now c.args.counts c.lines.room (c.lines.room - c.in-Ok-ask.count) c.in-Ok-ask.count c.next.new.self c.ask.new.self _ _ _ _ _ idle
+          asked.read asked.ended c.if-count-room.false refl;
+      limit = asked.limit ∙ c.next.ensures.limit ∙ before.limit;
+      size = asked.size ∙ ap length c.next.ensures.unmoved ∙ before.size;
+      reads = still_works _ _ _ asked.failed before.reads;
+      writes = still_works _ _ _ c.in-Ok.ensures.failed before.writes;
     }
 
--- ---- which device failed
+-- ---- that it ends
 
-pub returns-in-Err-clause-reader_failed : goal.returns-in-Err-clause-reader_failed
-returns-in-Err-clause-reader_failed g c = or_on _ _ _ _ c.pieces.invariant.reads c.in-Err.ensures.failed
+pub lines-smaller-in_default : goal.lines-smaller-in_default
+lines-smaller-in_default g c = less_to_hand (length c.new-lines.result.bytes) c.lines.room c.lines.lines c.next.new.self c.next.ensures.ended c.in-Line.ensures.less
 
-pub returns-in-Err-clause-writer_failed : goal.returns-in-Err-clause-writer_failed
-returns-in-Err-clause-writer_failed g c = or_none _ _ c.pieces.invariant.writes
+pub lines-smaller-in-TooLong : goal.lines-smaller-in-TooLong
+lines-smaller-in-TooLong g c = less_to_hand (length c.new-lines.result.bytes) c.lines.room c.lines.lines c.next.new.self c.next.ensures.ended c.in-TooLong.ensures.less
 
-pub returns-in-Err-clause-handed_on : goal.returns-in-Err-clause-handed_on
-returns-in-Err-clause-handed_on g c = λ e h. c.pieces.invariant.handed h
+pub lines-smaller : goal.lines-smaller
+lines-smaller g c =
+    let given = c.in-Ask.ensures.gives c.lines.invariant.sofar.pending c.lines.invariant.sofar.holds in
+    let asked = c.in-Ok-ask.ensures in
+    less_to_read (length c.new-lines.result.bytes) c.lines.room c.in-Ok-ask.count c.lines.lines c.ask.new.self (sym c.next.ensures.ended ∙ given.3) asked.ended c.if-count-room.false
+    (asked.size ∙ ap length c.next.ensures.unmoved ∙ c.lines.invariant.size)
 
-pub returns-then-count-eq0-clause-reader_failed : goal.returns-then-count-eq0-clause-reader_failed
-returns-then-count-eq0-clause-reader_failed g c =
-    read_works _ _ _ (none_or _ _ c.in-Ok.ensures.failed ∙ c.pieces.invariant.reads) (no_read c.args.filter.now c.args.counts _ _ _ _ _ c.finish.result c.finish.ensures.err)
+-- ---- the end of the log
 
-pub returns-then-count-eq0-clause-writer_failed : goal.returns-then-count-eq0-clause-writer_failed
-returns-then-count-eq0-clause-writer_failed g c = or_on _ _ _ _ c.pieces.invariant.writes c.finish.ensures.writer_failed
+pub returns-in-Err-hand_on-clause-err : goal.returns-in-Err-hand_on-clause-err
+returns-in-Err-hand_on-clause-err g c = (
+  failed_now (output_failed c.hand_on-in-End.new.self) _ c.in-Err-hand_on.ensures.failed,
+  writing_stops c.args.filter.now c.args.counts c.lines.room c.lines.lines _ _ _ _ _ c.lines.invariant.sofar c.in-Err-hand_on.ensures.err,
+)
 
-pub returns-then-count-eq0-clause-handed_on : goal.returns-then-count-eq0-clause-handed_on
-returns-then-count-eq0-clause-handed_on g c = λ e. not_read c.args.filter.now c.args.counts _ _ _ _ _ c.finish.result _ c.finish.ensures.err e
-
-pub returns-then-count-room-clause-reader_failed : goal.returns-then-count-room-clause-reader_failed
-returns-then-count-room-clause-reader_failed g c = or_none _ _ (none_or _ _ c.in-Ok.ensures.failed ∙ c.pieces.invariant.reads)
-
-pub returns-then-count-room-clause-writer_failed : goal.returns-then-count-room-clause-writer_failed
-returns-then-count-room-clause-writer_failed g c = or_none _ _ c.pieces.invariant.writes
-
-pub returns-in-Err-filter_piece-clause-reader_failed : goal.returns-in-Err-filter_piece-clause-reader_failed
-returns-in-Err-filter_piece-clause-reader_failed g c =
-    read_works _ _ _ (none_or _ _ c.in-Ok.ensures.failed ∙ c.pieces.invariant.reads)
-    (no_read {T = Unit {0}} c.args.filter.now c.args.counts _ _ _ _ _ (Err c.in-Err-filter_piece.fault) c.in-Err-filter_piece.ensures.err)
-
-pub returns-in-Err-filter_piece-clause-writer_failed : goal.returns-in-Err-filter_piece-clause-writer_failed
-returns-in-Err-filter_piece-clause-writer_failed g c = or_on _ _ _ _ c.pieces.invariant.writes c.in-Err-filter_piece.ensures.writer_failed
-
-pub returns-in-Err-filter_piece-clause-handed_on : goal.returns-in-Err-filter_piece-clause-handed_on
-returns-in-Err-filter_piece-clause-handed_on g c = λ e.
-    not_read {T = Unit {0}} c.args.filter.now c.args.counts _ _ _ _ _ (Err c.in-Err-filter_piece.fault) _ c.in-Err-filter_piece.ensures.err e
-
-pub returns-in-Err-held_of-clause-reader_failed : goal.returns-in-Err-held_of-clause-reader_failed
-returns-in-Err-held_of-clause-reader_failed g c = or_none _ _ (none_or _ _ c.in-Ok.ensures.failed ∙ c.pieces.invariant.reads)
-
-pub returns-in-Err-held_of-clause-writer_failed : goal.returns-in-Err-held_of-clause-writer_failed
-returns-in-Err-held_of-clause-writer_failed g c = or_on _ _ _ _ c.pieces.invariant.writes c.in-Ok-filter_piece.ensures.writer_failed
+pub returns-in-Ok-hand_on-clause-ok : goal.returns-in-Ok-hand_on-clause-ok
+returns-in-Ok-hand_on-clause-ok g c =
+    log_ends c.args.filter.now c.args.counts c.lines.room c.lines.lines c.next.new.self _ _ _ _ c.lines.invariant.sofar c.next.ensures.ended _ c.in-End.ensures.gives
+    (goes_out _ _ refl refl c.in-Ok-hand_on.ensures.emptied c.in-Ok-hand_on.ensures.ok)

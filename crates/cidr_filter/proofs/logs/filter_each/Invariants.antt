@@ -1,4 +1,4 @@
-use Rattle.std.proofs.Common.{◌≡◌, ◌<◌, length, map, take}
+use Rattle.std.proofs.Common.{◌≡◌, ◌≤◌, length, map, take}
 use Rattle.std.specs.String.{string_bytes}
 use Rattle.line_engine.specs.Outputs.{writer_of, waits_in}
 use Rattle.cidr_filter.specs.Stands.{stand}
@@ -7,7 +7,7 @@ use Rattle.cidr_filter.proofs.logs.filter_each.Given as goal
 
 abbrev pub invariant-loop-file : goal.invariant-loop-file
 invariant-loop-file g l = record {
-  room : 1048578 < length l.buffer;
+  room : 1048578 ≤ length l.buffer;
   silent : l.errors ≡ l.initial.errors;
   names : FiltersNames l.filter l.counts (g.L.OpenLists.known l.lists) (map string_bytes (take l.file-index l.files))
       (stand (g.W.Write.contents (writer_of l.initial.output)) (waits_in l.initial.output) l.initial.tally)

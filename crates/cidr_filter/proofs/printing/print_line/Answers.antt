@@ -1,7 +1,8 @@
-use Rattle.std.proofs.Common.{[], ◌∷◌, ◌++◌, List, ℕ, subst, append_assoc}
+use Rattle.std.proofs.Common.{◌++◌, List, ℕ, subst, append_assoc}
 use Rattle.line_engine.specs.Outputs.{writer_of, waits_in, AppendsBeginning}
 use Rattle.line_engine.proofs.Putting.{begins_within}
 use Rattle.cidr_filter.specs.Filters.{mark_of}
+use Rattle.cidr_filter.specs.Private.Progress.{feed_behind}
 use Rattle.cidr_filter.proofs.Filtering.{put_two_ok}
 use Rattle.cidr_filter.proofs.Stopping.{on_err, begins_after_ok}
 use Rattle.cidr_filter.proofs.printing.print_line.Goals as goal
@@ -10,7 +11,7 @@ pub returns-clause-ok : goal.returns-clause-ok
 returns-clause-ok g c =
     let contents = g.W.Write.contents in
     put_two_ok c.put_line.result (contents (writer_of c.args.output.now)) (contents (writer_of c.put_mark.new.output)) (contents (writer_of c.put_line.new.output)) (waits_in c.args.output.now) (waits_in c.put_mark.new.output)
-    (waits_in c.put_line.new.output) (mark_of c.args.listed.now c.args.verdict.now) (c.args.line.now ++ 10 ∷ []) c.in_ok-put_mark.ensures.ok c.put_line.ensures.ok
+    (waits_in c.put_line.new.output) (mark_of c.args.listed.now c.args.verdict.now) (c.args.whole.now ++ feed_behind c.args.end) c.in_ok-put_mark.ensures.ok c.put_line.ensures.ok
 
 pub returns-in_err-put_mark-clause-beginning : goal.returns-in_err-put_mark-clause-beginning
 returns-in_err-put_mark-clause-beginning g c =
@@ -18,11 +19,11 @@ returns-in_err-put_mark-clause-beginning g c =
     let holds = g.W.Write.contents (writer_of c.put_mark.new.output) in
     let mark = mark_of c.args.listed.now c.args.verdict.now in
     on_err c.from_residual.result _
-    (subst (λ (t : List ℕ). AppendsBeginning held holds t) (append_assoc (waits_in c.args.output.now) mark (c.args.line.now ++ 10 ∷ []))
-    (begins_within held holds (waits_in c.args.output.now ++ mark) (c.args.line.now ++ 10 ∷ []) c.in_err-put_mark.ensures.beginning))
+    (subst (λ (t : List ℕ). AppendsBeginning held holds t) (append_assoc (waits_in c.args.output.now) mark (c.args.whole.now ++ feed_behind c.args.end))
+    (begins_within held holds (waits_in c.args.output.now ++ mark) (c.args.whole.now ++ feed_behind c.args.end) c.in_err-put_mark.ensures.beginning))
 
 pub returns-clause-beginning : goal.returns-clause-beginning
 returns-clause-beginning g c =
     let contents = g.W.Write.contents in
     begins_after_ok c.put_line.result (contents (writer_of c.args.output.now)) (contents (writer_of c.put_mark.new.output)) (contents (writer_of c.put_line.new.output)) (waits_in c.args.output.now) (waits_in c.put_mark.new.output)
-    (mark_of c.args.listed.now c.args.verdict.now) (c.args.line.now ++ 10 ∷ []) c.in_ok-put_mark.ensures.ok c.put_line.ensures.beginning
+    (mark_of c.args.listed.now c.args.verdict.now) (c.args.whole.now ++ feed_behind c.args.end) c.in_ok-put_mark.ensures.ok c.put_line.ensures.beginning
