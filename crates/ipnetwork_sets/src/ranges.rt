@@ -45,8 +45,14 @@ impl<N: AddressSpace, B: SetBlocks<N>> Model for Ranges<N, B> {
 }
 
 impl<N: AddressSpace, B: SetBlocks<N>> Ranges<N, B> {
-    // The ranges of the blocks.
-    fn of(mut blocks: B) -> Self
+    /// The ranges of the blocks that are still to come.
+    ///
+    /// ```
+    /// let list: [Ipv4Network; 1] = ["192.0.2.0/24".parse()?];
+    /// let mut ranges = Ranges::of(AddressSlice::from_blocks(&list).unwrap().iter());
+    /// assert_eq!(rt; ranges.next(), Some((Ipv4Addr::new(192, 0, 2, 0), Ipv4Addr::new(192, 0, 2, 255))));
+    /// ```
+    pub fn of(mut blocks: B) -> Self
         ensures { IsRangeList (InUnion N.WIDTH (B.left blocks)) result }
     {
         laws::one_block();
