@@ -25,8 +25,12 @@ split_starts blocks x = record {
   above = λ k d l m. absurd (omega arith);
 }
 
+-- in ascending order, strictly or not
+pub weakly : (ns : List Network) → AllPairs (λ a b. a.address < b.address) ns → AllPairs (λ a b. a.address ≤ b.address) ns
+weakly ns up i j d l m = let f : (get_or ns i d).address < (get_or ns j d).address = up i j d l m in omega arith
+
 -- the block b at the middle begins at x or before it,
-pub split_behind : (blocks : List Network) (x from to middle : ℕ) (b : Network) → AllPairs (λ a b. a.address < b.address) blocks → IsSplit blocks x from to
+pub split_behind : (blocks : List Network) (x from to middle : ℕ) (b : Network) → AllPairs (λ a b. a.address ≤ b.address) blocks → IsSplit blocks x from to
     → middle < to → b ≡ get_or blocks middle b → b.address ≤ x → IsSplit blocks x (middle + 1) to
 split_behind blocks x from to middle b up h l is begins =
     let within = h.within in
@@ -37,7 +41,7 @@ split_behind blocks x from to middle b up h l is begins =
           let here : get_or blocks middle d ≡ b = get_or_default blocks middle d b (omega arith) ∙ sym is in
           let at : (get_or blocks middle d).address ≡ b.address = ap (λ n. n.address) here in
           ⊎_elim
-          (λ (less : k < middle). let f : (get_or blocks k d).address < (get_or blocks middle d).address = up k middle d less (omega arith) in omega arith)
+          (λ (less : k < middle). let f : (get_or blocks k d).address ≤ (get_or blocks middle d).address = up k middle d less (omega arith) in omega arith)
           (λ (le : middle ≤ k).
           let e : middle ≡ k = omega arith in
           subst (λ (j : ℕ). (get_or blocks j d).address ≤ x) e (omega arith))
@@ -46,7 +50,7 @@ split_behind blocks x from to middle b up h l is begins =
     }
 
 -- or after it
-pub split_before : (blocks : List Network) (x from to middle : ℕ) (b : Network) → AllPairs (λ a b. a.address < b.address) blocks → IsSplit blocks x from to
+pub split_before : (blocks : List Network) (x from to middle : ℕ) (b : Network) → AllPairs (λ a b. a.address ≤ b.address) blocks → IsSplit blocks x from to
     → from ≤ middle → middle < to → b ≡ get_or blocks middle b → x < b.address → IsSplit blocks x from middle
 split_before blocks x from to middle b up h le l is begins =
     let within = h.within in
@@ -58,7 +62,7 @@ split_before blocks x from to middle b up h le l is begins =
           let here : get_or blocks middle d ≡ b = get_or_default blocks middle d b (omega arith) ∙ sym is in
           let at : (get_or blocks middle d).address ≡ b.address = ap (λ n. n.address) here in
           ⊎_elim
-          (λ (less : middle < k). let f : (get_or blocks middle d).address < (get_or blocks k d).address = up middle k d less n in omega arith)
+          (λ (less : middle < k). let f : (get_or blocks middle d).address ≤ (get_or blocks k d).address = up middle k d less n in omega arith)
           (λ (ge : k ≤ middle).
           let e : middle ≡ k = omega arith in
           subst (λ (j : ℕ). x < (get_or blocks j d).address) e (omega arith))
@@ -83,11 +87,11 @@ pub split_one : (blocks : List Network) (x from left : ℕ) (b : Network) (begin
 split_one blocks x from left b true up h some at iff =
     let within = h.within in
     placed blocks x (from + 1) (from + left) (from + 1) (from + 1 + (left - 1)) refl (omega arith) (omega arith)
-    (split_behind blocks x from (from + left) from b up h (omega arith) at (iff.0 refl))
+    (split_behind blocks x from (from + left) from b (weakly blocks up) h (omega arith) at (iff.0 refl))
 split_one blocks x from left b false up h some at iff =
     let within = h.within in
     placed blocks x from from (from + 0) (from + 0 + (left - 1)) (omega arith) (omega arith) (omega arith)
-    (split_before blocks x from (from + left) from b up h (omega arith) (omega arith) at (not_below b.address x (iff_false iff refl)))
+    (split_before blocks x from (from + left) from b (weakly blocks up) h (omega arith) (omega arith) at (not_below b.address x (iff_false iff refl)))
 
 -- of two blocks the one that stands first begins first
 begins_first : (blocks : List Network) (i j : ℕ) (a b : Network) → AllPairs (λ a b. a.address < b.address) blocks → a ≡ get_or blocks i a → b ≡ get_or blocks j b → i < j → j < length blocks → a.address < b.address
@@ -106,21 +110,21 @@ quarters : (blocks : List Network) (x from left p : ℕ) (a b c : Network) (r s 
 quarters blocks x from left p a b c true true true up h some fits at_a at_b at_c is_r is_s is_t first second =
     let within = h.within in
     placed blocks x (from + (3 * p - 1) + 1) (from + left) (from + (p + p + p)) (from + (p + p + p) + (left - 3 * p)) (omega arith) (omega arith) (omega arith)
-    (split_behind blocks x from (from + left) (from + (3 * p - 1)) c up h (omega arith) at_c (is_t.0 refl))
+    (split_behind blocks x from (from + left) (from + (3 * p - 1)) c (weakly blocks up) h (omega arith) at_c (is_t.0 refl))
 quarters blocks x from left p a b c true true false up h some fits at_a at_b at_c is_r is_s is_t first second =
     let within = h.within in
-    let low = split_behind blocks x from (from + left) (from + (2 * p - 1)) b up h (omega arith) at_b (is_s.0 refl) in
+    let low = split_behind blocks x from (from + left) (from + (2 * p - 1)) b (weakly blocks up) h (omega arith) at_b (is_s.0 refl) in
     placed blocks x (from + (2 * p - 1) + 1) (from + (3 * p - 1)) (from + (p + p + 0)) (from + (p + p + 0) + (left - 3 * p)) (omega arith) (omega arith) (omega arith)
-    (split_before blocks x (from + (2 * p - 1) + 1) (from + left) (from + (3 * p - 1)) c up low (omega arith) (omega arith) at_c (not_below c.address x (iff_false is_t refl)))
+    (split_before blocks x (from + (2 * p - 1) + 1) (from + left) (from + (3 * p - 1)) c (weakly blocks up) low (omega arith) (omega arith) at_c (not_below c.address x (iff_false is_t refl)))
 quarters blocks x from left p a b c true false false up h some fits at_a at_b at_c is_r is_s is_t first second =
     let within = h.within in
-    let low = split_behind blocks x from (from + left) (from + (p - 1)) a up h (omega arith) at_a (is_r.0 refl) in
+    let low = split_behind blocks x from (from + left) (from + (p - 1)) a (weakly blocks up) h (omega arith) at_a (is_r.0 refl) in
     placed blocks x (from + (p - 1) + 1) (from + (2 * p - 1)) (from + (p + 0 + 0)) (from + (p + 0 + 0) + (left - 3 * p)) (omega arith) (omega arith) (omega arith)
-    (split_before blocks x (from + (p - 1) + 1) (from + left) (from + (2 * p - 1)) b up low (omega arith) (omega arith) at_b (not_below b.address x (iff_false is_s refl)))
+    (split_before blocks x (from + (p - 1) + 1) (from + left) (from + (2 * p - 1)) b (weakly blocks up) low (omega arith) (omega arith) at_b (not_below b.address x (iff_false is_s refl)))
 quarters blocks x from left p a b c false false false up h some fits at_a at_b at_c is_r is_s is_t first second =
     let within = h.within in
     placed blocks x from (from + (p - 1)) (from + (0 + 0 + 0)) (from + (0 + 0 + 0) + (left - 3 * p)) (omega arith) (omega arith) (omega arith)
-    (split_before blocks x from (from + left) (from + (p - 1)) a up h (omega arith) (omega arith) at_a (not_below a.address x (iff_false is_r refl)))
+    (split_before blocks x from (from + left) (from + (p - 1)) a (weakly blocks up) h (omega arith) (omega arith) at_a (not_below a.address x (iff_false is_r refl)))
 quarters blocks x from left p a b c false true t up h some fits at_a at_b at_c is_r is_s is_t first second =
     let begins : b.address ≤ x = is_s.0 refl in
     absurd (iff_false is_r refl (omega arith))

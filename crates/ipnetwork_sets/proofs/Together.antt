@@ -275,11 +275,6 @@ pub range_has_block : (w start last : ℕ) (blocks : List Network) → RangeIsSh
 range_has_block w start last blocks law le fits h e =
     union_nil w start (subst (λ (l : List Network). InUnion w l start) e (((law w start last blocks fits h).addresses start).1 (omega arith, le)))
 
-pub mapped_shorter : {X Y : Type 0} (f : X → Y) (xs ys : List X) (x : X) → map f xs ≡ f x ∷ map f ys → length ys < length xs
-mapped_shorter f xs ys x e =
-    let l : length (map f xs) ≡ suc (length (map f ys)) = ap length e in
-    omega (arith, l, length-map xs f, length-map ys f)
-
 -- ---- the steps of the iterator
 
 pub goes_within : (w : ℕ) (run left rest : List Network) (b : Network) → AggregateIsApart → IsAddressSet w (run ++ rest) → run ≡ b ∷ left → IsAddressSet w (left ++ rest)

@@ -1,5 +1,6 @@
 -- Sets of addresses of w bits, as lists of blocks.
-use Rattle.std.specs.Prelude.{◌≡◌, ℕ, ◌^◌, ◌<◌, ◌⊎◌, ◌++◌, List}
+use Rattle.std.specs.Prelude.{◌≡◌, ℕ, ◌^◌, ◌<◌, ◌⊎◌, ◌++◌, List, map}
+use Rattle.std.specs.List.{All}
 use Rattle.ipnetwork_family.specs.Network.{Network, Member}
 use Rattle.ipnetwork_blocks.specs.LeastList.{IsLeastList}
 use Rattle.ipnetwork_blocks.specs.Aggregate.{InUnion, IsAggregate}
@@ -7,6 +8,10 @@ use Rattle.ipnetwork_blocks.specs.Aggregate.{InUnion, IsAggregate}
 -- the blocks are the maximal ones of their own union, in ascending order
 abbrev pub IsAddressSet : ℕ → List Network → Type 0
 IsAddressSet w blocks = IsAggregate w blocks blocks
+
+-- each value of the list holds a network, and these networks are the blocks of a set
+abbrev pub HoldSet : {H : Type 0} → ℕ → (H → Type 0) → (H → Network) → List H → Type 0
+HoldSet w holds held list = All holds list × IsAddressSet w (map held list)
 
 -- some address of the network lies in the union of the others
 abbrev pub MeetsUnion : ℕ → Network → List Network → Type 0

@@ -67,7 +67,7 @@ impl<N: AddressSpace> AddressSet<N> {
             (λ set. IsAddressSet N.WIDTH (map N.pair blocks.items) × (set ≡ map N.pair blocks.items))
             (λ back. ¬ (IsAddressSet N.WIDTH (map N.pair blocks.items)) × (back ≡ blocks)) }
     {
-        if is_address_set(blocks.as_slice()) {
+        if is_address_set::<N, N>(blocks.as_slice()) {
             Ok(AddressSet { blocks })
         } else {
             Err(blocks)

@@ -52,7 +52,7 @@ impl<'a, N: AddressSpace> AddressSlice<'a, N> {
             (¬ (IsAddressSet N.WIDTH (map N.pair blocks.now)))
             (λ set. IsAddressSet N.WIDTH (map N.pair blocks.now) × (set ≡ map N.pair blocks.now)) }
     {
-        if is_address_set(blocks) {
+        if is_address_set::<N, N>(blocks) {
             return Some(AddressSlice { blocks });
         }
         None

@@ -1,23 +1,31 @@
 //! Whether a list of networks is the list of a set.
 ghost use Rattle.std.specs.Prelude.{◌↔◌, IsTrue, map};
+ghost use Rattle.std.specs.List.{All};
 ghost use Rattle.ipnetwork_family.specs.Network.{IsNetwork, HostBitsAreZero};
 ghost use Rattle.ipnetwork_blocks.specs.Private.Joining.{AreHalves, Follows};
 ghost use Rattle.ipnetwork_sets.specs.Sets.{IsAddressSet};
 
 use crate::order::ends_before;
-use ipnetwork_blocks::{AddressSpace, laws};
+use ipnetwork_blocks::{AddressSpace, HoldsNetwork, laws};
 
-/// Whether the networks are the maximal blocks of their union, in ascending order. Goes over them once.
-pub(crate) fn is_address_set<N: AddressSpace>(networks: &[N]) -> bool
-    ensures { IsTrue result ↔ IsAddressSet N.WIDTH (map N.pair networks.now) }
+/// Whether the networks that the values hold are the maximal blocks of their union, in ascending order. Goes over them
+/// once.
+///
+/// ```
+/// let halves: [Ipv4Network; 2] = ["192.0.2.0/25".parse()?, "192.0.2.128/25".parse()?];
+/// assert!(rt; !is_address_set::<Ipv4Network, Ipv4Network>(&halves));
+/// ```
+pub fn is_address_set<N: AddressSpace, H: HoldsNetwork<N>>(list: &[H]) -> bool
+    requires { All H.holds list.now }
+    ensures { IsTrue result ↔ IsAddressSet N.WIDTH (map H.held list.now) }
 {
     laws::one_block();
-    for next in 0..networks.len() {
-        let network = networks[next];
-        if !has_no_host_bits(network) {
+    for next in 0..list.len() {
+        let block = list[next].held_network();
+        if !has_no_host_bits(block) {
             return false;
         }
-        if next > 0 && !follows(networks[next - 1], network) {
+        if next > 0 && !follows(list[next - 1].held_network(), block) {
             return false;
         }
     }

@@ -2,14 +2,16 @@
 ghost use Rattle.std.specs.Prelude.{◌≡◌, ◌∷◌, [], MatchOption, map};
 ghost use Rattle.std.specs.Iterator.{YieldsFirstBy, item_count};
 ghost use Rattle.ipnetwork_blocks.specs.LeastList.{IsLeastList};
-ghost use Rattle.ipnetwork_sets.specs.Sets.{IsAddressSet, InBoth};
+ghost use Rattle.ipnetwork_sets.specs.Sets.{IsAddressSet, HoldSet, InBoth};
 ghost use Rattle.ipnetwork_sets.specs.Private.LeastBlocks.{common_blocks};
 
+use crate::held::split_held;
 use crate::order::ends_before;
-use ipnetwork_blocks::{AddressSpace, laws};
-use std::marker::Model;
+use ipnetwork_blocks::{AddressSpace, HoldsNetwork, laws};
+use std::marker::{Model, PhantomData};
 
-/// An iterator over the blocks of the common part of two sets, in ascending order.
+/// An iterator over the blocks of the common part of two sets, in ascending order. `H` is what the lists of the sets have:
+/// networks, or values that hold them.
 ///
 /// ```
 /// let set = AddressSet::from_networks(vec![in rt.alloc(); "192.0.2.0/25".parse::<Ipv4Network>()?]?);
@@ -18,33 +20,45 @@ use std::marker::Model;
 /// assert!(rt; common.eq(["192.0.2.0/25".parse()?]));
 /// ```
 #[derive(Debug, Drop)]
-pub struct Intersection<'a, N: AddressSpace> {
-    first: &'a [N],
-    second: &'a [N],
+pub struct Intersection<'a, N: AddressSpace, H: HoldsNetwork<N> = N> {
+    first: &'a [H],
+    second: &'a [H],
+    family: PhantomData<N>,
 }
 
 // A contract sees an iterator as the list of the blocks still to come.
-impl<'a, N: AddressSpace> Model for Intersection<'a, N> {
+impl<'a, N: AddressSpace, H: HoldsNetwork<N>> Model for Intersection<'a, N, H> {
     ghost use Rattle.std.specs.Prelude.{List, map};
     ghost use Rattle.ipnetwork_family.specs.Network.{Network};
-    ghost use Rattle.ipnetwork_sets.specs.Sets.{IsAddressSet};
+    ghost use Rattle.ipnetwork_sets.specs.Sets.{HoldSet};
     ghost use Rattle.ipnetwork_sets.specs.Private.LeastBlocks.{common_blocks};
 
     ghost Value = { List Network };
 
-    ghost view = { λ i. common_blocks N.WIDTH (map N.pair i.first.now) (map N.pair i.second.now) };
+    ghost view = { λ i. common_blocks N.WIDTH (map H.held i.first.now) (map H.held i.second.now) };
 
-    ghost invariant = { λ i. IsAddressSet N.WIDTH (map N.pair i.first.now) × IsAddressSet N.WIDTH (map N.pair i.second.now) };
+    ghost invariant = { λ i. HoldSet N.WIDTH H.holds H.held i.first.now × HoldSet N.WIDTH H.holds H.held i.second.now };
 }
 
-impl<'a, N: AddressSpace> Intersection<'a, N> {
-    /// The blocks of the addresses that are in both sets.
-    pub(crate) fn of(first: &'a [N], second: &'a [N]) -> Self
-        requires first { IsAddressSet N.WIDTH (map N.pair first.now) }
-        requires second { IsAddressSet N.WIDTH (map N.pair second.now) }
-        ensures { IsLeastList N.WIDTH (InBoth N.WIDTH (map N.pair first.now) (map N.pair second.now)) result }
+impl<'a, N: AddressSpace, H: HoldsNetwork<N>> Intersection<'a, N, H> {
+    /// The blocks of the addresses that are in both of the sets of two lists.
+    ///
+    /// ```
+    /// let list: [Ipv4Network; 1] = ["192.0.2.0/25".parse()?];
+    /// let others: [Ipv4Network; 1] = ["192.0.2.64/26".parse()?];
+    /// let common = Intersection::<'_, Ipv4Network, Ipv4Network>::of(&list, &others);
+    /// assert!(rt; common.eq(others));
+    /// ```
+    pub fn of(first: &'a [H], second: &'a [H]) -> Self
+        requires first { HoldSet N.WIDTH H.holds H.held first.now }
+        requires second { HoldSet N.WIDTH H.holds H.held second.now }
+        ensures { IsLeastList N.WIDTH (InBoth N.WIDTH (map H.held first.now) (map H.held second.now)) result }
     {
-        Intersection { first, second }
+        Intersection {
+            first,
+            second,
+            family: PhantomData,
+        }
     }
 
     // The blocks that are still to come are those of a set.
@@ -55,7 +69,7 @@ impl<'a, N: AddressSpace> Intersection<'a, N> {
     }
 }
 
-impl<'a, N: AddressSpace> Iterator for Intersection<'a, N> {
+impl<'a, N: AddressSpace, H: HoldsNetwork<N>> Iterator for Intersection<'a, N, H> {
     type Item = N;
 
     ghost next_gives = { YieldsFirstBy N.pair (λ left. left) };
@@ -63,7 +77,7 @@ impl<'a, N: AddressSpace> Iterator for Intersection<'a, N> {
     ghost remaining = { item_count (λ left. left) };
 
     fn next(&mut self) -> Option<N> {
-        let (block, first, second) = next_common(self.first, self.second)?;
+        let (block, first, second) = next_common::<N, H>(self.first, self.second)?;
         self.first = first;
         self.second = second;
         Some(block)
@@ -72,34 +86,36 @@ impl<'a, N: AddressSpace> Iterator for Intersection<'a, N> {
 
 // The first block of the common part, and what is left of both sets. Passes the blocks that end before the other's
 // begins; of two that share an address the smaller lies in the other.
-fn next_common<'a, N: AddressSpace>(
-    mut first: &'a [N],
-    mut second: &'a [N],
-) -> Option<(N, &'a [N], &'a [N])>
-    requires first { IsAddressSet N.WIDTH (map N.pair first.now) }
-    requires second { IsAddressSet N.WIDTH (map N.pair second.now) }
+fn next_common<'a, N: AddressSpace, H: HoldsNetwork<N>>(
+    mut first: &'a [H],
+    mut second: &'a [H],
+) -> Option<(N, &'a [H], &'a [H])>
+    requires first { HoldSet N.WIDTH H.holds H.held first.now }
+    requires second { HoldSet N.WIDTH H.holds H.held second.now }
     ensures { MatchOption result
-        (common_blocks N.WIDTH (map N.pair first.entry.now) (map N.pair second.entry.now) ≡ [])
-        (λ r. IsAddressSet N.WIDTH (map N.pair r.1.now) × IsAddressSet N.WIDTH (map N.pair r.2.now)
-        × (common_blocks N.WIDTH (map N.pair first.entry.now) (map N.pair second.entry.now)
-        ≡ N.pair r.0 ∷ common_blocks N.WIDTH (map N.pair r.1.now) (map N.pair r.2.now))) }
+        (common_blocks N.WIDTH (map H.held first.entry.now) (map H.held second.entry.now) ≡ [])
+        (λ r. HoldSet N.WIDTH H.holds H.held r.1.now × HoldSet N.WIDTH H.holds H.held r.2.now
+        × (common_blocks N.WIDTH (map H.held first.entry.now) (map H.held second.entry.now)
+        ≡ N.pair r.0 ∷ common_blocks N.WIDTH (map H.held r.1.now) (map H.held r.2.now))) }
 {
     laws::one_block();
     loop {
-        let Some((a, after_a)) = first.split_first() else {
+        let Some(one) = split_held::<N, H>(first) else {
             return None;
         };
-        let Some((b, after_b)) = second.split_first() else {
+        let Some(other) = split_held::<N, H>(second) else {
             return None;
         };
-        if ends_before(*a, *b) {
-            first = after_a;
-        } else if ends_before(*b, *a) {
-            second = after_b;
+        let a = one.0;
+        let b = other.0;
+        if ends_before(a, b) {
+            first = one.1;
+        } else if ends_before(b, a) {
+            second = other.1;
         } else if b.prefix() <= a.prefix() {
-            return Some((*a, after_a, second));
+            return Some((a, one.1, second));
         } else {
-            return Some((*b, first, after_b));
+            return Some((b, first, other.1));
         }
     }
 }

@@ -2,15 +2,18 @@
 ghost use Rattle.std.specs.Prelude.{◌≡◌, ◌∷◌, [], MatchOption, map, option_map};
 ghost use Rattle.std.specs.Iterator.{YieldsFirstBy, item_count};
 ghost use Rattle.ipnetwork_blocks.specs.LeastList.{IsLeastList};
-ghost use Rattle.ipnetwork_sets.specs.Sets.{IsAddressSet, InFirstAlone, InNetworkAlone};
+ghost use Rattle.std.specs.List.{All};
+ghost use Rattle.ipnetwork_sets.specs.Sets.{IsAddressSet, HoldSet, InFirstAlone, InNetworkAlone};
 ghost use Rattle.ipnetwork_sets.specs.Private.LeastBlocks.{left_blocks};
 ghost use Rattle.ipnetwork_sets.specs.Private.Left.{IsPiece, IsAtHand, TakesPart, HasNoPart, IsNextPart};
 
+use crate::held::split_held;
 use crate::pieces::{first_free, piece_behind};
-use ipnetwork_blocks::{AddressSpace, block, laws};
+use ipnetwork_blocks::{AddressSpace, HoldsNetwork, block, laws};
 use std::marker::Model;
 
-/// An iterator over the blocks of a difference of sets, in ascending order.
+/// An iterator over the blocks of a difference of sets, in ascending order. `H` is what the lists of the sets have:
+/// networks, or values that hold them.
 ///
 /// ```
 /// let set = AddressSet::from_networks(vec![in rt.alloc(); "192.0.2.0/25".parse::<Ipv4Network>()?]?);
@@ -19,10 +22,10 @@ use std::marker::Model;
 /// assert!(rt; left.eq(["192.0.2.0/27".parse()?, "192.0.2.64/26".parse()?]));
 /// ```
 #[derive(Debug, Drop)]
-pub struct Difference<'a, N: AddressSpace> {
+pub struct Difference<'a, N: AddressSpace, H: HoldsNetwork<N> = N> {
     at_hand: Option<Part<N>>,
-    rest: &'a [N],
-    cut: &'a [N],
+    rest: &'a [H],
+    cut: &'a [H],
 }
 
 /// A block, and a piece of it: what lies before the piece in the block is done.
@@ -33,25 +36,34 @@ struct Part<N: AddressSpace> {
 }
 
 // A contract sees an iterator as the list of the blocks still to come.
-impl<'a, N: AddressSpace> Model for Difference<'a, N> {
+impl<'a, N: AddressSpace, H: HoldsNetwork<N>> Model for Difference<'a, N, H> {
     ghost use Rattle.std.specs.Prelude.{List, map, option_map};
+    ghost use Rattle.std.specs.List.{All};
     ghost use Rattle.ipnetwork_family.specs.Network.{Network};
     ghost use Rattle.ipnetwork_sets.specs.Private.LeastBlocks.{left_blocks};
     ghost use Rattle.ipnetwork_sets.specs.Private.Left.{IsAtHand};
 
     ghost Value = { List Network };
 
-    ghost view = { λ d. left_blocks N.WIDTH (option_map (λ p. (N.pair p.whole, N.pair p.piece)) d.at_hand) (map N.pair d.rest.now) (map N.pair d.cut.now) };
+    ghost view = { λ d. left_blocks N.WIDTH (option_map (λ p. (N.pair p.whole, N.pair p.piece)) d.at_hand) (map H.held d.rest.now) (map H.held d.cut.now) };
 
-    ghost invariant = { λ d. IsAtHand N.WIDTH (option_map (λ p. (N.pair p.whole, N.pair p.piece)) d.at_hand) (map N.pair d.rest.now) (map N.pair d.cut.now) };
+    ghost invariant = { λ d. All H.holds d.rest.now × All H.holds d.cut.now
+        × IsAtHand N.WIDTH (option_map (λ p. (N.pair p.whole, N.pair p.piece)) d.at_hand) (map H.held d.rest.now) (map H.held d.cut.now) };
 }
 
-impl<'a, N: AddressSpace> Difference<'a, N> {
-    /// The blocks of the addresses that the first set has and the cut one has not.
-    pub(crate) fn of(first: &'a [N], cut: &'a [N]) -> Self
-        requires first { IsAddressSet N.WIDTH (map N.pair first.now) }
-        requires cut { IsAddressSet N.WIDTH (map N.pair cut.now) }
-        ensures { IsLeastList N.WIDTH (InFirstAlone N.WIDTH (map N.pair first.now) (map N.pair cut.now)) result }
+impl<'a, N: AddressSpace, H: HoldsNetwork<N>> Difference<'a, N, H> {
+    /// The blocks of the addresses that the set of the first list has and that of the cut one has not.
+    ///
+    /// ```
+    /// let list: [Ipv4Network; 1] = ["192.0.2.0/25".parse()?];
+    /// let others: [Ipv4Network; 1] = ["192.0.2.64/26".parse()?];
+    /// let left = Difference::<'_, Ipv4Network, Ipv4Network>::of(&list, &others);
+    /// assert!(rt; left.eq(["192.0.2.0/26".parse()?]));
+    /// ```
+    pub fn of(first: &'a [H], cut: &'a [H]) -> Self
+        requires first { HoldSet N.WIDTH H.holds H.held first.now }
+        requires cut { HoldSet N.WIDTH H.holds H.held cut.now }
+        ensures { IsLeastList N.WIDTH (InFirstAlone N.WIDTH (map H.held first.now) (map H.held cut.now)) result }
     {
         Difference {
             at_hand: None,
@@ -61,9 +73,9 @@ impl<'a, N: AddressSpace> Difference<'a, N> {
     }
 
     /// The blocks of the addresses that the network has and the cut set has not.
-    pub(crate) fn within(network: N, cut: &'a [N]) -> Self
-        requires { IsAddressSet N.WIDTH (map N.pair cut.now) }
-        ensures { IsLeastList N.WIDTH (InNetworkAlone N.WIDTH (N.pair network) (map N.pair cut.now)) result }
+    pub(crate) fn within(network: N, cut: &'a [H]) -> Self
+        requires { HoldSet N.WIDTH H.holds H.held cut.now }
+        ensures { IsLeastList N.WIDTH (InNetworkAlone N.WIDTH (N.pair network) (map H.held cut.now)) result }
     {
         let whole = block(network);
         Difference {
@@ -84,7 +96,7 @@ impl<'a, N: AddressSpace> Difference<'a, N> {
     }
 }
 
-impl<'a, N: AddressSpace> Iterator for Difference<'a, N> {
+impl<'a, N: AddressSpace, H: HoldsNetwork<N>> Iterator for Difference<'a, N, H> {
     type Item = N;
 
     ghost next_gives = { YieldsFirstBy N.pair (λ left. left) };
@@ -92,7 +104,7 @@ impl<'a, N: AddressSpace> Iterator for Difference<'a, N> {
     ghost remaining = { item_count (λ left. left) };
 
     fn next(&mut self) -> Option<N> {
-        let (block, at_hand, rest, cut) = next_left(self.at_hand, self.rest, self.cut)?;
+        let (block, at_hand, rest, cut) = next_left::<N, H>(self.at_hand, self.rest, self.cut)?;
         self.at_hand = at_hand;
         self.rest = rest;
         self.cut = cut;
@@ -101,25 +113,27 @@ impl<'a, N: AddressSpace> Iterator for Difference<'a, N> {
 }
 
 // The first block that is left, and the state after it.
-fn next_left<'a, N: AddressSpace>(
+fn next_left<'a, N: AddressSpace, H: HoldsNetwork<N>>(
     mut at_hand: Option<Part<N>>,
-    mut rest: &'a [N],
-    mut cut: &'a [N],
-) -> Option<(N, Option<Part<N>>, &'a [N], &'a [N])>
-    requires { IsAtHand N.WIDTH (option_map (λ p. (N.pair p.whole, N.pair p.piece)) at_hand) (map N.pair rest.now) (map N.pair cut.now) }
+    mut rest: &'a [H],
+    mut cut: &'a [H],
+) -> Option<(N, Option<Part<N>>, &'a [H], &'a [H])>
+    requires rest { All H.holds rest.now }
+    requires cut { All H.holds cut.now }
+    requires at_hand { IsAtHand N.WIDTH (option_map (λ p. (N.pair p.whole, N.pair p.piece)) at_hand) (map H.held rest.now) (map H.held cut.now) }
     ensures { MatchOption result
-        (left_blocks N.WIDTH (option_map (λ p. (N.pair p.whole, N.pair p.piece)) at_hand) (map N.pair rest.entry.now) (map N.pair cut.entry.now) ≡ [])
-        (λ r. IsAtHand N.WIDTH (option_map (λ p. (N.pair p.whole, N.pair p.piece)) r.1) (map N.pair r.2.now) (map N.pair r.3.now)
-        × (left_blocks N.WIDTH (option_map (λ p. (N.pair p.whole, N.pair p.piece)) at_hand) (map N.pair rest.entry.now) (map N.pair cut.entry.now)
-        ≡ N.pair r.0 ∷ left_blocks N.WIDTH (option_map (λ p. (N.pair p.whole, N.pair p.piece)) r.1) (map N.pair r.2.now) (map N.pair r.3.now))) }
+        (left_blocks N.WIDTH (option_map (λ p. (N.pair p.whole, N.pair p.piece)) at_hand) (map H.held rest.entry.now) (map H.held cut.entry.now) ≡ [])
+        (λ r. All H.holds r.2.now × All H.holds r.3.now × IsAtHand N.WIDTH (option_map (λ p. (N.pair p.whole, N.pair p.piece)) r.1) (map H.held r.2.now) (map H.held r.3.now)
+        × (left_blocks N.WIDTH (option_map (λ p. (N.pair p.whole, N.pair p.piece)) at_hand) (map H.held rest.entry.now) (map H.held cut.entry.now)
+        ≡ N.pair r.0 ∷ left_blocks N.WIDTH (option_map (λ p. (N.pair p.whole, N.pair p.piece)) r.1) (map H.held r.2.now) (map H.held r.3.now))) }
 {
     laws::one_block();
     loop {
-        let Some((part, after)) = take_part(at_hand, rest) else {
+        let Some((part, after)) = take_part::<N, H>(at_hand, rest) else {
             return None;
         };
         rest = after;
-        let (free, left) = first_free(part.whole, part.piece, cut);
+        let (free, left) = first_free::<N, H>(part.whole, part.piece, cut);
         cut = left;
         if let Some(piece) = free {
             let next = part_behind(part.whole, piece);
@@ -130,22 +144,24 @@ fn next_left<'a, N: AddressSpace>(
 }
 
 // What is at hand, or the first of the others, whole; and the others.
-fn take_part<'a, N: AddressSpace>(
+fn take_part<'a, N: AddressSpace, H: HoldsNetwork<N>>(
     at_hand: Option<Part<N>>,
-    rest: &'a [N],
-) -> Option<(Part<N>, &'a [N])>
-    ensures { MatchOption result (HasNoPart (option_map (λ p. (N.pair p.whole, N.pair p.piece)) at_hand) (map N.pair rest.now))
-        (λ r. TakesPart (option_map (λ p. (N.pair p.whole, N.pair p.piece)) at_hand) (map N.pair rest.now) (N.pair r.0.whole, N.pair r.0.piece) (map N.pair r.1.now)) }
+    rest: &'a [H],
+) -> Option<(Part<N>, &'a [H])>
+    requires { All H.holds rest.now }
+    ensures { MatchOption result (HasNoPart (option_map (λ p. (N.pair p.whole, N.pair p.piece)) at_hand) (map H.held rest.now))
+        (λ r. All H.holds r.1.now
+        × TakesPart (option_map (λ p. (N.pair p.whole, N.pair p.piece)) at_hand) (map H.held rest.now) (N.pair r.0.whole, N.pair r.0.piece) (map H.held r.1.now)) }
 {
     match at_hand {
         Some(part) => Some((part, rest)),
         None => {
-            let Some((whole, after)) = rest.split_first() else {
+            let Some((whole, after)) = split_held::<N, H>(rest) else {
                 return None;
             };
             let part = Part {
-                whole: *whole,
-                piece: *whole,
+                whole,
+                piece: whole,
             };
             Some((part, after))
         }

@@ -2,39 +2,41 @@
 //! it.
 ghost use Rattle.std.specs.Prelude.{◌≡◌, ◌+◌, ◌<◌, MatchOption, map};
 ghost use Rattle.ipnetwork_family.specs.Network.{block_of, high};
-ghost use Rattle.ipnetwork_sets.specs.Sets.{IsAddressSet};
+ghost use Rattle.ipnetwork_sets.specs.Sets.{HoldSet};
 ghost use Rattle.ipnetwork_sets.specs.Private.Left.{IsPiece, IsWidest, IsBehind, Skips, IsFree};
 
+use crate::held::split_held;
 use crate::order::{begin_alike, ends_before};
-use ipnetwork_blocks::{AddressSpace, laws};
+use ipnetwork_blocks::{AddressSpace, HoldsNetwork, laws};
 
 /// The first piece of the whole, from this piece on, that has no address of the cut set, and what is left of that set;
 /// `None` if there is no such piece. Passes the cut blocks that end before the piece, goes on after a piece that lies
 /// in a cut block, and to the lower half of one that has such a block in it.
-pub(crate) fn first_free<'a, N: AddressSpace>(
+pub(crate) fn first_free<'a, N: AddressSpace, H: HoldsNetwork<N>>(
     whole: N,
     from: N,
-    cut: &'a [N],
-) -> (Option<N>, &'a [N])
+    cut: &'a [H],
+) -> (Option<N>, &'a [H])
     requires part { IsPiece N.WIDTH (N.pair whole) (N.pair from) }
-    requires widest { IsWidest N.WIDTH (N.pair whole) (N.pair from) (map N.pair cut.now) }
-    requires set { IsAddressSet N.WIDTH (map N.pair cut.now) }
-    ensures set { IsAddressSet N.WIDTH (map N.pair result.1.now) }
+    requires widest { IsWidest N.WIDTH (N.pair whole) (N.pair from) (map H.held cut.now) }
+    requires set { HoldSet N.WIDTH H.holds H.held cut.now }
+    ensures set { HoldSet N.WIDTH H.holds H.held result.1.now }
     ensures free { MatchOption result.0
-        (Skips N.WIDTH (N.pair whole) (N.pair from).address (map N.pair cut.now) (high N.WIDTH (N.pair whole) + 1) (map N.pair result.1.now))
-        (λ piece. IsFree N.WIDTH (N.pair whole) (N.pair piece) (map N.pair result.1.now)
-        × Skips N.WIDTH (N.pair whole) (N.pair from).address (map N.pair cut.now) (N.pair piece).address (map N.pair result.1.now)) }
+        (Skips N.WIDTH (N.pair whole) (N.pair from).address (map H.held cut.now) (high N.WIDTH (N.pair whole) + 1) (map H.held result.1.now))
+        (λ piece. IsFree N.WIDTH (N.pair whole) (N.pair piece) (map H.held result.1.now)
+        × Skips N.WIDTH (N.pair whole) (N.pair from).address (map H.held cut.now) (N.pair piece).address (map H.held result.1.now)) }
 {
     laws::one_block();
     let mut piece = from;
     let mut left = cut;
     loop {
-        let Some((first, after)) = left.split_first() else {
+        let Some(taken) = split_held::<N, H>(left) else {
             return (Some(piece), left);
         };
-        if ends_before(*first, piece) {
-            left = after;
-        } else if ends_before(piece, *first) {
+        let first = taken.0;
+        if ends_before(first, piece) {
+            left = taken.1;
+        } else if ends_before(piece, first) {
             return (Some(piece), left);
         } else if first.prefix() <= piece.prefix() {
             let Some(next) = piece_behind(whole, piece) else {

@@ -1,16 +1,19 @@
 //! The union of two sets.
-ghost use Rattle.std.specs.Prelude.{◌≡◌, ◌+◌, ◌≤◌, ◌∷◌, [], MatchOption, map};
+ghost use Rattle.std.specs.Prelude.{◌≡◌, ◌+◌, ◌<◌, ◌≤◌, ◌∷◌, [], MatchOption, length, map};
 ghost use Rattle.std.specs.Iterator.{YieldsFirstBy, item_count};
 ghost use Rattle.ipnetwork_family.specs.Network.{IsCidrBlock, low};
 ghost use Rattle.ipnetwork_blocks.specs.LeastList.{IsLeastList};
-ghost use Rattle.ipnetwork_sets.specs.Sets.{IsAddressSet, InEither};
+ghost use Rattle.std.specs.List.{All};
+ghost use Rattle.ipnetwork_sets.specs.Sets.{IsAddressSet, HoldSet, InEither};
 ghost use Rattle.ipnetwork_sets.specs.Private.Together.{at_hand, IsRun, IsFirst, EndsAt, IsLater};
 
+use crate::held::split_held;
 use crate::order::{ends_at, goes_on};
-use ipnetwork_blocks::{AddressSpace, RangeBlocks, laws, range_to_blocks};
+use ipnetwork_blocks::{AddressSpace, HoldsNetwork, RangeBlocks, laws, range_to_blocks};
 use std::marker::Model;
 
-/// An iterator over the blocks of the union of two sets, in ascending order.
+/// An iterator over the blocks of the union of two sets, in ascending order. `H` is what the lists of the sets have:
+/// networks, or values that hold them.
 ///
 /// ```
 /// let set = AddressSet::from_networks(vec![in rt.alloc(); "192.0.2.0/25".parse::<Ipv4Network>()?]?);
@@ -19,36 +22,43 @@ use std::marker::Model;
 /// assert!(rt; blocks.eq(["192.0.2.0/25".parse()?, "192.0.3.0/24".parse()?]));
 /// ```
 #[derive(Drop)]
-#[derive_where(Debug; N, N::Addr)]
-pub struct Union<'a, N: AddressSpace> {
+#[derive_where(Debug; N, N::Addr, H)]
+pub struct Union<'a, N: AddressSpace, H: HoldsNetwork<N> = N> {
     run: Option<RangeBlocks<N>>,
-    first: &'a [N],
-    second: &'a [N],
+    first: &'a [H],
+    second: &'a [H],
 }
 
 // A contract sees an iterator as the list of the blocks still to come: those of the run at hand, and those of what both
 // sets have after it.
-impl<'a, N: AddressSpace> Model for Union<'a, N> {
+impl<'a, N: AddressSpace, H: HoldsNetwork<N>> Model for Union<'a, N, H> {
     ghost use Rattle.std.specs.Prelude.{List, ◌++◌, map};
     ghost use Rattle.ipnetwork_family.specs.Network.{Network};
-    ghost use Rattle.ipnetwork_sets.specs.Sets.{IsAddressSet};
+    ghost use Rattle.ipnetwork_sets.specs.Sets.{IsAddressSet, HoldSet};
     ghost use Rattle.ipnetwork_sets.specs.Private.LeastBlocks.{either_blocks};
     ghost use Rattle.ipnetwork_sets.specs.Private.Together.{at_hand};
 
     ghost Value = { List Network };
 
-    ghost view = { λ u. at_hand u.run ++ either_blocks N.WIDTH (map N.pair u.first.now) (map N.pair u.second.now) };
+    ghost view = { λ u. at_hand u.run ++ either_blocks N.WIDTH (map H.held u.first.now) (map H.held u.second.now) };
 
-    ghost invariant = { λ u. IsAddressSet N.WIDTH (map N.pair u.first.now) × IsAddressSet N.WIDTH (map N.pair u.second.now)
-        × IsAddressSet N.WIDTH (at_hand u.run ++ either_blocks N.WIDTH (map N.pair u.first.now) (map N.pair u.second.now)) };
+    ghost invariant = { λ u. HoldSet N.WIDTH H.holds H.held u.first.now × HoldSet N.WIDTH H.holds H.held u.second.now
+        × IsAddressSet N.WIDTH (at_hand u.run ++ either_blocks N.WIDTH (map H.held u.first.now) (map H.held u.second.now)) };
 }
 
-impl<'a, N: AddressSpace> Union<'a, N> {
-    /// The blocks of the addresses that one of the sets has, or both.
-    pub(crate) fn of(first: &'a [N], second: &'a [N]) -> Self
-        requires first { IsAddressSet N.WIDTH (map N.pair first.now) }
-        requires second { IsAddressSet N.WIDTH (map N.pair second.now) }
-        ensures { IsLeastList N.WIDTH (InEither N.WIDTH (map N.pair first.now) (map N.pair second.now)) result }
+impl<'a, N: AddressSpace, H: HoldsNetwork<N>> Union<'a, N, H> {
+    /// The blocks of the addresses that one of the sets of two lists has, or both.
+    ///
+    /// ```
+    /// let list: [Ipv4Network; 1] = ["192.0.2.0/25".parse()?];
+    /// let others: [Ipv4Network; 1] = ["192.0.2.128/25".parse()?];
+    /// let both = Union::<'_, Ipv4Network, Ipv4Network>::of(&list, &others);
+    /// assert!(rt; both.eq(["192.0.2.0/24".parse()?]));
+    /// ```
+    pub fn of(first: &'a [H], second: &'a [H]) -> Self
+        requires first { HoldSet N.WIDTH H.holds H.held first.now }
+        requires second { HoldSet N.WIDTH H.holds H.held second.now }
+        ensures { IsLeastList N.WIDTH (InEither N.WIDTH (map H.held first.now) (map H.held second.now)) result }
     {
         Union {
             run: None,
@@ -65,7 +75,7 @@ impl<'a, N: AddressSpace> Union<'a, N> {
     }
 }
 
-impl<'a, N: AddressSpace> Iterator for Union<'a, N> {
+impl<'a, N: AddressSpace, H: HoldsNetwork<N>> Iterator for Union<'a, N, H> {
     type Item = N;
 
     ghost next_gives = { YieldsFirstBy N.pair (λ left. left) };
@@ -78,7 +88,7 @@ impl<'a, N: AddressSpace> Iterator for Union<'a, N> {
         if let Some(block) = next_at_hand(&mut self.run) {
             return Some(block);
         }
-        let Some(found) = next_run(self.first, self.second) else {
+        let Some(found) = next_run::<N, H>(self.first, self.second) else {
             return None;
         };
         self.first = found.2;
@@ -105,18 +115,19 @@ fn next_at_hand<N: AddressSpace>(run: &mut Option<RangeBlocks<N>>) -> Option<N>
 // The first run of the union without a gap, by the block that begins with it and its last address, and what is left of
 // both sets after it.
 #[inline(always)]
-fn next_run<'a, N: AddressSpace>(
-    first: &'a [N],
-    second: &'a [N],
-) -> Option<(N, N::Addr, &'a [N], &'a [N])>
-    requires first { IsAddressSet N.WIDTH (map N.pair first.now) }
-    requires second { IsAddressSet N.WIDTH (map N.pair second.now) }
-    ensures { MatchOption result ((first.now ≡ []) × (second.now ≡ []))
+fn next_run<'a, N: AddressSpace, H: HoldsNetwork<N>>(
+    first: &'a [H],
+    second: &'a [H],
+) -> Option<(N, N::Addr, &'a [H], &'a [H])>
+    requires first { HoldSet N.WIDTH H.holds H.held first.now }
+    requires second { HoldSet N.WIDTH H.holds H.held second.now }
+    ensures { MatchOption result ((map H.held first.now ≡ []) × (map H.held second.now ≡ []))
         (λ r. IsCidrBlock N.WIDTH (N.pair r.0)
-        × IsRun N.WIDTH (map N.pair first.now) (map N.pair second.now) (low N.WIDTH (N.pair r.0)) (N.number r.1) (map N.pair r.2.now) (map N.pair r.3.now)) }
+        × IsRun N.WIDTH (map H.held first.now) (map H.held second.now) (low N.WIDTH (N.pair r.0)) (N.number r.1) (map H.held r.2.now) (map H.held r.3.now)
+        × All H.holds r.2.now × All H.holds r.3.now) }
 {
     laws::one_block();
-    let Some(taken) = take_first(first, second) else {
+    let Some(taken) = take_first::<N, H>(first, second) else {
         return None;
     };
     let start = taken.0;
@@ -124,10 +135,10 @@ fn next_run<'a, N: AddressSpace>(
     let mut first_left = taken.1;
     let mut second_left = taken.2;
     loop {
-        if let Some(next) = take_next(last, first_left) {
+        if let Some(next) = take_next::<N, H>(last, first_left) {
             last = later::<N>(last, next.0.broadcast());
             first_left = next.1;
-        } else if let Some(next) = take_next(last, second_left) {
+        } else if let Some(next) = take_next::<N, H>(last, second_left) {
             last = later::<N>(last, next.0.broadcast());
             second_left = next.1;
         } else {
@@ -138,38 +149,47 @@ fn next_run<'a, N: AddressSpace>(
 
 // The first of the blocks and the others, if no address lies between the last one and it.
 #[inline(always)]
-fn take_next<'a, N: AddressSpace>(last: N::Addr, blocks: &'a [N]) -> Option<(N, &'a [N])>
-    ensures { MatchOption result (EndsAt N.WIDTH (N.number last) (map N.pair blocks.now))
-        (λ r. (map N.pair blocks.now ≡ N.pair r.0 ∷ map N.pair r.1.now) × ((N.pair r.0).address ≤ N.number last + 1)) }
+fn take_next<'a, N: AddressSpace, H: HoldsNetwork<N>>(
+    last: N::Addr,
+    blocks: &'a [H],
+) -> Option<(N, &'a [H])>
+    requires { All H.holds blocks.now }
+    ensures { MatchOption result (EndsAt N.WIDTH (N.number last) (map H.held blocks.now))
+        (λ r. (map H.held blocks.now ≡ N.pair r.0 ∷ map H.held r.1.now) × ((N.pair r.0).address ≤ N.number last + 1)
+        × All H.holds r.1.now × (length r.1.now < length blocks.now)) }
 {
-    let Some((block, after)) = blocks.split_first() else {
+    let Some((block, after)) = split_held::<N, H>(blocks) else {
         return None;
     };
-    if goes_on(last, *block) {
-        Some((*block, after))
+    if goes_on(last, block) {
+        Some((block, after))
     } else {
         None
     }
 }
 
 // Of the first blocks of both sets the one that begins first, and the others of both.
-fn take_first<'a, N: AddressSpace>(first: &'a [N], second: &'a [N]) -> Option<(N, &'a [N], &'a [N])>
-    ensures { MatchOption result ((first.now ≡ []) × (second.now ≡ []))
-        (λ r. IsFirst (map N.pair first.now) (map N.pair second.now) (N.pair r.0) (map N.pair r.1.now) (map N.pair r.2.now)) }
+fn take_first<'a, N: AddressSpace, H: HoldsNetwork<N>>(
+    first: &'a [H],
+    second: &'a [H],
+) -> Option<(N, &'a [H], &'a [H])>
+    requires first { All H.holds first.now }
+    requires second { All H.holds second.now }
+    ensures { MatchOption result ((map H.held first.now ≡ []) × (map H.held second.now ≡ []))
+        (λ r. IsFirst (map H.held first.now) (map H.held second.now) (N.pair r.0) (map H.held r.1.now) (map H.held r.2.now)
+        × All H.holds r.1.now × All H.holds r.2.now) }
 {
-    let Some((a, after_a)) = first.split_first() else {
-        let Some((b, after_b)) = second.split_first() else {
-            return None;
-        };
-        return Some((*b, first, after_b));
+    let Some(one) = split_held::<N, H>(first) else {
+        let other = split_held::<N, H>(second)?;
+        return Some((other.0, first, other.1));
     };
-    let Some((b, after_b)) = second.split_first() else {
-        return Some((*a, after_a, second));
+    let Some(other) = split_held::<N, H>(second) else {
+        return Some((one.0, one.1, second));
     };
-    if a.ip() <= b.ip() {
-        Some((*a, after_a, second))
+    if one.0.ip() <= other.0.ip() {
+        Some((one.0, one.1, second))
     } else {
-        Some((*b, first, after_b))
+        Some((other.0, first, other.1))
     }
 }
 

@@ -1,15 +1,15 @@
 use Rattle.std.proofs.Common.{◌≡◌, ◌+◌, length, map}
-use Rattle.ipnetwork_sets.specs.Sets.{IsAddressSet}
+use Rattle.ipnetwork_sets.specs.Sets.{HoldSet}
 use Rattle.ipnetwork_sets.specs.Private.LeastBlocks.{common_blocks}
 use Rattle.ipnetwork_sets.proofs.common.next_common.Given as goal
 
-abbrev pub invariant-loop-a : goal.invariant-loop-a
-invariant-loop-a g l = record {
-  first : IsAddressSet g.N.CidrNetwork.WIDTH (map g.N.CidrNetwork.pair l.first);
-  second : IsAddressSet g.N.CidrNetwork.WIDTH (map g.N.CidrNetwork.pair l.second);
-  same : common_blocks g.N.CidrNetwork.WIDTH (map g.N.CidrNetwork.pair l.initial.first) (map g.N.CidrNetwork.pair l.initial.second)
-      ≡ common_blocks g.N.CidrNetwork.WIDTH (map g.N.CidrNetwork.pair l.first) (map g.N.CidrNetwork.pair l.second);
+abbrev pub invariant-loop-one : goal.invariant-loop-one
+invariant-loop-one g l = record {
+  first : HoldSet g.N.CidrNetwork.WIDTH g.H.HoldsNetwork.holds g.H.HoldsNetwork.held l.first;
+  second : HoldSet g.N.CidrNetwork.WIDTH g.H.HoldsNetwork.holds g.H.HoldsNetwork.held l.second;
+  same : common_blocks g.N.CidrNetwork.WIDTH (map g.H.HoldsNetwork.held l.initial.first) (map g.H.HoldsNetwork.held l.initial.second)
+      ≡ common_blocks g.N.CidrNetwork.WIDTH (map g.H.HoldsNetwork.held l.first) (map g.H.HoldsNetwork.held l.second);
 }
 
-abbrev pub decreases-loop-a : goal.decreases-loop-a
-decreases-loop-a g l = length l.first + length l.second
+abbrev pub decreases-loop-one : goal.decreases-loop-one
+decreases-loop-one g l = length l.first + length l.second

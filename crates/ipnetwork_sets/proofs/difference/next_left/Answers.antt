@@ -9,15 +9,15 @@ pub returns-in_default : goal.returns-in_default
 returns-in_default g c =
     let w : ℕ = g.N.CidrNetwork.WIDTH in
     let at_hand : Option (Network × Network) = option_map (λ p. (g.N.CidrNetwork.pair p.whole, g.N.CidrNetwork.pair p.piece)) c.loop-part.at_hand in
-    c.loop-part.invariant.same ∙ no_part w at_hand (map g.N.CidrNetwork.pair c.loop-part.rest.now) (map g.N.CidrNetwork.pair c.loop-part.cut.now) c.in_default.ensures
+    c.loop-part.invariant.same ∙ no_part w at_hand (map g.H.HoldsNetwork.held c.loop-part.rest.now) (map g.H.HoldsNetwork.held c.loop-part.cut.now) c.in_default.ensures
 
 pub first_free-requires-clause-part : goal.first_free-requires-clause-part
 first_free-requires-clause-part g c =
     let w : ℕ = g.N.CidrNetwork.WIDTH in
     let at_hand : Option (Network × Network) = option_map (λ p. (g.N.CidrNetwork.pair p.whole, g.N.CidrNetwork.pair p.piece)) c.loop-part.at_hand in
     let part : Network × Network = (g.N.CidrNetwork.pair c.in-Some.part.whole, g.N.CidrNetwork.pair c.in-Some.part.piece) in
-    let state = takes_state w at_hand (map g.N.CidrNetwork.pair c.loop-part.rest.now) (map g.N.CidrNetwork.pair c.loop-part.cut.now) part
-    (map g.N.CidrNetwork.pair c.in-Some.after.now) c.one_block.ensures.apart c.loop-part.invariant.state c.in-Some.ensures in
+    let state = takes_state w at_hand (map g.H.HoldsNetwork.held c.loop-part.rest.now) (map g.H.HoldsNetwork.held c.loop-part.cut.now) part
+    (map g.H.HoldsNetwork.held c.in-Some.after.now) c.one_block.ensures.apart c.loop-part.invariant.state c.in-Some.ensures.1 in
     state.2
 
 pub first_free-requires-clause-widest : goal.first_free-requires-clause-widest
@@ -25,8 +25,8 @@ first_free-requires-clause-widest g c =
     let w : ℕ = g.N.CidrNetwork.WIDTH in
     let at_hand : Option (Network × Network) = option_map (λ p. (g.N.CidrNetwork.pair p.whole, g.N.CidrNetwork.pair p.piece)) c.loop-part.at_hand in
     let part : Network × Network = (g.N.CidrNetwork.pair c.in-Some.part.whole, g.N.CidrNetwork.pair c.in-Some.part.piece) in
-    let state = takes_state w at_hand (map g.N.CidrNetwork.pair c.loop-part.rest.now) (map g.N.CidrNetwork.pair c.loop-part.cut.now) part
-    (map g.N.CidrNetwork.pair c.in-Some.after.now) c.one_block.ensures.apart c.loop-part.invariant.state c.in-Some.ensures in
+    let state = takes_state w at_hand (map g.H.HoldsNetwork.held c.loop-part.rest.now) (map g.H.HoldsNetwork.held c.loop-part.cut.now) part
+    (map g.H.HoldsNetwork.held c.in-Some.after.now) c.one_block.ensures.apart c.loop-part.invariant.state c.in-Some.ensures.1 in
     state.3
 
 pub returns-in-Some-free : goal.returns-in-Some-free
@@ -34,27 +34,27 @@ returns-in-Some-free g c =
     let w : ℕ = g.N.CidrNetwork.WIDTH in
     let at_hand : Option (Network × Network) = option_map (λ p. (g.N.CidrNetwork.pair p.whole, g.N.CidrNetwork.pair p.piece)) c.loop-part.at_hand in
     let part : Network × Network = (g.N.CidrNetwork.pair c.in-Some.part.whole, g.N.CidrNetwork.pair c.in-Some.part.piece) in
-    let rest : List Network = map g.N.CidrNetwork.pair c.loop-part.rest.now in
-    let cut : List Network = map g.N.CidrNetwork.pair c.loop-part.cut.now in
-    let after : List Network = map g.N.CidrNetwork.pair c.in-Some.after.now in
-    let left : List Network = map g.N.CidrNetwork.pair c.first_free.result.1.now in
+    let rest : List Network = map g.H.HoldsNetwork.held c.loop-part.rest.now in
+    let cut : List Network = map g.H.HoldsNetwork.held c.loop-part.cut.now in
+    let after : List Network = map g.H.HoldsNetwork.held c.in-Some.after.now in
+    let left : List Network = map g.H.HoldsNetwork.held c.first_free.result.1.now in
     let apart = c.one_block.ensures.apart in
     let i = c.loop-part.invariant in
-    let state = takes_state w at_hand rest cut part after apart i.state c.in-Some.ensures in
+    let state = takes_state w at_hand rest cut part after apart i.state c.in-Some.ensures.1 in
     let free = rw c.in-Some-free.is at c.first_free.ensures.free in
     let next : Option (Network × Network) = option_map (λ p. (g.N.CidrNetwork.pair p.whole, g.N.CidrNetwork.pair p.piece)) c.part_behind-next.result in
-    let given = gives_part w part after cut left apart state c.first_free.ensures.set (g.N.CidrNetwork.pair c.in-Some-free.piece) free.0 free.1
+    let given = gives_part w part after cut left apart state c.first_free.ensures.set.1 (g.N.CidrNetwork.pair c.in-Some-free.piece) free.0 free.1
     c.one_block.ensures.one c.one_block.ensures.networks next c.part_behind-next.ensures in
-    (given.0, i.same ∙ takes_blocks w at_hand rest cut part after apart i.state c.in-Some.ensures ∙ given.1)
+    (c.in-Some.ensures.0, c.first_free.ensures.set.0, given.0, i.same ∙ takes_blocks w at_hand rest cut part after apart i.state c.in-Some.ensures.1 ∙ given.1)
 
 pub loop-part-smaller : goal.loop-part-smaller
 loop-part-smaller g c =
     let at_hand : Option (Network × Network) = option_map (λ p. (g.N.CidrNetwork.pair p.whole, g.N.CidrNetwork.pair p.piece)) c.loop-part.at_hand in
     let part : Network × Network = (g.N.CidrNetwork.pair c.in-Some.part.whole, g.N.CidrNetwork.pair c.in-Some.part.piece) in
-    let falls = takes_falls at_hand (map g.N.CidrNetwork.pair c.loop-part.rest.now) part (map g.N.CidrNetwork.pair c.in-Some.after.now) c.in-Some.ensures in
+    let falls = takes_falls at_hand (map g.H.HoldsNetwork.held c.loop-part.rest.now) part (map g.H.HoldsNetwork.held c.in-Some.after.now) c.in-Some.ensures.1 in
     let count = count_of_mapped {Y = Network × Network} (λ p. (g.N.CidrNetwork.pair p.whole, g.N.CidrNetwork.pair p.piece)) c.loop-part.at_hand in
-    let size = length-map c.loop-part.rest.now g.N.CidrNetwork.pair in
-    let size_after = length-map c.in-Some.after.now g.N.CidrNetwork.pair in
+    let size = length-map c.loop-part.rest.now g.H.HoldsNetwork.held in
+    let size_after = length-map c.in-Some.after.now g.H.HoldsNetwork.held in
     omega (arith, falls, count, size, size_after)
 
 pub loop-part-preserved : goal.loop-part-preserved
@@ -62,16 +62,18 @@ loop-part-preserved g c =
     let w : ℕ = g.N.CidrNetwork.WIDTH in
     let at_hand : Option (Network × Network) = option_map (λ p. (g.N.CidrNetwork.pair p.whole, g.N.CidrNetwork.pair p.piece)) c.loop-part.at_hand in
     let part : Network × Network = (g.N.CidrNetwork.pair c.in-Some.part.whole, g.N.CidrNetwork.pair c.in-Some.part.piece) in
-    let rest : List Network = map g.N.CidrNetwork.pair c.loop-part.rest.now in
-    let cut : List Network = map g.N.CidrNetwork.pair c.loop-part.cut.now in
-    let after : List Network = map g.N.CidrNetwork.pair c.in-Some.after.now in
-    let left : List Network = map g.N.CidrNetwork.pair c.first_free.result.1.now in
+    let rest : List Network = map g.H.HoldsNetwork.held c.loop-part.rest.now in
+    let cut : List Network = map g.H.HoldsNetwork.held c.loop-part.cut.now in
+    let after : List Network = map g.H.HoldsNetwork.held c.in-Some.after.now in
+    let left : List Network = map g.H.HoldsNetwork.held c.first_free.result.1.now in
     let apart = c.one_block.ensures.apart in
     let i = c.loop-part.invariant in
-    let state = takes_state w at_hand rest cut part after apart i.state c.in-Some.ensures in
+    let state = takes_state w at_hand rest cut part after apart i.state c.in-Some.ensures.1 in
     let passed = rw c.in_default-free.is at c.first_free.ensures.free in
     record {
-      state = passed_state w part after cut left apart state c.first_free.ensures.set;
-      same = i.same ∙ takes_blocks w at_hand rest cut part after apart i.state c.in-Some.ensures
-          ∙ passes_whole w part after cut left apart state c.first_free.ensures.set passed;
+      rest = c.in-Some.ensures.0;
+      cut = c.first_free.ensures.set.0;
+      state = passed_state w part after cut left apart state c.first_free.ensures.set.1;
+      same = i.same ∙ takes_blocks w at_hand rest cut part after apart i.state c.in-Some.ensures.1
+          ∙ passes_whole w part after cut left apart state c.first_free.ensures.set.1 passed;
     }

@@ -5,4 +5,4 @@ use Rattle.ipnetwork_sets.proofs.SetLaws.{common_is_set}
 use Rattle.ipnetwork_sets.proofs.common.Intersection.are_set.Goals as goal
 
 pub returns : goal.returns
-returns g c = subst (λ (t : List Network). IsAddressSet g.N.CidrNetwork.WIDTH t) c.self.view_is (common_is_set g.N.CidrNetwork.WIDTH (map g.N.CidrNetwork.pair c.self.inside.first.now) (map g.N.CidrNetwork.pair c.self.inside.second.now))
+returns g c = subst (λ (t : List Network). IsAddressSet g.N.CidrNetwork.WIDTH t) c.self.view_is (common_is_set g.N.CidrNetwork.WIDTH (map g.H.HoldsNetwork.held c.self.inside.first.now) (map g.H.HoldsNetwork.held c.self.inside.second.now))

@@ -7,8 +7,8 @@ pub invariant_of-result : goal.invariant_of-result
 invariant_of-result g c = (
   c.requires.first,
   c.requires.second,
-  either_is_set g.N.CidrNetwork.WIDTH (map g.N.CidrNetwork.pair c.args.first.now) (map g.N.CidrNetwork.pair c.args.second.now),
+  either_is_set g.N.CidrNetwork.WIDTH (map g.H.HoldsNetwork.held c.args.first.now) (map g.H.HoldsNetwork.held c.args.second.now),
 )
 
 pub returns : goal.returns
-returns g c = either_is_least g.N.CidrNetwork.WIDTH (map g.N.CidrNetwork.pair c.args.first.now) (map g.N.CidrNetwork.pair c.args.second.now)
+returns g c = either_is_least g.N.CidrNetwork.WIDTH (map g.H.HoldsNetwork.held c.args.first.now) (map g.H.HoldsNetwork.held c.args.second.now)

@@ -8,7 +8,7 @@ use Rattle.ipnetwork_sets.proofs.union.UnionIterator.next.Goals as goal
 pub invariant_of-self : goal.invariant_of-self
 invariant_of-self g c =
     let w : ℕ = g.N.CidrNetwork.WIDTH in
-    let rest : List Network = either_blocks w (map g.N.CidrNetwork.pair c.self.inside.first.now) (map g.N.CidrNetwork.pair c.self.inside.second.now) in (
+    let rest : List Network = either_blocks w (map g.H.HoldsNetwork.held c.self.inside.first.now) (map g.H.HoldsNetwork.held c.self.inside.second.now) in (
       c.self.invariant.0,
       c.self.invariant.1,
       goes_within w (at_hand c.self.inside.run) (at_hand c.next_at_hand.new.run) rest (g.N.CidrNetwork.pair c.in-Some.block) c.one_block.ensures.apart c.self.invariant.2 c.in-Some.ensures,
@@ -17,10 +17,10 @@ invariant_of-self g c =
 pub returns-in_default-next_run-clause-steps : goal.returns-in_default-next_run-clause-steps
 returns-in_default-next_run-clause-steps g c =
     let w : ℕ = g.N.CidrNetwork.WIDTH in
-    let first : List Network = map g.N.CidrNetwork.pair c.self.inside.first.now in
-    let second : List Network = map g.N.CidrNetwork.pair c.self.inside.second.now in
+    let first : List Network = map g.H.HoldsNetwork.held c.self.inside.first.now in
+    let second : List Network = map g.H.HoldsNetwork.held c.self.inside.second.now in
     let none : either_blocks w first second ≡ [] =
-    either_none w first second (ap (map g.N.CidrNetwork.pair) c.in_default-next_run.ensures.0) (ap (map g.N.CidrNetwork.pair) c.in_default-next_run.ensures.1) in (
+    either_none w first second c.in_default-next_run.ensures.0 c.in_default-next_run.ensures.1 in (
       sym c.self.view_is ∙ ap (λ t. t ++ either_blocks w first second) c.in_default.ensures.0 ∙ none,
       ap (λ t. t ++ either_blocks w first second) c.in_default.ensures.1 ∙ none,
     )
@@ -29,11 +29,12 @@ pub invariant_of-self-2 : goal.invariant_of-self-2
 invariant_of-self-2 g c =
     let w : ℕ = g.N.CidrNetwork.WIDTH in
     let pair = g.N.CidrNetwork.pair in
+    let held = g.H.HoldsNetwork.held in
     let run = c.in-Some-next_run.found in
     let h = c.in-Some-next_run.ensures.1 in (
-      h.others_are_set,
-      h.rest_is_set,
-      next_is_set w pair (map pair c.self.inside.first.now) (map pair c.self.inside.second.now) (map pair run.2.now) (map pair run.3.now) c.args.self.now (at_hand c.self.inside.run)
+      (c.in-Some-next_run.ensures.2, h.others_are_set),
+      (c.in-Some-next_run.ensures.3, h.rest_is_set),
+      next_is_set w pair (map held c.self.inside.first.now) (map held c.self.inside.second.now) (map held run.2.now) (map held run.3.now) c.args.self.now (at_hand c.self.inside.run)
           (low w (pair run.0)) (g.N.CidrNetwork.number run.1) c.range_to_blocks-self-inside.result (at_hand c.next_at_hand-2.new.run) c.one_block.ensures.apart c.ranges_are_shortest.ensures.range
           c.self.view_is c.in_default.ensures.0 c.self.invariant.2 h
           (range_of w (g.N.CidrNetwork.number c.network.result) (low w (pair run.0)) (g.N.CidrNetwork.number run.1) c.range_to_blocks-self-inside.result
@@ -45,8 +46,9 @@ pub returns-clause-steps : goal.returns-clause-steps
 returns-clause-steps g c =
     let w : ℕ = g.N.CidrNetwork.WIDTH in
     let pair = g.N.CidrNetwork.pair in
+    let held = g.H.HoldsNetwork.held in
     let run = c.in-Some-next_run.found in
-    next_steps w pair (map pair c.self.inside.first.now) (map pair c.self.inside.second.now) (map pair run.2.now) (map pair run.3.now) c.args.self.now (at_hand c.self.inside.run)
+    next_steps w pair (map held c.self.inside.first.now) (map held c.self.inside.second.now) (map held run.2.now) (map held run.3.now) c.args.self.now (at_hand c.self.inside.run)
     (low w (pair run.0)) (g.N.CidrNetwork.number run.1) c.range_to_blocks-self-inside.result (at_hand c.next_at_hand-2.new.run) c.one_block.ensures.apart c.ranges_are_shortest.ensures.range
     c.self.view_is c.in_default.ensures.0 c.self.invariant.2 c.in-Some-next_run.ensures.1
     (range_of w (g.N.CidrNetwork.number c.network.result) (low w (pair run.0)) (g.N.CidrNetwork.number run.1) c.range_to_blocks-self-inside.result
@@ -57,8 +59,9 @@ pub returns-clause-goes : goal.returns-clause-goes
 returns-clause-goes g c =
     let w : ℕ = g.N.CidrNetwork.WIDTH in
     let pair = g.N.CidrNetwork.pair in
+    let held = g.H.HoldsNetwork.held in
     let run = c.in-Some-next_run.found in
-    next_goes w pair (map pair c.self.inside.first.now) (map pair c.self.inside.second.now) (map pair run.2.now) (map pair run.3.now) c.args.self.now (at_hand c.self.inside.run)
+    next_goes w pair (map held c.self.inside.first.now) (map held c.self.inside.second.now) (map held run.2.now) (map held run.3.now) c.args.self.now (at_hand c.self.inside.run)
     (low w (pair run.0)) (g.N.CidrNetwork.number run.1) c.range_to_blocks-self-inside.result (at_hand c.next_at_hand-2.new.run) c.one_block.ensures.apart c.ranges_are_shortest.ensures.range
     c.self.view_is c.in_default.ensures.0 c.self.invariant.2 c.in-Some-next_run.ensures.1
     (range_of w (g.N.CidrNetwork.number c.network.result) (low w (pair run.0)) (g.N.CidrNetwork.number run.1) c.range_to_blocks-self-inside.result
@@ -69,12 +72,13 @@ pub invariant_of-self-then-ends_at : goal.invariant_of-self-then-ends_at
 invariant_of-self-then-ends_at g c =
     let w : ℕ = g.N.CidrNetwork.WIDTH in
     let pair = g.N.CidrNetwork.pair in
+    let held = g.H.HoldsNetwork.held in
     let run = c.in-Some-next_run.found in
     let last : ℕ = g.N.CidrNetwork.number run.1 in
     let h = c.in-Some-next_run.ensures in (
-      h.1.others_are_set,
-      h.1.rest_is_set,
-      next_is_set w pair (map pair c.self.inside.first.now) (map pair c.self.inside.second.now) (map pair run.2.now) (map pair run.3.now) c.args.self.now (at_hand c.self.inside.run)
+      (h.2, h.1.others_are_set),
+      (h.3, h.1.rest_is_set),
+      next_is_set w pair (map held c.self.inside.first.now) (map held c.self.inside.second.now) (map held run.2.now) (map held run.3.now) c.args.self.now (at_hand c.self.inside.run)
           (low w (pair run.0)) last (Some (pair run.0 ∷ [])) [] c.one_block.ensures.apart c.ranges_are_shortest.ensures.range
           c.self.view_is c.in_default.ensures.0 c.self.invariant.2 h.1 (one_is_range w (pair run.0) last h.0 (c.ends_at.ensures.0 c.if-ends_at.true)) (Some run.0) refl,
     )
@@ -83,10 +87,11 @@ pub returns-then-ends_at-clause-steps : goal.returns-then-ends_at-clause-steps
 returns-then-ends_at-clause-steps g c =
     let w : ℕ = g.N.CidrNetwork.WIDTH in
     let pair = g.N.CidrNetwork.pair in
+    let held = g.H.HoldsNetwork.held in
     let run = c.in-Some-next_run.found in
     let last : ℕ = g.N.CidrNetwork.number run.1 in
     let h = c.in-Some-next_run.ensures in
-    next_steps w pair (map pair c.self.inside.first.now) (map pair c.self.inside.second.now) (map pair run.2.now) (map pair run.3.now) c.args.self.now (at_hand c.self.inside.run)
+    next_steps w pair (map held c.self.inside.first.now) (map held c.self.inside.second.now) (map held run.2.now) (map held run.3.now) c.args.self.now (at_hand c.self.inside.run)
     (low w (pair run.0)) last (Some (pair run.0 ∷ [])) [] c.one_block.ensures.apart c.ranges_are_shortest.ensures.range
     c.self.view_is c.in_default.ensures.0 c.self.invariant.2 h.1 (one_is_range w (pair run.0) last h.0 (c.ends_at.ensures.0 c.if-ends_at.true)) (Some run.0) refl
 
@@ -94,9 +99,10 @@ pub returns-then-ends_at-clause-goes : goal.returns-then-ends_at-clause-goes
 returns-then-ends_at-clause-goes g c =
     let w : ℕ = g.N.CidrNetwork.WIDTH in
     let pair = g.N.CidrNetwork.pair in
+    let held = g.H.HoldsNetwork.held in
     let run = c.in-Some-next_run.found in
     let last : ℕ = g.N.CidrNetwork.number run.1 in
     let h = c.in-Some-next_run.ensures in
-    next_goes w pair (map pair c.self.inside.first.now) (map pair c.self.inside.second.now) (map pair run.2.now) (map pair run.3.now) c.args.self.now (at_hand c.self.inside.run)
+    next_goes w pair (map held c.self.inside.first.now) (map held c.self.inside.second.now) (map held run.2.now) (map held run.3.now) c.args.self.now (at_hand c.self.inside.run)
     (low w (pair run.0)) last (Some (pair run.0 ∷ [])) [] c.one_block.ensures.apart c.ranges_are_shortest.ensures.range
     c.self.view_is c.in_default.ensures.0 c.self.invariant.2 h.1 (one_is_range w (pair run.0) last h.0 (c.ends_at.ensures.0 c.if-ends_at.true)) (Some run.0) refl
