@@ -4,10 +4,11 @@ use Rattle.std.specs.Prelude.{Option, None, Some, String, nat_le, nat_lt, bytes_
 use Rattle.std.specs.List.{count_by, list_all, list_any}
 use Rattle.std.specs.String.{string_bytes}
 use Rattle.std.proofs.lemmas.Option.{none-some}
+use Rattle.program.specs.Words.{is}
 use Rattle.program.specs.declared.usage.Subject.TheVariants as about_this
 use Rattle.cidr_filter.specs.CommandLines.{Says, AsksNothing, is_plain, is_name, names_in, files_among, inputs_among, is_crossed, are_crossed}
 use Rattle.cidr_filter.specs.Laws.{is_option_word, OthersAreNoOptions, OthersAskForNothing, WordsHaveOneFault}
-use Rattle.cidr_filter.specs.Options.{is, begins, is_letter, option_of, is_list, is_input, is_longest, inverts_in}
+use Rattle.cidr_filter.specs.Options.{begins, is_letter, option_of, is_list, is_input, is_longest, inverts_in}
 use Rattle.cidr_filter.specs.Private.Requests.{BeginsWith, behind_dashes}
 use Rattle.cidr_filter.specs.Usage.{about, names_fault, files_fault, rest_fault, together_by, together_problem, HasFault}
 use Rattle.cidr_filter.specs.declared.command_line.Options.{Options}

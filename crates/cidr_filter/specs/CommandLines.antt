@@ -2,7 +2,8 @@
 use Rattle.std.specs.Prelude.{◌≡◌, ℕ, ◌+◌, ◌==◌, ◌||◌, ◌&&◌, Bool, true, false, not, List, [], ◌∷◌, Option, None, Some, drop, length, nat_le, if◌then◌else◌, codes, fold, String}
 use Rattle.std.specs.List.{count_by, list_all, list_any}
 use Rattle.std.specs.String.{string_bytes}
-use Rattle.cidr_filter.specs.Options.{is, begins, option_of, behind_option, field_said, separator_said, bad_said, inverts_in, counts_in, is_longest, is_list, is_input}
+use Rattle.program.specs.Words.{is}
+use Rattle.cidr_filter.specs.Options.{begins, option_of, behind_option, field_said, separator_said, bad_said, inverts_in, counts_in, is_longest, is_list, is_input}
 use Rattle.cidr_filter.specs.declared.filter.Bad.TheVariants as bads
 use Rattle.cidr_filter.specs.declared.options.Choice.{Choice}
 use Rattle.cidr_filter.specs.declared.command_line.Request.{Request}

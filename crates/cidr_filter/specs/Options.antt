@@ -3,14 +3,11 @@ use Rattle.std.specs.Prelude.{ℕ, ◌+◌, ◌-◌, ◌*◌, ◌==◌, ◌||◌
 use Rattle.std.specs.List.{list_all, list_any}
 use Rattle.std.specs.String.{string_bytes}
 use Rattle.std.specs.Char.{is_ascii_digit}
+use Rattle.program.specs.Words.{is}
 use Rattle.cidr_filter.specs.declared.filter.Bad.{Bad}
 use Rattle.cidr_filter.specs.declared.filter.Bad.TheVariants as bads
 use Rattle.cidr_filter.specs.declared.options.Choice.{Choice}
 use Rattle.cidr_filter.specs.declared.options.Choice.TheVariants as choices
-
--- the word is this text
-abbrev pub is : {Z : Type 0} → List ℕ → String Z → Bool
-is text word = bytes_eq (string_bytes word) text
 
 -- the second text begins with the first
 abbrev pub begins : List ℕ → List ℕ → Bool

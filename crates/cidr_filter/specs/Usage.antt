@@ -2,10 +2,11 @@
 use Rattle.std.specs.Prelude.{◌≡◌, ℕ, ◌+◌, ◌-◌, ◌||◌, Bool, List, [], ◌∷◌, Option, None, Some, ◌⊎◌, length, nat_le, if◌then◌else◌, codes, bytes_eq, String}
 use Rattle.std.specs.List.{count_by, list_any}
 use Rattle.std.specs.String.{string_bytes}
+use Rattle.program.specs.Words.{is}
 use Rattle.program.specs.declared.usage.Subject.{Subject}
 use Rattle.program.specs.declared.usage.Subject.TheVariants as about_this
 use Rattle.cidr_filter.specs.CommandLines.{Begin, is_plain, is_name, files_among, inputs_among, are_crossed}
-use Rattle.cidr_filter.specs.Options.{is, begins, takes_next, option_of, is_list, is_input}
+use Rattle.cidr_filter.specs.Options.{begins, takes_next, option_of, is_list, is_input}
 use Rattle.cidr_filter.specs.declared.options.Choice.{Choice}
 use Rattle.cidr_filter.specs.declared.usage.Problem.{Problem}
 use Rattle.cidr_filter.specs.declared.usage.Problem.TheVariants as problems

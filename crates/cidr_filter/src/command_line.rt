@@ -1,15 +1,15 @@
 //! What the arguments ask for.
 ghost use Rattle.std.specs.Prelude.{◌≡◌, ◌+◌, ◌≤◌, ◌||◌, drop, length, nat_le, if◌then◌else◌, IfOk, IfErr};
 ghost use Rattle.cidr_filter.specs.CommandLines.{is_crossed, inputs_among, Says, AsksNothing};
-ghost use Rattle.cidr_filter.specs.Commands.{is_only, Asks};
 ghost use Rattle.cidr_filter.specs.Options.{is_input, field_said, separator_said, bad_said, inverts_in, counts_in, is_longest};
-ghost use Rattle.cidr_filter.specs.Private.Requests.{IfFilter, BeginsWith, behind_dashes};
+ghost use Rattle.cidr_filter.specs.Private.Requests.{BeginsWith, behind_dashes};
 ghost use Rattle.cidr_filter.specs.Usage.{HasFault, together_by};
 
 use crate::filter::Bad;
-use crate::options::{Choice, behind, choice_at, is, is_list};
+use crate::options::{Choice, behind, choice_at, is_list};
 use crate::usage::{Problem, UsageFault, about, rest_fault};
 use program::usage::Subject;
+use program::words::is;
 
 /// What a run is asked for. Its options are the words before `files`, and the FILEs those from there on.
 #[derive(Clone, Copy, Debug, PartialEq, Eq)]
@@ -30,19 +30,6 @@ pub struct Request {
     pub files: usize,
 }
 
-/// What the words of a command line ask for.
-#[derive(Clone, Copy, Debug, PartialEq, Eq)]
-pub enum Command {
-    /// `--help`.
-    Help,
-    /// `--version`.
-    Version,
-    /// Lines of logs.
-    Filter(Request),
-    /// Nothing: the words are not a command, for this reason.
-    Usage(UsageFault),
-}
-
 /// What the options of a command line say.
 #[derive(Clone, Copy, Debug, PartialEq, Eq)]
 pub(crate) struct Options {
@@ -56,32 +43,8 @@ pub(crate) struct Options {
     pub(crate) behind: usize,
 }
 
-/// What the words after the program's name ask for. Does not allocate.
-pub fn command_of(words: &[String]) -> Command
-    ensures within { IfFilter (λ request. request.files ≤ length words.now) result }
-    ensures asked { Asks words.now result }
-{
-    if is_only(words, "--help") {
-        return Command::Help;
-    }
-    if is_only(words, "--version") {
-        return Command::Version;
-    }
-    match request_of(words) {
-        Ok(request) => Command::Filter(request),
-        Err(fault) => Command::Usage(fault),
-    }
-}
-
-// Whether there is one word, and it is this text.
-fn is_only(words: &[String], text: &str) -> bool
-    ensures { result ≡ is_only text.now words.now }
-{
-    words.len() == 1 && is(&words[0], text)
-}
-
-// What the options and the FILEs say, if they are right.
-fn request_of(words: &[String]) -> Result<Request, UsageFault>
+/// What the words after the program's name ask for, if they are right. Does not allocate.
+pub(crate) fn request_of(words: &[String]) -> Result<Request, UsageFault>
     ensures within { IfOk result (λ request. request.files ≤ length words.now) }
     ensures asked { IfOk result (Says words.now) }
     ensures nothing { IfErr result (λ _. AsksNothing words.now) }

@@ -1,21 +1,12 @@
 -- What a command line asks for, step by step.
 use Rattle.std.specs.Prelude.{◌≡◌, ◌≤◌, List, [], ◌∷◌, None, drop, length, if◌then◌else◌, codes, fold, String}
 use Rattle.std.specs.List.{count_by, list_any}
+use Rattle.program.specs.Words.{is}
 use Rattle.cidr_filter.specs.CommandLines.{Begin}
-use Rattle.cidr_filter.specs.Options.{is, option_of, field_said, separator_said, bad_said, inverts_in, counts_in, is_longest, is_list, is_input}
+use Rattle.cidr_filter.specs.Options.{option_of, field_said, separator_said, bad_said, inverts_in, counts_in, is_longest, is_list, is_input}
 use Rattle.cidr_filter.specs.declared.command_line.Options.{Options}
-use Rattle.cidr_filter.specs.declared.command_line.Request.{Request}
-use Rattle.cidr_filter.specs.declared.command_line.Command.{Command}
-use Rattle.cidr_filter.specs.declared.command_line.Command.TheVariants as commands
 use Rattle.cidr_filter.specs.declared.filter.Bad.TheVariants as bads
 use Rattle.cidr_filter.specs.declared.options.Choice.{Choice}
-
--- this is true of the request, if lines are asked for
-abbrev pub IfFilter : (Request → Type 0) → Command → Type 0
-IfFilter holds commands.Help = Unit {0}
-IfFilter holds commands.Version = Unit {0}
-IfFilter holds (commands.Filter request) = holds request
-IfFilter holds (commands.Usage fault) = Unit {0}
 
 -- the options that words begin with, all of them, and what they say
 pub record BeginsWith {Z : Type 0} (words : List (String Z)) (said : Options) : Type 0 where
