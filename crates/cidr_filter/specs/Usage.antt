@@ -25,7 +25,7 @@ problem_text problems.NoOption = codes "is no option"
 problem_text problems.AfterFile = codes "comes after a FILE"
 problem_text problems.Crossed = codes "--longest goes with neither -v nor -c"
 problem_text problems.NoList = codes "neither -f nor -e is given"
-problem_text problems.InputTwice = codes "standard input would be read twice"
+problem_text problems.InputTwice = codes "-: standard input can be read only once"
 
 -- this fault
 abbrev pub about : Subject → Problem → UsageFault

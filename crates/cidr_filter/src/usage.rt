@@ -53,7 +53,7 @@ impl Problem {
             Problem::AfterFile => "comes after a FILE",
             Problem::Crossed => "--longest goes with neither -v nor -c",
             Problem::NoList => "neither -f nor -e is given",
-            Problem::InputTwice => "standard input would be read twice",
+            Problem::InputTwice => "-: standard input can be read only once",
         }
     }
 }
