@@ -19,9 +19,11 @@ use Rattle.cidr_filter.specs.Lines.{LogLine, log_lines, ended_lines, content, pr
 use Rattle.cidr_filter.specs.Listed.{IsStored, IsLongestBlock}
 use Rattle.cidr_filter.specs.Logs.{logs_of, IsAllOf, IsFirstOf, FiltersLogs}
 use Rattle.cidr_filter.specs.Reading.{ReadsOptions, HoldsRead}
-use Rattle.program.specs.Endings.{Ending, HasTold, HasWritten}
-use Rattle.cidr_filter.specs.Runs.{total_text, EndsLogs, EndsFiltering, Refuses, filter_of}
-use Rattle.cidr_filter.specs.Told.{refusals_text, log_fault_text}
+use Rattle.program.specs.Endings.{Ending, Refuses, HasTold, HasWritten}
+use Rattle.cidr_filter.specs.Runs.{total_text, EndsLogs, EndsFiltering, filter_of}
+use Rattle.lists.specs.declared.refusals.Refusal.{Refusal}
+use Rattle.program.specs.Told.{refusals_text}
+use Rattle.cidr_filter.specs.Told.{in_option, log_fault_text}
 use Rattle.cidr_filter.specs.declared.filter.Bad.{Bad}
 use Rattle.cidr_filter.specs.declared.filter.Bad.TheVariants as bads
 use Rattle.cidr_filter.specs.declared.filter.Filter.{Filter}
@@ -155,16 +157,21 @@ line_counted = refl
 
 -- ---- what is told
 
-pub a_refused_line : {Z : Type 0} (file list text value : String Z) → string_bytes file ≡ codes "-f" → string_bytes list ≡ codes "a.txt"
-    → refusals_text (file ∷ list ∷ text ∷ value ∷ []) (record { kept = record { list = 1; line = 7; fault = Entry Prefix } ∷ []; more = 0 }) ≡ codes "a.txt:7: refused prefix\n"
-unfolding digits
-a_refused_line file list text value f l = rw (f, l)
+pub a_refused_line : {Z : Type 0} (file list text value : String Z) → string_bytes file ≡ codes "-f"
+    → in_option (file ∷ list ∷ text ∷ value ∷ []) (record { list = 1; line = 7; fault = Entry Prefix }) ≡ (1, 7)
+a_refused_line file list text value f = rw f
 
-pub the_second_text : {Z : Type 0} (text one file list again two : String Z) → string_bytes text ≡ codes "-e" → string_bytes file ≡ codes "-f" → string_bytes list ≡ codes "-e" → string_bytes again ≡ codes "-e"
-    → refusals_text (text ∷ one ∷ file ∷ list ∷ again ∷ two ∷ []) (record { kept = record { list = 5; line = 1; fault = Entry Prefix } ∷ []; more = 2 })
+pub the_second_text : {Z : Type 0} (text one file list again two : String Z) → string_bytes text ≡ codes "-e"
+    → string_bytes file ≡ codes "-f" → string_bytes list ≡ codes "-e" → string_bytes again ≡ codes "-e"
+    → in_option (text ∷ one ∷ file ∷ list ∷ again ∷ two ∷ []) (record { list = 5; line = 1; fault = Entry Prefix }) ≡ (4, 2)
+the_second_text text one file list again two t f l a = rw (t, f, a)
+
+pub what_is_told_of_it : {Z : Type 0} (text one file list again two : String Z) (place : Refusal → ℕ × ℕ) → string_bytes again ≡ codes "-e"
+    → place (record { list = 5; line = 1; fault = Entry Prefix }) ≡ (4, 2)
+    → refusals_text (text ∷ one ∷ file ∷ list ∷ again ∷ two ∷ []) place (record { kept = record { list = 5; line = 1; fault = Entry Prefix } ∷ []; more = 2 })
     ≡ codes "-e:2: refused prefix\n2 more refused lines\n"
 unfolding digits
-the_second_text text one file list again two t f l a = rw (t, f, a)
+what_is_told_of_it text one file list again two place a e = rw (e, a)
 
 pub a_line_that_ends_the_run : log_fault_text (codes "log") 3 faults.Address ≡ codes "log:4: refused address\n"
 unfolding digits

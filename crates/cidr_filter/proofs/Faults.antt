@@ -1,19 +1,20 @@
 -- What is wrong with the words of a command line.
 use Rattle.std.proofs.Common.{◌≡◌, ℕ, ◌+◌, ◌-◌, Bool, true, false, List, [], ◌∷◌, length, length-drop, drop, refl, sym, ap, ◌∙◌, ◌||◌, ◌&&◌, cond, arith, inl, inr, ◌⊎◌, true≢false, not, codes}
 use Rattle.std.specs.Prelude.{Option, None, Some, String, nat_le, nat_lt, bytes_eq}
-use Rattle.std.specs.List.{count_by, list_all, list_any}
+use Rattle.std.specs.List.{list_all, list_any}
 use Rattle.std.specs.String.{string_bytes}
 use Rattle.std.proofs.lemmas.Option.{none-some}
+use Rattle.program.specs.Words.{is}
 use Rattle.program.specs.declared.usage.Subject.TheVariants as about_this
-use Rattle.cidr_filter.specs.CommandLines.{Says, AsksNothing, is_plain, is_name, names_in, files_among, inputs_among, is_crossed, are_crossed}
+use Rattle.cidr_filter.specs.CommandLines.{Says, AsksNothing, is_plain, is_name, names_in, files_among, inputs_among, is_crossed}
 use Rattle.cidr_filter.specs.Laws.{is_option_word, OthersAreNoOptions, OthersAskForNothing, WordsHaveOneFault}
-use Rattle.cidr_filter.specs.Options.{is, begins, is_letter, option_of, is_list, is_input, is_longest, inverts_in}
+use Rattle.cidr_filter.specs.Options.{begins, is_letter, option_of, said_by}
 use Rattle.cidr_filter.specs.Private.Requests.{BeginsWith, behind_dashes}
 use Rattle.cidr_filter.specs.Usage.{about, names_fault, files_fault, rest_fault, together_by, together_problem, HasFault}
-use Rattle.cidr_filter.specs.declared.command_line.Options.{Options}
+use Rattle.cidr_filter.specs.declared.command_line.Request.{Request}
 use Rattle.cidr_filter.specs.declared.usage.Problem.{Problem}
 use Rattle.cidr_filter.specs.declared.usage.UsageFault.{UsageFault}
-use Rattle.cidr_filter.proofs.Requests.{one_reading, same_value, no_files, longest_beside, no_list, inputs_twice}
+use Rattle.cidr_filter.proofs.Requests.{one_reading, same_value, no_files, wrong_together}
 
 -- which side of a choice it was
 by_test : {A C : Type 0} (b : Bool) (x y z : A) → cond b x y ≡ z → (b ≡ true → x ≡ z → C) → (b ≡ false → y ≡ z → C) → C
@@ -94,80 +95,60 @@ together_right false false once e = absurd (none-some _ (sym e))
 together_right false true false e = absurd (none-some _ (sym e))
 together_right false true true e = (refl, refl, refl)
 
-module _ {Z : Type 0} (words : List (String Z)) (said : Options) (opens : BeginsWith words said) where
-  place_is : length words - length (drop said.behind words) ≡ said.behind
-  place_is = omega (arith, length-drop said.behind words, opens.within)
+module _ {Z : Type 0} (words : List (String Z)) (said : Request) (opens : BeginsWith words said) where
+  place_is : length words - length (drop said.files words) ≡ said.files
+  place_is = omega (arith, length-drop said.files words, opens.within)
 
   -- a word behind the options is wrong
-  pub one_is_wrong : (fault : UsageFault) → rest_fault said.behind (drop said.behind words) ≡ Some fault → AsksNothing words × HasFault words fault
+  pub one_is_wrong : (fault : UsageFault) → rest_fault said.files (drop said.files words) ≡ Some fault → AsksNothing words × HasFault words fault
   one_is_wrong fault e = (
-    no_files words opens.options (drop said.behind words) opens.begin opens.no_more (rest_wrong said.behind (drop said.behind words) fault e),
+    no_files words opens.options (drop said.files words) opens.begin opens.no_more (rest_wrong said.files (drop said.files words) fault e),
     record {
       options = opens.options;
-      rest = drop said.behind words;
+      rest = drop said.files words;
       begin = opens.begin;
       no_more = opens.no_more;
-      is_fault = inl (ap (λ place. rest_fault place (drop said.behind words)) place_is ∙ e);
+      is_fault = inl (ap (λ place. rest_fault place (drop said.files words)) place_is ∙ e);
     },
   )
 
-  crossed_is : is_crossed said.request ≡ are_crossed opens.options
-  crossed_is =
-      ap (λ b. b && (said.request.inverts || said.request.counts)) opens.longest
-      ∙ ap (λ b. list_any is_longest opens.options && (b || said.request.counts)) opens.inverts
-      ∙ ap (λ b. list_any is_longest opens.options && (list_any inverts_in opens.options || b)) opens.counts
-
-  module _ (right : rest_fault said.behind (drop said.behind words) ≡ None) (files : List (String Z)) (files_are : files ≡ behind_dashes (drop said.behind words)) where
-    found : files_among (drop said.behind words) ≡ Some files
-    found = rest_right said.behind (drop said.behind words) right ∙ sym (ap Some files_are)
+  module _ (right : rest_fault said.files (drop said.files words) ≡ None) (files : List (String Z)) (files_are : files ≡ behind_dashes (drop said.files words)) where
+    found : files_among (drop said.files words) ≡ Some files
+    found = rest_right said.files (drop said.files words) right ∙ sym (ap Some files_are)
 
     together_is : (once : Bool) → once ≡ nat_le (said.inputs + inputs_among files) 1
-        → together_by (is_crossed said.request) said.has_list once ≡ together_problem opens.options files
+        → together_by (is_crossed said) said.has_list once ≡ together_problem (said_by opens.options) files
     together_is once e =
-        ap (λ b. together_by b said.has_list once) crossed_is ∙ ap (λ b. together_by (are_crossed opens.options) b once) opens.lists
-        ∙ ap (together_by (are_crossed opens.options) (list_any is_list opens.options)) (e ∙ ap (λ n. nat_le (n + inputs_among files) 1) opens.inputs)
+        ap (together_by (is_crossed said) said.has_list) e ∙ ap (λ (r : Request). together_problem r files) opens.is_said
 
-    wrong_together : (problem : Problem) → together_problem opens.options files ≡ Some problem → AsksNothing words
-    wrong_together problem e =
-        let rest = drop said.behind words in
-        by_test (are_crossed opens.options) _ _ _ e (λ crossed more. longest_beside words opens.options rest opens.begin opens.no_more crossed)
-        (λ alone inner. by_test (list_any is_list opens.options) _ _ _ inner
-        (λ lists last. by_test (nat_le (count_by is_input opens.options + inputs_among files) 1) _ _ _ last (λ once more. absurd (none-some _ more))
-        (λ twice more. inputs_twice words opens.options rest opens.begin opens.no_more files found twice))
-        (λ none more. no_list words opens.options rest opens.begin opens.no_more none))
-
-    pub all_are_wrong : (once : Bool) → once ≡ nat_le (said.inputs + inputs_among files) 1 → (problem : Problem) → together_by (is_crossed said.request) said.has_list once ≡ Some problem
+    pub all_are_wrong : (once : Bool) → once ≡ nat_le (said.inputs + inputs_among files) 1 → (problem : Problem) → together_by (is_crossed said) said.has_list once ≡ Some problem
         → AsksNothing words × HasFault words (about about_this.CommandLine problem)
     all_are_wrong once e problem is = (
-      wrong_together problem (sym (together_is once e) ∙ is),
+      wrong_together words opens.options (drop said.files words) opens.begin opens.no_more files problem found
+          (sym (together_is once e) ∙ is),
       record {
         options = opens.options;
-        rest = drop said.behind words;
+        rest = drop said.files words;
         begin = opens.begin;
         no_more = opens.no_more;
         is_fault = inr (files, problem, found, sym (together_is once e) ∙ is, refl);
       },
     )
 
-    pub all_are_right : (once : Bool) → once ≡ nat_le (said.inputs + inputs_among files) 1 → together_by (is_crossed said.request) said.has_list once ≡ None
-        → (place : ℕ) → drop place words ≡ files → Says words (record said.request { files = place })
+    pub all_are_right : (once : Bool) → once ≡ nat_le (said.inputs + inputs_among files) 1 → together_by (is_crossed said) said.has_list once ≡ None
+        → (place : ℕ) → drop place words ≡ files → Says words (record said { files = place })
     all_are_right once e is place at =
-        let right = together_right (is_crossed said.request) said.has_list once is in
+        let right = together_right (is_crossed said) said.has_list once is in
         record {
           options = opens.options;
-          rest = drop said.behind words;
+          rest = drop said.files words;
           files = files;
           begin = opens.begin;
           no_more = opens.no_more;
           follow = found;
-          lists = sym opens.lists ∙ right.1;
-          inputs = sym (ap (λ n. nat_le (n + inputs_among files) 1) opens.inputs) ∙ sym e ∙ right.2;
-          field = opens.field;
-          separator = opens.separator;
-          bad = opens.bad;
-          inverts = opens.inverts;
-          counts = opens.counts;
-          longest = opens.longest;
+          said = ap (λ (r : Request). record r { files = place }) opens.is_said;
+          lists = right.1;
+          inputs = sym e ∙ right.2;
           alone = right.0;
           place = at;
         }
@@ -231,15 +212,15 @@ one_fault words a b p q = by p.is_fault q.is_fault where
   same = one_reading words p.options q.options p.rest q.rest p.begin p.no_more q.begin q.no_more
 
   by : (rest_fault (length words - length p.rest) p.rest ≡ Some a)
-      ⊎ ((files : List (String _)) × (problem : Problem) × (files_among p.rest ≡ Some files) × (together_problem p.options files ≡ Some problem)
+      ⊎ ((files : List (String _)) × (problem : Problem) × (files_among p.rest ≡ Some files) × (together_problem (said_by p.options) files ≡ Some problem)
       × (a ≡ about about_this.CommandLine problem))
       → (rest_fault (length words - length q.rest) q.rest ≡ Some b)
-      ⊎ ((files : List (String _)) × (problem : Problem) × (files_among q.rest ≡ Some files) × (together_problem q.options files ≡ Some problem)
+      ⊎ ((files : List (String _)) × (problem : Problem) × (files_among q.rest ≡ Some files) × (together_problem (said_by q.options) files ≡ Some problem)
       × (b ≡ about about_this.CommandLine problem)) → a ≡ b
   by (inl e) (inl f) = same_value a b (sym e ∙ sym (ap (λ r. rest_fault (length words - length r) r) same.1) ∙ f)
   by (inl e) (inr f) = absurd (none-some f.0 (sym (rest_wrong _ p.rest a e) ∙ sym (ap files_among same.1) ∙ f.2))
   by (inr e) (inl f) = absurd (none-some e.0 (sym (rest_wrong _ q.rest b f) ∙ ap files_among same.1 ∙ e.2))
   by (inr e) (inr f) =
       let files = same_value e.0 f.0 (sym e.2 ∙ sym (ap files_among same.1) ∙ f.2) in
-      let problem = same_value e.1 f.1 (sym e.3 ∙ ap (λ o. together_problem o e.0) (sym same.0) ∙ ap (together_problem q.options) files ∙ f.3) in
+      let problem = same_value e.1 f.1 (sym e.3 ∙ ap (λ o. together_problem (said_by o) e.0) (sym same.0) ∙ ap (together_problem (said_by q.options)) files ∙ f.3) in
       e.4 ∙ ap (about about_this.CommandLine) problem ∙ sym f.4

@@ -5,7 +5,8 @@ use Rattle.std.specs.List.{list_all}
 use Rattle.std.specs.Char.{is_ascii_digit}
 use Rattle.std.specs.String.{string_bytes}
 use Rattle.cidr_filter.specs.CommandLines.{files_among, names_in, inputs_among, is_plain, is_name}
-use Rattle.cidr_filter.specs.Options.{number_of, field_option, separator_option, bad_option, letters_option, begins, in_one_word, option_of, field_said, separator_said, bad_said}
+use Rattle.cidr_filter.specs.Options.{number_of, field_option, separator_option, bad_option, letters_option, begins, in_one_word, option_of, with_option, said_by}
+use Rattle.cidr_filter.specs.declared.command_line.Request.{Request}
 use Rattle.cidr_filter.specs.declared.filter.Bad.{Bad}
 use Rattle.cidr_filter.specs.declared.filter.Bad.TheVariants as bads
 use Rattle.cidr_filter.specs.declared.options.Choice.TheVariants as choices
@@ -169,17 +170,32 @@ no_file_is_standard_input Z = refl
 
 -- ---- what an option says stays, whatever others say
 
-pub field_stays : (field byte : ℕ) (inverts counts : Bool) (bad : Bad) → (field_said field (choices.Letters inverts counts) ≡ field) × (field_said field (choices.Separator byte) ≡ field)
-    × (field_said field (choices.Bad bad) ≡ field) × (field_said field choices.Longest ≡ field) × (field_said field choices.File ≡ field) × (field_said field choices.Input ≡ field)
-    × (field_said field choices.Text ≡ field)
-field_stays field byte inverts counts bad = (refl, refl, refl, refl, refl, refl, refl)
+pub field_stays : (said : Request) (byte : ℕ) (inverts counts : Bool) (bad : Bad) → ((with_option said (choices.Letters inverts counts)).field ≡ said.field)
+    × ((with_option said (choices.Separator byte)).field ≡ said.field) × ((with_option said (choices.Bad bad)).field ≡ said.field) × ((with_option said choices.Longest).field ≡ said.field)
+    × ((with_option said choices.File).field ≡ said.field) × ((with_option said choices.Input).field ≡ said.field) × ((with_option said choices.Text).field ≡ said.field)
+field_stays said byte inverts counts bad = (refl, refl, refl, refl, refl, refl, refl)
 
-pub separator_stays : (byte field : ℕ) (inverts counts : Bool) (bad : Bad) → (separator_said byte (choices.Letters inverts counts) ≡ byte) × (separator_said byte (choices.Field field) ≡ byte)
-    × (separator_said byte (choices.Bad bad) ≡ byte) × (separator_said byte choices.Longest ≡ byte) × (separator_said byte choices.File ≡ byte) × (separator_said byte choices.Input ≡ byte)
-    × (separator_said byte choices.Text ≡ byte)
-separator_stays byte field inverts counts bad = (refl, refl, refl, refl, refl, refl, refl)
+pub separator_stays : (said : Request) (field : ℕ) (inverts counts : Bool) (bad : Bad) → ((with_option said (choices.Letters inverts counts)).separator ≡ said.separator)
+    × ((with_option said (choices.Field field)).separator ≡ said.separator) × ((with_option said (choices.Bad bad)).separator ≡ said.separator) × ((with_option said choices.Longest).separator ≡ said.separator)
+    × ((with_option said choices.File).separator ≡ said.separator) × ((with_option said choices.Input).separator ≡ said.separator) × ((with_option said choices.Text).separator ≡ said.separator)
+separator_stays said field inverts counts bad = (refl, refl, refl, refl, refl, refl, refl)
 
-pub bad_stays : (bad : Bad) (field byte : ℕ) (inverts counts : Bool) → (bad_said bad (choices.Letters inverts counts) ≡ bad) × (bad_said bad (choices.Field field) ≡ bad)
-    × (bad_said bad (choices.Separator byte) ≡ bad) × (bad_said bad choices.Longest ≡ bad) × (bad_said bad choices.File ≡ bad) × (bad_said bad choices.Input ≡ bad)
-    × (bad_said bad choices.Text ≡ bad)
-bad_stays bad field byte inverts counts = (refl, refl, refl, refl, refl, refl, refl)
+pub bad_stays : (said : Request) (field byte : ℕ) (inverts counts : Bool) → ((with_option said (choices.Letters inverts counts)).bad ≡ said.bad)
+    × ((with_option said (choices.Field field)).bad ≡ said.bad) × ((with_option said (choices.Separator byte)).bad ≡ said.bad) × ((with_option said choices.Longest).bad ≡ said.bad)
+    × ((with_option said choices.File).bad ≡ said.bad) × ((with_option said choices.Input).bad ≡ said.bad) × ((with_option said choices.Text).bad ≡ said.bad)
+bad_stays said field byte inverts counts = (refl, refl, refl, refl, refl, refl, refl)
+
+-- `-v` stays too, whatever letters come after
+pub letters_stay : (said : Request) (inverts counts : Bool) → said.inverts ≡ true
+    → (with_option said (choices.Letters inverts counts)).inverts ≡ true
+letters_stay said inverts counts i = rw i
+
+-- each list is one, and of two options of a kind the last is said
+pub a_text_is_a_list : (said_by (choices.Text ∷ choices.Longest ∷ [])).has_list ≡ true
+a_text_is_a_list = refl
+
+pub the_last_field : (first last : ℕ) → (said_by (choices.Field first ∷ choices.Field last ∷ [])).field ≡ last
+the_last_field first last = refl
+
+pub standard_input_twice : (said_by (choices.Input ∷ choices.Text ∷ choices.Input ∷ [])).inputs ≡ 2
+standard_input_twice = refl

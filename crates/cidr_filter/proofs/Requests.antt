@@ -1,15 +1,16 @@
 -- What the words of a command line say.
-use Rattle.std.proofs.Common.{◌≡◌, ℕ, suc, get_or, drop-cons, ◌+◌, ◌<◌, ◌≤◌, Bool, true, false, List, [], ◌∷◌, ◌++◌, length, drop, refl, sym, ap, ◌∙◌, cond, arith, min, ◌||◌, ◌⊎◌, inl, inr, ◌&&◌, nat_le, true≢false}
+use Rattle.std.proofs.Common.{◌≡◌, ℕ, suc, get_or, drop-cons, ◌+◌, ◌<◌, ◌≤◌, Bool, true, false, List, [], ◌∷◌, ◌++◌, length, drop, refl, sym, ap, ◌∙◌, cond, arith, min, ◌⊎◌, inl, inr}
 use Rattle.std.specs.Prelude.{Option, None, Some, String, fold}
-use Rattle.std.specs.List.{count_by, list_any}
 use Rattle.std.proofs.lemmas.Bool.{cases_lt}
 use Rattle.std.proofs.lemmas.List.{drop-drop, drop_all}
-use Rattle.std.proofs.lemmas.List.Folds.{list_any-append}
 use Rattle.std.proofs.lemmas.List.Sums.{fold-append}
 use Rattle.std.proofs.lemmas.Option.{none-some}
-use Rattle.cidr_filter.specs.CommandLines.{Begin, files_among, inputs_among, AsksNothing}
-use Rattle.cidr_filter.specs.Options.{option_of, behind_option, takes_next, inverts_in, counts_in, is_longest, is_list, is_input}
+use Rattle.cidr_filter.specs.CommandLines.{Begin, files_among, is_crossed, AsksNothing}
+use Rattle.cidr_filter.specs.Options.{option_of, behind_option, takes_next, said_by}
+use Rattle.cidr_filter.specs.Usage.{together_by, together_problem}
+use Rattle.cidr_filter.specs.declared.command_line.Request.{Request}
 use Rattle.cidr_filter.specs.declared.options.Choice.{Choice}
+use Rattle.cidr_filter.specs.declared.usage.Problem.{Problem}
 
 value_or : {X : Type 0} → X → Option X → X
 value_or default None = default
@@ -43,10 +44,6 @@ option_within words at choice is = by (cases_lt at (length words)) where
   by (inl within) = within
   by (inr past) = absurd (none-some choice (ap option_of (sym (drop_all at words past)) ∙ is))
 
-pub at_most_one : (b : Bool) → cond b 1 0 ≤ 1
-at_most_one true = omega arith
-at_most_one false = omega arith
-
 -- there is one more option
 pub begin_more : {Z : Type 0} (words : List (String Z)) (options : List Choice) (rest : List (String Z)) (choice : Choice) → Begin words options rest → option_of rest ≡ Some choice
     → Begin words (options ++ choice ∷ []) (behind_option rest)
@@ -55,14 +52,6 @@ begin_more words (first ∷ options) rest choice (one, more) is = (one, begin_mo
 
 pub fold_more : {A B : Type 0} (f : B → A → B) (start before : B) (items : List A) (item : A) → before ≡ fold f start items → f before item ≡ fold f start (items ++ item ∷ [])
 fold_more f start before items item e = ap (λ b. f b item) e ∙ sym (fold-append f start items (item ∷ []))
-
-or_false : (a b : Bool) → (a || b) ≡ (a || (b || false))
-or_false true b = refl
-or_false false true = refl
-or_false false false = refl
-
-pub any_more : {X : Type 0} (p : X → Bool) (before : Bool) (items : List X) (item : X) → before ≡ list_any p items → (before || p item) ≡ list_any p (items ++ item ∷ [])
-any_more p before items item e = ap (λ b. b || p item) e ∙ or_false (list_any p items) (p item) ∙ sym (list_any-append p items (item ∷ []))
 
 -- words are read in one way
 pub one_reading : {Z : Type 0} (words : List (String Z)) (options others : List Choice) (rest other : List (String Z)) → Begin words options rest → option_of rest ≡ None
@@ -74,6 +63,9 @@ one_reading words (first ∷ options) (second ∷ others) rest other (one, more)
     let by = one_reading (behind_option words) options others rest other more none others_more last in
     (ap (λ c. c ∷ others) (sym (same_value first second (sym one ∙ two))) ∙ ap (λ l. first ∷ l) by.0, by.1)
 
+right_together : (crossed lists once : Bool) → crossed ≡ false → lists ≡ true → once ≡ true → together_by crossed lists once ≡ None
+right_together crossed lists once a b c = rw (a, b, c)
+
 -- words that are read so are read in no other way
 module _ {Z : Type 0} (words : List (String Z)) (options : List Choice) (rest : List (String Z)) (begin : Begin words options rest) (none : option_of rest ≡ None) where
   pub no_files : files_among rest ≡ None → AsksNothing words
@@ -81,22 +73,11 @@ module _ {Z : Type 0} (words : List (String Z)) (options : List Choice) (rest : 
       let same = one_reading words options s.options rest s.rest begin none s.begin s.no_more in
       none-some s.files (sym not ∙ ap files_among (sym same.1) ∙ s.follow)
 
-  pub longest_beside : (list_any is_longest options && (list_any inverts_in options || list_any counts_in options)) ≡ true → AsksNothing words
-  longest_beside both request s =
-      let same = one_reading words options s.options rest s.rest begin none s.begin s.no_more in
-      let longest : list_any is_longest options ≡ request.longest = ap (list_any is_longest) (sym same.0) ∙ sym s.longest in
-      let inverts : list_any inverts_in options ≡ request.inverts = ap (list_any inverts_in) (sym same.0) ∙ sym s.inverts in
-      let counts : list_any counts_in options ≡ request.counts = ap (list_any counts_in) (sym same.0) ∙ sym s.counts in
-      true≢false (sym both ∙ ap (λ b. b && (list_any inverts_in options || list_any counts_in options)) longest
-      ∙ ap (λ b. request.longest && (b || list_any counts_in options)) inverts ∙ ap (λ b. request.longest && (request.inverts || b)) counts ∙ s.alone)
-
-  pub no_list : list_any is_list options ≡ false → AsksNothing words
-  no_list not request s =
-      let same = one_reading words options s.options rest s.rest begin none s.begin s.no_more in
-      true≢false (sym s.lists ∙ ap (list_any is_list) same.0 ∙ not)
-
-  pub inputs_twice : (files : List (String Z)) → files_among rest ≡ Some files → nat_le (count_by is_input options + inputs_among files) 1 ≡ false → AsksNothing words
-  inputs_twice files found not request s =
+  pub wrong_together : (files : List (String Z)) (problem : Problem) → files_among rest ≡ Some files
+      → together_problem (said_by options) files ≡ Some problem → AsksNothing words
+  wrong_together files problem found wrong request s =
       let same = one_reading words options s.options rest s.rest begin none s.begin s.no_more in
       let file : s.files ≡ files = same_value s.files files (sym s.follow ∙ ap files_among same.1 ∙ found) in
-      true≢false (sym s.inputs ∙ ap (λ n. nat_le (n + inputs_among s.files) 1) (ap (count_by is_input) same.0) ∙ ap (λ f. nat_le (count_by is_input options + inputs_among f) 1) file ∙ not)
+      none-some problem (sym (right_together (is_crossed request) request.has_list _ s.alone s.lists s.inputs)
+      ∙ ap (λ (r : Request). together_problem r s.files) s.said
+      ∙ ap (λ o. together_problem (said_by o) s.files) same.0 ∙ ap (together_problem (said_by options)) file ∙ wrong)

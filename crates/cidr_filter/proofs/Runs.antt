@@ -11,21 +11,19 @@ use Rattle.lists.specs.Refusals.{Refused, no_refusals}
 use Rattle.line_engine.specs.declared.output.Output.{Output}
 use Rattle.line_engine.specs.Outputs.{writer_of, waits_in, output_failed, Puts, AppendsBeginning}
 use Rattle.line_engine.proofs.Putting.{begins_after_puts}
-use Rattle.program.specs.Endings.{Ending, HasTold, HasWritten, status_of, end_text}
+use Rattle.program.specs.Endings.{Ending, Refuses, HasTold, HasWritten, status_of, end_text}
 use Rattle.program.specs.Messages.{Tells}
 use Rattle.lists.specs.KnownLists.{KnownLists}
-use Rattle.cidr_filter.specs.Commands.{Asks}
 use Rattle.cidr_filter.specs.Filters.{Filters}
 use Rattle.cidr_filter.specs.Lines.{LogLine}
 use Rattle.cidr_filter.specs.Logs.{logs_of, HaltsBy}
 use Rattle.cidr_filter.specs.Reading.{Stops, HoldsRead}
-use Rattle.cidr_filter.specs.Runs.{FailsWriting, Wrote, Refuses, StopsAtLog, total_text, FiltersAll, EndsFiltering, EndsRequest, About, EndsAs}
+use Rattle.cidr_filter.specs.Runs.{FailsWriting, Wrote, StopsAtLog, total_text, FiltersAll, EndsFiltering, EndsRequest}
 use Rattle.cidr_filter.specs.Stands.{Stand, stand, Counts}
-use Rattle.program.specs.Told.{was_refused, fault_text}
-use Rattle.cidr_filter.specs.Told.{refusals_text, line_text, log_fault_text}
+use Rattle.program.specs.Told.{was_refused, fault_text, refusals_text}
+use Rattle.cidr_filter.specs.Told.{in_option, line_text, log_fault_text}
 use Rattle.cidr_filter.specs.Private.Reading.{ReadsAll}
 use Rattle.cidr_filter.specs.Private.Runs.{FiltersNames, PutsBy, HandsOn, StopsBy, EndsListed, EndsBy}
-use Rattle.cidr_filter.specs.declared.command_line.Command.{Command}
 use Rattle.cidr_filter.specs.declared.command_line.Request.{Request}
 use Rattle.cidr_filter.specs.declared.filter.Filter.{Filter}
 use Rattle.cidr_filter.specs.declared.listed.Listed.{Listed}
@@ -360,7 +358,7 @@ filtered_by known words request (Ok listed) read end none holds (inr h) = inr (n
 filtered_by known words request (Err fault) read end none holds h = inr (none, inl h)
 
 module _ {Z W E : Type 0} (known : KnownLists) (words : List (String Z)) (request : Request) (refused : Refused) (end : Ending W E) (told : Output E)
-    (tells : Tells end.tells end.errors told (refusals_text words refused)) where
+    (tells : Tells end.tells end.errors told (refusals_text words (in_option words) refused)) where
   -- the reading stopped
   pub reading_stopped : {T : Type 0} (result : Result T ReadFault) (fault : ReadFault) → result ≡ Err fault → IfErr result (λ f. Stops known words (nothing_read no_refusals) f refused)
       → Refuses (fault_text words fault) (record end { errors = told }) → EndsRequest known words request end
@@ -394,12 +392,6 @@ module _ {Z W E : Type 0} (known : KnownLists) (words : List (String Z)) (reques
         filtered_by known words request listed was_read.read (record end { errors = told }) (ap was_refused was_read.refused_lines ∙ ap not (sym e ∙ none)) was_read.holds h,
       ),
     )
-
--- a command that is known
-pub ends_by : {Z W E : Type 0} (about : About) (known : KnownLists) (words : List (String Z)) (command other : Command) (end : Ending W E) → command ≡ other
-    → Asks words command → EndsAs about known words other end → (asked : Command) × Asks words asked × EndsAs about known words asked end
-ends_by about known words command other end e asks ends =
-    (command, asks, subst (λ (c : Command). EndsAs about known words c end) (sym e) ends)
 
 -- nothing was told before
 pub all_by : {W E T F : Type 0} (filter : Filter) (counts : Bool) (known : KnownLists) (names : List (List ℕ)) (holds : W → Option (List ℕ)) (tells : E → Option (List ℕ))

@@ -6,9 +6,10 @@ use Rattle.std.proofs.lemmas.List.{take_all, drop_all}
 use Rattle.std.proofs.lemmas.Bool.{cases_lt}
 use Rattle.std.proofs.lemmas.Bool.Decides.{nat_tests}
 use Rattle.program.specs.Told.{name_at}
+use Rattle.program.specs.Words.{is}
 use Rattle.program.proofs.Told.{name_within, name_past}
 use Rattle.cidr_filter.specs.Filters.{one_if}
-use Rattle.cidr_filter.specs.Options.{is, takes_next, behind_option}
+use Rattle.cidr_filter.specs.Options.{takes_next, behind_option}
 use Rattle.cidr_filter.specs.Told.{is_text, texts_in}
 
 -- ---- how many `-e`

@@ -3,9 +3,7 @@ use Rattle.std.proofs.Common.{◌≡◌, List, [], ◌∷◌, true, false, inl, 
 use Rattle.std.specs.Prelude.{codes, String, Some, None}
 use Rattle.std.specs.String.{string_bytes}
 use Rattle.program.specs.declared.usage.Subject.TheVariants as subjects
-use Rattle.cidr_filter.specs.Commands.{is_only, Asks}
 use Rattle.cidr_filter.specs.Usage.{about, value_problem, word_problem, option_fault, rest_fault, together_by, HasFault}
-use Rattle.cidr_filter.specs.declared.command_line.Command.TheVariants as commands
 use Rattle.cidr_filter.specs.declared.options.Choice.TheVariants as choices
 use Rattle.cidr_filter.specs.declared.usage.Problem.TheVariants as problems
 
@@ -137,18 +135,3 @@ longest_and_v one two o t = record {
   no_more = refl;
   is_fault = inr ([], problems.Crossed, refl, refl, refl);
 }
-
--- ---- what is asked for
-
--- `--help` and `--version` are asked for by these words alone
-pub help_alone : {Z : Type 0} (words : List (String Z)) → Asks words commands.Help → is_only (codes "--help") words ≡ true
-help_alone words asks = asks
-
-pub version_alone : {Z : Type 0} (words : List (String Z)) → Asks words commands.Version → is_only (codes "--version") words ≡ true
-version_alone words asks = asks
-
-pub one_word_alone : {Z : Type 0} (word other : String Z) → is_only (codes "--help") (word ∷ other ∷ []) ≡ false
-one_word_alone word other = refl
-
-pub no_word_alone : (Z : Type 0) → is_only {Z = Z} (codes "--help") [] ≡ false
-no_word_alone Z = refl

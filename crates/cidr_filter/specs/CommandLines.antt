@@ -2,8 +2,8 @@
 use Rattle.std.specs.Prelude.{◌≡◌, ℕ, ◌+◌, ◌==◌, ◌||◌, ◌&&◌, Bool, true, false, not, List, [], ◌∷◌, Option, None, Some, drop, length, nat_le, if◌then◌else◌, codes, fold, String}
 use Rattle.std.specs.List.{count_by, list_all, list_any}
 use Rattle.std.specs.String.{string_bytes}
-use Rattle.cidr_filter.specs.Options.{is, begins, option_of, behind_option, field_said, separator_said, bad_said, inverts_in, counts_in, is_longest, is_list, is_input}
-use Rattle.cidr_filter.specs.declared.filter.Bad.TheVariants as bads
+use Rattle.program.specs.Words.{is}
+use Rattle.cidr_filter.specs.Options.{begins, option_of, behind_option, said_by}
 use Rattle.cidr_filter.specs.declared.options.Choice.{Choice}
 use Rattle.cidr_filter.specs.declared.command_line.Request.{Request}
 
@@ -38,12 +38,9 @@ inputs_among (file ∷ files) = count_by (is (codes "-")) (file ∷ files)
 abbrev pub is_crossed : Request → Bool
 is_crossed request = request.longest && (request.inverts || request.counts)
 
-abbrev pub are_crossed : List Choice → Bool
-are_crossed options = list_any is_longest options && (list_any inverts_in options || list_any counts_in options)
-
 -- the words are options, as many as there are, and FILEs. There is a list, standard input is named at most once, and
--- `--longest` is not given together with `-v` or `-c`. The request has the last of each option, and its FILEs begin
--- after the options
+-- `--longest` is not given together with `-v` or `-c`. The request is what the options say, and its FILEs begin after
+-- the options
 pub record Says {Z : Type 0} (words : List (String Z)) (request : Request) : Type 0 where
   pub options : List Choice
   pub rest : List (String Z)
@@ -51,14 +48,9 @@ pub record Says {Z : Type 0} (words : List (String Z)) (request : Request) : Typ
   pub begin : Begin words options rest
   pub no_more : option_of rest ≡ None
   pub follow : files_among rest ≡ Some files
-  pub lists : list_any is_list options ≡ true
-  pub inputs : nat_le (count_by is_input options + inputs_among files) 1 ≡ true
-  pub field : request.field ≡ fold field_said 1 options
-  pub separator : request.separator ≡ fold separator_said 32 options
-  pub bad : request.bad ≡ fold bad_said bads.Drop options
-  pub inverts : request.inverts ≡ list_any inverts_in options
-  pub counts : request.counts ≡ list_any counts_in options
-  pub longest : request.longest ≡ list_any is_longest options
+  pub said : request ≡ record (said_by options) { files = request.files }
+  pub lists : request.has_list ≡ true
+  pub inputs : nat_le (request.inputs + inputs_among files) 1 ≡ true
   pub alone : is_crossed request ≡ false
   pub place : drop request.files words ≡ files
 

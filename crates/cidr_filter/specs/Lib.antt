@@ -1,6 +1,5 @@
 -- What the contracts of this crate cite.
 pub mod CommandLines
-pub mod Commands
 pub mod Fields
 pub mod Filters
 pub mod Laws

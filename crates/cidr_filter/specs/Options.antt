@@ -3,14 +3,11 @@ use Rattle.std.specs.Prelude.{ℕ, ◌+◌, ◌-◌, ◌*◌, ◌==◌, ◌||◌
 use Rattle.std.specs.List.{list_all, list_any}
 use Rattle.std.specs.String.{string_bytes}
 use Rattle.std.specs.Char.{is_ascii_digit}
-use Rattle.cidr_filter.specs.declared.filter.Bad.{Bad}
+use Rattle.program.specs.Words.{is}
+use Rattle.cidr_filter.specs.declared.command_line.Request.{Request}
 use Rattle.cidr_filter.specs.declared.filter.Bad.TheVariants as bads
 use Rattle.cidr_filter.specs.declared.options.Choice.{Choice}
 use Rattle.cidr_filter.specs.declared.options.Choice.TheVariants as choices
-
--- the word is this text
-abbrev pub is : {Z : Type 0} → List ℕ → String Z → Bool
-is text word = bytes_eq (string_bytes word) text
 
 -- the second text begins with the first
 abbrev pub begins : List ℕ → List ℕ → Bool
@@ -99,70 +96,37 @@ abbrev pub behind_option : {Z : Type 0} → List (String Z) → List (String Z)
 behind_option [] = []
 behind_option (word ∷ others) = if takes_next word then drop 1 others else others
 
--- the number of the field after an option, by the one before it; and so the separator, and what becomes of bad lines
-abbrev pub field_said : ℕ → Choice → ℕ
-field_said before (choices.Letters inverts counts) = before
-field_said before (choices.Field number) = number
-field_said before (choices.Separator byte) = before
-field_said before (choices.Bad bad) = before
-field_said before choices.Longest = before
-field_said before choices.File = before
-field_said before choices.Input = before
-field_said before choices.Text = before
+-- the request with an option added: of each option the last is said, and `-v` and `-c` stay
+abbrev pub with_option : Request → Choice → Request
+with_option request (choices.Letters inverts counts) =
+    record request { inverts = request.inverts || inverts; counts = request.counts || counts }
+with_option request (choices.Field number) = record request { field = number }
+with_option request (choices.Separator byte) = record request { separator = byte }
+with_option request (choices.Bad bad) = record request { bad = bad }
+with_option request choices.Longest = record request { longest = true }
+with_option request choices.File = record request { has_list = true }
+with_option request choices.Input = record request { has_list = true; inputs = request.inputs + 1 }
+with_option request choices.Text = record request { has_list = true }
 
-abbrev pub separator_said : ℕ → Choice → ℕ
-separator_said before (choices.Letters inverts counts) = before
-separator_said before (choices.Field number) = before
-separator_said before (choices.Separator byte) = byte
-separator_said before (choices.Bad bad) = before
-separator_said before choices.Longest = before
-separator_said before choices.File = before
-separator_said before choices.Input = before
-separator_said before choices.Text = before
+-- without options the address is the first field, fields are cut at spaces (byte 32), and bad lines are dropped
+abbrev pub no_options : Request
+no_options = record {
+  field = 1;
+  separator = 32;
+  inverts = false;
+  counts = false;
+  longest = false;
+  bad = bads.Drop;
+  has_list = false;
+  inputs = 0;
+  files = 0;
+}
 
-abbrev pub bad_said : Bad → Choice → Bad
-bad_said before (choices.Letters inverts counts) = before
-bad_said before (choices.Field number) = before
-bad_said before (choices.Separator byte) = before
-bad_said before (choices.Bad bad) = bad
-bad_said before choices.Longest = before
-bad_said before choices.File = before
-bad_said before choices.Input = before
-bad_said before choices.Text = before
+-- what these options say
+abbrev pub said_by : List Choice → Request
+said_by options = fold with_option no_options options
 
--- whether `-v` is in an option, or `-c`
-abbrev pub inverts_in : Choice → Bool
-inverts_in (choices.Letters inverts counts) = inverts
-inverts_in (choices.Field number) = false
-inverts_in (choices.Separator byte) = false
-inverts_in (choices.Bad bad) = false
-inverts_in choices.Longest = false
-inverts_in choices.File = false
-inverts_in choices.Input = false
-inverts_in choices.Text = false
-
-abbrev pub counts_in : Choice → Bool
-counts_in (choices.Letters inverts counts) = counts
-counts_in (choices.Field number) = false
-counts_in (choices.Separator byte) = false
-counts_in (choices.Bad bad) = false
-counts_in choices.Longest = false
-counts_in choices.File = false
-counts_in choices.Input = false
-counts_in choices.Text = false
-
--- whether it is `--longest`
-abbrev pub is_longest : Choice → Bool
-is_longest (choices.Letters inverts counts) = false
-is_longest (choices.Field number) = false
-is_longest (choices.Separator byte) = false
-is_longest (choices.Bad bad) = false
-is_longest choices.Longest = true
-is_longest choices.File = false
-is_longest choices.Input = false
-is_longest choices.Text = false
-
--- whether it is a list, and whether that is standard input
+-- whether an option is a list
 abbrev pub is_list : Choice → Bool
 is_list (choices.Letters inverts counts) = false
 is_list (choices.Field number) = false
@@ -172,13 +136,3 @@ is_list choices.Longest = false
 is_list choices.File = true
 is_list choices.Input = true
 is_list choices.Text = true
-
-abbrev pub is_input : Choice → Bool
-is_input (choices.Letters inverts counts) = false
-is_input (choices.Field number) = false
-is_input (choices.Separator byte) = false
-is_input (choices.Bad bad) = false
-is_input choices.Longest = false
-is_input choices.File = false
-is_input choices.Input = true
-is_input choices.Text = false

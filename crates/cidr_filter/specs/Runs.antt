@@ -4,25 +4,26 @@ use Rattle.lists.specs.Lists.{ReadLists, nothing_read}
 use Rattle.lists.specs.Refusals.{Refused, no_refusals}
 use Rattle.line_engine.specs.declared.output.Output.{Output}
 use Rattle.line_engine.specs.Outputs.{writer_of, waits_in, output_failed, AppendsBeginning}
-use Rattle.program.specs.Endings.{Ending, IsSilent, HasTold, HasWritten, EndsPrinting}
+use Rattle.program.specs.Endings.{Ending, Refuses, HasTold, HasWritten}
 use Rattle.program.specs.Messages.{Tells}
-use Rattle.program.specs.Told.{was_refused, fault_text}
+use Rattle.program.specs.Runs.{EndsRun}
+use Rattle.program.specs.Told.{was_refused, fault_text, refusals_text}
 use Rattle.lists.specs.declared.named.ReadFault.{ReadFault}
 use Rattle.lists.specs.KnownLists.{KnownLists}
 use Rattle.program.specs.Usage.{usage_text}
+use Rattle.cidr_filter.specs.CommandLines.{Says, AsksNothing}
 use Rattle.cidr_filter.specs.Filters.{Filters}
 use Rattle.cidr_filter.specs.Logs.{logs_of, FiltersLogs, HaltsBy}
 use Rattle.cidr_filter.specs.Reading.{IsReadOf, Stops, HoldsRead}
 use Rattle.cidr_filter.specs.Lines.{LogLine}
-use Rattle.cidr_filter.specs.Told.{refusals_text, log_fault_text}
-use Rattle.cidr_filter.specs.Usage.{problem_text}
-use Rattle.cidr_filter.specs.declared.command_line.Command.{Command}
-use Rattle.cidr_filter.specs.declared.command_line.Command.TheVariants as commands
+use Rattle.cidr_filter.specs.Told.{in_option, log_fault_text}
+use Rattle.cidr_filter.specs.Usage.{problem_text, HasFault}
 use Rattle.cidr_filter.specs.declared.command_line.Request.{Request}
 use Rattle.cidr_filter.specs.declared.filter.Filter.{Filter}
 use Rattle.cidr_filter.specs.declared.listed.Listed.{Listed}
 use Rattle.cidr_filter.specs.declared.log.LogFault.{LogFault}
 use Rattle.cidr_filter.specs.declared.log.LogFault.TheVariants as faults
+use Rattle.cidr_filter.specs.declared.usage.UsageFault.{UsageFault}
 
 -- the writer failed, and took a beginning of what waited and the text
 abbrev pub FailsWriting : {W E : Type 0} → Ending W E → List ℕ → Type 0
@@ -80,10 +81,6 @@ EndsLogs filter counts known names end = FiltersAll filter counts known names en
 abbrev pub filter_of : Request → Listed → Filter
 filter_of request listed = record { listed = listed; field = request.field; separator = request.separator; inverts = request.inverts; bad = request.bad }
 
--- nothing was written, and this was reported
-abbrev pub Refuses : {W E : Type 0} → List ℕ → Ending W E → Type 0
-Refuses text end = IsSilent end × HasTold end text
-
 -- this was read of the lists: if a line of them was refused, or there is no memory, nothing is written. Else the logs are
 -- filtered by it
 abbrev pub EndsFiltering : {Z W E : Type 0} → KnownLists → List (String Z) → Request → ReadLists → Ending W E → Type 0
@@ -100,20 +97,16 @@ StopsReading known words refused end = (fault : ReadFault) × Stops known words 
 
 -- the refused lines of the lists were reported, and then either why the reading stopped, or the logs were filtered
 abbrev pub EndsRequest : {Z W E : Type 0} → KnownLists → List (String Z) → Request → Ending W E → Type 0
-EndsRequest {Z} {W} {E} known words request end = (refused : Refused) × (told : Output E) × Tells end.tells end.errors told (refusals_text words refused)
+EndsRequest {Z} {W} {E} known words request end = (refused : Refused) × (told : Output E)
+    × Tells end.tells end.errors told (refusals_text words (in_option words) refused)
     × (StopsReading known words refused (record end { errors = told })
     ⊎ ((read : ReadLists) × IsReadOf known words read × (read.refused ≡ refused) × EndsFiltering known words request read (record end { errors = told })))
 
--- what the program says of itself: its name, what `--help` and `--version` print, and its usage
-pub record About : Type 0 where
-  pub name : List ℕ
-  pub help : List ℕ
-  pub version : List ℕ
-  pub usage : List ℕ
-
--- how a run ends if the words ask for this
-abbrev pub EndsAs : {Z W E : Type 0} → About → KnownLists → List (String Z) → Command → Ending W E → Type 0
-EndsAs about known words commands.Help end = EndsPrinting about.help end
-EndsAs about known words commands.Version end = EndsPrinting about.version end
-EndsAs about known words (commands.Filter request) end = EndsRequest known words request end
-EndsAs about known words (commands.Usage fault) end = Refuses (usage_text about.name about.usage words fault.subject (problem_text fault.problem)) end
+-- how a run ends of a program of this name, help, version and usage: with the help or the version, if the words ask for
+-- it. Else they say a request, which is done, or something is wrong with them, and that and the usage are reported
+abbrev pub EndsAs : {Z W E : Type 0} → List ℕ → List ℕ → List ℕ → List ℕ → KnownLists
+    → List (String Z) → Ending W E → Type 0
+EndsAs program help version usage known words end = EndsRun help version words
+    (((request : Request) × Says words request × EndsRequest known words request end)
+    ⊎ ((fault : UsageFault) × AsksNothing words × HasFault words fault
+    × Refuses (usage_text program usage words fault.subject (problem_text fault.problem)) end)) end

@@ -1,12 +1,10 @@
 -- What is reported on standard error.
 use Rattle.std.specs.Prelude.{ℕ, ◌+◌, ◌-◌, ◌^◌, min, ◌&&◌, Bool, List, [], ◌∷◌, ◌++◌, nat_lt, if◌then◌else◌, codes, bytes_eq, decimal, take, String}
-use Rattle.std.specs.List.{flat_map}
-use Rattle.lists.specs.Faults.{line_fault_text}
-use Rattle.lists.specs.Refusals.{Refused}
 use Rattle.lists.specs.declared.refusals.Refusal.{Refusal}
-use Rattle.program.specs.Told.{name_at, more_text}
+use Rattle.program.specs.Told.{name_at, in_list}
+use Rattle.program.specs.Words.{is}
 use Rattle.cidr_filter.specs.Filters.{one_if}
-use Rattle.cidr_filter.specs.Options.{is, takes_next}
+use Rattle.cidr_filter.specs.Options.{takes_next}
 use Rattle.cidr_filter.specs.declared.log.LogFault.{LogFault}
 use Rattle.cidr_filter.specs.declared.log.LogFault.TheVariants as faults
 
@@ -20,19 +18,11 @@ texts_in [] = 0
 texts_in (word ∷ []) = one_if (is (codes "-e") word)
 texts_in (word ∷ value ∷ words) = if takes_next word then one_if (is (codes "-e") word) + texts_in words else texts_in (value ∷ words)
 
--- where a refused line stands: the list and the number of the line, or which `-e` it is
-abbrev pub refusal_place : {Z : Type 0} → List (String Z) → Refusal → List ℕ
-refusal_place words refusal =
-    if is_text words refusal.list then codes "-e:" ++ decimal (texts_in (take refusal.list words))
-    else name_at words refusal.list ++ codes ":" ++ decimal refusal.line
-
--- what is reported about a refused line: where it stands, and why it is refused
-abbrev pub refusal_line : {Z : Type 0} → List (String Z) → Refusal → List ℕ
-refusal_line words refusal = refusal_place words refusal ++ codes ": refused " ++ line_fault_text refusal.fault ++ codes "\n"
-
--- what is reported about refused lines
-abbrev pub refusals_text : {Z : Type 0} → List (String Z) → Refused → List ℕ
-refusals_text words refused = flat_map (refusal_line words) refused.kept ++ more_text refused.more
+-- where a refused line stands: the list and the number of the line, or the `-e` before it, and which one that is
+abbrev pub in_option : {Z : Type 0} → List (String Z) → Refusal → ℕ × ℕ
+in_option words refusal =
+    if is_text words refusal.list then (refusal.list - 1, texts_in (take refusal.list words))
+    else in_list refusal
 
 -- what is reported about a line of a log that ends the run: the log, the number of the line, which comes after this
 -- many lines, and why

@@ -2,10 +2,12 @@
 use Rattle.std.specs.Prelude.{◌≡◌, ℕ, ◌+◌, ◌-◌, ◌||◌, Bool, List, [], ◌∷◌, Option, None, Some, ◌⊎◌, length, nat_le, if◌then◌else◌, codes, bytes_eq, String}
 use Rattle.std.specs.List.{count_by, list_any}
 use Rattle.std.specs.String.{string_bytes}
+use Rattle.program.specs.Words.{is}
 use Rattle.program.specs.declared.usage.Subject.{Subject}
 use Rattle.program.specs.declared.usage.Subject.TheVariants as about_this
-use Rattle.cidr_filter.specs.CommandLines.{Begin, is_plain, is_name, files_among, inputs_among, are_crossed}
-use Rattle.cidr_filter.specs.Options.{is, begins, takes_next, option_of, is_list, is_input}
+use Rattle.cidr_filter.specs.CommandLines.{Begin, is_plain, is_name, files_among, inputs_among, is_crossed}
+use Rattle.cidr_filter.specs.Options.{begins, takes_next, option_of, said_by}
+use Rattle.cidr_filter.specs.declared.command_line.Request.{Request}
 use Rattle.cidr_filter.specs.declared.options.Choice.{Choice}
 use Rattle.cidr_filter.specs.declared.usage.Problem.{Problem}
 use Rattle.cidr_filter.specs.declared.usage.Problem.TheVariants as problems
@@ -24,7 +26,7 @@ problem_text problems.NoOption = codes "is no option"
 problem_text problems.AfterFile = codes "comes after a FILE"
 problem_text problems.Crossed = codes "--longest goes with neither -v nor -c"
 problem_text problems.NoList = codes "neither -f nor -e is given"
-problem_text problems.InputTwice = codes "standard input would be read twice"
+problem_text problems.InputTwice = codes "-: standard input can be read only once"
 
 -- this fault
 abbrev pub about : Subject → Problem → UsageFault
@@ -86,8 +88,9 @@ together_by are_crossed has_list is_read_once =
     else if has_list then if is_read_once then None else Some problems.InputTwice
     else Some problems.NoList
 
-abbrev pub together_problem : {Z : Type 0} → List Choice → List (String Z) → Option Problem
-together_problem options files = together_by (are_crossed options) (list_any is_list options) (nat_le (count_by is_input options + inputs_among files) 1)
+abbrev pub together_problem : {Z : Type 0} → Request → List (String Z) → Option Problem
+together_problem said files =
+    together_by (is_crossed said) said.has_list (nat_le (said.inputs + inputs_among files) 1)
 
 -- this is wrong with the words. It is the first wrong word, or the first option with a wrong value; if there is none, it
 -- is what the words are together
@@ -97,5 +100,6 @@ pub record HasFault {Z : Type 0} (words : List (String Z)) (fault : UsageFault) 
   pub begin : Begin words options rest
   pub no_more : option_of rest ≡ None
   pub is_fault : (rest_fault (length words - length rest) rest ≡ Some fault)
-      ⊎ ((files : List (String Z)) × (problem : Problem) × (files_among rest ≡ Some files) × (together_problem options files ≡ Some problem)
+      ⊎ ((files : List (String Z)) × (problem : Problem) × (files_among rest ≡ Some files)
+      × (together_problem (said_by options) files ≡ Some problem)
       × (fault ≡ about about_this.CommandLine problem))

@@ -1,15 +1,15 @@
 //! What the arguments ask for.
-ghost use Rattle.std.specs.Prelude.{◌≡◌, ◌+◌, ◌≤◌, ◌||◌, drop, length, nat_le, if◌then◌else◌, IfOk, IfErr};
+ghost use Rattle.std.specs.Prelude.{◌≡◌, ◌+◌, ◌^◌, ◌<◌, ◌≤◌, drop, length, nat_le, IfOk, IfErr};
 ghost use Rattle.cidr_filter.specs.CommandLines.{is_crossed, inputs_among, Says, AsksNothing};
-ghost use Rattle.cidr_filter.specs.Commands.{is_only, Asks};
-ghost use Rattle.cidr_filter.specs.Options.{is_input, field_said, separator_said, bad_said, inverts_in, counts_in, is_longest};
-ghost use Rattle.cidr_filter.specs.Private.Requests.{IfFilter, BeginsWith, behind_dashes};
+ghost use Rattle.cidr_filter.specs.Options.{with_option};
+ghost use Rattle.cidr_filter.specs.Private.Requests.{BeginsWith, behind_dashes};
 ghost use Rattle.cidr_filter.specs.Usage.{HasFault, together_by};
 
 use crate::filter::Bad;
-use crate::options::{Choice, behind, choice_at, is, is_list};
+use crate::options::{Choice, behind, choice_at};
 use crate::usage::{Problem, UsageFault, about, rest_fault};
 use program::usage::Subject;
+use program::words::is;
 
 /// What a run is asked for. Its options are the words before `files`, and the FILEs those from there on.
 #[derive(Clone, Copy, Debug, PartialEq, Eq)]
@@ -26,84 +26,35 @@ pub struct Request {
     pub longest: bool,
     /// What becomes of a line without an address.
     pub bad: Bad,
+    /// Whether a list is among the options.
+    pub has_list: bool,
+    /// How often the options name standard input.
+    pub inputs: usize,
     /// The index of the first FILE among the words.
     pub files: usize,
 }
 
-/// What the words of a command line ask for.
-#[derive(Clone, Copy, Debug, PartialEq, Eq)]
-pub enum Command {
-    /// `--help`.
-    Help,
-    /// `--version`.
-    Version,
-    /// Lines of logs.
-    Filter(Request),
-    /// Nothing: the words are not a command, for this reason.
-    Usage(UsageFault),
-}
-
-/// What the options of a command line say.
-#[derive(Clone, Copy, Debug, PartialEq, Eq)]
-pub(crate) struct Options {
-    /// A request without FILEs.
-    pub(crate) request: Request,
-    /// Whether a list is among them.
-    pub(crate) has_list: bool,
-    /// How often they name standard input.
-    pub(crate) inputs: usize,
-    /// The index after them.
-    pub(crate) behind: usize,
-}
-
-/// What the words after the program's name ask for. Does not allocate.
-pub fn command_of(words: &[String]) -> Command
-    ensures within { IfFilter (λ request. request.files ≤ length words.now) result }
-    ensures asked { Asks words.now result }
-{
-    if is_only(words, "--help") {
-        return Command::Help;
-    }
-    if is_only(words, "--version") {
-        return Command::Version;
-    }
-    match request_of(words) {
-        Ok(request) => Command::Filter(request),
-        Err(fault) => Command::Usage(fault),
-    }
-}
-
-// Whether there is one word, and it is this text.
-fn is_only(words: &[String], text: &str) -> bool
-    ensures { result ≡ is_only text.now words.now }
-{
-    words.len() == 1 && is(&words[0], text)
-}
-
-// What the options and the FILEs say, if they are right.
-fn request_of(words: &[String]) -> Result<Request, UsageFault>
+/// What the words after the program's name ask for, if they are right. Does not allocate.
+pub(crate) fn request_of(words: &[String]) -> Result<Request, UsageFault>
     ensures within { IfOk result (λ request. request.files ≤ length words.now) }
     ensures asked { IfOk result (Says words.now) }
     ensures nothing { IfErr result (λ _. AsksNothing words.now) }
     ensures wrong { IfErr result (HasFault words.now) }
 {
     let said = options_of(words);
-    if let Some(fault) = rest_fault(words, said.behind) {
+    if let Some(fault) = rest_fault(words, said.files) {
         return Err(fault);
     }
-    let place = files_from(words, said.behind);
-    let is_read_once = at_most_one(said.inputs, inputs_among(&words[place..]));
-    match together_problem(is_crossed(said.request), said.has_list, is_read_once) {
+    let files = files_from(words, said.files);
+    let is_read_once = at_most_one(said.inputs, inputs_among(&words[files..]));
+    match together_problem(is_crossed(said), said.has_list, is_read_once) {
         Some(problem) => Err(about(Subject::CommandLine, problem)),
-        None => Ok(Request {
-            files: place,
-            ..said.request
-        }),
+        None => Ok(Request { files, ..said }),
     }
 }
 
-// What the options say.
-fn options_of(words: &[String]) -> Options
+// What the options say. The index after them stands for that of the first FILE.
+fn options_of(words: &[String]) -> Request
     ensures { BeginsWith words.now result }
 {
     let mut request = Request {
@@ -113,22 +64,18 @@ fn options_of(words: &[String]) -> Options
         counts: false,
         longest: false,
         bad: Bad::Drop,
+        has_list: false,
+        inputs: 0,
         files: 0,
     };
-    let mut has_list = false;
-    let mut inputs = 0;
     let mut at = 0;
     'options: while let Some(choice) = choice_at(words, at) {
         request = with_choice(request, choice);
-        has_list |= is_list(choice);
-        inputs += inputs_in(choice);
         at = behind(words, at);
     }
-    Options {
-        request,
-        has_list,
-        inputs,
-        behind: at,
+    Request {
+        files: at,
+        ..request
     }
 }
 
@@ -157,12 +104,9 @@ fn is_crossed(request: Request) -> bool
 
 // The request with an option added.
 fn with_choice(request: Request, choice: Choice) -> Request
-    ensures field { result.field ≡ field_said request.field choice }
-    ensures separator { result.separator ≡ separator_said request.separator choice }
-    ensures bad { result.bad ≡ bad_said request.bad choice }
-    ensures inverts { result.inverts ≡ (request.inverts || inverts_in choice) }
-    ensures counts { result.counts ≡ (request.counts || counts_in choice) }
-    ensures longest { result.longest ≡ (request.longest || is_longest choice) }
+    requires { request.inputs + 1 < 2 ^ 64 }
+    ensures request { result ≡ with_option request choice }
+    ensures inputs { result.inputs ≤ request.inputs + 1 }
 {
     match choice {
         Choice::Letters { inverts, counts } => Request {
@@ -180,17 +124,15 @@ fn with_choice(request: Request, choice: Choice) -> Request
             longest: true,
             ..request
         },
-        Choice::File | Choice::Input | Choice::Text => request,
-    }
-}
-
-// How often an option names standard input.
-fn inputs_in(choice: Choice) -> usize
-    ensures { result ≡ (if is_input choice then 1 else 0) }
-{
-    match choice {
-        Choice::Input => 1,
-        _ => 0,
+        Choice::File | Choice::Text => Request {
+            has_list: true,
+            ..request
+        },
+        Choice::Input => Request {
+            has_list: true,
+            inputs: request.inputs + 1,
+            ..request
+        },
     }
 }
 

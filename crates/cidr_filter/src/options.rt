@@ -2,9 +2,10 @@
 ghost use Rattle.std.specs.Prelude.{◌≡◌, ◌-◌, ◌^◌, ◌<◌, ◌≤◌, drop, length, min};
 ghost use Rattle.std.specs.List.{list_all};
 ghost use Rattle.std.specs.Char.{is_ascii_digit};
-ghost use Rattle.cidr_filter.specs.Options.{is, is_letter, number_of, takes_next, behind_option, option_of, in_one_word, in_two_words, is_list, letters_option, file_option, text_option, field_option, separator_option, bad_option};
+ghost use Rattle.cidr_filter.specs.Options.{is_letter, number_of, takes_next, behind_option, option_of, in_one_word, in_two_words, is_list, letters_option, file_option, text_option, field_option, separator_option, bad_option};
 
 use crate::filter::Bad;
+use program::words::is;
 
 /// An option.
 #[derive(Clone, Copy, Debug, PartialEq, Eq)]
@@ -240,11 +241,4 @@ pub(crate) fn is_list(choice: Choice) -> bool
         Choice::File | Choice::Input | Choice::Text => true,
         _ => false,
     }
-}
-
-/// Whether a word is this text.
-pub(crate) fn is(word: &String, text: &str) -> bool
-    ensures { result ≡ is text.now word.now }
-{
-    word.as_str() == text
 }

@@ -2,7 +2,6 @@
 ghost use Rattle.std.specs.Prelude.{◌≡◌, ◌+◌, ◌≤◌, false, true, drop, length, Some, OnOk, IfOk, IfErr};
 ghost use Rattle.lists.specs.Lists.{nothing_read};
 ghost use Rattle.lists.specs.Refusals.{no_refusals};
-ghost use Rattle.lists.specs.ReadBy.{read_by};
 ghost use Rattle.program.specs.Told.{name_at};
 ghost use Rattle.cidr_filter.specs.Options.{option_of};
 ghost use Rattle.cidr_filter.specs.Reading.{ReadsOption, ReadsLists, StopsAtOption, Stops, HoldsRead};
@@ -38,8 +37,8 @@ fn listed_by(
     longest: bool,
     reader: ListReader,
 ) -> (Result<Listed, AllocError>, Refusals)
-    ensures listed { IfOk result.0 (HoldsRead longest (read_by reader)) }
-    ensures refused { result.1 ≡ (read_by reader).refused }
+    ensures listed { IfOk result.0 (HoldsRead longest reader) }
+    ensures refused { result.1 ≡ reader.refused }
 {
     if longest {
         let (v4, v6, refusals) = reader.into_networks();
@@ -55,10 +54,11 @@ fn read_lists<L: OpenLists>(
     words: &[String],
     reader: &mut ListReader,
 ) -> Result<(), ReadFault>
-    requires memory { (read_by reader.old).is_out_of_memory ≡ false }
-    ensures read { OnOk result (ReadsLists (L.known lists.now) words.now (read_by reader.old) (read_by reader.new)) }
-    ensures memory { OnOk result ((read_by reader.new).is_out_of_memory ≡ false) }
-    ensures stopped { IfErr result (λ fault. Stops (L.known lists.now) words.now (read_by reader.old) fault (read_by reader.new).refused) }
+    requires memory { reader.old.is_out_of_memory ≡ false }
+    ensures read { OnOk result (ReadsLists (L.known lists.now) words.now reader.old reader.new) }
+    ensures memory { OnOk result (reader.new.is_out_of_memory ≡ false) }
+    ensures stopped { IfErr result
+        (λ fault. Stops (L.known lists.now) words.now reader.old fault reader.new.refused) }
 {
     let mut at = 0;
     'options: while let Some(choice) = choice_at(words, at) {
@@ -78,10 +78,12 @@ fn read_option<L: OpenLists>(
 ) -> Result<(), ReadFault>
     requires within { at ≤ length words.now }
     requires option { option_of (drop at words.now) ≡ Some choice }
-    requires memory { (read_by reader.old).is_out_of_memory ≡ false }
-    ensures read { OnOk result (ReadsOption (L.known lists.now) (at + 1) choice (name_at (drop at words.now) 1) (read_by reader.old) (read_by reader.new)) }
-    ensures memory { OnOk result ((read_by reader.new).is_out_of_memory ≡ false) }
-    ensures stopped { IfErr result (λ fault. StopsAtOption (L.known lists.now) (at + 1) choice (name_at (drop at words.now) 1) (read_by reader.old) fault (read_by reader.new).refused) }
+    requires memory { reader.old.is_out_of_memory ≡ false }
+    ensures read { OnOk result (ReadsOption (L.known lists.now) (at + 1) choice
+        (name_at (drop at words.now) 1) reader.old reader.new) }
+    ensures memory { OnOk result (reader.new.is_out_of_memory ≡ false) }
+    ensures stopped { IfErr result (λ fault. StopsAtOption (L.known lists.now) (at + 1) choice
+        (name_at (drop at words.now) 1) reader.old fault reader.new.refused) }
 {
     if !is_list(choice) {
         return Ok(());

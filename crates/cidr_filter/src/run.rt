@@ -1,27 +1,25 @@
 //! The run that the program makes.
 ghost use Rattle.std.specs.Prelude.{◌≡◌, ◌≤◌, length, codes};
+ghost use Rattle.program.specs.Endings.{ending};
 ghost use Rattle.program.specs.Messages.{Tells};
-ghost use Rattle.program.specs.Usage.{usage_text};
-ghost use Rattle.cidr_filter.specs.Commands.{Asks};
 ghost use Rattle.cidr_filter.specs.Logs.{logs_of};
 ghost use Rattle.cidr_filter.specs.Runs.{EndsRequest, EndsAs};
-ghost use Rattle.cidr_filter.specs.Usage.{problem_text};
 ghost use Rattle.cidr_filter.specs.Private.Runs.{EndsBy, EndsListed};
 
-use crate::command_line::{Command, Request, command_of};
+use crate::command_line::{Request, request_of};
 use crate::filter::{Filter, LINE_MAX};
 use crate::help::{HELP, PROGRAM, USAGE, VERSION};
 use crate::listed::Listed;
 use crate::logs::filter_logs;
 use crate::reading::read_listed;
-use crate::telling::tell_refusals;
-use crate::usage::UsageFault;
+use crate::telling::InOptions;
 use line_engine::output::Output;
 use lists::OpenLists;
 use program::ending::{FAILED, print_text};
 use program::messages::tell;
-use program::telling::tell_fault;
-use program::usage::{Usage, refuse_usage};
+use program::start::text_asked;
+use program::telling::{tell_fault, tell_refusals};
+use program::usage::refuse_usage;
 use std::alloc::{AllocError, Global};
 use std::io::Write;
 
@@ -36,27 +34,19 @@ pub(crate) fn run<L: OpenLists, W: Write, E: Write>(
     output: &mut Output<'_, W>,
     errors: &mut Output<'_, E>,
 ) -> u8
-    ensures { (command : Command) × Asks words.now command × EndsAs (record { name = PROGRAM.now; help = HELP.now; version = VERSION.now; usage = USAGE.now }) (L.known lists.now) words.now command
-        (record { holds = W.contents; output = output.old; output_after = output.new; tells = E.contents; errors = errors.old; errors_after = errors.new; status = result }) }
+    ensures { EndsAs PROGRAM.now HELP.now VERSION.now USAGE.now (L.known lists.now) words.now
+        (ending W.contents output.old output.new E.contents errors.old errors.new result) }
 {
-    match command_of(words) {
-        Command::Help => print_text(HELP, output, errors),
-        Command::Version => print_text(VERSION, output, errors),
-        Command::Filter(request) => filter(alloc, request, words, lists, output, errors),
-        Command::Usage(fault) => refuse_words(words, fault, errors),
+    if let Some(text) = text_asked(HELP, VERSION, words) {
+        return print_text(text, output, errors);
     }
-}
-
-// Reports what is wrong with the words, and how the program is used, and returns the exit status for that.
-fn refuse_words<E: Write>(words: &[String], fault: UsageFault, errors: &mut Output<'_, E>) -> u8
-    ensures status { result ≡ 2 }
-    ensures told { Tells E.contents errors.old errors.new (usage_text PROGRAM.now USAGE.now words.now fault.subject (problem_text fault.problem)) }
-{
-    let usage = Usage {
-        program: PROGRAM,
-        line: USAGE,
-    };
-    refuse_usage(usage, words, fault.subject, fault.problem.text(), errors)
+    match request_of(words) {
+        Ok(request) => filter(alloc, request, words, lists, output, errors),
+        Err(fault) => {
+            let problem = fault.problem.text();
+            refuse_usage(PROGRAM, USAGE, words, fault.subject, problem, errors)
+        }
+    }
 }
 
 // Reads the lists, reports the refused lines, and then filters the logs.
@@ -73,7 +63,7 @@ fn filter<L: OpenLists, W: Write, E: Write>(
         (record { holds = W.contents; output = output.old; output_after = output.new; tells = E.contents; errors = errors.old; errors_after = errors.new; status = result }) }
 {
     let (listed, refusals, read) = read_listed(alloc, lists, words, request.longest);
-    tell_refusals(words, &refusals, errors);
+    tell_refusals(words, &InOptions { words }, &refusals, errors);
     match read {
         Ok(()) => {
             if !refusals.is_empty() {

@@ -1,55 +1,37 @@
 //! Messages on the error writer. If a write of one fails, nothing else changes.
 ghost use Rattle.std.specs.Prelude.{◌≡◌, ◌++◌, codes, take};
 ghost use Rattle.program.specs.Messages.{Tells};
+ghost use Rattle.program.specs.Words.{is};
 ghost use Rattle.cidr_filter.specs.Filters.{one_if};
-ghost use Rattle.cidr_filter.specs.Options.{is};
-ghost use Rattle.cidr_filter.specs.Told.{is_text, texts_in, refusal_place, refusal_line, refusals_text, line_text, log_fault_text};
+ghost use Rattle.cidr_filter.specs.Told.{is_text, texts_in, line_text, log_fault_text};
 
 use crate::log::LogFault;
-use crate::options::{behind, is};
+use crate::options::behind;
 use line_engine::output::Output;
-use lists::{Refusal, Refusals};
+use lists::Refusal;
 use program::messages::{tell, tell_number};
-use program::telling::{tell_more, tell_name};
+use program::telling::Places;
+use program::words::is;
 use std::io::Write;
 
-/// Reports the refused lines: the first hundred, and how many more there were.
-pub(crate) fn tell_refusals<E: Write>(
-    words: &[String],
-    refusals: &Refusals,
-    errors: &mut Output<'_, E>,
-)
-    ensures { Tells E.contents errors.old errors.new (refusals_text words.now refusals.now) }
-{
-    let kept = refusals.kept();
-    for refusal in kept {
-        tell_refusal(words, *refusal, errors);
-    }
-    tell_more(refusals.more(), errors);
+/// Where refused lines stand, by the words of a command line: in a list, or in the text of an `-e`.
+#[derive(Clone, Copy)]
+pub(crate) struct InOptions<'a> {
+    pub(crate) words: &'a [String],
 }
 
-// Reports a refused line.
-fn tell_refusal<E: Write>(words: &[String], refusal: Refusal, errors: &mut Output<'_, E>)
-    ensures { Tells E.contents errors.old errors.new (refusal_line words.now refusal) }
-{
-    tell_place(words, refusal, errors);
-    tell(": refused ", errors);
-    tell(refusal.fault.text(), errors);
-    tell("\n", errors);
-}
+impl Places for InOptions<'_> {
+    ghost use Rattle.cidr_filter.specs.Told.{in_option};
 
-// Reports where a refused line stands: the list and the line, or which `-e` it is.
-fn tell_place<E: Write>(words: &[String], refusal: Refusal, errors: &mut Output<'_, E>)
-    ensures { Tells E.contents errors.old errors.new (refusal_place words.now refusal) }
-{
-    if is_text(words, refusal.list) {
-        tell("-e:", errors);
-        tell_number(texts_up_to(words, refusal.list), errors);
-        return;
+    ghost told_at = { λ options refusal. in_option options.words.now refusal };
+
+    fn place(&self, refusal: Refusal) -> (usize, u64) {
+        if is_text(self.words, refusal.list) {
+            (refusal.list - 1, texts_up_to(self.words, refusal.list))
+        } else {
+            (refusal.list, refusal.line)
+        }
     }
-    tell_name(words, refusal.list, errors);
-    tell(":", errors);
-    tell_number(refusal.line, errors);
 }
 
 // Whether the word before a place is `-e`, so that the word there is the value of it.

@@ -3,8 +3,9 @@ ghost use Rattle.std.specs.Prelude.{◌≡◌, ◌<◌, ◌≤◌, drop, length}
 ghost use Rattle.cidr_filter.specs.CommandLines.{is_plain, is_name};
 ghost use Rattle.cidr_filter.specs.Usage.{about, problem_text, value_problem, word_problem, option_fault, names_fault, files_fault, rest_fault};
 
-use crate::options::{is, takes_next};
+use crate::options::takes_next;
 use program::usage::Subject;
+use program::words::is;
 
 /// What is wrong with a word, with the value of an option, or with a command line.
 #[derive(Clone, Copy, Debug, PartialEq, Eq)]
@@ -52,7 +53,7 @@ impl Problem {
             Problem::AfterFile => "comes after a FILE",
             Problem::Crossed => "--longest goes with neither -v nor -c",
             Problem::NoList => "neither -f nor -e is given",
-            Problem::InputTwice => "standard input would be read twice",
+            Problem::InputTwice => "-: standard input can be read only once",
         }
     }
 }

@@ -8,10 +8,11 @@ use Rattle.ipnetwork_family.specs.Family.{v4_family}
 use Rattle.ipnetwork_blocks.specs.Aggregate.{InUnion}
 use Rattle.lists.specs.declared.entry.EntryFault.TheVariants.{Prefix}
 use Rattle.lists.specs.declared.fault.LineFault.TheVariants.{Entry}
+use Rattle.program.specs.Told.{in_list, refusals_text}
+use Rattle.program.specs.Words.{is}
 use Rattle.cidr_merge.specs.Answers.{IsLeft, IsLeftOfSecond, AreBoth, merged, merged_ranges, block_line, range_line}
-use Rattle.cidr_merge.specs.CommandLines.{is, begins_dashed, is_dashed, is_name, is_option, is_only, operation_called, operation_named, options_of, lists_of, are_options, are_lists, are_sides, before_dashes, behind_dashes, form_of}
+use Rattle.cidr_merge.specs.CommandLines.{begins_dashed, is_dashed, is_name, is_option, operation_called, operation_named, options_of, lists_of, are_options, are_lists, are_sides, before_dashes, behind_dashes, form_of}
 use Rattle.cidr_merge.specs.Runs.{answer_status}
-use Rattle.cidr_merge.specs.Told.{refusals_text}
 use Rattle.cidr_merge.specs.declared.command_line.Operation.TheVariants.{Union, Common, Minus, Differ}
 use Rattle.cidr_merge.specs.declared.command_line.Form.TheVariants.{Counts}
 use Rattle.cidr_merge.specs.declared.reading.Sets.{Sets}
@@ -110,7 +111,7 @@ skipped_in_a_union = refl
 -- ---- what is told
 
 pub a_refused_line : {Z : Type 0} (union list : String Z) → string_bytes list ≡ codes "a.txt"
-    → refusals_text (union ∷ list ∷ []) (record { kept = record { list = 1; line = 7; fault = Entry Prefix } ∷ []; more = 0 }) ≡ codes "a.txt:7: refused prefix\n"
+    → refusals_text (union ∷ list ∷ []) in_list (record { kept = record { list = 1; line = 7; fault = Entry Prefix } ∷ []; more = 0 }) ≡ codes "a.txt:7: refused prefix\n"
 unfolding digits
 a_refused_line union list e = rw e
 
@@ -203,9 +204,6 @@ no_option_is_a_name word dashed dashes = by (length (string_bytes word) == 0) wh
   by : (b : Bool) → (not b && (not (is_dashed word) || is (codes "--") word)) ≡ false
   by true = refl
   by false = rw (dashed, dashes)
-
-pub the_only_word : {Z : Type 0} (text : List ℕ) (word : String Z) → is_only text (word ∷ []) ≡ is text word
-the_only_word text word = refl
 
 pub the_names_of_operations : (operation_called (codes "union") ≡ Some Union) × (operation_called (codes "common") ≡ Some Common) × (operation_called (codes "minus") ≡ Some Minus) × (operation_called (codes "differ") ≡ Some Differ)
 the_names_of_operations = (refl, refl, refl, refl)

@@ -1,6 +1,6 @@
 -- What the definitions promise, part by part: a definition without one of these parts would not give it.
 use Rattle.std.proofs.Common.{◌≡◌, ◌+◌, ◌≤◌, ◌↔◌, ◌⊎◌, inl, inr, ◌++◌, ◌∙◌, sym, not, ℕ, Bool, List, [], ◌∷◌, true, false, length, drop}
-use Rattle.std.specs.Prelude.{codes, ◌&&◌, String, Some, slice_range}
+use Rattle.std.specs.Prelude.{codes, ◌&&◌, String, None, Some, slice_range}
 use Rattle.std.specs.List.{Contains}
 use Rattle.std.specs.String.{string_bytes}
 use Rattle.ipnetwork_blocks.specs.Aggregate.{IsAggregate}
@@ -11,20 +11,19 @@ use Rattle.line_engine.specs.declared.output.Output.{Output}
 use Rattle.program.specs.Endings.{Ending, HasTold, HasWritten}
 use Rattle.lists.specs.KnownLists.{KnownLists}
 use Rattle.program.specs.Messages.{Tells}
+use Rattle.program.specs.Runs.{text_asked}
+use Rattle.program.proofs.Runs.{otherwise}
 use Rattle.lists.specs.Reading.{StopsAt}
-use Rattle.program.specs.Told.{was_refused, fault_text}
+use Rattle.program.specs.Told.{was_refused, fault_text, in_list, refusals_text}
 use Rattle.program.specs.Usage.{usage_text}
 use Rattle.lists.specs.declared.named.ReadFault.{ReadFault}
 use Rattle.cidr_merge.specs.Answers.{IsAnswer}
 use Rattle.cidr_merge.specs.CommandLines.{has, operation_named, options_of, lists_of, before_dashes, behind_dashes, are_options, are_lists, are_sides, form_of, AreFor, Says, AreForNone}
-use Rattle.cidr_merge.specs.Commands.{Asks}
 use Rattle.cidr_merge.specs.Parts.{UnionPrints, HaveLines, AreShort}
 use Rattle.cidr_merge.specs.Reading.{ReadsLists, ReadsSide, ReadsSides}
-use Rattle.cidr_merge.specs.Runs.{answer_status, WritesAnswer, FailsToWrite, StopsReading, EndsAnswering, EndsMerging, About, EndsAs}
+use Rattle.cidr_merge.specs.Runs.{answer_status, WritesAnswer, FailsToWrite, StopsReading, EndsAnswering, EndsMerging, EndsAs}
 use Rattle.cidr_merge.specs.Stopping.{Stops, StopsInSides}
-use Rattle.cidr_merge.specs.Told.{refusals_text}
 use Rattle.cidr_merge.specs.Usage.{problem_text, fault_in}
-use Rattle.cidr_merge.specs.declared.command_line.Command.TheVariants.{Usage}
 use Rattle.cidr_merge.specs.declared.command_line.Form.TheVariants.{Blocks}
 use Rattle.cidr_merge.specs.declared.command_line.Operation.{Operation}
 use Rattle.cidr_merge.specs.declared.command_line.Operation.TheVariants.{Union}
@@ -42,9 +41,6 @@ pub what_a_request_says : {Z : Type 0} (words : List (String Z)) (request : Requ
     → (request.form ≡ form_of (options_of words)) × (request.skips_bad ≡ has (codes "--skip-bad") (options_of words))
     × (slice_range words request.first request.middle ≡ before_dashes (lists_of words)) × (drop request.second words ≡ behind_dashes (lists_of words))
 what_a_request_says words request h = (h.form, h.skips, h.firsts, h.seconds)
-
-pub what_no_command_is : {Z : Type 0} (words : List (String Z)) (fault : UsageFault) → Asks words (Usage fault) → AreForNone words × (fault_in words ≡ Some fault)
-what_no_command_is words fault h = (h.2, h.3)
 
 -- ---- what was read
 
@@ -70,7 +66,7 @@ what_stops_both_sides known words request fault refused h = h
 -- ---- how a run ends
 
 pub what_a_run_tells : {Z W E : Type 0} (known : KnownLists) (words : List (String Z)) (request : Request) (end : Ending W E) → EndsMerging known words request end
-    → (refused : Refused) × (told : Output E) × Tells end.tells end.errors told (refusals_text words refused)
+    → (refused : Refused) × (told : Output E) × Tells end.tells end.errors told (refusals_text words in_list refused)
     × (StopsReading known words request refused (record end { errors = told })
     ⊎ ((first second : Sets) × ReadsSides known words request first second refused × EndsAnswering request (was_refused refused) first second (record end { errors = told })))
 what_a_run_tells known words request end h = h
@@ -96,9 +92,12 @@ what_an_answer_is request skips first second end h = ((h.0, h.1, h.2), h.3, h.4)
 pub what_a_failed_writer_is : {W E : Type 0} (end : Ending W E) → FailsToWrite end → (output_failed end.output_after ≡ true) × HasTold end (codes "write error\n") × (end.status ≡ 2)
 what_a_failed_writer_is end h = h
 
-pub what_is_told_of_no_command : {Z W E : Type 0} (about : About) (known : KnownLists) (words : List (String Z)) (fault : UsageFault) (end : Ending W E) → EndsAs about known words (Usage fault) end
-    → (end.output_after ≡ end.output) × (end.status ≡ 2) × HasTold end (usage_text about.name about.usage words fault.subject (problem_text fault.problem))
-what_is_told_of_no_command about known words fault end h = (h.0.0, h.0.1, h.1)
+pub what_a_run_does : {Z W E : Type 0} (program help version usage : List ℕ) (known : KnownLists) (words : List (String Z)) (end : Ending W E)
+    → text_asked help version words ≡ None → EndsAs program help version usage known words end
+    → ((request : Request) × AreFor words request.operation × Says words request × EndsMerging known words request end)
+    ⊎ ((fault : UsageFault) × AreForNone words × (fault_in words ≡ Some fault) × (((end.output_after ≡ end.output) × (end.status ≡ 2))
+    × HasTold end (usage_text program usage words fault.subject (problem_text fault.problem))))
+what_a_run_does program help version usage known words end e h = otherwise help version words _ end e h
 
 -- ---- what the laws take: no more than this
 

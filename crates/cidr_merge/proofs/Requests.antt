@@ -4,7 +4,8 @@ use Rattle.std.specs.Prelude.{Some, String, slice_range, ◌⊎◌}
 use Rattle.std.specs.List.{position_or_len, prefix_len}
 use Rattle.std.proofs.lemmas.Bool.{cases_lt}
 use Rattle.std.proofs.lemmas.List.{drop-drop, drop_all}
-use Rattle.cidr_merge.specs.CommandLines.{is, has, is_dashed, operation_named, are_options, are_lists, are_sides, form_of, options_of, lists_of, before_dashes, behind_dashes, AreFor, Says}
+use Rattle.program.specs.Words.{is}
+use Rattle.cidr_merge.specs.CommandLines.{has, is_dashed, operation_named, are_options, are_lists, are_sides, form_of, options_of, lists_of, before_dashes, behind_dashes, AreFor, Says}
 use Rattle.cidr_merge.specs.declared.command_line.Operation.{Operation}
 use Rattle.cidr_merge.specs.declared.command_line.Form.{Form}
 use Rattle.cidr_merge.specs.declared.command_line.Request.{Request}

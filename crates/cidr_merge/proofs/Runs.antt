@@ -7,13 +7,10 @@ use Rattle.line_engine.specs.declared.output.Output.{Output}
 use Rattle.program.specs.Endings.{Ending, IsSilent}
 use Rattle.lists.specs.KnownLists.{KnownLists}
 use Rattle.program.specs.Messages.{Tells}
-use Rattle.program.specs.Told.{fault_text}
-use Rattle.cidr_merge.specs.Commands.{Asks}
+use Rattle.program.specs.Told.{fault_text, in_list, refusals_text}
 use Rattle.cidr_merge.specs.Reading.{ReadsSide, ReadsSides}
-use Rattle.cidr_merge.specs.Runs.{EndsAnswering, EndsMerging, About, EndsAs}
+use Rattle.cidr_merge.specs.Runs.{EndsAnswering, EndsMerging}
 use Rattle.cidr_merge.specs.Stopping.{Stops, StopsInSides}
-use Rattle.cidr_merge.specs.Told.{refusals_text}
-use Rattle.cidr_merge.specs.declared.command_line.Command.{Command}
 use Rattle.cidr_merge.specs.declared.command_line.Request.{Request}
 use Rattle.lists.specs.declared.named.ReadFault.{ReadFault}
 use Rattle.cidr_merge.specs.declared.reading.Sets.{Sets}
@@ -60,7 +57,7 @@ second_stopped {Z} {T} {U} {G} (Err fault) read done known words request first s
 -- the answer was given
 pub merged : {Z W E T F : Type 0} (read : Result T F) (done : T) (known : KnownLists) (words : List (String Z)) (request : Request) (first second : Sets) (refused : Refused)
     (is_empty : Bool) (end : Ending W E) (told : Output E) → read ≡ Ok done → OnOk read (ReadsSides known words request first second refused)
-    → Tells end.tells end.errors told (refusals_text words refused) → is_empty ≡ (length refused.kept == 0) → EndsAnswering request (not is_empty) first second (record end { errors = told })
+    → Tells end.tells end.errors told (refusals_text words in_list refused) → is_empty ≡ (length refused.kept == 0) → EndsAnswering request (not is_empty) first second (record end { errors = told })
     → EndsMerging known words request end
 merged {Z} {W} {E} {T} {F} read done known words request first second refused is_empty end told e sides tells f ends = (
   refused,
@@ -76,13 +73,7 @@ merged {Z} {W} {E} {T} {F} read done known words request first second refused is
 
 -- the reading stopped
 pub stopped : {Z W E T : Type 0} (read : Result T ReadFault) (known : KnownLists) (words : List (String Z)) (request : Request) (refused : Refused) (fault : ReadFault) (end : Ending W E) (told : Output E)
-    → read ≡ Err fault → IfErr read (λ f. StopsInSides known words request f refused) → Tells end.tells end.errors told (refusals_text words refused) → IsSilent end
+    → read ≡ Err fault → IfErr read (λ f. StopsInSides known words request f refused) → Tells end.tells end.errors told (refusals_text words in_list refused) → IsSilent end
     → Tells end.tells told end.errors_after (fault_text words fault) → EndsMerging known words request end
 stopped {Z} {W} {E} {T} read known words request refused fault end told e stops tells silent why =
     (refused, told, tells, inl (fault, subst (λ (r : Result T ReadFault). IfErr r (λ f. StopsInSides known words request f refused)) e stops, silent, why))
-
--- a command that is known
-pub ends_by : {Z W E : Type 0} (about : About) (known : KnownLists) (words : List (String Z)) (command other : Command) (end : Ending W E) → command ≡ other
-    → Asks words command → EndsAs about known words other end → (asked : Command) × Asks words asked × EndsAs about known words asked end
-ends_by about known words command other end e asks ends =
-    (command, asks, subst (λ (c : Command). EndsAs about known words c end) (sym e) ends)

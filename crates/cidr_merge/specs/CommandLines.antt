@@ -2,15 +2,12 @@
 use Rattle.std.specs.Prelude.{◌≡◌, ℕ, ◌+◌, ◌==◌, ◌||◌, ◌&&◌, Bool, true, false, not, List, [], ◌∷◌, Option, None, Some, take, drop, length, nat_lt, nat_le, if◌then◌else◌, slice_range, codes, bytes_eq, String}
 use Rattle.std.specs.List.{count_by, list_all, position_or_len, prefix_len}
 use Rattle.std.specs.String.{string_bytes}
+use Rattle.program.specs.Words.{is}
 use Rattle.cidr_merge.specs.declared.command_line.Operation.{Operation}
 use Rattle.cidr_merge.specs.declared.command_line.Operation.TheVariants.{Union, Common, Minus, Differ}
 use Rattle.cidr_merge.specs.declared.command_line.Form.{Form}
 use Rattle.cidr_merge.specs.declared.command_line.Form.TheVariants.{Blocks, Ranges, Counts}
 use Rattle.cidr_merge.specs.declared.command_line.Request.{Request}
-
--- the word is this text
-abbrev pub is : {Z : Type 0} → List ℕ → String Z → Bool
-is text word = bytes_eq (string_bytes word) text
 
 -- how many of the words are this text, and whether one is
 abbrev pub count : {Z : Type 0} → List ℕ → List (String Z) → ℕ
@@ -102,8 +99,3 @@ pub record Says {Z : Type 0} (words : List (String Z)) (request : Request) : Typ
 -- the words are for no operation
 abbrev pub AreForNone : {Z : Type 0} → List (String Z) → Type 0
 AreForNone words = (operation : Operation) → ¬ (AreFor words operation)
-
--- the only word is this text
-abbrev pub is_only : {Z : Type 0} → List ℕ → List (String Z) → Bool
-is_only text [] = false
-is_only text (word ∷ others) = length others == 0 && is text word

@@ -1,12 +1,10 @@
 -- What the contracts of this crate cite.
 pub mod Answers
 pub mod CommandLines
-pub mod Commands
 pub mod Laws
 pub mod Parts
 pub mod Private
 pub mod Reading
 pub mod Runs
 pub mod Stopping
-pub mod Told
 pub mod Usage

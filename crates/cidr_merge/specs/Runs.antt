@@ -1,26 +1,26 @@
 -- How a run ends: its exit status, what was written, and what was reported.
-use Rattle.std.specs.Prelude.{◌≡◌, ℕ, List, [], Bool, true, false, not, ◌&&◌, ◌⊎◌, if◌then◌else◌, codes, String}
+use Rattle.std.specs.Prelude.{◌≡◌, ℕ, List, [], Bool, true, false, not, ◌&&◌, ◌⊎◌, Some, if◌then◌else◌, codes, String}
 use Rattle.lists.specs.Refusals.{Refused}
 use Rattle.ipnetwork_sets.specs.Equality.{same_blocks}
 use Rattle.line_engine.specs.declared.output.Output.{Output}
 use Rattle.line_engine.specs.Outputs.{output_failed}
-use Rattle.program.specs.Endings.{Ending, IsSilent, HasTold, HasWritten, EndsPrinting}
+use Rattle.program.specs.Endings.{Ending, IsSilent, Refuses, HasTold, HasWritten}
 use Rattle.lists.specs.KnownLists.{KnownLists}
 use Rattle.program.specs.Messages.{Tells}
-use Rattle.program.specs.Told.{was_refused, fault_text}
+use Rattle.program.specs.Runs.{EndsRun}
+use Rattle.program.specs.Told.{was_refused, fault_text, in_list, refusals_text}
 use Rattle.lists.specs.declared.named.ReadFault.{ReadFault}
 use Rattle.cidr_merge.specs.Answers.{IsAnswer}
+use Rattle.cidr_merge.specs.CommandLines.{AreFor, AreForNone, Says}
 use Rattle.cidr_merge.specs.Reading.{ReadsSides}
 use Rattle.cidr_merge.specs.Stopping.{StopsInSides}
 use Rattle.program.specs.Usage.{usage_text}
-use Rattle.cidr_merge.specs.Told.{refusals_text}
-use Rattle.cidr_merge.specs.Usage.{problem_text}
-use Rattle.cidr_merge.specs.declared.command_line.Command.{Command}
-use Rattle.cidr_merge.specs.declared.command_line.Command.TheVariants.{Help, Version, Merge, Usage}
+use Rattle.cidr_merge.specs.Usage.{problem_text, fault_in}
 use Rattle.cidr_merge.specs.declared.command_line.Operation.{Operation}
 use Rattle.cidr_merge.specs.declared.command_line.Operation.TheVariants.{Union, Common, Minus, Differ}
 use Rattle.cidr_merge.specs.declared.command_line.Request.{Request}
 use Rattle.cidr_merge.specs.declared.reading.Sets.{Sets}
+use Rattle.cidr_merge.specs.declared.usage.UsageFault.{UsageFault}
 
 -- whether the operation is `differ`, and the blocks of its sides are not the same
 abbrev pub are_unequal : Operation → Sets → Sets → Bool
@@ -55,20 +55,17 @@ StopsReading known words request refused end = (fault : ReadFault) × StopsInSid
 
 -- the refused lines were reported, and then either why the reading stopped, or the answer was given
 abbrev pub EndsMerging : {Z W E : Type 0} → KnownLists → List (String Z) → Request → Ending W E → Type 0
-EndsMerging {Z} {W} {E} known words request end = (refused : Refused) × (told : Output E) × Tells end.tells end.errors told (refusals_text words refused)
+EndsMerging {Z} {W} {E} known words request end = (refused : Refused) × (told : Output E)
+    × Tells end.tells end.errors told (refusals_text words in_list refused)
     × (StopsReading known words request refused (record end { errors = told })
     ⊎ ((first second : Sets) × ReadsSides known words request first second refused × EndsAnswering request (was_refused refused) first second (record end { errors = told })))
 
--- what the program says of itself: its name, what `--help` and `--version` print, and its usage
-pub record About : Type 0 where
-  pub name : List ℕ
-  pub help : List ℕ
-  pub version : List ℕ
-  pub usage : List ℕ
-
--- how a run ends if the words ask for this
-abbrev pub EndsAs : {Z W E : Type 0} → About → KnownLists → List (String Z) → Command → Ending W E → Type 0
-EndsAs about known words Help end = EndsPrinting about.help end
-EndsAs about known words Version end = EndsPrinting about.version end
-EndsAs about known words (Merge request) end = EndsMerging known words request end
-EndsAs about known words (Usage fault) end = IsSilent end × HasTold end (usage_text about.name about.usage words fault.subject (problem_text fault.problem))
+-- how a run ends of a program of this name, help, version and usage: with the help or the version, if the words ask for
+-- it. Else they say a request, which is done, or something is wrong with them, and that and the usage are reported
+abbrev pub EndsAs : {Z W E : Type 0} → List ℕ → List ℕ → List ℕ → List ℕ → KnownLists
+    → List (String Z) → Ending W E → Type 0
+EndsAs program help version usage known words end = EndsRun help version words
+    (((request : Request) × AreFor words request.operation × Says words request
+    × EndsMerging known words request end)
+    ⊎ ((fault : UsageFault) × AreForNone words × (fault_in words ≡ Some fault)
+    × Refuses (usage_text program usage words fault.subject (problem_text fault.problem)) end)) end

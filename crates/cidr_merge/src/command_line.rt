@@ -1,12 +1,12 @@
 //! What the arguments ask for.
 ghost use Rattle.std.specs.Prelude.{◌≡◌, Some, length, IfOk, MatchResult};
 ghost use Rattle.cidr_merge.specs.CommandLines.{operation_named, form_of, AreFor, AreForNone, Says};
-ghost use Rattle.cidr_merge.specs.Commands.{Asks};
-ghost use Rattle.cidr_merge.specs.Private.Words.{IsWithin, AsksWithin};
+ghost use Rattle.cidr_merge.specs.Private.Words.{IsWithin};
 ghost use Rattle.cidr_merge.specs.Usage.{fault_in};
 
 use crate::usage::{Problem, UsageFault, fault_of, fault_of_word, nothing_said};
-use crate::words::{has, is, is_only, options_count, place_of};
+use crate::words::{has, options_count, place_of};
+use program::words::is;
 
 /// What is done with the lists.
 #[derive(Clone, Copy, Debug, PartialEq, Eq)]
@@ -49,38 +49,8 @@ pub struct Request {
     pub second: usize,
 }
 
-/// What the words of a command line ask for.
-#[derive(Clone, Copy, Debug, PartialEq, Eq)]
-pub enum Command {
-    /// `--help`.
-    Help,
-    /// `--version`.
-    Version,
-    /// An operation on lists.
-    Merge(Request),
-    /// Nothing: the words are not a command, for this reason.
-    Usage(UsageFault),
-}
-
-/// What the words after the program's name ask for. Does not allocate.
-pub fn command_of(words: &[String]) -> Command
-    ensures within { AsksWithin (length words.now) result }
-    ensures asked { Asks words.now result }
-{
-    if is_only(words, "--help") {
-        return Command::Help;
-    }
-    if is_only(words, "--version") {
-        return Command::Version;
-    }
-    match request_of(words) {
-        Ok(request) => Command::Merge(request),
-        Err(fault) => Command::Usage(fault),
-    }
-}
-
-// The operation, its options and its lists.
-fn request_of(words: &[String]) -> Result<Request, UsageFault>
+/// The operation, its options and its lists, which the words after the program's name say. Does not allocate.
+pub(crate) fn request_of(words: &[String]) -> Result<Request, UsageFault>
     ensures within { IfOk result (IsWithin (length words.now)) }
     ensures asked { MatchResult result (λ request. AreFor words.now request.operation × Says words.now request) (λ fault. AreForNone words.now × (fault_in words.now ≡ Some fault)) }
 {

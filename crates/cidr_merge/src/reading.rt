@@ -1,7 +1,6 @@
 //! Reads the lists of a side.
 ghost use Rattle.std.specs.Prelude.{◌≡◌, ◌≤◌, false, length, slice_range, OnOk, IfErr};
 ghost use Rattle.lists.specs.Lists.{nothing_read};
-ghost use Rattle.lists.specs.ReadBy.{read_by};
 ghost use Rattle.cidr_merge.specs.Reading.{ReadsLists, ReadsSide};
 ghost use Rattle.cidr_merge.specs.Stopping.{Stops};
 
@@ -30,8 +29,10 @@ pub(crate) fn read_side<L: OpenLists>(
 ) -> (Sets, Refusals, Result<(), ReadFault>)
     requires order { from ≤ to }
     requires within { to ≤ length words.now }
-    ensures read { OnOk result.2 (ReadsSide (L.known lists.now) from (slice_range words.now from to) refusals result.0 result.1) }
-    ensures stopped { IfErr result.2 (λ fault. Stops (L.known lists.now) from (slice_range words.now from to) (nothing_read refusals) fault result.1) }
+    ensures read { OnOk result.2 (ReadsSide (L.known lists.now) from
+        (slice_range words.now from to) refusals result.0 result.1) }
+    ensures stopped { IfErr result.2 (λ fault. Stops (L.known lists.now) from
+        (slice_range words.now from to) (nothing_read refusals) fault result.1) }
 {
     let mut reader = ListReader::new(alloc, refusals);
     let end = read_all(lists, words, from, to, &mut reader);
@@ -49,10 +50,12 @@ fn read_all<L: OpenLists>(
 ) -> Result<(), ReadFault>
     requires order { from ≤ to }
     requires within { to ≤ length words.now }
-    requires memory { (read_by reader.old).is_out_of_memory ≡ false }
-    ensures read { OnOk result (ReadsLists (L.known lists.now) from (slice_range words.now from to) (read_by reader.old) (read_by reader.new)) }
-    ensures memory { OnOk result ((read_by reader.new).is_out_of_memory ≡ false) }
-    ensures stopped { IfErr result (λ fault. Stops (L.known lists.now) from (slice_range words.now from to) (read_by reader.old) fault (read_by reader.new).refused) }
+    requires memory { reader.old.is_out_of_memory ≡ false }
+    ensures read { OnOk result (ReadsLists (L.known lists.now) from
+        (slice_range words.now from to) reader.old reader.new) }
+    ensures memory { OnOk result (reader.new.is_out_of_memory ≡ false) }
+    ensures stopped { IfErr result (λ fault. Stops (L.known lists.now) from
+        (slice_range words.now from to) reader.old fault reader.new.refused) }
 {
     for place in from..to {
         read_named(lists, words[place].as_str(), place, reader)?;

@@ -3,27 +3,23 @@ ghost use Rattle.std.specs.Prelude.{◌≡◌, ◌++◌, ℕ, List, length, OnOk
 ghost use Rattle.std.specs.Io.KnownBytes.{Appends};
 ghost use Rattle.line_engine.specs.Outputs.{writer_of, waits_in, output_failed};
 ghost use Rattle.cidr_merge.specs.Answers.{IsAnswer};
-ghost use Rattle.cidr_merge.specs.Commands.{Asks};
 ghost use Rattle.cidr_merge.specs.Private.Words.{IsWithin};
 ghost use Rattle.cidr_merge.specs.Reading.{ReadsSides};
 ghost use Rattle.cidr_merge.specs.Runs.{answer_status, EndsAnswering, EndsMerging, EndsAs};
 ghost use Rattle.cidr_merge.specs.Stopping.{StopsInSides};
-ghost use Rattle.cidr_merge.specs.Usage.{problem_text};
-ghost use Rattle.program.specs.Messages.{Tells};
-ghost use Rattle.program.specs.Usage.{usage_text};
+ghost use Rattle.program.specs.Endings.{ending};
 
-use crate::command_line::{Command, Operation, Request, command_of};
+use crate::command_line::{Operation, Request, request_of};
 use crate::help::{HELP, PROGRAM, USAGE, VERSION};
 use crate::printing::print;
 use crate::reading::{Sets, read_side};
-use crate::telling::tell_refusals;
-use crate::usage::UsageFault;
 use line_engine::fault::RunFault;
 use line_engine::output::Output;
 use lists::{OpenLists, ReadFault, Refusals};
 use program::ending::{FAILED, end, print_text};
-use program::telling::tell_fault;
-use program::usage::{Usage, refuse_usage};
+use program::start::text_asked;
+use program::telling::{InLists, tell_fault, tell_refusals};
+use program::usage::refuse_usage;
 use std::alloc::Global;
 use std::io::Write;
 
@@ -44,27 +40,19 @@ pub(crate) fn run<L: OpenLists, W: Write, E: Write>(
     output: &mut Output<'_, W>,
     errors: &mut Output<'_, E>,
 ) -> u8
-    ensures { (command : Command) × Asks words.now command × EndsAs (record { name = PROGRAM.now; help = HELP.now; version = VERSION.now; usage = USAGE.now }) (L.known lists.now) words.now command
-        (record { holds = W.contents; output = output.old; output_after = output.new; tells = E.contents; errors = errors.old; errors_after = errors.new; status = result }) }
+    ensures { EndsAs PROGRAM.now HELP.now VERSION.now USAGE.now (L.known lists.now) words.now
+        (ending W.contents output.old output.new E.contents errors.old errors.new result) }
 {
-    match command_of(words) {
-        Command::Help => print_text(HELP, output, errors),
-        Command::Version => print_text(VERSION, output, errors),
-        Command::Merge(request) => merge(alloc, request, words, lists, output, errors),
-        Command::Usage(fault) => refuse(fault, words, errors),
+    if let Some(text) = text_asked(HELP, VERSION, words) {
+        return print_text(text, output, errors);
     }
-}
-
-// Reports what is wrong with the words.
-fn refuse<E: Write>(fault: UsageFault, words: &[String], errors: &mut Output<'_, E>) -> u8
-    ensures status { result ≡ 2 }
-    ensures told { Tells E.contents errors.old errors.new (usage_text PROGRAM.now USAGE.now words.now fault.subject (problem_text fault.problem)) }
-{
-    let usage = Usage {
-        program: PROGRAM,
-        line: USAGE,
-    };
-    refuse_usage(usage, words, fault.subject, fault.problem.text(), errors)
+    match request_of(words) {
+        Ok(request) => merge(alloc, request, words, lists, output, errors),
+        Err(fault) => {
+            let problem = fault.problem.text();
+            refuse_usage(PROGRAM, USAGE, words, fault.subject, problem, errors)
+        }
+    }
 }
 
 // Reads the lists of both sides, and prints what the operation leaves of them.
@@ -78,10 +66,10 @@ fn merge<L: OpenLists, W: Write, E: Write>(
 ) -> u8
     requires { IsWithin (length words.now) request }
     ensures { EndsMerging (L.known lists.now) words.now request
-        (record { holds = W.contents; output = output.old; output_after = output.new; tells = E.contents; errors = errors.old; errors_after = errors.new; status = result }) }
+        (ending W.contents output.old output.new E.contents errors.old errors.new result) }
 {
     let (first, second, refusals, read) = read_sides(alloc, request, words, lists);
-    tell_refusals(words, &refusals, errors);
+    tell_refusals(words, &InLists, &refusals, errors);
     match read {
         Ok(()) => answer(
             request,
@@ -153,7 +141,7 @@ fn answer<W: Write, E: Write>(
     errors: &mut Output<'_, E>,
 ) -> u8
     ensures { EndsAnswering request skips first.now second.now
-        (record { holds = W.contents; output = output.old; output_after = output.new; tells = E.contents; errors = errors.old; errors_after = errors.new; status = result }) }
+        (ending W.contents output.old output.new E.contents errors.old errors.new result) }
 {
     if skips && !request.skips_bad {
         return FAILED;

@@ -1,15 +1,10 @@
 //! Words of a command line.
 ghost use Rattle.std.specs.Prelude.{◌≡◌, ◌≤◌, length};
 ghost use Rattle.std.specs.List.{position_or_len, prefix_len};
-ghost use Rattle.program.specs.Told.{name_at};
-ghost use Rattle.cidr_merge.specs.CommandLines.{is, count, has, is_only, is_dashed};
+ghost use Rattle.program.specs.Words.{is};
+ghost use Rattle.cidr_merge.specs.CommandLines.{count, has, is_dashed};
 
-/// Whether a word is this text.
-pub(crate) fn is(word: &String, text: &str) -> bool
-    ensures { result ≡ is text.now word.now }
-{
-    word.as_str() == text
-}
+use program::words::is;
 
 /// Whether a word among these is this text.
 pub(crate) fn has(words: &[String], text: &str) -> bool
@@ -43,13 +38,6 @@ pub(crate) fn place_of(words: &[String], text: &str) -> usize
     place
 }
 
-/// Whether there is one word, and it is this text.
-pub(crate) fn is_only(words: &[String], text: &str) -> bool
-    ensures { result ≡ is_only text.now words.now }
-{
-    words.len() == 1 && is(&words[0], text)
-}
-
 /// Whether a word begins with a `-`, and is not only that.
 pub(crate) fn is_dashed(word: &String) -> bool
     ensures { result ≡ is_dashed word.now }
@@ -70,15 +58,4 @@ pub(crate) fn options_count(words: &[String]) -> usize
         count += 1;
     }
     count
-}
-
-/// The word at this place; past the last word, an empty text.
-pub(crate) fn text_at(words: &[String], place: usize) -> &str
-    ensures { result.now ≡ name_at words.now place }
-{
-    if let Some(word) = words.get(place) {
-        word.as_str()
-    } else {
-        ""
-    }
 }

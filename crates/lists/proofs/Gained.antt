@@ -55,9 +55,11 @@ gains_entry before after (entries.Range (V6 first) (V6 last)) good h (V4 a) = ga
 gains_entry before after (entries.Range (V6 first) (V6 last)) good h (V6 a) = gains_blocks 128 first last before.v6 after.v6 h.2 h.0 a
 
 -- what is known where the entry was pushed, or could not be
-pub pushed : {A E : Type 0} (before after : ReadLists) (entry : Entry) (result : Result A E) → IsGoodEntry entry
-    → OnOk result (AddsEntry before.v4 before.v6 entry after.v4 after.v6) → after.refused ≡ before.refused → after.list ≡ before.list → after.line ≡ before.line
-    → after.is_out_of_memory ≡ is_err result → TakesEntry before entry after
-pushed before after entry (Ok done) good h refused list line memory =
-    inl (record { networks = h; addresses = gains_entry before after entry good h; refused = refused; list = list; line = line; memory = memory })
-pushed before after entry (Err fault) good h refused list line memory = inr (record { refused = refused; memory = memory })
+pub pushed : {A E : Type 0} (inside before after : ReadLists) (entry : Entry) (result : Result A E) → inside ≡ before → IsGoodEntry entry
+    → OnOk result (AddsEntry inside.v4 inside.v6 entry after.v4 after.v6) → after.refused ≡ inside.refused → after.list ≡ inside.list
+    → after.line ≡ inside.line → after.is_out_of_memory ≡ is_err result → TakesEntry before entry after
+pushed inside before after entry (Ok done) e good h refused list line memory =
+    subst (λ (b : ReadLists). TakesEntry b entry after) e
+    (inl (record { networks = h; addresses = gains_entry inside after entry good h; refused = refused; list = list; line = line; memory = memory }))
+pushed inside before after entry (Err fault) e good h refused list line memory =
+    subst (λ (b : ReadLists). TakesEntry b entry after) e (inr (record { refused = refused; memory = memory }))

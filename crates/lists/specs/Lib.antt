@@ -9,7 +9,6 @@ pub mod Lists
 pub mod Merges
 pub mod Printed
 pub mod Private
-pub mod ReadBy
 pub mod Reading
 pub mod Refusals
 pub mod Stopped

@@ -4,7 +4,6 @@ ghost use Rattle.ipnetwork_blocks.specs.Aggregate.{IsAggregate};
 ghost use Rattle.lists.specs.Entries.{IsRange};
 ghost use Rattle.lists.specs.Lists.{nothing_read, at_list, at_next_line, refusing, TakesEntry, Takes};
 ghost use Rattle.lists.specs.Added.{AddsNetwork, AddsRange, AddsEntry};
-ghost use Rattle.lists.specs.ReadBy.{read_by};
 ghost use Rattle.lists.specs.Private.Taking.{IsGoodEntry};
 
 use crate::entry::{Entry, read_entry};
@@ -14,6 +13,7 @@ use crate::refusals::{Refusal, Refusals};
 use ipnetwork::{IpAddr, IpNetwork, Ipv4Network, Ipv6Network};
 use ipnetwork_sets::AddressSet;
 use std::alloc::{AllocError, Global};
+use std::marker::Model;
 
 /// The networks that the lines of lists name, by family, and the lines that are refused.
 ///
@@ -39,6 +39,22 @@ pub struct ListReader {
     is_out_of_memory: bool,
 }
 
+// A contract sees what was read.
+impl Model for ListReader {
+    ghost use Rattle.lists.specs.Lists.{ReadLists};
+
+    ghost Value = { ReadLists };
+
+    ghost view = { λ r. record {
+      v4 = r.v4;
+      v6 = r.v6;
+      refused = r.refusals;
+      list = r.list;
+      line = r.line;
+      is_out_of_memory = r.is_out_of_memory;
+    } };
+}
+
 impl ListReader {
     /// A reader that has read no list yet. `refusals` has the lines that were refused before.
     ///
@@ -48,7 +64,7 @@ impl ListReader {
     /// assert!(rt; v4.is_empty() && v6.is_empty() && refusals.is_empty());
     /// ```
     pub fn new(alloc: Global, refusals: Refusals) -> ListReader
-        ensures { read_by result ≡ nothing_read refusals }
+        ensures { result ≡ nothing_read refusals }
     {
         ListReader {
             v4: Networks::new(alloc),
@@ -62,7 +78,7 @@ impl ListReader {
 
     /// Begins a list, to which the caller gives this number.
     pub(crate) fn begin(&mut self, list: usize)
-        ensures { read_by self.new ≡ at_list (read_by self.old) list }
+        ensures { self.new ≡ at_list self.old list }
     {
         self.list = list;
         self.line = 0;
@@ -76,7 +92,7 @@ impl ListReader {
     /// assert!(rt; !lists.is_out_of_memory());
     /// ```
     pub fn is_out_of_memory(&self) -> bool
-        ensures { result ≡ (read_by self.now).is_out_of_memory }
+        ensures { result ≡ self.now.is_out_of_memory }
     {
         self.is_out_of_memory
     }
@@ -91,9 +107,9 @@ impl ListReader {
     /// assert!(rt; refusals.is_empty());
     /// ```
     pub fn into_sets(self) -> (AddressSet<Ipv4Network>, AddressSet<Ipv6Network>, Refusals)
-        ensures v4 { IsAggregate 32 (read_by self).v4 result.0 }
-        ensures v6 { IsAggregate 128 (read_by self).v6 result.1 }
-        ensures refused { result.2 ≡ (read_by self).refused }
+        ensures v4 { IsAggregate 32 self.v4 result.0 }
+        ensures v6 { IsAggregate 128 self.v6 result.1 }
+        ensures refused { result.2 ≡ self.refused }
     {
         (self.v4.into_set(), self.v6.into_set(), self.refusals)
     }
@@ -111,16 +127,16 @@ impl ListReader {
     /// assert_eq!(rt; v4[1], "192.0.2.7/32".parse()?);
     /// ```
     pub fn into_networks(self) -> (Vec<Ipv4Network>, Vec<Ipv6Network>, Refusals)
-        ensures v4 { result.0.items ≡ (read_by self).v4 }
-        ensures v6 { result.1.items ≡ (read_by self).v6 }
-        ensures refused { result.2 ≡ (read_by self).refused }
+        ensures v4 { result.0.items ≡ self.v4 }
+        ensures v6 { result.1.items ≡ self.v6 }
+        ensures refused { result.2 ≡ self.refused }
     {
         (self.v4.into_vec(), self.v6.into_vec(), self.refusals)
     }
 
     /// Takes a line of at most 1,024 bytes, unless memory has run out.
     pub(crate) fn take_line(&mut self, line: &[u8])
-        ensures { Takes (read_by self.old) (Some line.now) (read_by self.new) }
+        ensures { Takes self.old (Some line.now) self.new }
     {
         if self.is_out_of_memory() {
             return;
@@ -135,7 +151,7 @@ impl ListReader {
 
     /// Refuses a longer line, unless memory has run out.
     pub(crate) fn refuse_long_line(&mut self)
-        ensures { Takes (read_by self.old) None (read_by self.new) }
+        ensures { Takes self.old None self.new }
     {
         if self.is_out_of_memory() {
             return;
@@ -146,14 +162,14 @@ impl ListReader {
 
     // Goes on to the next line of the list.
     fn next_line(&mut self)
-        ensures { read_by self.new ≡ at_next_line (read_by self.old) }
+        ensures { self.new ≡ at_next_line self.old }
     {
         self.line = self.line.saturating_add(1);
     }
 
     // Notes that the line is refused.
     fn refuse(&mut self, fault: LineFault)
-        ensures { read_by self.new ≡ refusing (read_by self.old) fault }
+        ensures { self.new ≡ refusing self.old fault }
     {
         self.refusals.add(Refusal {
             list: self.list,
@@ -165,7 +181,7 @@ impl ListReader {
     // Takes what an entry names.
     fn take(&mut self, entry: Entry)
         requires { IsGoodEntry entry }
-        ensures { TakesEntry (read_by self.old) entry (read_by self.new) }
+        ensures { TakesEntry self.old entry self.new }
     {
         let pushed = push_entry(&mut self.v4, &mut self.v6, entry);
         self.is_out_of_memory = pushed.is_err();

@@ -2,7 +2,6 @@
 ghost use Rattle.std.specs.Prelude.{◌≡◌, false, OnOk, IfErr};
 ghost use Rattle.std.specs.Str.Lines.{lines};
 ghost use Rattle.lists.specs.Lists.{at_list, TakesLines};
-ghost use Rattle.lists.specs.ReadBy.{read_by};
 ghost use Rattle.lists.specs.Private.Readings.{end_of};
 ghost use Rattle.lists.specs.Reading.{ReadsList, StopsAt, StopsAtText};
 
@@ -45,9 +44,11 @@ pub fn read_named<L: OpenLists>(
     place: usize,
     reader: &mut ListReader,
 ) -> Result<(), ReadFault>
-    ensures read { OnOk result (ReadsList (L.known lists.now) place name.now (read_by reader.old) (read_by reader.new)) }
-    ensures memory { OnOk result ((read_by reader.new).is_out_of_memory ≡ false) }
-    ensures stopped { IfErr result (λ fault. StopsAt (L.known lists.now) place name.now (read_by reader.old) fault (read_by reader.new).refused) }
+    ensures read { OnOk result
+        (ReadsList (L.known lists.now) place name.now reader.old reader.new) }
+    ensures memory { OnOk result (reader.new.is_out_of_memory ≡ false) }
+    ensures stopped { IfErr result
+        (λ fault. StopsAt (L.known lists.now) place name.now reader.old fault reader.new.refused) }
 {
     let Ok(list) = lists.open(name) else {
         return Err(ReadFault::Open(place));
@@ -67,9 +68,10 @@ pub fn read_named<L: OpenLists>(
 /// assert_eq!(rt; v4.blocks().len(), 1);
 /// ```
 pub fn read_text(text: &str, place: usize, reader: &mut ListReader) -> Result<(), ReadFault>
-    ensures read { OnOk result (TakesLines (at_list (read_by reader.old) place) (lines text.now) (read_by reader.new)) }
-    ensures memory { OnOk result ((read_by reader.new).is_out_of_memory ≡ false) }
-    ensures stopped { IfErr result (λ fault. StopsAtText place text.now (read_by reader.old) fault (read_by reader.new).refused) }
+    ensures read { OnOk result (TakesLines (at_list reader.old place) (lines text.now) reader.new) }
+    ensures memory { OnOk result (reader.new.is_out_of_memory ≡ false) }
+    ensures stopped { IfErr result
+        (λ fault. StopsAtText place text.now reader.old fault reader.new.refused) }
 {
     take_text(reader, place, text);
     if reader.is_out_of_memory() {

@@ -7,7 +7,6 @@ ghost use Rattle.line_engine.specs.Faults.{ended_by_read};
 ghost use Rattle.line_engine.specs.Watched.{device_of, has_failed};
 ghost use Rattle.lists.specs.Lists.{at_list, Takes, TakesLines};
 ghost use Rattle.lists.specs.Private.Waiting.{TakesWhole};
-ghost use Rattle.lists.specs.ReadBy.{read_by};
 ghost use Rattle.lists.specs.Stopped.{TakesBefore};
 
 use crate::list_reader::ListReader;
@@ -48,8 +47,10 @@ pub fn read_list<R: Read>(
     list: usize,
     reader: &mut Watched<R>,
 ) -> Result<(), RunFault>
-    ensures taken { OnOk result ((input : List ℕ) → R.remaining (device_of reader.old) ≡ Some input → TakesLines (at_list (read_by lists.old) list) (lines input) (read_by lists.new)) }
-    ensures stopped { IfErr result (λ fault. TakesBefore (R.remaining (device_of reader.old)) (R.remaining (device_of reader.new)) fault (at_list (read_by lists.old) list) (read_by lists.new)) }
+    ensures taken { OnOk result ((input : List ℕ) → R.remaining (device_of reader.old) ≡ Some input
+        → TakesLines (at_list lists.old list) (lines input) lists.new) }
+    ensures stopped { IfErr result (λ fault. TakesBefore (R.remaining (device_of reader.old))
+        (R.remaining (device_of reader.new)) fault (at_list lists.old list) lists.new) }
     ensures failed { has_failed reader.new ≡ (has_failed reader.old || ended_by_read result) }
 {
     lists.begin(list);
@@ -78,7 +79,8 @@ pub fn read_list<R: Read>(
 // Takes the lines that are whole.
 fn take_whole_lines(lists: &mut ListReader, lines: &mut LineBuffer<'_>)
     requires { lines.old.limit ≡ 1024 }
-    ensures taken { (pending : List ℕ) → IsPending lines.old pending → TakesWhole lines.new (read_by lists.old) (read_by lists.new) pending }
+    ensures taken { (pending : List ℕ) → IsPending lines.old pending
+        → TakesWhole lines.new lists.old lists.new pending }
     ensures limit { lines.new.limit ≡ lines.old.limit }
     ensures ended { lines.new.ended ≡ lines.old.ended }
 {
@@ -94,7 +96,7 @@ fn take_whole_lines(lists: &mut ListReader, lines: &mut LineBuffer<'_>)
 
 // Reads a text as a list to its end, as `read_list` reads its bytes. Refused lines name the text by the number `list`.
 pub(crate) fn take_text(lists: &mut ListReader, list: usize, text: &str)
-    ensures { TakesLines (at_list (read_by lists.old) list) (lines text.now) (read_by lists.new) }
+    ensures { TakesLines (at_list lists.old list) (lines text.now) lists.new }
 {
     lists.begin(list);
     for line in text.lines() {
@@ -104,7 +106,7 @@ pub(crate) fn take_text(lists: &mut ListReader, list: usize, text: &str)
 
 // Takes a line, unless it is too long.
 fn read_line(lists: &mut ListReader, line: &[u8])
-    ensures { Takes (read_by lists.old) (asked 1024 line.now) (read_by lists.new) }
+    ensures { Takes lists.old (asked 1024 line.now) lists.new }
 {
     if line.len() > LINE_MAX {
         lists.refuse_long_line();

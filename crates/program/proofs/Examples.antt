@@ -1,6 +1,6 @@
 -- Values at which a misreading of the definitions would show. Each of these computes.
 use Rattle.std.proofs.Common.{◌≡◌, ◌-◌, ◌^◌, ◌<◌, ℕ, List, ◌∷◌, [], true, false, inl, inr, refl, arith}
-use Rattle.std.specs.Prelude.{codes, String, Some, Ok, Err}
+use Rattle.std.specs.Prelude.{codes, String, None, Some, Ok, Err}
 use Rattle.std.specs.Fmt.{digits}
 use Rattle.std.specs.String.{string_bytes}
 use Rattle.std.specs.Str.Lines.{lines}
@@ -10,8 +10,10 @@ use Rattle.line_engine.specs.declared.fault.RunFault.TheVariants as faults
 use Rattle.lists.specs.KnownLists.{KnownLists}
 use Rattle.lists.specs.Private.Readings.{end_of}
 use Rattle.lists.specs.Reading.{ReadsList, StopsAt, StopsAtText}
+use Rattle.program.specs.Runs.{text_asked}
 use Rattle.program.specs.Told.{fault_text, more_text}
 use Rattle.program.specs.Usage.{subject_text, usage_text, arguments_text}
+use Rattle.program.specs.Words.{is, is_only}
 use Rattle.program.specs.declared.arguments.ArgumentsFault.TheVariants as arguments
 use Rattle.lists.specs.declared.named.ReadFault.TheVariants.{Open, Read, OutOfMemory}
 use Rattle.program.specs.declared.usage.Subject.TheVariants.{CommandLine, Word, Value}
@@ -98,3 +100,25 @@ an_argument_that_is_no_text = refl
 
 pub arguments_without_memory : arguments_text arguments.OutOfMemory (codes "p") (codes "usage: p\n") ≡ codes "out of memory\n"
 arguments_without_memory = refl
+
+-- ---- what the program says of itself
+
+pub the_only_word : {Z : Type 0} (text : List ℕ) (word : String Z) → is_only text (word ∷ []) ≡ is text word
+the_only_word text word = refl
+
+pub one_word_of_two : {Z : Type 0} (text : List ℕ) (word other : String Z) → is_only text (word ∷ other ∷ []) ≡ false
+one_word_of_two text word other = refl
+
+pub no_word_alone : (Z : Type 0) (text : List ℕ) → is_only {Z = Z} text [] ≡ false
+no_word_alone Z text = refl
+
+pub the_help : {Z : Type 0} (word : String Z) (help version : List ℕ) → string_bytes word ≡ codes "--help"
+    → text_asked help version (word ∷ []) ≡ Some help
+the_help word help version e = rw e
+
+pub the_version : {Z : Type 0} (word : String Z) (help version : List ℕ) → string_bytes word ≡ codes "--version"
+    → text_asked help version (word ∷ []) ≡ Some version
+the_version word help version e = rw e
+
+pub the_help_among_others : {Z : Type 0} (word other : String Z) (help version : List ℕ) → text_asked help version (word ∷ other ∷ []) ≡ None
+the_help_among_others word other help version = refl

@@ -1,3 +1,4 @@
 pub mod Examples
 pub mod PartExamples
+pub mod Runs
 pub mod Told

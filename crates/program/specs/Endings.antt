@@ -27,6 +27,19 @@ pub record Ending (W E : Type 0) : Type 0 where
   pub errors_after : Output E
   pub status : ℕ
 
+-- what the writer says that it holds, an output to it before and after, the same of the error writer, and the status
+abbrev pub ending : {W E : Type 0} → (W → Option (List ℕ)) → Output W → Output W
+    → (E → Option (List ℕ)) → Output E → Output E → ℕ → Ending W E
+ending holds output output_after tells errors errors_after status = record {
+  holds = holds;
+  output = output;
+  output_after = output_after;
+  tells = tells;
+  errors = errors;
+  errors_after = errors_after;
+  status = status;
+}
+
 -- nothing was written, and the status is 2
 abbrev pub IsSilent : {W E : Type 0} → Ending W E → Type 0
 IsSilent end = (end.output_after ≡ end.output) × (end.status ≡ 2)
@@ -38,6 +51,10 @@ HasTold end text = Tells end.tells end.errors end.errors_after text
 -- the text was written after what waited
 abbrev pub HasWritten : {W E : Type 0} → Ending W E → List ℕ → Type 0
 HasWritten end text = Appends (end.holds (writer_of end.output)) (end.holds (writer_of end.output_after)) (waits_in end.output ++ text)
+
+-- nothing was written, and this was reported
+abbrev pub Refuses : {W E : Type 0} → List ℕ → Ending W E → Type 0
+Refuses text end = IsSilent end × HasTold end text
 
 -- the text was written and nothing reported, or the writer failed, and that was reported
 abbrev pub EndsPrinting : {W E : Type 0} → List ℕ → Ending W E → Type 0

@@ -1,7 +1,10 @@
 -- Messages on standard error about lists.
 use Rattle.std.specs.Prelude.{ℕ, zero, suc, Bool, not, ◌==◌, List, [], ◌∷◌, ◌++◌, length, nat_lt, if◌then◌else◌, codes, decimal, String}
+use Rattle.std.specs.List.{flat_map}
 use Rattle.std.specs.String.{string_bytes}
+use Rattle.lists.specs.Faults.{line_fault_text}
 use Rattle.lists.specs.Refusals.{Refused}
+use Rattle.lists.specs.declared.refusals.Refusal.{Refusal}
 use Rattle.lists.specs.declared.named.ReadFault.{ReadFault}
 use Rattle.lists.specs.declared.named.ReadFault.TheVariants.{Open, Read, OutOfMemory}
 
@@ -18,6 +21,21 @@ was_refused refused = not (length refused.kept == 0)
 -- what is reported about refused lines that are not kept: how many there are
 abbrev pub more_text : ℕ → List ℕ
 more_text more = if nat_lt 0 more then decimal more ++ codes " more refused lines\n" else []
+
+-- a refused line stands in a list, which a word names, and has a number there
+abbrev pub in_list : Refusal → ℕ × ℕ
+in_list refusal = (refusal.list, refusal.line)
+
+-- what is reported about a refused line: the word and the number of its place, and why it is refused
+abbrev pub refusal_line : {Z : Type 0} → List (String Z) → (Refusal → ℕ × ℕ) → Refusal → List ℕ
+refusal_line words place refusal =
+    name_at words (place refusal).0 ++ codes ":" ++ decimal (place refusal).1
+    ++ codes ": refused " ++ line_fault_text refusal.fault ++ codes "\n"
+
+-- what is reported about refused lines
+abbrev pub refusals_text : {Z : Type 0} → List (String Z) → (Refusal → ℕ × ℕ) → Refused → List ℕ
+refusals_text words place refused =
+    flat_map (refusal_line words place) refused.kept ++ more_text refused.more
 
 -- what is reported if lists were not read to the end
 abbrev pub fault_text : {Z : Type 0} → List (String Z) → ReadFault → List ℕ

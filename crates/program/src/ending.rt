@@ -1,8 +1,8 @@
 //! How a program ends: its exit status, and what it reports on the error writer.
-ghost use Rattle.std.specs.Prelude.{◌≡◌, ◌++◌, if◌then◌else◌, OnOk, is_err};
+ghost use Rattle.std.specs.Prelude.{◌≡◌, ◌++◌, OnOk, is_err};
 ghost use Rattle.std.specs.Io.KnownBytes.{Appends};
 ghost use Rattle.line_engine.specs.Outputs.{writer_of, waits_in, output_failed};
-ghost use Rattle.program.specs.Endings.{status_of, failure_text, end_text};
+ghost use Rattle.program.specs.Endings.{ending, status_of, end_text, EndsPrinting};
 ghost use Rattle.program.specs.Messages.{Tells};
 
 use crate::messages::tell;
@@ -44,16 +44,15 @@ pub fn end<E: Write>(written: Result<(), RunFault>, status: u8, errors: &mut Out
 /// let (slice, error_slice) = (&mut [0; 64], &mut [0; 64]);
 /// let mut output = line_engine::output::Output::new(Vec::new(rt.alloc()), slice);
 /// let mut errors = line_engine::output::Output::new(Vec::new(rt.alloc()), error_slice);
-/// assert_eq!(rt; program::ending::print_text("cidr_merge 1\n", &mut output, &mut errors), 0);
+/// assert_eq!(rt; program::ending::print_text("sum 1\n", &mut output, &mut errors), 0);
 /// ```
 pub fn print_text<W: Write, E: Write>(
     text: &str,
     output: &mut Output<'_, W>,
     errors: &mut Output<'_, E>,
 ) -> u8
-    ensures status { result ≡ (if output_failed output.new then 2 else 0) }
-    ensures written { result ≡ 0 → Appends (W.contents (writer_of output.old)) (W.contents (writer_of output.new)) (waits_in output.old ++ text.now) }
-    ensures told { Tells E.contents errors.old errors.new (failure_text (output_failed output.new)) }
+    ensures { EndsPrinting text.now
+        (ending W.contents output.old output.new E.contents errors.old errors.new result) }
 {
     let written = write_text(text, output);
     end(written, 0, errors)

@@ -4,6 +4,8 @@
 pub mod arguments;
 pub mod ending;
 pub mod messages;
+pub mod start;
 pub mod system;
 pub mod telling;
 pub mod usage;
+pub mod words;

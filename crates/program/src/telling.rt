@@ -1,11 +1,100 @@
 //! Messages about lists on the error writer. If a write of one fails, nothing else changes.
+ghost use Rattle.std.specs.Prelude.{◌≡◌, ℕ};
 ghost use Rattle.program.specs.Messages.{Tells};
-ghost use Rattle.program.specs.Told.{name_at, more_text, fault_text};
+ghost use Rattle.program.specs.Told.{name_at, refusal_line, refusals_text, more_text, fault_text};
 
 use crate::messages::{tell, tell_number};
+use crate::words::text_at;
 use line_engine::output::Output;
-use lists::ReadFault;
+use lists::{ReadFault, Refusal, Refusals};
 use std::io::Write;
+
+/// Where refused lines stand, in the words of a command line.
+///
+/// ```
+/// use lists::{LineFault, Refusal};
+/// use program::telling::{InLists, Places};
+///
+/// let refusal = Refusal { list: 2, line: 7, fault: LineFault::Length };
+/// assert_eq!(rt; InLists.place(refusal), (2, 7));
+/// ```
+pub trait Places {
+    ghost use Rattle.lists.specs.declared.refusals.Refusal.{Refusal};
+
+    ghost told_at: { Self → Refusal → ℕ × ℕ };
+
+    /// The index of the word that names the place of a refused line, and the number that is told with it.
+    fn place(&self, refusal: Refusal) -> (usize, u64)
+        ensures { result ≡ told_at self.now refusal };
+}
+
+/// A line stands in the list that a word names, and has its number there.
+///
+/// ```
+/// use lists::{LineFault, Refusal};
+/// use program::telling::{InLists, Places};
+///
+/// let refusal = Refusal { list: 1, line: 12, fault: LineFault::Length };
+/// assert_eq!(rt; InLists.place(refusal), (1, 12));
+/// ```
+#[derive(Clone, Copy, Debug)]
+pub struct InLists;
+
+impl Places for InLists {
+    ghost use Rattle.program.specs.Told.{in_list};
+
+    ghost told_at = { λ _ refusal. in_list refusal };
+
+    fn place(&self, refusal: Refusal) -> (usize, u64) {
+        (refusal.list, refusal.line)
+    }
+}
+
+/// Reports the refused lines: the first hundred, and how many more there were.
+///
+/// ```
+/// use lists::Refusals;
+/// use program::telling::{InLists, tell_refusals};
+///
+/// let mut slice = [0; 64];
+/// let mut errors = line_engine::output::Output::new(Vec::new(rt.alloc()), &mut slice);
+/// tell_refusals(&[], &InLists, &Refusals::new(), &mut errors);
+/// assert_eq!(rt; errors.finish(), Ok(()));
+/// ```
+pub fn tell_refusals<P: Places, E: Write>(
+    words: &[String],
+    places: &P,
+    refusals: &Refusals,
+    errors: &mut Output<'_, E>,
+)
+    ensures { Tells E.contents errors.old errors.new
+        (refusals_text words.now (P.told_at places.now) refusals.now) }
+{
+    let kept = refusals.kept();
+    for refusal in kept {
+        tell_refusal(words, places, *refusal, errors);
+    }
+    tell_more(refusals.more(), errors);
+}
+
+// Reports a refused line.
+fn tell_refusal<P: Places, E: Write>(
+    words: &[String],
+    places: &P,
+    refusal: Refusal,
+    errors: &mut Output<'_, E>,
+)
+    ensures { Tells E.contents errors.old errors.new
+        (refusal_line words.now (P.told_at places.now) refusal) }
+{
+    let (word, number) = places.place(refusal);
+    tell_name(words, word, errors);
+    tell(":", errors);
+    tell_number(number, errors);
+    tell(": refused ", errors);
+    tell(refusal.fault.text(), errors);
+    tell("\n", errors);
+}
 
 /// Writes the word at an index to the error writer, and nothing if there is no such word.
 ///
@@ -18,9 +107,7 @@ use std::io::Write;
 pub fn tell_name<E: Write>(words: &[String], place: usize, errors: &mut Output<'_, E>)
     ensures { Tells E.contents errors.old errors.new (name_at words.now place) }
 {
-    if let Some(name) = words.get(place) {
-        tell(name.as_str(), errors);
-    }
+    tell(text_at(words, place), errors);
 }
 
 /// Reports how many more lines were refused, if any were.

@@ -7,22 +7,9 @@ ghost use Rattle.program.specs.Usage.{shown, subject_text, usage_text, arguments
 use crate::arguments::ArgumentsFault;
 use crate::ending::FAILED;
 use crate::messages::tell;
+use crate::words::text_at;
 use line_engine::output::Output;
 use std::io::Write;
-
-/// How a program is used.
-///
-/// ```
-/// let usage = program::usage::Usage { program: "cidr_merge", line: "usage: cidr_merge union FILE..\n" };
-/// assert_eq!(rt; usage.program, "cidr_merge");
-/// ```
-#[derive(Clone, Copy, Debug)]
-pub struct Usage<'a> {
-    /// The name of the program.
-    pub program: &'a str,
-    /// The line that says what its arguments are, with its line feed.
-    pub line: &'a str,
-}
 
 /// Which words of a command line a fault is about.
 ///
@@ -52,29 +39,31 @@ pub enum Subject {
 /// about, where an empty word is shown as `''`; the second is the usage.
 ///
 /// ```
-/// use program::usage::{Subject, Usage, refuse_usage};
+/// use program::usage::{Subject, refuse_usage};
 ///
 /// let mut slice = [0; 64];
 /// let mut errors = line_engine::output::Output::new(Vec::new(rt.alloc()), &mut slice);
-/// let usage = Usage { program: "cidr_merge", line: "usage: cidr_merge union FILE..\n" };
-/// assert_eq!(rt; refuse_usage(usage, &[], Subject::CommandLine, "no operation", &mut errors), 2);
+/// let (usage, nothing) = ("usage: sum FILE\n", Subject::CommandLine);
+/// assert_eq!(rt; refuse_usage("sum", usage, &[], nothing, "no FILE", &mut errors), 2);
 /// ```
 pub fn refuse_usage<E: Write>(
-    usage: Usage<'_>,
+    program: &str,
+    usage: &str,
     words: &[String],
     subject: Subject,
     problem: &str,
     errors: &mut Output<'_, E>,
 ) -> u8
     ensures status { result ≡ 2 }
-    ensures told { Tells E.contents errors.old errors.new (usage_text usage.entry.program.now usage.entry.line.now words.now subject problem.now) }
+    ensures told { Tells E.contents errors.old errors.new
+        (usage_text program.now usage.now words.now subject problem.now) }
 {
-    tell(usage.program, errors);
+    tell(program, errors);
     tell(": ", errors);
     tell_subject(words, subject, errors);
     tell(problem, errors);
     tell("\n", errors);
-    tell(usage.line, errors);
+    tell(usage, errors);
     FAILED
 }
 
@@ -101,11 +90,7 @@ fn tell_subject<E: Write>(words: &[String], subject: Subject, errors: &mut Outpu
 fn tell_word<E: Write>(words: &[String], place: usize, errors: &mut Output<'_, E>)
     ensures { Tells E.contents errors.old errors.new (shown (name_at words.now place)) }
 {
-    if let Some(word) = words.get(place) {
-        tell(shown(word.as_str()), errors);
-    } else {
-        tell(shown(""), errors);
-    }
+    tell(shown(text_at(words, place)), errors);
 }
 
 // A word as it is shown: an empty one as two quotes.
@@ -119,26 +104,28 @@ fn shown(word: &str) -> &str
 ///
 /// ```
 /// use program::arguments::ArgumentsFault;
-/// use program::usage::{Usage, refuse_arguments};
+/// use program::usage::refuse_arguments;
 ///
 /// let mut slice = [0; 64];
 /// let mut errors = line_engine::output::Output::new(Vec::new(rt.alloc()), &mut slice);
-/// let usage = Usage { program: "cidr_merge", line: "usage: cidr_merge union FILE..\n" };
-/// assert_eq!(rt; refuse_arguments(ArgumentsFault::OutOfMemory, usage, &mut errors), 2);
+/// let fault = ArgumentsFault::OutOfMemory;
+/// assert_eq!(rt; refuse_arguments(fault, "sum", "usage: sum FILE\n", &mut errors), 2);
 /// ```
 pub fn refuse_arguments<E: Write>(
     fault: ArgumentsFault,
-    usage: Usage<'_>,
+    program: &str,
+    usage: &str,
     errors: &mut Output<'_, E>,
 ) -> u8
     ensures status { result ≡ 2 }
-    ensures told { Tells E.contents errors.old errors.new (arguments_text fault usage.entry.program.now usage.entry.line.now) }
+    ensures told { Tells E.contents errors.old errors.new
+        (arguments_text fault program.now usage.now) }
 {
     match fault {
         ArgumentsFault::NotText => {
-            tell(usage.program, errors);
+            tell(program, errors);
             tell(": an argument is not UTF-8\n", errors);
-            tell(usage.line, errors);
+            tell(usage, errors);
             FAILED
         }
         ArgumentsFault::OutOfMemory => {

@@ -1,36 +1,18 @@
 -- What a command line asks for, step by step.
-use Rattle.std.specs.Prelude.{◌≡◌, ◌≤◌, List, [], ◌∷◌, None, drop, length, if◌then◌else◌, codes, fold, String}
-use Rattle.std.specs.List.{count_by, list_any}
+use Rattle.std.specs.Prelude.{◌≡◌, ◌≤◌, List, [], ◌∷◌, None, drop, length, if◌then◌else◌, codes, String}
+use Rattle.program.specs.Words.{is}
 use Rattle.cidr_filter.specs.CommandLines.{Begin}
-use Rattle.cidr_filter.specs.Options.{is, option_of, field_said, separator_said, bad_said, inverts_in, counts_in, is_longest, is_list, is_input}
-use Rattle.cidr_filter.specs.declared.command_line.Options.{Options}
+use Rattle.cidr_filter.specs.Options.{option_of, said_by}
 use Rattle.cidr_filter.specs.declared.command_line.Request.{Request}
-use Rattle.cidr_filter.specs.declared.command_line.Command.{Command}
-use Rattle.cidr_filter.specs.declared.command_line.Command.TheVariants as commands
-use Rattle.cidr_filter.specs.declared.filter.Bad.TheVariants as bads
 use Rattle.cidr_filter.specs.declared.options.Choice.{Choice}
 
--- this is true of the request, if lines are asked for
-abbrev pub IfFilter : (Request → Type 0) → Command → Type 0
-IfFilter holds commands.Help = Unit {0}
-IfFilter holds commands.Version = Unit {0}
-IfFilter holds (commands.Filter request) = holds request
-IfFilter holds (commands.Usage fault) = Unit {0}
-
 -- the options that words begin with, all of them, and what they say
-pub record BeginsWith {Z : Type 0} (words : List (String Z)) (said : Options) : Type 0 where
+pub record BeginsWith {Z : Type 0} (words : List (String Z)) (said : Request) : Type 0 where
   pub options : List Choice
-  pub within : said.behind ≤ length words
-  pub begin : Begin words options (drop said.behind words)
-  pub no_more : option_of (drop said.behind words) ≡ None
-  pub lists : said.has_list ≡ list_any is_list options
-  pub inputs : said.inputs ≡ count_by is_input options
-  pub field : said.request.field ≡ fold field_said 1 options
-  pub separator : said.request.separator ≡ fold separator_said 32 options
-  pub bad : said.request.bad ≡ fold bad_said bads.Drop options
-  pub inverts : said.request.inverts ≡ list_any inverts_in options
-  pub counts : said.request.counts ≡ list_any counts_in options
-  pub longest : said.request.longest ≡ list_any is_longest options
+  pub within : said.files ≤ length words
+  pub begin : Begin words options (drop said.files words)
+  pub no_more : option_of (drop said.files words) ≡ None
+  pub is_said : said ≡ record (said_by options) { files = said.files }
 
 -- the words behind a `--` that they begin with, or all of them
 abbrev pub behind_dashes : {Z : Type 0} → List (String Z) → List (String Z)

@@ -5,8 +5,8 @@ use Rattle.lists.specs.KnownLists.{KnownLists}
 use Rattle.cidr_filter.specs.Filters.{Filters}
 use Rattle.cidr_filter.specs.Lines.{LogLine, log_lines}
 use Rattle.cidr_filter.specs.Logs.{FiltersLogs, IsAllOf, HaltsBy}
-use Rattle.program.specs.Endings.{Ending, HasTold, HasWritten}
-use Rattle.cidr_filter.specs.Runs.{FailsWriting, EndsLogs, Refuses, filter_of}
+use Rattle.program.specs.Endings.{Ending, Refuses, HasTold, HasWritten}
+use Rattle.cidr_filter.specs.Runs.{FailsWriting, EndsLogs, filter_of}
 use Rattle.cidr_filter.specs.Stands.{Stand, Counts}
 use Rattle.cidr_filter.specs.Told.{log_fault_text}
 use Rattle.cidr_filter.specs.declared.command_line.Request.{Request}

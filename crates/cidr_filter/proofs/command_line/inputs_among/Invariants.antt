@@ -1,6 +1,6 @@
 use Rattle.std.proofs.Common.{◌≤◌, ◌≡◌, take, codes}
 use Rattle.std.specs.List.{count_by}
-use Rattle.cidr_filter.specs.Options.{is}
+use Rattle.program.specs.Words.{is}
 use Rattle.cidr_filter.proofs.command_line.inputs_among.Given as goal
 
 abbrev pub invariant-loop-file : goal.invariant-loop-file

@@ -20,8 +20,8 @@ returns-in-Some-together_problem-clause-nothing c =
     let words = c.args.words.now in
     let said = c.options_of-said.result in
     let once = c.at_most_one-is_read_once.result in
-    (all_are_wrong words said c.options_of-said.ensures (sym c.rest_fault.ensures ∙ c.in_default.is) (drop c.files_from-place.result words) c.files_from-place.ensures.files once
-    (c.at_most_one-is_read_once.ensures ∙ ap (λ n. nat_le (said.inputs + n) 1) (c.inputs_among.ensures ∙ ap inputs_among (take_rest words c.files_from-place.result)))
+    (all_are_wrong words said c.options_of-said.ensures (sym c.rest_fault.ensures ∙ c.in_default.is) (drop c.files_from-files.result words) c.files_from-files.ensures.files once
+    (c.at_most_one-is_read_once.ensures ∙ ap (λ n. nat_le (said.inputs + n) 1) (c.inputs_among.ensures ∙ ap inputs_among (take_rest words c.files_from-files.result)))
     c.in-Some-together_problem.problem
     (ap (λ b. together_by b said.has_list once) (sym c.is_crossed.ensures) ∙ sym c.together_problem.ensures ∙ c.in-Some-together_problem.is)).0
 
@@ -31,8 +31,8 @@ returns-in-Some-together_problem-clause-wrong c =
     let said = c.options_of-said.result in
     let once = c.at_most_one-is_read_once.result in
     subst (λ (fault : UsageFault). HasFault words fault) (sym c.about.ensures)
-    (all_are_wrong words said c.options_of-said.ensures (sym c.rest_fault.ensures ∙ c.in_default.is) (drop c.files_from-place.result words) c.files_from-place.ensures.files once
-    (c.at_most_one-is_read_once.ensures ∙ ap (λ n. nat_le (said.inputs + n) 1) (c.inputs_among.ensures ∙ ap inputs_among (take_rest words c.files_from-place.result)))
+    (all_are_wrong words said c.options_of-said.ensures (sym c.rest_fault.ensures ∙ c.in_default.is) (drop c.files_from-files.result words) c.files_from-files.ensures.files once
+    (c.at_most_one-is_read_once.ensures ∙ ap (λ n. nat_le (said.inputs + n) 1) (c.inputs_among.ensures ∙ ap inputs_among (take_rest words c.files_from-files.result)))
     c.in-Some-together_problem.problem
     (ap (λ b. together_by b said.has_list once) (sym c.is_crossed.ensures) ∙ sym c.together_problem.ensures ∙ c.in-Some-together_problem.is)).1
 
@@ -41,6 +41,6 @@ returns-in-None-clause-asked c =
     let words = c.args.words.now in
     let said = c.options_of-said.result in
     let once = c.at_most_one-is_read_once.result in
-    all_are_right words said c.options_of-said.ensures (sym c.rest_fault.ensures ∙ c.in_default.is) (drop c.files_from-place.result words) c.files_from-place.ensures.files once
-    (c.at_most_one-is_read_once.ensures ∙ ap (λ n. nat_le (said.inputs + n) 1) (c.inputs_among.ensures ∙ ap inputs_among (take_rest words c.files_from-place.result)))
-    (ap (λ b. together_by b said.has_list once) (sym c.is_crossed.ensures) ∙ sym c.together_problem.ensures ∙ c.in-None.is) c.files_from-place.result refl
+    all_are_right words said c.options_of-said.ensures (sym c.rest_fault.ensures ∙ c.in_default.is) (drop c.files_from-files.result words) c.files_from-files.ensures.files once
+    (c.at_most_one-is_read_once.ensures ∙ ap (λ n. nat_le (said.inputs + n) 1) (c.inputs_among.ensures ∙ ap inputs_among (take_rest words c.files_from-files.result)))
+    (ap (λ b. together_by b said.has_list once) (sym c.is_crossed.ensures) ∙ sym c.together_problem.ensures ∙ c.in-None.is) c.files_from-files.result refl

@@ -1,7 +1,6 @@
-use Rattle.lists.specs.ReadBy.{read_by}
 use Rattle.cidr_filter.proofs.ReadInTurn.{blocks_held}
 use Rattle.cidr_filter.proofs.reading.listed_by.Goals as goal
 
 pub returns-then-longest-clause-listed : goal.returns-then-longest-clause-listed
 returns-then-longest-clause-listed c =
-    blocks_held c.blocks_of.result c.args.longest (read_by c.args.reader) _ _ c.if-longest.true c.into_networks-v4.ensures.v4 c.into_networks-v4.ensures.v6 c.blocks_of.ensures
+    blocks_held c.blocks_of.result c.args.longest c.args.reader _ _ c.if-longest.true c.into_networks-v4.ensures.v4 c.into_networks-v4.ensures.v6 c.blocks_of.ensures

@@ -1,6 +1,5 @@
 use Rattle.std.proofs.Common.{◌++◌, ◌∷◌, ◌∙◌, [], ℕ, refl, sym, subst, arith, drop}
 use Rattle.std.proofs.lemmas.Result.{err_from_is_err_and}
-use Rattle.lists.specs.ReadBy.{read_by}
 use Rattle.cidr_filter.specs.CommandLines.{Begin}
 use Rattle.cidr_filter.specs.Reading.{ReadsOption, StopsAtOption}
 use Rattle.program.specs.Told.{name_at}
@@ -30,7 +29,7 @@ options-preserved g c =
         said.0 ++ choice ∷ [],
         subst (λ r. Begin words (said.0 ++ choice ∷ []) r) (sym c.behind-at.ensures.rest) (begin_more words said.0 rest choice said.1 (sym c.choice_at.ensures ∙ c.in-Some.is)),
         reads_more known words words rest said.0 choice _ _ _ said.1 said.2
-            (subst (λ n. ReadsOption known n choice (name_at rest 1) (read_by c.options.reader) (read_by c.read_option.new.reader)) (sym (place_behind words at c.options.invariant.within)) c.in_ok-read_option.ensures.read),
+            (subst (λ n. ReadsOption known n choice (name_at rest 1) c.options.reader c.read_option.new.reader) (sym (place_behind words at c.options.invariant.within)) c.in_ok-read_option.ensures.read),
       );
     }
 
@@ -56,11 +55,11 @@ returns-in_err-read_option-clause-stopped g c =
       options = said.0;
       choice = c.in-Some.choice;
       rest = rest;
-      between = read_by c.options.reader;
+      between = c.options.reader;
       begin = said.1;
       next = sym c.choice_at.ensures ∙ c.in-Some.is;
       in_turn = said.2;
       memory = c.options.invariant.memory;
-      stops = subst (λ (n : ℕ). StopsAtOption (g.L.OpenLists.known c.args.lists.now) n c.in-Some.choice (name_at rest 1) (read_by c.options.reader) c.in_err-read_option.field-0.0 (read_by c.read_option.new.reader).refused)
+      stops = subst (λ (n : ℕ). StopsAtOption (g.L.OpenLists.known c.args.lists.now) n c.in-Some.choice (name_at rest 1) c.options.reader c.in_err-read_option.field-0.0 c.read_option.new.reader.refused)
           (sym (place_behind words c.options.at c.options.invariant.within)) c.in_err-read_option.ensures.stopped;
     })

@@ -1,5 +1,4 @@
 use Rattle.std.proofs.Common.{◌≡◌, ◌≤◌, ◌-◌, List, false, length, drop}
-use Rattle.lists.specs.ReadBy.{read_by}
 use Rattle.cidr_filter.specs.CommandLines.{Begin}
 use Rattle.cidr_filter.specs.Reading.{ReadsOptions}
 use Rattle.cidr_filter.specs.declared.options.Choice.{Choice}
@@ -8,9 +7,9 @@ use Rattle.cidr_filter.proofs.reading.read_lists.Given as goal
 abbrev pub invariant-options : goal.invariant-options
 invariant-options g l = record {
   within : l.at ≤ length l.words;
-  memory : (read_by l.reader).is_out_of_memory ≡ false;
+  memory : l.reader.is_out_of_memory ≡ false;
   said : (options : List Choice) × Begin l.words options (drop l.at l.words)
-      × ReadsOptions (g.L.OpenLists.known l.lists) l.words l.words options (read_by l.initial.reader) (read_by l.reader);
+      × ReadsOptions (g.L.OpenLists.known l.lists) l.words l.words options l.initial.reader l.reader;
 }
 
 abbrev pub decreases-options : goal.decreases-options

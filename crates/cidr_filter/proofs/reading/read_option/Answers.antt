@@ -1,12 +1,11 @@
 use Rattle.std.proofs.Common.{◌∙◌, ◌+◌, sym, drop}
-use Rattle.lists.specs.ReadBy.{read_by}
 use Rattle.program.specs.Told.{name_at}
 use Rattle.cidr_filter.proofs.ReadInTurn.{value_within, value_is, reads_nothing, reads_text, reads_file, text_stops, file_stops}
 use Rattle.cidr_filter.proofs.reading.read_option.Goals as goal
 
 pub returns-then-not-is_list-clause-read : goal.returns-then-not-is_list-clause-read
 returns-then-not-is_list-clause-read g c =
-    reads_nothing (g.L.OpenLists.known c.args.lists.now) (c.args.at + 1) c.args.choice (name_at (drop c.args.at c.args.words.now) 1) (read_by c.args.reader.now)
+    reads_nothing (g.L.OpenLists.known c.args.lists.now) (c.args.at + 1) c.args.choice (name_at (drop c.args.at c.args.words.now) 1) c.args.reader.now
     (sym c.is_list.ensures ∙ c.if-not-is_list.true)
 
 pub bounds-words-at : goal.bounds-words-at
@@ -18,8 +17,8 @@ returns-in-Text-clause-read g c =
     let at = c.args.at in
     let value = c.index-words-at.result in
     let within = value_within words at c.args.choice c.requires.within c.requires.option (sym c.is_list.ensures ∙ c.if-not-is_list.false) in
-    reads_text c.read_text.result (g.L.OpenLists.known c.args.lists.now) (at + 1) c.args.choice (name_at (drop at words) 1) c.as_str.result.now (read_by c.args.reader.now)
-    (read_by c.read_text.new.reader) c.in-Text.is (value_is words at value within c.index-words-at.is ∙ sym c.as_str.ensures.value) c.read_text.ensures.read
+    reads_text c.read_text.result (g.L.OpenLists.known c.args.lists.now) (at + 1) c.args.choice (name_at (drop at words) 1) c.as_str.result.now c.args.reader.now
+    c.read_text.new.reader c.in-Text.is (value_is words at value within c.index-words-at.is ∙ sym c.as_str.ensures.value) c.read_text.ensures.read
 
 pub returns-in_default-clause-read : goal.returns-in_default-clause-read
 returns-in_default-clause-read g c =
@@ -28,8 +27,8 @@ returns-in_default-clause-read g c =
     let value = c.index-words-at.result in
     let list = sym c.is_list.ensures ∙ c.if-not-is_list.false in
     let within = value_within words at c.args.choice c.requires.within c.requires.option list in
-    reads_file c.read_named.result (g.L.OpenLists.known c.args.lists.now) (at + 1) c.args.choice (name_at (drop at words) 1) c.as_str-in_default.result.now (read_by c.args.reader.now)
-    (read_by c.read_named.new.reader) list c.in_default.not-Text (value_is words at value within c.index-words-at.is ∙ sym c.as_str-in_default.ensures.value) c.read_named.ensures.read
+    reads_file c.read_named.result (g.L.OpenLists.known c.args.lists.now) (at + 1) c.args.choice (name_at (drop at words) 1) c.as_str-in_default.result.now c.args.reader.now
+    c.read_named.new.reader list c.in_default.not-Text (value_is words at value within c.index-words-at.is ∙ sym c.as_str-in_default.ensures.value) c.read_named.ensures.read
 
 pub returns-in_default-clause-memory : goal.returns-in_default-clause-memory
 returns-in_default-clause-memory g c = c.read_named.ensures.memory
@@ -40,7 +39,7 @@ returns-in-Text-clause-stopped g c =
     let at = c.args.at in
     let value = c.index-words-at.result in
     let within = value_within words at c.args.choice c.requires.within c.requires.option (sym c.is_list.ensures ∙ c.if-not-is_list.false) in
-    text_stops c.read_text.result (g.L.OpenLists.known c.args.lists.now) (at + 1) c.args.choice (name_at (drop at words) 1) c.as_str.result.now (read_by c.args.reader.now)
+    text_stops c.read_text.result (g.L.OpenLists.known c.args.lists.now) (at + 1) c.args.choice (name_at (drop at words) 1) c.as_str.result.now c.args.reader.now
     _ c.in-Text.is (value_is words at value within c.index-words-at.is ∙ sym c.as_str.ensures.value) c.read_text.ensures.stopped
 
 pub returns-in_default-clause-stopped : goal.returns-in_default-clause-stopped
@@ -50,5 +49,5 @@ returns-in_default-clause-stopped g c =
     let value = c.index-words-at.result in
     let list = sym c.is_list.ensures ∙ c.if-not-is_list.false in
     let within = value_within words at c.args.choice c.requires.within c.requires.option list in
-    file_stops c.read_named.result (g.L.OpenLists.known c.args.lists.now) (at + 1) c.args.choice (name_at (drop at words) 1) c.as_str-in_default.result.now (read_by c.args.reader.now)
+    file_stops c.read_named.result (g.L.OpenLists.known c.args.lists.now) (at + 1) c.args.choice (name_at (drop at words) 1) c.as_str-in_default.result.now c.args.reader.now
     _ list c.in_default.not-Text (value_is words at value within c.index-words-at.is ∙ sym c.as_str-in_default.ensures.value) c.read_named.ensures.stopped

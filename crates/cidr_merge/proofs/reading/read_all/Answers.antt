@@ -1,6 +1,5 @@
 use Rattle.std.proofs.Common.{ℕ, List, subst, arith}
 use Rattle.std.proofs.lemmas.Result.{err_from_is_err_and}
-use Rattle.lists.specs.ReadBy.{read_by}
 use Rattle.lists.specs.Reading.{ReadsList, StopsAt}
 use Rattle.cidr_merge.proofs.ReadInTurn.{reads_none, reads_on}
 use Rattle.cidr_merge.proofs.Stopping.{stops_in}
@@ -8,15 +7,15 @@ use Rattle.cidr_merge.proofs.reading.read_all.Goals as goal
 
 pub loop-place-init : goal.loop-place-init
 loop-place-init g c = record {
-  read = reads_none (g.L.OpenLists.known c.args.lists.now) c.args.words.now c.args.from (read_by c.args.reader.now);
+  read = reads_none (g.L.OpenLists.known c.args.lists.now) c.args.words.now c.args.from c.args.reader.now;
   memory = c.requires.memory;
 }
 
 pub loop-place-preserved : goal.loop-place-preserved
 loop-place-preserved g c = record {
-  read = reads_on (g.L.OpenLists.known c.args.lists.now) c.args.words.now c.args.from c.loop-place.place c.index-words-place.result (read_by c.args.reader.now) (read_by c.loop-place.reader)
-      (read_by c.read_named.new.reader) (omega arith) (omega arith) c.index-words-place.is c.loop-place.invariant.read
-      (subst (λ (n : List ℕ). ReadsList (g.L.OpenLists.known c.args.lists.now) c.loop-place.place n (read_by c.loop-place.reader) (read_by c.read_named.new.reader)) c.as_str.ensures.value c.in_ok-read_named.ensures.read);
+  read = reads_on (g.L.OpenLists.known c.args.lists.now) c.args.words.now c.args.from c.loop-place.place c.index-words-place.result c.args.reader.now c.loop-place.reader
+      c.read_named.new.reader (omega arith) (omega arith) c.index-words-place.is c.loop-place.invariant.read
+      (subst (λ (n : List ℕ). ReadsList (g.L.OpenLists.known c.args.lists.now) c.loop-place.place n c.loop-place.reader c.read_named.new.reader) c.as_str.ensures.value c.in_ok-read_named.ensures.read);
   memory = c.in_ok-read_named.ensures.memory;
 }
 
@@ -24,7 +23,7 @@ pub returns-in_err-read_named-clause-stopped : goal.returns-in_err-read_named-cl
 returns-in_err-read_named-clause-stopped g c =
     let p = err_from_is_err_and c.from_residual.result c.from_residual.ensures.1 in
     rw (p.1, p.2)
-    (stops_in (g.L.OpenLists.known c.args.lists.now) c.args.words.now c.args.from c.loop-place.place c.args.to c.index-words-place.result (read_by c.args.reader.now)
-    (read_by c.loop-place.reader) _ _ (omega arith) (omega arith) c.requires.within c.index-words-place.is c.loop-place.invariant.read c.loop-place.invariant.memory
-    (subst (λ (n : List ℕ). StopsAt (g.L.OpenLists.known c.args.lists.now) c.loop-place.place n (read_by c.loop-place.reader) c.in_err-read_named.field-0.0 (read_by c.read_named.new.reader).refused) c.as_str.ensures.value
+    (stops_in (g.L.OpenLists.known c.args.lists.now) c.args.words.now c.args.from c.loop-place.place c.args.to c.index-words-place.result c.args.reader.now
+    c.loop-place.reader _ _ (omega arith) (omega arith) c.requires.within c.index-words-place.is c.loop-place.invariant.read c.loop-place.invariant.memory
+    (subst (λ (n : List ℕ). StopsAt (g.L.OpenLists.known c.args.lists.now) c.loop-place.place n c.loop-place.reader c.in_err-read_named.field-0.0 c.read_named.new.reader.refused) c.as_str.ensures.value
     c.in_err-read_named.ensures.stopped))

@@ -1,33 +1,34 @@
-use Rattle.std.proofs.Common.{refl}
-use Rattle.cidr_merge.specs.declared.command_line.Command.TheVariants.{Help, Version, Merge, Usage}
-use Rattle.cidr_merge.proofs.Runs.{ends_by}
-use Rattle.cidr_merge.specs.Runs.{About}
+use Rattle.std.proofs.Common.{inl, inr, refl, ap}
+use Rattle.program.specs.Endings.{ending}
+use Rattle.program.specs.Usage.{usage_text}
+use Rattle.program.proofs.Runs.{printed, not_asked}
+use Rattle.program.proofs.Told.{tells_same}
 use Rattle.cidr_merge.specs.declared.help.TheConstants.{PROGRAM, HELP, VERSION, USAGE}
 use Rattle.cidr_merge.proofs.run.run.Goals as goal
 
-abbrev about : About
-about = record { name = PROGRAM.now; help = HELP.now; version = VERSION.now; usage = USAGE.now }
+pub returns-in-Some : goal.returns-in-Some
+returns-in-Some g c =
+    let end = ending g.W.Write.contents c.args.output.now c.print_text.new.output
+    g.E.Write.contents c.args.errors.now c.print_text.new.errors c.print_text.result in
+    printed HELP.now VERSION.now c.args.words.now _ end c.in-Some.text.now c.in-Some.ensures c.print_text.ensures
 
-pub returns-in-Help : goal.returns-in-Help
-returns-in-Help g c =
-    ends_by about (g.L.OpenLists.known c.args.lists.now) c.args.words.now c.command_of.result Help
-    (record { holds = g.W.Write.contents; output = c.args.output.now; output_after = c.print_text.new.output; tells = g.E.Write.contents; errors = c.args.errors.now; errors_after = c.print_text.new.errors; status = c.print_text.result }) c.in-Help.is c.command_of.ensures.asked
-    (c.print_text.ensures.status, c.print_text.ensures.written, c.print_text.ensures.told)
+pub returns-in-Ok : goal.returns-in-Ok
+returns-in-Ok g c =
+    let asked = c.in-Ok.ensures.asked in
+    let end = ending g.W.Write.contents c.args.output.now c.merge.new.output
+    g.E.Write.contents c.args.errors.now c.merge.new.errors c.merge.result in
+    not_asked HELP.now VERSION.now c.args.words.now _ end c.in_default.ensures
+    (inl (c.in-Ok.request, asked.0, asked.1, c.merge.ensures))
 
-pub returns-in-Version : goal.returns-in-Version
-returns-in-Version g c =
-    ends_by about (g.L.OpenLists.known c.args.lists.now) c.args.words.now c.command_of.result Version
-    (record { holds = g.W.Write.contents; output = c.args.output.now; output_after = c.print_text-in-Version.new.output; tells = g.E.Write.contents; errors = c.args.errors.now; errors_after = c.print_text-in-Version.new.errors; status = c.print_text-in-Version.result }) c.in-Version.is c.command_of.ensures.asked
-    (c.print_text-in-Version.ensures.status, c.print_text-in-Version.ensures.written, c.print_text-in-Version.ensures.told)
-
-pub returns-in-Merge : goal.returns-in-Merge
-returns-in-Merge g c =
-    ends_by about (g.L.OpenLists.known c.args.lists.now) c.args.words.now c.command_of.result (Merge c.in-Merge.request)
-    (record { holds = g.W.Write.contents; output = c.args.output.now; output_after = c.merge.new.output; tells = g.E.Write.contents; errors = c.args.errors.now; errors_after = c.merge.new.errors; status = c.merge.result }) c.in-Merge.is c.command_of.ensures.asked
-    c.merge.ensures
-
-pub returns-in-Usage : goal.returns-in-Usage
-returns-in-Usage g c =
-    ends_by about (g.L.OpenLists.known c.args.lists.now) c.args.words.now c.command_of.result (Usage c.in-Usage.fault)
-    (record { holds = g.W.Write.contents; output = c.args.output.now; output_after = c.args.output.now; tells = g.E.Write.contents; errors = c.args.errors.now; errors_after = c.refuse.new.errors; status = c.refuse.result }) c.in-Usage.is c.command_of.ensures.asked
-    ((refl, c.refuse.ensures.status), c.refuse.ensures.told)
+pub returns-in-Err : goal.returns-in-Err
+returns-in-Err g c =
+    let fault = c.in-Err.fault in
+    let words = c.args.words.now in
+    let wrong = c.in-Err.ensures.asked in
+    let same = ap (usage_text PROGRAM.now USAGE.now words fault.subject) c.text-problem.ensures in
+    let told = tells_same g.E.Write.contents c.args.errors.now c.refuse_usage.new.errors _ _ same
+    c.refuse_usage.ensures.told in
+    let end = ending g.W.Write.contents c.args.output.now c.args.output.now
+    g.E.Write.contents c.args.errors.now c.refuse_usage.new.errors c.refuse_usage.result in
+    not_asked HELP.now VERSION.now words _ end c.in_default.ensures
+    (inr (fault, wrong.0, wrong.1, ((refl, c.refuse_usage.ensures.status), told)))

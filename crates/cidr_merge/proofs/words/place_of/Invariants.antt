@@ -1,6 +1,6 @@
 use Rattle.std.proofs.Common.{length, ◌-◌, ◌≡◌, ◌+◌, ◌≤◌, drop}
 use Rattle.std.specs.List.{position_or_len}
-use Rattle.cidr_merge.specs.CommandLines.{is}
+use Rattle.program.specs.Words.{is}
 use Rattle.cidr_merge.proofs.words.place_of.Given as goal
 
 abbrev pub invariant-loop-place : goal.invariant-loop-place

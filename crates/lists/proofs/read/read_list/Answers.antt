@@ -6,7 +6,6 @@ use Rattle.line_engine.specs.Watched.{device_of}
 use Rattle.line_engine.specs.declared.fault.RunFault.TheVariants.{Read, InputTooLong}
 use Rattle.line_engine.proofs.Writes.{still_works}
 use Rattle.lists.specs.Lists.{ReadLists, TakesLines}
-use Rattle.lists.specs.ReadBy.{read_by}
 use Rattle.lists.specs.Stopped.{TakesBefore}
 use Rattle.lists.proofs.Handed.{goes_on, goes_idle, stops_reading, stops_too_long, ends, runs_out}
 use Rattle.lists.proofs.read.read_list.Goals as goal
@@ -14,21 +13,21 @@ use Rattle.lists.proofs.read.read_list.Goals as goal
 pub returns-in-Err-clause-stopped : goal.returns-in-Err-clause-stopped
 returns-in-Err-clause-stopped g c =
     let remaining = g.R.Read.remaining in
-    subst (λ (s : ReadLists). TakesBefore (remaining (device_of c.args.reader.now)) (remaining (device_of c.ask.new.reader)) Read s (read_by c.reads.lists)) c.begin.ensures
+    subst (λ (s : ReadLists). TakesBefore (remaining (device_of c.args.reader.now)) (remaining (device_of c.ask.new.reader)) Read s c.reads.lists) c.begin.ensures
     (stops_reading _ _ _ c.reads.lines _ _ c.reads.room c.reads.invariant.taken c.in-Err.ensures.err)
 
 pub returns-then-count-room-clause-stopped : goal.returns-then-count-room-clause-stopped
 returns-then-count-room-clause-stopped g c =
     let remaining = g.R.Read.remaining in
     let r = c.in-Ok.ensures.read in
-    subst (λ (s : ReadLists). TakesBefore (remaining (device_of c.args.reader.now)) (remaining (device_of c.ask.new.reader)) InputTooLong s (read_by c.reads.lists)) c.begin.ensures
+    subst (λ (s : ReadLists). TakesBefore (remaining (device_of c.args.reader.now)) (remaining (device_of c.ask.new.reader)) InputTooLong s c.reads.lists) c.begin.ensures
     (stops_too_long _ _ _ c.reads.lines _ _ c.reads.room c.reads.invariant.taken r.chunk r.consumed (omega (arith, r.counted, c.if-count-room.true)))
 
 pub returns-then-count-eq0-clause-taken : goal.returns-then-count-eq0-clause-taken
 returns-then-count-eq0-clause-taken g c =
     let r = c.in-Ok.ensures.read in
     let ended : c.take_whole_lines.new.lines.ended ≡ true = c.take_whole_lines.ensures.ended ∙ c.in-Ok.ensures.ended ∙ ap (λ n. n == 0) c.if-count-eq0.true in
-    subst (λ (s : ReadLists). (input : List ℕ) → g.R.Read.remaining (device_of c.args.reader.now) ≡ Some input → TakesLines s (lines input) (read_by c.take_whole_lines.new.lists)) c.begin.ensures
+    subst (λ (s : ReadLists). (input : List ℕ) → g.R.Read.remaining (device_of c.args.reader.now) ≡ Some input → TakesLines s (lines input) c.take_whole_lines.new.lists) c.begin.ensures
     (ends _ _ _ c.reads.lines c.ask.new.self c.take_whole_lines.new.lines _ _ _ c.reads.room c.reads.invariant.taken r.chunk r.consumed (r.at_end c.if-count-eq0.true) r.holds
     c.take_whole_lines.ensures.taken ended)
 
@@ -36,7 +35,7 @@ pub returns-then-is_out_of_memory-clause-taken : goal.returns-then-is_out_of_mem
 returns-then-is_out_of_memory-clause-taken g c =
     let r = c.in-Ok.ensures.read in
     let going : c.take_whole_lines.new.lines.ended ≡ false = c.take_whole_lines.ensures.ended ∙ c.in-Ok.ensures.ended ∙ ne_eqb c.in-Ok.count 0 c.if-count-eq0.false in
-    subst (λ (s : ReadLists). (input : List ℕ) → g.R.Read.remaining (device_of c.args.reader.now) ≡ Some input → TakesLines s (lines input) (read_by c.take_whole_lines.new.lists)) c.begin.ensures
+    subst (λ (s : ReadLists). (input : List ℕ) → g.R.Read.remaining (device_of c.args.reader.now) ≡ Some input → TakesLines s (lines input) c.take_whole_lines.new.lists) c.begin.ensures
     (runs_out _ _ c.take_whole_lines.new.lines _ _ (c.reads.room - c.in-Ok.count)
     (goes_on _ _ _ c.reads.lines c.ask.new.self c.take_whole_lines.new.lines _ _ _ c.reads.room (c.reads.room - c.in-Ok.count) c.in-Ok.count c.reads.invariant.taken r.chunk r.counted
     c.if-count-room.false refl r.consumed r.holds c.take_whole_lines.ensures.taken going)

@@ -2,12 +2,11 @@ use Rattle.std.proofs.Common.{◌≡◌}
 use Rattle.line_engine.specs.LineBuffers.{waits, HasNoFeed}
 use Rattle.line_engine.specs.Watched.{device_of, has_failed}
 use Rattle.lists.proofs.Handed.{TakesSoFar}
-use Rattle.lists.specs.ReadBy.{read_by}
 use Rattle.lists.proofs.read.read_list.Given as goal
 
 abbrev pub invariant-reads : goal.invariant-reads
 invariant-reads g l = record {
-  taken : TakesSoFar (g.R.Read.remaining (device_of l.initial.reader)) (g.R.Read.remaining (device_of l.reader)) l.lines (read_by l.initial.lists) (read_by l.lists) l.room;
+  taken : TakesSoFar (g.R.Read.remaining (device_of l.initial.reader)) (g.R.Read.remaining (device_of l.reader)) l.lines l.initial.lists l.lists l.room;
   idle : HasNoFeed (waits l.lines);
   limit : l.lines.limit ≡ 1024;
   failed : has_failed l.reader ≡ has_failed l.initial.reader;

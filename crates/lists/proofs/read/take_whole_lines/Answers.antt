@@ -1,10 +1,9 @@
 use Rattle.std.proofs.Common.{◌∙◌, refl}
-use Rattle.lists.specs.ReadBy.{read_by}
 use Rattle.lists.proofs.Handed.{takes_none, takes_line, takes_too_long, takes_whole, takes_all}
 use Rattle.lists.proofs.read.take_whole_lines.Goals as goal
 
 pub lines-init : goal.lines-init
-lines-init c = record { taken = λ pending h. takes_none c.args.lines.now (read_by c.args.lists.now) pending h; limit = refl; ended = refl }
+lines-init c = record { taken = λ pending h. takes_none c.args.lines.now c.args.lists.now pending h; limit = refl; ended = refl }
 
 pub lines-preserved-in-Line : goal.lines-preserved-in-Line
 lines-preserved-in-Line c = record {

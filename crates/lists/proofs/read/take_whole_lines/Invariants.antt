@@ -1,12 +1,11 @@
 use Rattle.std.proofs.Common.{◌≡◌, ℕ, List}
 use Rattle.line_engine.specs.LineBuffers.{IsPending, work}
 use Rattle.lists.specs.Private.Waiting.{TakesSome}
-use Rattle.lists.specs.ReadBy.{read_by}
 use Rattle.lists.proofs.read.take_whole_lines.Given as goal
 
 abbrev pub invariant-lines : goal.invariant-lines
 invariant-lines l = record {
-  taken : (pending : List ℕ) → IsPending l.initial.lines pending → TakesSome l.lines (read_by l.initial.lists) (read_by l.lists) pending;
+  taken : (pending : List ℕ) → IsPending l.initial.lines pending → TakesSome l.lines l.initial.lists l.lists pending;
   limit : l.lines.limit ≡ l.initial.lines.limit;
   ended : l.lines.ended ≡ l.initial.lines.ended;
 }

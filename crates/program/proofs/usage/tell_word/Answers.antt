@@ -1,15 +1,7 @@
-use Rattle.std.proofs.Common.{◌∙◌, sym, ap}
-use Rattle.std.specs.String.{string_bytes}
-use Rattle.program.proofs.Told.{tells_same, name_within, name_past}
+use Rattle.std.proofs.Common.{◌∙◌, ap}
+use Rattle.program.proofs.Told.{tells_same}
 use Rattle.program.specs.Usage.{shown}
 use Rattle.program.proofs.usage.tell_word.Goals as goal
 
-pub returns-in-Some : goal.returns-in-Some
-returns-in-Some g c =
-    let lookup = c.in-Some.ensures.lookup in
-    tells_same g.E.Write.contents _ _ _ _
-    (c.shown.ensures ∙ ap shown (c.as_str.ensures.value ∙ ap string_bytes lookup.1 ∙ sym (name_within c.args.words.now c.args.place c.in-Some.word.now lookup.3.0))) c.tell.ensures
-
-pub returns-in_default : goal.returns-in_default
-returns-in_default g c =
-    tells_same g.E.Write.contents _ _ _ _ (c.shown-in_default.ensures ∙ ap shown (sym (name_past c.args.words.now c.args.place c.in_default.ensures.lookup.3))) c.tell-in_default.ensures
+pub returns : goal.returns
+returns g c = tells_same g.E.Write.contents _ _ _ _ (c.shown.ensures ∙ ap shown c.text_at.ensures) c.tell.ensures

@@ -1,7 +1,8 @@
 use Rattle.std.proofs.Common.{refl}
-use Rattle.lists.specs.ReadBy.{read_by}
 use Rattle.lists.proofs.Gained.{pushed}
 use Rattle.lists.proofs.list_reader.ListReader.take.Goals as goal
 
 pub returns : goal.returns
-returns c = pushed (read_by c.args.self.now) _ c.args.entry c.push_entry-pushed.result c.requires c.push_entry-pushed.ensures refl refl refl c.is_err-self.ensures.value
+returns c =
+    pushed _ c.args.self.now _ c.args.entry c.push_entry-pushed.result c.self.view_is c.requires c.push_entry-pushed.ensures refl refl refl
+    c.is_err-self-inside.ensures.value

@@ -2,9 +2,8 @@ use Rattle.std.proofs.Common.{◌+◌, ◌∙◌, ap, take, arith}
 use Rattle.std.specs.List.{flat_map}
 use Rattle.std.proofs.lemmas.List.{take_more, take_all}
 use Rattle.program.proofs.Told.{tells_more, tells_same, tells_nothing, tells_line}
-use Rattle.program.specs.Told.{more_text}
-use Rattle.cidr_merge.specs.Told.{refusal_line}
-use Rattle.cidr_merge.proofs.telling.tell_refusals.Goals as goal
+use Rattle.program.specs.Told.{refusal_line, more_text}
+use Rattle.program.proofs.telling.tell_refusals.Goals as goal
 
 pub loop-refusal-init : goal.loop-refusal-init
 loop-refusal-init g c = tells_nothing g.E.Write.contents c.args.errors.now
@@ -13,7 +12,7 @@ pub loop-refusal-preserved : goal.loop-refusal-preserved
 loop-refusal-preserved g c =
     let i = c.loop-refusal.refusal-index in
     let kept = c.kept-kept.result.now in
-    tells_line g.E.Write.contents c.args.errors.now c.loop-refusal.errors c.tell_refusal.new.errors (refusal_line c.args.words.now) (take i kept) (take (i + 1) kept) _
+    tells_line g.E.Write.contents c.args.errors.now c.loop-refusal.errors c.tell_refusal.new.errors (refusal_line c.args.words.now (g.P.Places.told_at c.args.places.now)) (take i kept) (take (i + 1) kept) _
     (take_more kept i _ (omega arith)) c.loop-refusal.invariant c.tell_refusal.ensures
 
 pub returns : goal.returns
@@ -22,5 +21,5 @@ returns g c =
     let i = c.loop-refusal.refusal-index in
     let kept = c.kept-kept.result.now in
     tells_more contents c.args.errors.now c.loop-refusal.errors c.tell_more.new.errors _ _
-    (tells_same contents _ _ _ _ (ap (flat_map (refusal_line c.args.words.now)) (take_all i kept (omega arith) ∙ c.kept-kept.ensures)) c.loop-refusal.invariant)
+    (tells_same contents _ _ _ _ (ap (flat_map (refusal_line c.args.words.now (g.P.Places.told_at c.args.places.now))) (take_all i kept (omega arith) ∙ c.kept-kept.ensures)) c.loop-refusal.invariant)
     (tells_same contents _ _ _ _ (ap more_text c.more.ensures) c.tell_more.ensures)

@@ -1,8 +1,0 @@
-use Rattle.std.proofs.Common.{take}
-use Rattle.std.specs.List.{flat_map}
-use Rattle.program.specs.Messages.{Tells}
-use Rattle.cidr_merge.specs.Told.{refusal_line}
-use Rattle.cidr_merge.proofs.telling.tell_refusals.Given as goal
-
-abbrev pub invariant-loop-refusal : goal.invariant-loop-refusal
-invariant-loop-refusal g l = Tells g.E.Write.contents l.initial.errors l.errors (flat_map (refusal_line l.words) (take l.refusal-index l.kept))

@@ -1,0 +1,12 @@
+-- Words of a command line.
+use Rattle.std.specs.Prelude.{ℕ, ◌==◌, ◌&&◌, Bool, false, List, [], ◌∷◌, length, bytes_eq, String}
+use Rattle.std.specs.String.{string_bytes}
+
+-- the word is this text
+abbrev pub is : {Z : Type 0} → List ℕ → String Z → Bool
+is text word = bytes_eq (string_bytes word) text
+
+-- the only word is this text
+abbrev pub is_only : {Z : Type 0} → List ℕ → List (String Z) → Bool
+is_only text [] = false
+is_only text (word ∷ others) = length others == 0 && is text word

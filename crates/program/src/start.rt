@@ -1,0 +1,62 @@
+//! The frame of a program: what it prints of itself, and the devices that its run has.
+ghost use Rattle.std.specs.Prelude.{◌≡◌, None, Some, MatchOption};
+ghost use Rattle.program.specs.Runs.{text_asked};
+
+use crate::arguments::arguments;
+use crate::system::System;
+use crate::usage::refuse_arguments;
+use crate::words::is_only;
+use line_engine::output::Output;
+use std::io::{Stderr, Stdout};
+use std::process::ExitCode;
+
+/// The most bytes that wait to be written to standard output.
+const WAITING_MAX: usize = 65536;
+
+/// The most bytes that wait to be written to standard error.
+const TOLD_MAX: usize = 1024;
+
+/// Runs a program on the words after its name, and returns the exit status. If the arguments cannot be
+/// read, that is reported instead.
+///
+/// ```
+/// let usage = "usage: sum FILE\n";
+/// let _ = program::start::start(&rt, "sum", usage, |_words, _lists, _output, _errors| 0);
+/// ```
+pub fn start<F>(rt: &HostRuntime, program: &str, usage: &str, run: F) -> ExitCode
+where
+    F: FnOnce(&[String], &System<'_>, &mut Output<'_, Stdout>, &mut Output<'_, Stderr>) -> u8,
+    requires { F.IsAlwaysCallable run }
+{
+    let mut waiting = [0u8; WAITING_MAX];
+    let mut output = Output::new(rt.stdout(), &mut waiting);
+    let mut told = [0u8; TOLD_MAX];
+    let mut errors = Output::new(rt.stderr(), &mut told);
+    let status = match arguments(rt) {
+        Ok(words) => {
+            let system = System::new(rt);
+            run(words.as_slice(), &system, &mut output, &mut errors)
+        }
+        Err(fault) => refuse_arguments(fault, program, usage, &mut errors),
+    };
+    let _ = errors.finish();
+    ExitCode::from(status)
+}
+
+/// The text that the only word asks for: the help or the version.
+///
+/// ```
+/// assert_eq!(rt; program::start::text_asked("Adds.\n", "sum 1\n", &[]), None);
+/// ```
+pub fn text_asked<'a>(help: &'a str, version: &'a str, words: &[String]) -> Option<&'a str>
+    ensures { let asked = text_asked help.now version.now words.now in
+        MatchOption result (asked ≡ None) (λ text. asked ≡ Some text.now) }
+{
+    if is_only(words, "--help") {
+        Some(help)
+    } else if is_only(words, "--version") {
+        Some(version)
+    } else {
+        None
+    }
+}

@@ -1,0 +1,39 @@
+//! Words of a command line.
+ghost use Rattle.std.specs.Prelude.{◌≡◌};
+ghost use Rattle.program.specs.Told.{name_at};
+ghost use Rattle.program.specs.Words.{is, is_only};
+
+/// Whether a word is this text.
+///
+/// ```
+/// let mut word = String::new(rt.alloc());
+/// word.push_str("--help")?;
+/// assert!(rt; program::words::is(&word, "--help"));
+/// ```
+pub fn is(word: &String, text: &str) -> bool
+    ensures { result ≡ is text.now word.now }
+{
+    word.as_str() == text
+}
+
+/// Whether there is one word, and it is this text.
+pub(crate) fn is_only(words: &[String], text: &str) -> bool
+    ensures { result ≡ is_only text.now words.now }
+{
+    words.len() == 1 && is(&words[0], text)
+}
+
+/// The word at an index; past the last word, an empty text.
+///
+/// ```
+/// assert_eq!(rt; program::words::text_at(&[], 0), "");
+/// ```
+pub fn text_at(words: &[String], place: usize) -> &str
+    ensures { result.now ≡ name_at words.now place }
+{
+    if let Some(word) = words.get(place) {
+        word.as_str()
+    } else {
+        ""
+    }
+}
