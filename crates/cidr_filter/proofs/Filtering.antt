@@ -9,7 +9,7 @@ use Rattle.std.proofs.lemmas.Bool.Decides.{eqb_tells}
 use Rattle.std.proofs.lemmas.List.Folds.{list_all-append}
 use Rattle.std.proofs.lemmas.Nat.{mul-add-lt}
 use Rattle.line_engine.specs.LineBuffers.{Buffered, IsPending, HandsOut, Gives, Receives, work}
-use Rattle.line_engine.specs.Outputs.{Puts}
+use Rattle.line_engine.specs.Outputs.{Puts, Prints}
 use Rattle.line_engine.specs.declared.line_buffer.NextLine.TheVariants.{Line, TooLong, Ask}
 use Rattle.line_engine.specs.declared.line_end.LineEnd.{LineEnd}
 use Rattle.line_engine.proofs.BytesLemmas.{HasNo}
@@ -55,7 +55,7 @@ goes_out mid new same lines none h =
 pub goes_still : (old mid new : Stand) (added : List ℕ) (count lines : ℕ) → Goes old mid added count lines → Goes mid new [] 0 0 → Goes old new added count lines
 goes_still old mid new added count lines p q =
     let more = goes_on old mid new added [] count 0 lines 0 p q in (
-      subst (Puts old.holds old.waits new.holds new.waits) (append-nil added) more.0,
+      subst (Prints old new) (append-nil added) more.0,
       subst (Counts old.selected new.selected) (omega arith) more.1,
       subst (Counts old.lines new.lines) (omega arith) more.2,
     )

@@ -6,7 +6,7 @@ use Rattle.std.specs.Io.KnownBytes.{Appends, Consumes, IsAtEnd}
 use Rattle.std.proofs.KnownBytes.{Appends-trans}
 use Rattle.std.proofs.lemmas.Option.{none-some}
 use Rattle.line_engine.specs.Answers.{IsBeginning}
-use Rattle.line_engine.specs.Outputs.{Puts}
+use Rattle.line_engine.specs.Outputs.{Puts, Prints}
 use Rattle.line_engine.proofs.Putting.{puts_nothing, puts_more}
 use Rattle.lists.specs.KnownLists.{KnownLists}
 use Rattle.cidr_filter.specs.Lines.{LogLine, lines_in, log_lines, ended_lines}
@@ -192,7 +192,7 @@ module _ (filter : Filter) (counts : Bool) (known : KnownLists) where
     output = h.added ++ [];
     count = h.count + 0;
     filters = (h.read, h.added, [], h.count, 0, h.all, h.filters, (refl, refl), refl, refl);
-    puts = subst (Puts old.holds old.waits new.holds new.waits) (sym (append-nil h.added)) h.puts;
+    puts = subst (Prints old new) (sym (append-nil h.added)) h.puts;
     counted = subst (Counts old.selected new.selected) (omega arith) h.counted;
   }
 

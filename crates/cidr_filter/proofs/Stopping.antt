@@ -5,7 +5,7 @@ use Rattle.std.specs.Io.KnownBytes.{Consumes, Keeps}
 use Rattle.std.specs.List.{list_all, filter}
 use Rattle.std.proofs.KnownBytes.{Consumes-trans, Consumes-kept}
 use Rattle.line_engine.specs.LineBuffers.{Buffered, IsPending, HandsOut, Gives, Receives}
-use Rattle.line_engine.specs.Outputs.{Puts, AppendsBeginning}
+use Rattle.line_engine.specs.Outputs.{Puts, AppendsBeginning, FailsIn}
 use Rattle.line_engine.specs.declared.line_buffer.NextLine.TheVariants.{Line, TooLong, End}
 use Rattle.line_engine.specs.declared.line_end.LineEnd.{LineEnd}
 use Rattle.line_engine.proofs.Putting.{begins_after_puts}
@@ -131,7 +131,7 @@ module _ (filter_by : Filter) (counts : Bool) where
       line_stops read_failed write_failed faults.Open h = absurd h
       line_stops read_failed write_failed faults.Read h = absurd h
       line_stops read_failed write_failed faults.Write h =
-          (h.0, writes_at new line end h.1 hands h.2 h.3 (subst (λ t. AppendsBeginning mid.holds new.holds (mid.waits ++ shown filter_by counts h.1 t)) text h.4))
+          (h.0, writes_at new line end h.1 hands h.2 h.3 (subst (λ t. FailsIn mid new (shown filter_by counts h.1 t)) text h.4))
       line_stops read_failed write_failed faults.Address h = refused_at verdicts.Bad h
       line_stops read_failed write_failed faults.Length h = refused_at verdicts.TooLong h
       line_stops read_failed write_failed faults.Endless h = absurd h
@@ -173,7 +173,7 @@ module _ (filter_by : Filter) (counts : Bool) where
     reads = s.reads;
     lines = all_lines held.ended s.read s.first s.pending s.lines;
     filters = s.filters;
-    beginning = subst (λ t. AppendsBeginning old.holds new.holds (old.waits ++ t)) (append-nil s.added)
+    beginning = subst (λ t. FailsIn old new t) (append-nil s.added)
         (begins_after_puts old.holds mid.holds new.holds old.waits mid.waits s.added [] s.goes.0 (subst (AppendsBeginning mid.holds new.holds) (sym (append-nil mid.waits)) took));
   }
 

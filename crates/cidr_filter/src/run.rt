@@ -35,7 +35,7 @@ pub(crate) fn run<L: OpenLists, W: Write, E: Write>(
     errors: &mut Output<'_, E>,
 ) -> u8
     ensures { EndsAs PROGRAM.now HELP.now VERSION.now USAGE.now (L.known lists.now) words.now
-        (ending W.contents output.old output.new E.contents errors.old errors.new result) }
+        (ending output.old output.new errors.old errors.new result) }
 {
     if let Some(text) = text_asked(HELP, VERSION, words) {
         return print_text(text, output, errors);
@@ -60,7 +60,7 @@ fn filter<L: OpenLists, W: Write, E: Write>(
 ) -> u8
     requires { request.files ≤ length words.now }
     ensures { EndsRequest (L.known lists.now) words.now request
-        (record { holds = W.contents; output = output.old; output_after = output.new; tells = E.contents; errors = errors.old; errors_after = errors.new; status = result }) }
+        (record { output = output.old; output_after = output.new; errors = errors.old; errors_after = errors.new; status = result }) }
 {
     let (listed, refusals, read) = read_listed(alloc, lists, words, request.longest);
     tell_refusals(words, &InOptions { words }, &refusals, errors);
@@ -90,7 +90,7 @@ fn filter_by<L: OpenLists, W: Write, E: Write>(
     errors: &mut Output<'_, E>,
 ) -> u8
     ensures { EndsBy (L.known lists.now) request listed (logs_of files.now)
-        (record { holds = W.contents; output = output.old; output_after = output.new; tells = E.contents; errors = errors.old; errors_after = errors.new; status = result }) }
+        (record { output = output.old; output_after = output.new; errors = errors.old; errors_after = errors.new; status = result }) }
 {
     match listed {
         Ok(listed) => filter_listed(alloc, request, listed, files, lists, output, errors),
@@ -109,7 +109,7 @@ fn filter_listed<L: OpenLists, W: Write, E: Write>(
     errors: &mut Output<'_, E>,
 ) -> u8
     ensures { EndsListed (L.known lists.now) request listed (logs_of files.now)
-        (record { holds = W.contents; output = output.old; output_after = output.new; tells = E.contents; errors = errors.old; errors_after = errors.new; status = result }) }
+        (record { output = output.old; output_after = output.new; errors = errors.old; errors_after = errors.new; status = result }) }
 {
     let Ok(mut buffer) = vec![in alloc; 0u8; BUFFER_LEN] else {
         return refuse_memory(errors);
@@ -136,7 +136,7 @@ fn filter_listed<L: OpenLists, W: Write, E: Write>(
 // Reports that memory ran out, and returns the exit status for that.
 fn refuse_memory<E: Write>(errors: &mut Output<'_, E>) -> u8
     ensures status { result ≡ 2 }
-    ensures told { Tells E.contents errors.old errors.new (codes "out of memory\n") }
+    ensures told { Tells errors.old errors.new (codes "out of memory\n") }
 {
     tell("out of memory\n", errors);
     FAILED

@@ -6,8 +6,7 @@ use Rattle.std.specs.String.{string_bytes}
 use Rattle.ipnetwork_blocks.specs.Aggregate.{IsAggregate}
 use Rattle.lists.specs.Lists.{ReadLists, nothing_read, at_list, TakesLines}
 use Rattle.lists.specs.Refusals.{Refused, no_refusals}
-use Rattle.line_engine.specs.Outputs.{output_failed}
-use Rattle.line_engine.specs.declared.output.Output.{Output}
+use Rattle.line_engine.specs.Outputs.{Written}
 use Rattle.program.specs.Endings.{Ending, HasTold, HasWritten}
 use Rattle.lists.specs.KnownLists.{KnownLists}
 use Rattle.program.specs.Messages.{Tells}
@@ -66,7 +65,7 @@ what_stops_both_sides known words request fault refused h = h
 -- ---- how a run ends
 
 pub what_a_run_tells : {Z W E : Type 0} (known : KnownLists) (words : List (String Z)) (request : Request) (end : Ending W E) → EndsMerging known words request end
-    → (refused : Refused) × (told : Output E) × Tells end.tells end.errors told (refusals_text words in_list refused)
+    → (refused : Refused) × (told : Written E) × Tells end.errors told (refusals_text words in_list refused)
     × (StopsReading known words request refused (record end { errors = told })
     ⊎ ((first second : Sets) × ReadsSides known words request first second refused × EndsAnswering request (was_refused refused) first second (record end { errors = told })))
 what_a_run_tells known words request end h = h
@@ -89,7 +88,7 @@ pub what_an_answer_is : {W E : Type 0} (request : Request) (skips : Bool) (first
     → ((text : List ℕ) × IsAnswer request.operation request.form first second text × HasWritten end text) × HasTold end [] × (end.status ≡ answer_status request.operation skips first second)
 what_an_answer_is request skips first second end h = ((h.0, h.1, h.2), h.3, h.4)
 
-pub what_a_failed_writer_is : {W E : Type 0} (end : Ending W E) → FailsToWrite end → (output_failed end.output_after ≡ true) × HasTold end (codes "write error\n") × (end.status ≡ 2)
+pub what_a_failed_writer_is : {W E : Type 0} (end : Ending W E) → FailsToWrite end → (end.output_after.failed ≡ true) × HasTold end (codes "write error\n") × (end.status ≡ 2)
 what_a_failed_writer_is end h = h
 
 pub what_a_run_does : {Z W E : Type 0} (program help version usage : List ℕ) (known : KnownLists) (words : List (String Z)) (end : Ending W E)

@@ -1,9 +1,9 @@
 -- How a run ends.
-use Rattle.std.proofs.Common.{◌≡◌, ◌==◌, ℕ, List, Bool, not, sym, subst, inl, inr, length}
+use Rattle.line_engine.specs.Outputs.{Written}
+use Rattle.std.proofs.Common.{◌≡◌, ◌==◌, List, Bool, not, sym, subst, inl, inr, length}
 use Rattle.std.specs.Prelude.{Result, Ok, Err, OnOk, IfErr, String, slice_range}
 use Rattle.lists.specs.Lists.{nothing_read}
 use Rattle.lists.specs.Refusals.{Refused, no_refusals}
-use Rattle.line_engine.specs.declared.output.Output.{Output}
 use Rattle.program.specs.Endings.{Ending, IsSilent}
 use Rattle.lists.specs.KnownLists.{KnownLists}
 use Rattle.program.specs.Messages.{Tells}
@@ -56,8 +56,8 @@ second_stopped {Z} {T} {U} {G} (Err fault) read done known words request first s
 
 -- the answer was given
 pub merged : {Z W E T F : Type 0} (read : Result T F) (done : T) (known : KnownLists) (words : List (String Z)) (request : Request) (first second : Sets) (refused : Refused)
-    (is_empty : Bool) (end : Ending W E) (told : Output E) → read ≡ Ok done → OnOk read (ReadsSides known words request first second refused)
-    → Tells end.tells end.errors told (refusals_text words in_list refused) → is_empty ≡ (length refused.kept == 0) → EndsAnswering request (not is_empty) first second (record end { errors = told })
+    (is_empty : Bool) (end : Ending W E) (told : Written E) → read ≡ Ok done → OnOk read (ReadsSides known words request first second refused)
+    → Tells end.errors told (refusals_text words in_list refused) → is_empty ≡ (length refused.kept == 0) → EndsAnswering request (not is_empty) first second (record end { errors = told })
     → EndsMerging known words request end
 merged {Z} {W} {E} {T} {F} read done known words request first second refused is_empty end told e sides tells f ends = (
   refused,
@@ -72,8 +72,8 @@ merged {Z} {W} {E} {T} {F} read done known words request first second refused is
 )
 
 -- the reading stopped
-pub stopped : {Z W E T : Type 0} (read : Result T ReadFault) (known : KnownLists) (words : List (String Z)) (request : Request) (refused : Refused) (fault : ReadFault) (end : Ending W E) (told : Output E)
-    → read ≡ Err fault → IfErr read (λ f. StopsInSides known words request f refused) → Tells end.tells end.errors told (refusals_text words in_list refused) → IsSilent end
-    → Tells end.tells told end.errors_after (fault_text words fault) → EndsMerging known words request end
+pub stopped : {Z W E T : Type 0} (read : Result T ReadFault) (known : KnownLists) (words : List (String Z)) (request : Request) (refused : Refused) (fault : ReadFault) (end : Ending W E) (told : Written E)
+    → read ≡ Err fault → IfErr read (λ f. StopsInSides known words request f refused) → Tells end.errors told (refusals_text words in_list refused) → IsSilent end
+    → Tells told end.errors_after (fault_text words fault) → EndsMerging known words request end
 stopped {Z} {W} {E} {T} read known words request refused fault end told e stops tells silent why =
     (refused, told, tells, inl (fault, subst (λ (r : Result T ReadFault). IfErr r (λ f. StopsInSides known words request f refused)) e stops, silent, why))

@@ -2,8 +2,7 @@
 use Rattle.std.specs.Prelude.{◌≡◌, ℕ, List, [], Bool, true, false, not, ◌&&◌, ◌⊎◌, Some, if◌then◌else◌, codes, String}
 use Rattle.lists.specs.Refusals.{Refused}
 use Rattle.ipnetwork_sets.specs.Equality.{same_blocks}
-use Rattle.line_engine.specs.declared.output.Output.{Output}
-use Rattle.line_engine.specs.Outputs.{output_failed}
+use Rattle.line_engine.specs.Outputs.{Written}
 use Rattle.program.specs.Endings.{Ending, IsSilent, Refuses, HasTold, HasWritten}
 use Rattle.lists.specs.KnownLists.{KnownLists}
 use Rattle.program.specs.Messages.{Tells}
@@ -35,7 +34,7 @@ answer_status operation skips first second = if skips then 3 else if are_unequal
 
 -- the writer failed
 abbrev pub FailsToWrite : {W E : Type 0} → Ending W E → Type 0
-FailsToWrite end = (output_failed end.output_after ≡ true) × HasTold end (codes "write error\n") × (end.status ≡ 2)
+FailsToWrite end = (end.output_after.failed ≡ true) × HasTold end (codes "write error\n") × (end.status ≡ 2)
 
 -- the answer was written, and nothing more was reported
 abbrev pub WritesAnswer : {W E : Type 0} → Request → Bool → Sets → Sets → Ending W E → Type 0
@@ -55,8 +54,8 @@ StopsReading known words request refused end = (fault : ReadFault) × StopsInSid
 
 -- the refused lines were reported, and then either why the reading stopped, or the answer was given
 abbrev pub EndsMerging : {Z W E : Type 0} → KnownLists → List (String Z) → Request → Ending W E → Type 0
-EndsMerging {Z} {W} {E} known words request end = (refused : Refused) × (told : Output E)
-    × Tells end.tells end.errors told (refusals_text words in_list refused)
+EndsMerging {Z} {W} {E} known words request end = (refused : Refused) × (told : Written E)
+    × Tells end.errors told (refusals_text words in_list refused)
     × (StopsReading known words request refused (record end { errors = told })
     ⊎ ((first second : Sets) × ReadsSides known words request first second refused × EndsAnswering request (was_refused refused) first second (record end { errors = told })))
 

@@ -3,7 +3,7 @@ ghost use Rattle.std.specs.Prelude.{◌≡◌, ◌≤◌, ◌++◌, ◌∷◌, �
 ghost use Rattle.std.specs.List.{flat_map};
 ghost use Rattle.cidr_merge.specs.Answers.{sign_of, merged_by, AreBlockLines, AreRangeLines, IsCountLine, AreCountsLeft, AreCounts, IsAnswer, IsLeft};
 ghost use Rattle.cidr_merge.specs.Private.Sweeps.{left_of_second};
-ghost use Rattle.line_engine.specs.Outputs.{writer_of, waits_in, output_failed, Puts};
+ghost use Rattle.line_engine.specs.Outputs.{Prints};
 
 use crate::command_line::{Form, Operation};
 use crate::counts::Counts;
@@ -26,8 +26,8 @@ pub(crate) fn print<W: Write>(
     output: &mut Output<'_, W>,
 ) -> Result<(), RunFault>
     ensures text { OnOk result ((text : List ℕ) × IsAnswer operation form first.now second.now text
-        × Puts (W.contents (writer_of output.old)) (waits_in output.old) (W.contents (writer_of output.new)) (waits_in output.new) text) }
-    ensures failed { output_failed output.new ≡ (output_failed output.old || is_err result) }
+        × Prints output.old output.new text) }
+    ensures failed { output.new.failed ≡ (output.old.failed || is_err result) }
 {
     match form {
         Form::Blocks => {
@@ -50,8 +50,8 @@ fn print_blocks<A: Address, W: Write>(
     output: &mut Output<'_, W>,
 ) -> Result<(), RunFault>
     ensures text { OnOk result ((text : List ℕ) × AreBlockLines operation A.family first.now second.now text
-        × Puts (W.contents (writer_of output.old)) (waits_in output.old) (W.contents (writer_of output.new)) (waits_in output.new) text) }
-    ensures failed { output_failed output.new ≡ (output_failed output.old || is_err result) }
+        × Prints output.old output.new text) }
+    ensures failed { output.new.failed ≡ (output.old.failed || is_err result) }
 {
     let firsts = Sweep::of(operation, first, second);
     let seconds = Sweep::of(Operation::Minus, second, first);
@@ -66,8 +66,8 @@ fn print_ranges<A: Address, W: Write>(
     output: &mut Output<'_, W>,
 ) -> Result<(), RunFault>
     ensures text { OnOk result ((text : List ℕ) × AreRangeLines operation A.family first.now second.now text
-        × Puts (W.contents (writer_of output.old)) (waits_in output.old) (W.contents (writer_of output.new)) (waits_in output.new) text) }
-    ensures failed { output_failed output.new ≡ (output_failed output.old || is_err result) }
+        × Prints output.old output.new text) }
+    ensures failed { output.new.failed ≡ (output.old.failed || is_err result) }
 {
     let firsts = Sweep::of(operation, first, second);
     let seconds = Sweep::of(Operation::Minus, second, first);
@@ -81,9 +81,9 @@ fn print_parts<P: Parts, W: Write>(
     seconds: P,
     output: &mut Output<'_, W>,
 ) -> Result<(), RunFault>
-    ensures text { OnOk result (Puts (W.contents (writer_of output.old)) (waits_in output.old) (W.contents (writer_of output.new)) (waits_in output.new)
+    ensures text { OnOk result (Prints output.old output.new
         (flat_map (P.line operation) (merged_by P.begin (P.left firsts) (left_of_second operation (P.left seconds))))) }
-    ensures failed { output_failed output.new ≡ (output_failed output.old || is_err result) }
+    ensures failed { output.new.failed ≡ (output.old.failed || is_err result) }
 {
     let mut parts = Sides::of(operation, firsts, seconds);
     while let Some(next) = parts.next() {
@@ -100,8 +100,8 @@ fn print_counts<W: Write>(
     output: &mut Output<'_, W>,
 ) -> Result<(), RunFault>
     ensures text { OnOk result ((text : List ℕ) × AreCounts operation first.now second.now text
-        × Puts (W.contents (writer_of output.old)) (waits_in output.old) (W.contents (writer_of output.new)) (waits_in output.new) text) }
-    ensures failed { output_failed output.new ≡ (output_failed output.old || is_err result) }
+        × Prints output.old output.new text) }
+    ensures failed { output.new.failed ≡ (output.old.failed || is_err result) }
 {
     print_counts_left(operation, Side::First, first, second, output)?;
     match operation {
@@ -119,8 +119,8 @@ fn print_counts_left<W: Write>(
     output: &mut Output<'_, W>,
 ) -> Result<(), RunFault>
     ensures text { OnOk result ((text : List ℕ) × AreCountsLeft operation (sign_of operation side) first.now second.now text
-        × Puts (W.contents (writer_of output.old)) (waits_in output.old) (W.contents (writer_of output.new)) (waits_in output.new) text) }
-    ensures failed { output_failed output.new ≡ (output_failed output.old || is_err result) }
+        × Prints output.old output.new text) }
+    ensures failed { output.new.failed ≡ (output.old.failed || is_err result) }
 {
     let sign = sign_of(operation, side);
     print_count_line(sign, "v4 ", operation, &first.v4, &second.v4, output)?;
@@ -139,8 +139,8 @@ fn print_count_line<A: Address, W: Write>(
     requires some { 1 ≤ A.WIDTH }
     requires bits { A.WIDTH ≤ 128 }
     ensures text { OnOk result ((text : List ℕ) × IsCountLine A.WIDTH (sign.now ++ family.now) (IsLeft operation A.WIDTH first.now second.now) text
-        × Puts (W.contents (writer_of output.old)) (waits_in output.old) (W.contents (writer_of output.new)) (waits_in output.new) text) }
-    ensures failed { output_failed output.new ≡ (output_failed output.old || is_err result) }
+        × Prints output.old output.new text) }
+    ensures failed { output.new.failed ≡ (output.old.failed || is_err result) }
 {
     let counts = Counts::of(Sweep::of(operation, first, second));
     put_counts(sign, family, counts.text().as_str(), output)
@@ -153,9 +153,9 @@ fn put_counts<W: Write>(
     counts: &str,
     output: &mut Output<'_, W>,
 ) -> Result<(), RunFault>
-    ensures text { OnOk result (Puts (W.contents (writer_of output.old)) (waits_in output.old) (W.contents (writer_of output.new)) (waits_in output.new)
+    ensures text { OnOk result (Prints output.old output.new
         ((sign.now ++ family.now) ++ counts.now ++ 10 ∷ [])) }
-    ensures failed { output_failed output.new ≡ (output_failed output.old || is_err result) }
+    ensures failed { output.new.failed ≡ (output.old.failed || is_err result) }
 {
     output.put(sign.as_bytes())?;
     output.put(family.as_bytes())?;

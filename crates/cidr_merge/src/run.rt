@@ -1,7 +1,7 @@
 //! The run that the program makes.
 ghost use Rattle.std.specs.Prelude.{◌≡◌, ◌++◌, ℕ, List, length, OnOk, IfErr, is_err};
 ghost use Rattle.std.specs.Io.KnownBytes.{Appends};
-ghost use Rattle.line_engine.specs.Outputs.{writer_of, waits_in, output_failed};
+ghost use Rattle.line_engine.specs.Outputs.{Writes};
 ghost use Rattle.cidr_merge.specs.Answers.{IsAnswer};
 ghost use Rattle.cidr_merge.specs.Private.Words.{IsWithin};
 ghost use Rattle.cidr_merge.specs.Reading.{ReadsSides};
@@ -41,7 +41,7 @@ pub(crate) fn run<L: OpenLists, W: Write, E: Write>(
     errors: &mut Output<'_, E>,
 ) -> u8
     ensures { EndsAs PROGRAM.now HELP.now VERSION.now USAGE.now (L.known lists.now) words.now
-        (ending W.contents output.old output.new E.contents errors.old errors.new result) }
+        (ending output.old output.new errors.old errors.new result) }
 {
     if let Some(text) = text_asked(HELP, VERSION, words) {
         return print_text(text, output, errors);
@@ -66,7 +66,7 @@ fn merge<L: OpenLists, W: Write, E: Write>(
 ) -> u8
     requires { IsWithin (length words.now) request }
     ensures { EndsMerging (L.known lists.now) words.now request
-        (ending W.contents output.old output.new E.contents errors.old errors.new result) }
+        (ending output.old output.new errors.old errors.new result) }
 {
     let (first, second, refusals, read) = read_sides(alloc, request, words, lists);
     tell_refusals(words, &InLists, &refusals, errors);
@@ -141,7 +141,7 @@ fn answer<W: Write, E: Write>(
     errors: &mut Output<'_, E>,
 ) -> u8
     ensures { EndsAnswering request skips first.now second.now
-        (ending W.contents output.old output.new E.contents errors.old errors.new result) }
+        (ending output.old output.new errors.old errors.new result) }
 {
     if skips && !request.skips_bad {
         return FAILED;
@@ -159,8 +159,8 @@ fn write_answer<W: Write>(
     output: &mut Output<'_, W>,
 ) -> Result<(), RunFault>
     ensures written { OnOk result ((text : List ℕ) × IsAnswer request.operation request.form first.now second.now text
-        × Appends (W.contents (writer_of output.old)) (W.contents (writer_of output.new)) (waits_in output.old ++ text)) }
-    ensures failed { output_failed output.new ≡ is_err result }
+        × Writes output.old output.new text) }
+    ensures failed { output.new.failed ≡ is_err result }
 {
     print(request.operation, request.form, first, second, output)?;
     output.finish()

@@ -1,7 +1,7 @@
 //! The parts that an operation leaves of one side: blocks, or ranges of addresses.
 ghost use Rattle.std.specs.Prelude.{◌≡◌, ◌∷◌, ◌↔◌, ◌<◌, ◌||◌, ℕ, List, [], IsTrue, MatchOption, OnOk, is_err};
 ghost use Rattle.ipnetwork_family.specs.Network.{Network};
-ghost use Rattle.line_engine.specs.Outputs.{writer_of, waits_in, output_failed, Puts};
+ghost use Rattle.line_engine.specs.Outputs.{Prints};
 ghost use Rattle.cidr_merge.specs.Answers.{Sided, sign_of, block_line, range_line};
 ghost use Rattle.cidr_merge.specs.Private.Sweeps.{blocks_left, numbers};
 ghost use Rattle.cidr_merge.specs.declared.command_line.Operation.{Operation};
@@ -48,9 +48,9 @@ pub(crate) trait Parts: Drop {
         part: Self::Part,
         output: &mut Output<'_, W>,
     ) -> Result<(), RunFault>
-        ensures text { OnOk result (Puts (W.contents (writer_of output.old)) (waits_in output.old) (W.contents (writer_of output.new)) (waits_in output.new)
+        ensures text { OnOk result (Prints output.old output.new
             (line operation (record { side = side; part = seen part }))) }
-        ensures failed { output_failed output.new ≡ (output_failed output.old || is_err result) };
+        ensures failed { output.new.failed ≡ (output.old.failed || is_err result) };
 }
 
 // The blocks.

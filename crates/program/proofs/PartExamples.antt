@@ -1,20 +1,18 @@
 -- What the definitions promise, part by part: a definition without one of these parts would not give it.
-use Rattle.std.proofs.Common.{◌≡◌, ◌++◌, ℕ, List, refl}
-use Rattle.std.specs.Prelude.{IsTrue, IsFalse, Option, Ok, Err, codes, if◌then◌else◌}
-use Rattle.std.specs.Io.KnownBytes.{Appends}
-use Rattle.line_engine.specs.Outputs.{writer_of, waits_in, output_failed, Puts}
-use Rattle.line_engine.specs.declared.output.Output.{Output}
+use Rattle.std.proofs.Common.{◌≡◌, ℕ, List, refl}
+use Rattle.std.specs.Prelude.{IsTrue, IsFalse, Ok, Err, codes, if◌then◌else◌}
+use Rattle.line_engine.specs.Outputs.{Written, Prints, Writes}
 use Rattle.program.specs.Endings.{status_of, failure_text, end_text, Ending, IsSilent, HasTold, HasWritten, EndsPrinting}
 use Rattle.program.specs.Messages.{Tells}
 
 -- ---- messages
 
-pub what_is_told : {W : Type 0} (contents : W → Option (List ℕ)) (old new : Output W) (text : List ℕ) → Tells contents old new text → IsFalse (output_failed new)
-    → Puts (contents (writer_of old)) (waits_in old) (contents (writer_of new)) (waits_in new) text
-what_is_told contents old new text h works = h.told works
+pub what_is_told : {W : Type 0} (old new : Written W) (text : List ℕ) → Tells old new text → IsFalse new.failed
+    → Prints old new text
+what_is_told old new text h works = h.told works
 
-pub a_failed_writer_stays_failed : {W : Type 0} (contents : W → Option (List ℕ)) (old new : Output W) (text : List ℕ) → Tells contents old new text → IsTrue (output_failed old) → IsTrue (output_failed new)
-a_failed_writer_stays_failed contents old new text h failed = h.failed failed
+pub a_failed_writer_stays_failed : {W : Type 0} (old new : Written W) (text : List ℕ) → Tells old new text → IsTrue old.failed → IsTrue new.failed
+a_failed_writer_stays_failed old new text h failed = h.failed failed
 
 -- ---- endings
 
@@ -33,12 +31,12 @@ nothing_is_told_of_a_write T E done = refl
 pub what_is_silent : {W E : Type 0} (end : Ending W E) → IsSilent end → (end.output_after ≡ end.output) × (end.status ≡ 2)
 what_is_silent end h = h
 
-pub what_was_told : {W E : Type 0} (end : Ending W E) (text : List ℕ) → HasTold end text → Tells end.tells end.errors end.errors_after text
+pub what_was_told : {W E : Type 0} (end : Ending W E) (text : List ℕ) → HasTold end text → Tells end.errors end.errors_after text
 what_was_told end text h = h
 
-pub what_was_written : {W E : Type 0} (end : Ending W E) (text : List ℕ) → HasWritten end text → Appends (end.holds (writer_of end.output)) (end.holds (writer_of end.output_after)) (waits_in end.output ++ text)
+pub what_was_written : {W E : Type 0} (end : Ending W E) (text : List ℕ) → HasWritten end text → Writes end.output end.output_after text
 what_was_written end text h = h
 
 pub what_was_printed : {W E : Type 0} (end : Ending W E) (text : List ℕ) → EndsPrinting text end
-    → (end.status ≡ (if output_failed end.output_after then 2 else 0)) × (end.status ≡ 0 → HasWritten end text) × HasTold end (failure_text (output_failed end.output_after))
+    → (end.status ≡ (if end.output_after.failed then 2 else 0)) × (end.status ≡ 0 → HasWritten end text) × HasTold end (failure_text end.output_after.failed)
 what_was_printed end text h = h

@@ -1,12 +1,11 @@
 -- What is told, one text after the other.
 use Rattle.std.proofs.Common.{◌≡◌, ◌<◌, ◌≤◌, ◌∙◌, ℕ, zero, suc, Bool, true, false, List, [], ◌∷◌, ◌++◌, refl, sym, ap, subst, arith, length, get_or, append-nil, decimal, codes}
-use Rattle.std.specs.Prelude.{IsTrue, IsFalse, Option, String, nat_lt, if◌then◌else◌}
+use Rattle.std.specs.Prelude.{IsTrue, IsFalse, String, nat_lt, if◌then◌else◌}
 use Rattle.std.specs.List.{flat_map}
 use Rattle.std.specs.String.{string_bytes}
 use Rattle.std.proofs.lemmas.Grind.{flat_map-append}
 use Rattle.std.proofs.lemmas.Bool.Decides.{nat_tests}
-use Rattle.line_engine.specs.declared.output.Output.{Output}
-use Rattle.line_engine.specs.Outputs.{output_failed}
+use Rattle.line_engine.specs.Outputs.{Written}
 use Rattle.line_engine.proofs.Putting.{puts_more, puts_nothing}
 use Rattle.program.specs.Messages.{Tells}
 use Rattle.program.specs.Told.{name_at, more_text}
@@ -17,30 +16,30 @@ works_before true true kept works = works
 works_before true false kept works = sym (kept refl)
 
 -- both texts were told, one after the other
-pub tells_more : {W : Type 0} (contents : W → Option (List ℕ)) (old mid new : Output W) (first second : List ℕ)
-    → Tells contents old mid first → Tells contents mid new second → Tells contents old new (first ++ second)
-tells_more contents old mid new first second p q = record {
-  told = λ works. puts_more _ _ _ _ _ _ _ _ (p.told (works_before (output_failed mid) (output_failed new) q.failed works)) (q.told works);
+pub tells_more : {W : Type 0} (old mid new : Written W) (first second : List ℕ)
+    → Tells old mid first → Tells mid new second → Tells old new (first ++ second)
+tells_more old mid new first second p q = record {
+  told = λ works. puts_more _ _ _ _ _ _ _ _ (p.told (works_before mid.failed new.failed q.failed works)) (q.told works);
   failed = λ h. q.failed (p.failed h);
 }
 
-pub tells_nothing : {W : Type 0} (contents : W → Option (List ℕ)) (old : Output W) → Tells contents old old []
-tells_nothing contents old = record {
+pub tells_nothing : {W : Type 0} (old : Written W) → Tells old old []
+tells_nothing old = record {
   told = λ works. puts_nothing _ _;
   failed = λ h. h;
 }
 
 -- a text by another name
-pub tells_same : {W : Type 0} (contents : W → Option (List ℕ)) (old new : Output W) (text other : List ℕ) → text ≡ other → Tells contents old new text → Tells contents old new other
-tells_same contents old new text other e h = subst (λ (t : List ℕ). Tells contents old new t) e h
+pub tells_same : {W : Type 0} (old new : Written W) (text other : List ℕ) → text ≡ other → Tells old new text → Tells old new other
+tells_same old new text other e h = subst (λ (t : List ℕ). Tells old new t) e h
 
 -- a line more
-pub tells_line : {W X : Type 0} (contents : W → Option (List ℕ)) (old mid new : Output W) (line : X → List ℕ) (done all : List X) (x : X) → all ≡ done ++ x ∷ []
-    → Tells contents old mid (flat_map line done) → Tells contents mid new (line x) → Tells contents old new (flat_map line all)
-tells_line contents old mid new line done all x e p q =
-    tells_same contents old new (flat_map line done ++ line x) (flat_map line all)
+pub tells_line : {W X : Type 0} (old mid new : Written W) (line : X → List ℕ) (done all : List X) (x : X) → all ≡ done ++ x ∷ []
+    → Tells old mid (flat_map line done) → Tells mid new (line x) → Tells old new (flat_map line all)
+tells_line old mid new line done all x e p q =
+    tells_same old new (flat_map line done ++ line x) (flat_map line all)
     (ap (λ t. flat_map line done ++ t) (sym (append-nil (line x))) ∙ sym (flat_map-append line done (x ∷ [])) ∙ ap (flat_map line) (sym e))
-    (tells_more contents old mid new (flat_map line done) (line x) p q)
+    (tells_more old mid new (flat_map line done) (line x) p q)
 
 -- how many more lines were refused, if any were
 pub more_told : (more : ℕ) → 0 < more → decimal more ++ codes " more refused lines\n" ≡ more_text more

@@ -1,7 +1,7 @@
 //! How a program ends: its exit status, and what it reports on the error writer.
 ghost use Rattle.std.specs.Prelude.{◌≡◌, ◌++◌, OnOk, is_err};
 ghost use Rattle.std.specs.Io.KnownBytes.{Appends};
-ghost use Rattle.line_engine.specs.Outputs.{writer_of, waits_in, output_failed};
+ghost use Rattle.line_engine.specs.Outputs.{Writes};
 ghost use Rattle.program.specs.Endings.{ending, status_of, end_text, EndsPrinting};
 ghost use Rattle.program.specs.Messages.{Tells};
 
@@ -27,7 +27,7 @@ pub const FAILED: u8 = 2;
 /// ```
 pub fn end<E: Write>(written: Result<(), RunFault>, status: u8, errors: &mut Output<'_, E>) -> u8
     ensures status { result ≡ status_of written status }
-    ensures told { Tells E.contents errors.old errors.new (end_text written) }
+    ensures told { Tells errors.old errors.new (end_text written) }
 {
     if written.is_err() {
         tell("write error\n", errors);
@@ -52,7 +52,7 @@ pub fn print_text<W: Write, E: Write>(
     errors: &mut Output<'_, E>,
 ) -> u8
     ensures { EndsPrinting text.now
-        (ending W.contents output.old output.new E.contents errors.old errors.new result) }
+        (ending output.old output.new errors.old errors.new result) }
 {
     let written = write_text(text, output);
     end(written, 0, errors)
@@ -60,8 +60,8 @@ pub fn print_text<W: Write, E: Write>(
 
 // Writes what waits and then a text.
 fn write_text<W: Write>(text: &str, output: &mut Output<'_, W>) -> Result<(), RunFault>
-    ensures written { OnOk result (Appends (W.contents (writer_of output.old)) (W.contents (writer_of output.new)) (waits_in output.old ++ text.now)) }
-    ensures failed { output_failed output.new ≡ is_err result }
+    ensures written { OnOk result (Writes output.old output.new text.now) }
+    ensures failed { output.new.failed ≡ is_err result }
 {
     output.put(text.as_bytes())?;
     output.finish()

@@ -16,7 +16,7 @@ use std::io::Write;
 /// assert_eq!(rt; errors.finish(), Ok(()));
 /// ```
 pub fn tell<E: Write>(text: &str, errors: &mut Output<'_, E>)
-    ensures { Tells E.contents errors.old errors.new text.now }
+    ensures { Tells errors.old errors.new text.now }
 {
     let _ = errors.put(text.as_bytes());
 }
@@ -30,7 +30,7 @@ pub fn tell<E: Write>(text: &str, errors: &mut Output<'_, E>)
 /// assert_eq!(rt; errors.finish(), Ok(()));
 /// ```
 pub fn tell_number<E: Write>(number: u64, errors: &mut Output<'_, E>)
-    ensures { Tells E.contents errors.old errors.new (decimal number) }
+    ensures { Tells errors.old errors.new (decimal number) }
 {
     tell(number_text(number).as_str(), errors);
 }

@@ -1,6 +1,6 @@
 -- How a run ends, step by step.
 use Rattle.std.specs.Prelude.{◌≡◌, ℕ, ◌-◌, ◌^◌, min, ◌⊎◌, Bool, IsTrue, List, [], ◌++◌, length, codes, Result, Ok, Err}
-use Rattle.line_engine.specs.Outputs.{Puts, AppendsBeginning}
+use Rattle.line_engine.specs.Outputs.{Prints, FailsIn}
 use Rattle.lists.specs.KnownLists.{KnownLists}
 use Rattle.cidr_filter.specs.Filters.{Filters}
 use Rattle.cidr_filter.specs.Lines.{LogLine, log_lines}
@@ -22,7 +22,7 @@ pub record FiltersName (filter : Filter) (counts : Bool) (known : KnownLists) (n
   pub count : ℕ
   pub all : IsAllOf known name read
   pub filters : Filters filter counts (log_lines read) added count
-  pub puts : Puts old.holds old.waits new.holds new.waits added
+  pub puts : Prints old new added
   pub counted : Counts old.selected new.selected count
 
 -- so were those of these names, in turn
@@ -30,18 +30,18 @@ pub record FiltersNames (filter : Filter) (counts : Bool) (known : KnownLists) (
   pub output : List ℕ
   pub count : ℕ
   pub filters : FiltersLogs filter counts known names output count
-  pub puts : Puts old.holds old.waits new.holds new.waits output
+  pub puts : Prints old new output
   pub counted : Counts old.selected new.selected count
 
 -- the output of the first lines was put, of which there were this many, or the writer failed, which took a beginning of
 -- it
 abbrev pub PutsBy : LogFault → Bool → Stand → Stand → List ℕ → ℕ → Type 0
-PutsBy faults.Open failed old new added lines = Puts old.holds old.waits new.holds new.waits added × (new.lines ≡ min lines (2 ^ 64 - 1))
-PutsBy faults.Read failed old new added lines = Puts old.holds old.waits new.holds new.waits added × (new.lines ≡ min lines (2 ^ 64 - 1))
-PutsBy faults.Write failed old new added lines = IsTrue failed × AppendsBeginning old.holds new.holds (old.waits ++ added)
-PutsBy faults.Address failed old new added lines = Puts old.holds old.waits new.holds new.waits added × (new.lines ≡ min lines (2 ^ 64 - 1))
-PutsBy faults.Length failed old new added lines = Puts old.holds old.waits new.holds new.waits added × (new.lines ≡ min lines (2 ^ 64 - 1))
-PutsBy faults.Endless failed old new added lines = Puts old.holds old.waits new.holds new.waits added × (new.lines ≡ min lines (2 ^ 64 - 1))
+PutsBy faults.Open failed old new added lines = Prints old new added × (new.lines ≡ min lines (2 ^ 64 - 1))
+PutsBy faults.Read failed old new added lines = Prints old new added × (new.lines ≡ min lines (2 ^ 64 - 1))
+PutsBy faults.Write failed old new added lines = IsTrue failed × FailsIn old new added
+PutsBy faults.Address failed old new added lines = Prints old new added × (new.lines ≡ min lines (2 ^ 64 - 1))
+PutsBy faults.Length failed old new added lines = Prints old new added × (new.lines ≡ min lines (2 ^ 64 - 1))
+PutsBy faults.Endless failed old new added lines = Prints old new added × (new.lines ≡ min lines (2 ^ 64 - 1))
 
 -- the log of this name was not filtered to its end, by the fault
 pub record NameStops (filter : Filter) (counts : Bool) (known : KnownLists) (name : List ℕ) (failed : Bool) (old new : Stand) (fault : LogFault) : Type 0 where

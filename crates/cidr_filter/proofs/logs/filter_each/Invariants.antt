@@ -1,6 +1,5 @@
 use Rattle.std.proofs.Common.{◌≡◌, ◌≤◌, length, map, take}
 use Rattle.std.specs.String.{string_bytes}
-use Rattle.line_engine.specs.Outputs.{writer_of, waits_in}
 use Rattle.cidr_filter.specs.Stands.{stand}
 use Rattle.cidr_filter.specs.Private.Runs.{FiltersNames}
 use Rattle.cidr_filter.proofs.logs.filter_each.Given as goal
@@ -10,6 +9,6 @@ invariant-loop-file g l = record {
   room : 1048578 ≤ length l.buffer;
   silent : l.errors ≡ l.initial.errors;
   names : FiltersNames l.filter l.counts (g.L.OpenLists.known l.lists) (map string_bytes (take l.file-index l.files))
-      (stand (g.W.Write.contents (writer_of l.initial.output)) (waits_in l.initial.output) l.initial.tally)
-      (stand (g.W.Write.contents (writer_of l.output)) (waits_in l.output) l.tally);
+      (stand l.initial.output l.initial.tally)
+      (stand l.output l.tally);
 }

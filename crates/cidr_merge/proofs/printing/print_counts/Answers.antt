@@ -1,4 +1,3 @@
-use Rattle.line_engine.specs.Outputs.{writer_of, waits_in}
 use Rattle.cidr_merge.specs.Answers.{sign_of, AreCountsLeft, AreCounts}
 use Rattle.cidr_merge.specs.declared.sides.Side.TheVariants.{First, Second}
 use Rattle.cidr_merge.proofs.Putting.{then_ok, counts_of_one, counts_of_both}
@@ -6,7 +5,6 @@ use Rattle.cidr_merge.proofs.printing.print_counts.Goals as goal
 
 pub returns-in-Differ-clause-text : goal.returns-in-Differ-clause-text
 returns-in-Differ-clause-text g c =
-    let contents = g.W.Write.contents in
     let output = c.args.output.now in
     let between = c.print_counts_left.new.output in
     let after = c.print_counts_left-in-Differ.new.output in
@@ -14,7 +12,7 @@ returns-in-Differ-clause-text g c =
     let first = c.args.first.now in
     let second = c.args.second.now in
     then_ok c.print_counts_left-in-Differ.result (AreCountsLeft operation (sign_of operation First) first second) (AreCountsLeft operation (sign_of operation Second) second first)
-    (AreCounts operation first second) (contents (writer_of output)) (contents (writer_of between)) (contents (writer_of after)) (waits_in output) (waits_in between) (waits_in after)
+    (AreCounts operation first second) output.holds between.holds after.holds output.waits between.waits after.waits
     (counts_of_both operation c.in-Differ.is first second) c.in_ok-print_counts_left.ensures.text c.print_counts_left-in-Differ.ensures.text
 
 pub returns-in_default-clause-text : goal.returns-in_default-clause-text

@@ -1,5 +1,4 @@
 use Rattle.std.proofs.Common.{refl}
-use Rattle.line_engine.specs.Outputs.{writer_of, waits_in}
 use Rattle.cidr_merge.specs.Answers.{AreRangeLines}
 use Rattle.cidr_merge.proofs.Merging.{ranges_of, ranges_of_second}
 use Rattle.cidr_merge.proofs.Putting.{line_ok}
@@ -7,10 +6,9 @@ use Rattle.cidr_merge.proofs.printing.print_ranges.Goals as goal
 
 pub returns-clause-text : goal.returns-clause-text
 returns-clause-text g c =
-    let contents = g.W.Write.contents in
     let w = g.A.Address.WIDTH in
-    line_ok c.print_parts.result (AreRangeLines c.args.operation g.A.Address.family c.args.first.now c.args.second.now) (contents (writer_of c.args.output.now)) (contents (writer_of c.print_parts.new.output))
-    (waits_in c.args.output.now) (waits_in c.print_parts.new.output) _ (
+    line_ok c.print_parts.result (AreRangeLines c.args.operation g.A.Address.family c.args.first.now c.args.second.now) c.args.output.now.holds c.print_parts.new.output.holds
+    c.args.output.now.waits c.print_parts.new.output.waits _ (
       _,
       _,
       ranges_of w _ _ _ c.of-firsts.ensures.counted.addresses c.of.ensures,

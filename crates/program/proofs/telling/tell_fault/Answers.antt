@@ -7,12 +7,10 @@ use Rattle.program.proofs.telling.tell_fault.Goals as goal
 
 pub returns-in-Open : goal.returns-in-Open
 returns-in-Open g c =
-    let contents = g.E.Write.contents in
-    subst (λ (fault : ReadFault). Tells contents c.args.errors.now c.tell.new.errors (fault_text c.args.words.now fault)) (sym c.in-Open.is)
-    (tells_more contents c.args.errors.now c.tell_name.new.errors c.tell.new.errors _ _ c.tell_name.ensures c.tell.ensures)
+    subst (λ (fault : ReadFault). Tells c.args.errors.now c.tell.new.errors (fault_text c.args.words.now fault)) (sym c.in-Open.is)
+    (tells_more c.args.errors.now c.tell_name.new.errors c.tell.new.errors _ _ c.tell_name.ensures c.tell.ensures)
 
 pub returns-in-Read : goal.returns-in-Read
 returns-in-Read g c =
-    let contents = g.E.Write.contents in
-    subst (λ (fault : ReadFault). Tells contents c.args.errors.now c.tell-in-Read.new.errors (fault_text c.args.words.now fault)) (sym c.in-Read.is)
-    (tells_more contents c.args.errors.now c.tell_name-in-Read.new.errors c.tell-in-Read.new.errors _ _ c.tell_name-in-Read.ensures c.tell-in-Read.ensures)
+    subst (λ (fault : ReadFault). Tells c.args.errors.now c.tell-in-Read.new.errors (fault_text c.args.words.now fault)) (sym c.in-Read.is)
+    (tells_more c.args.errors.now c.tell_name-in-Read.new.errors c.tell-in-Read.new.errors _ _ c.tell_name-in-Read.ensures c.tell-in-Read.ensures)

@@ -4,6 +4,5 @@ use Rattle.program.proofs.telling.tell_more.Goals as goal
 
 pub returns-then-more-gt0 : goal.returns-then-more-gt0
 returns-then-more-gt0 g c =
-    let contents = g.E.Write.contents in
-    tells_same contents _ _ _ _ (more_told c.args.more c.if-more-gt0.true)
-    (tells_more contents c.args.errors.now c.tell_number.new.errors c.tell.new.errors _ _ c.tell_number.ensures c.tell.ensures)
+    tells_same _ _ _ _ (more_told c.args.more c.if-more-gt0.true)
+    (tells_more c.args.errors.now c.tell_number.new.errors c.tell.new.errors _ _ c.tell_number.ensures c.tell.ensures)

@@ -2,4 +2,4 @@ use Rattle.program.proofs.Told.{tells_same}
 use Rattle.program.proofs.telling.tell_name.Goals as goal
 
 pub returns : goal.returns
-returns g c = tells_same g.E.Write.contents _ _ _ _ c.text_at.ensures c.tell.ensures
+returns g c = tells_same _ _ _ _ c.text_at.ensures c.tell.ensures

@@ -7,8 +7,7 @@ use Rattle.program.proofs.usage.refuse_arguments.Goals as goal
 
 pub returns-in-NotText-clause-told : goal.returns-in-NotText-clause-told
 returns-in-NotText-clause-told g c =
-    let contents = g.E.Write.contents in
     let old = c.args.errors.now in
-    subst (λ (fault : ArgumentsFault). Tells contents old c.tell-in-NotText-2.new.errors (arguments_text fault c.args.program.now c.args.usage.now)) (sym c.in-NotText.is)
-    (tells_more contents old c.tell-in-NotText.new.errors c.tell-in-NotText-2.new.errors _ _
-    (tells_more contents old c.tell.new.errors c.tell-in-NotText.new.errors _ _ c.tell.ensures c.tell-in-NotText.ensures) c.tell-in-NotText-2.ensures)
+    subst (λ (fault : ArgumentsFault). Tells old c.tell-in-NotText-2.new.errors (arguments_text fault c.args.program.now c.args.usage.now)) (sym c.in-NotText.is)
+    (tells_more old c.tell-in-NotText.new.errors c.tell-in-NotText-2.new.errors _ _
+    (tells_more old c.tell.new.errors c.tell-in-NotText.new.errors _ _ c.tell.ensures c.tell-in-NotText.ensures) c.tell-in-NotText-2.ensures)

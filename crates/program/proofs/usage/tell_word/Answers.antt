@@ -4,4 +4,4 @@ use Rattle.program.specs.Usage.{shown}
 use Rattle.program.proofs.usage.tell_word.Goals as goal
 
 pub returns : goal.returns
-returns g c = tells_same g.E.Write.contents _ _ _ _ (c.shown.ensures ∙ ap shown c.text_at.ensures) c.tell.ensures
+returns g c = tells_same _ _ _ _ (c.shown.ensures ∙ ap shown c.text_at.ensures) c.tell.ensures

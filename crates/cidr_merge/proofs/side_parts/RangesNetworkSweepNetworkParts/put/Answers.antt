@@ -1,16 +1,14 @@
 use Rattle.std.proofs.Common.{◌∙◌}
-use Rattle.line_engine.specs.Outputs.{writer_of, waits_in}
 use Rattle.cidr_merge.specs.Answers.{sign_of}
 use Rattle.cidr_merge.proofs.Putting.{put_five_ok}
 use Rattle.cidr_merge.proofs.side_parts.RangesNetworkSweepNetworkParts.put.Goals as goal
 
 pub returns-clause-text : goal.returns-clause-text
 returns-clause-text g c =
-    let contents = g.W.Write.contents in
-    put_five_ok c.put-5.result (contents (writer_of c.args.output.now)) (contents (writer_of c.put.new.self)) (contents (writer_of c.put-2.new.self)) (contents (writer_of c.put-3.new.self))
-    (contents (writer_of c.put-4.new.self)) (contents (writer_of c.put-5.new.self))
-    (waits_in c.args.output.now) (waits_in c.put.new.self) (waits_in c.put-2.new.self) (waits_in c.put-3.new.self)
-    (waits_in c.put-4.new.self) (waits_in c.put-5.new.self)
+    put_five_ok c.put-5.result c.args.output.now.holds c.put.new.self.holds c.put-2.new.self.holds c.put-3.new.self.holds
+    c.put-4.new.self.holds c.put-5.new.self.holds
+    c.args.output.now.waits c.put.new.self.waits c.put-2.new.self.waits c.put-3.new.self.waits
+    c.put-4.new.self.waits c.put-5.new.self.waits
     c.as_bytes.result.now c.as_bytes-2.result.now _ c.as_bytes-3.result.now _ (sign_of c.args.operation c.args.side) (g.A.Address.family.canonical (g.A.Address.number c.args.range.0))
     (g.A.Address.family.canonical (g.A.Address.number c.args.range.1)) (c.as_bytes.ensures.value ∙ c.sign_of.ensures)
     (c.as_bytes-2.ensures.value ∙ c.as_str.ensures.value ∙ c.canonical.ensures.bytes) (c.as_bytes-3.ensures.value ∙ c.as_str-2.ensures.value ∙ c.canonical-2.ensures.bytes)
