@@ -1,6 +1,6 @@
 -- What the laws let one conclude, where weaker laws would not.
 use Rattle.std.proofs.Common.{◌≡◌, ◌≢◌, ◌∙◌, ℕ, List, [], ◌∷◌, false, ap, sym, arith, length, refl}
-use Rattle.std.specs.Prelude.{bytes_eq, codes, map, None}
+use Rattle.std.specs.Prelude.{bytes_eq, codes, None}
 use Rattle.std.proofs.lemmas.Bool.{true≢false}
 use Rattle.std.proofs.lemmas.Slice.Eq.{bytes_eq-Decides}
 use Rattle.std.specs.Str.Lines.{lines}

@@ -1,5 +1,5 @@
 -- What is wrong with words, at values at which a misreading would show. Each of these computes.
-use Rattle.std.proofs.Common.{◌≡◌, ℕ, List, ◌∷◌, [], refl}
+use Rattle.std.proofs.Common.{◌≡◌, List, ◌∷◌, []}
 use Rattle.std.specs.Prelude.{codes, String, Some, None}
 use Rattle.std.specs.String.{string_bytes}
 use Rattle.program.specs.Usage.{usage_text}
