@@ -1,7 +1,7 @@
 -- What is wrong with the words of a command line.
 use Rattle.std.proofs.Common.{◌≡◌, ℕ, ◌+◌, ◌-◌, Bool, true, false, List, [], ◌∷◌, length, length-drop, drop, refl, sym, ap, ◌∙◌, ◌||◌, ◌&&◌, cond, arith, inl, inr, ◌⊎◌, true≢false, not, codes}
 use Rattle.std.specs.Prelude.{Option, None, Some, String, nat_le, nat_lt, bytes_eq}
-use Rattle.std.specs.List.{list_all, list_any}
+use Rattle.std.specs.List.{list_all}
 use Rattle.std.specs.String.{string_bytes}
 use Rattle.std.proofs.lemmas.Option.{none-some}
 use Rattle.program.specs.Words.{is}

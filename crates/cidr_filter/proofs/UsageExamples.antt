@@ -1,5 +1,5 @@
 -- Command lines that are refused, at which a misreading of the definitions would show.
-use Rattle.std.proofs.Common.{◌≡◌, List, [], ◌∷◌, true, false, inl, inr, refl}
+use Rattle.std.proofs.Common.{◌≡◌, [], ◌∷◌, true, false, inl, inr, refl}
 use Rattle.std.specs.Prelude.{codes, String, Some, None}
 use Rattle.std.specs.String.{string_bytes}
 use Rattle.program.specs.declared.usage.Subject.TheVariants as subjects

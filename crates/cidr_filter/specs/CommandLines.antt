@@ -1,8 +1,8 @@
 -- What the words of a command line ask for.
-use Rattle.std.specs.Prelude.{◌≡◌, ℕ, ◌+◌, ◌==◌, ◌||◌, ◌&&◌, Bool, true, false, not, List, [], ◌∷◌, Option, None, Some, drop, length, nat_le, if◌then◌else◌, codes, fold, String}
-use Rattle.std.specs.List.{count_by, list_all, list_any}
+use Rattle.std.specs.Prelude.{◌≡◌, ℕ, ◌+◌, ◌==◌, ◌||◌, ◌&&◌, Bool, true, false, not, List, [], ◌∷◌, Option, None, Some, drop, length, nat_le, if◌then◌else◌, codes, String}
+use Rattle.std.specs.List.{list_all}
 use Rattle.std.specs.String.{string_bytes}
-use Rattle.program.specs.Words.{is}
+use Rattle.program.specs.Words.{is, count}
 use Rattle.cidr_filter.specs.Options.{begins, option_of, behind_option, said_by}
 use Rattle.cidr_filter.specs.declared.options.Choice.{Choice}
 use Rattle.cidr_filter.specs.declared.command_line.Request.{Request}
@@ -32,7 +32,7 @@ files_among (word ∷ words) = if is (codes "--") word then names_in words else 
 -- how often the FILEs name standard input, which is named once if there is no FILE
 abbrev pub inputs_among : {Z : Type 0} → List (String Z) → ℕ
 inputs_among [] = 1
-inputs_among (file ∷ files) = count_by (is (codes "-")) (file ∷ files)
+inputs_among (file ∷ files) = count (codes "-") (file ∷ files)
 
 -- `--longest` is given together with `-v` or `-c`
 abbrev pub is_crossed : Request → Bool

@@ -1,6 +1,5 @@
 -- What is wrong with the words of a command line.
 use Rattle.std.specs.Prelude.{◌≡◌, ℕ, ◌+◌, ◌-◌, ◌||◌, Bool, List, [], ◌∷◌, Option, None, Some, ◌⊎◌, length, nat_le, if◌then◌else◌, codes, bytes_eq, String}
-use Rattle.std.specs.List.{count_by, list_any}
 use Rattle.std.specs.String.{string_bytes}
 use Rattle.program.specs.Words.{is}
 use Rattle.program.specs.declared.usage.Subject.{Subject}

@@ -9,7 +9,7 @@ use crate::filter::Bad;
 use crate::options::{Choice, behind, choice_at};
 use crate::usage::{Problem, UsageFault, about, rest_fault};
 use program::usage::Subject;
-use program::words::is;
+use program::words::{count_of, is};
 
 /// What a run is asked for. Its options are the words before `files`, and the FILEs those from there on.
 #[derive(Clone, Copy, Debug, PartialEq, Eq)]
@@ -148,15 +148,10 @@ fn inputs_among(files: &[String]) -> usize
     ensures { result ≡ inputs_among files.now }
 {
     if files.is_empty() {
-        return 1;
+        1
+    } else {
+        count_of(files, "-")
     }
-    let mut count = 0;
-    for file in files {
-        if is(file, "-") {
-            count += 1;
-        }
-    }
-    count
 }
 
 // The index of the first FILE, which may stand after a `--`.

@@ -11,7 +11,7 @@ use line_engine::output::Output;
 use lists::Refusal;
 use program::messages::{tell, tell_number};
 use program::telling::Places;
-use program::words::is;
+use program::words::{is, text_at};
 use std::io::Write;
 
 /// Where refused lines stand, by the words of a command line: in a list, or in the text of an `-e`.
@@ -38,13 +38,7 @@ impl Places for InOptions<'_> {
 fn is_text(words: &[String], place: usize) -> bool
     ensures { result ≡ is_text words.now place }
 {
-    if place == 0 {
-        return false;
-    }
-    match words.get(place - 1) {
-        Some(word) => is(word, "-e"),
-        None => false,
-    }
+    place > 0 && text_at(words, place - 1) == "-e"
 }
 
 // How many `-e` there are among the options before a place.

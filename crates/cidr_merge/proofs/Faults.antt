@@ -3,7 +3,8 @@ use Rattle.std.proofs.Common.{◌≡◌, ℕ, ◌+◌, [], Bool, true, false, no
 use Rattle.std.specs.Prelude.{Option, None, Some, ◌&&◌, if◌then◌else◌, nat_le, nat_lt, String}
 use Rattle.std.specs.List.{list_all, prefix_len}
 use Rattle.std.proofs.lemmas.Bool.Decides.{nat_tests}
-use Rattle.cidr_merge.specs.CommandLines.{count, has, is_dashed, operation_named, options_of, lists_of, before_dashes, behind_dashes, is_option, is_name, are_options, are_lists, are_two_sides, are_sides, AreFor, AreForNone}
+use Rattle.program.specs.Words.{count}
+use Rattle.cidr_merge.specs.CommandLines.{has, is_dashed, operation_named, options_of, lists_of, before_dashes, behind_dashes, is_option, is_name, are_options, are_lists, are_two_sides, are_sides, AreFor, AreForNone}
 use Rattle.cidr_merge.specs.Usage.{first_of, options_fault, lists_fault, union_fault, sides_fault, parts_fault, fault_among, fault_for, fault_in}
 use Rattle.cidr_merge.specs.declared.command_line.Operation.{Operation}
 use Rattle.cidr_merge.specs.declared.command_line.Operation.TheVariants.{Union, Common, Minus, Differ}

@@ -1,18 +1,15 @@
 -- What the words of a command line ask for.
 use Rattle.std.specs.Prelude.{◌≡◌, ℕ, ◌+◌, ◌==◌, ◌||◌, ◌&&◌, Bool, true, false, not, List, [], ◌∷◌, Option, None, Some, take, drop, length, nat_lt, nat_le, if◌then◌else◌, slice_range, codes, bytes_eq, String}
-use Rattle.std.specs.List.{count_by, list_all, position_or_len, prefix_len}
+use Rattle.std.specs.List.{list_all, position_or_len, prefix_len}
 use Rattle.std.specs.String.{string_bytes}
-use Rattle.program.specs.Words.{is}
+use Rattle.program.specs.Words.{is, count}
 use Rattle.cidr_merge.specs.declared.command_line.Operation.{Operation}
 use Rattle.cidr_merge.specs.declared.command_line.Operation.TheVariants.{Union, Common, Minus, Differ}
 use Rattle.cidr_merge.specs.declared.command_line.Form.{Form}
 use Rattle.cidr_merge.specs.declared.command_line.Form.TheVariants.{Blocks, Ranges, Counts}
 use Rattle.cidr_merge.specs.declared.command_line.Request.{Request}
 
--- how many of the words are this text, and whether one is
-abbrev pub count : {Z : Type 0} → List ℕ → List (String Z) → ℕ
-count text words = count_by (is text) words
-
+-- whether one of the words is this text
 abbrev pub has : {Z : Type 0} → List ℕ → List (String Z) → Bool
 has text words = nat_lt 0 (count text words)
 

@@ -2,9 +2,9 @@
 use Rattle.std.specs.Prelude.{ℕ, ◌+◌, ◌&&◌, Bool, not, List, [], ◌∷◌, Option, None, Some, length, nat_le, nat_lt, if◌then◌else◌, codes, bytes_eq, String}
 use Rattle.std.specs.List.{list_all, position_or_len, prefix_len}
 use Rattle.program.specs.Told.{name_at}
-use Rattle.program.specs.Words.{is}
+use Rattle.program.specs.Words.{is, count}
 use Rattle.program.specs.declared.usage.Subject.TheVariants.{CommandLine, Word}
-use Rattle.cidr_merge.specs.CommandLines.{count, has, operation_named, options_of, lists_of, before_dashes, behind_dashes, is_option, is_name}
+use Rattle.cidr_merge.specs.CommandLines.{has, operation_named, options_of, lists_of, before_dashes, behind_dashes, is_option, is_name}
 use Rattle.cidr_merge.specs.declared.command_line.Operation.{Operation}
 use Rattle.cidr_merge.specs.declared.command_line.Operation.TheVariants.{Union, Common, Minus, Differ}
 use Rattle.cidr_merge.specs.declared.usage.Problem.{Problem}

@@ -4,9 +4,9 @@ ghost use Rattle.cidr_merge.specs.CommandLines.{is_option, is_name};
 ghost use Rattle.cidr_merge.specs.Usage.{problem_text, no_operation, at_word, first_not, options_fault, option_problem, lists_fault, name_problem, union_fault, no_second_side, sides_fault, fault_among};
 
 use crate::command_line::Operation;
-use crate::words::{count_of, has, is_dashed, place_of};
+use crate::words::{has, is_dashed, place_of};
 use program::usage::Subject;
-use program::words::{is, text_at};
+use program::words::{count_of, is, text_at};
 
 /// What is wrong with a word, or with all of them.
 #[derive(Clone, Copy, Debug, PartialEq, Eq)]

@@ -2,28 +2,15 @@
 ghost use Rattle.std.specs.Prelude.{◌≡◌, ◌≤◌, length};
 ghost use Rattle.std.specs.List.{position_or_len, prefix_len};
 ghost use Rattle.program.specs.Words.{is};
-ghost use Rattle.cidr_merge.specs.CommandLines.{count, has, is_dashed};
+ghost use Rattle.cidr_merge.specs.CommandLines.{has, is_dashed};
 
-use program::words::is;
+use program::words::{count_of, is};
 
 /// Whether a word among these is this text.
 pub(crate) fn has(words: &[String], text: &str) -> bool
     ensures { result ≡ has text.now words.now }
 {
     count_of(words, text) > 0
-}
-
-/// How many of the words are this text.
-pub(crate) fn count_of(words: &[String], text: &str) -> usize
-    ensures { result ≡ count text.now words.now }
-{
-    let mut count = 0;
-    for word in words {
-        if is(word, text) {
-            count += 1;
-        }
-    }
-    count
 }
 
 /// The place of the first word that is this text, or the number of words.

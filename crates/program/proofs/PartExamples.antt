@@ -1,9 +1,10 @@
 -- What the definitions promise, part by part: a definition without one of these parts would not give it.
-use Rattle.std.proofs.Common.{◌≡◌, ℕ, List, refl}
-use Rattle.std.specs.Prelude.{IsTrue, IsFalse, Ok, Err, codes, if◌then◌else◌}
+use Rattle.std.proofs.Common.{◌≡◌, ◌++◌, ℕ, List, refl, subst}
+use Rattle.std.specs.Prelude.{IsTrue, IsFalse, Option, Some, MatchOption, Ok, Err, codes, if◌then◌else◌, String}
 use Rattle.line_engine.specs.Outputs.{Written, Prints, Writes}
 use Rattle.program.specs.Endings.{status_of, failure_text, end_text, Ending, IsSilent, HasTold, HasWritten, EndsPrinting}
 use Rattle.program.specs.Messages.{Tells}
+use Rattle.program.specs.Runs.{text_asked, EndsRun}
 
 -- ---- messages
 
@@ -40,3 +41,9 @@ what_was_written end text h = h
 pub what_was_printed : {W E : Type 0} (end : Ending W E) (text : List ℕ) → EndsPrinting text end
     → (end.status ≡ (if end.output_after.failed then 2 else 0)) × (end.status ≡ 0 → HasWritten end text) × HasTold end (failure_text end.output_after.failed)
 what_was_printed end text h = h
+
+pub what_a_run_prints : {Z W E : Type 0} (help version text : List ℕ) (words : List (String Z)) (Otherwise : Type 0)
+    (end : Ending W E) → text_asked help version words ≡ Some text → EndsRun help version words Otherwise end
+    → EndsPrinting text end
+what_a_run_prints help version text words Otherwise end e h =
+    subst (λ (asked : Option (List ℕ)). MatchOption asked Otherwise (λ t. EndsPrinting t end)) e h

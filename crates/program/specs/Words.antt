@@ -1,10 +1,15 @@
 -- Words of a command line.
 use Rattle.std.specs.Prelude.{ℕ, ◌==◌, ◌&&◌, Bool, false, List, [], ◌∷◌, length, bytes_eq, String}
+use Rattle.std.specs.List.{count_by}
 use Rattle.std.specs.String.{string_bytes}
 
 -- the word is this text
 abbrev pub is : {Z : Type 0} → List ℕ → String Z → Bool
 is text word = bytes_eq (string_bytes word) text
+
+-- how many of the words are this text
+abbrev pub count : {Z : Type 0} → List ℕ → List (String Z) → ℕ
+count text words = count_by (is text) words
 
 -- the only word is this text
 abbrev pub is_only : {Z : Type 0} → List ℕ → List (String Z) → Bool

@@ -1,7 +1,7 @@
 //! Words of a command line.
 ghost use Rattle.std.specs.Prelude.{◌≡◌};
 ghost use Rattle.program.specs.Told.{name_at};
-ghost use Rattle.program.specs.Words.{is, is_only};
+ghost use Rattle.program.specs.Words.{is, is_only, count};
 
 /// Whether a word is this text.
 ///
@@ -21,6 +21,23 @@ pub(crate) fn is_only(words: &[String], text: &str) -> bool
     ensures { result ≡ is_only text.now words.now }
 {
     words.len() == 1 && is(&words[0], text)
+}
+
+/// How many of the words are this text.
+///
+/// ```
+/// assert_eq!(rt; program::words::count_of(&[], "-"), 0);
+/// ```
+pub fn count_of(words: &[String], text: &str) -> usize
+    ensures { result ≡ count text.now words.now }
+{
+    let mut count = 0;
+    for word in words {
+        if is(word, text) {
+            count += 1;
+        }
+    }
+    count
 }
 
 /// The word at an index; past the last word, an empty text.

@@ -1,6 +1,6 @@
 use Rattle.std.proofs.Common.{◌≤◌, ◌≡◌, take}
-use Rattle.cidr_merge.specs.CommandLines.{count}
-use Rattle.cidr_merge.proofs.words.count_of.Given as goal
+use Rattle.program.specs.Words.{count}
+use Rattle.program.proofs.words.count_of.Given as goal
 
 abbrev pub invariant-loop-word : goal.invariant-loop-word
 invariant-loop-word l = record {
