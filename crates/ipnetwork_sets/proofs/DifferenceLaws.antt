@@ -5,7 +5,7 @@ use Rattle.ipnetwork_blocks.proofs.LeastLists.{least_unique, least_of_none}
 use Rattle.ipnetwork_sets.specs.DifferenceLaws.{CommonPartIsSettled, DifferenceIsSettled, FreePartIsSettled, UnionIsSettled, DifferenceOfOne, DifferenceOfUnion, DifferenceOfCommonPart}
 use Rattle.ipnetwork_sets.specs.Sets.{InBoth, InFirstAlone, InNetworkAlone, InEither}
 use Rattle.ipnetwork_sets.proofs.Steps.{same_list}
-use Rattle.ipnetwork_sets.proofs.SetLaws.{union_or_not, common_is_shortest, difference_is_shortest, union_is_shortest}
+use Rattle.ipnetwork_sets.proofs.SetLaws.{outside_union, outside_common, common_is_shortest, difference_is_shortest, union_is_shortest}
 
 pub common_part_is_settled : CommonPartIsSettled
 common_part_is_settled w a b c d r s ac bd h k =
@@ -33,28 +33,8 @@ difference_of_one w a r h = least_unique w (InFirstAlone w a a) r [] h (least_of
 
 pub difference_of_union : DifferenceOfUnion
 difference_of_union w a b c u f fb fc r hu hf hb hc k =
-    let in_u = (union_is_shortest w b c u hu).addresses in
-    let in_b = (difference_is_shortest w a b fb hb).addresses in
-    let in_c = (difference_is_shortest w a c fc hc).addresses in
-    same_list w (InFirstAlone w a u) (InBoth w fb fc) f r hf k
-    (λ x. (
-      (λ p. ((in_b x).1 (p.0, λ m. p.1 ((in_u x).1 (inl m))), (in_c x).1 (p.0, λ m. p.1 ((in_u x).1 (inr m))))),
-      (λ p. (((in_b x).0 p.0).0, λ m. ⊎_elim (λ (o : InUnion w b x). ((in_b x).0 p.0).1 o) (λ (o : InUnion w c x). ((in_c x).0 p.1).1 o) ((in_u x).0 m))),
-    ))
+    outside_union w (InUnion w a) b c u fb fc f r (union_is_shortest w b c u hu) (difference_is_shortest w a b fb hb) (difference_is_shortest w a c fc hc) hf k
 
 pub difference_of_common_part : DifferenceOfCommonPart
 difference_of_common_part w a b c d f fb fc r hd hf hb hc k =
-    let in_d = (common_is_shortest w b c d hd).addresses in
-    let in_b = (difference_is_shortest w a b fb hb).addresses in
-    let in_c = (difference_is_shortest w a c fc hc).addresses in
-    same_list w (InFirstAlone w a d) (InEither w fb fc) f r hf k
-    (λ x. (
-      (λ p. ⊎_elim
-          (λ (m : InUnion w b x). inr ((in_c x).1 (p.0, λ o. p.1 ((in_d x).1 (m, o)))))
-          (λ (m : ¬ (InUnion w b x)). inl ((in_b x).1 (p.0, m)))
-          (union_or_not w b x)),
-      (λ p. ⊎_elim
-          (λ (m : InUnion w fb x). let q = (in_b x).0 m in (q.0, λ o. q.1 ((in_d x).0 o).0))
-          (λ (m : InUnion w fc x). let q = (in_c x).0 m in (q.0, λ o. q.1 ((in_d x).0 o).1))
-          p),
-    ))
+    outside_common w (InUnion w a) b c d fb fc f r (common_is_shortest w b c d hd) (difference_is_shortest w a b fb hb) (difference_is_shortest w a c fc hc) hf k

@@ -110,33 +110,45 @@ parts_make_the_whole w a b c d r h hc hd k =
 
 -- ---- De Morgan's laws
 
-pub free_of_union : FreeOfUnion
-free_of_union w n a b u f fa fb r hu hf ha hb k =
-    let in_u = (union_is_shortest w a b u hu).addresses in
-    let in_a = (free_is_shortest w n a fa ha).addresses in
-    let in_b = (free_is_shortest w n b fb hb).addresses in
-    same_list w (InNetworkAlone w n u) (InBoth w fa fb) f r hf k
+-- of any addresses, those that are in no union are those in neither of the two
+pub outside_union : (w : ℕ) (P : ℕ → Type 0) (a b u la lb l r : List Network) → IsShortest w (InEither w a b) u → IsShortest w (λ x. P x × ¬ (InUnion w a x)) la
+    → IsShortest w (λ x. P x × ¬ (InUnion w b x)) lb → IsLeastList w (λ x. P x × ¬ (InUnion w u x)) l → IsLeastList w (InBoth w la lb) r → l ≡ r
+outside_union w P a b u la lb l r hu ha hb h k =
+    let in_u = hu.addresses in
+    let in_a = ha.addresses in
+    let in_b = hb.addresses in
+    same_list w (λ x. P x × ¬ (InUnion w u x)) (InBoth w la lb) l r h k
     (λ x. (
       (λ p. ((in_a x).1 (p.0, λ m. p.1 ((in_u x).1 (inl m))), (in_b x).1 (p.0, λ m. p.1 ((in_u x).1 (inr m))))),
       (λ p. (((in_a x).0 p.0).0, λ m. ⊎_elim (λ (c : InUnion w a x). ((in_a x).0 p.0).1 c) (λ (c : InUnion w b x). ((in_b x).0 p.1).1 c) ((in_u x).0 m))),
     ))
 
-pub free_of_common : FreeOfCommonPart
-free_of_common w n a b c f fa fb r hc hf ha hb k =
-    let in_c = (common_is_shortest w a b c hc).addresses in
-    let in_a = (free_is_shortest w n a fa ha).addresses in
-    let in_b = (free_is_shortest w n b fb hb).addresses in
-    same_list w (InNetworkAlone w n c) (InEither w fa fb) f r hf k
+-- and those that are in no common part are those that are not in the one or not in the other
+pub outside_common : (w : ℕ) (P : ℕ → Type 0) (a b c la lb l r : List Network) → IsShortest w (InBoth w a b) c → IsShortest w (λ x. P x × ¬ (InUnion w a x)) la
+    → IsShortest w (λ x. P x × ¬ (InUnion w b x)) lb → IsLeastList w (λ x. P x × ¬ (InUnion w c x)) l → IsLeastList w (InEither w la lb) r → l ≡ r
+outside_common w P a b c la lb l r hc ha hb h k =
+    let in_c = hc.addresses in
+    let in_a = ha.addresses in
+    let in_b = hb.addresses in
+    same_list w (λ x. P x × ¬ (InUnion w c x)) (InEither w la lb) l r h k
     (λ x. (
       (λ p. ⊎_elim
           (λ (m : InUnion w a x). inr ((in_b x).1 (p.0, λ o. p.1 ((in_c x).1 (m, o)))))
           (λ (m : ¬ (InUnion w a x)). inl ((in_a x).1 (p.0, m)))
           (union_or_not w a x)),
       (λ p. ⊎_elim
-          (λ (m : InUnion w fa x). let q = (in_a x).0 m in (q.0, λ o. q.1 ((in_c x).0 o).0))
-          (λ (m : InUnion w fb x). let q = (in_b x).0 m in (q.0, λ o. q.1 ((in_c x).0 o).1))
+          (λ (m : InUnion w la x). let q = (in_a x).0 m in (q.0, λ o. q.1 ((in_c x).0 o).0))
+          (λ (m : InUnion w lb x). let q = (in_b x).0 m in (q.0, λ o. q.1 ((in_c x).0 o).1))
           p),
     ))
+
+pub free_of_union : FreeOfUnion
+free_of_union w n a b u f fa fb r hu hf ha hb k =
+    outside_union w (Member w n) a b u fa fb f r (union_is_shortest w a b u hu) (free_is_shortest w n a fa ha) (free_is_shortest w n b fb hb) hf k
+
+pub free_of_common : FreeOfCommonPart
+free_of_common w n a b c f fa fb r hc hf ha hb k =
+    outside_common w (Member w n) a b c fa fb f r (common_is_shortest w a b c hc) (free_is_shortest w n a fa ha) (free_is_shortest w n b fb hb) hf k
 
 -- ---- the questions of two sets
 

@@ -1,7 +1,6 @@
 -- The union of two sets, run by run.
-use Rattle.std.proofs.Common.{◌≡◌, ◌↔◌, ℕ, ◌+◌, ◌^◌, ◌<◌, ◌≤◌, ◌⊎◌, inl, inr, sym, refl, ap, subst, ◌∙◌, arith, ⊎_elim, List, [], ◌∷◌, ◌++◌, suc, length, map, Option, None, Some, MatchOption}
+use Rattle.std.proofs.Common.{◌≡◌, ◌↔◌, ℕ, ◌+◌, ◌^◌, ◌<◌, ◌≤◌, ◌⊎◌, inl, inr, sym, refl, ap, subst, ◌∙◌, arith, ⊎_elim, List, [], ◌∷◌, ◌++◌, suc, length, Option, None, Some, MatchOption}
 use Rattle.std.proofs.lemmas.Bool.{cases_lt}
-use Rattle.std.proofs.lemmas.List.{length-map}
 use Rattle.std.specs.Iterator.{MakesProgress, item_count}
 use Rattle.ipnetwork_family.specs.Network.{Network, IsNetwork, IsCidrBlock, Member, low, high}
 use Rattle.ipnetwork_family.proofs.Blocks.{size_pos, has_ends, high_fits, within_member, member_within}

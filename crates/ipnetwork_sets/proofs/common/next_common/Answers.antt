@@ -1,4 +1,4 @@
-use Rattle.std.proofs.Common.{◌≡◌, ◌∷◌, ℕ, List, map, ap, ◌∙◌, arith}
+use Rattle.std.proofs.Common.{ℕ, List, map, ap, ◌∙◌, arith}
 use Rattle.std.proofs.lemmas.Bool.{iff_false}
 use Rattle.ipnetwork_family.specs.Network.{Network}
 use Rattle.ipnetwork_sets.specs.Private.LeastBlocks.{common_blocks}
@@ -20,71 +20,51 @@ returns-in_default-split_held g c =
 pub loop-one-preserved-then-ends_before : goal.loop-one-preserved-then-ends_before
 loop-one-preserved-then-ends_before g c =
     let w : ℕ = g.N.CidrNetwork.WIDTH in
-    let a : Network = g.N.CidrNetwork.pair c.in-Some.one.0 in
-    let b : Network = g.N.CidrNetwork.pair c.in-Some-split_held.other.0 in
-    let first : List Network = map g.H.HoldsNetwork.held c.loop-one.first.now in
-    let second : List Network = map g.H.HoldsNetwork.held c.loop-one.second.now in
-    let others : List Network = map g.H.HoldsNetwork.held c.in-Some.one.1.now in
-    let rest : List Network = map g.H.HoldsNetwork.held c.in-Some-split_held.other.1.now in
-    let e : first ≡ a ∷ others = c.in-Some.ensures.0 in
-    let f : second ≡ b ∷ rest = c.in-Some-split_held.ensures.0 in
+    let apart = c.one_block.ensures.apart in
+    let e = c.in-Some.ensures.0 in
+    let f = c.in-Some-split_held.ensures.0 in
     let i = c.loop-one.invariant in
     record {
-      first = (c.in-Some.ensures.1, others_are_set w a b first second others rest c.one_block.ensures.apart e f i.first.1 i.second.1);
+      first = (c.in-Some.ensures.1, others_are_set w _ _ _ _ _ _ apart e f i.first.1 i.second.1);
       second = i.second;
-      same = i.same ∙ past_first w a b first second others rest c.one_block.ensures.apart e f i.first.1 i.second.1 (c.ends_before.ensures.0 c.if-ends_before.true);
+      same = i.same ∙ past_first w _ _ _ _ _ _ apart e f i.first.1 i.second.1 (c.ends_before.ensures.0 c.if-ends_before.true);
     }
 
 pub loop-one-preserved : goal.loop-one-preserved
 loop-one-preserved g c =
     let w : ℕ = g.N.CidrNetwork.WIDTH in
-    let a : Network = g.N.CidrNetwork.pair c.in-Some.one.0 in
-    let b : Network = g.N.CidrNetwork.pair c.in-Some-split_held.other.0 in
-    let first : List Network = map g.H.HoldsNetwork.held c.loop-one.first.now in
-    let second : List Network = map g.H.HoldsNetwork.held c.loop-one.second.now in
-    let others : List Network = map g.H.HoldsNetwork.held c.in-Some.one.1.now in
-    let rest : List Network = map g.H.HoldsNetwork.held c.in-Some-split_held.other.1.now in
-    let e : first ≡ a ∷ others = c.in-Some.ensures.0 in
-    let f : second ≡ b ∷ rest = c.in-Some-split_held.ensures.0 in
+    let apart = c.one_block.ensures.apart in
+    let e = c.in-Some.ensures.0 in
+    let f = c.in-Some-split_held.ensures.0 in
     let i = c.loop-one.invariant in
     record {
       first = i.first;
-      second = (c.in-Some-split_held.ensures.1, rest_is_set w a b first second others rest c.one_block.ensures.apart e f i.first.1 i.second.1);
-      same = i.same ∙ past_second w a b first second others rest c.one_block.ensures.apart e f i.first.1 i.second.1 (c.ends_before-else-ends_before.ensures.0 c.if-ends_before-2.true);
+      second = (c.in-Some-split_held.ensures.1, rest_is_set w _ _ _ _ _ _ apart e f i.first.1 i.second.1);
+      same = i.same ∙ past_second w _ _ _ _ _ _ apart e f i.first.1 i.second.1 (c.ends_before-else-ends_before.ensures.0 c.if-ends_before-2.true);
     }
 
 pub returns-then-prefix : goal.returns-then-prefix
 returns-then-prefix g c =
     let w : ℕ = g.N.CidrNetwork.WIDTH in
-    let a : Network = g.N.CidrNetwork.pair c.in-Some.one.0 in
-    let b : Network = g.N.CidrNetwork.pair c.in-Some-split_held.other.0 in
-    let first : List Network = map g.H.HoldsNetwork.held c.loop-one.first.now in
-    let second : List Network = map g.H.HoldsNetwork.held c.loop-one.second.now in
-    let others : List Network = map g.H.HoldsNetwork.held c.in-Some.one.1.now in
-    let rest : List Network = map g.H.HoldsNetwork.held c.in-Some-split_held.other.1.now in
-    let e : first ≡ a ∷ others = c.in-Some.ensures.0 in
-    let f : second ≡ b ∷ rest = c.in-Some-split_held.ensures.0 in
+    let apart = c.one_block.ensures.apart in
+    let e = c.in-Some.ensures.0 in
+    let f = c.in-Some-split_held.ensures.0 in
     let i = c.loop-one.invariant in (
-      (c.in-Some.ensures.1, others_are_set w a b first second others rest c.one_block.ensures.apart e f i.first.1 i.second.1),
+      (c.in-Some.ensures.1, others_are_set w _ _ _ _ _ _ apart e f i.first.1 i.second.1),
       i.second,
-      i.same ∙ gives_first w a b first second others rest c.one_block.ensures.apart e f i.first.1 i.second.1 (iff_false c.ends_before.ensures c.if-ends_before.false)
+      i.same ∙ gives_first w _ _ _ _ _ _ apart e f i.first.1 i.second.1 (iff_false c.ends_before.ensures c.if-ends_before.false)
           (iff_false c.ends_before-else-ends_before.ensures c.if-ends_before-2.false) (omega (arith, c.prefix.ensures.made, c.prefix-else-ends_before-2.ensures.made, c.if-prefix.true)),
     )
 
 pub returns-else-prefix : goal.returns-else-prefix
 returns-else-prefix g c =
     let w : ℕ = g.N.CidrNetwork.WIDTH in
-    let a : Network = g.N.CidrNetwork.pair c.in-Some.one.0 in
-    let b : Network = g.N.CidrNetwork.pair c.in-Some-split_held.other.0 in
-    let first : List Network = map g.H.HoldsNetwork.held c.loop-one.first.now in
-    let second : List Network = map g.H.HoldsNetwork.held c.loop-one.second.now in
-    let others : List Network = map g.H.HoldsNetwork.held c.in-Some.one.1.now in
-    let rest : List Network = map g.H.HoldsNetwork.held c.in-Some-split_held.other.1.now in
-    let e : first ≡ a ∷ others = c.in-Some.ensures.0 in
-    let f : second ≡ b ∷ rest = c.in-Some-split_held.ensures.0 in
+    let apart = c.one_block.ensures.apart in
+    let e = c.in-Some.ensures.0 in
+    let f = c.in-Some-split_held.ensures.0 in
     let i = c.loop-one.invariant in (
       i.first,
-      (c.in-Some-split_held.ensures.1, rest_is_set w a b first second others rest c.one_block.ensures.apart e f i.first.1 i.second.1),
-      i.same ∙ gives_second w a b first second others rest c.one_block.ensures.apart e f i.first.1 i.second.1 (iff_false c.ends_before.ensures c.if-ends_before.false)
+      (c.in-Some-split_held.ensures.1, rest_is_set w _ _ _ _ _ _ apart e f i.first.1 i.second.1),
+      i.same ∙ gives_second w _ _ _ _ _ _ apart e f i.first.1 i.second.1 (iff_false c.ends_before.ensures c.if-ends_before.false)
           (iff_false c.ends_before-else-ends_before.ensures c.if-ends_before-2.false) (omega (arith, c.prefix.ensures.made, c.prefix-else-ends_before-2.ensures.made, c.if-prefix.false)),
     )

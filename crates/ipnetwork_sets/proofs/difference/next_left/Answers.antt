@@ -11,23 +11,14 @@ returns-in_default g c =
     let at_hand : Option (Network × Network) = option_map (λ p. (g.N.CidrNetwork.pair p.whole, g.N.CidrNetwork.pair p.piece)) c.loop-part.at_hand in
     c.loop-part.invariant.same ∙ no_part w at_hand (map g.H.HoldsNetwork.held c.loop-part.rest.now) (map g.H.HoldsNetwork.held c.loop-part.cut.now) c.in_default.ensures
 
-pub first_free-requires-clause-part : goal.first_free-requires-clause-part
-first_free-requires-clause-part g c =
+pub first_free-requires : goal.first_free-requires
+first_free-requires g c =
     let w : ℕ = g.N.CidrNetwork.WIDTH in
     let at_hand : Option (Network × Network) = option_map (λ p. (g.N.CidrNetwork.pair p.whole, g.N.CidrNetwork.pair p.piece)) c.loop-part.at_hand in
     let part : Network × Network = (g.N.CidrNetwork.pair c.in-Some.part.whole, g.N.CidrNetwork.pair c.in-Some.part.piece) in
     let state = takes_state w at_hand (map g.H.HoldsNetwork.held c.loop-part.rest.now) (map g.H.HoldsNetwork.held c.loop-part.cut.now) part
     (map g.H.HoldsNetwork.held c.in-Some.after.now) c.one_block.ensures.apart c.loop-part.invariant.state c.in-Some.ensures.1 in
-    state.2
-
-pub first_free-requires-clause-widest : goal.first_free-requires-clause-widest
-first_free-requires-clause-widest g c =
-    let w : ℕ = g.N.CidrNetwork.WIDTH in
-    let at_hand : Option (Network × Network) = option_map (λ p. (g.N.CidrNetwork.pair p.whole, g.N.CidrNetwork.pair p.piece)) c.loop-part.at_hand in
-    let part : Network × Network = (g.N.CidrNetwork.pair c.in-Some.part.whole, g.N.CidrNetwork.pair c.in-Some.part.piece) in
-    let state = takes_state w at_hand (map g.H.HoldsNetwork.held c.loop-part.rest.now) (map g.H.HoldsNetwork.held c.loop-part.cut.now) part
-    (map g.H.HoldsNetwork.held c.in-Some.after.now) c.one_block.ensures.apart c.loop-part.invariant.state c.in-Some.ensures.1 in
-    state.3
+    record { part = state.2; widest = state.3; set = (c.loop-part.invariant.cut, state.1) }
 
 pub returns-in-Some-free : goal.returns-in-Some-free
 returns-in-Some-free g c =

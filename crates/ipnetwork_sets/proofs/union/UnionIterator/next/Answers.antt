@@ -34,7 +34,7 @@ invariant_of-self-2 g c =
     let h = c.in-Some-next_run.ensures.1 in (
       (c.in-Some-next_run.ensures.2, h.others_are_set),
       (c.in-Some-next_run.ensures.3, h.rest_is_set),
-      next_is_set w pair (map held c.self.inside.first.now) (map held c.self.inside.second.now) (map held run.2.now) (map held run.3.now) c.args.self.now (at_hand c.self.inside.run)
+      next_is_set w pair _ _ _ _ c.args.self.now (at_hand c.self.inside.run)
           (low w (pair run.0)) (g.N.CidrNetwork.number run.1) c.range_to_blocks-self-inside.result (at_hand c.next_at_hand-2.new.run) c.one_block.ensures.apart c.ranges_are_shortest.ensures.range
           c.self.view_is c.in_default.ensures.0 c.self.invariant.2 h
           (range_of w (g.N.CidrNetwork.number c.network.result) (low w (pair run.0)) (g.N.CidrNetwork.number run.1) c.range_to_blocks-self-inside.result
@@ -42,31 +42,19 @@ invariant_of-self-2 g c =
           c.next_at_hand-2.result c.next_at_hand-2.ensures,
     )
 
-pub returns-clause-steps : goal.returns-clause-steps
-returns-clause-steps g c =
+pub returns : goal.returns
+returns g c =
     let w : ℕ = g.N.CidrNetwork.WIDTH in
     let pair = g.N.CidrNetwork.pair in
-    let held = g.H.HoldsNetwork.held in
     let run = c.in-Some-next_run.found in
-    next_steps w pair (map held c.self.inside.first.now) (map held c.self.inside.second.now) (map held run.2.now) (map held run.3.now) c.args.self.now (at_hand c.self.inside.run)
-    (low w (pair run.0)) (g.N.CidrNetwork.number run.1) c.range_to_blocks-self-inside.result (at_hand c.next_at_hand-2.new.run) c.one_block.ensures.apart c.ranges_are_shortest.ensures.range
-    c.self.view_is c.in_default.ensures.0 c.self.invariant.2 c.in-Some-next_run.ensures.1
-    (range_of w (g.N.CidrNetwork.number c.network.result) (low w (pair run.0)) (g.N.CidrNetwork.number run.1) c.range_to_blocks-self-inside.result
-    c.network.ensures c.range_to_blocks-self-inside.ensures.blocks)
-    c.next_at_hand-2.result c.next_at_hand-2.ensures
-
-pub returns-clause-goes : goal.returns-clause-goes
-returns-clause-goes g c =
-    let w : ℕ = g.N.CidrNetwork.WIDTH in
-    let pair = g.N.CidrNetwork.pair in
-    let held = g.H.HoldsNetwork.held in
-    let run = c.in-Some-next_run.found in
-    next_goes w pair (map held c.self.inside.first.now) (map held c.self.inside.second.now) (map held run.2.now) (map held run.3.now) c.args.self.now (at_hand c.self.inside.run)
-    (low w (pair run.0)) (g.N.CidrNetwork.number run.1) c.range_to_blocks-self-inside.result (at_hand c.next_at_hand-2.new.run) c.one_block.ensures.apart c.ranges_are_shortest.ensures.range
-    c.self.view_is c.in_default.ensures.0 c.self.invariant.2 c.in-Some-next_run.ensures.1
-    (range_of w (g.N.CidrNetwork.number c.network.result) (low w (pair run.0)) (g.N.CidrNetwork.number run.1) c.range_to_blocks-self-inside.result
-    c.network.ensures c.range_to_blocks-self-inside.ensures.blocks)
-    c.next_at_hand-2.result c.next_at_hand-2.ensures
+    let range = range_of w (g.N.CidrNetwork.number c.network.result) (low w (pair run.0)) (g.N.CidrNetwork.number run.1) c.range_to_blocks-self-inside.result
+    c.network.ensures c.range_to_blocks-self-inside.ensures.blocks in
+    record {
+      steps = next_steps w pair _ _ _ _ c.args.self.now (at_hand c.self.inside.run) (low w (pair run.0)) (g.N.CidrNetwork.number run.1) c.range_to_blocks-self-inside.result (at_hand c.next_at_hand-2.new.run)
+          c.one_block.ensures.apart c.ranges_are_shortest.ensures.range c.self.view_is c.in_default.ensures.0 c.self.invariant.2 c.in-Some-next_run.ensures.1 range c.next_at_hand-2.result c.next_at_hand-2.ensures;
+      goes = next_goes w pair _ _ _ _ c.args.self.now (at_hand c.self.inside.run) (low w (pair run.0)) (g.N.CidrNetwork.number run.1) c.range_to_blocks-self-inside.result (at_hand c.next_at_hand-2.new.run)
+          c.one_block.ensures.apart c.ranges_are_shortest.ensures.range c.self.view_is c.in_default.ensures.0 c.self.invariant.2 c.in-Some-next_run.ensures.1 range c.next_at_hand-2.result c.next_at_hand-2.ensures;
+    }
 
 pub invariant_of-self-then-ends_at : goal.invariant_of-self-then-ends_at
 invariant_of-self-then-ends_at g c =
@@ -78,31 +66,22 @@ invariant_of-self-then-ends_at g c =
     let h = c.in-Some-next_run.ensures in (
       (h.2, h.1.others_are_set),
       (h.3, h.1.rest_is_set),
-      next_is_set w pair (map held c.self.inside.first.now) (map held c.self.inside.second.now) (map held run.2.now) (map held run.3.now) c.args.self.now (at_hand c.self.inside.run)
+      next_is_set w pair _ _ _ _ c.args.self.now (at_hand c.self.inside.run)
           (low w (pair run.0)) last (Some (pair run.0 ∷ [])) [] c.one_block.ensures.apart c.ranges_are_shortest.ensures.range
           c.self.view_is c.in_default.ensures.0 c.self.invariant.2 h.1 (one_is_range w (pair run.0) last h.0 (c.ends_at.ensures.0 c.if-ends_at.true)) (Some run.0) refl,
     )
 
-pub returns-then-ends_at-clause-steps : goal.returns-then-ends_at-clause-steps
-returns-then-ends_at-clause-steps g c =
+pub returns-then-ends_at : goal.returns-then-ends_at
+returns-then-ends_at g c =
     let w : ℕ = g.N.CidrNetwork.WIDTH in
     let pair = g.N.CidrNetwork.pair in
-    let held = g.H.HoldsNetwork.held in
     let run = c.in-Some-next_run.found in
     let last : ℕ = g.N.CidrNetwork.number run.1 in
     let h = c.in-Some-next_run.ensures in
-    next_steps w pair (map held c.self.inside.first.now) (map held c.self.inside.second.now) (map held run.2.now) (map held run.3.now) c.args.self.now (at_hand c.self.inside.run)
-    (low w (pair run.0)) last (Some (pair run.0 ∷ [])) [] c.one_block.ensures.apart c.ranges_are_shortest.ensures.range
-    c.self.view_is c.in_default.ensures.0 c.self.invariant.2 h.1 (one_is_range w (pair run.0) last h.0 (c.ends_at.ensures.0 c.if-ends_at.true)) (Some run.0) refl
-
-pub returns-then-ends_at-clause-goes : goal.returns-then-ends_at-clause-goes
-returns-then-ends_at-clause-goes g c =
-    let w : ℕ = g.N.CidrNetwork.WIDTH in
-    let pair = g.N.CidrNetwork.pair in
-    let held = g.H.HoldsNetwork.held in
-    let run = c.in-Some-next_run.found in
-    let last : ℕ = g.N.CidrNetwork.number run.1 in
-    let h = c.in-Some-next_run.ensures in
-    next_goes w pair (map held c.self.inside.first.now) (map held c.self.inside.second.now) (map held run.2.now) (map held run.3.now) c.args.self.now (at_hand c.self.inside.run)
-    (low w (pair run.0)) last (Some (pair run.0 ∷ [])) [] c.one_block.ensures.apart c.ranges_are_shortest.ensures.range
-    c.self.view_is c.in_default.ensures.0 c.self.invariant.2 h.1 (one_is_range w (pair run.0) last h.0 (c.ends_at.ensures.0 c.if-ends_at.true)) (Some run.0) refl
+    let range = one_is_range w (pair run.0) last h.0 (c.ends_at.ensures.0 c.if-ends_at.true) in
+    record {
+      steps = next_steps w pair _ _ _ _ c.args.self.now (at_hand c.self.inside.run) (low w (pair run.0)) last (Some (pair run.0 ∷ [])) []
+          c.one_block.ensures.apart c.ranges_are_shortest.ensures.range c.self.view_is c.in_default.ensures.0 c.self.invariant.2 h.1 range (Some run.0) refl;
+      goes = next_goes w pair _ _ _ _ c.args.self.now (at_hand c.self.inside.run) (low w (pair run.0)) last (Some (pair run.0 ∷ [])) []
+          c.one_block.ensures.apart c.ranges_are_shortest.ensures.range c.self.view_is c.in_default.ensures.0 c.self.invariant.2 h.1 range (Some run.0) refl;
+    }
