@@ -5,7 +5,6 @@ mod families;
 mod json_texts;
 mod sets;
 mod texts;
-mod uses;
 mod values;
 
 pub use families::{

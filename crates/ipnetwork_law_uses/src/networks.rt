@@ -1,15 +1,17 @@
-//! What the laws of values let one conclude, where a weaker law would not. Nothing calls these functions.
+//! What the laws of networks of one family, and of their faults, let one conclude.
 ghost use Rattle.std.specs.Prelude.{◌≡◌, ◌↔◌, ◌++◌, Ok, IsTrue, IsFalse, fold};
 ghost use Rattle.std.specs.Hash as fed;
 ghost use Rattle.ipnetwork_family.specs.Network.{IsNetworkBefore, IsNetworkAtMost, network_cmp};
 
-use super::values::{
+use ipnetwork_family::laws::{
     cidr_fault_clone, cidr_fault_equality, ip_network_error_equality, json_fault_equality,
     network_size_error_clone, network_size_error_equality, v4_network_clone, v4_network_equality,
     v4_network_hash, v4_network_order, v6_network_clone, v6_network_equality, v6_network_hash,
     v6_network_order,
 };
-use crate::{CidrFault, IpNetworkError, Ipv4Network, Ipv6Network, JsonFault, NetworkSizeError};
+use ipnetwork_family::{
+    CidrFault, IpNetworkError, Ipv4Network, Ipv6Network, JsonFault, NetworkSizeError,
+};
 use std::alloc::AllocError;
 use std::cmp::Ordering;
 use std::hash::Hasher;

@@ -1,54 +1,43 @@
-//! What the laws of values let one conclude, where a weaker law would not. Nothing calls these functions.
+//! What the laws of addresses let one conclude.
 ghost use Rattle.std.specs.Prelude.{◌≡◌, ◌↔◌, IsTrue, IsFalse, Ok, fold};
 ghost use Rattle.std.specs.Hash as writes;
 ghost use Rattle.ipnetwork_addr.specs.Either.{IsAddrBefore, IsAddrAtMost, ip_cmp, ip_writes};
 
-use super::values::{
+use crate::orders::is_one_order;
+use ipnetwork_addr::laws::{
     addr_parse_error_clone, addr_parse_error_equality, ip_clone, ip_equality, ip_hash, ip_order,
     v4_clone, v4_equality, v4_hash, v4_order, v6_clone, v6_equality, v6_hash, v6_order,
 };
-use crate::{AddrParseError, IpAddr, Ipv4Addr, Ipv6Addr};
+use ipnetwork_addr::{AddrParseError, IpAddr, Ipv4Addr, Ipv6Addr};
 use std::alloc::AllocError;
 use std::cmp::Ordering;
 use std::hash::Hasher;
 
-// Of two values either one is before the other or they are equal; and `<=` and `cmp` say the same as `<`.
-fn v4_is_one_order(a: Ipv4Addr, b: Ipv4Addr) -> (bool, bool, bool)
-    ensures some { IsTrue result.0 }
-    ensures one { IsFalse result.1 }
-    ensures agree { IsTrue result.2 }
+fn v4_is_one_order(a: Ipv4Addr, b: Ipv4Addr) -> bool
+    ensures { IsTrue result }
 {
-    let (less, at_most, compare) = v4_order(a, b);
-    let (greater, _, _) = v4_order(b, a);
-    let equal = v4_equality(a, b);
-    let some = less || equal || greater;
-    let one = less && equal || equal && greater || less && greater;
-    (
-        some,
-        one,
-        at_most != greater
-            && (compare == Ordering::Less) == less
-            && (compare == Ordering::Equal) == equal,
+    let numbers = (u128::from(u32::from(a)), u128::from(u32::from(b)));
+    let greater = v4_order(b, a).0;
+    is_one_order(
+        numbers.0,
+        numbers.1,
+        v4_order(a, b),
+        greater,
+        v4_equality(a, b),
     )
 }
 
-// Of two values either one is before the other or they are equal; and `<=` and `cmp` say the same as `<`.
-fn v6_is_one_order(a: Ipv6Addr, b: Ipv6Addr) -> (bool, bool, bool)
-    ensures some { IsTrue result.0 }
-    ensures one { IsFalse result.1 }
-    ensures agree { IsTrue result.2 }
+fn v6_is_one_order(a: Ipv6Addr, b: Ipv6Addr) -> bool
+    ensures { IsTrue result }
 {
-    let (less, at_most, compare) = v6_order(a, b);
-    let (greater, _, _) = v6_order(b, a);
-    let equal = v6_equality(a, b);
-    let some = less || equal || greater;
-    let one = less && equal || equal && greater || less && greater;
-    (
-        some,
-        one,
-        at_most != greater
-            && (compare == Ordering::Less) == less
-            && (compare == Ordering::Equal) == equal,
+    let numbers = (u128::from(a), u128::from(b));
+    let greater = v6_order(b, a).0;
+    is_one_order(
+        numbers.0,
+        numbers.1,
+        v6_order(a, b),
+        greater,
+        v6_equality(a, b),
     )
 }
 

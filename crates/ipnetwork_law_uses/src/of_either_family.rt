@@ -1,14 +1,14 @@
-//! What the laws of values let one conclude, where a weaker law would not. Nothing calls these functions.
-ghost use Rattle.std.specs.Prelude.{◌≡◌, ◌↔◌, IsTrue, IsFalse, fold};
+//! What the laws of networks of either family, and of their sizes, let one conclude.
+ghost use Rattle.std.specs.Prelude.{◌≡◌, ◌↔◌, IsTrue, fold};
 ghost use Rattle.ipnetwork.specs.IpNetworks.{IsIpBefore, IsIpAtMost, ip_network_cmp, ip_network_writes};
 
-use super::families::ip_mask_converts_back;
-use super::values::{
-    ip_network_clone, ip_network_equality, ip_network_hash, ip_network_order, network_size_clone,
-    network_size_equality, network_size_hash, network_size_order, wrong_family_clone,
-    wrong_family_equality,
+use crate::orders::is_one_order;
+use ipnetwork::laws::{
+    ip_mask_converts_back, ip_network_clone, ip_network_equality, ip_network_hash,
+    ip_network_order, network_size_clone, network_size_equality, network_size_hash,
+    network_size_order, wrong_family_clone, wrong_family_equality,
 };
-use crate::{IpNetwork, NetworkSize, WrongFamily};
+use ipnetwork::{IpNetwork, NetworkSize, WrongFamily};
 use std::cmp::Ordering;
 use std::hash::Hasher;
 
@@ -26,23 +26,18 @@ fn ip_network_is_equal(a: IpNetwork, b: IpNetwork) -> bool
     ip_network_equality(a, b)
 }
 
-// Of two values either one is before the other or they are equal; and `<=` and `cmp` say the same as `<`.
-fn network_size_is_one_order(a: NetworkSize, b: NetworkSize) -> (bool, bool, bool)
-    ensures some { IsTrue result.0 }
-    ensures one { IsFalse result.1 }
-    ensures agree { IsTrue result.2 }
+fn network_size_is_one_order(a: NetworkSize, b: NetworkSize) -> bool
+    ensures { IsTrue result }
 {
-    let (less, at_most, compare) = network_size_order(a, b);
-    let (greater, _, _) = network_size_order(b, a);
+    let numbers = (u128::from(a), u128::from(b));
+    let greater = network_size_order(b, a).0;
     let equal = network_size_equality(a, b);
-    let some = less || equal || greater;
-    let one = less && equal || equal && greater || less && greater;
-    (
-        some,
-        one,
-        at_most != greater
-            && (compare == Ordering::Less) == less
-            && (compare == Ordering::Equal) == equal,
+    is_one_order(
+        numbers.0,
+        numbers.1,
+        network_size_order(a, b),
+        greater,
+        equal,
     )
 }
 
