@@ -1,6 +1,7 @@
 -- What the laws of sets let one conclude, where a weaker law would not.
 use Rattle.std.proofs.Common.{◌≡◌, ℕ, ◌<◌, ◌⊎◌, inl, inr, refl, arith, Contains, List, Some, Ok, Err, Result}
-use Rattle.std.specs.Prelude.{◌↔◌, slice_get, IsTrue}
+use Rattle.std.specs.Fmt.{digits}
+use Rattle.std.specs.Prelude.{◌↔◌, slice_get, codes, IsTrue}
 use Rattle.std.specs.List.Sorted.{IsStrictlyIncreasing}
 use Rattle.ipnetwork_family.specs.Laws.{
   EndsLaw,
@@ -23,6 +24,7 @@ use Rattle.ipnetwork_family.specs.Laws.{
   MaskIsComputed,
   MaskIsConverted,
   SameErrorSaysTheSame,
+  CanonicalReadsBack,
 }
 use Rattle.ipnetwork_family.specs.Computed.Network.{is_member, is_subnet, prefix_of_mask}
 use Rattle.ipnetwork_family.specs.Masks.{GivesPrefixOfMask}
@@ -42,6 +44,7 @@ use Rattle.ipnetwork_family.specs.Network.{
 }
 use Rattle.ipnetwork_addr.specs.declared.error.AddrParseError.TheVariants as kinds
 use Rattle.ipnetwork_family.specs.ErrorTexts.{refusal_of}
+use Rattle.ipnetwork_family.specs.Family.{v4_family, v6_family}
 use Rattle.ipnetwork_family.specs.Faults.{SameError}
 use Rattle.ipnetwork_family.specs.Ipv4NetworkText.{ReadsV4Network}
 use Rattle.ipnetwork_family.specs.Ipv6NetworkText.{ReadsV6Network}
@@ -218,6 +221,19 @@ network_is_parsed law text n = law text (Ok n)
 pub prefix_is_refused : ParsesAsItReads ReadsV4Network kinds.Ipv4 ParsesV4Network → (text : List ℕ)
     → ReadsV4Network text (Err CidrFault.Prefix) → ParsesV4Network text (Err IpNetworkError.InvalidPrefix)
 prefix_is_refused law text reads = (law text (Err IpNetworkError.InvalidPrefix)).1 (CidrFault.Prefix, reads, refl)
+
+-- what is printed is read again with its host bits, in either family
+pub v4_is_read : CanonicalReadsBack v4_family → (result : Result Network CidrFault)
+    → ReadsV4Network (codes "10.1.9.32/16") result → result ≡ Ok with_host_bits
+unfolding digits
+v4_is_read law result = (law with_host_bits result with_host_bits_fits).0
+
+pub v6_is_read : CanonicalReadsBack v6_family
+    → ReadsV6Network (codes "::1/64") (Ok (record { address = 1; prefix = 64 }))
+unfolding digits
+v6_is_read law =
+    let n : Network = record { address = 1; prefix = 64 } in
+    (law n (Ok n) (record { address_fits = omega arith; prefix_fits = omega arith })).1 refl
 
 -- errors that say the same are the same, and no others are
 pub same_errors : SameErrorSaysTheSame → (a b : IpNetworkError) → SameError a b ↔ (refusal_of a ≡ refusal_of b)

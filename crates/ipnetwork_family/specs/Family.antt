@@ -1,13 +1,15 @@
 -- What a family of addresses brings to its networks: how its addresses and its prefix lengths are spelled, and which
 -- error a text gets that spells none.
-use Rattle.std.specs.Prelude.{ℕ, ◌+◌, List, Result}
+use Rattle.std.specs.Prelude.{◌≡◌, ℕ, ◌+◌, ◌^◌, ◌<◌, ◌≤◌, List, Result, decimal}
+use Rattle.std.specs.List.{AllByRecursion}
+use Rattle.ipnetwork_addr.specs.Texts.{IsAddressByte}
 use Rattle.ipnetwork_addr.specs.Ipv4Text.{NamesV4, canonical_v4}
 use Rattle.ipnetwork_addr.specs.Ipv6Text.{NamesV6}
 use Rattle.ipnetwork_addr.specs.Computed.Ipv6Canonical.{canonical_v6}
 use Rattle.ipnetwork_addr.specs.declared.error.AddrParseError.{AddrParseError}
 use Rattle.ipnetwork_addr.specs.declared.error.AddrParseError.TheVariants as kinds
 use Rattle.ipnetwork_family.specs.Network.{Network}
-use Rattle.ipnetwork_family.specs.NetworkText.{NamesNetwork, IsCause, ReadsNetwork, network_text}
+use Rattle.ipnetwork_family.specs.NetworkText.{slashes, NamesNetwork, IsCause, ReadsNetwork, network_text}
 use Rattle.ipnetwork_family.specs.Ipv4NetworkText.{IsV4Suffix}
 use Rattle.ipnetwork_family.specs.Ipv6NetworkText.{IsV6Suffix}
 use Rattle.ipnetwork_family.specs.Parsing.{Parses}
@@ -27,6 +29,18 @@ pub record Family (w : ℕ) : Type 1 where
   -- how many bytes a canonical text has at most, and how many digits a prefix length has
   pub address_length : ℕ
   pub prefix_digits : ℕ
+
+-- what is true of its texts
+pub record HasClearTexts (w : ℕ) (family : Family w) : Type 0 where
+  -- a text names one address at most, and its bytes are those of addresses
+  pub one_address : (text : List ℕ) (a b : ℕ) → family.NamesAddress text a → family.NamesAddress text b → a ≡ b
+  pub address_bytes : (text : List ℕ) (a : ℕ) → family.NamesAddress text a → AllByRecursion IsAddressByte text
+  -- a suffix gives one prefix length at most, and contains no `/`
+  pub one_length : (text : List ℕ) (p q : ℕ) → family.IsSuffix text p → family.IsSuffix text q → p ≡ q
+  pub no_slash : (text : List ℕ) (p : ℕ) → family.IsSuffix text p → slashes text ≡ 0
+  -- what is printed names the address, or gives the prefix length
+  pub canonical_names : (a : ℕ) → a < 2 ^ w → family.NamesAddress (family.canonical a) a
+  pub decimal_gives : (p : ℕ) → p ≤ w → family.IsSuffix (decimal p) p
 
 -- IPv4 and IPv6
 abbrev pub v4_family : Family 32

@@ -5,8 +5,10 @@ use Rattle.ipnetwork_family.specs.Network.{Network, IsNetwork, Member, low, high
 use Rattle.ipnetwork_family.specs.NetworkText.{before_slash, HasNoSuffix, NamesNetwork}
 use Rattle.ipnetwork_family.specs.Computed.Network.{is_member, is_subnet, prefix_of_mask}
 use Rattle.ipnetwork_family.specs.ErrorTexts.{refusal_of}
+use Rattle.ipnetwork_family.specs.Family.{Family, ReadsNetworkOf, text_of}
 use Rattle.ipnetwork_family.specs.Faults.{SameError}
 use Rattle.ipnetwork_family.specs.Masks.{GivesPrefixOfMask}
+use Rattle.ipnetwork_family.specs.declared.error.CidrFault.{CidrFault}
 use Rattle.ipnetwork_family.specs.declared.error.IpNetworkError.{IpNetworkError}
 
 -- the ends are the least and the greatest member, and the address of the network is a member
@@ -106,6 +108,11 @@ MaskIsConverted = (w p : ℕ) (result : Result ℕ IpNetworkError) → p ≤ w �
 -- two errors are the same exactly if they say the same
 abbrev pub SameErrorSaysTheSame : Type 0
 SameErrorSaysTheSame = (a b : IpNetworkError) → SameError a b ↔ (refusal_of a ≡ refusal_of b)
+
+-- the canonical text of a network is read as that network and as nothing else
+abbrev pub CanonicalReadsBack : {w : ℕ} → Family w → Type 0
+CanonicalReadsBack {w} family = (n : Network) (result : Result Network CidrFault) → IsNetwork w n
+    → ReadsNetworkOf family (text_of family n) result ↔ (result ≡ Ok n)
 
 -- a text that names no network, although what stands before its first `/` is an address, has a `/` and after it no suffix
 abbrev pub SuffixIsRefused : ℕ → (List ℕ → ℕ → Type 0) → (List ℕ → ℕ → Type 0) → Type 0

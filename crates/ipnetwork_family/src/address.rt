@@ -1,10 +1,9 @@
 //! What networks need of an address.
-ghost use Rattle.std.specs.Prelude.{◌≡◌, ◌↔◌, ℕ, ◌+◌, ◌-◌, ◌/◌, ◌^◌, ◌<◌, ◌≤◌, List, length, IsTrue, MatchOption};
+ghost use Rattle.std.specs.Prelude.{◌≡◌, ◌↔◌, ℕ, ◌+◌, ◌-◌, ◌/◌, ◌^◌, ◌<◌, ◌≤◌, length, IsTrue, MatchOption};
 ghost use Rattle.std.specs.Ordering.{nat_cmp};
 ghost use Rattle.ipnetwork_addr.specs.Reading.{Reads};
 ghost use Rattle.ipnetwork_family.specs.Bits.{SharesBits, EndsInZeros};
-ghost use Rattle.ipnetwork_family.specs.Family.{Family};
-ghost use Rattle.ipnetwork_family.specs.NetworkText.{slashes};
+ghost use Rattle.ipnetwork_family.specs.Family.{Family, HasClearTexts};
 ghost use Rattle.ipnetwork_family.specs.Network.{mask_of, IsNoMask, low, high, block_size};
 
 use arrayvec::ArrayString;
@@ -78,11 +77,10 @@ pub trait Address: Copy + Ord + Hash + Debug {
         ensures bytes { result.bytes ≡ family.canonical (number self.now) }
         ensures short { (length result.bytes ≤ family.address_length) × (family.address_length ≤ ADDRESS_TEXT_CAPACITY) };
 
-    /// Does nothing. A proof learns from it that no address and no suffix contains a `/`.
+    /// Does nothing. A proof learns from it what is true of the texts of addresses and of suffixes.
     #[doc(hidden)]
-    fn texts_hold_no_slash()
-        ensures addresses { (text : List ℕ) (address : ℕ) → family.NamesAddress text address → slashes text ≡ 0 }
-        ensures suffixes { (text : List ℕ) (p : ℕ) → family.IsSuffix text p → slashes text ≡ 0 };
+    fn texts_are_clear()
+        ensures { HasClearTexts WIDTH family };
 
     /// Does nothing. A proof learns from it that the number has `WIDTH` bits.
     #[doc(hidden)]

@@ -53,8 +53,10 @@ impl Address for Ipv4Addr {
         Ipv4Addr::canonical(self)
     }
 
-    fn texts_hold_no_slash() {
+    fn texts_are_clear() {
+        laws::v4_text_is_computed();
         laws::v4_text_bytes();
+        laws::canonical_v4_names_its_address();
     }
 
     fn is_of_width(self) {

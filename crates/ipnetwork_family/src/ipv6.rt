@@ -47,8 +47,11 @@ impl Address for Ipv6Addr {
         Ipv6Addr::canonical(self)
     }
 
-    fn texts_hold_no_slash() {
+    fn texts_are_clear() {
+        laws::v6_text_is_computed();
         laws::v6_text_bytes();
+        laws::canonical_v6_names_its_address();
+        laws::canonical_v6_is_one_text();
     }
 
     fn is_of_width(self) {

@@ -270,8 +270,8 @@ impl<A: Address> Network<A> {
     pub fn read_bytes(text: &[u8]) -> Result<Self, CidrFault>
         ensures { ReadsNetworkOf A.family text.now result }
     {
-        // Does nothing. The proof needs the law: no byte of an address text is a `/`.
-        A::texts_hold_no_slash();
+        // Does nothing. The proof needs the law: no address text and no suffix contains a `/`.
+        A::texts_are_clear();
         let (address, suffix) = split(text)?;
         let Ok(address) = A::read_bytes(address) else {
             return Err(CidrFault::Addr);

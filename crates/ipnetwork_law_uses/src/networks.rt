@@ -5,29 +5,29 @@ ghost use Rattle.ipnetwork_family.specs.Network.{IsNetworkBefore, IsNetworkAtMos
 
 use ipnetwork_family::laws::{
     cidr_fault_clone, cidr_fault_equality, ip_network_error_equality, json_fault_equality,
-    network_size_error_clone, network_size_error_equality, v4_network_clone, v4_network_equality,
-    v4_network_hash, v4_network_order, v6_network_clone, v6_network_equality, v6_network_hash,
-    v6_network_order,
+    network_clone, network_equality, network_hash, network_order, network_size_error_clone,
+    network_size_error_equality,
 };
 use ipnetwork_family::{
-    CidrFault, IpNetworkError, Ipv4Network, Ipv6Network, JsonFault, NetworkSizeError,
+    Address, CidrFault, IpNetworkError, Ipv4Network, Ipv6Network, JsonFault, Network,
+    NetworkSizeError,
 };
 use std::alloc::AllocError;
 use std::cmp::Ordering;
 use std::hash::Hasher;
 
-fn v4_network_compares(a: Ipv4Network, b: Ipv4Network) -> (bool, bool, Ordering)
+fn network_compares<A: Address>(a: Network<A>, b: Network<A>) -> (bool, bool, Ordering)
     ensures less { IsTrue result.0 ↔ IsNetworkBefore a b }
     ensures at_most { IsTrue result.1 ↔ IsNetworkAtMost a b }
     ensures compare { result.2 ≡ network_cmp a b }
 {
-    v4_network_order(a, b)
+    network_order(a, b)
 }
 
-fn v4_network_is_equal(a: Ipv4Network, b: Ipv4Network) -> bool
+fn network_is_equal<A: Address>(a: Network<A>, b: Network<A>) -> bool
     ensures { IsTrue result ↔ (a ≡ b) }
 {
-    v4_network_equality(a, b)
+    network_equality(a, b)
 }
 
 fn v4_network_feeds_all<H: Hasher>(a: &Ipv4Network, one: &mut H, other: &mut H)
@@ -35,27 +35,7 @@ fn v4_network_feeds_all<H: Hasher>(a: &Ipv4Network, one: &mut H, other: &mut H)
     ensures second { other.new ≡ fold H.write other.old (fed.u32 a.now.address ++ fed.u8 a.now.prefix) }
     ensures alike { one.old ≡ other.old → one.new ≡ other.new }
 {
-    v4_network_hash(a, a, one, other);
-}
-
-fn v4_network_copy(a: Ipv4Network) -> Result<Ipv4Network, AllocError>
-    ensures { result ≡ Ok a }
-{
-    v4_network_clone(a)
-}
-
-fn v6_network_compares(a: Ipv6Network, b: Ipv6Network) -> (bool, bool, Ordering)
-    ensures less { IsTrue result.0 ↔ IsNetworkBefore a b }
-    ensures at_most { IsTrue result.1 ↔ IsNetworkAtMost a b }
-    ensures compare { result.2 ≡ network_cmp a b }
-{
-    v6_network_order(a, b)
-}
-
-fn v6_network_is_equal(a: Ipv6Network, b: Ipv6Network) -> bool
-    ensures { IsTrue result ↔ (a ≡ b) }
-{
-    v6_network_equality(a, b)
+    network_hash(a, a, one, other);
 }
 
 fn v6_network_feeds_all<H: Hasher>(a: &Ipv6Network, one: &mut H, other: &mut H)
@@ -63,13 +43,13 @@ fn v6_network_feeds_all<H: Hasher>(a: &Ipv6Network, one: &mut H, other: &mut H)
     ensures second { other.new ≡ fold H.write other.old (fed.u128 a.now.address ++ fed.u8 a.now.prefix) }
     ensures alike { one.old ≡ other.old → one.new ≡ other.new }
 {
-    v6_network_hash(a, a, one, other);
+    network_hash(a, a, one, other);
 }
 
-fn v6_network_copy(a: Ipv6Network) -> Result<Ipv6Network, AllocError>
+fn network_copy<A: Address>(a: Network<A>) -> Result<Network<A>, AllocError>
     ensures { result ≡ Ok a }
 {
-    v6_network_clone(a)
+    network_clone(a)
 }
 
 fn refusals_are_equal(a: CidrFault, b: NetworkSizeError) -> bool
