@@ -12,8 +12,8 @@ pub fn mask_conversion()
     ensures converted { MaskIsConverted }
 {}
 
-/// What the conversion of either family, `ipv4_mask_to_prefix` or `ipv6_mask_to_prefix`, returns for
-/// the mask of a network: the network's prefix length.
+/// What the conversion of either family, `ipv4_mask_to_prefix` or `ipv6_mask_to_prefix`, returns
+/// for the mask of a network: the network's prefix length.
 pub fn mask_converts_back<A: Address>(network: Network<A>) -> Result<u8, IpNetworkError>
     ensures { result ≡ Ok network.prefix }
 {
