@@ -1,8 +1,11 @@
 -- Causes at which a misreading of the definitions would show: a text has no two of them.
-use Rattle.std.proofs.Common.{ℕ, List, None, Some, arith}
+use Rattle.std.proofs.Common.{◌↔◌, ℕ, List, None, Some, arith}
 use Rattle.std.specs.Prelude.{codes}
 use Rattle.ipnetwork_addr.specs.Either.{NamesIp}
 use Rattle.ipnetwork_addr.specs.declared.ip.IpAddr.{IpAddr}
+use Rattle.ipnetwork_addr.specs.declared.ip.IpAddr.TheVariants.{V4, V6}
+use Rattle.ipnetwork_family.specs.Ipv4NetworkText.{IsV4Suffix}
+use Rattle.ipnetwork_family.specs.Ipv6NetworkText.{IsV6Suffix}
 use Rattle.ipnetwork_family.specs.NetworkText.{before_slash, HasSeveralSlashes, HasNoSuffix}
 use Rattle.ipnetwork_family.specs.declared.error.CidrFault.{CidrFault}
 use Rattle.ipnetwork_family.specs.declared.error.CidrFault.TheVariants.{Format, Addr, Prefix}
@@ -28,6 +31,13 @@ no_address_is_not_prefix text none (few, (a, named, refused)) = none a named
 -- the suffix that is refused is one of the family of the address
 pub suffix_is_of_the_family : (text : List ℕ) → ((a : IpAddr) → NamesIp (before_slash text) a → ¬ (HasNoSuffix (IsIpSuffix a) text)) → ¬ (IsIpCause text Prefix)
 suffix_is_of_the_family text given (few, (a, named, refused)) = given a named refused
+
+-- and each family has its own: IPv4 also masks
+pub suffix_of_v4 : (a p : ℕ) (text : List ℕ) → IsIpSuffix (V4 a) text p ↔ IsV4Suffix text p
+suffix_of_v4 a p text = ((λ h. h), (λ h. h))
+
+pub suffix_of_v6 : (a p : ℕ) (text : List ℕ) → IsIpSuffix (V6 a) text p ↔ IsV6Suffix text p
+suffix_of_v6 a p text = ((λ h. h), (λ h. h))
 
 -- nothing is told of the texts that name a network, and of no others
 pub nothing_is_told : (text : List ℕ) → TellsIpCause text None → (n : IpNetwork) × NamesIpNetwork text n

@@ -5,7 +5,6 @@ mod families;
 mod json_texts;
 mod sets;
 mod texts;
-mod uses;
 mod values;
 
 pub use families::{
@@ -40,19 +39,14 @@ pub use ipnetwork_addr::laws::{
 
 // The laws of networks of one family.
 pub use ipnetwork_family::laws::{
-    blocks, blocks_that_meet, canonical_v4_network_bytes, canonical_v4_network_is_one_to_one,
-    canonical_v4_network_names_it, canonical_v4_network_reads_back, canonical_v6_network_bytes,
-    canonical_v6_network_is_one_to_one, canonical_v6_network_names_it,
-    canonical_v6_network_reads_back, cidr_fault_clone, cidr_fault_equality, ends,
-    ip_network_error_equality, json_fault_equality, listing, longest_network_text, mask_conversion,
-    masks, membership_is_computed, nested_networks, nesting, network_size_error_clone,
-    network_size_error_equality, networks_are_pairs, order, ordered_blocks, overlaps_by_four_tests,
-    overlaps_is_four_tests, parsing_is_reading, prefix_number_is_computed,
-    same_errors_say_the_same, subnet_is_computed, subnets, suffix_is_refused,
-    v4_mask_converts_back, v4_network_clone, v4_network_equality, v4_network_hash,
-    v4_network_order, v4_network_reading_is_computed, v4_network_stands_in_quotes,
-    v4_network_text_names_one, v4_network_through_json, v4_network_value_reads_back,
-    v6_mask_converts_back, v6_network_clone, v6_network_equality, v6_network_hash,
-    v6_network_order, v6_network_reading_is_computed, v6_network_stands_in_quotes,
-    v6_network_text_names_one, v6_network_through_json, v6_network_value_reads_back,
+    blocks, blocks_that_meet, canonical_network_bytes, canonical_network_is_one_to_one,
+    canonical_network_names_it, canonical_network_reads_back, cidr_fault_clone,
+    cidr_fault_equality, ends, ip_network_error_equality, json_fault_equality, listing,
+    longest_network_text, mask_conversion, mask_converts_back, masks, membership_is_computed,
+    nested_networks, nesting, network_clone, network_equality, network_hash, network_order,
+    network_size_error_clone, network_size_error_equality, network_stands_in_quotes,
+    network_text_names_one, network_through_json, network_value_reads_back, networks_are_pairs,
+    order, ordered_blocks, overlaps_by_four_tests, overlaps_is_four_tests, parsing_is_reading,
+    prefix_number_is_computed, same_errors_say_the_same, subnet_is_computed, subnets,
+    suffix_is_refused, v4_network_reading_is_computed, v6_network_reading_is_computed,
 };

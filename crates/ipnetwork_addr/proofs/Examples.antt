@@ -1,6 +1,6 @@
 -- Texts and values at which a misreading of the definitions would show. Each of these computes.
-use Rattle.std.proofs.Common.{◌≡◌, ℕ, ◌^◌, ◌-◌, ◌<◌, true, false, [], ◌∷◌, length, None, Some, refl, ap, arith, lit≤}
-use Rattle.std.specs.Prelude.{codes, Ok, Err}
+use Rattle.std.proofs.Common.{◌≡◌, ℕ, ◌^◌, ◌-◌, ◌<◌, true, false, List, [], ◌∷◌, length, None, Some, refl, ap, arith, lit≤}
+use Rattle.std.specs.Prelude.{codes, map, Ok, Err}
 use Rattle.std.specs.Fmt.{digits}
 use Rattle.std.specs.Hash.{le_bytes}
 use Rattle.std.specs.Int.Digits.{number_from_digits}
@@ -30,19 +30,23 @@ octets_by_place = refl
 pub greatest_v4 : octets_of (2 ^ 32 - 1) ≡ 255 ∷ 255 ∷ 255 ∷ 255 ∷ []
 greatest_v4 = refl
 
-pub sixteen_octets : octets_of_v6 0x000102030405060708090a0b0c0d0eff ≡ 0 ∷ 1 ∷ 2 ∷ 3 ∷ 4 ∷ 5 ∷ 6 ∷ 7 ∷ 8 ∷ 9 ∷ 10 ∷ 11 ∷ 12 ∷ 13 ∷ 14 ∷ 255 ∷ []
+pub sixteen_octets : octets_of_v6 0x000102030405060708090a0b0c0d0eff
+    ≡ 0 ∷ 1 ∷ 2 ∷ 3 ∷ 4 ∷ 5 ∷ 6 ∷ 7 ∷ 8 ∷ 9 ∷ 10 ∷ 11 ∷ 12 ∷ 13 ∷ 14 ∷ 255 ∷ []
 sixteen_octets = refl
 
-pub octet_in_front : octets_of_v6 (2 ^ 120) ≡ 1 ∷ 0 ∷ 0 ∷ 0 ∷ 0 ∷ 0 ∷ 0 ∷ 0 ∷ 0 ∷ 0 ∷ 0 ∷ 0 ∷ 0 ∷ 0 ∷ 0 ∷ 0 ∷ []
+pub octet_in_front : octets_of_v6 (2 ^ 120)
+    ≡ 1 ∷ 0 ∷ 0 ∷ 0 ∷ 0 ∷ 0 ∷ 0 ∷ 0 ∷ 0 ∷ 0 ∷ 0 ∷ 0 ∷ 0 ∷ 0 ∷ 0 ∷ 0 ∷ []
 octet_in_front = refl
 
-pub eight_groups : segments_of 0x20010db800000001000200030004ffff ≡ 0x2001 ∷ 0xdb8 ∷ 0 ∷ 1 ∷ 2 ∷ 3 ∷ 4 ∷ 0xffff ∷ []
+pub eight_groups : segments_of 0x20010db800000001000200030004ffff
+    ≡ 0x2001 ∷ 0xdb8 ∷ 0 ∷ 1 ∷ 2 ∷ 3 ∷ 4 ∷ 0xffff ∷ []
 eight_groups = refl
 
 pub group_in_front : segments_of (2 ^ 112) ≡ 1 ∷ 0 ∷ 0 ∷ 0 ∷ 0 ∷ 0 ∷ 0 ∷ 0 ∷ []
 group_in_front = refl
 
-pub eight_segments : number_of_segments (0x2001 ∷ 0xdb8 ∷ 0 ∷ 1 ∷ 2 ∷ 3 ∷ 4 ∷ 0xffff ∷ []) ≡ 0x20010db800000001000200030004ffff
+pub eight_segments : number_of_segments (0x2001 ∷ 0xdb8 ∷ 0 ∷ 1 ∷ 2 ∷ 3 ∷ 4 ∷ 0xffff ∷ [])
+    ≡ 0x20010db800000001000200030004ffff
 eight_segments = refl
 
 -- ---- either family
@@ -95,14 +99,19 @@ v6_not_at_most_v4 h = h
 pub higher_v6_not_at_most : ¬ (IsAddrAtMost (V6 2) (V6 1))
 higher_v6_not_at_most h = omega (arith, h)
 
-pub compared : ip_cmp (V4 1) (V4 2) ∷ ip_cmp (V4 2) (V6 1) ∷ ip_cmp (V6 1) (V4 2) ∷ ip_cmp (V6 2) (V6 1) ∷ ip_cmp (V6 2) (V6 2) ∷ [] ≡ Less ∷ Less ∷ Greater ∷ Greater ∷ Equal ∷ []
+pub compared : ip_cmp (V4 1) (V4 2) ∷ ip_cmp (V4 2) (V6 1) ∷ ip_cmp (V6 1) (V4 2)
+    ∷ ip_cmp (V6 2) (V6 1) ∷ ip_cmp (V6 2) (V6 2) ∷ []
+    ≡ Less ∷ Less ∷ Greater ∷ Greater ∷ Equal ∷ []
 compared = refl
 
-pub family_and_number : ip_writes (V4 1) ≡ (0 ∷ 0 ∷ 0 ∷ 0 ∷ 0 ∷ 0 ∷ 0 ∷ 0 ∷ []) ∷ (1 ∷ 0 ∷ 0 ∷ 0 ∷ []) ∷ []
+pub family_and_number : ip_writes (V4 1)
+    ≡ (0 ∷ 0 ∷ 0 ∷ 0 ∷ 0 ∷ 0 ∷ 0 ∷ 0 ∷ []) ∷ (1 ∷ 0 ∷ 0 ∷ 0 ∷ []) ∷ []
 unfolding le_bytes
 family_and_number = refl
 
-pub other_family_and_number : ip_writes (V6 1) ≡ (1 ∷ 0 ∷ 0 ∷ 0 ∷ 0 ∷ 0 ∷ 0 ∷ 0 ∷ []) ∷ (1 ∷ 0 ∷ 0 ∷ 0 ∷ 0 ∷ 0 ∷ 0 ∷ 0 ∷ 0 ∷ 0 ∷ 0 ∷ 0 ∷ 0 ∷ 0 ∷ 0 ∷ 0 ∷ []) ∷ []
+pub other_family_and_number : ip_writes (V6 1)
+    ≡ (1 ∷ 0 ∷ 0 ∷ 0 ∷ 0 ∷ 0 ∷ 0 ∷ 0 ∷ [])
+    ∷ (1 ∷ 0 ∷ 0 ∷ 0 ∷ 0 ∷ 0 ∷ 0 ∷ 0 ∷ 0 ∷ 0 ∷ 0 ∷ 0 ∷ 0 ∷ 0 ∷ 0 ∷ 0 ∷ []) ∷ []
 unfolding le_bytes
 other_family_and_number = refl
 
@@ -201,71 +210,45 @@ no_mark = refl
 
 -- ---- IPv4 texts
 
-pub four_octets : v4_of (codes "1.2.3.4") ≡ Some 16909060
+pub v4_texts : map v4_of (codes "1.2.3.4" ∷ codes "255.255.255.255" ∷ [])
+    ≡ Some 16909060 ∷ Some 4294967295 ∷ []
 unfolding digits
-four_octets = refl
+v4_texts = refl
 
-pub greatest_octets : v4_of (codes "255.255.255.255") ≡ Some (4294967295)
+-- a leading zero, an octet of 256, three octets, a blank behind
+pub no_v4_texts : map v4_of
+    (codes "01.2.3.4" ∷ codes "256.0.0.0" ∷ codes "1.2.3" ∷ codes "1.2.3.4 " ∷ [])
+    ≡ None ∷ None ∷ None ∷ None ∷ []
 unfolding digits
-greatest_octets = refl
-
-pub leading_zero : v4_of (codes "01.2.3.4") ≡ None
-unfolding digits
-leading_zero = refl
-
-pub octet_of_256 : v4_of (codes "256.0.0.0") ≡ None
-unfolding digits
-octet_of_256 = refl
-
-pub three_octets : v4_of (codes "1.2.3") ≡ None
-unfolding digits
-three_octets = refl
-
-pub blank_behind : v4_of (codes "1.2.3.4 ") ≡ None
-unfolding digits
-blank_behind = refl
+no_v4_texts = refl
 
 -- ---- IPv6 texts
 
-pub gap_for_one_group : v6_of (codes "1:2:3:4:5:6:7::") ≡ Some (number_from_digits (2 ^ 16) (1 ∷ 2 ∷ 3 ∷ 4 ∷ 5 ∷ 6 ∷ 7 ∷ 0 ∷ []))
+pub gap_for_one_group : v6_of (codes "1:2:3:4:5:6:7::")
+    ≡ Some (number_from_digits (2 ^ 16) (1 ∷ 2 ∷ 3 ∷ 4 ∷ 5 ∷ 6 ∷ 7 ∷ 0 ∷ []))
 unfolding digits v6_of gap_below
 gap_for_one_group = refl
-
-pub gap_beside_eight : v6_of (codes "1::2:3:4:5:6:7:8") ≡ None
-unfolding digits v6_of gap_below
-gap_beside_eight = refl
-
-pub two_gaps : v6_of (codes "1::2::3") ≡ None
-unfolding digits v6_of gap_below
-two_gaps = refl
-
-pub three_colons : v6_of (codes ":::1") ≡ None
-unfolding digits v6_of gap_below
-three_colons = refl
-
-pub dotted_after_a_gap : v6_of (codes "::1.2.3.4") ≡ Some 16909060
-unfolding digits v6_of gap_below
-dotted_after_a_gap = refl
-
-pub dotted_before_a_gap : v6_of (codes "1.2.3.4::") ≡ None
-unfolding digits v6_of gap_below
-dotted_before_a_gap = refl
-
-pub group_of_five_digits : v6_of (codes "12345::") ≡ None
-unfolding digits v6_of gap_below
-group_of_five_digits = refl
 
 pub gap_alone : v6_of (codes "::") ≡ Some 0
 unfolding digits v6_of gap_below
 gap_alone = refl
 
-pub dotted_after_six : v6_of (codes "0:0:0:0:0:0:1.2.3.4") ≡ Some 16909060
+pub dotted_texts : map v6_of (codes "::1.2.3.4" ∷ codes "0:0:0:0:0:0:1.2.3.4" ∷ [])
+    ≡ Some 16909060 ∷ Some 16909060 ∷ []
 unfolding digits v6_of gap_below
-dotted_after_six = refl
+dotted_texts = refl
 
-pub dotted_after_three_colons : v6_of (codes ":::1.2.3.4") ≡ None
+-- a gap beside eight groups, two gaps, three colons, five digits
+pub no_v6_texts : map v6_of
+    (codes "1::2:3:4:5:6:7:8" ∷ codes "1::2::3" ∷ codes ":::1" ∷ codes "12345::" ∷ [])
+    ≡ None ∷ None ∷ None ∷ None ∷ []
 unfolding digits v6_of gap_below
-dotted_after_three_colons = refl
+no_v6_texts = refl
+
+-- an IPv4 address before the gap, and after three colons
+pub no_dotted_texts : map v6_of (codes "1.2.3.4::" ∷ codes ":::1.2.3.4" ∷ []) ≡ None ∷ None ∷ []
+unfolding digits v6_of gap_below
+no_dotted_texts = refl
 
 -- ---- canonical texts of IPv6
 
@@ -273,22 +256,28 @@ pub longest_text : length (canonical_v6 (2 ^ 128 - 1)) ≡ 39
 unfolding digits
 longest_text = refl
 
-pub lower_case_hex : canonical_v6 (number_from_digits (2 ^ 16) (0xabcd ∷ 0xef ∷ 0x10 ∷ 0x100 ∷ 0x1000 ∷ 6 ∷ 7 ∷ 8 ∷ [])) ≡ codes "abcd:ef:10:100:1000:6:7:8"
+-- what these groups are printed as
+abbrev printed : List ℕ → List ℕ
+printed groups = canonical_v6 (number_from_digits (2 ^ 16) groups)
+
+pub lower_case_hex : printed (0xabcd ∷ 0xef ∷ 0x10 ∷ 0x100 ∷ 0x1000 ∷ 6 ∷ 7 ∷ 8 ∷ [])
+    ≡ codes "abcd:ef:10:100:1000:6:7:8"
 unfolding digits
 lower_case_hex = refl
 
-pub first_of_equal_runs : canonical_v6 (number_from_digits (2 ^ 16) (0 ∷ 0 ∷ 1 ∷ 0 ∷ 0 ∷ 1 ∷ 0 ∷ 0 ∷ [])) ≡ codes "::1:0:0:1:0:0"
+pub first_of_equal_runs : printed (0 ∷ 0 ∷ 1 ∷ 0 ∷ 0 ∷ 1 ∷ 0 ∷ 0 ∷ []) ≡ codes "::1:0:0:1:0:0"
 unfolding digits
 first_of_equal_runs = refl
 
-pub longest_run : canonical_v6 (number_from_digits (2 ^ 16) (1 ∷ 0 ∷ 0 ∷ 1 ∷ 0 ∷ 0 ∷ 0 ∷ 0 ∷ [])) ≡ codes "1:0:0:1::"
+pub longest_run : printed (1 ∷ 0 ∷ 0 ∷ 1 ∷ 0 ∷ 0 ∷ 0 ∷ 0 ∷ []) ≡ codes "1:0:0:1::"
 unfolding digits
 longest_run = refl
 
-pub run_of_one_group : canonical_v6 (number_from_digits (2 ^ 16) (8193 ∷ 3512 ∷ 0 ∷ 1 ∷ 1 ∷ 1 ∷ 1 ∷ 1 ∷ [])) ≡ codes "2001:db8:0:1:1:1:1:1"
+pub run_of_one_group : printed (8193 ∷ 3512 ∷ 0 ∷ 1 ∷ 1 ∷ 1 ∷ 1 ∷ 1 ∷ [])
+    ≡ codes "2001:db8:0:1:1:1:1:1"
 unfolding digits
 run_of_one_group = refl
 
-pub mapped_address : canonical_v6 (number_from_digits (2 ^ 16) (0 ∷ 0 ∷ 0 ∷ 0 ∷ 0 ∷ 65535 ∷ 258 ∷ 772 ∷ [])) ≡ codes "::ffff:1.2.3.4"
+pub mapped_address : printed (0 ∷ 0 ∷ 0 ∷ 0 ∷ 0 ∷ 65535 ∷ 258 ∷ 772 ∷ []) ≡ codes "::ffff:1.2.3.4"
 unfolding digits
 mapped_address = refl

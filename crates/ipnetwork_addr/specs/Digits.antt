@@ -1,6 +1,6 @@
 -- An address as its digits. An address is a number: one of 32 bits for IPv4 (RFC 791, section 2.3), and one of
 -- 128 bits for IPv6 (RFC 4291, section 2).
-use Rattle.std.specs.Prelude.{ℕ, zero, suc, ◌+◌, ◌/◌, ◌%◌, ◌^◌, List, [], ◌∷◌, ◌++◌}
+use Rattle.std.specs.Prelude.{ℕ, zero, suc, ◌/◌, ◌%◌, ◌^◌, List, [], ◌∷◌, ◌++◌}
 
 -- the last digits of a number in the base, this many, highest first
 abbrev pub digits_in : ℕ → ℕ → ℕ → List ℕ

@@ -5,13 +5,15 @@ ghost use Rattle.ipnetwork_addr.specs.Private.Decimals.{padded_decimal};
 
 use arrayvec::ArrayString;
 
-/// Writes the shortest decimal of a number at the end of a text: one to three bytes. There must be room for three.
+/// Writes the shortest decimal of a number at the end of a text: one to three bytes. There must be
+/// room for three.
 ///
 /// ```
 /// let mut text = arrayvec::ArrayString::<8>::new();
 /// decimal::push_decimal(&mut text, 207);
 /// assert_eq!(rt; text.as_str(), "207");
 /// ```
+#[tactic(auto, using(crate::proofs::Decimals::pushing))]
 pub fn push_decimal<const N: usize>(text: &mut ArrayString<N>, number: u8)
     requires { array_string_len text.old + 3 ≤ N }
     ensures bytes { text.new.bytes ≡ text.old.bytes ++ decimal number }
@@ -42,7 +44,8 @@ const CHUNK: u128 = 10_000_000_000_000_000_000;
 /// How many digits of a large number are written at a time.
 const CHUNK_DIGITS: u8 = 19;
 
-/// Writes the shortest decimal of a number at the end of a text: one to 39 bytes. There must be room for 39.
+/// Writes the shortest decimal of a number at the end of a text: one to 39 bytes. There must be
+/// room for 39.
 ///
 /// ```
 /// let mut text = arrayvec::ArrayString::<39>::new();

@@ -11,7 +11,8 @@ use arrayvec::ArrayString;
 pub(crate) fn push_groups(text: &mut ArrayString<ADDRESS_TEXT_CAPACITY>, groups: &[u16])
     requires { array_string_len text.old + (5 * length groups.now - 1) ≤ ADDRESS_TEXT_CAPACITY }
     ensures bytes { text.new.bytes ≡ text.old.bytes ++ hex_groups groups.now }
-    ensures room { array_string_len text.new ≤ array_string_len text.old + (5 * length groups.now - 1) }
+    ensures room { array_string_len text.new
+        ≤ array_string_len text.old + (5 * length groups.now - 1) }
 {
     if let [first, rest @ ..] = groups {
         push_hex(text, *first);
@@ -23,6 +24,7 @@ pub(crate) fn push_groups(text: &mut ArrayString<ADDRESS_TEXT_CAPACITY>, groups:
 }
 
 /// Writes the shortest lower-case hex of a group: one to four bytes.
+#[tactic(auto, using(crate::proofs::Decimals::pushing))]
 #[inline(always)]
 fn push_hex(text: &mut ArrayString<ADDRESS_TEXT_CAPACITY>, group: u16)
     requires { array_string_len text.old + 4 ≤ ADDRESS_TEXT_CAPACITY }

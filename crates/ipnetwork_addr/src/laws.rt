@@ -3,7 +3,6 @@
 
 mod computed;
 mod texts;
-mod uses;
 mod values;
 
 pub use computed::{

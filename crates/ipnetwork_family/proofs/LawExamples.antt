@@ -1,6 +1,7 @@
 -- What the laws of sets let one conclude, where a weaker law would not.
 use Rattle.std.proofs.Common.{◌≡◌, ℕ, ◌<◌, ◌⊎◌, inl, inr, refl, arith, Contains, List, Some, Ok, Err, Result}
-use Rattle.std.specs.Prelude.{◌↔◌, slice_get, IsTrue}
+use Rattle.std.specs.Fmt.{digits}
+use Rattle.std.specs.Prelude.{◌↔◌, slice_get, codes, IsTrue}
 use Rattle.std.specs.List.Sorted.{IsStrictlyIncreasing}
 use Rattle.ipnetwork_family.specs.Laws.{
   EndsLaw,
@@ -23,6 +24,7 @@ use Rattle.ipnetwork_family.specs.Laws.{
   MaskIsComputed,
   MaskIsConverted,
   SameErrorSaysTheSame,
+  CanonicalReadsBack,
 }
 use Rattle.ipnetwork_family.specs.Computed.Network.{is_member, is_subnet, prefix_of_mask}
 use Rattle.ipnetwork_family.specs.Masks.{GivesPrefixOfMask}
@@ -42,6 +44,7 @@ use Rattle.ipnetwork_family.specs.Network.{
 }
 use Rattle.ipnetwork_addr.specs.declared.error.AddrParseError.TheVariants as kinds
 use Rattle.ipnetwork_family.specs.ErrorTexts.{refusal_of}
+use Rattle.ipnetwork_family.specs.Family.{v4_family, v6_family}
 use Rattle.ipnetwork_family.specs.Faults.{SameError}
 use Rattle.ipnetwork_family.specs.Ipv4NetworkText.{ReadsV4Network}
 use Rattle.ipnetwork_family.specs.Ipv6NetworkText.{ReadsV6Network}
@@ -118,9 +121,13 @@ block_fits law = law 32 with_host_bits with_host_bits_fits
 -- nor has it host bits, whatever the network is: 2^32 + 5 with the prefix length 30, and 5 with 40
 pub block_has_no_host_bits : BlockHasNoHostBits
     → HostBitsAreZero 32 (block_of 32 (record { address = 4294967301; prefix = 30 }))
-    × HostBitsAreZero 32 (block_of 32 (record { address = 5; prefix = 40 })) × ((n : Network) → HostBitsAreZero 128 (block_of 128 n))
-block_has_no_host_bits law =
-    (law 32 (record { address = 4294967301; prefix = 30 }), law 32 (record { address = 5; prefix = 40 }), law 128)
+    × HostBitsAreZero 32 (block_of 32 (record { address = 5; prefix = 40 }))
+    × ((n : Network) → HostBitsAreZero 128 (block_of 128 n))
+block_has_no_host_bits law = (
+  law 32 (record { address = 4294967301; prefix = 30 }),
+  law 32 (record { address = 5; prefix = 40 }),
+  law 128,
+)
 
 pub block_has_no_more : BlockHasSameSet → (x : ℕ) → Member 32 whole x → Member 32 with_host_bits x
 block_has_no_more law x = (law 32 with_host_bits x).0
@@ -210,15 +217,33 @@ pub mask_gives_no_more : MaskIsConverted → (result : Result ℕ IpNetworkError
     → GivesPrefixOfMask 128 (mask_of 128 48) result → result ≡ Ok 48
 mask_gives_no_more law result = (law 128 48 result (omega arith)).0
 
--- parsing returns the network that reading returns, and the error for the cause that reading returns
-pub network_is_parsed : ParsesAsItReads ReadsV6Network kinds.Ipv6 ParsesV6Network → (text : List ℕ) (n : Network)
+-- parsing returns the network that reading returns, and the error for the cause that reading
+-- returns
+pub network_is_parsed : ParsesAsItReads ReadsV6Network kinds.Ipv6 ParsesV6Network
+    → (text : List ℕ) (n : Network)
     → ParsesV6Network text (Ok n) ↔ ReadsV6Network text (Ok n)
 network_is_parsed law text n = law text (Ok n)
 
 pub prefix_is_refused : ParsesAsItReads ReadsV4Network kinds.Ipv4 ParsesV4Network → (text : List ℕ)
-    → ReadsV4Network text (Err CidrFault.Prefix) → ParsesV4Network text (Err IpNetworkError.InvalidPrefix)
-prefix_is_refused law text reads = (law text (Err IpNetworkError.InvalidPrefix)).1 (CidrFault.Prefix, reads, refl)
+    → ReadsV4Network text (Err CidrFault.Prefix)
+    → ParsesV4Network text (Err IpNetworkError.InvalidPrefix)
+prefix_is_refused law text reads =
+    (law text (Err IpNetworkError.InvalidPrefix)).1 (CidrFault.Prefix, reads, refl)
+
+-- what is printed is read again with its host bits, in either family
+pub v4_is_read : CanonicalReadsBack v4_family → (result : Result Network CidrFault)
+    → ReadsV4Network (codes "10.1.9.32/16") result → result ≡ Ok with_host_bits
+unfolding digits
+v4_is_read law result = (law with_host_bits result with_host_bits_fits).0
+
+pub v6_is_read : CanonicalReadsBack v6_family
+    → ReadsV6Network (codes "::1/64") (Ok (record { address = 1; prefix = 64 }))
+unfolding digits
+v6_is_read law =
+    let n : Network = record { address = 1; prefix = 64 } in
+    (law n (Ok n) (record { address_fits = omega arith; prefix_fits = omega arith })).1 refl
 
 -- errors that say the same are the same, and no others are
-pub same_errors : SameErrorSaysTheSame → (a b : IpNetworkError) → SameError a b ↔ (refusal_of a ≡ refusal_of b)
+pub same_errors : SameErrorSaysTheSame → (a b : IpNetworkError) → SameError a b
+    ↔ (refusal_of a ≡ refusal_of b)
 same_errors law = law

@@ -1,13 +1,15 @@
--- What a family of addresses brings to its networks: how its addresses and its prefix lengths are spelled, and which
--- error a text gets that spells none.
-use Rattle.std.specs.Prelude.{ℕ, ◌+◌, List, Result}
+-- What a family of addresses brings to its networks: how its addresses and its prefix lengths are
+-- spelled, and which error a text gets that spells none.
+use Rattle.std.specs.Prelude.{◌≡◌, ℕ, ◌+◌, ◌^◌, ◌<◌, ◌≤◌, List, Result, decimal}
+use Rattle.std.specs.List.{AllByRecursion}
+use Rattle.ipnetwork_addr.specs.Texts.{IsAddressByte}
 use Rattle.ipnetwork_addr.specs.Ipv4Text.{NamesV4, canonical_v4}
 use Rattle.ipnetwork_addr.specs.Ipv6Text.{NamesV6}
 use Rattle.ipnetwork_addr.specs.Computed.Ipv6Canonical.{canonical_v6}
 use Rattle.ipnetwork_addr.specs.declared.error.AddrParseError.{AddrParseError}
 use Rattle.ipnetwork_addr.specs.declared.error.AddrParseError.TheVariants as kinds
 use Rattle.ipnetwork_family.specs.Network.{Network}
-use Rattle.ipnetwork_family.specs.NetworkText.{NamesNetwork, IsCause, ReadsNetwork, network_text}
+use Rattle.ipnetwork_family.specs.NetworkText.{slashes, NamesNetwork, IsCause, ReadsNetwork, network_text}
 use Rattle.ipnetwork_family.specs.Ipv4NetworkText.{IsV4Suffix}
 use Rattle.ipnetwork_family.specs.Ipv6NetworkText.{IsV6Suffix}
 use Rattle.ipnetwork_family.specs.Parsing.{Parses}
@@ -28,15 +30,45 @@ pub record Family (w : ℕ) : Type 1 where
   pub address_length : ℕ
   pub prefix_digits : ℕ
 
+-- the texts of a family are clear: each tells one address or prefix length at most, and what is
+-- printed tells its own
+pub record HasClearTexts (w : ℕ) (family : Family w) : Type 0 where
+  -- a text names one address at most, and its bytes are those of addresses
+  pub one_address : (text : List ℕ) (a b : ℕ) → family.NamesAddress text a
+      → family.NamesAddress text b → a ≡ b
+  pub address_bytes : (text : List ℕ) (a : ℕ) → family.NamesAddress text a
+      → AllByRecursion IsAddressByte text
+  -- a suffix gives one prefix length at most, and contains no `/`
+  pub one_length : (text : List ℕ) (p q : ℕ) → family.IsSuffix text p
+      → family.IsSuffix text q → p ≡ q
+  pub no_slash : (text : List ℕ) (p : ℕ) → family.IsSuffix text p → slashes text ≡ 0
+  -- what is printed names the address, or gives the prefix length
+  pub canonical_names : (a : ℕ) → a < 2 ^ w → family.NamesAddress (family.canonical a) a
+  pub decimal_gives : (p : ℕ) → p ≤ w → family.IsSuffix (decimal p) p
+
 -- IPv4 and IPv6
 abbrev pub v4_family : Family 32
-v4_family = record { NamesAddress = NamesV4; IsSuffix = IsV4Suffix; canonical = canonical_v4; refusal = kinds.Ipv4; address_length = 15; prefix_digits = 2 }
+v4_family = record {
+  NamesAddress = NamesV4;
+  IsSuffix = IsV4Suffix;
+  canonical = canonical_v4;
+  refusal = kinds.Ipv4;
+  address_length = 15;
+  prefix_digits = 2;
+}
 
 abbrev pub v6_family : Family 128
-v6_family = record { NamesAddress = NamesV6; IsSuffix = IsV6Suffix; canonical = canonical_v6; refusal = kinds.Ipv6; address_length = 39; prefix_digits = 3 }
+v6_family = record {
+  NamesAddress = NamesV6;
+  IsSuffix = IsV6Suffix;
+  canonical = canonical_v6;
+  refusal = kinds.Ipv6;
+  address_length = 39;
+  prefix_digits = 3;
+}
 
--- ---- the words of texts, for the networks of a family. At the two families they are those of Ipv4NetworkText,
--- Ipv6NetworkText and Parsing
+-- ---- the words of texts, for the networks of a family. At the two families they are those of
+-- Ipv4NetworkText, Ipv6NetworkText and Parsing
 
 -- the text names the network
 abbrev pub NamesNetworkOf : {w : ℕ} → Family w → List ℕ → Network → Type 0
@@ -44,11 +76,14 @@ NamesNetworkOf {w} family text n = NamesNetwork w family.NamesAddress family.IsS
 
 -- what reading returns
 abbrev pub ReadsNetworkOf : {w : ℕ} → Family w → List ℕ → Result Network CidrFault → Type 0
-ReadsNetworkOf {w} family text result = ReadsNetwork w family.NamesAddress family.IsSuffix text result
+ReadsNetworkOf {w} family text result =
+    ReadsNetwork w family.NamesAddress family.IsSuffix text result
 
 -- what parsing returns
 abbrev pub ParsesNetworkOf : {w : ℕ} → Family w → List ℕ → Result Network IpNetworkError → Type 0
-ParsesNetworkOf family text result = Parses (NamesNetworkOf family) (IsCause family.NamesAddress family.IsSuffix) family.refusal text result
+ParsesNetworkOf family text result =
+    Parses (NamesNetworkOf family) (IsCause family.NamesAddress family.IsSuffix) family.refusal
+    text result
 
 -- the one text that a network is printed as
 abbrev pub text_of : {w : ℕ} → Family w → Network → List ℕ

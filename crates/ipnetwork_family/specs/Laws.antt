@@ -5,8 +5,10 @@ use Rattle.ipnetwork_family.specs.Network.{Network, IsNetwork, Member, low, high
 use Rattle.ipnetwork_family.specs.NetworkText.{before_slash, HasNoSuffix, NamesNetwork}
 use Rattle.ipnetwork_family.specs.Computed.Network.{is_member, is_subnet, prefix_of_mask}
 use Rattle.ipnetwork_family.specs.ErrorTexts.{refusal_of}
+use Rattle.ipnetwork_family.specs.Family.{Family, ReadsNetworkOf, text_of}
 use Rattle.ipnetwork_family.specs.Faults.{SameError}
 use Rattle.ipnetwork_family.specs.Masks.{GivesPrefixOfMask}
+use Rattle.ipnetwork_family.specs.declared.error.CidrFault.{CidrFault}
 use Rattle.ipnetwork_family.specs.declared.error.IpNetworkError.{IpNetworkError}
 
 -- the ends are the least and the greatest member, and the address of the network is a member
@@ -47,7 +49,8 @@ BlockHasSameSet = (w : ℕ) (n : Network) (x : ℕ) → Member w (block_of w n) 
 
 -- of two sets that share an address one is part of the other
 abbrev pub Nesting : Type 0
-Nesting = (w : ℕ) (a b : Network) → IsNetwork w a → IsNetwork w b → Overlap w a b → Subnet w a b ⊎ Subnet w b a
+Nesting = (w : ℕ) (a b : Network) → IsNetwork w a → IsNetwork w b → Overlap w a b
+    → Subnet w a b ⊎ Subnet w b a
 
 -- sharing an address goes both ways
 abbrev pub OverlapSymmetric : Type 0
@@ -61,15 +64,18 @@ OverlapByAddress = (w : ℕ) (a b : Network) → IsNetwork w a → IsNetwork w b
 -- they share an address exactly if one of four tests of membership says so
 abbrev pub OverlapByEnds : Type 0
 OverlapByEnds = (w : ℕ) (a b : Network) → IsNetwork w a → IsNetwork w b
-    → Overlap w a b ↔ ((Member w a b.address ⊎ Member w a (high w b)) ⊎ (Member w b a.address ⊎ Member w b (high w a)))
+    → Overlap w a b ↔ ((Member w a b.address ⊎ Member w a (high w b))
+    ⊎ (Member w b a.address ⊎ Member w b (high w a)))
 
 -- of networks without host bits, one comes before what lies in it
 abbrev pub SubnetComesAfter : Type 0
-SubnetComesAfter = (w : ℕ) (a c : Network) → IsNetwork w a → IsNetwork w c → HostBitsAreZero w a → HostBitsAreZero w c → Subnet w c a → IsNetworkAtMost a c
+SubnetComesAfter = (w : ℕ) (a c : Network) → IsNetwork w a → IsNetwork w c
+    → HostBitsAreZero w a → HostBitsAreZero w c → Subnet w c a → IsNetworkAtMost a c
 
 -- and what stands between the two in order lies in it too
 abbrev pub BetweenIsSubnet : Type 0
-BetweenIsSubnet = (w : ℕ) (a b c : Network) → IsNetwork w a → IsNetwork w b → IsNetwork w c → HostBitsAreZero w a → HostBitsAreZero w b → HostBitsAreZero w c
+BetweenIsSubnet = (w : ℕ) (a b c : Network) → IsNetwork w a → IsNetwork w b → IsNetwork w c
+    → HostBitsAreZero w a → HostBitsAreZero w b → HostBitsAreZero w c
     → Subnet w c a → IsNetworkAtMost a b → IsNetworkAtMost b c → Subnet w b a
 
 -- the list of members is strictly ascending and has only the members
@@ -89,7 +95,8 @@ MembershipComputed = (w : ℕ) (n : Network) (x : ℕ) → IsTrue (is_member w n
 
 -- the test of subnets is true exactly if each member of one is a member of the other
 abbrev pub SubnetComputed : Type 0
-SubnetComputed = (w : ℕ) (a b : Network) → IsNetwork w a → IsNetwork w b → IsTrue (is_subnet w a b) ↔ Subnet w a b
+SubnetComputed = (w : ℕ) (a b : Network) → IsNetwork w a → IsNetwork w b
+    → IsTrue (is_subnet w a b) ↔ Subnet w a b
 
 -- the w + 1 masks differ
 abbrev pub MasksDiffer : Type 0
@@ -101,13 +108,21 @@ MaskIsComputed = (w p : ℕ) → p ≤ w → prefix_of_mask w (mask_of w p) ≡ 
 
 -- and the conversion of the mask returns it and nothing else
 abbrev pub MaskIsConverted : Type 0
-MaskIsConverted = (w p : ℕ) (result : Result ℕ IpNetworkError) → p ≤ w → GivesPrefixOfMask w (mask_of w p) result ↔ (result ≡ Ok p)
+MaskIsConverted = (w p : ℕ) (result : Result ℕ IpNetworkError) → p ≤ w
+    → GivesPrefixOfMask w (mask_of w p) result ↔ (result ≡ Ok p)
 
 -- two errors are the same exactly if they say the same
 abbrev pub SameErrorSaysTheSame : Type 0
 SameErrorSaysTheSame = (a b : IpNetworkError) → SameError a b ↔ (refusal_of a ≡ refusal_of b)
 
--- a text that names no network, although what stands before its first `/` is an address, has a `/` and after it no suffix
+-- the canonical text of a network is read as that network and as nothing else
+abbrev pub CanonicalReadsBack : {w : ℕ} → Family w → Type 0
+CanonicalReadsBack {w} family = (n : Network) (result : Result Network CidrFault) → IsNetwork w n
+    → ReadsNetworkOf family (text_of family n) result ↔ (result ≡ Ok n)
+
+-- a text that names no network, although what stands before its first `/` is an address, has a `/`
+-- and after it no suffix
 abbrev pub SuffixIsRefused : ℕ → (List ℕ → ℕ → Type 0) → (List ℕ → ℕ → Type 0) → Type 0
-SuffixIsRefused w NamesAddress IsSuffix = (text : List ℕ) (a : ℕ) → NamesAddress (before_slash text) a
+SuffixIsRefused w NamesAddress IsSuffix = (text : List ℕ) (a : ℕ)
+    → NamesAddress (before_slash text) a
     → ((n : Network) → ¬ (NamesNetwork w NamesAddress IsSuffix text n)) → HasNoSuffix IsSuffix text

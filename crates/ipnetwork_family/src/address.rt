@@ -1,10 +1,9 @@
 //! What networks need of an address.
-ghost use Rattle.std.specs.Prelude.{◌≡◌, ◌↔◌, ℕ, ◌+◌, ◌-◌, ◌/◌, ◌^◌, ◌<◌, ◌≤◌, List, length, IsTrue, MatchOption};
+ghost use Rattle.std.specs.Prelude.{◌≡◌, ◌↔◌, ℕ, ◌+◌, ◌-◌, ◌/◌, ◌^◌, ◌<◌, ◌≤◌, length, IsTrue, MatchOption};
 ghost use Rattle.std.specs.Ordering.{nat_cmp};
 ghost use Rattle.ipnetwork_addr.specs.Reading.{Reads};
 ghost use Rattle.ipnetwork_family.specs.Bits.{SharesBits, EndsInZeros};
-ghost use Rattle.ipnetwork_family.specs.Family.{Family};
-ghost use Rattle.ipnetwork_family.specs.NetworkText.{slashes};
+ghost use Rattle.ipnetwork_family.specs.Family.{Family, HasClearTexts};
 ghost use Rattle.ipnetwork_family.specs.Network.{mask_of, IsNoMask, low, high, block_size};
 
 use arrayvec::ArrayString;
@@ -12,8 +11,8 @@ use ipnetwork_addr::{ADDRESS_TEXT_CAPACITY, AddrParseError};
 use std::fmt::Debug;
 use std::hash::Hash;
 
-/// The addresses of one family. An address means a number of `WIDTH` bits and is ordered by it; a prefix length says
-/// how many of its first bits are compared. No call allocates.
+/// The addresses of one family. An address means a number of `WIDTH` bits and is ordered by it; a
+/// prefix length says how many of its first bits are compared. No call allocates.
 ///
 /// ```
 /// assert_eq!(rt; <Ipv4Addr as Address>::WIDTH, 32);
@@ -48,17 +47,19 @@ pub trait Address: Copy + Ord + Hash + Debug {
     /// assert_eq!(rt; address, Ipv4Addr::new(192, 0, 2, 1));
     /// ```
     fn read_bytes(text: &[u8]) -> Result<Self, AddrParseError>
-        ensures { Reads (λ name address. family.NamesAddress name (number address)) family.refusal text.now result };
+        ensures { Reads (λ name address. family.NamesAddress name (number address)) family.refusal
+            text.now result };
 
-    /// The prefix length that a text gives after the `/` of a network, if it gives one: as a number and, for IPv4,
-    /// also as a mask in the form of an address.
+    /// The prefix length that a text gives after the `/` of a network, if it gives one: as a number
+    /// and, for IPv4, also as a mask in the form of an address.
     ///
     /// ```
     /// assert_eq!(rt; Ipv4Addr::read_suffix(b"255.255.240.0"), Some(20));
     /// assert_eq!(rt; Ipv6Addr::read_suffix(b"129"), None);
     /// ```
     fn read_suffix(text: &[u8]) -> Option<u8>
-        ensures { MatchOption result ((p : ℕ) → ¬ (family.IsSuffix text.now p)) (λ p. (p ≤ WIDTH) × family.IsSuffix text.now p) };
+        ensures { MatchOption result ((p : ℕ) → ¬ (family.IsSuffix text.now p))
+            (λ p. (p ≤ WIDTH) × family.IsSuffix text.now p) };
 
     /// The error for a text that names no address of the family.
     ///
@@ -76,20 +77,21 @@ pub trait Address: Copy + Ord + Hash + Debug {
     /// ```
     fn canonical(&self) -> ArrayString<ADDRESS_TEXT_CAPACITY>
         ensures bytes { result.bytes ≡ family.canonical (number self.now) }
-        ensures short { (length result.bytes ≤ family.address_length) × (family.address_length ≤ ADDRESS_TEXT_CAPACITY) };
+        ensures short { (length result.bytes ≤ family.address_length)
+            × (family.address_length ≤ ADDRESS_TEXT_CAPACITY) };
 
-    /// Does nothing. A proof learns from it that no address and no suffix contains a `/`.
+    /// Does nothing. A proof learns from it what is true of the texts of addresses and of suffixes.
     #[doc(hidden)]
-    fn texts_hold_no_slash()
-        ensures addresses { (text : List ℕ) (address : ℕ) → family.NamesAddress text address → slashes text ≡ 0 }
-        ensures suffixes { (text : List ℕ) (p : ℕ) → family.IsSuffix text p → slashes text ≡ 0 };
+    fn texts_are_clear()
+        ensures { HasClearTexts WIDTH family };
 
     /// Does nothing. A proof learns from it that the number has `WIDTH` bits.
     #[doc(hidden)]
     fn is_of_width(self)
         ensures { number self < 2 ^ WIDTH };
 
-    /// The mask of a prefix length, which must be at most `WIDTH`: as many ones in front, and zeros after them.
+    /// The mask of a prefix length, which must be at most `WIDTH`: as many ones in front, and zeros
+    /// after them.
     ///
     /// ```
     /// assert_eq!(rt; Ipv4Addr::mask(20), Ipv4Addr::new(255, 255, 240, 0));
@@ -105,9 +107,11 @@ pub trait Address: Copy + Ord + Hash + Debug {
     /// assert_eq!(rt; Ipv4Addr::new(255, 0, 255, 0).prefix_of_mask(), None);
     /// ```
     fn prefix_of_mask(self) -> Option<u8>
-        ensures { MatchOption result (IsNoMask WIDTH (number self)) (λ prefix. (prefix ≤ WIDTH) × (number self ≡ mask_of WIDTH prefix)) };
+        ensures { MatchOption result (IsNoMask WIDTH (number self))
+            (λ prefix. (prefix ≤ WIDTH) × (number self ≡ mask_of WIDTH prefix)) };
 
-    /// The address with the bits after the first `prefix` cleared. `prefix` must be at most `WIDTH`.
+    /// The address with the bits after the first `prefix` cleared. `prefix` must be at most
+    /// `WIDTH`.
     ///
     /// ```
     /// assert_eq!(rt; Ipv4Addr::new(192, 0, 2, 77).least(26), Ipv4Addr::new(192, 0, 2, 64));
@@ -134,7 +138,8 @@ pub trait Address: Copy + Ord + Hash + Debug {
     /// ```
     fn agrees(self, other: Self, prefix: u8) -> bool
         requires { prefix ≤ WIDTH }
-        ensures { IsTrue result ↔ (number self / block_size WIDTH prefix ≡ number other / block_size WIDTH prefix) };
+        ensures { IsTrue result
+            ↔ (number self / block_size WIDTH prefix ≡ number other / block_size WIDTH prefix) };
 
     /// The address after this one, which must not be the last.
     ///
@@ -154,7 +159,8 @@ pub trait Address: Copy + Ord + Hash + Debug {
         requires { 0 < number self }
         ensures { number result ≡ number self - 1 };
 
-    /// The address `offset` addresses after this one. It must not be past the last address of the family.
+    /// The address `offset` addresses after this one. It must not be past the last address of the
+    /// family.
     ///
     /// ```
     /// assert_eq!(rt; Ipv4Addr::new(192, 0, 2, 255).plus(257), Ipv4Addr::new(192, 0, 4, 0));
@@ -163,7 +169,8 @@ pub trait Address: Copy + Ord + Hash + Debug {
         requires { number self + offset < 2 ^ WIDTH }
         ensures { number result ≡ number self + offset };
 
-    /// How many of their first bits two addresses share: the greatest prefix length with which they lie in one block.
+    /// How many of their first bits two addresses share: the greatest prefix length with which they
+    /// lie in one block.
     ///
     /// ```
     /// let address = Ipv4Addr::new(192, 0, 2, 77);
@@ -184,7 +191,8 @@ pub trait Address: Copy + Ord + Hash + Debug {
     ghost address_order: { (x y : Self) → Self.cmp x y ≡ nat_cmp (number x) (number y) };
 
     // a prefix length has few digits,
-    ghost few_digits: { (1 ≤ family.prefix_digits) × (family.prefix_digits ≤ 3) × (WIDTH < 10 ^ family.prefix_digits) };
+    ghost few_digits: { (1 ≤ family.prefix_digits) × (family.prefix_digits ≤ 3)
+        × (WIDTH < 10 ^ family.prefix_digits) };
 
     // and a number has at most 128 bits.
     ghost few_bits: { WIDTH ≤ 128 };

@@ -53,8 +53,10 @@ impl Address for Ipv4Addr {
         Ipv4Addr::canonical(self)
     }
 
-    fn texts_hold_no_slash() {
+    fn texts_are_clear() {
+        laws::v4_text_is_computed();
         laws::v4_text_bytes();
+        laws::canonical_v4_names_its_address();
     }
 
     fn is_of_width(self) {
@@ -125,7 +127,8 @@ fn host_ones(prefix: u8) -> u32
 }
 
 impl Network<Ipv4Addr> {
-    /// The number of members. At prefix length 0, where that would need 33 bits, it is one less: 4,294,967,295.
+    /// The number of members. At prefix length 0, where that would need 33 bits, it is one less:
+    /// 4,294,967,295.
     ///
     /// ```
     /// let network: Ipv4Network = "192.0.2.77/26".parse()?;
@@ -137,7 +140,8 @@ impl Network<Ipv4Addr> {
         host_ones(self.prefix()).saturating_add(1)
     }
 
-    /// The member number `n`, counted from 0 in ascending order; `None` if `n` is not less than `size`.
+    /// The member number `n`, counted from 0 in ascending order; `None` if `n` is not less than
+    /// `size`.
     ///
     /// ```
     /// let network: Ipv4Network = "192.0.2.77/26".parse()?;

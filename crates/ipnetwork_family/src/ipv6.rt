@@ -47,8 +47,11 @@ impl Address for Ipv6Addr {
         Ipv6Addr::canonical(self)
     }
 
-    fn texts_hold_no_slash() {
+    fn texts_are_clear() {
+        laws::v6_text_is_computed();
         laws::v6_text_bytes();
+        laws::canonical_v6_names_its_address();
+        laws::canonical_v6_is_one_text();
     }
 
     fn is_of_width(self) {
@@ -117,7 +120,8 @@ fn host_ones(prefix: u8) -> u128
 }
 
 impl Network<Ipv6Addr> {
-    /// The number of members. At prefix length 0, where that would need 129 bits, it is one less: 2^128 - 1.
+    /// The number of members. At prefix length 0, where that would need 129 bits, it is one less:
+    /// 2^128 - 1.
     ///
     /// ```
     /// let network: Ipv6Network = "2001:db8::/64".parse()?;
@@ -129,7 +133,8 @@ impl Network<Ipv6Addr> {
         host_ones(self.prefix()).saturating_add(1)
     }
 
-    /// The member number `n`, counted from 0 in ascending order; `None` if `n` is not less than `size`.
+    /// The member number `n`, counted from 0 in ascending order; `None` if `n` is not less than
+    /// `size`.
     ///
     /// ```
     /// let network: Ipv6Network = "2001:db8::1/64".parse()?;

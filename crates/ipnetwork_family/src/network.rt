@@ -15,9 +15,9 @@ use std::fmt;
 use std::marker::Model;
 use std::str::FromStr;
 
-/// An address, host bits included, and a prefix length of 0 to `A::WIDTH`: 32 for IPv4, 128 for IPv6. It stands for the
-/// set of all addresses that agree with the address in their first bits, as many as the prefix length says.
-/// Ordered by address, then by prefix length.
+/// An address, host bits included, and a prefix length of 0 to `A::WIDTH`: 32 for IPv4, 128 for
+/// IPv6. It stands for the set of all addresses that agree with the address in their first bits, as
+/// many as the prefix length says. Ordered by address, then by prefix length.
 ///
 /// ```
 /// let network: Network<Ipv4Addr> = "192.0.2.77/26".parse()?;
@@ -38,11 +38,13 @@ impl<A: Address> Model for Network<A> {
 
     ghost view = { λ n. record { address = A.number n.address; prefix = n.prefix } };
 
-    ghost invariant = { λ n. IsNetwork A.WIDTH (record { address = A.number n.address; prefix = n.prefix }) };
+    ghost invariant = { λ n. IsNetwork A.WIDTH
+        (record { address = A.number n.address; prefix = n.prefix }) };
 
     ghost inverse = { λ n. record { address = A.of_number n.address; prefix = n.prefix } };
 
-    ghost inverse_ok = { λ n h. ap (λ a. record { address = a; prefix = n.prefix }) (A.back n.address) };
+    ghost inverse_ok = { λ n h.
+        ap (λ a. record { address = a; prefix = n.prefix }) (A.back n.address) };
 }
 
 impl<A: Address> Clone for Network<A> {
@@ -55,11 +57,11 @@ impl<A: Address> Clone for Network<A> {
     }
 }
 
-// The clause `network` tells a proof in another crate what is true of each network: both fields are private, so nothing
-// else says it. It stands on the calls that such proofs begin with.
+// The clause `network` tells a proof in another crate what is true of each network: both fields are
+// private, so nothing else says it. It stands on the calls that such proofs begin with.
 impl<A: Address> Network<A> {
-    /// The network of this address, host bits kept, and this prefix length; `None` if that is greater than
-    /// `A::WIDTH`.
+    /// The network of this address, host bits kept, and this prefix length; `None` if that is
+    /// greater than `A::WIDTH`.
     ///
     /// ```
     /// let address = Ipv4Addr::new(10, 1, 9, 32);
@@ -67,7 +69,8 @@ impl<A: Address> Network<A> {
     /// assert_eq!(rt; Ipv4Network::new_checked(address, 33), None);
     /// ```
     pub fn new_checked(addr: A, prefix: u8) -> Option<Self>
-        ensures { SomeIff result (prefix ≤ A.WIDTH) (record { address = A.number addr; prefix = prefix }) }
+        ensures { SomeIff result (prefix ≤ A.WIDTH)
+            (record { address = A.number addr; prefix = prefix }) }
     {
         if prefix > A::WIDTH {
             return None;
@@ -79,8 +82,8 @@ impl<A: Address> Network<A> {
         })
     }
 
-    /// The network without host bits of this prefix length that holds the address; `None` if the prefix length is
-    /// greater than `A::WIDTH`.
+    /// The network without host bits of this prefix length that holds the address; `None` if the
+    /// prefix length is greater than `A::WIDTH`.
     ///
     /// ```
     /// let block = Ipv4Network::block(Ipv4Addr::new(10, 1, 9, 32), 8);
@@ -89,22 +92,24 @@ impl<A: Address> Network<A> {
     pub fn block(addr: A, prefix: u8) -> Option<Self>
         ensures address { A.number addr < 2 ^ A.WIDTH }
         ensures cases { MatchOption result (A.WIDTH < prefix)
-            (λ n. (prefix ≤ A.WIDTH) × (n ≡ block_of A.WIDTH (record { address = A.number addr; prefix = prefix }))) }
+            (λ n. (prefix ≤ A.WIDTH)
+            × (n ≡ block_of A.WIDTH (record { address = A.number addr; prefix = prefix }))) }
     {
         addr.is_of_width();
         let network = Network::new_checked(addr, prefix)?;
         Network::new_checked(network.network(), prefix)
     }
 
-    /// The network of this address, host bits kept, and this prefix length; `InvalidPrefix` if that is greater than
-    /// `A::WIDTH`.
+    /// The network of this address, host bits kept, and this prefix length; `InvalidPrefix` if that
+    /// is greater than `A::WIDTH`.
     ///
     /// ```
     /// let network = Ipv4Network::new(Ipv4Addr::new(10, 1, 9, 32), 8)?;
     /// assert_eq!(rt; network.canonical().as_str(), "10.1.9.32/8");
     /// ```
     pub fn new(addr: A, prefix: u8) -> Result<Self, IpNetworkError>
-        ensures { MatchResult result (λ n. (n ≡ record { address = A.number addr; prefix = prefix }) × (prefix ≤ A.WIDTH))
+        ensures { MatchResult result
+            (λ n. (n ≡ record { address = A.number addr; prefix = prefix }) × (prefix ≤ A.WIDTH))
             (λ fault. (fault ≡ IpNetworkError.InvalidPrefix) × (A.WIDTH < prefix)) }
     {
         match Network::new_checked(addr, prefix) {
@@ -113,8 +118,8 @@ impl<A: Address> Network<A> {
         }
     }
 
-    /// The network of this address, host bits kept, and the prefix length of this mask; `InvalidPrefix` if that is not
-    /// one of the `A::WIDTH` + 1 masks.
+    /// The network of this address, host bits kept, and the prefix length of this mask;
+    /// `InvalidPrefix` if that is not one of the `A::WIDTH` + 1 masks.
     ///
     /// ```
     /// let mask = Ipv4Addr::new(255, 255, 240, 0);
@@ -122,8 +127,11 @@ impl<A: Address> Network<A> {
     /// assert_eq!(rt; network.prefix(), 20);
     /// ```
     pub fn with_netmask(netaddr: A, netmask: A) -> Result<Self, IpNetworkError>
-        ensures { MatchResult result (λ n. (n.address ≡ A.number netaddr) × (n.prefix ≤ A.WIDTH) × (A.number netmask ≡ mask_of A.WIDTH n.prefix))
-            (λ fault. (fault ≡ IpNetworkError.InvalidPrefix) × IsNoMask A.WIDTH (A.number netmask)) }
+        ensures { MatchResult result
+            (λ n. (n.address ≡ A.number netaddr) × (n.prefix ≤ A.WIDTH)
+            × (A.number netmask ≡ mask_of A.WIDTH n.prefix))
+            (λ fault. (fault ≡ IpNetworkError.InvalidPrefix)
+            × IsNoMask A.WIDTH (A.number netmask)) }
     {
         match netmask.prefix_of_mask() {
             Some(prefix) => Network::new(netaddr, prefix),
@@ -258,9 +266,10 @@ impl<A: Address> Network<A> {
         NetworkIterator::between(self.network(), self.broadcast())
     }
 
-    /// The network that a text names: an address of the family, host bits kept, and after a `/` its suffix: a prefix
-    /// length of at most `A::WIDTH` or, for IPv4 only, one of the 33 masks as an IPv4 address; without a `/` the
-    /// prefix length is `A::WIDTH`. Any other text is refused with its cause.
+    /// The network that a text names: an address of the family, host bits kept, and after a `/` its
+    /// suffix: a prefix length of at most `A::WIDTH` or, for IPv4 only, one of the 33 masks as an
+    /// IPv4 address; without a `/` the prefix length is `A::WIDTH`. Any other text is refused with
+    /// its cause.
     ///
     /// ```
     /// let network = Ipv4Network::read_bytes(b"10.1.9.32/255.0.0.0")?;
@@ -270,8 +279,8 @@ impl<A: Address> Network<A> {
     pub fn read_bytes(text: &[u8]) -> Result<Self, CidrFault>
         ensures { ReadsNetworkOf A.family text.now result }
     {
-        // Does nothing. The proof needs the law: no byte of an address text is a `/`.
-        A::texts_hold_no_slash();
+        // Does nothing. The proof needs the law: no address text and no suffix contains a `/`.
+        A::texts_are_clear();
         let (address, suffix) = split(text)?;
         let Ok(address) = A::read_bytes(address) else {
             return Err(CidrFault::Addr);
@@ -284,9 +293,9 @@ impl<A: Address> Network<A> {
     }
 
     /// The network that a text names, as `read_bytes` reads it. If it names none, the error is what
-    /// `IpNetworkError::from_fault` returns for the cause, for the family's address error (`AddrParseError::Ipv4` or
-    /// `Ipv6`) and for the text. Allocates at most once, for an error that carries a text, and returns `OutOfMemory`
-    /// only in place of one.
+    /// `IpNetworkError::from_fault` returns for the cause, for the family's address error
+    /// (`AddrParseError::Ipv4` or `Ipv6`) and for the text. Allocates at most once, for an error
+    /// that carries a text, and returns `OutOfMemory` only in place of one.
     ///
     /// ```
     /// let network = Ipv6Network::parse(rt.alloc(), "2001:db8::1/64")?;
@@ -301,8 +310,8 @@ impl<A: Address> Network<A> {
         }
     }
 
-    /// The canonical text, at most 18 bytes for IPv4 and 43 for IPv6: the canonical address, `/` and the shortest
-    /// decimal of the prefix length.
+    /// The canonical text, at most 18 bytes for IPv4 and 43 for IPv6: the canonical address, `/`
+    /// and the shortest decimal of the prefix length.
     ///
     /// ```
     /// let network: Ipv6Network = "2001:DB8:0:0:1:0:0:1/+064".parse()?;
@@ -335,8 +344,10 @@ impl<A: Address> Network<A> {
 
 /// The prefix length that stands after the `/`, or that of an address without one.
 fn prefix_length<A: Address>(suffix: Option<&[u8]>) -> Option<u8>
-    ensures { MatchOption result (GivesNoPrefix A.WIDTH A.family.IsSuffix (option_copied suffix.entry))
-        (λ p. (p ≤ A.WIDTH) × GivesPrefix A.WIDTH A.family.IsSuffix (option_copied suffix.entry) p) }
+    ensures { MatchOption result
+        (GivesNoPrefix A.WIDTH A.family.IsSuffix (option_copied suffix.entry))
+        (λ p. (p ≤ A.WIDTH)
+        × GivesPrefix A.WIDTH A.family.IsSuffix (option_copied suffix.entry) p) }
 {
     match suffix {
         None => Some(A::WIDTH),
@@ -355,7 +366,8 @@ pub(crate) fn mask_to_prefix<A: Address>(mask: A) -> Result<u8, IpNetworkError>
 }
 
 impl<A: Address> From<A> for Network<A> {
-    ghost from_gives = { λ address network. network ≡ record { address = A.number address; prefix = A.WIDTH } };
+    ghost from_gives = { λ address network.
+        network ≡ record { address = A.number address; prefix = A.WIDTH } };
 
     /// The network that has only this address, of prefix length `A::WIDTH`.
     fn from(addr: A) -> Self {

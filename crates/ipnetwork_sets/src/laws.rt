@@ -8,6 +8,7 @@ ghost use Rattle.ipnetwork_family.specs.Family.{text_of, v4_family, v6_family};
 ghost use Rattle.ipnetwork_sets.specs.Texts.{LinesTellSets};
 ghost use Rattle.ipnetwork_sets.specs.Laws.{CommonPartIsShortest, DifferenceIsShortest, FreePartIsShortest, ComplementIsShortest, UnionIsShortest, SameAddressesAreOneSet, CommonPartCommutes, UnionCommutes, CommonPartOfOne, UnionOfOne, DifferenceIsDisjoint, PartsMakeTheWhole, FreeOfUnion, FreeOfCommonPart};
 
+use ipnetwork_addr::{Ipv4Addr, Ipv6Addr};
 use ipnetwork_blocks::laws;
 use ipnetwork_family::laws as network_laws;
 
@@ -31,16 +32,16 @@ pub fn equality()
 pub fn v4_texts()
     ensures { LinesTellSets 32 (text_of v4_family) }
 {
-    network_laws::canonical_v4_network_bytes();
-    network_laws::canonical_v4_network_is_one_to_one();
+    network_laws::canonical_network_bytes::<Ipv4Addr>();
+    network_laws::canonical_network_is_one_to_one::<Ipv4Addr>();
 }
 
 /// Two sets of IPv6 addresses are printed as the same text exactly if they have the same addresses.
 pub fn v6_texts()
     ensures { LinesTellSets 128 (text_of v6_family) }
 {
-    network_laws::canonical_v6_network_bytes();
-    network_laws::canonical_v6_network_is_one_to_one();
+    network_laws::canonical_network_bytes::<Ipv6Addr>();
+    network_laws::canonical_network_is_one_to_one::<Ipv6Addr>();
 }
 
 /// The common part and the union are those of the two in either order, and of a set with itself they are the set.

@@ -9,7 +9,7 @@ ghost use Rattle.ipnetwork.specs.IpNetworks.{IsIpNetwork};
 ghost use Rattle.ipnetwork.specs.IpNetworkText.{ParsesIpNetwork, ip_network_text};
 
 use super::{canonical_ip_network_names_it, ip_network_text_names_one};
-use crate::{IpNetwork, JsonFault};
+use crate::{IpNetwork, Ipv4Addr, Ipv6Addr, JsonFault};
 use ipnetwork_family::laws as families;
 use serde_json::{Error, Value};
 use std::alloc::Global;
@@ -19,8 +19,8 @@ use std::alloc::Global;
 pub fn ip_network_stands_in_quotes()
     ensures { (n : IpNetwork) → IsIpNetwork n → compact_text (string (ip_network_text n)) ≡ in_quotes (ip_network_text n) }
 {
-    families::v4_network_stands_in_quotes();
-    families::v6_network_stands_in_quotes();
+    families::network_stands_in_quotes::<Ipv4Addr>();
+    families::network_stands_in_quotes::<Ipv6Addr>();
 }
 
 /// Reading the value of a network returns that network and nothing else.

@@ -7,7 +7,7 @@ ghost use Rattle.ipnetwork.specs.IpNetworks.{IsIpNetwork};
 ghost use Rattle.ipnetwork.specs.IpNetworkText.{NamesIpNetwork, ReadsIpNetwork, ip_network_text};
 ghost use Rattle.ipnetwork.specs.Computed.IpNetworkText.{ip_network_of};
 
-use crate::IpNetwork;
+use crate::{IpNetwork, Ipv4Addr, Ipv6Addr};
 use ipnetwork_addr::laws as addresses;
 use ipnetwork_family::laws as families;
 
@@ -35,8 +35,8 @@ pub fn ip_network_reading_is_computed()
 pub fn canonical_ip_network_names_it()
     ensures { (n : IpNetwork) → IsIpNetwork n → NamesIpNetwork (ip_network_text n) n }
 {
-    families::canonical_v4_network_names_it();
-    families::canonical_v6_network_names_it();
+    families::canonical_network_names_it::<Ipv4Addr>();
+    families::canonical_network_names_it::<Ipv6Addr>();
 }
 
 /// Reading the canonical text of a network returns that network and nothing else, so printing it again changes
@@ -62,6 +62,6 @@ pub fn canonical_ip_network_is_one_to_one()
 pub fn canonical_ip_network_bytes()
     ensures { (n : IpNetwork) → IsIpNetwork n → AllByRecursion IsNetworkByte (ip_network_text n) }
 {
-    families::canonical_v4_network_bytes();
-    families::canonical_v6_network_bytes();
+    families::canonical_network_bytes::<Ipv4Addr>();
+    families::canonical_network_bytes::<Ipv6Addr>();
 }

@@ -24,17 +24,21 @@ pub fn v6_text_is_computed()
 /// What reading an IPv4 address returns can be computed from the text, and the text determines it.
 pub fn v4_reading_is_computed()
     ensures { (text : List ℕ) (result : Result ℕ AddrParseError)
-        → Reads NamesV4 AddrParseError.Ipv4 text result ↔ (result ≡ answer_from AddrParseError.Ipv4 (v4_of text)) }
+        → Reads NamesV4 AddrParseError.Ipv4 text result
+        ↔ (result ≡ answer_from AddrParseError.Ipv4 (v4_of text)) }
 {}
 
 /// What reading an IPv6 address returns can be computed from the text, and the text determines it.
 pub fn v6_reading_is_computed()
     ensures { (text : List ℕ) (result : Result ℕ AddrParseError)
-        → Reads NamesV6 AddrParseError.Ipv6 text result ↔ (result ≡ answer_from AddrParseError.Ipv6 (v6_of text)) }
+        → Reads NamesV6 AddrParseError.Ipv6 text result
+        ↔ (result ≡ answer_from AddrParseError.Ipv6 (v6_of text)) }
 {}
 
-/// What reading an address of either family returns can be computed from the text, and the text determines it.
+/// What reading an address of either family returns can be computed from the text, and the text
+/// determines it.
 pub fn ip_reading_is_computed()
     ensures { (text : List ℕ) (result : Result IpAddr AddrParseError)
-        → Reads NamesIp AddrParseError.Ip text result ↔ (result ≡ answer_from AddrParseError.Ip (ip_of text)) }
+        → Reads NamesIp AddrParseError.Ip text result
+        ↔ (result ≡ answer_from AddrParseError.Ip (ip_of text)) }
 {}

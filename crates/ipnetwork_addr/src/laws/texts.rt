@@ -32,7 +32,8 @@ pub fn canonical_v4_is_one_to_one()
 
 /// Each byte of an IPv4 text is a byte of addresses: a hex digit, `.` or `:`.
 pub fn v4_text_bytes()
-    ensures { (text : List ℕ) (address : ℕ) → NamesV4 text address → AllByRecursion IsAddressByte text }
+    ensures { (text : List ℕ) (address : ℕ) → NamesV4 text address
+        → AllByRecursion IsAddressByte text }
 {}
 
 /// A text names at most one IPv6 address.
@@ -47,12 +48,14 @@ pub fn no_text_names_both()
 
 /// The canonical text of an IPv6 address names it.
 pub fn canonical_v6_names_its_address()
-    ensures { (text : List ℕ) (address : ℕ) → address < 2 ^ 128 → IsCanonicalV6 text address → NamesV6 text address }
+    ensures { (text : List ℕ) (address : ℕ) → address < 2 ^ 128 → IsCanonicalV6 text address
+        → NamesV6 text address }
 {}
 
 /// An IPv6 address has exactly one canonical text.
 pub fn canonical_v6_is_one_text()
-    ensures { (text : List ℕ) (address : ℕ) → IsCanonicalV6 text address ↔ (text ≡ canonical_v6 address) }
+    ensures { (text : List ℕ) (address : ℕ) → IsCanonicalV6 text address
+        ↔ (text ≡ canonical_v6 address) }
 {}
 
 /// Two IPv6 addresses are equal exactly if their canonical texts are.
@@ -62,7 +65,8 @@ pub fn canonical_v6_is_one_to_one()
 
 /// Each byte of an IPv6 text is a byte of addresses: a hex digit, `.` or `:`.
 pub fn v6_text_bytes()
-    ensures { (text : List ℕ) (address : ℕ) → NamesV6 text address → AllByRecursion IsAddressByte text }
+    ensures { (text : List ℕ) (address : ℕ) → NamesV6 text address
+        → AllByRecursion IsAddressByte text }
 {}
 
 /// A text names at most one address of either family.
@@ -82,10 +86,12 @@ pub fn canonical_ip_is_one_to_one()
 
 /// In an IPv4 text, whatever follows it, a dot comes before any colon.
 pub fn v4_text_has_a_dot_first()
-    ensures { (text rest : List ℕ) (address : ℕ) → NamesV4 text address → colon_first (text ++ rest) ≡ false }
+    ensures { (text rest : List ℕ) (address : ℕ) → NamesV4 text address
+        → colon_first (text ++ rest) ≡ false }
 {}
 
 /// In an IPv6 text, whatever follows it, a colon comes before any dot.
 pub fn v6_text_has_a_colon_first()
-    ensures { (text rest : List ℕ) (address : ℕ) → NamesV6 text address → colon_first (text ++ rest) ≡ true }
+    ensures { (text rest : List ℕ) (address : ℕ) → NamesV6 text address
+        → colon_first (text ++ rest) ≡ true }
 {}

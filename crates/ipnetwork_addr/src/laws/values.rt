@@ -55,8 +55,8 @@ pub fn v6_order(a: Ipv6Addr, b: Ipv6Addr) -> (bool, bool, Ordering)
     (a < b, a <= b, a.cmp(&b))
 }
 
-/// `<`, `<=` and `cmp` put each IPv4 address before each IPv6 address, and compare two of one family
-/// by their numbers.
+/// `<`, `<=` and `cmp` put each IPv4 address before each IPv6 address, and compare two of one
+/// family by their numbers.
 pub fn ip_order(a: IpAddr, b: IpAddr) -> (bool, bool, Ordering)
     ensures less { IsTrue result.0 ↔ IsAddrBefore a b }
     ensures at_most { IsTrue result.1 ↔ IsAddrAtMost a b }
@@ -65,8 +65,8 @@ pub fn ip_order(a: IpAddr, b: IpAddr) -> (bool, bool, Ordering)
     (a < b, a <= b, a.cmp(&b))
 }
 
-/// An IPv4 address is hashed as its number is, so that equal addresses take two hashers in the same state to the same
-/// state.
+/// An IPv4 address is hashed as its number is, so that equal addresses take two hashers in the same
+/// state to the same state.
 pub fn v4_hash<H: Hasher>(a: Ipv4Addr, b: Ipv4Addr, first: &mut H, second: &mut H)
     ensures fed { first.new ≡ fold H.write first.old (writes.u32 a) }
     ensures alike { a ≡ b → first.old ≡ second.old → first.new ≡ second.new }
@@ -75,8 +75,8 @@ pub fn v4_hash<H: Hasher>(a: Ipv4Addr, b: Ipv4Addr, first: &mut H, second: &mut 
     b.hash(second);
 }
 
-/// An IPv6 address is hashed as its number is, so that equal addresses take two hashers in the same state to the same
-/// state.
+/// An IPv6 address is hashed as its number is, so that equal addresses take two hashers in the same
+/// state to the same state.
 pub fn v6_hash<H: Hasher>(a: Ipv6Addr, b: Ipv6Addr, first: &mut H, second: &mut H)
     ensures fed { first.new ≡ fold H.write first.old (writes.u128 a) }
     ensures alike { a ≡ b → first.old ≡ second.old → first.new ≡ second.new }
@@ -85,8 +85,8 @@ pub fn v6_hash<H: Hasher>(a: Ipv6Addr, b: Ipv6Addr, first: &mut H, second: &mut 
     b.hash(second);
 }
 
-/// An address of either family is hashed as its family and then its number, so that equal addresses take two hashers in
-/// the same state to the same state.
+/// An address of either family is hashed as its family and then its number, so that equal addresses
+/// take two hashers in the same state to the same state.
 pub fn ip_hash<H: Hasher>(a: IpAddr, b: IpAddr, first: &mut H, second: &mut H)
     ensures fed { first.new ≡ fold H.write first.old (ip_writes a) }
     ensures alike { a ≡ b → first.old ≡ second.old → first.new ≡ second.new }

@@ -12,5 +12,5 @@ pub returns : goal.returns
 returns c = go
   where
     go : (n : IpNetwork) → IsIpNetwork n → compact_text (string (ip_network_text n)) ≡ in_quotes (ip_network_text n)
-    go (V4 n) h = c.v4_network_stands_in_quotes.ensures n h
-    go (V6 n) h = c.v6_network_stands_in_quotes.ensures n h
+    go (V4 n) h = c.network_stands_in_quotes.ensures n h
+    go (V6 n) h = c.network_stands_in_quotes-2.ensures n h

@@ -8,5 +8,5 @@ pub returns : goal.returns
 returns c = go
   where
     go : (n : IpNetwork) → IsIpNetwork n → NamesIpNetwork (ip_network_text n) n
-    go (V4 n) h = c.canonical_v4_network_names_it.ensures n h
-    go (V6 n) h = c.canonical_v6_network_names_it.ensures n h
+    go (V4 n) h = c.canonical_network_names_it.ensures n h
+    go (V6 n) h = c.canonical_network_names_it-2.ensures n h

@@ -1,0 +1,7 @@
+use Rattle.ipnetwork_family.proofs.CanonicalNetworks.{v4_clear}
+use Rattle.ipnetwork_family.proofs.ipv4.Ipv4AddrAddress.texts_are_clear.Goals as goal
+
+pub returns : goal.returns
+returns c =
+    v4_clear c.v4_text_is_computed.ensures c.v4_text_bytes.ensures
+    c.canonical_v4_names_its_address.ensures

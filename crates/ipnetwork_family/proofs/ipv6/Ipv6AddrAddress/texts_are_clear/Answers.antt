@@ -1,0 +1,7 @@
+use Rattle.ipnetwork_family.proofs.CanonicalNetworks.{v6_clear}
+use Rattle.ipnetwork_family.proofs.ipv6.Ipv6AddrAddress.texts_are_clear.Goals as goal
+
+pub returns : goal.returns
+returns c =
+    v6_clear c.v6_text_is_computed.ensures c.v6_text_bytes.ensures
+    c.canonical_v6_names_its_address.ensures c.canonical_v6_is_one_text.ensures

@@ -1,0 +1,14 @@
+use Rattle.ipnetwork_family.specs.Family.{NamesNetworkOf, text_of}
+use Rattle.ipnetwork_family.specs.NetworkText.{IsCause}
+use Rattle.ipnetwork_family.proofs.CanonicalNetworks.{canonical_names}
+use Rattle.ipnetwork_family.proofs.ComputedNetworks.{names_one}
+use Rattle.ipnetwork_family.proofs.JsonTexts.{value_reads_back}
+use Rattle.ipnetwork_family.proofs.laws.json_texts.network_value_reads_back.Goals as goal
+
+pub returns : goal.returns
+returns g c n result h =
+    let family = g.A.Address.family in
+    let clear = c.texts_are_clear.ensures in
+    let text = text_of family n in
+    value_reads_back (NamesNetworkOf family) (IsCause family.NamesAddress family.IsSuffix)
+    family.refusal text (names_one family clear text) n result (canonical_names family clear n h)
