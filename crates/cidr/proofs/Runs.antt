@@ -6,11 +6,12 @@ use Rattle.std.specs.Io.KnownBytes.{Appends, Consumes, Keeps}
 use Rattle.std.specs.Prelude.{Option, Result, Ok, Err, IsOkUnless}
 use Rattle.std.specs.Str.Lines.{lines}
 use Rattle.ipnetwork_table.specs.Laws.{AnswerIsComputed}
+use Rattle.line_engine.proofs.FirstLines.{handed, first_still, are_all}
 use Rattle.line_engine.proofs.HandingOut.{has_no}
 use Rattle.line_engine.proofs.Lines.{begins_longer, begins_after, begins_with_nothing, first_are_complete}
 use Rattle.line_engine.proofs.Putting.{puts_nothing, puts_more, puts_out, puts_waiting}
 use Rattle.line_engine.specs.Answers.{complete_part, IsBeginning}
-use Rattle.line_engine.specs.LineBuffers.{Buffered, IsPending, IsFirstLine, HandsOut, Gives, Receives, work}
+use Rattle.line_engine.specs.LineBuffers.{Buffered, AreFirst, IsPending, IsFirstLine, HandsOut, Gives, Receives, work}
 use Rattle.line_engine.specs.Outputs.{AppendsBeginning, Puts}
 use Rattle.line_engine.specs.declared.fault.RunFault.{RunFault}
 use Rattle.line_engine.specs.declared.fault.RunFault.TheVariants.{Read, Write, InputTooLong}
@@ -18,7 +19,7 @@ use Rattle.line_engine.specs.declared.line_buffer.NextLine.TheVariants.{Line, To
 use Rattle.line_engine.specs.declared.line_end.LineEnd.{LineEnd}
 use Rattle.line_engine.specs.declared.line_end.LineEnd.TheVariants.{LineFeed, ReturnAndLineFeed, EndOfInput}
 use Rattle.cidr.specs.Output.{MayGet, MayAnswer, IsOutput, reply, replies}
-use Rattle.cidr.specs.Private.Progress.{Standing, begun, Answered, FailsWithin, FirstMayAnswer, AreFirst, RunSoFar}
+use Rattle.cidr.specs.Private.Progress.{Standing, begun, Answered, FailsWithin, FirstMayAnswer, RunSoFar}
 use Rattle.cidr.specs.Requests.{request_of}
 use Rattle.cidr.specs.Routes.{Routes, no_routes}
 use Rattle.cidr.specs.Run.{Ran}
@@ -85,36 +86,6 @@ fails_behind a b holds ls f keeps = record {
   turns = first_of_all LineMayGet a.routes b.routes ls f.answers f.turns;
   took = (f.puts.0, Appends-kept _ _ _ _ f.puts.1 keeps, (b.waits, f.puts.2));
 }
-
--- ---- the first lines of what was read
-
-first_line : (end : LineEnd) (ended : Bool) (read : List ℕ) (asks : List (List ℕ)) (pending line after : List ℕ)
-    → AreFirst ended read asks pending → IsFirstLine end ended pending line after → AreFirst ended read (asks ++ line ∷ []) after
-first_line LineFeed ended read asks pending line after h k =
-    λ more e. h more e ∙ ap (λ l. asks ++ l) (k more) ∙ sym (append_assoc asks (line ∷ []) (lines (after ++ more)))
-first_line ReturnAndLineFeed ended read asks pending line after h k =
-    λ more e. h more e ∙ ap (λ l. asks ++ l) (k more) ∙ sym (append_assoc asks (line ∷ []) (lines (after ++ more)))
-first_line EndOfInput ended read asks pending line after h k =
-    λ more e.
-    let nothing : more ≡ [] = e k.0 in
-    let none : lines (after ++ []) ≡ [] = ap (λ l. lines (l ++ [])) k.1 in
-    let last : lines (pending ++ []) ≡ line ∷ [] = ap lines (append-nil pending) ∙ k.2 in
-    subst (λ l. lines (read ++ l) ≡ (asks ++ line ∷ []) ++ lines (after ++ l)) (sym nothing)
-    (h [] (λ f. refl) ∙ ap (λ l. asks ++ l) last ∙ sym (append-nil (asks ++ line ∷ [])) ∙ ap (λ l. (asks ++ line ∷ []) ++ l) (sym none))
-
--- a line that was handed out is the next one
-handed : (old new : Buffered) (read : List ℕ) (asks : List (List ℕ)) (pending line : List ℕ) (end : LineEnd) → AreFirst old.ended read asks pending → new.ended ≡ old.ended
-    → (h : HandsOut new pending line end) → AreFirst new.ended read (asks ++ line ∷ []) h.after
-handed old new read asks pending line end first same h =
-    first_line end new.ended read asks pending line h.after (subst (λ e. AreFirst e read asks pending) (sym same) first) h.first
-
-first_still : (ended : Bool) (read : List ℕ) (asks : List (List ℕ)) (pending chunk : List ℕ) → AreFirst false read asks pending → AreFirst ended (read ++ chunk) asks (pending ++ chunk)
-first_still ended read asks pending chunk h =
-    λ more e. ap lines (append_assoc read chunk more) ∙ h (chunk ++ more) (λ f. absurd (true≢false (sym f))) ∙ ap (λ l. asks ++ lines l) (sym (append_assoc pending chunk more))
-
--- so far they are all lines
-are_all : (ended : Bool) (read : List ℕ) (asks : List (List ℕ)) (pending : List ℕ) → AreFirst ended read asks pending → lines read ≡ asks ++ lines pending
-are_all ended read asks pending h = ap lines (sym (append-nil read)) ∙ h [] (λ f. refl) ∙ ap (λ l. asks ++ lines l) (append-nil pending)
 
 nothing_read : (count : ℕ) → (count == 0) ≡ true → count ≡ 0
 nothing_read count e = elim (eqb_tells count 0) [

@@ -1,4 +1,5 @@
 pub mod BytesLemmas
+pub mod FirstLines
 pub mod HandingOut
 mod LineExamples
 pub mod Lines

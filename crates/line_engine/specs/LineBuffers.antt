@@ -58,6 +58,10 @@ pub record HandsOut (held : Buffered) (pending line : List ℕ) (end : LineEnd) 
   pub bytes : pending ≡ line ++ end_bytes end ++ after
   pub first : IsFirstLine end held.ended pending line after
 
+-- these lines, and then those of the pending bytes, are the lines of what was read, whatever is read after it
+abbrev pub AreFirst : Bool → List ℕ → List (List ℕ) → List ℕ → Type 0
+AreFirst ended read first pending = (more : List ℕ) → (ended ≡ true → more ≡ []) → lines (read ++ more) ≡ first ++ lines (pending ++ more)
+
 -- what `next` hands out of the pending bytes, by what it returns
 abbrev pub Gives : Buffered → List ℕ → NextLine → Type 0
 -- a line within the limit, which the buffer lends

@@ -6,29 +6,26 @@ use Rattle.std.specs.Io.KnownBytes.{Consumes, Keeps, IsAtEnd}
 use Rattle.std.specs.Prelude.{Bool, Option, None, Some, nat_lt}
 use Rattle.std.specs.Str.Lines.{lines}
 use Rattle.line_engine.specs.Answers.{asked, complete_part}
-use Rattle.line_engine.specs.LineBuffers.{Buffered, waits, HasNoFeed, IsPending, IsFirstLine, Gives}
+use Rattle.line_engine.specs.LineBuffers.{Buffered, waits, HasNoFeed, IsPending, AreFirst, IsFirstLine, Gives}
 use Rattle.line_engine.specs.declared.fault.RunFault.TheVariants.{Read, InputTooLong}
 use Rattle.line_engine.specs.declared.line_buffer.NextLine.TheVariants.{Line, TooLong, Ask, End}
 use Rattle.line_engine.specs.declared.line_end.LineEnd.{LineEnd}
-use Rattle.line_engine.specs.declared.line_end.LineEnd.TheVariants.{LineFeed, ReturnAndLineFeed, EndOfInput}
+use Rattle.line_engine.proofs.FirstLines.{next_first, first_still, are_all}
 use Rattle.line_engine.proofs.HandingOut.{has_no}
 use Rattle.line_engine.proofs.Lines.{last_line, lines_last, first_are_complete}
 use Rattle.lists.specs.Lists.{ReadLists, Takes, TakesLines}
-use Rattle.lists.specs.Private.Waiting.{Leaves, TakesSome, HasNoLine, TakesWhole}
+use Rattle.lists.specs.Private.Waiting.{TakesSome, HasNoLine, TakesWhole}
 use Rattle.lists.specs.Stopped.{TakesBefore}
 
 -- ---- lists of lines
-
-one_more : (taken : List (List ℕ)) (line : List ℕ) (others : List (List ℕ)) → taken ++ line ∷ others ≡ (taken ++ line ∷ []) ++ others
-one_more taken line others = sym (append_assoc taken (line ∷ []) others)
 
 lines_nothing : lines [] ≡ []
 unfolding last_line
 lines_nothing = lines_last [] tt
 
 -- the lines before pending bytes that have no line feed are those that are complete
-pub complete_lines : (read : List ℕ) (taken : List (List ℕ)) (pending : List ℕ) → HasNoFeed pending → Leaves false read taken pending → lines (complete_part read) ≡ taken
-complete_lines read taken pending none leaves = first_are_complete read taken pending (has_no pending none) (leaves (10 ∷ []))
+pub complete_lines : (read : List ℕ) (taken : List (List ℕ)) (pending : List ℕ) → HasNoFeed pending → AreFirst false read taken pending → lines (complete_part read) ≡ taken
+complete_lines read taken pending none leaves = first_are_complete read taken pending (has_no pending none) (leaves (10 ∷ []) (λ e. absurd (true≢false (sym e))))
 
 -- ---- lines that are taken
 
@@ -51,22 +48,8 @@ asked_long line long false e = absurd (let short = ltb-false 1024 (length line) 
 
 -- ---- one line
 
-leaves_feed : (ended : Bool) (pending : List ℕ) (taken : List (List ℕ)) (now line after : List ℕ)
-    → Leaves ended pending taken now → ((rest : List ℕ) → lines (now ++ rest) ≡ line ∷ lines (after ++ rest)) → Leaves ended pending (taken ++ line ∷ []) after
-leaves_feed false pending taken now line after h f = λ more. h more ∙ ap (λ ls. taken ++ ls) (f more) ∙ one_more taken line (lines (after ++ more))
-leaves_feed true pending taken now line after h f =
-    h ∙ ap (λ ls. taken ++ ls) (ap lines (sym (append-nil now)) ∙ f [] ∙ ap (λ l. line ∷ lines l) (append-nil after)) ∙ one_more taken line (lines after)
-
-leaves_line : (end : LineEnd) (ended : Bool) (pending : List ℕ) (taken : List (List ℕ)) (now line after : List ℕ)
-    → Leaves ended pending taken now → IsFirstLine end ended now line after → Leaves ended pending (taken ++ line ∷ []) after
-leaves_line LineFeed ended pending taken now line after h f = leaves_feed ended pending taken now line after h f
-leaves_line ReturnAndLineFeed ended pending taken now line after h f = leaves_feed ended pending taken now line after h f
-leaves_line EndOfInput false pending taken now line after h f = absurd (true≢false (sym f.0))
-leaves_line EndOfInput true pending taken now line after h f =
-    h ∙ ap (λ ls. taken ++ ls) f.2 ∙ sym (append-nil (taken ++ line ∷ [])) ∙ ap (λ ls. (taken ++ line ∷ []) ++ ls) (sym (ap lines f.1 ∙ lines_nothing))
-
 pub takes_none : (held : Buffered) (lists : ReadLists) (pending : List ℕ) → IsPending held pending → TakesSome held lists lists pending
-takes_none held lists pending h = record { taken = []; now = pending; holds = h; leaves = elim held.ended as (λ v. Leaves v pending [] pending) [ false ↦ λ more. refl | true ↦ refl ]; takes = refl }
+takes_none held lists pending h = record { taken = []; now = pending; holds = h; leaves = λ more e. refl; takes = refl }
 
 some_more : (old new : Buffered) (before between after : ReadLists) (pending line rest : List ℕ) (end : LineEnd) → (s : TakesSome old before between pending)
     → IsPending new rest → IsFirstLine end new.ended s.now line rest → new.ended ≡ old.ended → Takes between (asked 1024 line) after → TakesSome new before after pending
@@ -74,7 +57,7 @@ some_more old new before between after pending line rest end s holds first same 
   taken = s.taken ++ line ∷ [];
   now = rest;
   holds = holds;
-  leaves = leaves_line end new.ended pending s.taken s.now line rest (subst (λ e. Leaves e pending s.taken s.now) (sym same) s.leaves) first;
+  leaves = next_first end new.ended pending s.taken s.now line rest (subst (λ e. AreFirst e pending s.taken s.now) (sym same) s.leaves) first;
   takes = takes_both before between after s.taken (line ∷ []) s.takes (after, took, refl);
 }
 
@@ -104,7 +87,7 @@ pub takes_whole : (old new : Buffered) (before after : ReadLists) (pending : Lis
 takes_whole old new before after pending s gives same =
     let given = gives s.now s.holds in
     record {
-      some = record { taken = s.taken; now = s.now; holds = given.0; leaves = subst (λ e. Leaves e pending s.taken s.now) (sym same) s.leaves; takes = s.takes };
+      some = record { taken = s.taken; now = s.now; holds = given.0; leaves = subst (λ e. AreFirst e pending s.taken s.now) (sym same) s.leaves; takes = s.takes };
       idle = subst (λ e. HasNoLine e new s.now) (sym given.3) (given.1, given.2);
     }
 
@@ -113,7 +96,7 @@ pub takes_all : (old new : Buffered) (before after : ReadLists) (pending : List 
 takes_all old new before after pending s gives same =
     let given = gives s.now s.holds in
     record {
-      some = record { taken = s.taken; now = []; holds = given.1; leaves = subst (λ e. Leaves e pending s.taken []) (sym same) (subst (λ l. Leaves old.ended pending s.taken l) given.0 s.leaves); takes = s.takes };
+      some = record { taken = s.taken; now = []; holds = given.1; leaves = subst (λ e. AreFirst e pending s.taken []) (sym same) (subst (λ l. AreFirst old.ended pending s.taken l) given.0 s.leaves); takes = s.takes };
       idle = subst (λ e. HasNoLine e new []) (sym given.2) refl;
     }
 
@@ -128,7 +111,7 @@ pub record TakesSoFar (left rest : Option (List ℕ)) (held : Buffered) (start n
   pub holds : IsPending held pending
   pub none : HasNoFeed pending
   pub taken : List (List ℕ)
-  pub leaves : Leaves false read taken pending
+  pub leaves : AreFirst false read taken pending
   pub takes : TakesLines start taken now
 
 no_feed : HasNoFeed []
@@ -143,17 +126,12 @@ takes_begins left held start now begun holds = record {
   holds = holds;
   none = no_feed;
   taken = [];
-  leaves = λ more. refl;
+  leaves = λ more e. refl;
   takes = begun;
 }
 
--- what was pending, with the bytes of one more read behind it
-grown : (read chunk pending : List ℕ) (taken : List (List ℕ)) → Leaves false read taken pending → Leaves false (read ++ chunk) taken (pending ++ chunk)
-grown read chunk pending taken h = λ more.
-    ap lines (append_assoc read chunk more) ∙ h (chunk ++ more) ∙ ap (λ l. taken ++ lines l) (sym (append_assoc pending chunk more))
-
-joined : (read pending now : List ℕ) (taken more : List (List ℕ)) → Leaves false read taken pending → Leaves false pending more now → Leaves false read (taken ++ more) now
-joined read pending now taken more h k = λ rest. h rest ∙ ap (λ ls. taken ++ ls) (k rest) ∙ sym (append_assoc taken more (lines (now ++ rest)))
+joined : (read pending now : List ℕ) (taken more : List (List ℕ)) → AreFirst false read taken pending → AreFirst false pending more now → AreFirst false read (taken ++ more) now
+joined read pending now taken more h k = λ rest e. h rest e ∙ ap (λ ls. taken ++ ls) (k rest e) ∙ sym (append_assoc taken more (lines (now ++ rest)))
 
 pub goes_idle : (left between : Option (List ℕ)) (old mid new : Buffered) (start before after : ReadLists) (room : ℕ) → TakesSoFar left between old start before room
     → (chunk : List ℕ) → ((pending : List ℕ) → IsPending old pending → IsPending mid (pending ++ chunk))
@@ -177,8 +155,8 @@ goes_on left between rest old mid new start before after room less count s chunk
       holds = some.holds;
       none = idle.0;
       taken = s.taken ++ some.taken;
-      leaves = joined (s.read ++ chunk) (s.pending ++ chunk) some.now s.taken some.taken (grown s.read chunk s.pending s.taken s.leaves)
-          (subst (λ e. Leaves e (s.pending ++ chunk) some.taken some.now) going some.leaves);
+      leaves = joined (s.read ++ chunk) (s.pending ++ chunk) some.now s.taken some.taken (first_still false s.read s.taken s.pending chunk s.leaves)
+          (subst (λ e. AreFirst e (s.pending ++ chunk) some.taken some.now) going some.leaves);
       takes = takes_both start before after s.taken some.taken s.takes some.takes;
     }
 
@@ -225,9 +203,9 @@ ends left between rest old mid new start before after room s chunk consumed at_e
     let some = whole.some in
     let read = s.read ++ chunk in
     let nothing : some.now ≡ [] = subst (λ e. HasNoLine e new some.now) ended whole.idle in
-    let rest_of : lines (s.pending ++ chunk) ≡ some.taken ++ lines some.now = subst (λ e. Leaves e (s.pending ++ chunk) some.taken some.now) ended some.leaves in
+    let rest_of : lines (s.pending ++ chunk) ≡ some.taken ++ lines some.now = are_all new.ended (s.pending ++ chunk) some.taken some.now some.leaves in
     let cut : lines read ≡ s.taken ++ some.taken =
-    ap lines (sym (append-nil read)) ∙ grown s.read chunk s.pending s.taken s.leaves [] ∙ ap (λ l. s.taken ++ lines l) (append-nil (s.pending ++ chunk))
+    are_all false read s.taken (s.pending ++ chunk) (first_still false s.read s.taken s.pending chunk s.leaves)
     ∙ ap (λ ls. s.taken ++ ls) (rest_of ∙ ap (λ l. some.taken ++ lines l) nothing ∙ ap (λ ls. some.taken ++ ls) lines_nothing ∙ append-nil some.taken) in
     let all : input ≡ read = whole_input left rest input read is (Consumes-trans left between rest s.read chunk s.consumed consumed) at_end in
     subst (λ ls. TakesLines start ls after) (sym (ap lines all ∙ cut)) (takes_both start before after s.taken some.taken s.takes some.takes)
@@ -237,5 +215,5 @@ pub runs_out : (left rest : Option (List ℕ)) (held : Buffered) (start now : Re
     → (input : List ℕ) → left ≡ Some input → TakesLines start (lines input) now
 runs_out left rest held start now room s out input is =
     let others = others_of left rest input s.read is s.consumed in
-    subst (λ ls. TakesLines start ls now) (sym (ap lines others.1 ∙ s.leaves others.0))
+    subst (λ ls. TakesLines start ls now) (sym (ap lines others.1 ∙ s.leaves others.0 (λ e. absurd (true≢false (sym e)))))
     (takes_both start now now s.taken (lines (s.pending ++ others.0)) s.takes (takes_nothing now (lines (s.pending ++ others.0)) out))

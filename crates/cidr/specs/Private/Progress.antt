@@ -2,7 +2,7 @@
 use Rattle.std.specs.Prelude.{◌≡◌, ℕ, ◌+◌, Bool, true, List, [], ◌++◌, length, Option}
 use Rattle.std.specs.Io.KnownBytes.{Consumes, IsAtEnd}
 use Rattle.std.specs.Str.Lines.{lines}
-use Rattle.line_engine.specs.LineBuffers.{Buffered, IsPending}
+use Rattle.line_engine.specs.LineBuffers.{Buffered, IsPending, AreFirst}
 use Rattle.line_engine.specs.Outputs.{AppendsBeginning, Puts}
 use Rattle.cidr.specs.declared.answering.Answering.{Answering}
 use Rattle.cidr.specs.Output.{MayGet, MayAnswer, replies}
@@ -41,10 +41,6 @@ pub record FailsWithin (from : Standing) (holds : Option (List ℕ)) (asks : Lis
   pub answers : List (List ℕ)
   pub turns : FirstMayAnswer from.routes asks answers
   pub took : AppendsBeginning from.holds holds (from.waits ++ replies answers)
-
--- these lines, and then those of what is pending, are the lines of what was read, whatever is read after it
-abbrev pub AreFirst : Bool → List ℕ → List (List ℕ) → List ℕ → Type 0
-AreFirst ended read asks pending = (more : List ℕ) → (ended ≡ true → more ≡ []) → lines (read ++ more) ≡ asks ++ lines (pending ++ more)
 
 -- what was read, within a limit of which there is room for so many more bytes: its first lines got answers, and what
 -- follows them is pending
