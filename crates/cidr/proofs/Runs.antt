@@ -1,5 +1,5 @@
 -- How a run goes on from line to line, and how it ends.
-use Rattle.std.proofs.Common.{◌≡◌, ℕ, ◌+◌, ◌-◌, ◌*◌, ◌<◌, ◌≤◌, ◌==◌, inl, inr, Bool, true, false, if◌then◌else◌, List, [], ◌∷◌, ◌++◌, length, take, refl, sym, ap, ◌∙◌, subst, true≢false, arith, append-nil, append_assoc, length-append, length-take, length-drop}
+use Rattle.std.proofs.Common.{◌≡◌, ℕ, ◌+◌, ◌-◌, ◌*◌, ◌<◌, ◌≤◌, ◌==◌, inl, inr, true, false, if◌then◌else◌, List, [], ◌∷◌, ◌++◌, length, take, refl, sym, ap, ◌∙◌, subst, true≢false, arith, append-nil, append_assoc, length-append, length-take, length-drop}
 use Rattle.std.proofs.KnownBytes.{Appends-nil, Appends-trans, Appends-kept, Consumes-nil, Consumes-trans, Consumes-kept}
 use Rattle.std.proofs.lemmas.Bool.Decides.{eqb_tells}
 use Rattle.std.specs.Io.KnownBytes.{Appends, Consumes, Keeps}
@@ -11,13 +11,12 @@ use Rattle.line_engine.proofs.HandingOut.{has_no}
 use Rattle.line_engine.proofs.Lines.{begins_longer, begins_after, begins_with_nothing, first_are_complete}
 use Rattle.line_engine.proofs.Putting.{puts_nothing, puts_more, puts_out, puts_waiting}
 use Rattle.line_engine.specs.Answers.{complete_part, IsBeginning}
-use Rattle.line_engine.specs.LineBuffers.{Buffered, AreFirst, IsPending, IsFirstLine, HandsOut, Gives, Receives, work}
+use Rattle.line_engine.specs.LineBuffers.{Buffered, AreFirst, IsPending, HandsOut, Gives, Receives, work}
 use Rattle.line_engine.specs.Outputs.{AppendsBeginning, Puts}
 use Rattle.line_engine.specs.declared.fault.RunFault.{RunFault}
 use Rattle.line_engine.specs.declared.fault.RunFault.TheVariants.{Read, Write, InputTooLong}
 use Rattle.line_engine.specs.declared.line_buffer.NextLine.TheVariants.{Line, TooLong, Ask, End}
 use Rattle.line_engine.specs.declared.line_end.LineEnd.{LineEnd}
-use Rattle.line_engine.specs.declared.line_end.LineEnd.TheVariants.{LineFeed, ReturnAndLineFeed, EndOfInput}
 use Rattle.cidr.specs.Output.{MayGet, MayAnswer, IsOutput, reply, replies}
 use Rattle.cidr.specs.Private.Progress.{Standing, begun, Answered, FailsWithin, FirstMayAnswer, RunSoFar}
 use Rattle.cidr.specs.Requests.{request_of}

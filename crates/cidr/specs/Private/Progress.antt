@@ -1,7 +1,6 @@
 -- How far a run has come.
-use Rattle.std.specs.Prelude.{◌≡◌, ℕ, ◌+◌, Bool, true, List, [], ◌++◌, length, Option}
+use Rattle.std.specs.Prelude.{◌≡◌, ℕ, ◌+◌, true, List, [], ◌++◌, length, Option}
 use Rattle.std.specs.Io.KnownBytes.{Consumes, IsAtEnd}
-use Rattle.std.specs.Str.Lines.{lines}
 use Rattle.line_engine.specs.LineBuffers.{Buffered, IsPending, AreFirst}
 use Rattle.line_engine.specs.Outputs.{AppendsBeginning, Puts}
 use Rattle.cidr.specs.declared.answering.Answering.{Answering}
