@@ -41,10 +41,6 @@ ranges_of w blocks set ranges same h = record {
   apart = h.apart;
 }
 
-pub ranges_by : (operation other : Operation) → operation ≡ other → (w : ℕ) (first second : List Network) (ranges : List (ℕ × ℕ)) → IsRangeList (IsLeft other w first second) ranges
-    → IsRangeList (IsLeft operation w first second) ranges
-ranges_by operation other e w first second ranges h = subst (λ (o : Operation). IsRangeList (IsLeft o w first second) ranges) (sym e) h
-
 no_ranges : IsRangeList (λ x. ⊥) []
 no_ranges = record {
   addresses = λ x. ((λ i. contains_nil i.0 i.1), (λ n. absurd n));

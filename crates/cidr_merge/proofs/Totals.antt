@@ -17,6 +17,7 @@ use Rattle.cidr_merge.specs.declared.command_line.Operation.{Operation}
 pub adds_up : (w : ℕ) (set : ℕ → Type 0) (blocks : List Network) → IsLeastList w set blocks → ((x : ℕ) → InUnion w blocks x ↔ set x) → SetHasFewerBlocks
     → HasCount set (total w blocks) → total w blocks ≤ 2 ^ w → AddUp w set blocks
 adds_up w set blocks h same fewer count within = record {
+  addresses = same;
   count = count;
   within = within;
   fewer = λ bits. fewer w blocks bits (least_of_same w set (InUnion w blocks) blocks (λ x. ((same x).1, (same x).0)) h);

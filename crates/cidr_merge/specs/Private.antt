@@ -1,5 +1,4 @@
 -- What the private functions promise each other, and how contracts see private fields.
-pub mod Ranges
 pub mod Sweeps
 pub mod Totals
 pub mod Words

@@ -9,7 +9,7 @@ use arrayvec::ArrayString;
 use ipnetwork::CidrNetwork;
 use ipnetwork_addr::decimal::push_number;
 use ipnetwork_blocks::AddressSpace;
-use ipnetwork_sets::AddressCount;
+use ipnetwork_sets::{AddressCount, SetBlocks};
 
 /// How many blocks there are, and how many addresses they have.
 #[derive(Clone, Copy, Debug)]
@@ -21,12 +21,12 @@ pub(crate) struct Counts {
 impl Counts {
     /// The counts of these blocks.
     pub(crate) fn of<N: AddressSpace>(mut blocks: Sweep<'_, N>) -> Counts
-        ensures blocks { result.blocks ≡ min (length (blocks_left N.pair blocks.entry)) (2 ^ 128 - 1) }
-        ensures addresses { count_number result.addresses ≡ min (total N.WIDTH (blocks_left N.pair blocks.entry)) (2 ^ 128) }
+        ensures blocks { result.blocks ≡ min (length (blocks_left blocks.entry)) (2 ^ 128 - 1) }
+        ensures addresses { count_number result.addresses ≡ min (total N.WIDTH (blocks_left blocks.entry)) (2 ^ 128) }
     {
         let mut count = 0u128;
         let mut addresses = AddressCount::ZERO;
-        while let Some(block) = blocks.next() {
+        while let Some(block) = blocks.next_block() {
             count = count.saturating_add(1);
             addresses = addresses.add_block(block);
         }

@@ -1,16 +1,18 @@
 //! Prints the answer.
 ghost use Rattle.std.specs.Prelude.{◌≡◌, ◌≤◌, ◌++◌, ◌∷◌, ◌||◌, [], ℕ, List, OnOk, is_err};
-ghost use Rattle.cidr_merge.specs.Answers.{sign_of, block_line, range_line, AreBlockLines, AreRangeLines, IsCountLine, AreCountsLeft, AreCounts, IsAnswer, IsLeft};
+ghost use Rattle.std.specs.List.{flat_map};
+ghost use Rattle.cidr_merge.specs.Answers.{sign_of, merged_by, AreBlockLines, AreRangeLines, IsCountLine, AreCountsLeft, AreCounts, IsAnswer, IsLeft};
+ghost use Rattle.cidr_merge.specs.Private.Sweeps.{left_of_second};
 ghost use Rattle.line_engine.specs.Outputs.{writer_of, waits_in, output_failed, Puts};
 
 use crate::command_line::{Form, Operation};
 use crate::counts::Counts;
-use crate::range_sides::RangeSides;
 use crate::reading::Sets;
+use crate::side_parts::{Parts, sign_of};
 use crate::sides::{Side, Sides};
 use crate::sweep::Sweep;
 use ipnetwork::{Address, Network};
-use ipnetwork_sets::AddressSet;
+use ipnetwork_sets::{AddressSet, Ranges};
 use line_engine::fault::RunFault;
 use line_engine::output::Output;
 use std::io::Write;
@@ -51,40 +53,9 @@ fn print_blocks<A: Address, W: Write>(
         × Puts (W.contents (writer_of output.old)) (waits_in output.old) (W.contents (writer_of output.new)) (waits_in output.new) text) }
     ensures failed { output_failed output.new ≡ (output_failed output.old || is_err result) }
 {
-    let mut blocks = Sides::left(operation, first, second);
-    while let Some(next) = blocks.next() {
-        put_block(operation, next.0, next.1, output)?;
-    }
-    Ok(())
-}
-
-// Prints a block.
-fn put_block<A: Address, W: Write>(
-    operation: Operation,
-    side: Side,
-    block: Network<A>,
-    output: &mut Output<'_, W>,
-) -> Result<(), RunFault>
-    ensures text { OnOk result (Puts (W.contents (writer_of output.old)) (waits_in output.old) (W.contents (writer_of output.new)) (waits_in output.new)
-        (block_line operation A.family (record { side = side; part = block }))) }
-    ensures failed { output_failed output.new ≡ (output_failed output.old || is_err result) }
-{
-    output.put(sign_of(operation, side).as_bytes())?;
-    output.put(block.canonical().as_str().as_bytes())?;
-    output.put(b"\n")
-}
-
-// What stands before a block or a run of a side.
-fn sign_of(operation: Operation, side: Side) -> &'static str
-    ensures { result.now ≡ sign_of operation side }
-{
-    match operation {
-        Operation::Differ => match side {
-            Side::First => "< ",
-            Side::Second => "> ",
-        },
-        _ => "",
-    }
+    let firsts = Sweep::of(operation, first, second);
+    let seconds = Sweep::of(Operation::Minus, second, first);
+    print_parts(operation, firsts, seconds, output)
 }
 
 // Prints the ranges that the operation leaves of two sets of one family.
@@ -98,29 +69,27 @@ fn print_ranges<A: Address, W: Write>(
         × Puts (W.contents (writer_of output.old)) (waits_in output.old) (W.contents (writer_of output.new)) (waits_in output.new) text) }
     ensures failed { output_failed output.new ≡ (output_failed output.old || is_err result) }
 {
-    let mut ranges = RangeSides::left(operation, first, second);
-    while let Some(next) = ranges.next() {
-        put_range(operation, next.0, next.1, output)?;
-    }
-    Ok(())
+    let firsts = Sweep::of(operation, first, second);
+    let seconds = Sweep::of(Operation::Minus, second, first);
+    print_parts(operation, Ranges::of(firsts), Ranges::of(seconds), output)
 }
 
-// Prints a range: its first and its last address.
-fn put_range<A: Address, W: Write>(
+// Prints the parts of the first side, and for `differ` among them those of the second.
+fn print_parts<P: Parts, W: Write>(
     operation: Operation,
-    side: Side,
-    range: (A, A),
+    firsts: P,
+    seconds: P,
     output: &mut Output<'_, W>,
 ) -> Result<(), RunFault>
     ensures text { OnOk result (Puts (W.contents (writer_of output.old)) (waits_in output.old) (W.contents (writer_of output.new)) (waits_in output.new)
-        (range_line operation A.family (record { side = side; part = (A.number range.0, A.number range.1) }))) }
+        (flat_map (P.line operation) (merged_by P.begin (P.left firsts) (left_of_second operation (P.left seconds))))) }
     ensures failed { output_failed output.new ≡ (output_failed output.old || is_err result) }
 {
-    output.put(sign_of(operation, side).as_bytes())?;
-    output.put(range.0.canonical().as_str().as_bytes())?;
-    output.put(b" - ")?;
-    output.put(range.1.canonical().as_str().as_bytes())?;
-    output.put(b"\n")
+    let mut parts = Sides::of(operation, firsts, seconds);
+    while let Some(next) = parts.next() {
+        P::put(operation, next.0, next.1, output)?;
+    }
+    Ok(())
 }
 
 // Prints the counts of both families; of `differ` for each side.

@@ -1,14 +1,10 @@
-//! The blocks that an operation leaves of both sides, in one ascending list.
-ghost use Rattle.std.specs.Prelude.{◌≡◌, ◌∷◌, ◌↔◌, ◌<◌, [], IsTrue, MatchOption};
-ghost use Rattle.ipnetwork_blocks.specs.LeastList.{IsLeastList};
-ghost use Rattle.cidr_merge.specs.Answers.{merged, IsLeft, IsLeftOfSecond};
-ghost use Rattle.cidr_merge.specs.Private.Sweeps.{blocks_left, with_head, left_of_second};
+//! The parts that an operation leaves of both sides, in one ascending list.
+ghost use Rattle.std.specs.Prelude.{◌≡◌, ◌∷◌, [], MatchOption};
+ghost use Rattle.cidr_merge.specs.Answers.{merged_by};
+ghost use Rattle.cidr_merge.specs.Private.Sweeps.{with_head, left_of_second};
 
 use crate::command_line::Operation;
-use crate::sweep::Sweep;
-use ipnetwork::CidrNetwork;
-use ipnetwork_blocks::AddressSpace;
-use ipnetwork_sets::AddressSet;
+use crate::side_parts::Parts;
 
 /// A side of an operation.
 #[derive(Clone, Copy, Debug, PartialEq, Eq)]
@@ -17,30 +13,22 @@ pub(crate) enum Side {
     Second,
 }
 
-/// The blocks of two sides that are still to come.
+/// The parts of two sides that are still to come.
 #[derive(Drop)]
-pub(crate) struct Sides<'a, N: AddressSpace> {
-    first: Option<N>,
-    firsts: Sweep<'a, N>,
-    second: Option<N>,
-    seconds: Sweep<'a, N>,
+pub(crate) struct Sides<P: Parts> {
+    first: Option<P::Part>,
+    firsts: P,
+    second: Option<P::Part>,
+    seconds: P,
 }
 
-impl<'a, N: AddressSpace> Sides<'a, N> {
-    /// What the operation leaves of two sets: only `differ` leaves anything of the second.
-    pub(crate) fn left(
-        operation: Operation,
-        first: &'a AddressSet<N>,
-        second: &'a AddressSet<N>,
-    ) -> Sides<'a, N>
-        ensures first { IsLeastList N.WIDTH (IsLeft operation N.WIDTH first.now second.now)
-            (with_head N.pair result.first (blocks_left N.pair result.firsts)) }
-        ensures second { IsLeastList N.WIDTH (IsLeftOfSecond operation N.WIDTH first.now second.now)
-            (with_head N.pair result.second (blocks_left N.pair result.seconds)) }
+impl<P: Parts> Sides<P> {
+    /// The parts of the first side, and, for `differ` only, those of the second.
+    pub(crate) fn of(operation: Operation, mut firsts: P, mut seconds: P) -> Sides<P>
+        ensures first { with_head P.seen result.first (P.left result.firsts) ≡ P.left firsts }
+        ensures second { with_head P.seen result.second (P.left result.seconds) ≡ left_of_second operation (P.left seconds) }
     {
-        let mut firsts = Sweep::of(operation, first, second);
-        let mut seconds = Sweep::of(Operation::Minus, second, first);
-        let first = firsts.next();
+        let first = firsts.next_part();
         let second = first_of_second(operation, &mut seconds);
         Sides {
             first,
@@ -50,13 +38,13 @@ impl<'a, N: AddressSpace> Sides<'a, N> {
         }
     }
 
-    /// The block that comes first, and its side.
-    pub(crate) fn next(&mut self) -> Option<(Side, N)>
-        ensures { let left = merged (with_head N.pair self.old.first (blocks_left N.pair self.old.firsts))
-            (with_head N.pair self.old.second (blocks_left N.pair self.old.seconds)) in
-            MatchOption result (left ≡ []) (λ r. left ≡ record { side = r.0; part = N.pair r.1 }
-            ∷ merged (with_head N.pair self.new.first (blocks_left N.pair self.new.firsts))
-            (with_head N.pair self.new.second (blocks_left N.pair self.new.seconds))) }
+    /// The part that comes first, and its side.
+    pub(crate) fn next(&mut self) -> Option<(Side, P::Part)>
+        ensures { let left = merged_by P.begin (with_head P.seen self.old.first (P.left self.old.firsts))
+            (with_head P.seen self.old.second (P.left self.old.seconds)) in
+            MatchOption result (left ≡ []) (λ r. left ≡ record { side = r.0; part = P.seen r.1 }
+            ∷ merged_by P.begin (with_head P.seen self.new.first (P.left self.new.firsts))
+            (with_head P.seen self.new.second (P.left self.new.seconds))) }
     {
         let Some(first) = self.first else {
             let second = self.second?;
@@ -65,56 +53,46 @@ impl<'a, N: AddressSpace> Sides<'a, N> {
         let Some(second) = self.second else {
             return Some(self.next_of_first(first));
         };
-        if begins_before(first, second) {
+        if P::begins_before(first, second) {
             Some(self.next_of_first(first))
         } else {
             Some(self.next_of_second(second))
         }
     }
 
-    // The block of the first side that is at hand.
-    fn next_of_first(&mut self, block: N) -> (Side, N)
+    // The part of the first side that is at hand.
+    fn next_of_first(&mut self, part: P::Part) -> (Side, P::Part)
         ensures side { result.0 ≡ Side.First }
-        ensures block { result.1 ≡ block }
-        ensures first { with_head N.pair self.new.first (blocks_left N.pair self.new.firsts) ≡ blocks_left N.pair self.old.firsts }
-        ensures second { with_head N.pair self.new.second (blocks_left N.pair self.new.seconds)
-            ≡ with_head N.pair self.old.second (blocks_left N.pair self.old.seconds) }
+        ensures part { result.1 ≡ part }
+        ensures first { with_head P.seen self.new.first (P.left self.new.firsts) ≡ P.left self.old.firsts }
+        ensures second { with_head P.seen self.new.second (P.left self.new.seconds)
+            ≡ with_head P.seen self.old.second (P.left self.old.seconds) }
     {
-        self.first = self.firsts.next();
-        (Side::First, block)
+        self.first = self.firsts.next_part();
+        (Side::First, part)
     }
 
-    // The block of the second side that is at hand.
-    fn next_of_second(&mut self, block: N) -> (Side, N)
+    // The part of the second side that is at hand.
+    fn next_of_second(&mut self, part: P::Part) -> (Side, P::Part)
         ensures side { result.0 ≡ Side.Second }
-        ensures block { result.1 ≡ block }
-        ensures first { with_head N.pair self.new.first (blocks_left N.pair self.new.firsts)
-            ≡ with_head N.pair self.old.first (blocks_left N.pair self.old.firsts) }
-        ensures second { with_head N.pair self.new.second (blocks_left N.pair self.new.seconds) ≡ blocks_left N.pair self.old.seconds }
+        ensures part { result.1 ≡ part }
+        ensures first { with_head P.seen self.new.first (P.left self.new.firsts)
+            ≡ with_head P.seen self.old.first (P.left self.old.firsts) }
+        ensures second { with_head P.seen self.new.second (P.left self.new.seconds) ≡ P.left self.old.seconds }
     {
-        self.second = self.seconds.next();
-        (Side::Second, block)
+        self.second = self.seconds.next_part();
+        (Side::Second, part)
     }
 }
 
-// The first block that the operation leaves of the second side.
-fn first_of_second<'a, N: AddressSpace>(
-    operation: Operation,
-    seconds: &mut Sweep<'a, N>,
-) -> Option<N>
-    ensures { with_head N.pair result (blocks_left N.pair seconds.new) ≡ left_of_second operation (blocks_left N.pair seconds.old) }
+// The first part that the operation leaves of the second side.
+fn first_of_second<P: Parts>(operation: Operation, seconds: &mut P) -> Option<P::Part>
+    ensures { with_head P.seen result (P.left seconds.new) ≡ left_of_second operation (P.left seconds.old) }
 {
     match operation {
         Operation::Union => None,
         Operation::Common => None,
         Operation::Minus => None,
-        Operation::Differ => seconds.next(),
+        Operation::Differ => seconds.next_part(),
     }
-}
-
-// Whether the address of the first comes before that of the second.
-fn begins_before<N: AddressSpace>(first: N, second: N) -> bool
-    ensures { IsTrue result ↔ ((N.pair first).address < (N.pair second).address) }
-{
-    first.ip() < second.ip()
 }

@@ -1,20 +1,18 @@
 //! The blocks that an operation leaves of one side.
-ghost use Rattle.std.specs.Prelude.{◌≡◌, ◌∷◌, [], MatchOption};
 ghost use Rattle.ipnetwork_blocks.specs.LeastList.{IsLeastList};
 ghost use Rattle.cidr_merge.specs.Answers.{IsLeft};
 ghost use Rattle.cidr_merge.specs.Private.Sweeps.{blocks_left};
 ghost use Rattle.cidr_merge.specs.Private.Totals.{AddUp};
 
 use crate::command_line::Operation;
-use ipnetwork::CidrNetwork;
 use ipnetwork_blocks::AddressSpace;
 use ipnetwork_sets::laws::{fewer_blocks, shortest, sums};
-use ipnetwork_sets::{AddressSet, Difference, Intersection};
+use ipnetwork_sets::{AddressSet, Blocks, Difference, Intersection, SetBlocks};
 
 /// The blocks that are still to come, in ascending order.
 #[derive(Drop)]
 pub(crate) enum Sweep<'a, N: AddressSpace> {
-    Whole(&'a [N]),
+    Whole(Blocks<'a, N>),
     Common(Intersection<'a, N>),
     Alone(Difference<'a, N>),
 }
@@ -26,15 +24,17 @@ impl<'a, N: AddressSpace> Sweep<'a, N> {
         first: &'a AddressSet<N>,
         second: &'a AddressSet<N>,
     ) -> Sweep<'a, N>
-        ensures left { IsLeastList N.WIDTH (IsLeft operation N.WIDTH first.now second.now) (blocks_left N.pair result) }
-        ensures counted { AddUp N.WIDTH (IsLeft operation N.WIDTH first.now second.now) (blocks_left N.pair result) }
+        ensures left { IsLeastList N.WIDTH (IsLeft operation N.WIDTH first.now second.now) (blocks_left result) }
+        ensures counted { AddUp N.WIDTH (IsLeft operation N.WIDTH first.now second.now) (blocks_left result) }
     {
         shortest();
         sums();
         fewer_blocks();
         match operation {
             Operation::Union => {
-                let whole = first.blocks();
+                // The clause `set` of this call says that they are the blocks of a set.
+                let _ = first.blocks();
+                let whole = first.iter();
                 Sweep::Whole(whole)
             }
             Operation::Common => {
@@ -51,20 +51,18 @@ impl<'a, N: AddressSpace> Sweep<'a, N> {
             }
         }
     }
+}
 
-    /// The next block.
-    pub(crate) fn next(&mut self) -> Option<N>
-        ensures { MatchOption result ((blocks_left N.pair self.old ≡ []) × (blocks_left N.pair self.new ≡ []))
-            (λ block. blocks_left N.pair self.old ≡ N.pair block ∷ blocks_left N.pair self.new) }
-    {
+impl<'a, N: AddressSpace> SetBlocks<N> for Sweep<'a, N> {
+    ghost use Rattle.cidr_merge.specs.Private.Sweeps.{blocks_left};
+
+    ghost left = { blocks_left };
+
+    fn next_block(&mut self) -> Option<N> {
         match self {
-            Sweep::Whole(blocks) => {
-                let (first, others) = blocks.split_first()?;
-                *blocks = others;
-                Some(*first)
-            }
-            Sweep::Common(blocks) => blocks.next(),
-            Sweep::Alone(blocks) => blocks.next(),
+            Sweep::Whole(blocks) => blocks.next_block(),
+            Sweep::Common(blocks) => blocks.next_block(),
+            Sweep::Alone(blocks) => blocks.next_block(),
         }
     }
 }

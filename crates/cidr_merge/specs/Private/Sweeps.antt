@@ -1,15 +1,19 @@
 -- The blocks that are still to come.
-use Rattle.std.specs.Prelude.{List, [], ◌∷◌, map, Option, None, Some}
+use Rattle.std.specs.Prelude.{ℕ, List, [], ◌∷◌, Option, None, Some}
 use Rattle.ipnetwork_family.specs.Network.{Network}
 use Rattle.cidr_merge.specs.declared.command_line.Operation.{Operation}
 use Rattle.cidr_merge.specs.declared.command_line.Operation.TheVariants as operations
 use Rattle.cidr_merge.specs.declared.sweep.Sweep.{Sweep}
 use Rattle.cidr_merge.specs.declared.sweep.Sweep.TheVariants.{Whole, Common, Alone}
 
-abbrev pub blocks_left : {N A : Type 0} → (N → Network) → Sweep N A → List Network
-blocks_left pair (Whole blocks) = map pair blocks.now
-blocks_left pair (Common blocks) = blocks
-blocks_left pair (Alone blocks) = blocks
+abbrev pub blocks_left : {N A : Type 0} → Sweep N A → List Network
+blocks_left (Whole blocks) = blocks
+blocks_left (Common blocks) = blocks
+blocks_left (Alone blocks) = blocks
+
+-- the numbers of the first and the last address of a range
+abbrev pub numbers : {A : Type 0} → (A → ℕ) → A × A → ℕ × ℕ
+numbers number range = (number range.0, number range.1)
 
 -- the block or the range that was taken already and those after it; none if none was taken
 abbrev pub with_head : {N X : Type 0} → (N → X) → Option N → List X → List X

@@ -1,10 +1,12 @@
 -- How many blocks and addresses there are.
-use Rattle.std.specs.Prelude.{ℕ, ◌^◌, ◌<◌, ◌≤◌, List, length}
+use Rattle.std.specs.Prelude.{ℕ, ◌↔◌, ◌^◌, ◌<◌, ◌≤◌, List, length}
 use Rattle.ipnetwork_family.specs.Network.{Network}
+use Rattle.ipnetwork_blocks.specs.Aggregate.{InUnion}
 use Rattle.ipnetwork_sets.specs.Counts.{HasCount, total}
 
--- the blocks have together as many addresses as the set, no more than there are, and are fewer than these
+-- the blocks have the addresses of the set, together as many, no more than there are, and are fewer than these
 pub record AddUp (w : ℕ) (set : ℕ → Type 0) (blocks : List Network) : Type 0 where
+  pub addresses : (x : ℕ) → InUnion w blocks x ↔ set x
   pub count : HasCount set (total w blocks)
   pub within : total w blocks ≤ 2 ^ w
   pub fewer : 1 ≤ w → length blocks < 2 ^ w

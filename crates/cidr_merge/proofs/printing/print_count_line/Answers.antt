@@ -15,6 +15,6 @@ returns-clause-text g c =
     let name = c.args.sign.now ++ c.args.family.now in
     line_ok c.put_counts.result (IsCountLine w name set) (contents (writer_of c.args.output.now)) (contents (writer_of c.put_counts.new.output)) (waits_in c.args.output.now)
     (waits_in c.put_counts.new.output) _
-    (count_line w name c.as_str.result.now set (blocks_left (λ n. n) c.of.result) c.of-counts.result.blocks (count_number c.of-counts.result.addresses) c.of.ensures.left c.of.ensures.counted
+    (count_line w name c.as_str.result.now set (blocks_left c.of.result) c.of-counts.result.blocks (count_number c.of-counts.result.addresses) c.of.ensures.left c.of.ensures.counted
     c.requires.some c.requires.bits c.of-counts.ensures.blocks c.of-counts.ensures.addresses (c.as_str.ensures.value ∙ c.text.ensures))
     c.put_counts.ensures.text

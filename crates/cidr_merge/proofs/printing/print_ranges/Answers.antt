@@ -1,32 +1,20 @@
-use Rattle.std.proofs.Common.{[], refl}
+use Rattle.std.proofs.Common.{refl}
 use Rattle.line_engine.specs.Outputs.{writer_of, waits_in}
-use Rattle.cidr_merge.specs.Answers.{range_line}
-use Rattle.cidr_merge.specs.Private.Ranges.{ranges_left, numbers}
-use Rattle.cidr_merge.specs.Private.Sweeps.{with_head}
-use Rattle.cidr_merge.proofs.Merging.{shorter}
-use Rattle.line_engine.proofs.Putting.{puts_nothing}
-use Rattle.cidr_merge.proofs.Putting.{puts_line, puts_all, failed_same}
+use Rattle.cidr_merge.specs.Answers.{AreRangeLines}
+use Rattle.cidr_merge.proofs.Merging.{ranges_of, ranges_of_second}
+use Rattle.cidr_merge.proofs.Putting.{line_ok}
 use Rattle.cidr_merge.proofs.printing.print_ranges.Goals as goal
-
-pub loop-next-init : goal.loop-next-init
-loop-next-init g c = ([], refl, puts_nothing _ _, refl)
-
-pub loop-next-smaller : goal.loop-next-smaller
-loop-next-smaller g c = shorter _ _ _ c.in-Some.ensures
-
-pub loop-next-preserved : goal.loop-next-preserved
-loop-next-preserved g c =
-    let contents = g.W.Write.contents in
-    let h = puts_line (range_line c.args.operation g.A.Address.family) (contents (writer_of c.args.output.now)) (contents (writer_of c.loop-next.output)) (contents (writer_of c.put_range.new.output))
-    (waits_in c.args.output.now) (waits_in c.loop-next.output) (waits_in c.put_range.new.output) c.loop-next.invariant.0 _ _ _
-    (record { side = c.in-Some.next.0; part = numbers g.A.Address.number c.in-Some.next.1 }) c.loop-next.invariant.1 c.in-Some.ensures c.loop-next.invariant.2 c.in_ok-put_range.ensures.text in
-    (h.0, h.1, h.2, failed_same _ _ _ c.loop-next.invariant.3 c.in_ok-put_range.ensures.failed)
 
 pub returns-clause-text : goal.returns-clause-text
 returns-clause-text g c =
-    let contents = g.W.Write.contents in (
+    let contents = g.W.Write.contents in
+    let w = g.A.Address.WIDTH in
+    line_ok c.print_parts.result (AreRangeLines c.args.operation g.A.Address.family c.args.first.now c.args.second.now) (contents (writer_of c.args.output.now)) (contents (writer_of c.print_parts.new.output))
+    (waits_in c.args.output.now) (waits_in c.print_parts.new.output) _ (
       _,
-      (with_head (numbers g.A.Address.number) c.left-ranges.result.first (ranges_left c.left-ranges.result.firsts), with_head (numbers g.A.Address.number) c.left-ranges.result.second (ranges_left c.left-ranges.result.seconds), c.left-ranges.ensures.first, c.left-ranges.ensures.second, refl),
-      puts_all (range_line c.args.operation g.A.Address.family) (contents (writer_of c.args.output.now)) (contents (writer_of c.loop-next.output))
-          (waits_in c.args.output.now) (waits_in c.loop-next.output) c.loop-next.invariant.0 _ _ c.loop-next.invariant.1 c.in_default.ensures c.loop-next.invariant.2,
+      _,
+      ranges_of w _ _ _ c.of-firsts.ensures.counted.addresses c.of.ensures,
+      ranges_of_second c.args.operation w c.args.first.now c.args.second.now _ (ranges_of w _ _ _ c.of-seconds.ensures.counted.addresses c.of-2.ensures),
+      refl,
     )
+    c.print_parts.ensures.text

@@ -12,16 +12,16 @@ pub returns-in-Union-clause-left : goal.returns-in-Union-clause-left
 returns-in-Union-clause-left g c =
     let w = g.N.CidrNetwork.WIDTH in
     least_by c.args.operation Union c.in-Union.is w c.args.first.now c.args.second.now _
-    (subst (λ (l : List Network). IsLeastList w (InUnion w c.args.first.now) l) (sym c.blocks-whole.ensures.blocks) c.blocks-whole.ensures.set)
+    (subst (λ (l : List Network). IsLeastList w (InUnion w c.args.first.now) l) (sym c.iter-whole.ensures) c.blocks-in-Union.ensures.set)
 
 pub returns-in-Union-clause-counted : goal.returns-in-Union-clause-counted
 returns-in-Union-clause-counted g c =
     let w = g.N.CidrNetwork.WIDTH in
-    let set = c.blocks-whole.ensures.set in
+    let set = c.blocks-in-Union.ensures.set in
     let sum = c.sums.ensures.set w c.args.first.now set in
     add_up_by c.args.operation Union c.in-Union.is w c.args.first.now c.args.second.now _
-    (subst (λ (l : List Network). AddUp w (InUnion w c.args.first.now) l) (sym c.blocks-whole.ensures.blocks)
-    (record { count = sum.0; within = sum.1; fewer = λ bits. c.fewer_blocks.ensures w c.args.first.now bits set }))
+    (subst (λ (l : List Network). AddUp w (InUnion w c.args.first.now) l) (sym c.iter-whole.ensures)
+    (adds_up w _ _ set (λ x. ((λ i. i), (λ i. i))) c.fewer_blocks.ensures sum.0 sum.1))
 
 pub returns-in-Common-clause-left : goal.returns-in-Common-clause-left
 returns-in-Common-clause-left g c =

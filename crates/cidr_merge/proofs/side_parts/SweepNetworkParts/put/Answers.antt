@@ -3,7 +3,7 @@ use Rattle.ipnetwork_family.specs.Family.{text_of}
 use Rattle.line_engine.specs.Outputs.{writer_of, waits_in}
 use Rattle.cidr_merge.specs.Answers.{sign_of}
 use Rattle.cidr_merge.proofs.Putting.{put_three_ok}
-use Rattle.cidr_merge.proofs.printing.put_block.Goals as goal
+use Rattle.cidr_merge.proofs.side_parts.SweepNetworkParts.put.Goals as goal
 
 pub returns-clause-text : goal.returns-clause-text
 returns-clause-text g c =

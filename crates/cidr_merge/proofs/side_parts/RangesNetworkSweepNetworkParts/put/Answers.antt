@@ -2,7 +2,7 @@ use Rattle.std.proofs.Common.{◌∙◌}
 use Rattle.line_engine.specs.Outputs.{writer_of, waits_in}
 use Rattle.cidr_merge.specs.Answers.{sign_of}
 use Rattle.cidr_merge.proofs.Putting.{put_five_ok}
-use Rattle.cidr_merge.proofs.printing.put_range.Goals as goal
+use Rattle.cidr_merge.proofs.side_parts.RangesNetworkSweepNetworkParts.put.Goals as goal
 
 pub returns-clause-text : goal.returns-clause-text
 returns-clause-text g c =

@@ -1,0 +1,137 @@
+//! The parts that an operation leaves of one side: blocks, or ranges of addresses.
+ghost use Rattle.std.specs.Prelude.{◌≡◌, ◌∷◌, ◌↔◌, ◌<◌, ◌||◌, ℕ, List, [], IsTrue, MatchOption, OnOk, is_err};
+ghost use Rattle.ipnetwork_family.specs.Network.{Network};
+ghost use Rattle.line_engine.specs.Outputs.{writer_of, waits_in, output_failed, Puts};
+ghost use Rattle.cidr_merge.specs.Answers.{Sided, sign_of, block_line, range_line};
+ghost use Rattle.cidr_merge.specs.Private.Sweeps.{blocks_left, numbers};
+ghost use Rattle.cidr_merge.specs.declared.command_line.Operation.{Operation};
+
+use crate::command_line::Operation;
+use crate::sides::Side;
+use crate::sweep::Sweep;
+use ipnetwork::{Address, CidrNetwork, Network};
+use ipnetwork_sets::{Ranges, SetBlocks};
+use line_engine::fault::RunFault;
+use line_engine::output::Output;
+use std::io::Write;
+
+/// Parts in the order of where they begin, one after the other.
+pub(crate) trait Parts: Drop {
+    /// A part.
+    type Part: Copy;
+
+    // A part as contracts see it.
+    ghost Seen: { Type 0 };
+
+    ghost seen: { Self.Part → Seen };
+
+    ghost begin: { Seen → ℕ };
+
+    // The parts that are still to come.
+    ghost left: { Self → List Seen };
+
+    // The line that a part is printed as.
+    ghost line: { Operation → Sided Seen → List ℕ };
+
+    /// The next part.
+    fn next_part(&mut self) -> Option<Self::Part>
+        ensures { MatchOption result ((left self.old ≡ []) × (left self.new ≡ [])) (λ part. left self.old ≡ seen part ∷ left self.new) };
+
+    /// Whether the first begins before the second.
+    fn begins_before(first: Self::Part, second: Self::Part) -> bool
+        ensures { IsTrue result ↔ (begin (seen first) < begin (seen second)) };
+
+    /// Prints a part of a side.
+    fn put<W: Write>(
+        operation: Operation,
+        side: Side,
+        part: Self::Part,
+        output: &mut Output<'_, W>,
+    ) -> Result<(), RunFault>
+        ensures text { OnOk result (Puts (W.contents (writer_of output.old)) (waits_in output.old) (W.contents (writer_of output.new)) (waits_in output.new)
+            (line operation (record { side = side; part = seen part }))) }
+        ensures failed { output_failed output.new ≡ (output_failed output.old || is_err result) };
+}
+
+// The blocks.
+impl<'a, A: Address> Parts for Sweep<'a, Network<A>> {
+    type Part = Network<A>;
+
+    ghost Seen = { Network };
+
+    ghost seen = { λ block. block };
+
+    ghost begin = { λ block. block.address };
+
+    ghost left = { blocks_left };
+
+    ghost line = { λ operation. block_line operation A.family };
+
+    fn next_part(&mut self) -> Option<Network<A>> {
+        self.next_block()
+    }
+
+    fn begins_before(first: Network<A>, second: Network<A>) -> bool {
+        first.ip() < second.ip()
+    }
+
+    fn put<W: Write>(
+        operation: Operation,
+        side: Side,
+        block: Network<A>,
+        output: &mut Output<'_, W>,
+    ) -> Result<(), RunFault> {
+        output.put(sign_of(operation, side).as_bytes())?;
+        output.put(block.canonical().as_str().as_bytes())?;
+        output.put(b"\n")
+    }
+}
+
+// The ranges: the first and the last address of each.
+impl<'a, A: Address> Parts for Ranges<Network<A>, Sweep<'a, Network<A>>> {
+    type Part = (A, A);
+
+    ghost Seen = { ℕ × ℕ };
+
+    ghost seen = { numbers A.number };
+
+    ghost begin = { λ range. range.0 };
+
+    ghost left = { λ left. left };
+
+    ghost line = { λ operation. range_line operation A.family };
+
+    fn next_part(&mut self) -> Option<(A, A)> {
+        self.next()
+    }
+
+    fn begins_before(first: (A, A), second: (A, A)) -> bool {
+        first.0 < second.0
+    }
+
+    fn put<W: Write>(
+        operation: Operation,
+        side: Side,
+        range: (A, A),
+        output: &mut Output<'_, W>,
+    ) -> Result<(), RunFault> {
+        output.put(sign_of(operation, side).as_bytes())?;
+        output.put(range.0.canonical().as_str().as_bytes())?;
+        output.put(b" - ")?;
+        output.put(range.1.canonical().as_str().as_bytes())?;
+        output.put(b"\n")
+    }
+}
+
+/// What stands before a part of a side.
+pub(crate) fn sign_of(operation: Operation, side: Side) -> &'static str
+    ensures { result.now ≡ sign_of operation side }
+{
+    match operation {
+        Operation::Differ => match side {
+            Side::First => "< ",
+            Side::Second => "> ",
+        },
+        _ => "",
+    }
+}
