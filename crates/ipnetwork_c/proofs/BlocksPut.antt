@@ -1,15 +1,18 @@
 -- Blocks put into a list one after the other.
-use Rattle.std.proofs.Common.{◌≡◌, ℕ, ◌+◌, ◌-◌, ◌^◌, ◌<◌, ◌≤◌, List, [], ◌∷◌, ◌++◌, length, drop, get_or, slice_set, ⊎_elim, refl, sym, subst, ap, ◌∙◌, arith, min, add-one, append_assoc, drop-cons}
+use Rattle.std.proofs.Common.{◌≡◌, ℕ, ◌+◌, ◌-◌, ◌^◌, ◌<◌, ◌≤◌, List, [], ◌∷◌, ◌++◌, length, map, drop, get_or, slice_set, ⊎_elim, refl, sym, subst, ap, ◌∙◌, arith, min, add-one, append_assoc, drop-cons}
 use Rattle.std.proofs.Math.Nat.{min-le_left, min-eq_left, min-eq_right, le-min}
 use Rattle.std.proofs.Math.Seq.{set-append_seam}
 use Rattle.std.proofs.lemmas.Bool.{cases_lt}
-use Rattle.std.proofs.lemmas.List.{length-map, length-append, length-set, map-append, append-nil}
+use Rattle.std.proofs.lemmas.List.{length-map, length-append, length-set, map-append}
+use Rattle.std.specs.Iterator.{YieldsFirstBy}
+use Rattle.std.proofs.lemmas.Iterator.{items_from_drains}
+use Rattle.std.proofs.lemmas.Iterator.Consumers.{YieldsList-from_first}
 use Rattle.ipnetwork_family.specs.Network.{Network}
 use Rattle.ipnetwork_blocks.specs.LeastList.{IsLeastList}
 use Rattle.ipnetwork_blocks.proofs.LeastLists.{least_unique}
 use Rattle.ipnetwork_c.specs.Lists.{PutsBlocks}
 use Rattle.ipnetwork_c.specs.Outcomes.Unless.{On, Nothing}
-use Rattle.ipnetwork_c.specs.Private.Writing.{HasBlocks, AddsBlocks}
+use Rattle.ipnetwork_c.specs.Private.Writing.{HasBlocks, PutsItems}
 
 -- ---- blocks in the front of a list
 
@@ -85,24 +88,13 @@ block_counted held blocks before list count next n h full told =
       front = λ fits. absurd (omega arith);
     }
 
-pub adds_none : {C : Type 0} (held : C → Network) (list : List C) (count : ℕ) → AddsBlocks held [] list list count count
-adds_none held list count blocks start h = subst (λ (l : List Network). HasBlocks held l start list count) (sym (append-nil blocks)) h
-
-pub adds_more : {C : Type 0} (held : C → Network) (put : List Network) (n : Network) (list middle after : List C) (begun count next : ℕ) → AddsBlocks held put list middle begun count → AddsBlocks held (n ∷ []) middle after count next
-    → AddsBlocks held (put ++ n ∷ []) list after begun next
-adds_more held put n list middle after begun count next h k blocks start has =
-    subst (λ (l : List Network). HasBlocks held l start after next) (append_assoc blocks put (n ∷ [])) (k (blocks ++ put) start (h blocks start has))
-
-pub still_all : (put before left all : List Network) (n : Network) → put ++ before ≡ all → before ≡ n ∷ left → (put ++ n ∷ []) ++ left ≡ all
-still_all put before left all n is step = append_assoc put (n ∷ []) left ∙ ap (λ l. put ++ l) (sym step) ∙ is
-
-pub all_added : {C : Type 0} (held : C → Network) (put left all : List Network) (list after : List C) (begun count : ℕ) → put ++ left ≡ all → left ≡ [] → AddsBlocks held put list after begun count → AddsBlocks held all list after begun count
-all_added held put left all list after begun count is none h blocks start has =
-    subst (λ (l : List Network). HasBlocks held (blocks ++ l) start after count) (sym (append-nil put) ∙ ap (λ l. put ++ l) (sym none) ∙ is) (h blocks start has)
-
--- of nothing put before
-pub added_first : {C : Type 0} (held : C → Network) (blocks : List Network) (list after : List C) (count : ℕ) → AddsBlocks held blocks list after 0 count → HasBlocks held blocks list after count
-added_first held blocks list after count h = h [] list (nothing_put held list)
+-- what an iterator over blocks gives are the blocks of its list
+pub given : {N C : Type 0} (pair : N → Network) (held : C → Network) (blocks : List Network) (before after : List C) (count : ℕ)
+    → PutsItems (YieldsFirstBy pair (λ (left : List Network). left)) pair held blocks before after count → HasBlocks held blocks before after count
+given pair held blocks before after count h =
+    let drains = h.1 in
+    let all : map pair h.0 ≡ blocks = items_from_drains h.0 (drains.1.0, drains.1.1, λ _. (drains.0, drains.1.2)) (YieldsList-from_first pair (λ l. l) blocks refl) in
+    subst (λ (l : List Network). HasBlocks held l before after count) all h.2
 
 -- ---- what the caller is told
 

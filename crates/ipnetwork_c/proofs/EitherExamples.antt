@@ -1,6 +1,6 @@
 -- Results of calls of either family and of tables, and ends of sets: with which number the answer is there, and with which
 -- nothing has been written.
-use Rattle.std.proofs.Common.{◌≡◌, ◌≢◌, ℕ, ◌+◌, ◌<◌, ◌≤◌, List, [], ◌∷◌, ◌++◌, length, map, drop, get_or, refl, arith}
+use Rattle.std.proofs.Common.{◌≡◌, ◌≢◌, ℕ, ◌<◌, ◌≤◌, List, [], ◌∷◌, ◌++◌, length, map, drop, get_or, refl, arith}
 use Rattle.std.specs.Prelude.{Option, Some, None, take}
 use Rattle.std.specs.List.{All}
 use Rattle.ipnetwork_addr.specs.declared.ip.IpAddr.{IpAddr}
@@ -20,8 +20,6 @@ use Rattle.ipnetwork_c.specs.Columns.{AnswersEach}
 use Rattle.ipnetwork_c.specs.Either.{address_in, MemberQuery, NoAddress, NoIpNetwork, OfNetwork, StandsForIp}
 use Rattle.ipnetwork_c.specs.Either.NoIpNetwork.{NoFamily as ip_no_family, NoPrefix as ip_no_prefix}
 use Rattle.ipnetwork_c.specs.Tables.{TableQuery, TableRows, IsTableOf, MakesTable}
-use Rattle.ipnetwork_c.specs.Private.Together.{IsEnd}
-use Rattle.ipnetwork_c.specs.Private.Together.IsEnd.{LastOfAll, BlockEnds, BlockBegins}
 
 -- ---- members of either family
 
@@ -108,11 +106,3 @@ pub addresses_with_room_are_asked : {C : Type 0} (w : ℕ) (held : C → Network
     → AnswersEach (λ i. TableQuery w held list (number_of_octets (get_or asked i []))) (length asked) before.0 after.0 before.1 after.1
 addresses_with_room_are_asked w held list asked before after (On (room, (is, rows))) = rows
 addresses_with_room_are_asked w held list asked before after (Nothing (none, is) same) = absurd (omega (arith, is))
-
--- ---- ends
-
--- a set of no blocks ends with the last address of all
-pub no_set_of_nothing_ends_before : (last : ℕ) → IsEnd 8 [] last → last + 1 ≡ 256
-no_set_of_nothing_ends_before last (LastOfAll is) = is
-no_set_of_nothing_ends_before last (BlockEnds b there is) = let within : there.0 < 0 = there.1 in absurd (omega (arith, within))
-no_set_of_nothing_ends_before last (BlockBegins b there is) = let within : there.0 < 0 = there.1 in absurd (omega (arith, within))

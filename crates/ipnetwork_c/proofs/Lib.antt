@@ -9,7 +9,6 @@ pub mod Truths
 pub mod Rows
 pub mod Searching
 pub mod BlocksPut
-pub mod KeptRuns
 pub mod PrintedRows
 pub mod TableFinding
 pub mod TableMaking

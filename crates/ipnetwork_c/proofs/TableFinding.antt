@@ -11,7 +11,7 @@ use Rattle.ipnetwork_blocks.specs.Aggregate.{InUnion}
 use Rattle.ipnetwork_blocks.proofs.LeastLists.{own_address}
 use Rattle.ipnetwork_c.specs.Tables.{IsTable, FindsLongest, TableQuery}
 use Rattle.ipnetwork_c.specs.Outcomes.Unless.{On, Nothing}
-use Rattle.ipnetwork_c.specs.Private.Sets.{SplitsAt}
+use Rattle.ipnetwork_sets.specs.Private.Search.{IsSplit}
 
 pub by_address : (w : ℕ) (ns : List Network) → IsTable w ns → AllPairs (λ a b. a.address ≤ b.address) ns
 by_address w ns t i j d l m =
@@ -37,7 +37,7 @@ pub record IsSearched (w : ℕ) (ns : List Network) (x end : ℕ) : Type 0 where
 later_has_not : (w : ℕ) (b : Network) (x : ℕ) → IsCidrBlock w b → x < b.address → ¬ (Member w b x)
 later_has_not w b x h later m = let i = within_member w b x m in let block = h.block in let from = i.0 in omega arith
 
-pub search_begins : (w : ℕ) (ns : List Network) (x end : ℕ) → IsTable w ns → SplitsAt ns x end → IsSearched w ns x end
+pub search_begins : (w : ℕ) (ns : List Network) (x end : ℕ) → IsTable w ns → IsSplit ns x end end → IsSearched w ns x end
 search_begins w ns x end t h = record {
   before = λ k d l. h.below k d l;
   behind = λ k d l m. later_has_not w (get_or ns k d) x (t.blocks k d m) (h.above k d l m);
@@ -60,7 +60,7 @@ around_both w b a x shared h fits m from to s =
 
 -- the last of them has it not
 pub search_goes_on : (w : ℕ) (ns : List Network) (x end next shared : ℕ) (b : Network) → IsTable w ns → IsSearched w ns x end → x < 2 ^ w → 0 < end → end ≤ length ns → b ≡ get_or ns (end - 1) b → ¬ (Member w b x)
-    → SharesBits w b.address x shared → next ≤ end - 1 → SplitsAt (take (end - 1) ns) (block_at w x shared).address next → IsSearched w ns x next
+    → SharesBits w b.address x shared → next ≤ end - 1 → IsSplit (take (end - 1) ns) (block_at w x shared).address next next → IsSearched w ns x next
 search_goes_on w ns x end next shared b t h fits some within is not s less split = record {
   before = λ k d l. h.before k d (omega arith);
   behind = λ k d l m.

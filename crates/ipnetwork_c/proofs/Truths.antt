@@ -1,7 +1,6 @@
 -- A truth as a byte, and an order as a number of 32 bits.
 use Rattle.std.proofs.Common.{◌≡◌, ◌↔◌, ℕ, ℤ, to_z, of_z, w32, Bool, true, false, IsTrue, arith, refl}
-use Rattle.std.proofs.Math.Bool.{beq}
-use Rattle.std.specs.Prelude.{not, List}
+use Rattle.std.specs.Prelude.{List}
 use Rattle.std.specs.List.{All}
 use Rattle.std.specs.Int.{from_bool}
 use Rattle.std.specs.declared.cmp.Ordering.{Ordering}
@@ -22,12 +21,6 @@ pub order_kept : (order : Ordering) (z : ℤ) → z ≡ order_number order → t
 order_kept Less z is = rw is refl
 order_kept Equal z is = rw is refl
 order_kept Greater z is = rw is refl
-
-pub do_not_differ : (a b : Bool) → not (beq a b) ≡ false → a ≡ b
-do_not_differ true true h = refl
-do_not_differ true false h = cc
-do_not_differ false true h = cc
-do_not_differ false false h = refl
 
 -- what is true of each row, said otherwise
 pub fits_too : {C : Type 0} (holds : C → Type 0) (held : C → Network) (w : ℕ) → ((c : C) → holds c ↔ PrefixFits w (held c)) → (list : List C) → All holds list → All (λ c. PrefixFits w (held c)) list

@@ -3,5 +3,5 @@ pub mod Texts
 pub mod Structs
 pub mod Sets
 pub mod Writing
-pub mod Together
+pub mod Kept
 pub mod Tables

@@ -3,7 +3,7 @@ ghost use Rattle.ipnetwork_c.specs.Held.{v4_in, v6_in};
 ghost use Rattle.ipnetwork_c.specs.Lists.{Aggregates};
 
 use crate::fault::{OK, PREFIX};
-use crate::lists::{v4_all_fit, v6_all_fit};
+use crate::listed::all_fit;
 use crate::structs::{Ipv4InC, Ipv6InC};
 use ipnetwork::{Ipv4Network, Ipv6Network};
 use ipnetwork_blocks::aggregate_held;
@@ -15,7 +15,7 @@ use ipnetwork_blocks::aggregate_held;
 pub extern "C" fn ipnetwork_v4_aggregate(networks: &mut [Ipv4InC], count: &mut usize) -> u32
     ensures { Aggregates 32 v4_in (networks.old, count.old) (networks.new, count.new) result }
 {
-    if !v4_all_fit(networks) {
+    if !all_fit::<Ipv4Network, Ipv4InC>(networks) {
         return PREFIX;
     }
     *count = aggregate_held::<Ipv4Network, Ipv4InC>(networks);
@@ -27,7 +27,7 @@ pub extern "C" fn ipnetwork_v4_aggregate(networks: &mut [Ipv4InC], count: &mut u
 pub extern "C" fn ipnetwork_v6_aggregate(networks: &mut [Ipv6InC], count: &mut usize) -> u32
     ensures { Aggregates 128 v6_in (networks.old, count.old) (networks.new, count.new) result }
 {
-    if !v6_all_fit(networks) {
+    if !all_fit::<Ipv6Network, Ipv6InC>(networks) {
         return PREFIX;
     }
     *count = aggregate_held::<Ipv6Network, Ipv6InC>(networks);

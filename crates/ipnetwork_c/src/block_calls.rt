@@ -7,7 +7,7 @@ use crate::fault::{NO_MEMBER, NO_RANGE, OK, PREFIX, SHORT_BUFFER};
 use crate::structs::{Ipv4InC, Ipv6InC, address_of, number_of};
 use crate::writing::{put_blocks, to_usize};
 use ipnetwork::{Ipv4Addr, Ipv4Network, Ipv6Network};
-use ipnetwork_blocks::{AddressSpace, HoldsNetwork, range_to_blocks, subnet_at};
+use ipnetwork_blocks::{AddressSpace, HoldsNetwork, RangeBlocks, range_to_blocks, subnet_at};
 
 // Puts the blocks of a range in the front of `blocks`, and their number in `count`.
 fn range<N: AddressSpace, H: HoldsNetwork<N>>(
@@ -21,7 +21,7 @@ fn range<N: AddressSpace, H: HoldsNetwork<N>>(
     let Some(counted) = range_to_blocks::<N>(first, last) else {
         return NO_RANGE;
     };
-    let wanted = put_blocks::<N, H>(counted, &mut [], 0);
+    let wanted = put_blocks::<N, H, RangeBlocks<N>>(counted, &mut []);
     *count = to_usize(wanted);
     if wanted > blocks.len() as u128 {
         return SHORT_BUFFER;
@@ -29,7 +29,7 @@ fn range<N: AddressSpace, H: HoldsNetwork<N>>(
     let Some(range) = range_to_blocks::<N>(first, last) else {
         unreachable!()
     };
-    put_blocks::<N, H>(range, blocks, 0);
+    put_blocks::<N, H, RangeBlocks<N>>(range, blocks);
     OK
 }
 

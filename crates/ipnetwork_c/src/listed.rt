@@ -1,5 +1,6 @@
 //! The structs of C as what a list in the caller's memory holds: nothing is known of their prefix lengths.
 ghost use Rattle.std.specs.Prelude.{◌≡◌, ◌↔◌, IsTrue};
+ghost use Rattle.std.specs.List.{All};
 ghost use Rattle.ipnetwork_c.specs.Held.{PrefixFits};
 
 use crate::structs::{Ipv4InC, Ipv6InC, address_of};
@@ -18,6 +19,13 @@ pub(crate) trait Listed<N: AddressSpace>: HoldsNetwork<N> {
 
     // The prefix lengths of the family are those up to its width.
     ghost fitting: { (x : Self) → Self.holds x ↔ PrefixFits N.WIDTH (Self.held x) };
+}
+
+/// Whether each prefix length is one of the family.
+pub(crate) fn all_fit<N: AddressSpace, H: Listed<N>>(list: &[H]) -> bool
+    ensures { IsTrue result ↔ All H.holds list.now }
+{
+    list.iter().all(|held| held.fits())
 }
 
 impl Listed<Ipv4Network> for Ipv4InC {

@@ -6,7 +6,10 @@ ghost use Rattle.ipnetwork_c.specs.Outcomes.{Writes};
 ghost use Rattle.ipnetwork_c.specs.Held.{v4_in, v6_in, PrefixFits, number_of_octets};
 
 use crate::fault::{OK, PREFIX};
-use crate::structs::{Ipv4InC, Ipv6InC};
+use crate::listed::{Listed, all_fit};
+use crate::structs::{Ipv4InC, Ipv6InC, address_of};
+use ipnetwork::{Ipv4Addr, Ipv4Network, Ipv6Network};
+use ipnetwork_blocks::AddressSpace;
 
 /// Whether an address lies in the set of one of these networks, as 1 or 0: 0 if there are no networks. `PREFIX` if the
 /// prefix length of one is greater than 32.
@@ -18,31 +21,7 @@ pub extern "C" fn ipnetwork_v4_list_contains(
 ) -> u32
     ensures { IfFit (All (λ held. PrefixFits 32 (v4_in held)) networks.now) (Writes (IsFlag (Any (λ held. Member 32 (v4_in held) (number_of_octets address.now)) networks.now))) answer.old answer.new result }
 {
-    if !v4_all_fit(networks) {
-        return PREFIX;
-    }
-    *answer = u8::from(v4_any_has(networks, address));
-    OK
-}
-
-/// Whether each prefix length is at most 32.
-pub(crate) fn v4_all_fit(networks: &[Ipv4InC]) -> bool
-    ensures { IsTrue result ↔ All (λ held. PrefixFits 32 (v4_in held)) networks.now }
-{
-    networks.iter().all(|held| held.prefix <= 32)
-}
-
-/// Whether the address lies in the set of a network.
-fn v4_any_has(networks: &[Ipv4InC], address: &[u8; 4]) -> bool
-    requires { All (λ held. PrefixFits 32 (v4_in held)) networks.now }
-    ensures { IsTrue result ↔ Any (λ held. Member 32 (v4_in held) (number_of_octets address.now)) networks.now }
-{
-    for held in networks {
-        if held.has(address) {
-            return true;
-        }
-    }
-    false
+    contains::<Ipv4Network, Ipv4InC>(networks, Ipv4Addr::from(*address), answer)
 }
 
 /// The same for IPv6, for prefix lengths up to 128.
@@ -54,27 +33,27 @@ pub extern "C" fn ipnetwork_v6_list_contains(
 ) -> u32
     ensures { IfFit (All (λ held. PrefixFits 128 (v6_in held)) networks.now) (Writes (IsFlag (Any (λ held. Member 128 (v6_in held) (number_of_octets address.now)) networks.now))) answer.old answer.new result }
 {
-    if !v6_all_fit(networks) {
+    contains::<Ipv6Network, Ipv6InC>(networks, address_of(address), answer)
+}
+
+// The same for either family.
+fn contains<N: AddressSpace, H: Listed<N>>(networks: &[H], addr: N::Addr, answer: &mut u8) -> u32
+    ensures { IfFit (All H.holds networks.now) (Writes (IsFlag (Any (λ held. Member N.WIDTH (H.held held) (N.number addr)) networks.now))) answer.old answer.new result }
+{
+    if !all_fit::<N, H>(networks) {
         return PREFIX;
     }
-    *answer = u8::from(v6_any_has(networks, address));
+    *answer = u8::from(any_has::<N, H>(networks, addr));
     OK
 }
 
-/// Whether each prefix length is at most 128.
-pub(crate) fn v6_all_fit(networks: &[Ipv6InC]) -> bool
-    ensures { IsTrue result ↔ All (λ held. PrefixFits 128 (v6_in held)) networks.now }
-{
-    networks.iter().all(|held| held.prefix <= 128)
-}
-
-/// Whether the address lies in the set of a network.
-fn v6_any_has(networks: &[Ipv6InC], address: &[u8; 16]) -> bool
-    requires { All (λ held. PrefixFits 128 (v6_in held)) networks.now }
-    ensures { IsTrue result ↔ Any (λ held. Member 128 (v6_in held) (number_of_octets address.now)) networks.now }
+// Whether the address lies in the set of a network.
+fn any_has<N: AddressSpace, H: Listed<N>>(networks: &[H], addr: N::Addr) -> bool
+    requires { All H.holds networks.now }
+    ensures { IsTrue result ↔ Any (λ held. Member N.WIDTH (H.held held) (N.number addr)) networks.now }
 {
     for held in networks {
-        if held.has(address) {
+        if (*held).held_network().contains(addr) {
             return true;
         }
     }

@@ -1,17 +1,29 @@
 //! The union, the common part and the difference of two sets, as lists in the caller's memory.
-ghost use Rattle.ipnetwork_sets.specs.Sets.{InEither, InBoth, InFirstAlone};
+ghost use Rattle.std.specs.Prelude.{map};
+ghost use Rattle.ipnetwork_sets.specs.Sets.{HoldSet, InEither, InBoth, InFirstAlone};
 ghost use Rattle.ipnetwork_c.specs.Held.{v4_in, v6_in};
 ghost use Rattle.ipnetwork_c.specs.Sets.{SetOperation};
-ghost use Rattle.ipnetwork_c.specs.Private.Together.{kept_by};
+ghost use Rattle.ipnetwork_c.specs.Private.Kept.{kept_by};
+ghost use Rattle.ipnetwork_c.specs.Private.Writing.{PutsSet};
 
-use crate::checked::{all_fit, is_set};
 use crate::fault::{NO_SET, OK, PREFIX, SHORT_BUFFER};
-use crate::listed::Listed;
+use crate::listed::{Listed, all_fit};
 use crate::structs::{Ipv4InC, Ipv6InC};
-use crate::together::{Operation, put_kept};
-use crate::writing::to_usize;
+use crate::writing::{put_blocks, to_usize};
 use ipnetwork::{Ipv4Network, Ipv6Network};
 use ipnetwork_blocks::AddressSpace;
+use ipnetwork_sets::{Difference, Intersection, Union, is_address_set};
+
+/// An operation on two sets.
+#[derive(Clone, Copy)]
+pub(crate) enum Operation {
+    /// What is in one of the two sets or in both.
+    Union,
+    /// What is in both sets.
+    Intersection,
+    /// What is in the first set and not in the second.
+    Difference,
+}
 
 // Puts the blocks of what an operation leaves of two sets in the front of `blocks`, and their number in `count`.
 fn operate<N: AddressSpace, H: Listed<N>>(
@@ -26,7 +38,7 @@ fn operate<N: AddressSpace, H: Listed<N>>(
     if !all_fit::<N, H>(first) || !all_fit::<N, H>(second) {
         return PREFIX;
     }
-    if !is_set::<N, H>(first) || !is_set::<N, H>(second) {
+    if !is_address_set::<N, H>(first) || !is_address_set::<N, H>(second) {
         return NO_SET;
     }
     let wanted = put_kept::<N, H>(operation, first, second, &mut []);
@@ -36,6 +48,29 @@ fn operate<N: AddressSpace, H: Listed<N>>(
     }
     put_kept::<N, H>(operation, first, second, blocks);
     OK
+}
+
+// Puts the blocks of the addresses that the operation keeps into the front of the list, as far as there is room.
+// Returns how many there are, and 2^128 - 1 if there are more.
+fn put_kept<N: AddressSpace, H: Listed<N>>(
+    operation: Operation,
+    first: &[H],
+    second: &[H],
+    list: &mut [H],
+) -> u128
+    requires first { HoldSet N.WIDTH H.holds H.held first.now }
+    requires second { HoldSet N.WIDTH H.holds H.held second.now }
+    ensures { PutsSet N.WIDTH H.held (kept_by operation N.WIDTH (map H.held first.now) (map H.held second.now)) list.old list.new result }
+{
+    match operation {
+        Operation::Union => { put_blocks::<N, H, Union<'_, N, H>>(Union::of(first, second), list) }
+        Operation::Intersection => {
+            put_blocks::<N, H, Intersection<'_, N, H>>(Intersection::of(first, second), list)
+        }
+        Operation::Difference => {
+            put_blocks::<N, H, Difference<'_, N, H>>(Difference::of(first, second), list)
+        }
+    }
 }
 
 /// Writes the blocks of the addresses that are in one of two sets or in both, to the front of `blocks`: the fewest

@@ -2,9 +2,10 @@
 //! them.
 ghost use Rattle.std.specs.Prelude.{◌↔◌, ◌≤◌, IsTrue, MatchOption, map, length};
 ghost use Rattle.std.specs.List.{All, AllPairs};
+ghost use Rattle.ipnetwork_sets.specs.Private.Search.{IsSplit};
 ghost use Rattle.ipnetwork_c.specs.Lists.{FindsIn};
 ghost use Rattle.ipnetwork_c.specs.Searches.{StandsAt};
-ghost use Rattle.ipnetwork_c.specs.Private.Sets.{SplitsAt, EndFits, EndDoesNotFit};
+ghost use Rattle.ipnetwork_c.specs.Private.Sets.{EndFits, EndDoesNotFit};
 
 use crate::listed::Listed;
 use ipnetwork_blocks::{AddressSpace, laws};
@@ -31,7 +32,7 @@ pub(crate) fn contains<N: AddressSpace, H: Listed<N>>(list: &[H], addr: N::Addr)
 /// which the last does, and the next one does not.
 pub(crate) fn begun<N: AddressSpace, H: Listed<N>>(list: &[H], addr: N::Addr) -> usize
     ensures within { result ≤ length list.now }
-    ensures split { AllPairs (λ a b. a.address ≤ b.address) (map H.held list.now) → SplitsAt (map H.held list.now) (N.number addr) result }
+    ensures split { AllPairs (λ a b. a.address ≤ b.address) (map H.held list.now) → IsSplit (map H.held list.now) (N.number addr) result result }
     ensures stands { StandsAt (map H.held list.now) (N.number addr) result }
 {
     let mut from = 0;

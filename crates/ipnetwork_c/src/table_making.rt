@@ -7,9 +7,8 @@ ghost use Rattle.ipnetwork_c.specs.Held.{v4_in, v6_in};
 ghost use Rattle.ipnetwork_c.specs.Tables.{MakesTable, row_block};
 ghost use Rattle.ipnetwork_c.specs.Private.Tables.{place_cmp};
 
-use crate::checked::all_fit;
 use crate::fault::{OK, PREFIX, SHORT_BUFFER};
-use crate::listed::Listed;
+use crate::listed::{Listed, all_fit};
 use crate::structs::{Ipv4InC, Ipv6InC};
 use ipnetwork::{Ipv4Network, Ipv6Network};
 use ipnetwork_blocks::AddressSpace;

@@ -1,8 +1,9 @@
 //! Blocks put into a list in the caller's memory, one after the other, and counted.
 ghost use Rattle.std.specs.Prelude.{◌≡◌, ◌-◌, ◌^◌, min};
-ghost use Rattle.ipnetwork_c.specs.Private.Writing.{AddsBlock, AddsBlocks};
+ghost use Rattle.std.specs.Iterator.{IsFinite};
+ghost use Rattle.ipnetwork_c.specs.Private.Writing.{AddsBlock, PutsItems};
 
-use ipnetwork_blocks::{AddressSpace, HoldsNetwork, RangeBlocks};
+use ipnetwork_blocks::{AddressSpace, HoldsNetwork};
 
 /// The number, or the greatest one of 64 bits if that is less.
 pub(crate) fn to_usize(number: u128) -> usize
@@ -24,17 +25,18 @@ fn put<N: AddressSpace, H: HoldsNetwork<N>>(list: &mut [H], count: u128, block: 
     list[count as usize] = H::holding(block);
 }
 
-/// Puts the blocks after the `begun` ones that were put, as far as there is room. Returns how many there are then, and
+/// Puts the blocks of the iterator into the front of the list, as far as there is room. Returns how many there are, and
 /// 2^128 - 1 if there are more.
-pub(crate) fn put_blocks<N: AddressSpace, H: HoldsNetwork<N>>(
-    mut blocks: RangeBlocks<N>,
+pub(crate) fn put_blocks<N: AddressSpace, H: HoldsNetwork<N>, I: Iterator<Item = N> + Drop>(
+    blocks: I,
     list: &mut [H],
-    begun: u128,
 ) -> u128
-    ensures { AddsBlocks H.held blocks list.old list.new begun result }
+    requires can { I.can_next blocks }
+    requires ends { IsFinite (I.remaining blocks) }
+    ensures { PutsItems I.next_gives N.pair H.held blocks list.old list.new result }
 {
-    let mut count = begun;
-    while let Some(block) = blocks.next() {
+    let mut count = 0u128;
+    for block in blocks {
         put::<N, H>(list, count, block);
         count = count.saturating_add(1);
     }

@@ -1,6 +1,8 @@
 -- Blocks put into a list one after the other.
-use Rattle.std.specs.Prelude.{◌≡◌, ℕ, ◌+◌, ◌-◌, ◌^◌, ◌≤◌, min, List, [], ◌∷◌, ◌++◌, length}
+use Rattle.std.specs.Prelude.{◌≡◌, ℕ, ◌+◌, ◌-◌, ◌^◌, ◌≤◌, min, List, [], ◌∷◌, ◌++◌, length, map, Option}
+use Rattle.std.specs.Iterator.{Drains}
 use Rattle.ipnetwork_family.specs.Network.{Network}
+use Rattle.ipnetwork_blocks.specs.LeastList.{IsLeastList}
 use Rattle.ipnetwork_c.specs.Lists.{StandInFront}
 
 -- the blocks were put into a list that was as it was before, if it has room for them, and their number is returned
@@ -9,11 +11,15 @@ pub record HasBlocks {C : Type 0} (held : C → Network) (blocks : List Network)
   pub rows : length after ≡ length before
   pub front : length blocks ≤ length before → StandInFront held blocks before after
 
--- these blocks come after those that were put before
-abbrev pub AddsBlocks : {C : Type 0} → (C → Network) → List Network → List C → List C → ℕ → ℕ → Type 0
-AddsBlocks {C} held more before after count_before count =
-    (blocks : List Network) (start : List C) → HasBlocks held blocks start before count_before → HasBlocks held (blocks ++ more) start after count
-
--- one block does, whatever of its number is returned
+-- this block comes after those that were put before, whatever of its number is returned
 abbrev pub AddsBlock : {C : Type 0} → (C → Network) → Network → List C → List C → ℕ → Type 0
-AddsBlock held block before after count = (next : ℕ) → next ≡ min (count + 1) (2 ^ 128 - 1) → AddsBlocks held (block ∷ []) before after count next
+AddsBlock {C} held block before after count =
+    (blocks : List Network) (start : List C) (next : ℕ) → next ≡ min (count + 1) (2 ^ 128 - 1) → HasBlocks held blocks start before count → HasBlocks held (blocks ++ block ∷ []) start after next
+
+-- what an iterator gives is put in the front of a list, and its number is returned
+abbrev pub PutsItems : {S N C : Type 0} → (S → Option N → S → Type 0) → (N → Network) → (C → Network) → S → List C → List C → ℕ → Type 0
+PutsItems {S} {N} {C} steps pair held start before after count = (items : List N) × Drains steps start items × HasBlocks held (map pair items) before after count
+
+-- the least list of a set is put in the front of a list, and its length is returned
+abbrev pub PutsSet : {C : Type 0} → ℕ → (C → Network) → (ℕ → Type 0) → List C → List C → ℕ → Type 0
+PutsSet w held set before after count = (blocks : List Network) × IsLeastList w set blocks × HasBlocks held blocks before after count

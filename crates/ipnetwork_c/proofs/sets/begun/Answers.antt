@@ -3,7 +3,8 @@ use Rattle.std.proofs.lemmas.Bool.{iff_false}
 use Rattle.std.proofs.lemmas.List.{length-map}
 use Rattle.ipnetwork_family.specs.Network.{Network}
 use Rattle.ipnetwork_sets.proofs.Lists.{read_pair, not_below}
-use Rattle.ipnetwork_c.proofs.Searching.{search_starts, goes_behind, goes_before, split_met, between_all, between_behind, between_before, between_met}
+use Rattle.ipnetwork_sets.proofs.Searched.{split_behind, split_before}
+use Rattle.ipnetwork_c.proofs.Searching.{search_starts, split_met, between_all, between_behind, between_before, between_met}
 use Rattle.ipnetwork_c.proofs.sets.begun.Goals as goal
 
 pub loop-from-init : goal.loop-from-init
@@ -22,7 +23,7 @@ loop-from-preserved-then-begins_up_to g c =
       ordered = omega arith;
       within = within;
       between = between_behind ns (g.N.CidrNetwork.number c.args.addr) c.loop-from.from c.loop-from.to middle b c.loop-from.invariant.between is (c.begins_up_to.ensures.0 c.if-begins_up_to.true);
-      split = λ up. goes_behind ns (g.N.CidrNetwork.number c.args.addr) c.loop-from.from c.loop-from.to middle b up (c.loop-from.invariant.split up) below is
+      split = λ up. split_behind ns (g.N.CidrNetwork.number c.args.addr) c.loop-from.from c.loop-from.to middle b up (c.loop-from.invariant.split up) below is
           (c.begins_up_to.ensures.0 c.if-begins_up_to.true);
     }
 
@@ -40,7 +41,7 @@ loop-from-preserved g c =
       within = omega arith;
       between = between_before ns (g.N.CidrNetwork.number c.args.addr) c.loop-from.from c.loop-from.to middle b c.loop-from.invariant.between is
           (not_below b.address (g.N.CidrNetwork.number c.args.addr) (iff_false c.begins_up_to.ensures c.if-begins_up_to.false));
-      split = λ up. goes_before ns (g.N.CidrNetwork.number c.args.addr) c.loop-from.from c.loop-from.to middle b up (c.loop-from.invariant.split up) (omega arith) below is
+      split = λ up. split_before ns (g.N.CidrNetwork.number c.args.addr) c.loop-from.from c.loop-from.to middle b up (c.loop-from.invariant.split up) (omega arith) below is
           (not_below b.address (g.N.CidrNetwork.number c.args.addr) (iff_false c.begins_up_to.ensures c.if-begins_up_to.false));
     }
 

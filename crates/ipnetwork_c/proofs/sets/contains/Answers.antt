@@ -3,8 +3,9 @@ use Rattle.std.proofs.lemmas.Bool.{iff_false}
 use Rattle.std.proofs.lemmas.List.{length-map}
 use Rattle.ipnetwork_family.specs.Network.{Network}
 use Rattle.ipnetwork_blocks.proofs.AggregateMapped.{read_map}
-use Rattle.ipnetwork_c.specs.Private.Sets.{SplitsAt}
-use Rattle.ipnetwork_c.proofs.Searching.{weakly, finds_none, finds_last, none_fits, last_fits, last_does_not_fit}
+use Rattle.ipnetwork_sets.specs.Private.Search.{IsSplit}
+use Rattle.ipnetwork_sets.proofs.Searched.{weakly}
+use Rattle.ipnetwork_c.proofs.Searching.{finds_none, finds_last, none_fits, last_fits, last_does_not_fit}
 use Rattle.ipnetwork_c.proofs.sets.contains.Goals as goal
 
 pub returns-then-count-eq0-clause-answered : goal.returns-then-count-eq0-clause-answered
@@ -12,7 +13,7 @@ returns-then-count-eq0-clause-answered g c =
     let ns : List Network = map g.H.HoldsNetwork.held c.args.list.now in
     let x : ℕ = g.N.CidrNetwork.number c.args.addr in
     finds_none g.N.CidrNetwork.WIDTH ns x c.one_block.ensures.one
-    (λ up. subst (λ (i : ℕ). SplitsAt ns x i) c.if-count-eq0.true (c.begun-count.ensures.split (weakly ns up)))
+    (λ up. subst (λ (i : ℕ). IsSplit ns x i i) c.if-count-eq0.true (c.begun-count.ensures.split (weakly ns up)))
 
 pub returns-then-count-eq0-clause-fits : goal.returns-then-count-eq0-clause-fits
 returns-then-count-eq0-clause-fits g c =

@@ -10,7 +10,7 @@ use Rattle.ipnetwork_c.specs.Outcomes.Unless.{On, Nothing}
 use Rattle.std.proofs.lemmas.Option.{slice_get_read}
 use Rattle.ipnetwork_c.specs.Searches.{StandsAt, ComesTo}
 use Rattle.ipnetwork_c.specs.Searches.ComesTo.{First, On}
-use Rattle.ipnetwork_c.specs.Private.Sets.{SplitsAt}
+use Rattle.ipnetwork_sets.specs.Private.Search.{IsSplit}
 use Rattle.ipnetwork_c.proofs.Searching.{none_fits, last_fits, last_does_not_fit}
 use Rattle.ipnetwork_c.proofs.TableFinding.{by_address, taken_ascends, search_begins, search_goes_on, search_finds, search_fails}
 use Rattle.ipnetwork_c.proofs.tables.find.Goals as goal
@@ -70,9 +70,9 @@ loop-end-preserved g c =
     let part : take (end - 1) ns ≡ map g.H.HoldsNetwork.held (take (end - 1) c.args.blocks.now) = take-map g.H.HoldsNetwork.held (end - 1) c.args.blocks.now in
     let most : length (take (end - 1) c.args.blocks.now) ≡ end - 1 = length-take-le (end - 1) c.args.blocks.now (omega arith) in
     let less : next ≤ end - 1 = omega (arith, most, c.begun-end-in-loop-end.ensures.within) in
-    let split : IsTable w ns → SplitsAt (take (end - 1) ns) (block_at w x shared).address next = λ t.
-    subst (λ (y : ℕ). SplitsAt (take (end - 1) ns) y next) bound_is
-    (subst (λ (l : List Network). SplitsAt l (g.N.CidrNetwork.number c.ip-in-loop-end.result) next) (sym part)
+    let split : IsTable w ns → IsSplit (take (end - 1) ns) (block_at w x shared).address next next = λ t.
+    subst (λ (y : ℕ). IsSplit (take (end - 1) ns) y next next) bound_is
+    (subst (λ (l : List Network). IsSplit l (g.N.CidrNetwork.number c.ip-in-loop-end.result) next next) (sym part)
     (c.begun-end-in-loop-end.ensures.split (subst (λ (l : List Network). AllPairs (λ a b. a.address ≤ b.address) l) part (taken_ascends ns (end - 1) (omega arith) (by_address w ns t))))) in
     let again : end ≡ end - 1 + 1 = omega arith in
     let stands : StandsAt (take (end - 1) ns) (block_at w x shared).address next =
