@@ -9,7 +9,7 @@ use Rattle.std.proofs.lemmas.Bool.Decides.{eqb_tells}
 use Rattle.std.proofs.lemmas.List.Folds.{list_all-append}
 use Rattle.std.proofs.lemmas.Nat.{mul-add-lt}
 use Rattle.line_engine.specs.LineBuffers.{Buffered, IsPending, HandsOut, Gives, Receives, work}
-use Rattle.line_engine.specs.Outputs.{Puts, Prints}
+use Rattle.line_engine.specs.Outputs.{Puts}
 use Rattle.line_engine.specs.declared.line_buffer.NextLine.TheVariants.{Line, TooLong, Ask}
 use Rattle.line_engine.specs.declared.line_end.LineEnd.{LineEnd}
 use Rattle.line_engine.proofs.BytesLemmas.{HasNo}
@@ -27,7 +27,8 @@ use Rattle.cidr_filter.proofs.LogParts.{both}
 
 -- ---- stands
 
-pub counts_more : (old mid new first second : ℕ) → Counts old mid first → Counts mid new second → Counts old new (first + second)
+pub counts_more : (old mid new first second : ℕ) → Counts old mid first → Counts mid new second
+    → Counts old new (first + second)
 counts_more old mid new first second f g within =
     let one = f within in
     let two = g (omega (arith, one)) in
@@ -37,9 +38,14 @@ pub counts_none : (old new : ℕ) → new ≡ old → Counts old new 0
 counts_none old new same within = omega (arith, within, same)
 
 pub goes_nowhere : (old : Stand) → Goes old old [] 0 0
-goes_nowhere old = (puts_nothing old.holds old.waits, counts_none old.selected old.selected refl, counts_none old.lines old.lines refl)
+goes_nowhere old = (
+  puts_nothing old.holds old.waits,
+  counts_none old.selected old.selected refl,
+  counts_none old.lines old.lines refl,
+)
 
-goes_on : (old mid new : Stand) (first second : List ℕ) (one two m n : ℕ) → Goes old mid first one m → Goes mid new second two n → Goes old new (first ++ second) (one + two) (m + n)
+goes_on : (old mid new : Stand) (first second : List ℕ) (one two m n : ℕ) → Goes old mid first one m
+    → Goes mid new second two n → Goes old new (first ++ second) (one + two) (m + n)
 goes_on old mid new first second one two m n p q = (
   puts_more old.holds mid.holds new.holds old.waits mid.waits new.waits first second p.0 q.0,
   counts_more old.selected mid.selected new.selected one two p.1 q.1,
@@ -47,40 +53,57 @@ goes_on old mid new first second one two m n p q = (
 )
 
 -- what waited is handed on
-pub goes_out : (mid new : Stand) → new.selected ≡ mid.selected → new.lines ≡ mid.lines → new.waits ≡ [] → Appends mid.holds new.holds mid.waits → Goes mid new [] 0 0
-goes_out mid new same lines none h =
-    (puts_out mid.holds new.holds mid.waits new.waits none h, counts_none mid.selected new.selected same, counts_none mid.lines new.lines lines)
+pub goes_out : (mid new : Stand) → new.selected ≡ mid.selected → new.lines ≡ mid.lines
+    → new.waits ≡ [] → Appends mid.holds new.holds mid.waits → Goes mid new [] 0 0
+goes_out mid new same lines none h = (
+  puts_out mid.holds new.holds mid.waits new.waits none h,
+  counts_none mid.selected new.selected
+      same,
+  counts_none mid.lines new.lines lines,
+)
 
 -- behind what was put
-pub goes_still : (old mid new : Stand) (added : List ℕ) (count lines : ℕ) → Goes old mid added count lines → Goes mid new [] 0 0 → Goes old new added count lines
+pub goes_still : (old mid new : Stand) (added : List ℕ) (count lines : ℕ)
+    → Goes old mid added count lines → Goes mid new [] 0 0 → Goes old new added count lines
 goes_still old mid new added count lines p q =
     let more = goes_on old mid new added [] count 0 lines 0 p q in (
-      subst (Prints old new) (append-nil added) more.0,
+      subst (Puts old.holds old.waits new.holds new.waits) (append-nil added) more.0,
       subst (Counts old.selected new.selected) (omega arith) more.1,
       subst (Counts old.lines new.lines) (omega arith) more.2,
     )
 
-pub put_two_ok : {T E : Type 0} (result : Result T E) (held mid holds : Option (List ℕ)) (waited between waits first second : List ℕ) → Puts held waited mid between first
-    → OnOk result (Puts mid between holds waits second) → OnOk result (Puts held waited holds waits (first ++ second))
-put_two_ok (Ok x) held mid holds waited between waits first second p q = puts_more held mid holds waited between waits first second p q
+pub put_two_ok : {T E : Type 0} (result : Result T E) (held mid holds : Option (List ℕ))
+    (waited between waits first second : List ℕ) → Puts held waited mid between first
+    → OnOk result (Puts mid between holds waits second)
+    → OnOk result (Puts held waited holds waits (first ++ second))
+put_two_ok (Ok x) held mid holds waited between waits first second p q = puts_more held mid holds
+    waited between waits first second p q
 put_two_ok (Err e) held mid holds waited between waits first second p q = tt
 
 -- ---- what was read, so far
 
-pub all_lines : (ended : Bool) (read : List ℕ) (first : List LogLine) (pending : List ℕ) → AreFirst ended read first pending → log_lines read ≡ first ++ log_lines pending
-all_lines ended read first pending h = ap log_lines (sym (append-nil read)) ∙ h [] (λ e. refl) ∙ ap (λ l. first ++ log_lines l) (append-nil pending)
+pub all_lines : (ended : Bool) (read : List ℕ) (first : List LogLine) (pending : List ℕ)
+    → AreFirst ended read first pending → log_lines read ≡ first ++ log_lines pending
+all_lines ended read first pending h = ap log_lines (sym (append-nil read)) ∙ h [] (λ e. refl)
+    ∙ ap (λ l. first ++ log_lines l) (append-nil pending)
 
 -- one line more
-next_first : (ended : Bool) (read : List ℕ) (first : List LogLine) (pending line after : List ℕ) (end : LineEnd) → AreFirst ended read first pending → IsFirstOf ended pending line after end
+next_first : (ended : Bool) (read : List ℕ) (first : List LogLine) (pending line after : List ℕ)
+    (end : LineEnd) → AreFirst ended read first pending → IsFirstOf ended pending line after end
     → AreFirst ended read (first ++ log_line line end ∷ []) after
 next_first ended read first pending line after end h is more e =
-    h more e ∙ ap (λ ls. first ++ ls) (is.lines more e) ∙ sym (append_assoc first (log_line line end ∷ []) (log_lines (after ++ more)))
+    h more e ∙ ap (λ ls. first ++ ls) (is.lines more e)
+    ∙ sym (append_assoc first (log_line line end ∷ []) (log_lines (after ++ more)))
 
-first_still : (ended : Bool) (read : List ℕ) (first : List LogLine) (pending chunk : List ℕ) → AreFirst false read first pending → AreFirst ended (read ++ chunk) first (pending ++ chunk)
+first_still : (ended : Bool) (read : List ℕ) (first : List LogLine) (pending chunk : List ℕ)
+    → AreFirst false read first pending → AreFirst ended (read ++ chunk) first (pending ++ chunk)
 first_still ended read first pending chunk h more e =
-    ap log_lines (append_assoc read chunk more) ∙ h (chunk ++ more) (λ f. absurd (true≢false (sym f))) ∙ ap (λ l. first ++ log_lines l) (sym (append_assoc pending chunk more))
+    ap log_lines (append_assoc read chunk more)
+    ∙ h (chunk ++ more) (λ f. absurd (true≢false (sym f)))
+    ∙ ap (λ l. first ++ log_lines l) (sym (append_assoc pending chunk more))
 
-ended_too : (ended : Bool) (line : LogLine) → ended ≡ false → (line.is_ended ≡ true) ⊎ (ended ≡ true) → line.is_ended ≡ true
+ended_too : (ended : Bool) (line : LogLine) → ended ≡ false → (line.is_ended ≡ true)
+    ⊎ (ended ≡ true) → line.is_ended ≡ true
 ended_too ended line going (inl e) = e
 ended_too ended line going (inr e) = absurd (true≢false (sym e ∙ going))
 
@@ -91,7 +114,8 @@ no_bytes count e = elim (eqb_tells count 0) [
 ]
 
 module _ (filter : Filter) (counts : Bool) where
-  pub begins : (room : ℕ) (held : Buffered) (remained : Option (List ℕ)) (old : Stand) → room ≡ 2 ^ 64 - 1 → IsPending held [] → held.ended ≡ false
+  pub begins : (room : ℕ) (held : Buffered) (remained : Option (List ℕ)) (old : Stand)
+      → room ≡ 2 ^ 64 - 1 → IsPending held [] → held.ended ≡ false
       → FiltersSoFar filter counts room held remained remained old old
   begins room held remained old all h going = record {
     read = [];
@@ -109,13 +133,19 @@ module _ (filter : Filter) (counts : Bool) where
     goes = goes_nowhere old;
   }
 
-  module _ (room : ℕ) (was now : Buffered) (remained remains : Option (List ℕ)) (old mid : Stand) (s : FiltersSoFar filter counts room was remained remains old mid) (same : now.ended ≡ was.ended) where
+  module _ (room : ℕ) (was now : Buffered) (remained remains : Option (List ℕ)) (old mid : Stand)
+      (s : FiltersSoFar filter counts room was remained remains old mid)
+      (same : now.ended ≡ was.ended) where
     still_first : AreFirst now.ended s.read s.first s.pending
     still_first = subst (λ (e : Bool). AreFirst e s.read s.first s.pending) (sym same) s.lines
 
     -- a line more, whose output was put
-    one_more : (new : Stand) (line : List ℕ) (end : LineEnd) (verdict : Verdict) → HandsOut now s.pending line end → Judges filter line verdict → is_refused filter verdict ≡ false
-        → Goes mid new (output_of filter counts verdict (log_line line end)) (one_if (is_selected filter verdict)) 1 → FiltersSoFar filter counts room now remained remains old new
+    one_more : (new : Stand) (line : List ℕ) (end : LineEnd) (verdict : Verdict)
+        → HandsOut now s.pending line end → Judges filter line verdict
+        → is_refused filter verdict ≡ false
+        → Goes mid new (output_of filter counts verdict (log_line line end))
+        (one_if (is_selected filter verdict)) 1
+        → FiltersSoFar filter counts room now remained remains old new
     one_more new line end verdict hands judges passes goes =
         let next = log_line line end in
         let is = handed_first now s.pending line end hands in
@@ -136,30 +166,48 @@ module _ (filter : Filter) (counts : Bool) where
               ∙ ap (λ b. b && true) (ended_too now.ended next e is.whole);
           added = s.added ++ added;
           count = s.count + count;
-          filters = both filter counts s.first (next ∷ []) s.added added s.count count s.filters
-              (verdict, [], 0, subst (λ l. Judges filter l verdict) (sym is.is) judges, passes, (refl, refl), sym (append-nil added), omega arith);
-          goes = subst (λ (n : ℕ). Goes old new (s.added ++ added) (s.count + count) n) (sym (length-append s.first (next ∷ [])))
+          filters = both filter counts s.first (next ∷ []) s.added added s.count count s.filters (
+            verdict,
+            [],
+            0,
+            subst (λ l. Judges filter l verdict) (sym is.is) judges,
+            passes,
+            (refl, refl),
+            sym (append-nil added),
+            omega arith,
+          );
+          goes = subst (λ (n : ℕ). Goes old new (s.added ++ added) (s.count + count) n)
+              (sym (length-append s.first (next ∷ [])))
               (goes_on old mid new s.added added s.count count (length s.first) 1 s.goes goes);
         }
 
     -- the line that was handed out was filtered
-    pub after_line : (new : Stand) (end : LineEnd) (line whole : List ℕ) → ((pending : List ℕ) → IsPending was pending → Gives now pending (Line end)) → line ≡ now.line → whole ≡ now.whole
-        → FiltersLine filter counts line (whole ++ feed_behind end) mid new → FiltersSoFar filter counts room now remained remains old new
+    pub after_line : (new : Stand) (end : LineEnd) (line whole : List ℕ)
+        → ((pending : List ℕ) → IsPending was pending → Gives now pending (Line end))
+        → line ≡ now.line → whole ≡ now.whole
+        → FiltersLine filter counts line (whole ++ feed_behind end) mid new
+        → FiltersSoFar filter counts room now remained remains old new
     after_line new end line whole gives is all f =
         let given = gives s.pending s.holds in
-        let text : whole ++ feed_behind end ≡ printed (log_line now.line end) = ap (λ l. l ++ feed_behind end) (all ∙ given.2) ∙ printed_is now.line end in
+        let text : whole ++ feed_behind end ≡ printed (log_line now.line end) = ap
+        (λ l. l ++ feed_behind end) (all ∙ given.2) ∙ printed_is now.line end in
         one_more new now.line end f.0 given.0 (subst (λ l. Judges filter l f.0) is f.1) f.2
-        (subst (λ t. Goes mid new (shown filter counts f.0 t) (one_if (is_selected filter f.0)) 1) text f.3)
+        (subst (λ t. Goes mid new (shown filter counts f.0 t) (one_if (is_selected filter f.0)) 1)
+        text f.3)
 
     -- one that is too long was dropped
-    pub after_long : (new : Stand) → ((pending : List ℕ) → IsPending was pending → Gives now pending TooLong) → now.limit ≡ 1048576 → is_refused filter verdicts.TooLong ≡ false
+    pub after_long : (new : Stand) → ((pending : List ℕ) → IsPending was pending
+        → Gives now pending TooLong) → now.limit ≡ 1048576
+        → is_refused filter verdicts.TooLong ≡ false
         → Goes mid new [] 0 1 → FiltersSoFar filter counts room now remained remains old new
     after_long new gives limit passes goes =
         let given = gives s.pending s.holds in
-        one_more new given.0 given.1 verdicts.TooLong given.2 (omega (arith, given.3, limit)) passes goes
+        one_more new given.0 given.1 verdicts.TooLong given.2 (omega (arith, given.3, limit)) passes
+        goes
 
     -- what waited was written
-    pub handed_on : (new : Stand) → IsPending now s.pending → Goes mid new [] 0 0 → FiltersSoFar filter counts room now remained remains old new
+    pub handed_on : (new : Stand) → IsPending now s.pending → Goes mid new [] 0 0
+        → FiltersSoFar filter counts room now remained remains old new
     handed_on new holds goes = record {
       read = s.read;
       reads = s.reads;
@@ -177,20 +225,30 @@ module _ (filter : Filter) (counts : Bool) where
     }
 
   -- what was read before the device is asked: no line of what is pending is whole
-  pub record Idle (room : ℕ) (held : Buffered) (remained remains : Option (List ℕ)) (old now : Stand) : Type 0 where
+  pub record Idle (room : ℕ) (held : Buffered) (remained remains : Option (List ℕ))
+      (old now : Stand) : Type 0 where
     pub sofar : FiltersSoFar filter counts room held remained remains old now
     pub going : held.ended ≡ false
     pub none : HasNo 10 sofar.pending
 
-  pub before_asking : (room : ℕ) (was now : Buffered) (remained remains : Option (List ℕ)) (old mid new : Stand) → FiltersSoFar filter counts room was remained remains old mid
-      → ((pending : List ℕ) → IsPending was pending → Gives now pending Ask) → now.ended ≡ was.ended → Goes mid new [] 0 0 → Idle room now remained remains old new
+  pub before_asking : (room : ℕ) (was now : Buffered) (remained remains : Option (List ℕ))
+      (old mid new : Stand) → FiltersSoFar filter counts room was remained remains old mid
+      → ((pending : List ℕ) → IsPending was pending → Gives now pending Ask) → now.ended ≡ was.ended
+      → Goes mid new [] 0 0 → Idle room now remained remains old new
   unfolding handed_on
   before_asking room was now remained remains old mid new s gives same goes =
       let given = gives s.pending s.holds in
-      record { sofar = handed_on room was now remained remains old mid s same new given.0 goes; going = given.3; none = has_no s.pending given.1 }
+      record {
+        sofar = handed_on room was now remained remains old mid s same new given.0 goes;
+        going = given.3;
+        none = has_no s.pending given.1;
+      }
 
-  pub after_asking : (room left count : ℕ) (was now : Buffered) (remained mid remains : Option (List ℕ)) (old new : Stand) → Idle room was remained mid old new
-      → Receives mid remains was now count → now.ended ≡ (count == 0) → count ≤ room → left ≡ room - count → FiltersSoFar filter counts left now remained remains old new
+  pub after_asking : (room left count : ℕ) (was now : Buffered)
+      (remained mid remains : Option (List ℕ)) (old new : Stand)
+      → Idle room was remained mid old new
+      → Receives mid remains was now count → now.ended ≡ (count == 0) → count ≤ room
+      → left ≡ room - count → FiltersSoFar filter counts left now remained remains old new
   after_asking room left count was now remained mid remains old new idle r ended fits lefts =
       let s = idle.sofar in
       record {
@@ -201,7 +259,8 @@ module _ (filter : Filter) (counts : Bool) where
         pending = s.pending ++ r.chunk;
         holds = r.holds s.pending s.holds;
         first = s.first;
-        lines = first_still now.ended s.read s.first s.pending r.chunk (subst (λ (e : Bool). AreFirst e s.read s.first s.pending) idle.going s.lines);
+        lines = first_still now.ended s.read s.first s.pending r.chunk
+            (subst (λ (e : Bool). AreFirst e s.read s.first s.pending) idle.going s.lines);
         ended = λ e. s.ended idle.going;
         added = s.added;
         count = s.count;
@@ -216,34 +275,50 @@ module _ (filter : Filter) (counts : Bool) where
 abbrev pub to_do : ℕ → ℕ → Buffered → ℕ
 to_do size room held = (room + (if held.ended then 0 else 1)) * (size + 2) + work held
 
-pub less_to_hand : (size room : ℕ) (was now : Buffered) → now.ended ≡ was.ended → work now < work was → to_do size room now < to_do size room was
-less_to_hand size room was now same less = by _ _ (ap (λ e. (room + (if e then 0 else 1)) * (size + 2)) same) where
-  by : (a b : ℕ) → a ≡ b → a + work now < b + work was
-  by a b e = omega (arith, e, less)
+pub less_to_hand : (size room : ℕ) (was now : Buffered) → now.ended ≡ was.ended
+    → work now < work was → to_do size room now < to_do size room was
+less_to_hand size room was now same less = by _ _
+    (ap (λ e. (room + (if e then 0 else 1)) * (size + 2)) same) where
+      by : (a b : ℕ) → a ≡ b → a + work now < b + work was
+      by a b e = omega (arith, e, less)
 
 work_bound : (held : Buffered) → work held ≤ length held.bytes + 1
 work_bound held =
-    let one : (if held.dropped then 1 else 0) ≤ 1 = elim held.dropped as (λ v. (if v then 1 else 0) ≤ 1) [ true ↦ omega arith | false ↦ omega arith ] in
-    omega (arith, one, length-drop held.start (take held.end held.bytes), length-take held.end held.bytes)
+    let one : (if held.dropped then 1 else 0) ≤ 1 = elim held.dropped as
+    (λ v. (if v then 1 else 0) ≤ 1) [ true ↦ omega arith | false ↦ omega arith ] in
+    omega (
+      arith,
+      one,
+      length-drop held.start (take held.end held.bytes),
+      length-take held.end
+          held.bytes,
+    )
 
 -- a read gave some bytes, or came to the end of the log
-fewer : (room count : ℕ) (was now : Bool) → was ≡ false → now ≡ (count == 0) → count ≤ room → room - count + (if now then 0 else 1) < room + (if was then 0 else 1)
+fewer : (room count : ℕ) (was now : Bool) → was ≡ false → now ≡ (count == 0) → count ≤ room
+    → room - count + (if now then 0 else 1) < room + (if was then 0 else 1)
 fewer room count was now going ended fits =
     let one : ◌≡◌ {A = ℕ} (if was then 0 else 1) 1 = ap (λ v. if v then 0 else 1) going in
     elim (eqb_tells count 0) [
       | inl none ↦
-          let zero : ◌≡◌ {A = ℕ} (if now then 0 else 1) 0 = ap (λ v. if v then 0 else 1) (ended ∙ none.0) in
+          let zero : ◌≡◌ {A = ℕ} (if now then 0 else 1) 0 = ap (λ v. if v then 0 else 1)
+          (ended ∙ none.0) in
           omega (arith, zero, one, none.1, fits)
       | inr some ↦
-          let too : ◌≡◌ {A = ℕ} (if now then 0 else 1) 1 = ap (λ v. if v then 0 else 1) (ended ∙ some.0) in
+          let too : ◌≡◌ {A = ℕ} (if now then 0 else 1) 1 = ap (λ v. if v then 0 else 1)
+          (ended ∙ some.0) in
           omega (arith, too, one, some.1, fits)
     ]
 
-pub less_to_read : (size room count : ℕ) (was now : Buffered) → was.ended ≡ false → now.ended ≡ (count == 0) → count ≤ room → length now.bytes ≡ size → to_do size (room - count) now < to_do size room was
+pub less_to_read : (size room count : ℕ) (was now : Buffered) → was.ended ≡ false
+    → now.ended ≡ (count == 0) → count ≤ room → length now.bytes ≡ size
+    → to_do size (room - count) now < to_do size room was
 less_to_read size room count was now going ended fits same =
     let left = room - count + (if now.ended then 0 else 1) in
     let all = room + (if was.ended then 0 else 1) in
     by (left * (size + 2) + work now) ((size + 2) * all) (all * (size + 2))
-    (mul-add-lt left (size + 2) (work now) all (fewer room count was.ended now.ended going ended fits) (omega (arith, work_bound now, same))) (mul_comm (size + 2) all) where
+    (mul-add-lt left (size + 2) (work now) all
+    (fewer room count was.ended now.ended going ended fits)
+    (omega (arith, work_bound now, same))) (mul_comm (size + 2) all) where
       by : (x y z : ℕ) → x < y → y ≡ z → x < z + work was
       by x y z less e = omega (arith, less, e)

@@ -1,19 +1,20 @@
 -- Logs that are filtered in turn.
 use Rattle.std.proofs.Common.{◌≡◌, ◌+◌, ◌-◌, ◌^◌, ◌++◌, ◌∷◌, ◌∙◌, ◌==◌, [], ℕ, Bool, List, true, false, cond, inl, inr, refl, sym, ap, subst, arith, length, min, append_assoc, append-nil}
-use Rattle.std.specs.Prelude.{Option, None, Some, Result, Ok, Err, OnOk, IfErr, IsTrue, filter}
+use Rattle.std.specs.Prelude.{Option, None, Some, IsTrue, filter}
 use Rattle.std.specs.List.{slice_split}
 use Rattle.std.specs.Io.KnownBytes.{Appends, Consumes, IsAtEnd}
 use Rattle.std.proofs.KnownBytes.{Appends-trans}
 use Rattle.std.proofs.lemmas.Option.{none-some}
 use Rattle.line_engine.specs.Answers.{IsBeginning}
-use Rattle.line_engine.specs.Outputs.{Puts, Prints}
+use Rattle.line_engine.specs.Outputs.{Puts, AppendsBeginning}
 use Rattle.line_engine.proofs.Putting.{puts_nothing, puts_more}
 use Rattle.lists.specs.KnownLists.{KnownLists}
 use Rattle.cidr_filter.specs.Lines.{LogLine, lines_in, log_lines, ended_lines}
+use Rattle.cidr_filter.specs.Filters.{Filters}
 use Rattle.cidr_filter.specs.Logs.{IsAllOf, IsFirstOf, FiltersLogs, RefusesAfter, HaltsBy}
 use Rattle.cidr_filter.specs.Stands.{Stand, Counts}
 use Rattle.cidr_filter.specs.Stops.{Ends, EndsAtLine, Stops}
-use Rattle.cidr_filter.specs.Private.Runs.{FiltersName, FiltersNames, NameStops}
+use Rattle.cidr_filter.specs.Private.Runs.{FiltersNames}
 use Rattle.cidr_filter.specs.declared.filter.Filter.{Filter}
 use Rattle.cidr_filter.specs.declared.filter.Verdict.{Verdict}
 use Rattle.cidr_filter.specs.declared.log.LogFault.{LogFault}
@@ -38,6 +39,25 @@ first_part : (read last input : List ℕ) → IsBeginning (read ++ last) input �
 first_part read last input b = (last ++ b.0, b.1 ∙ append_assoc read last b.0)
 
 -- ---- one log
+
+-- the output of the first lines was put, of which there were this many, or the writer failed, which took a beginning of
+-- it
+abbrev pub PutsBy : LogFault → Bool → Stand → Stand → List ℕ → ℕ → Type 0
+PutsBy faults.Open failed old new added lines = Puts old.holds old.waits new.holds new.waits added × (new.lines ≡ min lines (2 ^ 64 - 1))
+PutsBy faults.Read failed old new added lines = Puts old.holds old.waits new.holds new.waits added × (new.lines ≡ min lines (2 ^ 64 - 1))
+PutsBy faults.Write failed old new added lines = IsTrue failed × AppendsBeginning old.holds new.holds (old.waits ++ added)
+PutsBy faults.Address failed old new added lines = Puts old.holds old.waits new.holds new.waits added × (new.lines ≡ min lines (2 ^ 64 - 1))
+PutsBy faults.Length failed old new added lines = Puts old.holds old.waits new.holds new.waits added × (new.lines ≡ min lines (2 ^ 64 - 1))
+PutsBy faults.Endless failed old new added lines = Puts old.holds old.waits new.holds new.waits added × (new.lines ≡ min lines (2 ^ 64 - 1))
+
+-- the log of this name was not filtered to its end, by the fault
+pub record NameStops (filter : Filter) (counts : Bool) (known : KnownLists) (name : List ℕ) (failed : Bool) (old new : Stand) (fault : LogFault) : Type 0 where
+  pub lines : List LogLine
+  pub added : List ℕ
+  pub count : ℕ
+  pub filters : Filters filter counts lines added count
+  pub halts : HaltsBy filter known name lines fault
+  pub puts : PutsBy fault failed old new added (length lines)
 
 lines_told : (lines count : ℕ) → Counts 0 lines count → lines ≡ min count (2 ^ 64 - 1)
 lines_told lines count counted = let e = counted (omega arith) in omega (arith, e)
@@ -82,20 +102,6 @@ module _ (filter : Filter) (counts : Bool) (known : KnownLists) where
     first_of : (read : List ℕ) → Consumes remained remains read → IsFirstOf known name read
     first_of read took = λ input e. known_first remained remains read input (has input e) took
 
-    -- a log that was filtered to its end
-    pub name_ok : {T E : Type 0} (result : Result T E) (old new : Stand) → OnOk result (Ends filter counts remained remains (record old { lines = 0 }) new)
-        → OnOk result (FiltersName filter counts known name old new)
-    name_ok (Ok done) old new h = record {
-      read = h.read;
-      added = h.added;
-      count = h.count;
-      all = all_of h.read h.reads h.end;
-      filters = h.filters;
-      puts = h.goes.0;
-      counted = h.goes.1;
-    }
-    name_ok (Err fault) old new h = tt
-
     line_halts : (verdict : Verdict) (old new : Stand) (h : EndsAtLine filter counts remained remains old new verdict) → RefusesAfter filter known name h.first verdict
     line_halts verdict old new h = record {
       read = h.read;
@@ -114,8 +120,8 @@ module _ (filter : Filter) (counts : Bool) (known : KnownLists) where
       refused = h.refused;
     }
 
-    -- or not
-    stops_by : (read_failed write_failed : Bool) (old new : Stand) (fault : LogFault) → (IsTrue read_failed → known.may_fail name) → Stops filter counts remained remains read_failed write_failed (record old { lines = 0 }) new fault
+    -- a log that was not filtered to its end
+    pub stops_by : (read_failed write_failed : Bool) (old new : Stand) (fault : LogFault) → (IsTrue read_failed → known.may_fail name) → Stops filter counts remained remains read_failed write_failed (record old { lines = 0 }) new fault
         → NameStops filter counts known name write_failed old new fault
     stops_by read_failed write_failed old new faults.Open fails h = absurd h
     stops_by read_failed write_failed old new faults.Read fails h = record {
@@ -159,12 +165,6 @@ module _ (filter : Filter) (counts : Bool) (known : KnownLists) where
       puts = (h.4.goes.0, lines_told new.lines _ h.4.goes.2);
     }
 
-    pub name_err : {T : Type 0} (result : Result T LogFault) (read_failed write_failed : Bool) (old new : Stand)
-        → (IsTrue read_failed → known.may_fail name) → IfErr result (Stops filter counts remained remains read_failed write_failed (record old { lines = 0 }) new)
-        → IfErr result (NameStops filter counts known name write_failed old new)
-    name_err (Ok done) read_failed write_failed old new fails h = tt
-    name_err (Err fault) read_failed write_failed old new fails h = stops_by read_failed write_failed old new fault fails h
-
   -- a log that was not opened
   pub name_closed : (name : List ℕ) (failed : Bool) (old : Stand) → known.may_open name false → NameStops filter counts known name failed old (record old { lines = 0 }) faults.Open
   name_closed name failed old closed = record {
@@ -185,15 +185,6 @@ module _ (filter : Filter) (counts : Bool) (known : KnownLists) where
     filters = (refl, refl);
     puts = puts_nothing old.holds old.waits;
     counted = counts_none old.selected old.selected refl;
-  }
-
-  pub names_one : (name : List ℕ) (old new : Stand) → FiltersName filter counts known name old new → FiltersNames filter counts known (name ∷ []) old new
-  names_one name old new h = record {
-    output = h.added ++ [];
-    count = h.count + 0;
-    filters = (h.read, h.added, [], h.count, 0, h.all, h.filters, (refl, refl), refl, refl);
-    puts = subst (Prints old new) (sym (append-nil h.added)) h.puts;
-    counted = subst (Counts old.selected new.selected) (omega arith) h.counted;
   }
 
   logs_both : (first second : List (List ℕ)) (a b : List ℕ) (m n : ℕ) → FiltersLogs filter counts known first a m → FiltersLogs filter counts known second b n

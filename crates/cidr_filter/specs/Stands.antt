@@ -1,6 +1,7 @@
 -- Where a run stands.
 use Rattle.std.specs.Prelude.{◌≡◌, ℕ, ◌+◌, ◌-◌, ◌^◌, ◌≤◌, min, List, Option}
-use Rattle.line_engine.specs.Outputs.{Written, Prints}
+use Rattle.line_engine.specs.Outputs.{writer_of, waits_in, Puts}
+use Rattle.line_engine.specs.declared.output.Output.{Output}
 use Rattle.cidr_filter.specs.declared.log.Tally.{Tally}
 
 -- what the writer holds, what waits, how many lines of all logs were selected, and how many of this log were filtered
@@ -14,8 +15,8 @@ abbrev pub stand : Option (List ℕ) → List ℕ → Tally → Stand
 stand holds waits tally = record { holds = holds; waits = waits; selected = tally.selected; lines = tally.lines }
 
 -- the same by the output, of whose writer `holds` tells the bytes
-abbrev pub stand_of : {W : Type 0} → (W → Option (List ℕ)) → Written W → Tally → Stand
-stand_of holds output tally = stand output tally
+abbrev pub stand_of : {W : Type 0} → (W → Option (List ℕ)) → Output W → Tally → Stand
+stand_of holds output tally = stand (holds (writer_of output)) (waits_in output) tally
 
 -- 64 bits count this many more
 abbrev pub Counts : ℕ → ℕ → ℕ → Type 0
@@ -24,4 +25,4 @@ Counts old new more = old ≤ 2 ^ 64 - 1 → new ≡ min (old + more) (2 ^ 64 - 
 -- from one stand to the next these bytes were added to the output, this many lines were selected, and this many
 -- filtered
 abbrev pub Goes : Stand → Stand → List ℕ → ℕ → ℕ → Type 0
-Goes old new added selected lines = Prints old new added × Counts old.selected new.selected selected × Counts old.lines new.lines lines
+Goes old new added selected lines = Puts old.holds old.waits new.holds new.waits added × Counts old.selected new.selected selected × Counts old.lines new.lines lines

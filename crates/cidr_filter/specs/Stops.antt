@@ -1,7 +1,7 @@
 -- How the filtering of a log ends.
 use Rattle.std.specs.Prelude.{◌≡◌, ℕ, ◌-◌, ◌^◌, ◌<◌, Bool, true, false, IsTrue, List, ◌∷◌, ◌++◌, length, Option, Result, Ok, Err}
 use Rattle.std.specs.Io.KnownBytes.{Consumes, IsAtEnd}
-use Rattle.line_engine.specs.Outputs.{FailsIn}
+use Rattle.line_engine.specs.Outputs.{AppendsBeginning}
 use Rattle.cidr_filter.specs.Filters.{Judges, is_refused, Filters}
 use Rattle.cidr_filter.specs.Lines.{LogLine, log_lines, ended_lines, content, IsWhole}
 use Rattle.cidr_filter.specs.Stands.{Stand, Goes}
@@ -38,7 +38,7 @@ pub record WritesBeginning (filter : Filter) (counts : Bool) (remained remains :
   pub reads : Consumes remained remains read
   pub lines : log_lines read ≡ first ++ others
   pub filters : Filters filter counts first added count
-  pub beginning : FailsIn old new added
+  pub beginning : AppendsBeginning old.holds new.holds (old.waits ++ added)
 
 -- of what was read the first lines were filtered, and the next line, of this verdict, ends the run
 pub record EndsAtLine (filter : Filter) (counts : Bool) (remained remains : Option (List ℕ)) (old new : Stand) (verdict : Verdict) : Type 0 where

@@ -2,14 +2,11 @@
 ghost use Rattle.std.specs.Prelude.{◌≡◌, ◌≤◌, length, codes};
 ghost use Rattle.program.specs.Endings.{ending};
 ghost use Rattle.program.specs.Messages.{Tells};
-ghost use Rattle.cidr_filter.specs.Logs.{logs_of};
 ghost use Rattle.cidr_filter.specs.Runs.{EndsRequest, EndsAs};
-ghost use Rattle.cidr_filter.specs.Private.Runs.{EndsBy, EndsListed};
 
 use crate::command_line::{Request, request_of};
 use crate::filter::{Filter, LINE_MAX};
 use crate::help::{HELP, PROGRAM, USAGE, VERSION};
-use crate::listed::Listed;
 use crate::logs::filter_logs;
 use crate::reading::read_listed;
 use crate::telling::InOptions;
@@ -20,7 +17,7 @@ use program::messages::tell;
 use program::start::text_asked;
 use program::telling::{tell_fault, tell_refusals};
 use program::usage::refuse_usage;
-use std::alloc::{AllocError, Global};
+use std::alloc::Global;
 use std::io::Write;
 
 /// The bytes of the longest line, and those that are read beside it.
@@ -35,7 +32,7 @@ pub(crate) fn run<L: OpenLists, W: Write, E: Write>(
     errors: &mut Output<'_, E>,
 ) -> u8
     ensures { EndsAs PROGRAM.now HELP.now VERSION.now USAGE.now (L.known lists.now) words.now
-        (ending output.old output.new errors.old errors.new result) }
+        (ending W.contents output.old output.new E.contents errors.old errors.new result) }
 {
     if let Some(text) = text_asked(HELP, VERSION, words) {
         return print_text(text, output, errors);
@@ -49,7 +46,7 @@ pub(crate) fn run<L: OpenLists, W: Write, E: Write>(
     }
 }
 
-// Reads the lists, reports the refused lines, and then filters the logs.
+// Reads the lists, reports the refused lines, and then filters the logs by what was read, unless memory ran out.
 fn filter<L: OpenLists, W: Write, E: Write>(
     alloc: Global,
     request: Request,
@@ -60,57 +57,20 @@ fn filter<L: OpenLists, W: Write, E: Write>(
 ) -> u8
     requires { request.files ≤ length words.now }
     ensures { EndsRequest (L.known lists.now) words.now request
-        (record { output = output.old; output_after = output.new; errors = errors.old; errors_after = errors.new; status = result }) }
+        (ending W.contents output.old output.new E.contents errors.old errors.new result) }
 {
     let (listed, refusals, read) = read_listed(alloc, lists, words, request.longest);
     tell_refusals(words, &InOptions { words }, &refusals, errors);
-    match read {
-        Ok(()) => {
-            if !refusals.is_empty() {
-                return FAILED;
-            }
-            let files = &words[request.files..];
-            filter_by(alloc, request, listed, files, lists, output, errors)
-        }
-        Err(fault) => {
-            tell_fault(words, fault, errors);
-            FAILED
-        }
+    if let Err(fault) = read {
+        tell_fault(words, fault, errors);
+        return FAILED;
     }
-}
-
-// Filters the logs by what was read, unless memory ran out.
-fn filter_by<L: OpenLists, W: Write, E: Write>(
-    alloc: Global,
-    request: Request,
-    listed: Result<Listed, AllocError>,
-    files: &[String],
-    lists: &L,
-    output: &mut Output<'_, W>,
-    errors: &mut Output<'_, E>,
-) -> u8
-    ensures { EndsBy (L.known lists.now) request listed (logs_of files.now)
-        (record { output = output.old; output_after = output.new; errors = errors.old; errors_after = errors.new; status = result }) }
-{
-    match listed {
-        Ok(listed) => filter_listed(alloc, request, listed, files, lists, output, errors),
-        Err(_) => refuse_memory(errors),
+    if !refusals.is_empty() {
+        return FAILED;
     }
-}
-
-// Filters the logs by these networks, if there is memory for a line.
-fn filter_listed<L: OpenLists, W: Write, E: Write>(
-    alloc: Global,
-    request: Request,
-    listed: Listed,
-    files: &[String],
-    lists: &L,
-    output: &mut Output<'_, W>,
-    errors: &mut Output<'_, E>,
-) -> u8
-    ensures { EndsListed (L.known lists.now) request listed (logs_of files.now)
-        (record { output = output.old; output_after = output.new; errors = errors.old; errors_after = errors.new; status = result }) }
-{
+    let Ok(listed) = listed else {
+        return refuse_memory(errors);
+    };
     let Ok(mut buffer) = vec![in alloc; 0u8; BUFFER_LEN] else {
         return refuse_memory(errors);
     };
@@ -121,6 +81,7 @@ fn filter_listed<L: OpenLists, W: Write, E: Write>(
         inverts: request.inverts,
         bad: request.bad,
     };
+    let files = &words[request.files..];
     let buffer = buffer.as_mut_slice();
     filter_logs(
         &filter,
@@ -136,7 +97,7 @@ fn filter_listed<L: OpenLists, W: Write, E: Write>(
 // Reports that memory ran out, and returns the exit status for that.
 fn refuse_memory<E: Write>(errors: &mut Output<'_, E>) -> u8
     ensures status { result ≡ 2 }
-    ensures told { Tells errors.old errors.new (codes "out of memory\n") }
+    ensures told { Tells E.contents errors.old errors.new (codes "out of memory\n") }
 {
     tell("out of memory\n", errors);
     FAILED

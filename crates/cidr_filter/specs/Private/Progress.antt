@@ -3,7 +3,7 @@ use Rattle.std.specs.Prelude.{◌≡◌, ℕ, ◌+◌, ◌-◌, ◌^◌, Bool, t
 use Rattle.std.specs.List.{list_all}
 use Rattle.std.specs.Io.KnownBytes.{Consumes, IsAtEnd}
 use Rattle.line_engine.specs.LineBuffers.{Buffered, IsPending}
-use Rattle.line_engine.specs.Outputs.{FailsIn}
+use Rattle.line_engine.specs.Outputs.{AppendsBeginning}
 use Rattle.line_engine.specs.declared.line_end.LineEnd.{LineEnd}
 use Rattle.line_engine.specs.declared.line_end.LineEnd.TheVariants.{LineFeed, ReturnAndLineFeed, EndOfInput}
 use Rattle.cidr_filter.specs.Filters.{Judges, is_refused, is_selected, mark_of, one_if, Filters}
@@ -43,7 +43,7 @@ LineStops filter counts line text write_failed old new faults.Open = ⊥
 LineStops filter counts line text write_failed old new faults.Read = ⊥
 LineStops filter counts line text write_failed old new faults.Write =
     IsTrue write_failed × (verdict : Verdict) × Judges filter line verdict × (is_refused filter verdict ≡ false)
-    × FailsIn old new (shown filter counts verdict text)
+    × AppendsBeginning old.holds new.holds (old.waits ++ shown filter counts verdict text)
 LineStops filter counts line text write_failed old new faults.Address =
     RefusesLine filter line old new verdicts.Bad
 LineStops filter counts line text write_failed old new faults.Length =

@@ -1,20 +1,40 @@
-use Rattle.std.proofs.Common.{refl}
-use Rattle.cidr_filter.specs.Stands.{stand}
-use Rattle.cidr_filter.proofs.LogsInTurn.{names_one}
-use Rattle.cidr_filter.proofs.Runs.{stops_now}
+use Rattle.std.proofs.Common.{◌∙◌, ap, refl}
+use Rattle.line_engine.specs.Outputs.{output_failed}
+use Rattle.line_engine.specs.Watched.{device_of, has_failed}
+use Rattle.program.specs.Endings.{ending}
+use Rattle.cidr_filter.specs.Stands.{stand_of}
+use Rattle.cidr_filter.specs.declared.log.LogFault.TheVariants.{Open}
+use Rattle.cidr_filter.proofs.LogsInTurn.{stops_by, name_closed}
+use Rattle.cidr_filter.proofs.Runs.{name_stops}
 use Rattle.cidr_filter.proofs.logs.filter_one.Goals as goal
 
-pub returns-in-Ok-clause-all : goal.returns-in-Ok-clause-all
-returns-in-Ok-clause-all g c =
-    λ yes. (
-      refl,
-      names_one c.args.filter.now c.args.counts (g.L.OpenLists.known c.args.lists.now) c.args.name.now
-          (stand c.args.output.now c.args.tally.now)
-          (stand c.filter_named.new.output c.filter_named.new.tally) c.in-Ok.ensures.ok,
-    )
+pub returns-in_default-clause-stopped : goal.returns-in_default-clause-stopped
+returns-in_default-clause-stopped g c = λ no.
+    let known = g.L.OpenLists.known c.args.lists.now in
+    let contents = g.W.Write.contents in
+    let output = c.args.output.now in
+    name_stops c.args.filter.now c.args.counts known c.args.name.now
+    (ending contents output c.stop.new.output g.E.Write.contents c.args.errors.now c.stop.new.errors
+    2) refl
+    output Open c.args.tally.now (record c.args.tally.now { lines = 0 })
+    (name_closed c.args.filter.now c.args.counts known c.args.name.now (output_failed output)
+    (stand_of contents output c.args.tally.now) c.in_default.ensures.opened) c.stop.ensures
 
 pub returns-in-Err-clause-stopped : goal.returns-in-Err-clause-stopped
-returns-in-Err-clause-stopped g c =
-    let stops = c.in-Err.ensures.err in
-    λ no. stops_now c.args.filter.now c.args.counts (g.L.OpenLists.known c.args.lists.now) c.args.name.now stops.lines stops.added stops.count stops.filters (record { output = c.args.output.now; output_after = c.stop.new.output; errors = c.args.errors.now; errors_after = c.stop.new.errors; status = 2 }) refl c.filter_named.new.output
-    c.filter_named.new.tally.lines c.in-Err.fault c.args.tally.now c.filter_named.new.tally refl stops.halts stops.puts c.stop.ensures
+returns-in-Err-clause-stopped g c = λ no.
+    let known = g.L.OpenLists.known c.args.lists.now in
+    let remaining = g.L.List.Read.remaining in
+    let contents = g.W.Write.contents in
+    let mid = c.filter_log-end.new.output in
+    let tally = c.filter_log-end.new.tally in
+    name_stops c.args.filter.now c.args.counts known c.args.name.now
+    (ending contents c.args.output.now c.stop-in-Err.new.output g.E.Write.contents c.args.errors.now
+    c.stop-in-Err.new.errors 2) refl
+    mid c.in-Err.fault c.args.tally.now tally
+    (stops_by c.args.filter.now c.args.counts known c.args.name.now
+    (remaining (device_of c.new-log.result)) (remaining (device_of c.filter_log-end.new.reader))
+    (λ input e. ap remaining c.new-log.ensures.device ∙ c.in-Ok.ensures.bytes input e)
+    c.in-Ok.ensures.opened
+    (has_failed c.filter_log-end.new.reader) (output_failed mid)
+    (stand_of contents c.args.output.now c.args.tally.now) (stand_of contents mid tally)
+    c.in-Err.fault c.close.ensures.failed c.in-Err.ensures.err) c.stop-in-Err.ensures
