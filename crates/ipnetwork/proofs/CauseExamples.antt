@@ -15,21 +15,27 @@ use Rattle.ipnetwork.specs.declared.ip_network.IpNetwork.{IpNetwork}
 pub one_slash_is_not_format : ¬ (IsIpCause (codes "10.0.0.0/33") Format)
 one_slash_is_not_format h = omega (arith, h)
 
-pub several_slashes_are_not_addr : (text : List ℕ) → HasSeveralSlashes text → ¬ (IsIpCause text Addr)
+pub several_slashes_are_not_addr : (text : List ℕ) → HasSeveralSlashes text
+    → ¬ (IsIpCause text Addr)
 several_slashes_are_not_addr text several (few, none) = omega (arith, several, few)
 
-pub several_slashes_are_not_prefix : (text : List ℕ) → HasSeveralSlashes text → ¬ (IsIpCause text Prefix)
+pub several_slashes_are_not_prefix : (text : List ℕ) → HasSeveralSlashes text
+    → ¬ (IsIpCause text Prefix)
 several_slashes_are_not_prefix text several (few, some) = omega (arith, several, few)
 
 -- an address of either family is enough
-pub address_is_not_addr : (text : List ℕ) (a : IpAddr) → NamesIp (before_slash text) a → ¬ (IsIpCause text Addr)
+pub address_is_not_addr : (text : List ℕ) (a : IpAddr) → NamesIp (before_slash text) a
+    → ¬ (IsIpCause text Addr)
 address_is_not_addr text a named (few, none) = none a named
 
-pub no_address_is_not_prefix : (text : List ℕ) → ((a : IpAddr) → ¬ (NamesIp (before_slash text) a)) → ¬ (IsIpCause text Prefix)
+pub no_address_is_not_prefix : (text : List ℕ) → ((a : IpAddr) → ¬ (NamesIp (before_slash text) a))
+    → ¬ (IsIpCause text Prefix)
 no_address_is_not_prefix text none (few, (a, named, refused)) = none a named
 
 -- the suffix that is refused is one of the family of the address
-pub suffix_is_of_the_family : (text : List ℕ) → ((a : IpAddr) → NamesIp (before_slash text) a → ¬ (HasNoSuffix (IsIpSuffix a) text)) → ¬ (IsIpCause text Prefix)
+pub suffix_is_of_the_family : (text : List ℕ)
+    → ((a : IpAddr) → NamesIp (before_slash text) a → ¬ (HasNoSuffix (IsIpSuffix a) text))
+    → ¬ (IsIpCause text Prefix)
 suffix_is_of_the_family text given (few, (a, named, refused)) = given a named refused
 
 -- and each family has its own: IPv4 also masks
@@ -40,8 +46,10 @@ pub suffix_of_v6 : (a p : ℕ) (text : List ℕ) → IsIpSuffix (V6 a) text p �
 suffix_of_v6 a p text = ((λ h. h), (λ h. h))
 
 -- nothing is told of the texts that name a network, and of no others
-pub nothing_is_told : (text : List ℕ) → TellsIpCause text None → (n : IpNetwork) × NamesIpNetwork text n
+pub nothing_is_told : (text : List ℕ) → TellsIpCause text None
+    → (n : IpNetwork) × NamesIpNetwork text n
 nothing_is_told text named = named
 
-pub a_cause_is_told : (text : List ℕ) (fault : CidrFault) (n : IpNetwork) → TellsIpCause text (Some fault) → IsIpCause text fault × ¬ (NamesIpNetwork text n)
+pub a_cause_is_told : (text : List ℕ) (fault : CidrFault) (n : IpNetwork)
+    → TellsIpCause text (Some fault) → IsIpCause text fault × ¬ (NamesIpNetwork text n)
 a_cause_is_told text fault n told = (told.0, told.1 n)

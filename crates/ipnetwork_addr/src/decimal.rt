@@ -13,7 +13,6 @@ use arrayvec::ArrayString;
 /// decimal::push_decimal(&mut text, 207);
 /// assert_eq!(rt; text.as_str(), "207");
 /// ```
-#[tactic(auto, using(crate::proofs::Decimals::pushing))]
 pub fn push_decimal<const N: usize>(text: &mut ArrayString<N>, number: u8)
     requires { array_string_len text.old + 3 ≤ N }
     ensures bytes { text.new.bytes ≡ text.old.bytes ++ decimal number }

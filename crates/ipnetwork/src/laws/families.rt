@@ -22,9 +22,10 @@ pub fn each_asks_its_family()
     ensures v6 { AsksItsFamily 128 networks.V6 ips.V6 sizes.V6 }
 {}
 
-/// Each call that makes a network of either family returns what that of its own family does. Making one with a mask is
-/// making it with the prefix length to which the mask converts, in whichever family. What converts to a network of one
-/// family is a network of that family, and converts to itself.
+/// Each call that makes a network of either family returns what that of its own family does. Making
+/// one with a mask is making it with the prefix length to which the mask converts, in whichever
+/// family. What converts to a network of one family is a network of that family, and converts to
+/// itself.
 pub fn each_is_made_in_its_family()
     ensures v4 { MakesInItsFamily 32 networks.V4 ips.V4 }
     ensures v6 { MakesInItsFamily 128 networks.V6 ips.V6 }
@@ -36,8 +37,9 @@ pub fn each_is_made_in_its_family()
     families::masks();
 }
 
-/// The texts of a network of either family are those of its own family. Parsing returns what reading does: the same
-/// network, or the error for the cause `Addr` and the kind `Ip`, or `OutOfMemory` in its place.
+/// The texts of a network of either family are those of its own family. Parsing returns what
+/// reading does: the same network, or the error for the cause `Addr` and the kind `Ip`, or
+/// `OutOfMemory` in its place.
 pub fn each_is_read_in_its_family()
     ensures v4 { ReadsInItsFamily networks.V4 NamesV4Network canonical_v4 }
     ensures v6 { ReadsInItsFamily networks.V6 NamesV6Network canonical_v6 }

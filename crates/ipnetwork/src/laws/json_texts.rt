@@ -14,10 +14,11 @@ use ipnetwork_family::laws as families;
 use serde_json::{Error, Value};
 use std::alloc::Global;
 
-/// The value of a network is written with no space as its canonical text in quotes: JSON escapes no byte of
-/// that text.
+/// The value of a network is written with no space as its canonical text in quotes: JSON escapes no
+/// byte of that text.
 pub fn ip_network_stands_in_quotes()
-    ensures { (n : IpNetwork) → IsIpNetwork n → compact_text (string (ip_network_text n)) ≡ in_quotes (ip_network_text n) }
+    ensures { (n : IpNetwork) → IsIpNetwork n
+        → compact_text (string (ip_network_text n)) ≡ in_quotes (ip_network_text n) }
 {
     families::network_stands_in_quotes::<Ipv4Addr>();
     families::network_stands_in_quotes::<Ipv6Addr>();
@@ -32,13 +33,14 @@ pub fn ip_network_value_reads_back()
     canonical_ip_network_names_it();
 }
 
-/// The compact text of a network's value is the canonical text in quotes, and reading that text and the value
-/// that it is gives the network again. It fails only when out of memory.
+/// The compact text of a network's value is the canonical text in quotes, and reading that text and
+/// the value that it is gives the network again. It fails only when out of memory.
 pub fn ip_network_through_json(
     alloc: Global,
     network: &IpNetwork,
 ) -> Result<(String, Result<IpNetwork, JsonFault>), Error>
-    ensures text { IfOk result (λ answer. string_bytes answer.0 ≡ in_quotes (ip_network_text network.now)) }
+    ensures text { IfOk result
+        (λ answer. string_bytes answer.0 ≡ in_quotes (ip_network_text network.now)) }
     ensures back { IfOk result (λ answer. answer.1 ≡ Ok network.now) }
     ensures err { IfErr result IsMemory }
 {

@@ -11,7 +11,8 @@ use ipnetwork_family::laws as families;
 
 /// Networks of two families have no address in common, and neither is part of the other.
 pub fn families_are_apart()
-    ensures { (a b : Network) → IsNetwork 32 a → IsNetwork 128 b → AreApart (networks.V4 a) (networks.V6 b) }
+    ensures { (a b : Network) → IsNetwork 32 a → IsNetwork 128 b
+        → AreApart (networks.V4 a) (networks.V6 b) }
 {}
 
 /// An address is a member exactly if the computing test says so.
@@ -23,7 +24,8 @@ pub fn ip_membership_is_computed()
 
 /// A network is a subnet of another exactly if the computing test says so.
 pub fn ip_subnet_is_computed()
-    ensures { (a b : IpNetwork) → IsIpNetwork a → IsIpNetwork b → IsTrue (is_ip_subnet a b) ↔ IpSubnet a b }
+    ensures { (a b : IpNetwork) → IsIpNetwork a → IsIpNetwork b
+        → IsTrue (is_ip_subnet a b) ↔ IpSubnet a b }
 {
     families::subnet_is_computed();
 }

@@ -1,4 +1,5 @@
-//! Laws of texts: which network a text names, how it is printed, and which error a text gets that names none.
+//! Laws of texts: which network a text names, how it is printed, and which error a text gets that
+//! names none.
 ghost use Rattle.std.specs.Prelude.{◌≡◌, ◌↔◌, ℕ, List, Result, Ok};
 ghost use Rattle.std.specs.List.{AllByRecursion};
 ghost use Rattle.ipnetwork_family.specs.NetworkText.{IsNetworkByte};
@@ -13,7 +14,8 @@ use ipnetwork_family::laws as families;
 
 /// A text names at most one network, across both families.
 pub fn ip_network_text_names_one()
-    ensures { (text : List ℕ) (a b : IpNetwork) → NamesIpNetwork text a → NamesIpNetwork text b → a ≡ b }
+    ensures { (text : List ℕ) (a b : IpNetwork)
+        → NamesIpNetwork text a → NamesIpNetwork text b → a ≡ b }
 {
     addresses::v4_text_is_computed();
     addresses::v6_text_is_computed();
@@ -22,9 +24,11 @@ pub fn ip_network_text_names_one()
     families::v6_network_reading_is_computed();
 }
 
-/// What reading a network of either family returns can be computed from the text, and the text determines it.
+/// What reading a network of either family returns can be computed from the text, and the text
+/// determines it.
 pub fn ip_network_reading_is_computed()
-    ensures { (text : List ℕ) (result : Result IpNetwork CidrFault) → ReadsIpNetwork text result ↔ (result ≡ ip_network_of text) }
+    ensures { (text : List ℕ) (result : Result IpNetwork CidrFault)
+        → ReadsIpNetwork text result ↔ (result ≡ ip_network_of text) }
 {
     ip_network_text_names_one();
     families::v4_network_reading_is_computed();
@@ -39,8 +43,8 @@ pub fn canonical_ip_network_names_it()
     families::canonical_network_names_it::<Ipv6Addr>();
 }
 
-/// Reading the canonical text of a network returns that network and nothing else, so printing it again changes
-/// nothing.
+/// Reading the canonical text of a network returns that network and nothing else, so printing it
+/// again changes nothing.
 pub fn canonical_ip_network_reads_back()
     ensures { (n : IpNetwork) (result : Result IpNetwork CidrFault) → IsIpNetwork n
         → ReadsIpNetwork (ip_network_text n) result ↔ (result ≡ Ok n) }

@@ -1,4 +1,5 @@
-//! Laws of the values: what `==`, the order, the hash and the copies of networks, sizes and errors say.
+//! Laws of the values: what `==`, the order, the hash and the copies of networks, sizes and errors
+//! say.
 ghost use Rattle.std.specs.Prelude.{◌≡◌, ◌<◌, ◌≤◌, ◌↔◌, fold, Result, Ok, IsTrue};
 ghost use Rattle.std.specs.Hash as fed;
 ghost use Rattle.std.specs.Ordering.{nat_cmp};
@@ -18,8 +19,8 @@ pub fn ip_network_equality(a: IpNetwork, b: IpNetwork) -> bool
     a == b
 }
 
-/// `<`, `<=` and `cmp` put each IPv4 network before each IPv6 network, and compare two of one family by
-/// their addresses, then by their prefix lengths.
+/// `<`, `<=` and `cmp` put each IPv4 network before each IPv6 network, and compare two of one
+/// family by their addresses, then by their prefix lengths.
 pub fn ip_network_order(a: IpNetwork, b: IpNetwork) -> (bool, bool, Ordering)
     ensures less { IsTrue result.0 ↔ IsIpBefore a b }
     ensures at_most { IsTrue result.1 ↔ IsIpAtMost a b }
@@ -44,8 +45,8 @@ pub fn network_size_order(a: NetworkSize, b: NetworkSize) -> (bool, bool, Orderi
     (a < b, a <= b, a.cmp(&b))
 }
 
-/// A size feeds a hasher its number as one of 128 bits, whatever its variant. So two hashers in the same state that are
-/// fed equal sizes are in the same state afterwards.
+/// A size feeds a hasher its number as one of 128 bits, whatever its variant. So two hashers in the
+/// same state that are fed equal sizes are in the same state afterwards.
 pub fn network_size_hash<H: Hasher>(size: NetworkSize, state: &mut H)
     ensures { state.new ≡ fold H.write state.old (fed.u128 (size_number size)) }
 {
@@ -59,8 +60,8 @@ pub fn network_size_clone(size: NetworkSize) -> Result<NetworkSize, AllocError>
     size.clone()
 }
 
-/// A network feeds a hasher its family, its address and its prefix length. So two hashers in the same state that are
-/// fed equal networks are in the same state afterwards.
+/// A network feeds a hasher its family, its address and its prefix length. So two hashers in the
+/// same state that are fed equal networks are in the same state afterwards.
 pub fn ip_network_hash<H: Hasher>(a: IpNetwork, b: IpNetwork, first: &mut H, second: &mut H)
     ensures first { first.new ≡ fold H.write first.old (ip_network_writes a) }
     ensures second { second.new ≡ fold H.write second.old (ip_network_writes b) }
