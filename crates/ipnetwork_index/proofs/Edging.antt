@@ -1,0 +1,133 @@
+-- The edges of the blocks of a table.
+use Rattle.std.proofs.Common.{◌≡◌, ℕ, zero, suc, ◌+◌, ◌^◌, ◌<◌, ◌≤◌, Bool, true, false, List, [], ◌∷◌, ◌++◌, map, arith, sym, refl, ap, subst, ◌∙◌, ⊎_elim, Option, None, Some, IsSome, is_some, slice_get, Ordering, true≢false}
+use Rattle.std.specs.declared.cmp.Ordering.TheVariants.{Less, Equal}
+use Rattle.std.specs.Cmp.{IsTotalOrder, IsEquivalence, ranked}
+use Rattle.std.specs.Ordering.{nat_cmp, eq_by_cmp}
+use Rattle.std.specs.List.{AllByRecursion, Contains, dedup}
+use Rattle.std.specs.List.Sorted.{IsSorted, IsStrictlySortedBy, IsPermutation}
+use Rattle.std.specs.Option.{unwrap_or}
+use Rattle.std.specs.FinMap.{FinMap, get, entries}
+use Rattle.std.proofs.lemmas.List.Kept.{Any-dedup, IsStrictlySortedBy-dedup}
+use Rattle.std.proofs.lemmas.List.Sorted.{Contains-permutation, IsPermutation-map}
+use Rattle.std.proofs.lemmas.List.Elements.{Contains-append_left, Contains-append_right, Contains-push}
+use Rattle.ipnetwork_family.specs.Network.{Network, low, high, network_cmp}
+use Rattle.ipnetwork_table.specs.Laws.{StoredIsListed}
+use Rattle.ipnetwork_table.proofs.Pairs.{tie_of}
+use Rattle.ipnetwork_index.specs.Private.Cuts.{before, cuts_of, Rises, Closes}
+use Rattle.ipnetwork_index.specs.Private.Edges.{edges_of, CutsOut}
+
+-- ---- each block has its edges
+
+nothing : {A : Type 0} (a : A) → None ≡ Some a → ⊥
+nothing a e = let f : false ≡ true = ap is_some e in cc
+
+edge_in : {V : Type 0} (w : ℕ) (es : List (Network × V)) (i : ℕ) (e : Network × V) (y : ℕ)
+    → slice_get es i ≡ Some e → Contains (cuts_of (low w e.0, high w e.0)) y
+    → Contains (edges_of w es) y
+edge_in {V} w [] i e y at c = absurd (nothing e at)
+edge_in {V} w (d ∷ es) zero e y at c =
+    let same : d ≡ e = ap (λ o. unwrap_or o d) at in
+    Contains-append_left (cuts_of (low w d.0, high w d.0)) (edges_of w es) y
+    (subst (λ (f : Network × V). Contains (cuts_of (low w f.0, high w f.0)) y) (sym same) c)
+edge_in {V} w (d ∷ es) (suc i) e y at c = Contains-append_right (cuts_of (low w d.0, high w d.0))
+    (edges_of w es) y (edge_in w es i e y at c)
+
+own_end : (first last : ℕ) → Contains (cuts_of (first, last)) last
+own_end first last = Contains-push (before first) last
+
+end_before : (first last x : ℕ) → x + 1 ≡ first → Contains (cuts_of (first, last)) x
+end_before zero last x e = absurd (omega arith)
+end_before (suc n) last x e = let same : n ≡ x = omega arith in (0, omega arith, same)
+
+some_value : {A : Type 0} (o : Option A) → IsSome o → (a : A) × (o ≡ Some a)
+some_value None s = absurd (true≢false (sym s))
+some_value (Some a) s = (a, refl)
+
+-- the cuts are among the last numbers
+closes_keeps : (w : ℕ) (cuts lasts : List ℕ) (y : ℕ) → Closes w cuts lasts → Contains cuts y
+    → Contains lasts y
+closes_keeps w cuts lasts y h c =
+    ⊎_elim
+    (λ (same : lasts ≡ cuts). subst (λ (xs : List ℕ). Contains xs y) (sym same) c)
+    (λ (more : (top : ℕ) × (top + 1 ≡ 2 ^ w) × (lasts ≡ cuts ++ top ∷ [])).
+    subst (λ (xs : List ℕ). Contains xs y) (sym more.2) (Contains-append_left cuts (more.0 ∷ []) y
+    c))
+    h.either
+
+-- ---- sorted, and each once
+
+-- what is read through a function
+contains_of_map : {A : Type 0} (f : A → ℕ) (xs : List A) (y : ℕ) → Contains (map f xs) y → (a : A)
+    × Contains xs a × (f a ≡ y)
+contains_of_map f [] y c = let l = c.1 in absurd (omega arith)
+contains_of_map f (x ∷ xs) y (zero, l, e) = (x, (0, omega arith, refl), e)
+contains_of_map f (x ∷ xs) y (suc k, l, e) =
+    let rest = contains_of_map f xs y (k, omega arith, e) in
+    (rest.0, (suc rest.1.0, omega (arith, rest.1.1), rest.1.2), rest.2)
+
+map_of_contains : {A : Type 0} (f : A → ℕ) (xs : List A) (a : A) → Contains xs a
+    → Contains (map f xs) (f a)
+map_of_contains f [] a c = let l = c.1 in absurd (omega arith)
+map_of_contains f (x ∷ xs) a (zero, l, e) = (0, omega arith, ap f e)
+map_of_contains f (x ∷ xs) a (suc k, l, e) =
+    let rest = map_of_contains f xs a (k, omega arith, e) in
+    (suc rest.0, omega (arith, rest.1), rest.2)
+
+-- addresses, which are ordered by their numbers
+module _ {A : Type 0} (R : A → A → Ordering) (E : A → A → Bool) (f : A → ℕ) (by_number : (x y : A)
+    → R x y ≡ nat_cmp (f x) (f y)) (ties : (x y : A) → E x y ≡ eq_by_cmp R x y) where
+  above : (x : A) (xs : List A) → AllByRecursion (λ y. R x y ≡ Less) xs
+      → AllByRecursion (λ y. f x + 1 ≤ f y) xs
+  above x [] h = h
+  above x (y ∷ ys) h =
+      let less : f x < f y = ranked (f x) (f y) Less (sym (sym (by_number x y) ∙ h.0)) in
+      (omega arith, above x ys h.1)
+
+  rises_by : (least : ℕ) (xs : List A) → AllByRecursion (λ y. least ≤ f y) xs
+      → IsStrictlySortedBy R xs → Rises least (map f xs)
+  unfolding IsStrictlySortedBy
+  rises_by least [] a s = tt
+  rises_by least (x ∷ xs) a s = (a.0, rises_by (f x + 1) xs (above x xs s.0) s.1)
+
+  none_below : (xs : List A) → AllByRecursion (λ y. 0 ≤ f y) xs
+  none_below [] = tt
+  none_below (x ∷ xs) = (omega arith, none_below xs)
+
+  pub each_once : IsTotalOrder R → (xs : List A) → IsSorted R xs → Rises 0 (map f (dedup E xs))
+  each_once total xs s = rises_by 0 (dedup E xs) (none_below (dedup E xs))
+      (IsStrictlySortedBy-dedup total ties xs s)
+
+  kept : IsEquivalence E → (xs : List A) (y : ℕ) → Contains (map f xs) y
+      → Contains (map f (dedup E xs)) y
+  kept e xs y c =
+      let a = contains_of_map f xs y c in
+      let k = Any-dedup e xs a.0 a.1 in
+      let z : A = k.1 in
+      let tied : R a.0 z ≡ Equal = tie_of (R a.0 z) (sym (ties a.0 z) ∙ k.4) in
+      let same : f a.0 ≡ f z = ranked (f a.0) (f z) Equal (sym (sym (by_number a.0 z) ∙ tied)) in
+      subst (λ (n : ℕ). Contains (map f (dedup E xs)) n) (sym same
+      ∙ a.2) (map_of_contains f (dedup E xs) z (k.0, k.2, k.3))
+
+  -- ---- so each block is cut out
+
+  pub all_cut_out : {V : Type 0} (w : ℕ) (t : FinMap network_cmp V) (edges sorted : List A)
+      (lasts : List ℕ) → IsEquivalence E → StoredIsListed V
+      → map f edges ≡ edges_of w (entries t) → IsPermutation edges sorted
+      → Closes w (map f (dedup E sorted)) lasts → CutsOut w t lasts
+  all_cut_out {V} w t edges sorted lasts e listed is p c =
+      let through : (y : ℕ) → Contains (edges_of w (entries t)) y → Contains lasts y = λ y h.
+      closes_keeps w (map f (dedup E sorted)) lasts y c
+      (kept e sorted y (Contains-permutation (map f edges) (map f sorted) y
+      (IsPermutation-map f edges sorted p) (subst (λ (xs : List ℕ). Contains xs y) (sym is) h))) in
+      record {
+        partition = c.partition;
+        blocks = λ n s.
+            let v = some_value (get t n) s in
+            let at = listed t n v.0 v.1 in
+            record {
+              end = through (high w n) (edge_in w (entries t) at.0 (n, v.0) (high w n) at.1
+                  (own_end (low w n) (high w n)));
+              start = λ x q. through x (edge_in w (entries t) at.0 (n, v.0) x at.1
+                  (end_before (low w n) (high w n) x q));
+            };
+      }

@@ -1,0 +1,190 @@
+-- The fields that a partition is built with.
+use Rattle.std.proofs.Common.{◌≡◌, ℕ, zero, suc, ◌+◌, ◌-◌, ◌*◌, ◌^◌, ◌<◌, ◌≤◌, List, [], ◌∷◌, ◌++◌, length, get_or, take, arith, sym, refl, ◌∙◌, subst, ⊎_elim, append_assoc, length-append}
+use Rattle.std.proofs.lemmas.Bool.{cases_lt, cases_eq}
+use Rattle.std.proofs.lemmas.List.{get_or_append_left, get_or-append-add, get_or_push}
+use Rattle.std.proofs.Math.Nat.{mul-le-mul_right}
+use Rattle.std.proofs.Math.Seq.{take-append_seam}
+use Rattle.ipnetwork_index.specs.Parts.{IsPart}
+use Rattle.ipnetwork_index.specs.Private.Partitions.{IsPartition}
+use Rattle.ipnetwork_index.specs.Private.Padded.{unpadded, IsSearched, IsStart, AreStarts, AreStartsSoFar}
+
+-- ---- where the search for a part begins
+
+-- one more number is less than each number of the part
+pub start_more : (lasts : List ℕ) (base shift part at own : ℕ) → IsStart lasts base shift part at
+    → at < length lasts
+    → IsPart (get_or lasts at 0) base shift 18446744073709551615 own → own < part
+    → part ≤ 18446744073709551615
+    → IsStart lasts base shift part (at + 1)
+start_more lasts base shift part at own s l p less small =
+    let to : get_or lasts at 0 < base + (own + 1) * 2 ^ shift = p.to (omega arith) in
+    let grows : (own + 1) * 2 ^ shift ≤ part * 2 ^ shift
+    = mul-le-mul_right (2 ^ shift) (omega arith) in
+    record {
+      within = omega arith;
+      less = λ k m. ⊎_elim
+          (λ (before : k < at). s.less k before)
+          (λ (here : at ≤ k).
+          let q : at ≡ k = omega arith in (
+            omega arith,
+            subst (λ (j : ℕ). get_or lasts j 0 < base + part * 2 ^ shift) q
+                (omega arith),
+          ))
+          (cases_lt k at);
+    }
+
+start_fewer : (lasts : List ℕ) (base shift part at fewer : ℕ) → fewer ≤ at
+    → IsStart lasts base shift part at
+    → IsStart lasts base shift part fewer
+start_fewer lasts base shift part at fewer l s =
+    let w = s.within in record { within = omega arith; less = λ k m. s.less k (omega arith) }
+
+start_next : (lasts : List ℕ) (base shift part at : ℕ) → IsStart lasts base shift part at
+    → IsStart lasts base shift (part + 1) at
+start_next lasts base shift part at s =
+    let grows : part * 2 ^ shift ≤ (part + 1) * 2 ^ shift
+    = mul-le-mul_right (2 ^ shift) (omega arith) in
+    record {
+      within = s.within;
+      less = λ k m.
+          let f = s.less k m in
+          let l : get_or lasts k 0 < base + part * 2 ^ shift = f.1 in (omega arith, omega arith);
+    }
+
+-- the place of one more part
+pub starts_more : (lasts starts : List ℕ) (base shift part before at start : ℕ)
+    → AreStartsSoFar lasts starts base shift part before
+    → IsStart lasts base shift part at → start ≤ at → AreStartsSoFar lasts (starts ++ start ∷ [])
+    base shift (part + 1) at
+starts_more lasts starts base shift part before at start t s l =
+    let size = t.size in
+    let longer : length (starts ++ start ∷ []) ≡ length starts + 1
+    = length-append starts (start ∷ []) in
+    record {
+      size = omega arith;
+      all = λ h m. ⊎_elim
+          (λ (early : h < length starts). rw (get_or_append_left starts (start ∷ []) 0 h early)
+          (t.all h early))
+          (λ (last : length starts ≤ h).
+          let here : length starts ≡ h = omega arith in
+          let p : part ≡ h = omega arith in
+          rw (get_or_push starts start 0 h here)
+          (subst (λ (j : ℕ). IsStart lasts base shift j start) p (start_fewer lasts base shift part
+          at start l s)))
+          (cases_lt h (length starts));
+      next = start_next lasts base shift part at s;
+    }
+
+-- ---- three more of the greatest number
+
+-- no number is greater than the last
+at_most_top : (w : ℕ) (lasts : List ℕ) (top k : ℕ) → IsPartition w lasts → top + 1 ≡ 2 ^ w
+    → k < length lasts → get_or lasts k 0 ≤ top
+at_most_top w lasts top k h t l =
+    ⊎_elim
+    (λ (e : k + 1 ≡ length lasts). let q : get_or lasts k 0 + 1 ≡ 2 ^ w = h.last k e in omega arith)
+    (λ (ne : k + 1 ≡ length lasts → _).
+    let some = h.some in
+    let j : ℕ = length lasts - 1 in
+    let q : get_or lasts j 0 + 1 ≡ 2 ^ w = h.last j (omega arith) in
+    let a : get_or lasts k 0 < get_or lasts j 0 = h.ascending k j (omega arith) (omega arith) in
+    omega arith)
+    (cases_eq (k + 1) (length lasts))
+
+read_own : (lasts : List ℕ) (top k : ℕ) → k < length lasts
+    → get_or (lasts ++ (top ∷ top ∷ top ∷ [])) k 0 ≡ get_or lasts k 0
+read_own lasts top k l = get_or_append_left lasts (top ∷ top ∷ top ∷ []) 0 k l
+
+of_three : (top j : ℕ) → j < 3 → get_or (top ∷ top ∷ top ∷ []) j 0 ≡ top
+of_three top zero l = refl
+of_three top (suc zero) l = refl
+of_three top (suc (suc zero)) l = refl
+of_three top (suc (suc (suc j))) l = absurd (omega arith)
+
+read_more : (lasts : List ℕ) (top k : ℕ) → length lasts ≤ k → k < length lasts + 3
+    → get_or (lasts ++ (top ∷ top ∷ top ∷ [])) k 0 ≡ top
+read_more lasts top k le l =
+    let j : ℕ = k - length lasts in
+    let e : length lasts + j ≡ k = omega arith in
+    subst (λ (i : ℕ). get_or (lasts ++ (top ∷ top ∷ top ∷ [])) i 0 ≡ top) e
+    (get_or-append-add lasts (top ∷ top ∷ top ∷ []) j 0 ∙ of_three top j (omega arith))
+
+padded_is : (w : ℕ) (lasts starts : List ℕ) (top base shift : ℕ) → IsPartition w lasts
+    → AreStarts lasts starts base shift → shift < w
+    → top + 1 ≡ 2 ^ w → IsSearched w (lasts ++ (top ∷ top ∷ top ∷ [])) starts base shift
+padded_is w lasts starts top base shift h t narrow is =
+    let all : List ℕ = lasts ++ (top ∷ top ∷ top ∷ []) in
+    let some = h.some in
+    let size : length all ≡ length lasts + 3 = length-append lasts (top ∷ top ∷ top ∷ []) in
+    record {
+      some = omega arith;
+      ascending = record {
+        order = λ i j le l.
+            ⊎_elim
+            (λ (early : j < length lasts).
+            let ri = read_own lasts top i (omega arith) in
+            let rj = read_own lasts top j early in
+            ⊎_elim
+            (λ (less : i < j).
+            let a : get_or lasts i 0 < get_or lasts j 0 = h.ascending i j less early in
+            omega arith)
+            (λ (ge : j ≤ i).
+            let e : i ≡ j = omega arith in
+            subst (λ (m : ℕ). get_or all i 0 ≤ get_or all m 0) e (omega arith))
+            (cases_lt i j))
+            (λ (late : length lasts ≤ j).
+            let rj = read_more lasts top j late (omega arith) in
+            ⊎_elim
+            (λ (early : i < length lasts).
+            let ri = read_own lasts top i early in
+            let m = at_most_top w lasts top i h is early in omega arith)
+            (λ (both : length lasts ≤ i). let ri = read_more lasts top i both (omega arith) in omega
+            arith)
+            (cases_lt i (length lasts)))
+            (cases_lt j (length lasts));
+      };
+      padded = λ k near l.
+          ⊎_elim
+          (λ (early : k < length lasts).
+          let r = read_own lasts top k early in
+          let q : get_or lasts k 0 + 1 ≡ 2 ^ w = h.last k (omega arith) in omega arith)
+          (λ (late : length lasts ≤ k). let r = read_more lasts top k late (omega arith) in omega
+          arith)
+          (cases_lt k (length lasts));
+      narrow = narrow;
+      starts_are = record {
+        some = t.some;
+        all = λ part l.
+            let s = t.all part l in
+            let within = s.within in
+            record {
+              within = omega arith;
+              less = λ k m.
+                  let r = read_own lasts top k (omega arith) in
+                  let f = s.less k m in
+                  let less : get_or lasts k 0 < base + part * 2 ^ shift = f.1 in (f.0, omega arith);
+            };
+      };
+    }
+
+-- pushed one after the other
+pushed : (lasts : List ℕ) (top : ℕ) → ((lasts ++ top ∷ []) ++ top ∷ []) ++ top ∷ [] ≡ lasts ++
+    (top ∷ top ∷ top ∷ [])
+pushed lasts top = simp append_assoc
+
+pub searched : (w : ℕ) (lasts starts all : List ℕ) (top base shift : ℕ)
+    → all ≡ ((lasts ++ top ∷ []) ++ top ∷ []) ++ top ∷ []
+    → IsPartition w lasts → AreStarts lasts starts base shift → shift < w → top + 1 ≡ 2 ^ w
+    → IsSearched w all starts base shift
+searched w lasts starts all top base shift e h t narrow is =
+    subst (λ (xs : List ℕ). IsSearched w xs starts base shift) (sym (e ∙ pushed lasts top))
+    (padded_is w lasts starts top base shift h t narrow is)
+
+pub unpadded_is : (lasts all : List ℕ) (top : ℕ) → all ≡ ((lasts ++ top ∷ []) ++ top ∷ []) ++ top ∷
+    [] → unpadded all ≡ lasts
+unpadded_is lasts all top e =
+    subst (λ (xs : List ℕ). take (length xs - 3) xs ≡ lasts) (sym (e ∙ pushed lasts top))
+    (let size : length (lasts ++ (top ∷ top ∷ top ∷ [])) ≡ length lasts + 3
+    = length-append lasts (top ∷ top ∷ top ∷ []) in
+    let n : length (lasts ++ (top ∷ top ∷ top ∷ [])) - 3 ≡ length lasts = omega arith in
+    rw n (take-append_seam lasts (top ∷ top ∷ top ∷ [])))

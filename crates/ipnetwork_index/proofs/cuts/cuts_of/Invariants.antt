@@ -1,0 +1,11 @@
+use Rattle.std.proofs.Common.{◌≡◌, ◌++◌, length, map}
+use Rattle.std.specs.List.{flat_map}
+use Rattle.ipnetwork_index.specs.Private.Cuts.{cuts_of}
+use Rattle.ipnetwork_index.proofs.cuts.cuts_of.Given as goal
+
+abbrev pub invariant-cutting : goal.invariant-cutting
+invariant-cutting g l = flat_map cuts_of l.initial.ranges ≡ map g.N.CidrNetwork.number l.cuts.items
+    ++ flat_map cuts_of l.ranges
+
+abbrev pub decreases-cutting : goal.decreases-cutting
+decreases-cutting g l = length l.ranges

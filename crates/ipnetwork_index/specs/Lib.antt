@@ -1,0 +1,4 @@
+-- What the contracts of this crate cite.
+pub mod Parts
+pub mod Private
+pub mod Turns

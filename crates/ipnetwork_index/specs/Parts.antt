@@ -1,0 +1,10 @@
+-- The numbers from one on, in parts of 2 ^ shift numbers each.
+use Rattle.std.specs.Prelude.{ℕ, ◌+◌, ◌*◌, ◌^◌, ◌<◌, ◌≤◌}
+
+-- x is in this part of those from `base` on, the last of which is `last`: of all numbers, the first
+-- part has those
+-- before it too, and the last part those after it
+pub record IsPart (x base shift last part : ℕ) : Type 0 where
+  pub within : part ≤ last
+  pub from : 1 ≤ part → base + part * 2 ^ shift ≤ x
+  pub to : part < last → x < base + (part + 1) * 2 ^ shift

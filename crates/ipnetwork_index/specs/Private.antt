@@ -1,0 +1,6 @@
+-- What the private functions promise each other, and how contracts see private fields.
+pub mod Answers
+pub mod Cuts
+pub mod Edges
+pub mod Padded
+pub mod Partitions

@@ -1,0 +1,21 @@
+-- Where blocks cut the numbers of w bits.
+use Rattle.std.specs.Prelude.{◌≡◌, ℕ, ◌+◌, List, IsSome}
+use Rattle.std.specs.List.{Contains, flat_map}
+use Rattle.std.specs.FinMap.{FinMap, get}
+use Rattle.ipnetwork_family.specs.Network.{Network, low, high, network_cmp}
+use Rattle.ipnetwork_index.specs.Private.Partitions.{IsPartition}
+use Rattle.ipnetwork_index.specs.Private.Cuts.{cuts_of}
+
+-- for each block of a table, the last number before it and its own last number
+abbrev pub edges_of : {V : Type 0} → ℕ → List (Network × V) → List ℕ
+edges_of w entries = flat_map (λ e. cuts_of (low w e.0, high w e.0)) entries
+
+-- ranges end with the last number of the network, and with the last number before it
+pub record IsCutOut (w : ℕ) (lasts : List ℕ) (n : Network) : Type 0 where
+  pub end : Contains lasts (high w n)
+  pub start : (x : ℕ) → x + 1 ≡ low w n → Contains lasts x
+
+-- the numbers are cut into ranges, and each block of the table is cut out
+pub record CutsOut {V : Type 0} (w : ℕ) (t : FinMap network_cmp V) (lasts : List ℕ) : Type 0 where
+  pub partition : IsPartition w lasts
+  pub blocks : (n : Network) → IsSome (get t n) → IsCutOut w lasts n

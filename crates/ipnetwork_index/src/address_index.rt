@@ -1,0 +1,99 @@
+//! The index over a set of addresses.
+ghost use Rattle.std.specs.Prelude.{◌≡◌, ◌↔◌, IfOk, IsTrue};
+ghost use Rattle.ipnetwork_blocks.specs.Aggregate.{InUnion};
+ghost use Rattle.ipnetwork_index.specs.Turns.{CutInto};
+
+use crate::cuts::{closed, cuts_of};
+use crate::indexed_network::IndexedNetwork;
+use crate::partition::Partition;
+use ipnetwork_sets::AddressSet;
+use std::alloc::{AllocError, Global};
+use std::marker::Model;
+
+/// A set of addresses of one family that is asked for addresses and does not change.
+///
+/// ```
+/// let networks = ["10.0.0.0/8".parse::<Ipv4Network>()?, "192.0.2.0/24".parse()?];
+/// let set = AddressSet::from_networks(Vec::from_array(rt.alloc(), networks)?);
+/// let index = AddressIndex::from_set(rt.alloc(), &set)?;
+/// assert!(rt; index.contains(Ipv4Addr::new(10, 1, 2, 3)));
+/// assert!(rt; !index.contains(Ipv4Addr::new(192, 0, 3, 0)));
+/// ```
+#[derive(Drop)]
+pub struct AddressIndex<N: IndexedNetwork> {
+    // The addresses, cut where the set begins or ends.
+    partition: Partition<N>,
+    // Whether the first range is in the set. Of each two neighbours one alone is.
+    first_is_in: bool,
+}
+
+// A contract sees an index as the list of the blocks of the set.
+impl<N: IndexedNetwork> Model for AddressIndex<N> {
+    ghost use Rattle.std.specs.Prelude.{List};
+    ghost use Rattle.ipnetwork_family.specs.Network.{Network};
+    ghost use Rattle.ipnetwork_sets.specs.Private.LeastBlocks.{least_blocks};
+    ghost use Rattle.ipnetwork_index.specs.Private.Partitions.{IsPartition, is_inside};
+
+    ghost Value = { List Network };
+
+    ghost view = { λ i. least_blocks N.WIDTH (is_inside i.first_is_in i.partition) };
+
+    ghost invariant = { λ i. IsPartition N.WIDTH i.partition };
+}
+
+impl<N: IndexedNetwork> AddressIndex<N> {
+    /// The index over a set. Goes over its blocks once; the set is left as it is.
+    ///
+    /// ```
+    /// let networks = vec![in rt.alloc(); "2001:db8::/32".parse::<Ipv6Network>()?]?;
+    /// let set = AddressSet::from_networks(networks);
+    /// let index = AddressIndex::from_set(rt.alloc(), &set)?;
+    /// assert!(rt; index.contains("2001:db8::1".parse()?));
+    /// ```
+    pub fn from_set(alloc: Global, set: &AddressSet<N>) -> Result<Self, AllocError>
+        ensures { IfOk result (λ index. index ≡ set.now) }
+    {
+        // The clause `set` of this call says that these are the blocks of a set.
+        let _ = set.blocks();
+        let cuts = cuts_of(alloc, set)?;
+        let first_is_in = set.contains(N::whole().network());
+        let lasts = closed::<N>(cuts)?;
+        let partition = Partition::new(alloc, lasts.as_slice())?;
+        Ok(AddressIndex {
+            partition,
+            first_is_in,
+        })
+    }
+
+    /// Whether the address is in the set. Takes a few reads, however many blocks the set has.
+    ///
+    /// ```
+    /// let networks = vec![in rt.alloc(); "192.0.2.0/25".parse::<Ipv4Network>()?]?;
+    /// let set = AddressSet::from_networks(networks);
+    /// let index = AddressIndex::from_set(rt.alloc(), &set)?;
+    /// assert!(rt; index.contains(Ipv4Addr::new(192, 0, 2, 127)));
+    /// assert!(rt; !index.contains(Ipv4Addr::new(192, 0, 2, 128)));
+    /// ```
+    pub fn contains(&self, addr: N::Addr) -> bool
+        ensures { IsTrue result ↔ InUnion N.WIDTH self.now (N.number addr) }
+    {
+        let odd = self.partition.place_of(N::number_of(addr)) % 2 == 1;
+        odd != self.first_is_in
+    }
+
+    /// The number of ranges that the set cuts the addresses into: each is in it whole or not at
+    /// all. There are at most one more than twice the set's blocks (`laws::few_ranges`). The index
+    /// has the last number of each range, of 4 bytes in IPv4 and 16 in IPv6, and two to four places
+    /// of 4 bytes for each, but no more than 2^20 of them.
+    ///
+    /// ```
+    /// let networks = vec![in rt.alloc(); "192.0.2.0/25".parse::<Ipv4Network>()?]?;
+    /// let set = AddressSet::from_networks(networks);
+    /// assert_eq!(rt; AddressIndex::from_set(rt.alloc(), &set)?.range_count(), 3);
+    /// ```
+    pub fn range_count(&self) -> usize
+        ensures { CutInto N.WIDTH (InUnion N.WIDTH self.now) result }
+    {
+        self.partition.len()
+    }
+}

@@ -1,0 +1,20 @@
+//! Indexes for look-ups that are made again and again: a set of addresses that is only asked, and a
+//! table of which only the longest block of an address is asked. A look-up takes a few reads in a
+//! row, however many networks there are.
+//!
+//! Only what makes an index allocates.
+#![tactic(auto)]
+
+mod address_index;
+mod cuts;
+mod edges;
+mod fours;
+mod indexed_network;
+pub mod laws;
+mod partition;
+mod route_index;
+mod starts;
+
+pub use address_index::AddressIndex;
+pub use indexed_network::IndexedNetwork;
+pub use route_index::RouteIndex;

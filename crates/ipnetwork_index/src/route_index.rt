@@ -1,0 +1,106 @@
+//! The index over a table.
+ghost use Rattle.std.specs.Prelude.{◌≡◌, IfOk, map};
+ghost use Rattle.ipnetwork_table.specs.Table.{HasBlocksAlone, Finds};
+ghost use Rattle.ipnetwork_index.specs.Private.Answers.{AreAnswers};
+
+use crate::edges::ranges_of;
+use crate::indexed_network::IndexedNetwork;
+use crate::partition::Partition;
+use ipnetwork_table::PrefixTable;
+use std::alloc::{AllocError, Global};
+use std::marker::Model;
+
+/// A table that is asked for the longest block of addresses, and cannot change meanwhile: the index
+/// borrows it. The answers are copied, so a look-up reads the index alone.
+///
+/// ```
+/// let mut table = PrefixTable::new(rt.alloc());
+/// table.insert("10.0.0.0/8".parse::<Ipv4Network>()?, 2)?;
+/// table.insert("10.1.0.0/16".parse()?, 3)?;
+/// let index = RouteIndex::from_table(rt.alloc(), &table)?;
+/// assert_eq!(rt; index.lookup(Ipv4Addr::new(10, 1, 9, 32)), Some(("10.1.0.0/16".parse()?, 3)));
+/// ```
+#[derive(Drop)]
+pub struct RouteIndex<'a, N: IndexedNetwork, V: Copy> {
+    table: &'a PrefixTable<N, V>,
+    // The addresses, cut where a block begins or ends.
+    partition: Partition<N>,
+    // What the table finds for the addresses of each range.
+    answers: Vec<Option<(N, V)>>,
+}
+
+// A contract sees the finite map of the table.
+impl<'a, N: IndexedNetwork, V: Copy> Model for RouteIndex<'a, N, V> {
+    ghost use Rattle.std.specs.FinMap as finite_map;
+    ghost use Rattle.ipnetwork_family.specs.Network.{network_cmp};
+    ghost use Rattle.ipnetwork_table.specs.Table.{network_code};
+    ghost use Rattle.ipnetwork_index.specs.Private.Answers.{IsAnswered};
+
+    ghost Value = { finite_map.FinMap network_cmp V };
+
+    ghost coded = { finite_map.code network_code V.code };
+
+    ghost view = { λ i. i.table.now };
+
+    ghost invariant = { λ i. IsAnswered N.pair N.WIDTH i.table.now i.partition i.answers.items };
+}
+
+impl<'a, N: IndexedNetwork, V: Copy> RouteIndex<'a, N, V> {
+    /// The index over a table. Sorts where its blocks begin and end, and asks the table once for
+    /// each range between.
+    ///
+    /// ```
+    /// let mut table = PrefixTable::new(rt.alloc());
+    /// table.insert("2001:db8::/32".parse::<Ipv6Network>()?, 2)?;
+    /// let index = RouteIndex::from_table(rt.alloc(), &table)?;
+    /// assert_eq!(rt; index.lookup("2001:db9::".parse()?), None);
+    /// ```
+    pub fn from_table(alloc: Global, table: &'a PrefixTable<N, V>) -> Result<Self, AllocError>
+        ensures { IfOk result (λ index. index ≡ table.now) }
+    {
+        // The clause `blocks` of this call says that the keys are blocks.
+        let _ = table.len();
+        let lasts = ranges_of(alloc, table)?;
+        let answers = answers_of(alloc, table, lasts.as_slice())?;
+        let partition = Partition::new(alloc, lasts.as_slice())?;
+        Ok(RouteIndex {
+            table,
+            partition,
+            answers,
+        })
+    }
+
+    /// The stored block of greatest prefix length whose set holds the address, with its value;
+    /// `None` if no stored block holds it. Takes a few reads, however many blocks there are.
+    ///
+    /// ```
+    /// let mut table = PrefixTable::new(rt.alloc());
+    /// table.insert("10.0.0.0/8".parse::<Ipv4Network>()?, 2)?;
+    /// let index = RouteIndex::from_table(rt.alloc(), &table)?;
+    /// assert_eq!(rt; index.lookup(Ipv4Addr::new(10, 1, 9, 32)), Some(("10.0.0.0/8".parse()?, 2)));
+    /// assert_eq!(rt; index.lookup(Ipv4Addr::new(11, 0, 0, 0)), None);
+    /// ```
+    pub fn lookup(&self, addr: N::Addr) -> Option<(N, V)>
+        ensures answer { Finds N.pair N.WIDTH self.now (N.number addr) result }
+        ensures blocks { HasBlocksAlone N.WIDTH self.now }
+    {
+        let answers = self.answers.as_slice();
+        answers[self.partition.place_of(N::number_of(addr))]
+    }
+}
+
+// What the table finds for the last address of each range.
+fn answers_of<N: IndexedNetwork, V: Copy>(
+    alloc: Global,
+    table: &PrefixTable<N, V>,
+    lasts: &[N::Addr],
+) -> Result<Vec<Option<(N, V)>>, AllocError>
+    ensures { IfOk result
+        (λ answers. AreAnswers N.pair N.WIDTH table.now (map N.number lasts.now) answers.items) }
+{
+    let mut answers = Vec::new(alloc);
+    for last in lasts {
+        answers.push(table.lookup(*last))?;
+    }
+    Ok(answers)
+}
