@@ -1,5 +1,5 @@
-//! What the measurements of this crate and those of the crate `ipnetwork` share: the random networks of
-//! `bindings/c/speed.c`, how a call is measured, and reading by `std::net`.
+//! What the measurements of this crate and those of the crate `ipnetwork` share: the random
+//! networks of `bindings/c/speed.c`, how a call is measured, and reading by `std::net`.
 
 use std::fmt::Display;
 use std::hint::black_box;

@@ -1,5 +1,5 @@
-//! Random addresses, networks and texts, and what reading a text has to answer by `std::net` alone: what the tests of
-//! this crate and those of the crate `ipnetwork` share.
+//! Random addresses, networks and texts, and what reading a text has to answer by `std::net` alone:
+//! what the tests of this crate and those of the crate `ipnetwork` share.
 
 use std::env;
 use std::net::{Ipv4Addr, Ipv6Addr};
@@ -114,7 +114,8 @@ fn mutate(random: &mut Random, text: &mut Vec<u8>) {
     }
 }
 
-/// A text that names a network of either family, or nearly so; one that is mutated often names none.
+/// A text that names a network of either family, or nearly so; one that is mutated often names
+/// none.
 pub fn random_text(random: &mut Random, mutated: bool) -> Vec<u8> {
     let mut text = if random.below(2) == 0 {
         let address = random.v4();
@@ -141,7 +142,8 @@ pub fn host(width: u32, prefix: u8) -> u128 {
     u128::MAX >> (128 - width) & !mask(width, u32::from(prefix))
 }
 
-/// A number of `width` bits that shares about its first bits with another, so that questions have both answers.
+/// A number of `width` bits that shares about its first bits with another, so that questions have
+/// both answers.
 pub fn near(random: &mut Random, width: u32, other: u128) -> u128 {
     let kept = random.below(width as usize + 1) as u32;
     (other & mask(width, kept) | random.number() & !mask(width, kept))
