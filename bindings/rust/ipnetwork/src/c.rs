@@ -105,6 +105,7 @@ family!(v6, "ipnetwork_v6_", 16, &[u8; 16], [u8; 17]);
 
 /// Panics if a call about a network returns a fault. No call does, since a network has a prefix
 /// length of its family: a fault would be an error of the library that is linked.
+#[inline]
 pub fn answered(fault: u32) {
     assert_eq!(fault, OK, "a question about a network has no fault");
 }

@@ -33,7 +33,6 @@ macro_rules! family {
         ///
         /// Networks are ordered by address, host bits included, and then by prefix length.
         #[derive(Clone, Copy, PartialEq, Eq)]
-        #[repr(transparent)]
         pub struct $name(c::Network<$octets>);
 
         impl $name {
@@ -75,6 +74,7 @@ macro_rules! family {
             }
 
             /// The mask of the prefix length.
+            #[inline]
             pub fn mask($($by)? $self) -> $address {
                 let mut octets = [0; $octets];
                 answered(c::$c::mask(&$self.0, &mut octets));
@@ -82,6 +82,7 @@ macro_rules! family {
             }
 
             /// The least member: the address with its host bits cleared.
+            #[inline]
             pub fn network($($by)? $self) -> $address {
                 let mut octets = [0; $octets];
                 answered(c::$c::network(&$self.0, &mut octets));
@@ -89,6 +90,7 @@ macro_rules! family {
             }
 
             /// The greatest member: the address with its host bits set.
+            #[inline]
             pub fn broadcast($($by)? $self) -> $address {
                 let mut octets = [0; $octets];
                 answered(c::$c::broadcast(&$self.0, &mut octets));
@@ -97,6 +99,7 @@ macro_rules! family {
 
             /// Whether an address is a member: whether its first bits, as many as the prefix length
             /// says, are those of the network's address.
+            #[inline]
             pub fn contains($($by)? $self, ip: $address) -> bool {
                 let mut answer = 0;
                 answered(c::$c::contains(&$self.0, &ip.octets(), &mut answer));
@@ -105,6 +108,7 @@ macro_rules! family {
 
             /// The member number `n` in order, counted from 0; `None` if `n` is not below
             /// [`size`](Self::size).
+            #[inline]
             pub fn nth($self, n: $number) -> Option<$address> {
                 // The size at prefix length 0 is one too small: the last member has no number.
                 if n == $number::MAX { None } else { $self.member(n) }
@@ -121,6 +125,7 @@ macro_rules! family {
 
             /// Whether each member of this network is a member of `other`. Host bits change
             /// nothing.
+            #[inline]
             pub fn is_subnet_of($self, other: $name) -> bool {
                 let mut answer = 0;
                 answered(c::$c::is_subnet_of(&$self.0, &other.0, &mut answer));
@@ -129,11 +134,13 @@ macro_rules! family {
 
             /// Whether each member of `other` is a member of this network. Host bits change
             /// nothing.
+            #[inline]
             pub fn is_supernet_of($self, other: $name) -> bool {
                 other.is_subnet_of($self)
             }
 
             /// Whether some address is a member of both.
+            #[inline]
             pub fn overlaps($self, other: $name) -> bool {
                 let mut answer = 0;
                 answered(c::$c::overlaps(&$self.0, &other.0, &mut answer));

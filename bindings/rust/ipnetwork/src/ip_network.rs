@@ -58,6 +58,7 @@ impl IpNetwork {
     }
 
     /// The least member: the address with its host bits cleared.
+    #[inline]
     pub fn network(&self) -> IpAddr {
         match self {
             IpNetwork::V4(network) => IpAddr::V4(network.network()),
@@ -66,6 +67,7 @@ impl IpNetwork {
     }
 
     /// The greatest member: the address with its host bits set.
+    #[inline]
     pub fn broadcast(&self) -> IpAddr {
         match self {
             IpNetwork::V4(network) => IpAddr::V4(network.broadcast()),
@@ -74,6 +76,7 @@ impl IpNetwork {
     }
 
     /// The mask of the prefix length, in the network's family.
+    #[inline]
     pub fn mask(&self) -> IpAddr {
         match self {
             IpNetwork::V4(network) => IpAddr::V4(network.mask()),
@@ -92,6 +95,7 @@ impl IpNetwork {
     }
 
     /// Whether an address is a member. None of the other family is, not even an IPv4-mapped one.
+    #[inline]
     pub fn contains(&self, ip: IpAddr) -> bool {
         match (self, ip) {
             (IpNetwork::V4(network), IpAddr::V4(ip)) => network.contains(ip),

@@ -28,6 +28,7 @@ pub use ip_network::{IpNetwork, IpNetworkIterator, ip_mask_to_prefix};
 pub use size::NetworkSize;
 
 /// What the library has printed.
+#[inline]
 fn text(bytes: &[u8]) -> &str {
     std::str::from_utf8(bytes).expect("a text of the library is ASCII")
 }
