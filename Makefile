@@ -4,9 +4,10 @@
 #   make                                  proves and builds the three programs and the library for C
 #   make test                             the same, and then every test by its script
 #   make try                              the answers of the example from a program that is not proved, and not kept
+#   make sqlite                           builds the extension of SQLite, of the library for C that is built
 #   make install PREFIX=/usr DESTDIR=/tmp/package
-#                                         installs what is built: the programs, their manual pages and completions, and
-#                                         the library for C with its header
+#                                         installs what is built: the programs, their manual pages and completions, the
+#                                         library for C with its header, and the extension of SQLite
 #   make uninstall PREFIX=/usr DESTDIR=/tmp/package
 #   make check-install                    installs into a new folder, compiles the example of C there and removes it again
 #
@@ -14,6 +15,7 @@
 
 PREFIX = /usr/local
 LIBDIR = $(PREFIX)/lib
+SQLITEDIR = $(LIBDIR)/sqlite3
 INCLUDEDIR = $(PREFIX)/include
 BINDIR = $(PREFIX)/bin
 MANDIR = $(PREFIX)/share/man
@@ -31,9 +33,10 @@ OUT = bindings/out
 ARCHIVE = crates/ipnetwork_c/out/libipnetwork_c.a
 SHARED = $(OUT)/libipnetwork_c.so.$(VERSION)
 SONAME = libipnetwork_c.so.$(MAJOR)
+EXTENSION = $(OUT)/cidr.so
 PROGRAMS = cidr cidr_merge cidr_filter
 
-.PHONY: all example test try library shared install install-library uninstall check-install
+.PHONY: all example test try library shared sqlite install install-library uninstall check-install
 
 # Says by name what is not here, before anything is proved.
 tools = @missing=; for tool in $(1); do command -v $$tool > /dev/null || missing="$$missing $$tool"; done; \
@@ -68,6 +71,12 @@ shared:
 	mkdir -p $(OUT)
 	cc -shared -Wl,-soname,$(SONAME) -Wl,--whole-archive $(ARCHIVE) -Wl,--no-whole-archive -o $(SHARED)
 
+# The extension of SQLite, of the static library that is there. It needs sqlite3ext.h (Debian: libsqlite3-dev).
+sqlite:
+	mkdir -p $(OUT)
+	cc -std=c11 -O2 -Wall -Wextra -fPIC -fvisibility=hidden -shared -I bindings/c bindings/sqlite/cidr.c $(ARCHIVE) \
+	    -Wl,--exclude-libs,ALL -o $(EXTENSION)
+
 # Copies what is built, and builds nothing.
 install:
 	@built=; for program in $(PROGRAMS); do \
@@ -86,6 +95,11 @@ install:
 	        echo "make install: without $$program, which is not built" >&2; \
 	    fi; \
 	done; \
+	if [ -f $(EXTENSION) ]; then \
+	    built=yes; \
+	    $(INSTALL) -d "$(DESTDIR)$(SQLITEDIR)" && \
+	    $(INSTALL) -m 755 $(EXTENSION) "$(DESTDIR)$(SQLITEDIR)/cidr.so" || exit 1; \
+	fi; \
 	if [ -f $(ARCHIVE) ] && [ -f $(SHARED) ]; then \
 	    $(MAKE) -s install-library; \
 	elif [ -z "$$built" ]; then \
@@ -108,7 +122,7 @@ install-library:
 uninstall:
 	rm -f "$(DESTDIR)$(INCLUDEDIR)/ipnetwork.h" "$(DESTDIR)$(LIBDIR)/pkgconfig/ipnetwork.pc"
 	rm -f "$(DESTDIR)$(LIBDIR)/libipnetwork_c.a" "$(DESTDIR)$(LIBDIR)/libipnetwork_c.so" "$(DESTDIR)$(LIBDIR)/$(SONAME)"
-	rm -f "$(DESTDIR)$(LIBDIR)/libipnetwork_c.so.$(VERSION)"
+	rm -f "$(DESTDIR)$(LIBDIR)/libipnetwork_c.so.$(VERSION)" "$(DESTDIR)$(SQLITEDIR)/cidr.so"
 	@for program in $(PROGRAMS); do \
 	    rm -f "$(DESTDIR)$(BINDIR)/$$program" "$(DESTDIR)$(MANDIR)/man1/$$program.1" "$(DESTDIR)$(BASHDIR)/$$program"; \
 	    rm -f "$(DESTDIR)$(ZSHDIR)/_$$program" "$(DESTDIR)$(FISHDIR)/$$program.fish"; \

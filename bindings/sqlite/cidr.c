@@ -1,0 +1,262 @@
+/* Functions of SQL on IP networks in CIDR notation: a loadable extension of SQLite over the library for C. README.md
+ * beside this file says what each answers.
+ *
+ * Nothing is kept between calls, and nothing is allocated here: answers and messages are made on the stack, and SQLite
+ * copies them. The one variable is the pointer to SQLite's own functions that sqlite3ext.h asks each extension for. */
+#include "ipnetwork.h"
+
+#include <sqlite3ext.h>
+#include <string.h>
+SQLITE_EXTENSION_INIT1
+
+#ifndef SQLITE_INNOCUOUS
+#error "cidr.c needs the header of SQLite 3.31 or later"
+#endif
+
+/* How many bytes of a refused text a message shows. */
+#define SHOWN 60
+
+/* Enough for these bytes, each as \xHH, and the zero byte after them. */
+#define SHOWN_TEXT (4 * SHOWN + 1)
+
+/* Enough for a message: the name of a function, what a fault says and the bytes shown are most of it. */
+#define MESSAGE (SHOWN_TEXT + IPNETWORK_FAULT_TEXT + 120)
+
+struct text {
+    const char *bytes;
+    size_t length;
+};
+
+/* A function of SQL: answer is called with as many values as it has arguments, none of which is NULL. */
+struct function {
+    const char *name;
+    int arguments;
+    void (*answer)(sqlite3_context *, sqlite3_value **);
+};
+
+static const char *name_of_call(sqlite3_context *context) {
+    const struct function *function = sqlite3_user_data(context);
+    return function->name;
+}
+
+/* The front of a text, for a message. A byte that is not printable ASCII, and a quote and a backslash, is \xHH. */
+static void show(struct text text, char shown[SHOWN_TEXT]) {
+    char *end = shown;
+    for (size_t i = 0; i < text.length && i < SHOWN; i++) {
+        unsigned char byte = (unsigned char)text.bytes[i];
+        if (byte >= ' ' && byte <= '~' && byte != '\'' && byte != '\\') {
+            *end++ = (char)byte;
+        } else {
+            sqlite3_snprintf(5, end, "\\x%02x", byte);
+            end += 4;
+        }
+    }
+    *end = '\0';
+}
+
+/* What a fault says, and a zero byte after it. */
+static void tell(ipnetwork_fault fault, char words[IPNETWORK_FAULT_TEXT]) {
+    size_t length;
+    if (ipnetwork_fault_text(fault, words, IPNETWORK_FAULT_TEXT, &length) != IPNETWORK_OK)
+        words[0] = '\0';
+}
+
+/* The error of an argument, counted from 0, whose text is refused. */
+static void refuse(sqlite3_context *context, int argument, ipnetwork_fault fault, struct text text) {
+    char words[IPNETWORK_FAULT_TEXT], shown[SHOWN_TEXT], message[MESSAGE];
+    const char *name = name_of_call(context);
+    tell(fault, words);
+    show(text, shown);
+    if (text.length <= SHOWN)
+        sqlite3_snprintf(MESSAGE, message, "%s, argument %d: %s: '%s'", name, argument + 1, words, shown);
+    else
+        sqlite3_snprintf(MESSAGE, message, "%s, argument %d: %s: '%s', the first %d of %llu bytes", name, argument + 1,
+                         words, shown, SHOWN, (unsigned long long)text.length);
+    sqlite3_result_error(context, message, -1);
+}
+
+static const char *name_of_type(int type) {
+    switch (type) {
+    case SQLITE_INTEGER: return "an integer";
+    case SQLITE_FLOAT: return "a real number";
+    case SQLITE_BLOB: return "a blob";
+    default: return "a value of no known type";
+    }
+}
+
+/* Whether an argument is a text; if not, the call ends in an error. */
+static int take_text(sqlite3_context *context, sqlite3_value **values, int argument, struct text *text) {
+    int type = sqlite3_value_type(values[argument]);
+    if (type != SQLITE_TEXT) {
+        char message[MESSAGE];
+        sqlite3_snprintf(MESSAGE, message, "%s, argument %d: %s, not a text", name_of_call(context),
+                         argument + 1, name_of_type(type));
+        sqlite3_result_error(context, message, -1);
+        return 0;
+    }
+    text->bytes = (const char *)sqlite3_value_text(values[argument]);
+    if (text->bytes == NULL) {
+        sqlite3_result_error_nomem(context);
+        return 0;
+    }
+    text->length = (size_t)sqlite3_value_bytes(values[argument]);
+    return 1;
+}
+
+/* The network of either family that a text names, or why it names none: what the reader of the family says whose
+ * address stands before the '/', and that there is no address if it is one of neither. */
+static ipnetwork_fault read_network(struct text text, ipnetwork_ip *network) {
+    ipnetwork_v4 v4;
+    ipnetwork_v6 v6;
+    if (ipnetwork_read(text.bytes, text.length, network) == IPNETWORK_OK)
+        return IPNETWORK_OK;
+    ipnetwork_fault of_v4 = ipnetwork_v4_read(text.bytes, text.length, &v4);
+    ipnetwork_fault of_v6 = ipnetwork_v6_read(text.bytes, text.length, &v6);
+    return of_v4 == IPNETWORK_ADDRESS ? of_v6 : of_v4;
+}
+
+/* Whether an argument is the text of a network; if not, the call ends in an error. */
+static int take_network(sqlite3_context *context, sqlite3_value **values, int argument, ipnetwork_ip *network) {
+    struct text text;
+    if (!take_text(context, values, argument, &text))
+        return 0;
+    ipnetwork_fault fault = read_network(text, network);
+    if (fault != IPNETWORK_OK)
+        refuse(context, argument, fault, text);
+    return fault == IPNETWORK_OK;
+}
+
+/* Whether an argument is the text of an address; if not, the call ends in an error. */
+static int take_address(sqlite3_context *context, sqlite3_value **values, int argument, ipnetwork_address *address) {
+    struct text text;
+    if (!take_text(context, values, argument, &text))
+        return 0;
+    ipnetwork_fault fault = ipnetwork_address_read(text.bytes, text.length, address);
+    if (fault != IPNETWORK_OK)
+        refuse(context, argument, fault, text);
+    return fault == IPNETWORK_OK;
+}
+
+/* Whether a call of the library gave an answer. The library refuses no struct that it has read itself, so that this
+ * error is for a library that is not the one of the header. */
+static int is_answered(sqlite3_context *context, ipnetwork_fault fault) {
+    char words[IPNETWORK_FAULT_TEXT], message[MESSAGE];
+    if (fault == IPNETWORK_OK)
+        return 1;
+    tell(fault, words);
+    sqlite3_snprintf(MESSAGE, message, "%s: %s", name_of_call(context), words);
+    sqlite3_result_error(context, message, -1);
+    return 0;
+}
+
+/* An address as a blob: its family, 4 or 6, and its octets, the highest first. */
+static void give_address(sqlite3_context *context, const ipnetwork_address *address) {
+    uint8_t blob[1 + sizeof address->octets];
+    blob[0] = address->length == 4 ? 4 : 6;
+    memcpy(blob + 1, address->octets, address->length);
+    sqlite3_result_blob(context, blob, 1 + address->length, SQLITE_TRANSIENT);
+}
+
+static void answer_text(sqlite3_context *context, sqlite3_value **values) {
+    ipnetwork_ip network;
+    char text[IPNETWORK_V6_TEXT];
+    size_t length;
+    if (take_network(context, values, 0, &network) &&
+        is_answered(context, ipnetwork_canonical(&network, text, sizeof text, &length)))
+        sqlite3_result_text(context, text, (int)length, SQLITE_TRANSIENT);
+}
+
+static void answer_has(sqlite3_context *context, sqlite3_value **values) {
+    ipnetwork_ip network;
+    ipnetwork_address address;
+    uint8_t answer;
+    if (take_network(context, values, 0, &network) && take_address(context, values, 1, &address) &&
+        is_answered(context, ipnetwork_contains(&network, address.octets, address.length, &answer)))
+        sqlite3_result_int(context, answer);
+}
+
+static void answer_covers(sqlite3_context *context, sqlite3_value **values) {
+    ipnetwork_ip outer, inner;
+    uint8_t answer;
+    if (take_network(context, values, 0, &outer) && take_network(context, values, 1, &inner) &&
+        is_answered(context, ipnetwork_is_subnet_of(&inner, &outer, &answer)))
+        sqlite3_result_int(context, answer);
+}
+
+static void answer_first(sqlite3_context *context, sqlite3_value **values) {
+    ipnetwork_ip network;
+    ipnetwork_address address;
+    if (take_network(context, values, 0, &network) && is_answered(context, ipnetwork_network(&network, &address)))
+        give_address(context, &address);
+}
+
+static void answer_last(sqlite3_context *context, sqlite3_value **values) {
+    ipnetwork_ip network;
+    ipnetwork_address address;
+    if (take_network(context, values, 0, &network) && is_answered(context, ipnetwork_broadcast(&network, &address)))
+        give_address(context, &address);
+}
+
+static void answer_addr(sqlite3_context *context, sqlite3_value **values) {
+    ipnetwork_address address;
+    if (take_address(context, values, 0, &address))
+        give_address(context, &address);
+}
+
+static void answer_prefix(sqlite3_context *context, sqlite3_value **values) {
+    ipnetwork_ip network;
+    if (take_network(context, values, 0, &network))
+        sqlite3_result_int(context, network.family == 4 ? network.v4.prefix : network.v6.prefix);
+}
+
+static void answer_family(sqlite3_context *context, sqlite3_value **values) {
+    ipnetwork_ip network;
+    if (take_network(context, values, 0, &network))
+        sqlite3_result_int(context, network.family);
+}
+
+/* NULL, the result that SQLite has where none is given, if the text names a network. */
+static void answer_cause(sqlite3_context *context, sqlite3_value **values) {
+    struct text text;
+    ipnetwork_ip network;
+    char words[IPNETWORK_FAULT_TEXT];
+    if (!take_text(context, values, 0, &text))
+        return;
+    ipnetwork_fault fault = read_network(text, &network);
+    if (fault == IPNETWORK_OK)
+        return;
+    tell(fault, words);
+    sqlite3_result_text(context, words, -1, SQLITE_TRANSIENT);
+}
+
+static const struct function functions[] = {
+    {"cidr_text", 1, answer_text},     {"cidr_has", 2, answer_has},       {"cidr_covers", 2, answer_covers},
+    {"cidr_first", 1, answer_first},   {"cidr_last", 1, answer_last},     {"cidr_addr", 1, answer_addr},
+    {"cidr_prefix", 1, answer_prefix}, {"cidr_family", 1, answer_family}, {"cidr_cause", 1, answer_cause},
+};
+
+/* What SQLite calls for each of them. The result is NULL if an argument is. */
+static void call(sqlite3_context *context, int count, sqlite3_value **values) {
+    const struct function *function = sqlite3_user_data(context);
+    for (int i = 0; i < count; i++)
+        if (sqlite3_value_type(values[i]) == SQLITE_NULL)
+            return;
+    function->answer(context, values);
+}
+
+#if defined(__GNUC__)
+__attribute__((visibility("default")))
+#endif
+/* What SQLite calls as it loads the extension; its name is made of the name of the file, cidr.so. */
+int sqlite3_cidr_init(sqlite3 *database, char **message, const sqlite3_api_routines *api) {
+    (void)message;
+    SQLITE_EXTENSION_INIT2(api)
+    for (size_t i = 0; i < sizeof functions / sizeof *functions; i++) {
+        int status = sqlite3_create_function(database, functions[i].name, functions[i].arguments,
+                                             SQLITE_UTF8 | SQLITE_DETERMINISTIC | SQLITE_INNOCUOUS,
+                                             (void *)&functions[i], call, NULL, NULL);
+        if (status != SQLITE_OK)
+            return status;
+    }
+    return SQLITE_OK;
+}

@@ -1,0 +1,320 @@
+/* The extension of SQLite, loaded as others load it: rows with known answers, in a database of each encoding; texts
+ * that SQL cannot spell; schemas that use the functions; memory that is refused; four threads at once.
+ *
+ *   test PATH_OF_THE_EXTENSION [LENGTH]
+ *
+ * LENGTH is how many bytes the longest texts have, 10,000,000 where it is not given; in UTF-16 at most 100,000. Each
+ * answer that is not the right one is a line on standard error. The status is 0 if there is none. */
+#include "rows.h"
+
+#include <pthread.h>
+#include <sqlite3.h>
+#include <stdatomic.h>
+#include <stdio.h>
+#include <stdlib.h>
+#include <string.h>
+
+static const char *extension;
+static size_t longest = 10000000;
+static atomic_int failures;
+
+/* What stops the test: there is no answer to judge. */
+static void need(int holds, const char *what) {
+    if (holds)
+        return;
+    fprintf(stderr, "test.c: %s\n", what);
+    exit(1);
+}
+
+/* A new database in memory, of this encoding, with the extension. */
+static sqlite3 *open_database(const char *encoding) {
+    sqlite3 *database;
+    char *message = NULL, pragma[40];
+    need(sqlite3_open(":memory:", &database) == SQLITE_OK, "no database");
+    snprintf(pragma, sizeof pragma, "PRAGMA encoding = '%s'", encoding);
+    need(sqlite3_exec(database, pragma, NULL, NULL, NULL) == SQLITE_OK, "no encoding");
+    need(sqlite3_exec(database, "CREATE TABLE first(one)", NULL, NULL, NULL) == SQLITE_OK, "no table");
+    need(sqlite3_db_config(database, SQLITE_DBCONFIG_ENABLE_LOAD_EXTENSION, 1, NULL) == SQLITE_OK, "no extensions");
+    if (sqlite3_load_extension(database, extension, NULL, &message) != SQLITE_OK)
+        need(0, message);
+    return database;
+}
+
+/* The first column of the first row of a statement, NULL where it has none, as quote() prints it, or "error: " and the
+ * message. The parameter ?1 is a text of these bytes, which stand in a block of their own. */
+static char *answer(sqlite3 *database, const char *sql, const char *bytes, size_t length) {
+    sqlite3_stmt *statement = NULL;
+    char *copy = malloc(length + 1), *said;
+    need(copy != NULL, "no memory");
+    if (length > 0)
+        memcpy(copy, bytes, length);
+    int status = sqlite3_prepare_v2(database, sql, -1, &statement, NULL);
+    if (status == SQLITE_OK && bytes != NULL)
+        status = sqlite3_bind_text(statement, 1, copy, (int)length, SQLITE_TRANSIENT);
+    free(copy);
+    if (status == SQLITE_OK)
+        status = sqlite3_step(statement);
+    const char *found = status == SQLITE_ROW ? (const char *)sqlite3_column_text(statement, 0) : NULL;
+    if (status == SQLITE_ROW && found == NULL)
+        said = sqlite3_errcode(database) == SQLITE_NOMEM ? strdup("error: out of memory") : strdup("NULL");
+    else if (status == SQLITE_ROW)
+        said = strdup(found);
+    else if (status == SQLITE_NOMEM)
+        said = strdup("error: out of memory");
+    else {
+        const char *message = status == SQLITE_DONE ? "no row" : sqlite3_errmsg(database);
+        said = malloc(strlen(message) + 8);
+        if (said != NULL)
+            sprintf(said, "error: %s", message);
+    }
+    sqlite3_finalize(statement);
+    need(said != NULL, "no memory");
+    return said;
+}
+
+/* Sees that the answer to an expression is this one, or, where it ends with "..", begins with what stands before. */
+static void expect_of(sqlite3 *database, const char *expression, const char *bytes, size_t length, const char *right) {
+    char *sql = sqlite3_mprintf("SELECT quote(%s)", expression);
+    need(sql != NULL, "no memory");
+    char *said = answer(database, sql, bytes, length);
+    size_t end = strlen(right);
+    int is_front = end >= 2 && strcmp(right + end - 2, "..") == 0;
+    if (is_front ? strncmp(said, right, end - 2) != 0 : strcmp(said, right) != 0) {
+        fprintf(stderr, "test.c: %s: %s, and not %s\n", expression, said, right);
+        failures++;
+    }
+    free(said);
+    sqlite3_free(sql);
+}
+
+static void expect(sqlite3 *database, const char *expression, const char *right) {
+    expect_of(database, expression, NULL, 0, right);
+}
+
+/* Sees that a statement, or several, are run. */
+static void run(sqlite3 *database, const char *sql) {
+    char *message = NULL;
+    if (sqlite3_exec(database, sql, NULL, NULL, &message) != SQLITE_OK) {
+        fprintf(stderr, "test.c: %s: %s\n", sql, message);
+        failures++;
+    }
+    sqlite3_free(message);
+}
+
+static void each_row(sqlite3 *database) {
+    for (size_t i = 0; i < sizeof rows / sizeof *rows; i++)
+        expect(database, rows[i].expression, rows[i].answer);
+}
+
+/* Texts that are no network and no address, some of which would be if they were cut, or read past what is wrong. */
+static const struct {
+    const char *bytes;
+    size_t length;
+} no_texts[] = {
+#define BYTES(bytes) {bytes, sizeof bytes - 1}
+    BYTES("\0"),
+    BYTES("10.0.0.0\0"),
+    BYTES("10.0.0.0\0/8"),
+    BYTES("10.0.0.0/8\0"),
+    BYTES("10.0.0.0/8\0/8"),
+    BYTES("10.0.0.0/\0008"),
+    BYTES("\00010.0.0.0"),
+    BYTES("::\0"),
+    BYTES("2001:db8::\0001/32"),
+    /* Not UTF-8: a lone byte, an overlong dot, half of a pair, a character cut short, and one past the last. */
+    BYTES("10.0.0.0\xff"),
+    BYTES("10\xc0\xae"
+          "0.0.0"),
+    BYTES("\xed\xa0\x80::"),
+    BYTES("::1\xe2\x82"),
+    BYTES("10.0.0.0/8\x80"),
+    BYTES("::/1\xf4\x90\x80\x80"),
+    /* UTF-8: digits and dots of other scripts, and a mark of the order of bytes. */
+    BYTES("\xd9\xa1\xd9\xa0.0.0.0"),
+    BYTES("10\xe3\x80\x82"
+          "0.0.0"),
+    BYTES("\xef\xbb\xbf"
+          "10.0.0.0"),
+};
+
+/* Sees that a text is refused by each function: as a network, and as an address. */
+static void expect_refused(sqlite3 *database, const char *bytes, size_t length) {
+    static const char *refusing[] = {"cidr_text(?1)",   "cidr_first(?1)",        "cidr_last(?1)",
+                                     "cidr_prefix(?1)", "cidr_family(?1)",       "cidr_has(?1, '::')",
+                                     "cidr_addr(?1)",   "cidr_covers(?1, '::')", NULL};
+    for (const char **each = refusing; *each != NULL; each++)
+        expect_of(database, *each, bytes, length, "error: cidr_..");
+    expect_of(database, "cidr_has('::/0', ?1)", bytes, length, "error: cidr_has, argument 2: no address: '..");
+    expect_of(database, "cidr_covers('::/0', ?1)", bytes, length, "error: cidr_covers, argument 2: ..");
+    expect_of(database, "cidr_cause(?1) IS NULL", bytes, length, "0");
+}
+
+/* One of the longest texts: a front, then one byte again and again, and an end. Without an answer it is refused. */
+static void expect_long(sqlite3 *database, const char *front, char byte, const char *end, const char *right) {
+    size_t before = strlen(front), after = strlen(end);
+    char *text = malloc(longest);
+    need(text != NULL && before + after <= longest, "no memory");
+    memset(text, byte, longest);
+    memcpy(text, front, before);
+    memcpy(text + longest - after, end, after);
+    if (right != NULL)
+        expect_of(database, "cidr_text(?1)", text, longest, right);
+    else
+        expect_refused(database, text, longest);
+    free(text);
+}
+
+static void each_text(sqlite3 *database) {
+    for (size_t i = 0; i < sizeof no_texts / sizeof *no_texts; i++)
+        expect_refused(database, no_texts[i].bytes, no_texts[i].length);
+    expect_long(database, "", '1', "", NULL);
+    expect_long(database, "10.0.0.0", ' ', "", NULL);
+    expect_long(database, "10.0.0.0/8", '/', "", NULL);
+    expect_long(database, "::", ':', "", NULL);
+    expect_long(database, "10.0.0.0/8", '\0', "", NULL);
+    expect_long(database, "10.0.0.0/", '0', "33", NULL);
+    /* A prefix length may have any number of leading zeros: this text names a network, and is read to its end. */
+    expect_long(database, "10.1.9.32/", '0', "16", "'10.1.9.32/16'");
+}
+
+/* Messages show what is refused as it is; those of a database in UTF-16 show what SQLite makes of it. */
+static void each_message(sqlite3 *database) {
+    expect_of(database, "cidr_text(?1)", "10.0.0.0\0/8", 11,
+              "error: cidr_text, argument 1: no address: '10.0.0.0\\x00/8'");
+    expect_of(database, "cidr_text(?1)", "10.0.0.0/8\xff", 11,
+              "error: cidr_text, argument 1: no prefix length of the family: '10.0.0.0/8\\xff'");
+    expect_long(database, "10.0.0.0/8", '/', "", "error: cidr_text, argument 1: more than one slash: '10.0.0.0/8"
+                "//////////////////////////////////////////////////', the first 60 of ..");
+    /* The longest message that there can be. */
+    char zeros[200] = {0};
+    expect_of(database, "cidr_covers('::', ?1)", zeros, sizeof zeros, "error: cidr_covers, argument 2: no address: '"
+              "\\x00\\x00\\x00\\x00\\x00\\x00\\x00\\x00\\x00\\x00\\x00\\x00\\x00\\x00\\x00\\x00\\x00\\x00\\x00\\x00"
+              "\\x00\\x00\\x00\\x00\\x00\\x00\\x00\\x00\\x00\\x00\\x00\\x00\\x00\\x00\\x00\\x00\\x00\\x00\\x00\\x00"
+              "\\x00\\x00\\x00\\x00\\x00\\x00\\x00\\x00\\x00\\x00\\x00\\x00\\x00\\x00\\x00\\x00\\x00\\x00\\x00\\x00"
+              "', the first 60 of 200 bytes");
+}
+
+/* Where only functions that are deterministic, and innocuous, may stand: in an index, a generated column, a check and a
+ * view of a schema that is not trusted. */
+static void schemas(sqlite3 *database) {
+    run(database, "PRAGMA trusted_schema = 0;"
+        "CREATE TABLE log(client TEXT NOT NULL, address BLOB AS (cidr_addr(client)) STORED);"
+        "CREATE INDEX log_address ON log(address);"
+        "CREATE INDEX log_client ON log(cidr_addr(client));"
+        "CREATE TABLE network(text TEXT CHECK (cidr_cause(text) IS NULL));"
+        "CREATE VIEW canonical AS SELECT cidr_text(text) AS text, cidr_has(text, '10.1.9.32') AS has,"
+        " cidr_covers(text, '::/0') AS covers, cidr_first(text) AS first, cidr_last(text) AS last,"
+        " cidr_prefix(text) AS prefix, cidr_family(text) AS family, cidr_cause(text) AS cause FROM network;"
+        "INSERT INTO log(client) VALUES ('10.1.9.32'), ('2001:db8::1'), ('10.200.0.1');"
+        "INSERT INTO network VALUES ('10.1.9.32/255.0.0.0'), (NULL);");
+    expect(database, "(SELECT count(*) FROM log"
+           " WHERE address BETWEEN cidr_first('10.1.0.0/16') AND cidr_last('10.1.0.0/16'))", "1");
+    expect(database, "(SELECT client FROM log ORDER BY address DESC LIMIT 1)", "'2001:db8::1'");
+    expect(database, "(SELECT text || has || covers || hex(first) || hex(last) || prefix || family || (cause IS NULL)"
+           " FROM canonical WHERE text IS NOT NULL)", "'10.1.9.32/810040A000000040AFFFFFF841'");
+    expect(database, "(SELECT count(*) FROM canonical WHERE text IS NULL AND cause IS NULL AND first IS NULL)", "1");
+    char *said = answer(database, "INSERT INTO network VALUES ('10/8')", NULL, 0);
+    if (strncmp(said, "error: CHECK constraint failed", 30) != 0) {
+        fprintf(stderr, "test.c: a check lets 10/8 in: %s\n", said);
+        failures++;
+    }
+    free(said);
+    said = answer(database, "INSERT INTO log(client) VALUES ('10/8')", NULL, 0);
+    if (strcmp(said, "error: cidr_addr, argument 1: no address: '10/8'") != 0) {
+        fprintf(stderr, "test.c: a generated column takes 10/8: %s\n", said);
+        failures++;
+    }
+    free(said);
+}
+
+/* Requests for memory, of which one can be refused: the number left before it, or -1 for none. */
+static sqlite3_mem_methods memory;
+static _Thread_local int left = -1;
+
+static int is_refused(void) { return left >= 0 && left-- == 0; }
+static void *request(int size) { return is_refused() ? NULL : memory.xMalloc(size); }
+static void *request_more(void *block, int size) { return is_refused() ? NULL : memory.xRealloc(block, size); }
+
+/* Sees that a call, of which each request for memory is refused in turn, says so or has the right answer. In a database
+ * in UTF-16 SQLite asks for memory as a function asks for the bytes of a text. */
+static void short_of_memory(sqlite3 *database) {
+    static const struct row asked[] = {
+        {"cidr_text('10.1.9.32/255.255.0.0')", "'10.1.9.32/16'"},
+        {"cidr_has('2001:db8::/32', '2001:db8::1')", "1"},
+        {"cidr_covers('10.0.0.0/8', '10.1.0.0/16')", "1"},
+        {"cidr_last('10.1.9.32/8')", "X'040AFFFFFF'"},
+        {"cidr_addr('10.1.9.32')", "X'040A010920'"},
+        {"cidr_cause('10/8')", "'no address'"},
+        {"cidr_prefix('10/8')", "error: cidr_prefix, argument 1: no address: '10/8'"},
+        {"cidr_family(4)", "error: cidr_family, argument 1: an integer, not a text"},
+    };
+    for (size_t i = 0; i < sizeof asked / sizeof *asked; i++) {
+        char *sql = sqlite3_mprintf("SELECT quote(%s)", asked[i].expression);
+        need(sql != NULL, "no memory");
+        for (int first = 0, is_all = 0; !is_all; first++) {
+            left = first;
+            char *said = answer(database, sql, NULL, 0);
+            is_all = left >= 0;
+            left = -1;
+            if (strcmp(said, asked[i].answer) != 0 && (is_all || strcmp(said, "error: out of memory") != 0)) {
+                fprintf(stderr, "test.c: %s, where request %d is refused: %s\n", asked[i].expression, first, said);
+                failures++;
+            }
+            free(said);
+        }
+        sqlite3_free(sql);
+    }
+}
+
+static void *in_thread(void *nothing) {
+    sqlite3 *database = open_database("UTF-8");
+    each_row(database);
+    sqlite3_close(database);
+    return nothing;
+}
+
+static void threads(void) {
+    pthread_t ids[4];
+    for (int i = 0; i < 4; i++)
+        need(pthread_create(&ids[i], NULL, in_thread, NULL) == 0, "no thread");
+    for (int i = 0; i < 4; i++)
+        need(pthread_join(ids[i], NULL) == 0, "no end of a thread");
+}
+
+int main(int count, char **words) {
+    need(count == 2 || count == 3, "usage: test PATH_OF_THE_EXTENSION [LENGTH]");
+    extension = words[1];
+    if (count == 3)
+        longest = strtoul(words[2], NULL, 10);
+    need(sqlite3_config(SQLITE_CONFIG_GETMALLOC, &memory) == SQLITE_OK, "no memory to watch");
+    sqlite3_mem_methods watched = memory;
+    watched.xMalloc = request;
+    watched.xRealloc = request_more;
+    need(sqlite3_config(SQLITE_CONFIG_MALLOC, &watched) == SQLITE_OK, "no memory to watch");
+    need(sqlite3_config(SQLITE_CONFIG_LOOKASIDE, 0, 0) == SQLITE_OK, "no memory to watch");
+    static const char *encodings[] = {"UTF-8", "UTF-16le", "UTF-16be"};
+    for (int i = 0; i < 3; i++) {
+        sqlite3 *database = open_database(encodings[i]);
+        each_row(database);
+        each_text(database);
+        if (i == 0)
+            each_message(database);
+        longest = longest < 100000 ? longest : 100000;
+        schemas(database);
+        short_of_memory(database);
+        /* Loaded again, it answers as before. */
+        need(sqlite3_load_extension(database, extension, NULL, NULL) == SQLITE_OK, "not loaded again");
+        each_row(database);
+        need(sqlite3_close(database) == SQLITE_OK, "a database that stays open");
+    }
+    threads();
+    sqlite3_shutdown();
+    if (sqlite3_memory_used() != 0) {
+        fprintf(stderr, "test.c: %lld bytes are left in use\n", (long long)sqlite3_memory_used());
+        failures++;
+    }
+    if (failures == 0)
+        printf("SQLite: %zu rows and the texts that SQL cannot spell have their answers, by SQLite %s\n",
+               sizeof rows / sizeof *rows, sqlite3_libversion());
+    return failures != 0;
+}
