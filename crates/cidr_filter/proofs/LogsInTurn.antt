@@ -13,7 +13,7 @@ use Rattle.cidr_filter.specs.Lines.{LogLine, lines_in, log_lines, ended_lines}
 use Rattle.cidr_filter.specs.Filters.{Filters}
 use Rattle.cidr_filter.specs.Logs.{IsAllOf, IsFirstOf, FiltersLogs, RefusesAfter, HaltsBy}
 use Rattle.cidr_filter.specs.Stands.{Stand, Counts}
-use Rattle.cidr_filter.specs.Stops.{Ends, EndsAtLine, Stops}
+use Rattle.cidr_filter.specs.Stops.{EndsAtLine, Stops}
 use Rattle.cidr_filter.specs.Private.Runs.{FiltersNames}
 use Rattle.cidr_filter.specs.declared.filter.Filter.{Filter}
 use Rattle.cidr_filter.specs.declared.filter.Verdict.{Verdict}

@@ -6,11 +6,11 @@ use Rattle.std.specs.Io.KnownBytes.{Appends}
 use Rattle.std.proofs.lemmas.Bool.{ne_eqb}
 use Rattle.std.proofs.lemmas.Bool.Decides.{nat_tests}
 use Rattle.std.proofs.lemmas.List.{take_all, take_more, map_push}
-use Rattle.lists.specs.Lists.{ReadLists, nothing_read}
+use Rattle.lists.specs.Lists.{nothing_read}
 use Rattle.lists.specs.Refusals.{Refused, no_refusals}
-use Rattle.line_engine.specs.declared.output.Output.{Output}
-use Rattle.line_engine.specs.Outputs.{writer_of, waits_in, output_failed, Puts, AppendsBeginning}
+use Rattle.line_engine.specs.Outputs.{Written, Puts, AppendsBeginning, Prints, Writes, FailsIn}
 use Rattle.line_engine.proofs.Putting.{begins_after_puts}
+use Rattle.program.proofs.Told.{tells_same}
 use Rattle.program.specs.Endings.{Ending, ending, Refuses, HasTold, HasWritten, status_of, end_text}
 use Rattle.program.specs.Messages.{Tells}
 use Rattle.lists.specs.KnownLists.{KnownLists}
@@ -19,7 +19,7 @@ use Rattle.cidr_filter.specs.Lines.{LogLine}
 use Rattle.cidr_filter.specs.Logs.{logs_of, HaltsBy}
 use Rattle.cidr_filter.specs.Reading.{Stops, HoldsRead}
 use Rattle.cidr_filter.specs.Runs.{FailsWriting, Wrote, StopsAtLog, total_text, FiltersAll, EndsLogs, filter_of, EndsRequest}
-use Rattle.cidr_filter.specs.Stands.{Stand, stand_of, Counts}
+use Rattle.cidr_filter.specs.Stands.{Stand, stand, Counts}
 use Rattle.program.specs.Told.{was_refused, fault_text, refusals_text}
 use Rattle.cidr_filter.specs.Told.{in_option, line_text, log_fault_text}
 use Rattle.cidr_filter.specs.Private.Reading.{ReadsAll}
@@ -50,9 +50,6 @@ told_log name lines count faults.Address e = told_line name (codes "address") li
 told_log name lines count faults.Length e = told_line name (codes "length") lines count e
 told_log name lines count faults.Endless e = refl
 
-tells_as : {W : Type 0} (contents : W → Option (List ℕ)) (old new : Output W) (text other : List ℕ) → text ≡ other → Tells contents old new text → Tells contents old new other
-tells_as contents old new text other e h = subst (λ (t : List ℕ). Tells contents old new t) e h
-
 -- the first lines of a log were filtered, and then it stopped
 at_log : {W E : Type 0} (filter : Filter) (counts : Bool) (known : KnownLists) (name : List ℕ) (fault : LogFault) (lines : List LogLine) (added : List ℕ) (more : ℕ) (end : Ending W E)
     → end.status ≡ 2 → Filters filter counts lines added more → HaltsBy filter known name lines fault → Wrote fault end ([] ++ added)
@@ -77,44 +74,44 @@ at_log filter counts known name fault lines added more end two filters halts wro
 }
 
 -- what waited was written behind what was put, or the writer failed at it
-written_behind : {W E : Type 0} (end : Ending W E) (mid : Output W) (added : List ℕ)
-    → Puts (end.holds (writer_of end.output)) (waits_in end.output) (end.holds (writer_of mid)) (waits_in mid) added
+written_behind : {W E : Type 0} (end : Ending W E) (mid : Written W) (added : List ℕ)
+    → Prints end.output mid added
     → HasWritten (record end { output = mid }) [] → HasWritten end added
 written_behind end mid added p h =
-    subst (λ t. Appends (end.holds (writer_of end.output)) (end.holds (writer_of end.output_after)) (waits_in end.output ++ t)) (append-nil added)
+    subst (λ t. Writes end.output end.output_after t) (append-nil added)
     (puts_then_all _ _ _ _ _ added [] p h)
 
-failed_behind : {W E : Type 0} (end : Ending W E) (mid : Output W) (added : List ℕ)
-    → Puts (end.holds (writer_of end.output)) (waits_in end.output) (end.holds (writer_of mid)) (waits_in mid) added
+failed_behind : {W E : Type 0} (end : Ending W E) (mid : Written W) (added : List ℕ)
+    → Prints end.output mid added
     → FailsWriting (record end { output = mid }) [] → FailsWriting end added
 failed_behind end mid added p h = (
   h.0,
-  subst (λ t. AppendsBeginning (end.holds (writer_of end.output)) (end.holds (writer_of end.output_after)) (waits_in end.output ++ t)) (append-nil added)
+  subst (λ t. FailsIn end.output end.output_after t) (append-nil added)
       (begins_after_puts _ _ _ _ _ added [] p h.1),
 )
 
 module _ {W E : Type 0} (filter : Filter) (counts : Bool) (known : KnownLists) (name : List ℕ) (lines : List LogLine) (added : List ℕ) (more : ℕ)
-    (filters : Filters filter counts lines added more) (end : Ending W E) (two : end.status ≡ 2) (mid : Output W) (told : ℕ) where
+    (filters : Filters filter counts lines added more) (end : Ending W E) (two : end.status ≡ 2) (mid : Written W) (told : ℕ) where
   -- the output of these lines was put, and then what waited was written or not
   handed : (fault : LogFault) → HaltsBy filter known name lines fault → ((text : List ℕ) → HasWritten end text → Wrote fault end text)
-      → Puts (end.holds (writer_of end.output)) (waits_in end.output) (end.holds (writer_of mid)) (waits_in mid) added × (told ≡ min (length lines) (2 ^ 64 - 1))
+      → Prints end.output mid added × (told ≡ min (length lines) (2 ^ 64 - 1))
       → HandsOn name told fault (record end { output = mid }) → StopsAtLog filter counts known (name ∷ []) end
   handed fault halts wrote p (inl h) =
       at_log filter counts known name fault lines added more end two filters halts (wrote ([] ++ added) (written_behind end mid added p.0 h.0))
-      (tells_as end.tells end.errors end.errors_after _ _ (told_log name told (length lines) fault p.1) h.1)
+      (tells_same end.errors end.errors_after _ _ (told_log name told (length lines) fault p.1) h.1)
   handed fault halts wrote p (inr h) =
       at_log filter counts known name faults.Write lines added more end two filters (some_first filter counts known name lines fault halts) (failed_behind end mid added p.0 h.0) h.1
 
   -- the writer had failed
-  had_failed : HaltsBy filter known name lines faults.Write → IsTrue (output_failed mid)
-      × AppendsBeginning (end.holds (writer_of end.output)) (end.holds (writer_of mid)) (waits_in end.output ++ added)
+  had_failed : HaltsBy filter known name lines faults.Write → IsTrue mid.failed
+      × FailsIn end.output mid added
       → (end.output_after ≡ mid) × HasTold (record end { output = mid }) (codes "write error\n") → StopsAtLog filter counts known (name ∷ []) end
   had_failed halts p stops =
       at_log filter counts known name faults.Write lines added more end two filters halts
-      (subst (λ (o : Output W). (output_failed o ≡ true) × AppendsBeginning (end.holds (writer_of end.output)) (end.holds (writer_of o)) (waits_in end.output ++ added)) (sym stops.0) p) stops.1
+      (subst (λ (o : Written W). (o.failed ≡ true) × FailsIn end.output o added) (sym stops.0) p) stops.1
 
   stops_now : (fault : LogFault) (old new : Tally) → new.lines ≡ told → HaltsBy filter known name lines fault
-      → PutsBy fault (output_failed mid) (stand_of end.holds end.output old) (stand_of end.holds mid new) added (length lines)
+      → PutsBy fault mid.failed (stand end.output old) (stand mid new) added (length lines)
       → StopsBy name told fault (record end { output = mid }) → StopsAtLog filter counts known (name ∷ []) end
   stops_now faults.Open old new same halts puts stops = handed faults.Open halts (λ text h. h) (puts.0, sym same ∙ puts.1) stops
   stops_now faults.Read old new same halts puts stops = handed faults.Read halts (λ text h. h) (puts.0, sym same ∙ puts.1) stops
@@ -124,16 +121,16 @@ module _ {W E : Type 0} (filter : Filter) (counts : Bool) (known : KnownLists) (
   stops_now faults.Endless old new same halts puts stops = handed faults.Endless halts (λ text h. h) (puts.0, sym same ∙ puts.1) stops
 
 -- a log that was not filtered to its end
-pub name_stops : {W E : Type 0} (filter : Filter) (counts : Bool) (known : KnownLists) (name : List ℕ) (end : Ending W E) → end.status ≡ 2 → (mid : Output W) (fault : LogFault) (old new : Tally)
-    → NameStops filter counts known name (output_failed mid) (stand_of end.holds end.output old) (stand_of end.holds mid new) fault → StopsBy name new.lines fault (record end { output = mid })
+pub name_stops : {W E : Type 0} (filter : Filter) (counts : Bool) (known : KnownLists) (name : List ℕ) (end : Ending W E) → end.status ≡ 2 → (mid : Written W) (fault : LogFault) (old new : Tally)
+    → NameStops filter counts known name mid.failed (stand end.output old) (stand mid new) fault → StopsBy name new.lines fault (record end { output = mid })
     → StopsAtLog filter counts known (name ∷ []) end
 name_stops filter counts known name end two mid fault old new s stops =
     stops_now filter counts known name s.lines s.added s.count s.filters end two mid new.lines fault old new refl s.halts s.puts stops
 
 -- ---- logs in turn
 
-wrote_behind : {W E : Type 0} (fault : LogFault) (end : Ending W E) (mid : Output W) (output text : List ℕ)
-    → Puts (end.holds (writer_of end.output)) (waits_in end.output) (end.holds (writer_of mid)) (waits_in mid) output
+wrote_behind : {W E : Type 0} (fault : LogFault) (end : Ending W E) (mid : Written W) (output text : List ℕ)
+    → Prints end.output mid output
     → Wrote fault (record end { output = mid }) text → Wrote fault end (output ++ text)
 wrote_behind faults.Open end mid output text p h = puts_then_all _ _ _ _ _ output text p h
 wrote_behind faults.Read end mid output text p h = puts_then_all _ _ _ _ _ output text p h
@@ -146,9 +143,9 @@ wrote_same : {W E : Type 0} (fault : LogFault) (end : Ending W E) (text other : 
 wrote_same fault end text other e h = subst (λ (t : List ℕ). Wrote fault end t) e h
 
 -- a log that stops behind others that were filtered
-pub stops_behind_names : {W E : Type 0} (filter : Filter) (counts : Bool) (known : KnownLists) (done more rest names : List (List ℕ)) (end : Ending W E) (mid : Output W) (old now : Tally)
+pub stops_behind_names : {W E : Type 0} (filter : Filter) (counts : Bool) (known : KnownLists) (done more rest names : List (List ℕ)) (end : Ending W E) (mid : Written W) (old now : Tally)
     → names ≡ done ++ (more ++ rest)
-    → FiltersNames filter counts known done (stand_of end.holds end.output old) (stand_of end.holds mid now)
+    → FiltersNames filter counts known done (stand end.output old) (stand mid now)
     → StopsAtLog filter counts known more (record end { output = mid }) → StopsAtLog filter counts known names end
 stops_behind_names filter counts known done more rest names end mid old now e f s = record {
   before = done ++ s.before;
@@ -218,16 +215,16 @@ module _ {Z : Type 0} (filter : Filter) (counts : Bool) (known : KnownLists) (fi
       subst (λ (n : List (List ℕ)). FiltersNames filter counts known n old new) (ap (map string_bytes) (take_all i files past) ∙ sym (logs_some files some)) h
 
   -- the one at a place stopped
-  pub one_stops : {W E : Type 0} (i : ℕ) (name : List ℕ) (holds : W → Option (List ℕ)) (tells : E → Option (List ℕ)) (output mid after : Output W) (errors silent told : Output E) (old now : Tally)
+  pub one_stops : {W E : Type 0} (i : ℕ) (name : List ℕ) (output mid after : Written W) (errors silent told : Written E) (old now : Tally)
       → silent ≡ errors → (length files == 0) ≡ false → map string_bytes (take (i + 1) files) ≡ map string_bytes (take i files) ++ name ∷ []
-      → FiltersNames filter counts known (map string_bytes (take i files)) (stand_of holds output old) (stand_of holds mid now)
-      → StopsAtLog filter counts known (name ∷ []) (ending holds mid after tells silent told 2)
-      → StopsAtLog filter counts known (logs_of files) (ending holds output after tells errors told 2)
-  one_stops {W} {E} i name holds tells output mid after errors silent told old now same some more f s =
-      let end : Ending W E = ending holds output after tells errors told 2 in
+      → FiltersNames filter counts known (map string_bytes (take i files)) (stand output old) (stand mid now)
+      → StopsAtLog filter counts known (name ∷ []) (ending mid after silent told 2)
+      → StopsAtLog filter counts known (logs_of files) (ending output after errors told 2)
+  one_stops {W} {E} i name output mid after errors silent told old now same some more f s =
+      let end : Ending W E = ending output after errors told 2 in
       subst (λ (n : List (List ℕ)). StopsAtLog filter counts known n end) (sym (logs_some files some))
       (stops_behind_names filter counts known (map string_bytes (take i files)) (name ∷ []) (map string_bytes (drop (i + 1) files)) (map string_bytes files) end mid old now (names_apart files i name more) f
-      (subst (λ (o : Output E). StopsAtLog filter counts known (name ∷ []) (ending holds mid after tells o told 2)) same s))
+      (subst (λ (o : Written E). StopsAtLog filter counts known (name ∷ []) (ending mid after o told 2)) same s))
 
 -- ---- all logs
 
@@ -249,12 +246,12 @@ status_same (suc told) (suc count) e = positive (suc told) (omega arith) ∙ sym
 counted_told : (told count : ℕ) → Counts 0 told count → told ≡ min count (2 ^ 64 - 1)
 counted_told told count counted = let e = counted (omega arith) in omega (arith, e)
 
-module _ {W E T F : Type 0} (filter : Filter) (counts : Bool) (known : KnownLists) (names : List (List ℕ)) (end : Ending W E) (mid : Output W) (told : ℕ) where
+module _ {W E T F : Type 0} (filter : Filter) (counts : Bool) (known : KnownLists) (names : List (List ℕ)) (end : Ending W E) (mid : Written W) (told : ℕ) where
   pub all_ended : (written : Result T F) (status : ℕ) (old now : Tally) → old.selected ≡ 0 → now.selected ≡ told
-      → FiltersNames filter counts known names (stand_of end.holds end.output old) (stand_of end.holds mid now)
-      → OnOk written (Appends (end.holds (writer_of mid)) (end.holds (writer_of end.output_after)) (waits_in mid ++ total_text counts told))
-      → OnErr written (AppendsBeginning (end.holds (writer_of mid)) (end.holds (writer_of end.output_after)) (waits_in mid ++ total_text counts told))
-      → output_failed end.output_after ≡ (output_failed mid || is_err written) → status ≡ (if nat_lt 0 told then 0 else 1) → end.status ≡ status_of written status
+      → FiltersNames filter counts known names (stand end.output old) (stand mid now)
+      → OnOk written (Writes mid end.output_after (total_text counts told))
+      → OnErr written (FailsIn mid end.output_after (total_text counts told))
+      → end.output_after.failed ≡ (mid.failed || is_err written) → status ≡ (if nat_lt 0 told then 0 else 1) → end.status ≡ status_of written status
       → HasTold end (end_text written) → FiltersAll filter counts known names end
   all_ended (Ok done) status old now none same f ok err failed st two tells =
       let counted = counted_told told f.count (subst (λ n. Counts n told f.count) none (subst (λ n. Counts old.selected n f.count) same f.counted)) in
@@ -264,7 +261,7 @@ module _ {W E T F : Type 0} (filter : Filter) (counts : Bool) (known : KnownList
         filters = f.filters;
         ends = inl (
           puts_then_all _ _ _ _ _ f.output (total_text counts f.count) f.puts
-              (subst (λ t. Appends (end.holds (writer_of mid)) (end.holds (writer_of end.output_after)) (waits_in mid ++ t)) (total_same counts told f.count counted) ok),
+              (subst (λ t. Writes mid end.output_after t) (total_same counts told f.count counted) ok),
           tells,
           two ∙ st ∙ ap (λ b. if b then 0 else 1) (status_same told f.count counted),
         );
@@ -277,9 +274,9 @@ module _ {W E T F : Type 0} (filter : Filter) (counts : Bool) (known : KnownList
         filters = f.filters;
         ends = inr (
           (
-            failed_now (output_failed end.output_after) (output_failed mid) failed,
+            failed_now end.output_after.failed mid.failed failed,
             begins_after_puts _ _ _ _ _ f.output (total_text counts f.count) f.puts
-                (subst (λ t. AppendsBeginning (end.holds (writer_of mid)) (end.holds (writer_of end.output_after)) (waits_in mid ++ t)) (total_same counts told f.count counted) err),
+                (subst (λ t. FailsIn mid end.output_after t) (total_same counts told f.count counted) err),
           ),
           tells,
           two,
@@ -337,20 +334,20 @@ pub stops_failed : {W E : Type 0} (name : List ℕ) (lines : ℕ) (fault : LogFa
 stops_failed name lines fault end is same told = subst (λ (f : LogFault). StopsBy name lines f end) (sym is) (same, told)
 
 pub handed_all : {W E : Type 0} (name : List ℕ) (lines : ℕ) (fault : LogFault) (end : Ending W E)
-    → Appends (end.holds (writer_of end.output)) (end.holds (writer_of end.output_after)) (waits_in end.output) → HasTold end (log_fault_text name lines fault) → HandsOn name lines fault end
+    → Appends end.output.holds end.output_after.holds end.output.waits → HasTold end (log_fault_text name lines fault) → HandsOn name lines fault end
 handed_all name lines fault end h told =
-    inl (subst (Appends (end.holds (writer_of end.output)) (end.holds (writer_of end.output_after))) (sym (append-nil (waits_in end.output))) h, told)
+    inl (subst (Appends end.output.holds end.output_after.holds) (sym (append-nil end.output.waits)) h, told)
 
-pub handed_some : {W E : Type 0} (name : List ℕ) (lines : ℕ) (fault : LogFault) (end : Ending W E) → IsTrue (output_failed end.output_after)
-    → AppendsBeginning (end.holds (writer_of end.output)) (end.holds (writer_of end.output_after)) (waits_in end.output) → HasTold end (log_fault_text name lines faults.Write)
+pub handed_some : {W E : Type 0} (name : List ℕ) (lines : ℕ) (fault : LogFault) (end : Ending W E) → IsTrue end.output_after.failed
+    → AppendsBeginning end.output.holds end.output_after.holds end.output.waits → HasTold end (log_fault_text name lines faults.Write)
     → HandsOn name lines fault end
 handed_some name lines fault end failed h told =
-    inr ((failed, subst (AppendsBeginning (end.holds (writer_of end.output)) (end.holds (writer_of end.output_after))) (sym (append-nil (waits_in end.output))) h), told)
+    inr ((failed, subst (AppendsBeginning end.output.holds end.output_after.holds) (sym (append-nil end.output.waits)) h), told)
 
 -- ---- the run
 
-module _ {Z W E : Type 0} (known : KnownLists) (words : List (String Z)) (request : Request) (refused : Refused) (end : Ending W E) (told : Output E)
-    (tells : Tells end.tells end.errors told (refusals_text words (in_option words) refused)) where
+module _ {Z W E : Type 0} (known : KnownLists) (words : List (String Z)) (request : Request) (refused : Refused) (end : Ending W E) (told : Written E)
+    (tells : Tells end.errors told (refusals_text words (in_option words) refused)) where
   -- the reading stopped
   pub reading_stopped : {T : Type 0} (result : Result T ReadFault) (fault : ReadFault) → result ≡ Err fault → IfErr result (λ f. Stops known words (nothing_read no_refusals) f refused)
       → Refuses (fault_text words fault) (record end { errors = told }) → EndsRequest known words request end
@@ -389,14 +386,14 @@ module _ {Z W E : Type 0} (known : KnownLists) (words : List (String Z)) (reques
       logs_filtered held has h = goes_on (inr (held, subst (λ (l : Result Listed X). IfOk l (HoldsRead request.longest was_read.read)) has was_read.holds, h))
 
 -- nothing was told before
-pub all_by : {W E T F : Type 0} (filter : Filter) (counts : Bool) (known : KnownLists) (names : List (List ℕ)) (holds : W → Option (List ℕ)) (tells : E → Option (List ℕ))
-    (output mid after : Output W) (errors silent told_errors : Output E) (status told : ℕ) → silent ≡ errors → (written : Result T F) (wanted : ℕ) (old now : Tally) → old.selected ≡ 0 → now.selected ≡ told
-    → FiltersNames filter counts known names (stand_of holds output old) (stand_of holds mid now)
-    → OnOk written (Appends (holds (writer_of mid)) (holds (writer_of after)) (waits_in mid ++ total_text counts told))
-    → OnErr written (AppendsBeginning (holds (writer_of mid)) (holds (writer_of after)) (waits_in mid ++ total_text counts told))
-    → output_failed after ≡ (output_failed mid || is_err written) → wanted ≡ (if nat_lt 0 told then 0 else 1) → status ≡ status_of written wanted
-    → Tells tells silent told_errors (end_text written)
-    → FiltersAll filter counts known names (ending holds output after tells errors told_errors status)
-all_by {W} {E} filter counts known names holds tells output mid after errors silent told_errors status told same written wanted old now none is f ok err failed st two text =
-    all_ended filter counts known names (ending holds output after tells errors told_errors status) mid told
-    written wanted old now none is f ok err failed st two (subst (λ (o : Output E). Tells tells o told_errors (end_text written)) same text)
+pub all_by : {W E T F : Type 0} (filter : Filter) (counts : Bool) (known : KnownLists) (names : List (List ℕ)) 
+    (output mid after : Written W) (errors silent told_errors : Written E) (status told : ℕ) → silent ≡ errors → (written : Result T F) (wanted : ℕ) (old now : Tally) → old.selected ≡ 0 → now.selected ≡ told
+    → FiltersNames filter counts known names (stand output old) (stand mid now)
+    → OnOk written (Writes mid after (total_text counts told))
+    → OnErr written (FailsIn mid after (total_text counts told))
+    → after.failed ≡ (mid.failed || is_err written) → wanted ≡ (if nat_lt 0 told then 0 else 1) → status ≡ status_of written wanted
+    → Tells silent told_errors (end_text written)
+    → FiltersAll filter counts known names (ending output after errors told_errors status)
+all_by {W} {E} filter counts known names output mid after errors silent told_errors status told same written wanted old now none is f ok err failed st two text =
+    all_ended filter counts known names (ending output after errors told_errors status) mid told
+    written wanted old now none is f ok err failed st two (subst (λ (o : Written E). Tells o told_errors (end_text written)) same text)

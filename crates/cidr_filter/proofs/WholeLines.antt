@@ -2,7 +2,7 @@
 use Rattle.std.proofs.Common.{◌≡◌, ℕ, ◌<◌, ◌⊎◌, true, List, [], ◌∷◌, ◌++◌, length, inl, inr, sym, ap, ◌∙◌, subst, arith, append_assoc, append-nil, length-append, true≢false}
 use Rattle.std.proofs.lemmas.Bool.{ne_eqb}
 use Rattle.line_engine.proofs.BytesLemmas.{HasNo, HasNo-push}
-use Rattle.line_engine.proofs.Kept.{strip_length}
+use Rattle.line_engine.proofs.BytesLemmas.{strip_length}
 use Rattle.line_engine.proofs.Lines.{newline_cases}
 use Rattle.cidr_filter.specs.Filters.{Judges}
 use Rattle.cidr_filter.specs.Laws.{LinesThatEndRunsAreWhole}

@@ -1,9 +1,8 @@
 -- How a run ends: its exit status, what was written, and what was reported.
-use Rattle.std.specs.Prelude.{◌≡◌, ℕ, ◌-◌, ◌^◌, min, List, [], ◌∷◌, ◌++◌, Bool, true, false, ◌⊎◌, Option, if◌then◌else◌, length, nat_lt, drop, codes, decimal, String}
+use Rattle.std.specs.Prelude.{◌≡◌, ℕ, ◌-◌, ◌^◌, min, List, [], ◌∷◌, ◌++◌, Bool, true, false, ◌⊎◌, if◌then◌else◌, length, nat_lt, drop, codes, decimal, String}
 use Rattle.lists.specs.Lists.{ReadLists, nothing_read}
 use Rattle.lists.specs.Refusals.{Refused, no_refusals}
-use Rattle.line_engine.specs.declared.output.Output.{Output}
-use Rattle.line_engine.specs.Outputs.{writer_of, waits_in, output_failed, AppendsBeginning}
+use Rattle.line_engine.specs.Outputs.{Written, FailsIn}
 use Rattle.program.specs.Endings.{Ending, Refuses, HasTold, HasWritten}
 use Rattle.program.specs.Messages.{Tells}
 use Rattle.program.specs.Runs.{EndsRun}
@@ -27,8 +26,8 @@ use Rattle.cidr_filter.specs.declared.usage.UsageFault.{UsageFault}
 
 -- the writer failed, and took a beginning of what waited and the text
 abbrev pub FailsWriting : {W E : Type 0} → Ending W E → List ℕ → Type 0
-FailsWriting end text = (output_failed end.output_after ≡ true)
-    × AppendsBeginning (end.holds (writer_of end.output)) (end.holds (writer_of end.output_after)) (waits_in end.output ++ text)
+FailsWriting end text = (end.output_after.failed ≡ true)
+    × FailsIn end.output end.output_after text
 
 -- the text was written, unless it was a write that ended the run
 abbrev pub Wrote : {W E : Type 0} → LogFault → Ending W E → List ℕ → Type 0
@@ -97,8 +96,8 @@ StopsReading known words refused end = (fault : ReadFault) × Stops known words 
 
 -- the refused lines of the lists were reported, and then either why the reading stopped, or the logs were filtered
 abbrev pub EndsRequest : {Z W E : Type 0} → KnownLists → List (String Z) → Request → Ending W E → Type 0
-EndsRequest {Z} {W} {E} known words request end = (refused : Refused) × (told : Output E)
-    × Tells end.tells end.errors told (refusals_text words (in_option words) refused)
+EndsRequest {Z} {W} {E} known words request end = (refused : Refused) × (told : Written E)
+    × Tells end.errors told (refusals_text words (in_option words) refused)
     × (StopsReading known words refused (record end { errors = told })
     ⊎ ((read : ReadLists) × IsReadOf known words read × (read.refused ≡ refused) × EndsFiltering known words request read (record end { errors = told })))
 

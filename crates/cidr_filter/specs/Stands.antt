@@ -1,7 +1,6 @@
 -- Where a run stands.
 use Rattle.std.specs.Prelude.{◌≡◌, ℕ, ◌+◌, ◌-◌, ◌^◌, ◌≤◌, min, List, Option}
-use Rattle.line_engine.specs.Outputs.{writer_of, waits_in, Puts}
-use Rattle.line_engine.specs.declared.output.Output.{Output}
+use Rattle.line_engine.specs.Outputs.{Written, Puts}
 use Rattle.cidr_filter.specs.declared.log.Tally.{Tally}
 
 -- what the writer holds, what waits, how many lines of all logs were selected, and how many of this log were filtered
@@ -11,12 +10,8 @@ pub record Stand : Type 0 where
   pub selected : ℕ
   pub lines : ℕ
 
-abbrev pub stand : Option (List ℕ) → List ℕ → Tally → Stand
-stand holds waits tally = record { holds = holds; waits = waits; selected = tally.selected; lines = tally.lines }
-
--- the same by the output, of whose writer `holds` tells the bytes
-abbrev pub stand_of : {W : Type 0} → (W → Option (List ℕ)) → Output W → Tally → Stand
-stand_of holds output tally = stand (holds (writer_of output)) (waits_in output) tally
+abbrev pub stand : {W : Type 0} → Written W → Tally → Stand
+stand output tally = record { holds = output.holds; waits = output.waits; selected = tally.selected; lines = tally.lines }
 
 -- 64 bits count this many more
 abbrev pub Counts : ℕ → ℕ → ℕ → Type 0

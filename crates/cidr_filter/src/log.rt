@@ -1,9 +1,9 @@
 //! Filters the lines of a log.
 ghost use Rattle.std.specs.Prelude.{◌≡◌, ◌||◌, ◌≤◌, ◌++◌, [], if◌then◌else◌, length, IsTrue, OnOk, OnErr, IfErr, IsOkUnless, Err};
-ghost use Rattle.line_engine.specs.Outputs.{writer_of, output_failed, waits_in, AppendsBeginning};
+ghost use Rattle.line_engine.specs.Outputs.{AppendsBeginning};
 ghost use Rattle.line_engine.specs.Watched.{device_of, has_failed};
 ghost use Rattle.cidr_filter.specs.Filters.{mark_of};
-ghost use Rattle.cidr_filter.specs.Stands.{stand, stand_of, Goes};
+ghost use Rattle.cidr_filter.specs.Stands.{stand, stand, Goes};
 ghost use Rattle.cidr_filter.specs.Stops.{Ends, Stops, ended_by_read, ended_by_write};
 ghost use Rattle.cidr_filter.specs.Private.Judging.{fault_of};
 ghost use Rattle.cidr_filter.specs.Private.Progress.{feed_behind, FiltersLine, LineStops};
@@ -56,18 +56,18 @@ pub fn filter_log<R: Read, W: Write>(
 ) -> Result<(), LogFault>
     requires room { 1048578 ≤ length buffer.old }
     ensures ok { OnOk result (Ends filter.now counts (R.remaining (device_of reader.old)) (R.remaining (device_of reader.new))
-        (stand (W.contents (writer_of output.old)) (waits_in output.old) tally.old)
-        (stand (W.contents (writer_of output.new)) (waits_in output.new) tally.new)) }
+        (stand output.old tally.old)
+        (stand output.new tally.new)) }
     ensures err { IfErr result (Stops filter.now counts (R.remaining (device_of reader.old)) (R.remaining (device_of reader.new))
-        (has_failed reader.new) (output_failed output.new)
-        (stand (W.contents (writer_of output.old)) (waits_in output.old) tally.old)
-        (stand (W.contents (writer_of output.new)) (waits_in output.new) tally.new)) }
+        (has_failed reader.new) output.new.failed
+        (stand output.old tally.old)
+        (stand output.new tally.new)) }
     // A device has failed exactly if it had failed before, or its failure ended the log. So nothing is written after a
     // read that failed.
     ensures reader_failed { has_failed reader.new ≡ (has_failed reader.old || ended_by_read result) }
-    ensures writer_failed { output_failed output.new ≡ (output_failed output.old || ended_by_write result) }
-    ensures written { OnOk result (waits_in output.new ≡ []) }
-    ensures handed_on { result ≡ Err LogFault.Read → waits_in output.old ≡ [] → waits_in output.new ≡ [] }
+    ensures writer_failed { output.new.failed ≡ (output.old.failed || ended_by_write result) }
+    ensures written { OnOk result (output.new.waits ≡ []) }
+    ensures handed_on { result ≡ Err LogFault.Read → output.old.waits ≡ [] → output.new.waits ≡ [] }
 {
     let refuses_long_lines = filter.refuses(&Verdict::TooLong);
     let mut lines = LineBuffer::new(buffer, LINE_MAX);
@@ -121,11 +121,11 @@ fn filter_line<W: Write>(
     tally: &mut Tally,
 ) -> Result<(), LogFault>
     ensures ok { OnOk result (FiltersLine filter.now counts line.now (whole.now ++ feed_behind end)
-        (stand_of W.contents output.old tally.old) (stand_of W.contents output.new tally.new)) }
+        (stand output.old tally.old) (stand output.new tally.new)) }
     ensures err { IfErr result (LineStops filter.now counts line.now (whole.now ++ feed_behind end)
-        (output_failed output.new)
-        (stand_of W.contents output.old tally.old) (stand_of W.contents output.new tally.new)) }
-    ensures writer_failed { output_failed output.new ≡ (output_failed output.old || ended_by_write result) }
+        output.new.failed
+        (stand output.old tally.old) (stand output.new tally.new)) }
+    ensures writer_failed { output.new.failed ≡ (output.old.failed || ended_by_write result) }
 {
     let verdict = filter.judge(line);
     if filter.refuses(&verdict) {
@@ -149,14 +149,14 @@ fn select_line<W: Write>(
     tally: &mut Tally,
 ) -> Result<(), LogFault>
     ensures ok { OnOk result (Goes
-        (stand_of W.contents output.old tally.old) (stand_of W.contents output.new tally.new)
+        (stand output.old tally.old) (stand output.new tally.new)
         (if counts then [] else mark_of filter.now.listed verdict.now ++ (whole.now ++ feed_behind end)) 1 0) }
-    ensures err { OnErr result (IsTrue (output_failed output.new)) }
+    ensures err { OnErr result (IsTrue output.new.failed) }
     ensures beginning { OnErr result (AppendsBeginning
-        (W.contents (writer_of output.old)) (W.contents (writer_of output.new)) (waits_in output.old
+        output.old.holds output.new.holds (output.old.waits
         ++ (if counts then [] else mark_of filter.now.listed verdict.now ++ (whole.now ++ feed_behind end)))) }
     ensures fault { IsOkUnless result LogFault.Write }
-    ensures writer_failed { output_failed output.new ≡ (output_failed output.old || ended_by_write result) }
+    ensures writer_failed { output.new.failed ≡ (output.old.failed || ended_by_write result) }
 {
     tally.selected = tally.selected.saturating_add(1);
     if counts {

@@ -1,11 +1,11 @@
 //! Filters the logs of a run in turn.
 ghost use Rattle.std.specs.Prelude.{◌≡◌, ◌≤◌, ◌++◌, ◌||◌, ◌∷◌, [], true, false, decimal, length, nat_lt, if◌then◌else◌, is_err, OnOk, OnErr};
 ghost use Rattle.std.specs.Io.KnownBytes.{Appends};
-ghost use Rattle.line_engine.specs.Outputs.{writer_of, waits_in, output_failed, Puts, AppendsBeginning};
+ghost use Rattle.line_engine.specs.Outputs.{Prints, Writes, FailsIn};
 ghost use Rattle.cidr_filter.specs.Logs.{logs_of};
 ghost use Rattle.program.specs.Endings.{ending};
 ghost use Rattle.cidr_filter.specs.Runs.{EndsLogs, StopsAtLog, total_text};
-ghost use Rattle.cidr_filter.specs.Stands.{stand_of};
+ghost use Rattle.cidr_filter.specs.Stands.{stand};
 ghost use Rattle.cidr_filter.specs.Private.Runs.{FiltersNames, StopsBy};
 
 use crate::filter::Filter;
@@ -37,7 +37,7 @@ pub(crate) fn filter_logs<L: OpenLists, W: Write, E: Write>(
 ) -> u8
     requires { 1048578 ≤ length buffer.old }
     ensures { EndsLogs filter.now counts (L.known lists.now) (logs_of files.now)
-        (ending W.contents output.old output.new E.contents errors.old errors.new result) }
+        (ending output.old output.new errors.old errors.new result) }
 {
     let mut tally = Tally {
         selected: 0,
@@ -67,9 +67,9 @@ fn filter_each<L: OpenLists, W: Write, E: Write>(
     requires { 1048578 ≤ length buffer.old }
     ensures all { result ≡ true → (errors.new ≡ errors.old)
         × FiltersNames filter.now counts (L.known lists.now) (logs_of files.now)
-        (stand_of W.contents output.old tally.old) (stand_of W.contents output.new tally.new) }
+        (stand output.old tally.old) (stand output.new tally.new) }
     ensures stopped { result ≡ false → StopsAtLog filter.now counts (L.known lists.now) (logs_of files.now)
-        (ending W.contents output.old output.new E.contents errors.old errors.new 2) }
+        (ending output.old output.new errors.old errors.new 2) }
 {
     if files.is_empty() {
         let input = "-";
@@ -98,9 +98,9 @@ fn filter_one<L: OpenLists, W: Write, E: Write>(
     requires { 1048578 ≤ length buffer.old }
     ensures all { result ≡ true → (errors.new ≡ errors.old)
         × FiltersNames filter.now counts (L.known lists.now) (name.now ∷ [])
-        (stand_of W.contents output.old tally.old) (stand_of W.contents output.new tally.new) }
+        (stand output.old tally.old) (stand output.new tally.new) }
     ensures stopped { result ≡ false → StopsAtLog filter.now counts (L.known lists.now) (name.now ∷ [])
-        (ending W.contents output.old output.new E.contents errors.old errors.new 2) }
+        (ending output.old output.new errors.old errors.new 2) }
 {
     tally.lines = 0;
     let Ok(log) = lists.open(name) else {
@@ -129,7 +129,7 @@ fn stop<W: Write, E: Write>(
     errors: &mut Output<'_, E>,
 )
     ensures { StopsBy name.now lines fault
-        (ending W.contents output.old output.new E.contents errors.old errors.new 2) }
+        (ending output.old output.new errors.old errors.new 2) }
 {
     match fault {
         LogFault::Write => tell_log_fault(name, LogFault::Write, lines, errors),
@@ -146,9 +146,9 @@ fn write_end<W: Write>(
     selected: u64,
     output: &mut Output<'_, W>,
 ) -> Result<(), RunFault>
-    ensures ok { OnOk result (Appends (W.contents (writer_of output.old)) (W.contents (writer_of output.new)) (waits_in output.old ++ total_text counts selected)) }
-    ensures err { OnErr result (AppendsBeginning (W.contents (writer_of output.old)) (W.contents (writer_of output.new)) (waits_in output.old ++ total_text counts selected)) }
-    ensures failed { output_failed output.new ≡ (output_failed output.old || is_err result) }
+    ensures ok { OnOk result (Writes output.old output.new (total_text counts selected)) }
+    ensures err { OnErr result (FailsIn output.old output.new (total_text counts selected)) }
+    ensures failed { output.new.failed ≡ (output.old.failed || is_err result) }
 {
     if !counts {
         return output.finish();
@@ -159,9 +159,9 @@ fn write_end<W: Write>(
 
 // Writes a number and a line feed.
 fn write_number<W: Write>(number: u64, output: &mut Output<'_, W>) -> Result<(), RunFault>
-    ensures ok { OnOk result (Puts (W.contents (writer_of output.old)) (waits_in output.old) (W.contents (writer_of output.new)) (waits_in output.new) (decimal number ++ 10 ∷ [])) }
-    ensures err { OnErr result (AppendsBeginning (W.contents (writer_of output.old)) (W.contents (writer_of output.new)) (waits_in output.old ++ (decimal number ++ 10 ∷ []))) }
-    ensures failed { output_failed output.new ≡ (output_failed output.old || is_err result) }
+    ensures ok { OnOk result (Prints output.old output.new (decimal number ++ 10 ∷ [])) }
+    ensures err { OnErr result (FailsIn output.old output.new ((decimal number ++ 10 ∷ []))) }
+    ensures failed { output.new.failed ≡ (output.old.failed || is_err result) }
 {
     put_number(number, output)?;
     output.put(b"\n")
@@ -169,9 +169,9 @@ fn write_number<W: Write>(number: u64, output: &mut Output<'_, W>) -> Result<(),
 
 // Writes a number.
 fn put_number<W: Write>(number: u64, output: &mut Output<'_, W>) -> Result<(), RunFault>
-    ensures ok { OnOk result (Puts (W.contents (writer_of output.old)) (waits_in output.old) (W.contents (writer_of output.new)) (waits_in output.new) (decimal number)) }
-    ensures err { OnErr result (AppendsBeginning (W.contents (writer_of output.old)) (W.contents (writer_of output.new)) (waits_in output.old ++ decimal number)) }
-    ensures failed { output_failed output.new ≡ (output_failed output.old || is_err result) }
+    ensures ok { OnOk result (Prints output.old output.new (decimal number)) }
+    ensures err { OnErr result (FailsIn output.old output.new (decimal number)) }
+    ensures failed { output.new.failed ≡ (output.old.failed || is_err result) }
 {
     output.put(number_text(number).as_str().as_bytes())
 }

@@ -1,6 +1,6 @@
 //! Prints a line.
 ghost use Rattle.std.specs.Prelude.{◌≡◌, ◌||◌, ◌++◌, ◌∷◌, [], OnOk, OnErr, is_err};
-ghost use Rattle.line_engine.specs.Outputs.{writer_of, waits_in, output_failed, Puts, AppendsBeginning};
+ghost use Rattle.line_engine.specs.Outputs.{Puts, AppendsBeginning, Prints, FailsIn};
 ghost use Rattle.cidr_filter.specs.Filters.{mark_of, block_text, block_in};
 ghost use Rattle.cidr_filter.specs.Private.Progress.{feed_behind};
 
@@ -22,13 +22,13 @@ pub(crate) fn print_line<W: Write>(
     output: &mut Output<'_, W>,
 ) -> Result<(), RunFault>
     ensures ok { OnOk result (Puts
-        (W.contents (writer_of output.old)) (waits_in output.old)
-        (W.contents (writer_of output.new)) (waits_in output.new)
+        output.old.holds output.old.waits
+        output.new.holds output.new.waits
         (mark_of listed.now verdict.now ++ (whole.now ++ feed_behind end))) }
-    ensures failed { output_failed output.new ≡ (output_failed output.old || is_err result) }
+    ensures failed { output.new.failed ≡ (output.old.failed || is_err result) }
     ensures beginning { OnErr result (AppendsBeginning
-        (W.contents (writer_of output.old)) (W.contents (writer_of output.new))
-        (waits_in output.old ++ (mark_of listed.now verdict.now ++ (whole.now ++ feed_behind end)))) }
+        output.old.holds output.new.holds
+        (output.old.waits ++ (mark_of listed.now verdict.now ++ (whole.now ++ feed_behind end)))) }
 {
     put_mark(listed, verdict, output)?;
     put_line(whole, end, output)
@@ -41,12 +41,12 @@ fn put_line<W: Write>(
     output: &mut Output<'_, W>,
 ) -> Result<(), RunFault>
     ensures ok { OnOk result (Puts
-        (W.contents (writer_of output.old)) (waits_in output.old)
-        (W.contents (writer_of output.new)) (waits_in output.new) (whole.now ++ feed_behind end)) }
-    ensures failed { output_failed output.new ≡ (output_failed output.old || is_err result) }
+        output.old.holds output.old.waits
+        output.new.holds output.new.waits (whole.now ++ feed_behind end)) }
+    ensures failed { output.new.failed ≡ (output.old.failed || is_err result) }
     ensures beginning { OnErr result (AppendsBeginning
-        (W.contents (writer_of output.old)) (W.contents (writer_of output.new))
-        (waits_in output.old ++ (whole.now ++ feed_behind end))) }
+        output.old.holds output.new.holds
+        (output.old.waits ++ (whole.now ++ feed_behind end))) }
 {
     output.put(whole)?;
     put_feed(end, output)
@@ -55,12 +55,12 @@ fn put_line<W: Write>(
 // Writes a line feed behind a line that has none.
 fn put_feed<W: Write>(end: LineEnd, output: &mut Output<'_, W>) -> Result<(), RunFault>
     ensures ok { OnOk result (Puts
-        (W.contents (writer_of output.old)) (waits_in output.old)
-        (W.contents (writer_of output.new)) (waits_in output.new) (feed_behind end)) }
-    ensures failed { output_failed output.new ≡ (output_failed output.old || is_err result) }
+        output.old.holds output.old.waits
+        output.new.holds output.new.waits (feed_behind end)) }
+    ensures failed { output.new.failed ≡ (output.old.failed || is_err result) }
     ensures beginning { OnErr result (AppendsBeginning
-        (W.contents (writer_of output.old)) (W.contents (writer_of output.new))
-        (waits_in output.old ++ feed_behind end)) }
+        output.old.holds output.new.holds
+        (output.old.waits ++ feed_behind end)) }
 {
     match end {
         LineEnd::LineFeed => Ok(()),
@@ -75,9 +75,9 @@ fn put_mark<W: Write>(
     verdict: &Verdict,
     output: &mut Output<'_, W>,
 ) -> Result<(), RunFault>
-    ensures ok { OnOk result (Puts (W.contents (writer_of output.old)) (waits_in output.old) (W.contents (writer_of output.new)) (waits_in output.new) (mark_of listed.now verdict.now)) }
-    ensures failed { output_failed output.new ≡ (output_failed output.old || is_err result) }
-    ensures beginning { OnErr result (AppendsBeginning (W.contents (writer_of output.old)) (W.contents (writer_of output.new)) (waits_in output.old ++ mark_of listed.now verdict.now)) }
+    ensures ok { OnOk result (Prints output.old output.new (mark_of listed.now verdict.now)) }
+    ensures failed { output.new.failed ≡ (output.old.failed || is_err result) }
+    ensures beginning { OnErr result (FailsIn output.old output.new (mark_of listed.now verdict.now)) }
 {
     match listed {
         Listed::Addresses(_) => Ok(()),
@@ -87,9 +87,9 @@ fn put_mark<W: Write>(
 
 // Writes a block and a tab, or a minus sign for none.
 fn put_block<W: Write>(block: Option<IpNetwork>, output: &mut Output<'_, W>) -> Result<(), RunFault>
-    ensures ok { OnOk result (Puts (W.contents (writer_of output.old)) (waits_in output.old) (W.contents (writer_of output.new)) (waits_in output.new) (block_text block ++ 9 ∷ [])) }
-    ensures failed { output_failed output.new ≡ (output_failed output.old || is_err result) }
-    ensures beginning { OnErr result (AppendsBeginning (W.contents (writer_of output.old)) (W.contents (writer_of output.new)) (waits_in output.old ++ (block_text block ++ 9 ∷ []))) }
+    ensures ok { OnOk result (Prints output.old output.new (block_text block ++ 9 ∷ [])) }
+    ensures failed { output.new.failed ≡ (output.old.failed || is_err result) }
+    ensures beginning { OnErr result (FailsIn output.old output.new ((block_text block ++ 9 ∷ []))) }
 {
     put_text(block, output)?;
     output.put(b"\t")
@@ -97,9 +97,9 @@ fn put_block<W: Write>(block: Option<IpNetwork>, output: &mut Output<'_, W>) -> 
 
 // Writes a block, or a minus sign for none.
 fn put_text<W: Write>(block: Option<IpNetwork>, output: &mut Output<'_, W>) -> Result<(), RunFault>
-    ensures ok { OnOk result (Puts (W.contents (writer_of output.old)) (waits_in output.old) (W.contents (writer_of output.new)) (waits_in output.new) (block_text block)) }
-    ensures failed { output_failed output.new ≡ (output_failed output.old || is_err result) }
-    ensures beginning { OnErr result (AppendsBeginning (W.contents (writer_of output.old)) (W.contents (writer_of output.new)) (waits_in output.old ++ block_text block)) }
+    ensures ok { OnOk result (Prints output.old output.new (block_text block)) }
+    ensures failed { output.new.failed ≡ (output.old.failed || is_err result) }
+    ensures beginning { OnErr result (FailsIn output.old output.new (block_text block)) }
 {
     match block {
         Some(block) => output.put(block.canonical().as_str().as_bytes()),

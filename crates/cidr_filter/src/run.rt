@@ -32,7 +32,7 @@ pub(crate) fn run<L: OpenLists, W: Write, E: Write>(
     errors: &mut Output<'_, E>,
 ) -> u8
     ensures { EndsAs PROGRAM.now HELP.now VERSION.now USAGE.now (L.known lists.now) words.now
-        (ending W.contents output.old output.new E.contents errors.old errors.new result) }
+        (ending output.old output.new errors.old errors.new result) }
 {
     if let Some(text) = text_asked(HELP, VERSION, words) {
         return print_text(text, output, errors);
@@ -57,7 +57,7 @@ fn filter<L: OpenLists, W: Write, E: Write>(
 ) -> u8
     requires { request.files ≤ length words.now }
     ensures { EndsRequest (L.known lists.now) words.now request
-        (ending W.contents output.old output.new E.contents errors.old errors.new result) }
+        (ending output.old output.new errors.old errors.new result) }
 {
     let (listed, refusals, read) = read_listed(alloc, lists, words, request.longest);
     tell_refusals(words, &InOptions { words }, &refusals, errors);
@@ -97,7 +97,7 @@ fn filter<L: OpenLists, W: Write, E: Write>(
 // Reports that memory ran out, and returns the exit status for that.
 fn refuse_memory<E: Write>(errors: &mut Output<'_, E>) -> u8
     ensures status { result ≡ 2 }
-    ensures told { Tells E.contents errors.old errors.new (codes "out of memory\n") }
+    ensures told { Tells errors.old errors.new (codes "out of memory\n") }
 {
     tell("out of memory\n", errors);
     FAILED

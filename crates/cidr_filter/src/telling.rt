@@ -76,7 +76,7 @@ pub(crate) fn tell_log_fault<E: Write>(
     lines: u64,
     errors: &mut Output<'_, E>,
 )
-    ensures { Tells E.contents errors.old errors.new (log_fault_text name.now lines fault) }
+    ensures { Tells errors.old errors.new (log_fault_text name.now lines fault) }
 {
     match fault {
         LogFault::Open => tell_of(name, ": cannot open\n", errors),
@@ -90,7 +90,7 @@ pub(crate) fn tell_log_fault<E: Write>(
 
 // Reports a name, and then a text.
 fn tell_of<E: Write>(name: &str, text: &str, errors: &mut Output<'_, E>)
-    ensures { Tells E.contents errors.old errors.new (name.now ++ text.now) }
+    ensures { Tells errors.old errors.new (name.now ++ text.now) }
 {
     tell(name, errors);
     tell(text, errors);
@@ -98,7 +98,7 @@ fn tell_of<E: Write>(name: &str, text: &str, errors: &mut Output<'_, E>)
 
 // Reports which line is refused, and why.
 fn tell_line<E: Write>(name: &str, lines: u64, cause: &str, errors: &mut Output<'_, E>)
-    ensures { Tells E.contents errors.old errors.new (line_text name.now lines cause.now) }
+    ensures { Tells errors.old errors.new (line_text name.now lines cause.now) }
 {
     tell(name, errors);
     tell(":", errors);

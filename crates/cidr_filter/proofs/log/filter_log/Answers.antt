@@ -1,5 +1,4 @@
 use Rattle.std.proofs.Common.{◌-◌, ◌∙◌, length, ap, refl, sym, arith}
-use Rattle.line_engine.specs.Outputs.{output_failed}
 use Rattle.line_engine.specs.Watched.{has_failed}
 use Rattle.line_engine.proofs.Putting.{puts_nothing}
 use Rattle.line_engine.proofs.Writes.{still_works}
@@ -25,7 +24,7 @@ returns-in-Err-clause-err g c =
     c.lines.invariant.sofar c.next.ensures.ended _ c.in-Line.end c.line-line.result.now
     c.whole_line-whole.result.now c.in-Line.ensures.gives c.line-line.ensures
     c.whole_line-whole.ensures (has_failed c.lines.reader)
-    (output_failed c.filter_line.new.output) c.in-Err.fault
+    c.filter_line.new.output.failed c.in-Err.fault
     c.in-Err.ensures.err
 
 pub lines-preserved-in_default : goal.lines-preserved-in_default
@@ -70,7 +69,7 @@ lines-preserved-in-TooLong g c = record {
 
 pub returns-in_default-hand_on-clause-err : goal.returns-in_default-hand_on-clause-err
 returns-in_default-hand_on-clause-err g c = (
-  failed_now (output_failed c.hand_on.new.self) _ c.in_default-hand_on.ensures.failed,
+  failed_now c.hand_on.new.self.failed _ c.in_default-hand_on.ensures.failed,
   writing_stops c.args.filter.now c.args.counts c.lines.room c.lines.lines _ _ _ _ _
       c.lines.invariant.sofar c.in_default-hand_on.ensures.err,
 )
@@ -159,7 +158,7 @@ lines-smaller g c =
 
 pub returns-in-Err-hand_on-clause-err : goal.returns-in-Err-hand_on-clause-err
 returns-in-Err-hand_on-clause-err g c = (
-  failed_now (output_failed c.hand_on-in-End.new.self) _ c.in-Err-hand_on.ensures.failed,
+  failed_now c.hand_on-in-End.new.self.failed _ c.in-Err-hand_on.ensures.failed,
   writing_stops c.args.filter.now c.args.counts c.lines.room c.lines.lines _ _ _ _ _
       c.lines.invariant.sofar c.in-Err-hand_on.ensures.err,
 )

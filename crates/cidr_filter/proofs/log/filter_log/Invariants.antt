@@ -1,8 +1,7 @@
 use Rattle.std.proofs.Common.{◌≡◌, length}
-use Rattle.line_engine.specs.Outputs.{output_failed}
 use Rattle.line_engine.specs.Watched.{device_of, has_failed}
 use Rattle.cidr_filter.specs.Private.Progress.{FiltersSoFar}
-use Rattle.cidr_filter.specs.Stands.{stand_of}
+use Rattle.cidr_filter.specs.Stands.{stand}
 use Rattle.cidr_filter.proofs.Filtering.{to_do}
 use Rattle.cidr_filter.proofs.log.filter_log.Given as goal
 
@@ -10,12 +9,12 @@ abbrev pub invariant-lines : goal.invariant-lines
 invariant-lines g l = record {
   sofar : FiltersSoFar l.filter l.counts l.room l.lines
       (g.R.Read.remaining (device_of l.initial.reader)) (g.R.Read.remaining (device_of l.reader))
-      (stand_of g.W.Write.contents l.initial.output l.initial.tally)
-      (stand_of g.W.Write.contents l.output l.tally);
+      (stand l.initial.output l.initial.tally)
+      (stand l.output l.tally);
   limit : l.lines.limit ≡ 1048576;
   size : length l.lines.bytes ≡ length l.initial.lines.bytes;
   reads : has_failed l.reader ≡ has_failed l.initial.reader;
-  writes : output_failed l.output ≡ output_failed l.initial.output;
+  writes : l.output.failed ≡ l.initial.output.failed;
 }
 
 abbrev pub decreases-lines : goal.decreases-lines

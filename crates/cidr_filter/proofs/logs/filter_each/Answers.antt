@@ -37,7 +37,7 @@ returns-then-not-filter_one-clause-stopped g c = λ no.
     let files = c.args.files.now in
     let i = c.loop-file.file-index in
     let name = c.as_str-name.result.now in
-    one_stops c.args.filter.now c.args.counts (g.L.OpenLists.known c.args.lists.now) files i name g.W.Write.contents g.E.Write.contents c.args.output.now c.loop-file.output
+    one_stops c.args.filter.now c.args.counts (g.L.OpenLists.known c.args.lists.now) files i name c.args.output.now c.loop-file.output
     c.filter_one-in-loop-file.new.output c.args.errors.now c.loop-file.errors c.filter_one-in-loop-file.new.errors c.args.tally.now c.loop-file.tally c.loop-file.invariant.silent
     (sym c.is_empty.ensures ∙ c.if-is_empty.false) (names_more files i c.file-item.result name (omega arith) c.file-item.is c.as_str-name.ensures.value) c.loop-file.invariant.names
     (c.filter_one-in-loop-file.ensures.stopped c.if-not-filter_one.true)

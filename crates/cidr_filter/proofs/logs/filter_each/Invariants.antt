@@ -1,6 +1,6 @@
 use Rattle.std.proofs.Common.{◌≡◌, ◌≤◌, length, map, take}
 use Rattle.std.specs.String.{string_bytes}
-use Rattle.cidr_filter.specs.Stands.{stand_of}
+use Rattle.cidr_filter.specs.Stands.{stand}
 use Rattle.cidr_filter.specs.Private.Runs.{FiltersNames}
 use Rattle.cidr_filter.proofs.logs.filter_each.Given as goal
 
@@ -9,5 +9,5 @@ invariant-loop-file g l = record {
   room : 1048578 ≤ length l.buffer;
   silent : l.errors ≡ l.initial.errors;
   names : FiltersNames l.filter l.counts (g.L.OpenLists.known l.lists) (map string_bytes (take l.file-index l.files))
-      (stand_of g.W.Write.contents l.initial.output l.initial.tally) (stand_of g.W.Write.contents l.output l.tally);
+      (stand l.initial.output l.initial.tally) (stand l.output l.tally);
 }

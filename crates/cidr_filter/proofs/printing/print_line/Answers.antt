@@ -1,5 +1,5 @@
 use Rattle.std.proofs.Common.{◌++◌, List, ℕ, subst, append_assoc}
-use Rattle.line_engine.specs.Outputs.{writer_of, waits_in, AppendsBeginning}
+use Rattle.line_engine.specs.Outputs.{AppendsBeginning}
 use Rattle.line_engine.proofs.Putting.{begins_within}
 use Rattle.cidr_filter.specs.Filters.{mark_of}
 use Rattle.cidr_filter.specs.Private.Progress.{feed_behind}
@@ -9,31 +9,29 @@ use Rattle.cidr_filter.proofs.printing.print_line.Goals as goal
 
 pub returns-clause-ok : goal.returns-clause-ok
 returns-clause-ok g c =
-    let contents = g.W.Write.contents in
-    put_two_ok c.put_line.result (contents (writer_of c.args.output.now))
-    (contents (writer_of c.put_mark.new.output)) (contents (writer_of c.put_line.new.output))
-    (waits_in c.args.output.now) (waits_in c.put_mark.new.output)
-    (waits_in c.put_line.new.output) (mark_of c.args.listed.now c.args.verdict.now)
+    put_two_ok c.put_line.result c.args.output.now.holds
+    c.put_mark.new.output.holds c.put_line.new.output.holds
+    c.args.output.now.waits c.put_mark.new.output.waits
+    c.put_line.new.output.waits (mark_of c.args.listed.now c.args.verdict.now)
     (c.args.whole.now ++ feed_behind c.args.end) c.in_ok-put_mark.ensures.ok
     c.put_line.ensures.ok
 
 pub returns-in_err-put_mark-clause-beginning : goal.returns-in_err-put_mark-clause-beginning
 returns-in_err-put_mark-clause-beginning g c =
-    let held = g.W.Write.contents (writer_of c.args.output.now) in
-    let holds = g.W.Write.contents (writer_of c.put_mark.new.output) in
+    let held = c.args.output.now.holds in
+    let holds = c.put_mark.new.output.holds in
     let mark = mark_of c.args.listed.now c.args.verdict.now in
     on_err c.from_residual.result _
     (subst (λ (t : List ℕ). AppendsBeginning held holds t)
-    (append_assoc (waits_in c.args.output.now) mark
+    (append_assoc c.args.output.now.waits mark
     (c.args.whole.now ++ feed_behind c.args.end))
-    (begins_within held holds (waits_in c.args.output.now ++ mark)
+    (begins_within held holds (c.args.output.now.waits ++ mark)
     (c.args.whole.now ++ feed_behind c.args.end) c.in_err-put_mark.ensures.beginning))
 
 pub returns-clause-beginning : goal.returns-clause-beginning
 returns-clause-beginning g c =
-    let contents = g.W.Write.contents in
-    begins_after_ok c.put_line.result (contents (writer_of c.args.output.now))
-    (contents (writer_of c.put_mark.new.output)) (contents (writer_of c.put_line.new.output))
-    (waits_in c.args.output.now) (waits_in c.put_mark.new.output)
+    begins_after_ok c.put_line.result c.args.output.now.holds
+    c.put_mark.new.output.holds c.put_line.new.output.holds
+    c.args.output.now.waits c.put_mark.new.output.waits
     (mark_of c.args.listed.now c.args.verdict.now) (c.args.whole.now ++ feed_behind c.args.end)
     c.in_ok-put_mark.ensures.ok c.put_line.ensures.beginning

@@ -1,5 +1,5 @@
 use Rattle.std.proofs.Common.{[], ◌∷◌, ◌++◌, List, ℕ, subst, append_assoc}
-use Rattle.line_engine.specs.Outputs.{writer_of, waits_in, AppendsBeginning}
+use Rattle.line_engine.specs.Outputs.{AppendsBeginning}
 use Rattle.line_engine.proofs.Putting.{begins_within}
 use Rattle.cidr_filter.specs.Filters.{block_text}
 use Rattle.cidr_filter.proofs.Filtering.{put_two_ok}
@@ -8,21 +8,19 @@ use Rattle.cidr_filter.proofs.printing.put_block.Goals as goal
 
 pub returns-clause-ok : goal.returns-clause-ok
 returns-clause-ok g c =
-    let contents = g.W.Write.contents in
-    put_two_ok c.put.result (contents (writer_of c.args.output.now)) (contents (writer_of c.put_text.new.output)) (contents (writer_of c.put.new.self)) (waits_in c.args.output.now) (waits_in c.put_text.new.output)
-    (waits_in c.put.new.self) (block_text c.args.block) (9 ∷ []) c.in_ok-put_text.ensures.ok c.put.ensures.ok
+    put_two_ok c.put.result c.args.output.now.holds c.put_text.new.output.holds c.put.new.self.holds c.args.output.now.waits c.put_text.new.output.waits
+    c.put.new.self.waits (block_text c.args.block) (9 ∷ []) c.in_ok-put_text.ensures.ok c.put.ensures.ok
 
 pub returns-in_err-put_text-clause-beginning : goal.returns-in_err-put_text-clause-beginning
 returns-in_err-put_text-clause-beginning g c =
-    let held = g.W.Write.contents (writer_of c.args.output.now) in
-    let holds = g.W.Write.contents (writer_of c.put_text.new.output) in
+    let held = c.args.output.now.holds in
+    let holds = c.put_text.new.output.holds in
     let text = block_text c.args.block in
     on_err c.from_residual.result _
-    (subst (λ (t : List ℕ). AppendsBeginning held holds t) (append_assoc (waits_in c.args.output.now) text (9 ∷ []))
-    (begins_within held holds (waits_in c.args.output.now ++ text) (9 ∷ []) c.in_err-put_text.ensures.beginning))
+    (subst (λ (t : List ℕ). AppendsBeginning held holds t) (append_assoc c.args.output.now.waits text (9 ∷ []))
+    (begins_within held holds (c.args.output.now.waits ++ text) (9 ∷ []) c.in_err-put_text.ensures.beginning))
 
 pub returns-clause-beginning : goal.returns-clause-beginning
 returns-clause-beginning g c =
-    let contents = g.W.Write.contents in
-    begins_after_ok c.put.result (contents (writer_of c.args.output.now)) (contents (writer_of c.put_text.new.output)) (contents (writer_of c.put.new.self)) (waits_in c.args.output.now) (waits_in c.put_text.new.output)
+    begins_after_ok c.put.result c.args.output.now.holds c.put_text.new.output.holds c.put.new.self.holds c.args.output.now.waits c.put_text.new.output.waits
     (block_text c.args.block) (9 ∷ []) c.in_ok-put_text.ensures.ok c.put.ensures.err

@@ -1,5 +1,5 @@
 use Rattle.std.proofs.Common.{◌++◌, List, ℕ, subst, append_assoc}
-use Rattle.line_engine.specs.Outputs.{writer_of, waits_in, AppendsBeginning}
+use Rattle.line_engine.specs.Outputs.{AppendsBeginning}
 use Rattle.line_engine.proofs.Putting.{begins_within}
 use Rattle.cidr_filter.specs.Private.Progress.{feed_behind}
 use Rattle.cidr_filter.proofs.Filtering.{put_two_ok}
@@ -8,27 +8,25 @@ use Rattle.cidr_filter.proofs.printing.put_line.Goals as goal
 
 pub returns-clause-ok : goal.returns-clause-ok
 returns-clause-ok g c =
-    let contents = g.W.Write.contents in
-    put_two_ok c.put_feed.result (contents (writer_of c.args.output.now))
-    (contents (writer_of c.put.new.self)) (contents (writer_of c.put_feed.new.output))
-    (waits_in c.args.output.now) (waits_in c.put.new.self)
-    (waits_in c.put_feed.new.output) c.args.whole.now (feed_behind c.args.end)
+    put_two_ok c.put_feed.result c.args.output.now.holds
+    c.put.new.self.holds c.put_feed.new.output.holds
+    c.args.output.now.waits c.put.new.self.waits
+    c.put_feed.new.output.waits c.args.whole.now (feed_behind c.args.end)
     c.in_ok-put.ensures.ok c.put_feed.ensures.ok
 
 pub returns-in_err-put-clause-beginning : goal.returns-in_err-put-clause-beginning
 returns-in_err-put-clause-beginning g c =
-    let held = g.W.Write.contents (writer_of c.args.output.now) in
-    let holds = g.W.Write.contents (writer_of c.put.new.self) in
+    let held = c.args.output.now.holds in
+    let holds = c.put.new.self.holds in
     on_err c.from_residual.result _
     (subst (λ (t : List ℕ). AppendsBeginning held holds t)
-    (append_assoc (waits_in c.args.output.now) c.args.whole.now (feed_behind c.args.end))
-    (begins_within held holds (waits_in c.args.output.now ++ c.args.whole.now)
+    (append_assoc c.args.output.now.waits c.args.whole.now (feed_behind c.args.end))
+    (begins_within held holds (c.args.output.now.waits ++ c.args.whole.now)
     (feed_behind c.args.end) c.in_err-put.ensures.err))
 
 pub returns-clause-beginning : goal.returns-clause-beginning
 returns-clause-beginning g c =
-    let contents = g.W.Write.contents in
-    begins_after_ok c.put_feed.result (contents (writer_of c.args.output.now))
-    (contents (writer_of c.put.new.self)) (contents (writer_of c.put_feed.new.output))
-    (waits_in c.args.output.now) (waits_in c.put.new.self)
+    begins_after_ok c.put_feed.result c.args.output.now.holds
+    c.put.new.self.holds c.put_feed.new.output.holds
+    c.args.output.now.waits c.put.new.self.waits
     c.args.whole.now (feed_behind c.args.end) c.in_ok-put.ensures.ok c.put_feed.ensures.beginning

@@ -10,7 +10,7 @@ returns-in-Err g c =
     let r = c.read_listed-listed.result in
     let output = c.args.output.now in
     reading_stopped (g.L.OpenLists.known c.args.lists.now) c.args.words.now c.args.request r.1
-    (ending g.W.Write.contents output output g.E.Write.contents c.args.errors.now
+    (ending output output c.args.errors.now
     c.tell_fault.new.errors 2)
     c.tell_refusals.new.errors c.tell_refusals.ensures r.2 c.in-Err.fault c.in-Err.is
     c.read_listed-listed.ensures.stopped ((refl, refl), c.tell_fault.ensures)
@@ -20,18 +20,18 @@ returns-then-not-is_empty g c =
     let r = c.read_listed-listed.result in
     let output = c.args.output.now in
     line_refused (g.L.OpenLists.known c.args.lists.now) c.args.words.now c.args.request r.1
-    (ending g.W.Write.contents output output g.E.Write.contents c.args.errors.now
+    (ending output output c.args.errors.now
     c.tell_refusals.new.errors 2)
     c.tell_refusals.new.errors c.tell_refusals.ensures r.2 c.in_default.field-0 r.0 c.in_default.is
     c.read_listed-listed.ensures.read c.is_empty.result c.is_empty.ensures c.if-not-is_empty.true
-    ((refl, refl), tells_nothing g.E.Write.contents c.tell_refusals.new.errors)
+    ((refl, refl), tells_nothing c.tell_refusals.new.errors)
 
 pub returns-in_default-listed : goal.returns-in_default-listed
 returns-in_default-listed g c =
     let r = c.read_listed-listed.result in
     let output = c.args.output.now in
     memory_ran_out (g.L.OpenLists.known c.args.lists.now) c.args.words.now c.args.request r.1
-    (ending g.W.Write.contents output output g.E.Write.contents c.args.errors.now
+    (ending output output c.args.errors.now
     c.refuse_memory.new.errors
     c.refuse_memory.result)
     c.tell_refusals.new.errors c.tell_refusals.ensures r.2 c.in_default.field-0 r.0 c.in_default.is
@@ -43,7 +43,7 @@ returns-in_default-vec g c =
     let r = c.read_listed-listed.result in
     let output = c.args.output.now in
     memory_ran_out (g.L.OpenLists.known c.args.lists.now) c.args.words.now c.args.request r.1
-    (ending g.W.Write.contents output output g.E.Write.contents c.args.errors.now
+    (ending output output c.args.errors.now
     c.refuse_memory-in_default-vec.new.errors c.refuse_memory-in_default-vec.result)
     c.tell_refusals.new.errors c.tell_refusals.ensures r.2 c.in_default.field-0 r.0 c.in_default.is
     c.read_listed-listed.ensures.read c.is_empty.result c.is_empty.ensures c.if-not-is_empty.false (
@@ -55,7 +55,7 @@ pub returns : goal.returns
 returns g c =
     let r = c.read_listed-listed.result in
     logs_filtered (g.L.OpenLists.known c.args.lists.now) c.args.words.now c.args.request r.1
-    (ending g.W.Write.contents c.args.output.now c.filter_logs.new.output g.E.Write.contents
+    (ending c.args.output.now c.filter_logs.new.output
     c.args.errors.now
     c.filter_logs.new.errors c.filter_logs.result)
     c.tell_refusals.new.errors c.tell_refusals.ensures r.2 c.in_default.field-0 r.0 c.in_default.is

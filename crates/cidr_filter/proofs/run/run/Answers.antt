@@ -8,14 +8,14 @@ use Rattle.cidr_filter.proofs.run.run.Goals as goal
 
 pub returns-in-Some : goal.returns-in-Some
 returns-in-Some g c =
-    let end = ending g.W.Write.contents c.args.output.now c.print_text.new.output
-    g.E.Write.contents c.args.errors.now c.print_text.new.errors c.print_text.result in
+    let end = ending c.args.output.now c.print_text.new.output
+    c.args.errors.now c.print_text.new.errors c.print_text.result in
     printed HELP.now VERSION.now c.args.words.now _ end c.in-Some.text.now c.in-Some.ensures c.print_text.ensures
 
 pub returns-in-Ok : goal.returns-in-Ok
 returns-in-Ok g c =
-    let end = ending g.W.Write.contents c.args.output.now c.filter.new.output
-    g.E.Write.contents c.args.errors.now c.filter.new.errors c.filter.result in
+    let end = ending c.args.output.now c.filter.new.output
+    c.args.errors.now c.filter.new.errors c.filter.result in
     not_asked HELP.now VERSION.now c.args.words.now _ end c.in_default.ensures
     (inl (c.in-Ok.request, c.in-Ok.ensures.asked, c.filter.ensures))
 
@@ -24,9 +24,9 @@ returns-in-Err g c =
     let fault = c.in-Err.fault in
     let words = c.args.words.now in
     let same = ap (usage_text PROGRAM.now USAGE.now words fault.subject) c.text-problem.ensures in
-    let told = tells_same g.E.Write.contents c.args.errors.now c.refuse_usage.new.errors _ _ same
+    let told = tells_same c.args.errors.now c.refuse_usage.new.errors _ _ same
     c.refuse_usage.ensures.told in
-    let end = ending g.W.Write.contents c.args.output.now c.args.output.now
-    g.E.Write.contents c.args.errors.now c.refuse_usage.new.errors c.refuse_usage.result in
+    let end = ending c.args.output.now c.args.output.now
+    c.args.errors.now c.refuse_usage.new.errors c.refuse_usage.result in
     not_asked HELP.now VERSION.now words _ end c.in_default.ensures
     (inr (fault, c.in-Err.ensures.nothing, c.in-Err.ensures.wrong, ((refl, c.refuse_usage.ensures.status), told)))
