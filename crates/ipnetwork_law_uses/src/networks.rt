@@ -32,7 +32,8 @@ fn network_is_equal<A: Address>(a: Network<A>, b: Network<A>) -> bool
 
 fn v4_network_feeds_all<H: Hasher>(a: &Ipv4Network, one: &mut H, other: &mut H)
     ensures first { one.new ≡ fold H.write one.old (fed.u32 a.now.address ++ fed.u8 a.now.prefix) }
-    ensures second { other.new ≡ fold H.write other.old (fed.u32 a.now.address ++ fed.u8 a.now.prefix) }
+    ensures second { other.new
+        ≡ fold H.write other.old (fed.u32 a.now.address ++ fed.u8 a.now.prefix) }
     ensures alike { one.old ≡ other.old → one.new ≡ other.new }
 {
     network_hash(a, a, one, other);
@@ -40,7 +41,8 @@ fn v4_network_feeds_all<H: Hasher>(a: &Ipv4Network, one: &mut H, other: &mut H)
 
 fn v6_network_feeds_all<H: Hasher>(a: &Ipv6Network, one: &mut H, other: &mut H)
     ensures first { one.new ≡ fold H.write one.old (fed.u128 a.now.address ++ fed.u8 a.now.prefix) }
-    ensures second { other.new ≡ fold H.write other.old (fed.u128 a.now.address ++ fed.u8 a.now.prefix) }
+    ensures second { other.new
+        ≡ fold H.write other.old (fed.u128 a.now.address ++ fed.u8 a.now.prefix) }
     ensures alike { one.old ≡ other.old → one.new ≡ other.new }
 {
     network_hash(a, a, one, other);

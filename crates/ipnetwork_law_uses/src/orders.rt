@@ -4,8 +4,8 @@ ghost use Rattle.std.specs.Ordering.{nat_cmp};
 
 use std::cmp::Ordering;
 
-/// Whether exactly one of `<`, `==` and `>` is true of two numbers, and `<=` and `cmp` say the same: `order` is what `<`,
-/// `<=` and `cmp` say of the two.
+/// Whether exactly one of `<`, `==` and `>` is true of two numbers, and `<=` and `cmp` say the
+/// same: `order` is what `<`, `<=` and `cmp` say of the two.
 pub(crate) fn is_one_order(
     a: u128,
     b: u128,
