@@ -1,16 +1,12 @@
 -- What is told, one text after the other.
-use Rattle.std.proofs.Common.{◌≡◌, ◌<◌, ◌≤◌, ◌+◌, ◌-◌, ◌∷◌, ◌∙◌, ◌⊎◌, inl, inr, [], ℕ, suc, List, cond, refl, sym, ap, arith, length, get_or, take, drop, drop-cons, min, ◌&&◌, codes, true≢false}
-use Rattle.std.specs.Prelude.{String, Bool, true, false, ◌||◌, nat_lt, bytes_eq}
-use Rattle.std.specs.String.{string_bytes}
+use Rattle.std.proofs.Common.{◌≡◌, ◌<◌, ◌≤◌, ◌+◌, ◌∷◌, ◌∙◌, ◌⊎◌, inl, inr, [], ℕ, suc, List, cond, refl, sym, ap, arith, length, get_or, take, drop, drop-cons, min, codes, true≢false}
+use Rattle.std.specs.Prelude.{String, Bool, true, false, ◌||◌}
 use Rattle.std.proofs.lemmas.List.{take_all, drop_all}
 use Rattle.std.proofs.lemmas.Bool.{cases_lt}
-use Rattle.std.proofs.lemmas.Bool.Decides.{nat_tests}
-use Rattle.program.specs.Told.{name_at}
 use Rattle.program.specs.Words.{is}
-use Rattle.program.proofs.Told.{name_within, name_past}
 use Rattle.cidr_filter.specs.Filters.{one_if}
 use Rattle.cidr_filter.specs.Options.{takes_next, behind_option}
-use Rattle.cidr_filter.specs.Told.{is_text, texts_in}
+use Rattle.cidr_filter.specs.Told.{texts_in}
 
 -- ---- how many `-e`
 
@@ -71,18 +67,3 @@ texts_more options at next count one word within is same rest sum =
 
 pub texts_all : {Z : Type 0} (options : List (String Z)) (at count : ℕ) → length options ≤ at → count + texts_in (drop at options) ≡ texts_in options → count ≡ texts_in options
 texts_all options at count past sum = let none : texts_in (drop at options) ≡ 0 = ap texts_in (drop_all at options past) in omega (arith, none, sum)
-
--- ---- whether a place is of an `-e`
-
-text_before : {Z : Type 0} (words : List (String Z)) (place : ℕ) (known : Bool) → 0 < place → bytes_eq (name_at words (place - 1)) (codes "-e") ≡ known → known ≡ is_text words place
-text_before words place known some e =
-    let positive : nat_lt 0 place ≡ true = grind (arith, nat_tests) in
-    sym e ∙ sym (ap (λ b. b && bytes_eq (name_at words (place - 1)) (codes "-e")) positive)
-
-pub text_at : {Z : Type 0} (words : List (String Z)) (place : ℕ) (word : String Z) (result : Bool) → 0 < place → place - 1 < length words → word ≡ get_or words (place - 1) word
-    → result ≡ is (codes "-e") word → result ≡ is_text words place
-text_at words place word result some within here e =
-    text_before words place result some (ap (λ t. bytes_eq t (codes "-e")) (name_within words (place - 1) word within ∙ ap string_bytes (sym here)) ∙ sym e)
-
-pub no_text_at : {Z : Type 0} (words : List (String Z)) (place : ℕ) → 0 < place → length words ≤ place - 1 → false ≡ is_text words place
-no_text_at words place some past = text_before words place false some (ap (λ t. bytes_eq t (codes "-e")) (name_past words (place - 1) past))
