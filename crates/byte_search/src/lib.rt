@@ -19,7 +19,8 @@ use std::simd::prelude::*;
 #[inline(always)]
 pub fn find_from(text: &[u8], from: usize, byte: u8) -> Option<usize>
     requires { from ≤ length text.now }
-    ensures { MatchOption result (IsAbsent byte text.now from (length text.now)) (IsNext byte text.now from) }
+    ensures { MatchOption result (IsAbsent byte text.now from (length text.now))
+        (IsNext byte text.now from) }
 {
     if text.len() >= 16 {
         find_by::<16>(text, from, byte)
@@ -38,7 +39,8 @@ fn find_by<const N: usize>(text: &[u8], from: usize, byte: u8) -> Option<usize>
     requires few { N ≤ 32 }
     requires long { N ≤ length text.now }
     requires within { from ≤ length text.now }
-    ensures { MatchOption result (IsAbsent byte text.now from (length text.now)) (IsNext byte text.now from) }
+    ensures { MatchOption result (IsAbsent byte text.now from (length text.now))
+        (IsNext byte text.now from) }
 {
     let mut at = from;
     while N <= text.len() - at {
@@ -70,7 +72,8 @@ fn marks_of<const N: usize>(text: &[u8], at: usize, byte: u8) -> u64
 /// `find_from`, a byte at a time.
 fn find_one_by_one(text: &[u8], from: usize, byte: u8) -> Option<usize>
     requires { from ≤ length text.now }
-    ensures { MatchOption result (IsAbsent byte text.now from (length text.now)) (IsNext byte text.now from) }
+    ensures { MatchOption result (IsAbsent byte text.now from (length text.now))
+        (IsNext byte text.now from) }
 {
     for at in from..text.len() {
         if text[at] == byte {

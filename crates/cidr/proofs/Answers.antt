@@ -1,6 +1,6 @@
 -- The answer to a line, by its words.
 use Rattle.std.proofs.Common.{◌≡◌, ℕ, List, ◌∷◌, Option, None, Some, refl, ap, ◌∙◌, subst}
-use Rattle.line_engine.specs.Buffers.{Filled}
+use Rattle.lines.specs.Buffers.{Filled}
 use Rattle.cidr.specs.Private.Replies.{Adds}
 use Rattle.cidr.specs.Private.Words.{IsLastWord, IsWordBefore}
 use Rattle.cidr.specs.Requests.{unknown, request_in, one_word_request, two_words_request}

@@ -4,7 +4,7 @@ use Rattle.std.proofs.lemmas.List.{drop-drop}
 use Rattle.byte_search.specs.Bytes.{IsNext}
 use Rattle.cidr.specs.Private.Words.{IsLastWord, IsWordBefore, IsCut}
 use Rattle.cidr.specs.Words.{words}
-use Rattle.line_engine.proofs.BytesLemmas.{HasNo, IsFirst, first_behind, split_at, split_none, split_cons, split_text}
+use Rattle.lines.proofs.BytesLemmas.{HasNo, IsFirst, first_behind, split_at, split_none, split_cons, split_text}
 
 pub cut_here : (line : List ℕ) (at : ℕ) → IsFirst 32 line at → IsWordBefore line (take at line) (drop (at + 1) line)
 cut_here line at h = ap words (split_text 32 line at h) ∙ split_at 32 (take at line) (drop (at + 1) line) refl h.before

@@ -3,7 +3,7 @@ use Rattle.std.proofs.Common.{◌≡◌, [], ◌∷◌, ◌++◌, refl}
 use Rattle.std.specs.Prelude.{codes}
 use Rattle.std.specs.Fmt.{digits}
 use Rattle.cidr.specs.Commands.{read_answer, has_answer, ends_answer, rel_answer}
-use Rattle.line_engine.specs.Answers.{complete_part}
+use Rattle.lines.specs.Parts.{complete_part}
 use Rattle.cidr.specs.Computed.Output.{output_of, answer_of}
 use Rattle.ipnetwork.specs.declared.ip_network.IpNetwork.TheVariants.{V4}
 use Rattle.ipnetwork_addr.specs.Computed.Ipv6Text.{v6_of, gap_below}

@@ -1,7 +1,7 @@
 -- What the laws let one conclude, where a weaker law would not.
 use Rattle.std.proofs.Common.{ℕ, List, [], ◌++◌, codes, arith}
 use Rattle.std.specs.Prelude.{Option, Some, Ok, Err}
-use Rattle.line_engine.specs.declared.fault.RunFault.TheVariants.{Read, Write, InputTooLong}
+use Rattle.lines.specs.declared.fault.RunFault.TheVariants.{Read, Write, InputTooLong}
 use Rattle.cidr.specs.Laws.Runs.{AfterOk, AfterReadFault, AfterWriteFault, AfterTooLong}
 use Rattle.cidr.specs.Run.{Ran}
 

@@ -4,7 +4,7 @@ use Rattle.std.proofs.lemmas.Bool.{le-leb}
 use Rattle.std.proofs.lemmas.Bool.Decides.{leb_tells}
 use Rattle.ipnetwork_family.specs.PrefixNumber.{IsPrefixNumber, IsNoPrefixNumber}
 use Rattle.ipnetwork_family.specs.Computed.PrefixNumber.{prefix_number_of}
-use Rattle.line_engine.specs.Buffers.{Filled}
+use Rattle.lines.specs.Buffers.{Filled}
 use Rattle.cidr.specs.Output.{MayGet}
 use Rattle.cidr.specs.Private.Replies.{Adds, RepliesTo}
 use Rattle.cidr.specs.Requests.{Request, Plain, route_number_of, within_32_bits}

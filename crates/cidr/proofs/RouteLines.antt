@@ -15,7 +15,7 @@ use Rattle.ipnetwork_table.specs.Laws.{InsertSetsOne, RemoveTakesOne}
 use Rattle.ipnetwork_table.specs.Table.{Answers, HasNoHostBits}
 use Rattle.cidr.specs.Laws.Commands.{AddLaw, DropLaw, FindLaw}
 use Rattle.cidr.specs.Finding.{of_family, found_text}
-use Rattle.line_engine.specs.Answers.{IsBeginning}
+use Rattle.lines.specs.Parts.{IsBeginning}
 use Rattle.cidr.specs.Output.{added, dropped, MayGet, MayAnswer, reply, replies, RunsOut, IsOutput}
 use Rattle.cidr.specs.Requests.{Request, Add, Drop, Find, Plain, request_of}
 use Rattle.cidr.specs.Laws.Routes.{Renumbers, GetsAdd, New, Changed, OutOfMemory, AddsGet, GetsDrop, Dropped, Absent, DropsGet, GetsFind, Longest, Nothing, FindsGet, FirstFindsNothing, FirstDropsNothing, FirstAddsNew}

@@ -6,17 +6,17 @@ use Rattle.std.specs.Io.KnownBytes.{Appends, Consumes, Keeps}
 use Rattle.std.specs.Prelude.{Option, Result, Ok, Err, IsOkUnless}
 use Rattle.std.specs.Str.Lines.{lines}
 use Rattle.ipnetwork_table.specs.Laws.{AnswerIsComputed}
-use Rattle.line_engine.proofs.FirstLines.{handed, first_still, are_all}
-use Rattle.line_engine.proofs.HandingOut.{has_no}
-use Rattle.line_engine.proofs.Lines.{begins_longer, begins_after, begins_with_nothing, first_are_complete}
-use Rattle.line_engine.proofs.Putting.{puts_nothing, puts_more, puts_out, puts_waiting}
-use Rattle.line_engine.specs.Answers.{complete_part, IsBeginning}
-use Rattle.line_engine.specs.LineBuffers.{Buffered, AreFirst, IsPending, HandsOut, Gives, Receives, work}
-use Rattle.line_engine.specs.Outputs.{AppendsBeginning, Puts}
-use Rattle.line_engine.specs.declared.fault.RunFault.{RunFault}
-use Rattle.line_engine.specs.declared.fault.RunFault.TheVariants.{Read, Write, InputTooLong}
-use Rattle.line_engine.specs.declared.line_buffer.NextLine.TheVariants.{Line, TooLong, Ask, End}
-use Rattle.line_engine.specs.declared.line_end.LineEnd.{LineEnd}
+use Rattle.lines.proofs.FirstLines.{handed, first_still, are_all}
+use Rattle.lines.proofs.HandingOut.{has_no}
+use Rattle.lines.proofs.Lines.{begins_longer, begins_after, begins_with_nothing, first_are_complete}
+use Rattle.lines.proofs.Putting.{puts_nothing, puts_more, puts_out, puts_waiting}
+use Rattle.lines.specs.Parts.{complete_part, IsBeginning}
+use Rattle.lines.specs.LineBuffers.{Buffered, AreFirst, IsPending, HandsOut, Gives, Receives, work}
+use Rattle.lines.specs.Outputs.{AppendsBeginning, Puts}
+use Rattle.lines.specs.declared.fault.RunFault.{RunFault}
+use Rattle.lines.specs.declared.fault.RunFault.TheVariants.{Read, Write, InputTooLong}
+use Rattle.lines.specs.declared.line_buffer.NextLine.TheVariants.{Line, TooLong, Ask, End}
+use Rattle.lines.specs.declared.line_end.LineEnd.{LineEnd}
 use Rattle.cidr.specs.Output.{MayGet, MayAnswer, IsOutput, reply, replies}
 use Rattle.cidr.specs.Private.Progress.{Standing, begun, Answered, FailsWithin, FirstMayAnswer, RunSoFar}
 use Rattle.cidr.specs.Requests.{request_of}

@@ -4,7 +4,7 @@ use Rattle.std.specs.Str.Lines.{lines}
 use Rattle.cidr.specs.Output.{MayAnswer, IsOutputFrom, replies}
 use Rattle.cidr.specs.Laws.Outputs.{EndsALine, IsOutputInParts, SplitsAtLineEnds, PlainPartsRunAlone}
 use Rattle.cidr.specs.Routes.{Routes, no_routes}
-use Rattle.line_engine.proofs.Lines.{lines_from, pending_from, last_line, lines-append, pending-append, lines_split}
+use Rattle.lines.proofs.Lines.{lines_from, pending_from, last_line, lines-append, pending-append, lines_split}
 use Rattle.cidr.proofs.PlainLines.{plain_turns}
 use Rattle.cidr.proofs.Turns.{replies-append, answers-append}
 

@@ -1,14 +1,14 @@
 //! Lines are answered: what they get waits to be written, until there is no room for more.
 ghost use Rattle.std.specs.Prelude.{◌≡◌, ◌||◌, ◌<◌, ◌≤◌, ◌∷◌, ℕ, List, [], Option, length, is_err, IsOkUnless, OnErr, OnOk};
-ghost use Rattle.line_engine.specs.Outputs.{AppendsBeginning};
-ghost use Rattle.line_engine.specs.Watched.{device_of, has_failed};
+ghost use Rattle.lines.specs.Outputs.{AppendsBeginning};
+ghost use Rattle.lines.specs.Watched.{device_of, has_failed};
 
 use crate::dispatch::answer;
 use crate::replies::{ANSWER_MAX, reply};
 use crate::route_tables::RouteTables;
-use line_engine::buffer::Buffer;
-use line_engine::fault::RunFault;
-use line_engine::watched::Watched;
+use lines::buffer::Buffer;
+use lines::fault::RunFault;
+use lines::watched::Watched;
 use std::alloc::Global;
 use std::io::Write;
 
@@ -50,7 +50,8 @@ impl<'a> Answering<'a> {
         requires short { length line.now ≤ LINE_MAX }
         ensures ok { OnOk result (Answered (standing (W.contents (device_of writer.old)) self.old)
             (standing (W.contents (device_of writer.new)) self.new) (line.now ∷ [])) }
-        ensures err { OnErr result (FailsWithin (standing (W.contents (device_of writer.old)) self.old)
+        ensures err { OnErr result
+            (FailsWithin (standing (W.contents (device_of writer.old)) self.old)
             (W.contents (device_of writer.new)) (line.now ∷ [])) }
         ensures failed { has_failed writer.new ≡ (has_failed writer.old || is_err result) }
         ensures fault { IsOkUnless result RunFault.Write }
@@ -67,9 +68,11 @@ impl<'a> Answering<'a> {
         writer: &mut Watched<W>,
     ) -> Result<(), RunFault>
         requires fits { ANSWER_MAX ≤ self.old.waiting.capacity }
-        ensures ok { (line : List ℕ) → LINE_MAX < length line → OnOk result (Answered (standing (W.contents (device_of writer.old)) self.old)
+        ensures ok { (line : List ℕ) → LINE_MAX < length line
+            → OnOk result (Answered (standing (W.contents (device_of writer.old)) self.old)
             (standing (W.contents (device_of writer.new)) self.new) (line ∷ [])) }
-        ensures err { (line : List ℕ) → OnErr result (FailsWithin (standing (W.contents (device_of writer.old)) self.old)
+        ensures err { (line : List ℕ)
+            → OnErr result (FailsWithin (standing (W.contents (device_of writer.old)) self.old)
             (W.contents (device_of writer.new)) (line ∷ [])) }
         ensures failed { has_failed writer.new ≡ (has_failed writer.old || is_err result) }
         ensures fault { IsOkUnless result RunFault.Write }
@@ -85,7 +88,9 @@ impl<'a> Answering<'a> {
         requires fits { ANSWER_MAX ≤ self.old.waiting.capacity }
         ensures ok { OnOk result (Answered (standing (W.contents (device_of writer.old)) self.old)
             (standing (W.contents (device_of writer.new)) self.new) []) }
-        ensures err { OnErr result (AppendsBeginning (W.contents (device_of writer.old)) (W.contents (device_of writer.new))
+        ensures err { OnErr result
+            (AppendsBeginning (W.contents (device_of writer.old))
+            (W.contents (device_of writer.new))
             self.old.waiting.items) }
         ensures room { OnOk result (HasRoom self.new.waiting) }
         ensures fits { ANSWER_MAX ≤ self.new.waiting.capacity }
@@ -103,7 +108,9 @@ impl<'a> Answering<'a> {
         ensures ok { OnOk result (Answered (standing (W.contents (device_of writer.old)) self.old)
             (standing (W.contents (device_of writer.new)) self.new) []) }
         ensures emptied { OnOk result (self.new.waiting.items ≡ []) }
-        ensures err { OnErr result (AppendsBeginning (W.contents (device_of writer.old)) (W.contents (device_of writer.new))
+        ensures err { OnErr result
+            (AppendsBeginning (W.contents (device_of writer.old))
+            (W.contents (device_of writer.new))
             self.old.waiting.items) }
         ensures failed { has_failed writer.new ≡ (has_failed writer.old || is_err result) }
         ensures fault { IsOkUnless result RunFault.Write }

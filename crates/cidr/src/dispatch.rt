@@ -13,7 +13,7 @@ use crate::names;
 use crate::replies::reply;
 use crate::route_tables::RouteTables;
 use crate::words::cut_word;
-use line_engine::buffer::Buffer;
+use lines::buffer::Buffer;
 
 /// The answer to a line that is not a command.
 const UNKNOWN: &str = "unknown command";
@@ -22,7 +22,8 @@ const UNKNOWN: &str = "unknown command";
 /// the others are its arguments.
 pub(crate) fn answer(line: &[u8], routes: &mut RouteTables, replies: &mut Buffer<'_>)
     requires { HasRoom replies.old }
-    ensures { RepliesTo (routes_of routes.old) (request_in (words line.now)) replies.old replies.new (routes_of routes.new) }
+    ensures { RepliesTo (routes_of routes.old)
+        (request_in (words line.now)) replies.old replies.new (routes_of routes.new) }
 {
     let Some((command, first_at)) = cut_word(line, 0) else {
         reply(replies, UNKNOWN);
@@ -41,7 +42,8 @@ pub(crate) fn answer(line: &[u8], routes: &mut RouteTables, replies: &mut Buffer
 /// The answer of a command with one argument.
 fn answer_one(command: &[u8], word: &[u8], routes: &mut RouteTables, replies: &mut Buffer<'_>)
     requires { HasRoom replies.old }
-    ensures { RepliesTo (routes_of routes.old) (one_word_request command.now word.now) replies.old replies.new (routes_of routes.new) }
+    ensures { RepliesTo (routes_of routes.old)
+        (one_word_request command.now word.now) replies.old replies.new (routes_of routes.new) }
 {
     if names::is_read(command) {
         read(word, replies);
@@ -64,7 +66,8 @@ fn answer_routing_one(
     replies: &mut Buffer<'_>,
 )
     requires { HasRoom replies.old }
-    ensures { RepliesTo (routes_of routes.old) (one_word_routing command.now word.now) replies.old replies.new (routes_of routes.new) }
+    ensures { RepliesTo (routes_of routes.old)
+        (one_word_routing command.now word.now) replies.old replies.new (routes_of routes.new) }
 {
     if names::is_drop(command) {
         drop(word, routes, replies);

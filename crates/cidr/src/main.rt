@@ -15,8 +15,8 @@ mod run;
 mod words;
 
 use crate::run::run;
-use line_engine::fault::RunFault;
-use line_engine::watched::Watched;
+use lines::fault::RunFault;
+use lines::watched::Watched;
 use std::process::ExitCode;
 
 fn main(rt: HostRuntime) -> ExitCode {

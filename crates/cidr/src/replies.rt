@@ -4,7 +4,7 @@ ghost use Rattle.cidr.specs.Private.Replies.{HasRoom, Adds};
 ghost use Rattle.cidr.specs.declared.replies.TheConstants.{ANSWER_MAX};
 
 use arrayvec::ArrayString;
-use line_engine::buffer::Buffer;
+use lines::buffer::Buffer;
 
 /// The most bytes of an answer and its line feed.
 pub(crate) const ANSWER_MAX: usize = 160;

@@ -36,7 +36,8 @@ impl RouteTables {
     ) -> Result<Option<u32>, AllocError>
         ensures ok { IfOk result (λ old. (old ≡ number_at (routes_of self.old) network)
             × (routes_of self.new ≡ with_number (routes_of self.old) network number)) }
-        ensures err { OnErr result ((number_at (routes_of self.old) network ≡ None) × (routes_of self.new ≡ routes_of self.old)) }
+        ensures err { OnErr result ((number_at (routes_of self.old) network ≡ None)
+            × (routes_of self.new ≡ routes_of self.old)) }
     {
         match network {
             IpNetwork::V4(network) => Ok(self.v4.insert(network, number)?),

@@ -1,16 +1,16 @@
 //! The run that the program makes, and what it promises.
 ghost use Rattle.std.specs.Prelude.{◌≡◌, ◌||◌, List, ℕ, Err, OnOk, IsOk, IsFalse, IsTrue, IfSome, Some, ◌≤◌, length};
 ghost use Rattle.std.specs.Io.KnownBytes.{Appends};
-ghost use Rattle.line_engine.specs.Faults.{ended_by_read, ended_by_write};
-ghost use Rattle.line_engine.specs.Watched.{device_of, has_failed};
+ghost use Rattle.lines.specs.Faults.{ended_by_read, ended_by_write};
+ghost use Rattle.lines.specs.Watched.{device_of, has_failed};
 ghost use Rattle.cidr.specs.Output.{IsOutput};
 ghost use Rattle.cidr.specs.Run.{Ran};
 
 use crate::answering::{Answering, LINE_MAX};
 use ipnetwork_table::laws;
-use line_engine::fault::RunFault;
-use line_engine::line_buffer::{LineBuffer, NextLine};
-use line_engine::watched::Watched;
+use lines::fault::RunFault;
+use lines::line_buffer::{LineBuffer, NextLine};
+use lines::watched::Watched;
 use std::alloc::Global;
 use std::io::{Read, Write};
 
@@ -35,12 +35,17 @@ pub fn run<R: Read, W: Write>(
     ensures reader_failed { has_failed reader.new ≡ (has_failed reader.old || ended_by_read result) }
     ensures writer_failed { has_failed writer.new ≡ (has_failed writer.old || ended_by_write result) }
     ensures reader_first { IsTrue (has_failed reader.old) → result ≡ Err RunFault.Read }
-    ensures writer_next { IsFalse (has_failed reader.old) → IsTrue (has_failed writer.old) → result ≡ Err RunFault.Write }
+    ensures writer_next { IsFalse (has_failed reader.old) → IsTrue (has_failed writer.old)
+        → result ≡ Err RunFault.Write }
     ensures uncalled { IsTrue (has_failed reader.old || has_failed writer.old)
-        → (device_of reader.new ≡ device_of reader.old) × (device_of writer.new ≡ device_of writer.old) }
-    ensures output { OnOk result (IfSome (R.remaining (device_of reader.old)) (λ input. (output : List ℕ) × IsOutput input output
+        → (device_of reader.new ≡ device_of reader.old)
+        × (device_of writer.new ≡ device_of writer.old) }
+    ensures output { OnOk result
+        (IfSome (R.remaining (device_of reader.old)) (λ input. (output : List ℕ)
+        × IsOutput input output
         × Appends (W.contents (device_of writer.old)) (W.contents (device_of writer.new)) output)) }
-    ensures succeeds { (input : List ℕ) → R.remaining (device_of reader.old) ≡ Some input → length input ≤ u32.MAX
+    ensures succeeds { (input : List ℕ) → R.remaining (device_of reader.old) ≡ Some input
+        → length input ≤ u32.MAX
         → IsFalse (has_failed reader.new) → IsFalse (has_failed writer.new) → IsOk result }
 {
     run_limited(alloc, u32::MAX, reader, writer)
@@ -89,15 +94,20 @@ pub fn run_limited<R: Read, W: Write>(
     // If the reader had failed before, it is `Read`, whatever the writer; else, if the writer had, it is `Write`; and
     // no call is made if one of them had.
     ensures reader_first { IsTrue (has_failed reader.old) → result ≡ Err RunFault.Read }
-    ensures writer_next { IsFalse (has_failed reader.old) → IsTrue (has_failed writer.old) → result ≡ Err RunFault.Write }
+    ensures writer_next { IsFalse (has_failed reader.old) → IsTrue (has_failed writer.old)
+        → result ≡ Err RunFault.Write }
     ensures uncalled { IsTrue (has_failed reader.old || has_failed writer.old)
-        → (device_of reader.new ≡ device_of reader.old) × (device_of writer.new ≡ device_of writer.old) }
+        → (device_of reader.new ≡ device_of reader.old)
+        × (device_of writer.new ≡ device_of writer.old) }
 
     // So `Ok` means that an output of the whole input was written, and the result is `Ok` if the input is within the
     // limit and no device fails.
-    ensures output { OnOk result (IfSome (R.remaining (device_of reader.old)) (λ input. (output : List ℕ) × IsOutput input output
+    ensures output { OnOk result
+        (IfSome (R.remaining (device_of reader.old)) (λ input. (output : List ℕ)
+        × IsOutput input output
         × Appends (W.contents (device_of writer.old)) (W.contents (device_of writer.new)) output)) }
-    ensures succeeds { (input : List ℕ) → R.remaining (device_of reader.old) ≡ Some input → length input ≤ limit
+    ensures succeeds { (input : List ℕ) → R.remaining (device_of reader.old) ≡ Some input
+        → length input ≤ limit
         → IsFalse (has_failed reader.new) → IsFalse (has_failed writer.new) → IsOk result }
 {
     if reader.failed() {

@@ -9,7 +9,8 @@ use byte_search::find_from;
 #[inline(always)]
 pub(crate) fn cut_word(line: &[u8], from: usize) -> Option<(&[u8], usize)>
     requires { from ≤ length line.now }
-    ensures { MatchOption result (IsLastWord (drop from line.now)) (λ cut. IsCut line.now from cut.0.now cut.1) }
+    ensures { MatchOption result (IsLastWord (drop from line.now))
+        (λ cut. IsCut line.now from cut.0.now cut.1) }
 {
     match find_from(line, from, b' ') {
         None => None,

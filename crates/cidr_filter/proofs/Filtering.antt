@@ -8,13 +8,13 @@ use Rattle.std.proofs.Math.Nat.{mul_comm}
 use Rattle.std.proofs.lemmas.Bool.Decides.{eqb_tells}
 use Rattle.std.proofs.lemmas.List.Folds.{list_all-append}
 use Rattle.std.proofs.lemmas.Nat.{mul-add-lt}
-use Rattle.line_engine.specs.LineBuffers.{Buffered, IsPending, HandsOut, Gives, Receives, work}
-use Rattle.line_engine.specs.Outputs.{Puts}
-use Rattle.line_engine.specs.declared.line_buffer.NextLine.TheVariants.{Line, TooLong, Ask}
-use Rattle.line_engine.specs.declared.line_end.LineEnd.{LineEnd}
-use Rattle.line_engine.proofs.BytesLemmas.{HasNo}
-use Rattle.line_engine.proofs.HandingOut.{has_no}
-use Rattle.line_engine.proofs.Putting.{puts_nothing, puts_out, puts_more}
+use Rattle.lines.specs.LineBuffers.{Buffered, IsPending, HandsOut, Gives, Receives, work}
+use Rattle.lines.specs.Outputs.{Puts}
+use Rattle.lines.specs.declared.line_buffer.NextLine.TheVariants.{Line, TooLong, Ask}
+use Rattle.lines.specs.declared.line_end.LineEnd.{LineEnd}
+use Rattle.lines.proofs.BytesLemmas.{HasNo}
+use Rattle.lines.proofs.HandingOut.{has_no}
+use Rattle.lines.proofs.Putting.{puts_nothing, puts_out, puts_more}
 use Rattle.cidr_filter.specs.Filters.{Judges, is_refused, is_selected, one_if, output_of}
 use Rattle.cidr_filter.specs.Lines.{LogLine, log_lines, printed}
 use Rattle.cidr_filter.specs.Stands.{Stand, Counts, Goes}

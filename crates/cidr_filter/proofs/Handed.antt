@@ -3,13 +3,13 @@ use Rattle.std.proofs.Common.{◌≡◌, ℕ, ◌-◌, ◌≤◌, ◌==◌, ◌�
 use Rattle.std.proofs.lemmas.Bool.{ne_eqb}
 use Rattle.std.proofs.lemmas.List.{nil_from_length}
 use Rattle.std.specs.Str.Lines.{lines, strip_carriage_return}
-use Rattle.line_engine.specs.LineBuffers.{Buffered, IsFirstLine, HandsOut}
-use Rattle.line_engine.specs.LineEnds.{end_bytes}
-use Rattle.line_engine.specs.declared.line_end.LineEnd.{LineEnd}
-use Rattle.line_engine.specs.declared.line_end.LineEnd.TheVariants.{LineFeed, ReturnAndLineFeed, EndOfInput}
-use Rattle.line_engine.proofs.BytesLemmas.{HasNo, HasNo-push}
-use Rattle.line_engine.proofs.Lines as engine
-use Rattle.line_engine.proofs.Lines.{newline_cases}
+use Rattle.lines.specs.LineBuffers.{Buffered, IsFirstLine, HandsOut}
+use Rattle.lines.specs.LineEnds.{end_bytes}
+use Rattle.lines.specs.declared.line_end.LineEnd.{LineEnd}
+use Rattle.lines.specs.declared.line_end.LineEnd.TheVariants.{LineFeed, ReturnAndLineFeed, EndOfInput}
+use Rattle.lines.proofs.BytesLemmas.{HasNo, HasNo-push}
+use Rattle.lines.proofs.Lines as engine
+use Rattle.lines.proofs.Lines.{newline_cases}
 use Rattle.cidr_filter.specs.Lines.{LogLine, log_lines, content, printed}
 use Rattle.cidr_filter.specs.Private.Progress.{feed_behind}
 use Rattle.cidr_filter.proofs.LogLines.{ended, unended, lines_line, lines_last}

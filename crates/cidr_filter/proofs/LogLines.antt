@@ -2,7 +2,7 @@
 use Rattle.std.proofs.Common.{◌≡◌, ℕ, ◌<◌, ◌==◌, true, false, not, cond, List, [], ◌∷◌, ◌++◌, length, refl, ap, ◌∙◌, arith}
 use Rattle.std.specs.List.{slice_split, list_all}
 use Rattle.std.proofs.lemmas.Bool.{ne_eqb}
-use Rattle.line_engine.proofs.BytesLemmas.{HasNo, split_at, split_none, split_cons}
+use Rattle.lines.proofs.BytesLemmas.{HasNo, split_at, split_none, split_cons}
 use Rattle.cidr_filter.specs.Lines.{LogLine, lines_in, log_lines}
 
 abbrev pub ended : List ℕ → LogLine

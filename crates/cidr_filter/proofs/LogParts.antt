@@ -1,11 +1,11 @@
 -- The parts of a log.
 use Rattle.std.proofs.Common.{◌≡◌, ℕ, ◌+◌, Bool, List, [], ◌∷◌, ◌++◌, inl, inr, sym, ap, subst, ◌∙◌, arith, append_assoc}
-use Rattle.line_engine.proofs.BytesLemmas.{HasNo, HasNo-push}
+use Rattle.lines.proofs.BytesLemmas.{HasNo, HasNo-push}
 use Rattle.cidr_filter.specs.Filters.{output_of, Filters}
 use Rattle.cidr_filter.specs.Laws.{OutputsOfPartsFollow}
 use Rattle.cidr_filter.specs.Lines.{LogLine, log_lines}
 use Rattle.cidr_filter.specs.declared.filter.Filter.{Filter}
-use Rattle.line_engine.proofs.Lines.{newline_cases}
+use Rattle.lines.proofs.Lines.{newline_cases}
 use Rattle.cidr_filter.proofs.LogLines.{ended, lines_line}
 
 -- the lines up to a line feed, and those behind it; `p` is what was read of the line

@@ -5,9 +5,9 @@ use Rattle.std.specs.List.{slice_split}
 use Rattle.std.specs.Io.KnownBytes.{Appends, Consumes, IsAtEnd}
 use Rattle.std.proofs.KnownBytes.{Appends-trans}
 use Rattle.std.proofs.lemmas.Option.{none-some}
-use Rattle.line_engine.specs.Answers.{IsBeginning}
-use Rattle.line_engine.specs.Outputs.{Puts, AppendsBeginning}
-use Rattle.line_engine.proofs.Putting.{puts_nothing, puts_more}
+use Rattle.lines.specs.Parts.{IsBeginning}
+use Rattle.lines.specs.Outputs.{Puts, AppendsBeginning}
+use Rattle.lines.proofs.Putting.{puts_nothing, puts_more}
 use Rattle.lists.specs.KnownLists.{KnownLists}
 use Rattle.cidr_filter.specs.Lines.{LogLine, lines_in, log_lines, ended_lines}
 use Rattle.cidr_filter.specs.Filters.{Filters}

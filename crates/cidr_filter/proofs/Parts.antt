@@ -4,7 +4,7 @@ use Rattle.std.proofs.lemmas.Bool.{eq-eqb}
 use Rattle.std.proofs.lemmas.List.{drop-drop}
 use Rattle.std.specs.List.{slice_split}
 use Rattle.byte_search.specs.Bytes.{IsAbsent, IsNext}
-use Rattle.line_engine.proofs.BytesLemmas.{split_at, split_none, split_text, none_behind, first_behind}
+use Rattle.lines.proofs.BytesLemmas.{split_at, split_none, split_text, none_behind, first_behind}
 use Rattle.cidr_filter.specs.Fields.{part_behind}
 
 -- the rest of a text from a place on: what stands before the next byte of this value, that byte, and what is behind it

@@ -8,8 +8,8 @@ use Rattle.std.proofs.lemmas.Bool.Decides.{nat_tests}
 use Rattle.std.proofs.lemmas.List.{take_all, take_more, map_push}
 use Rattle.lists.specs.Lists.{nothing_read}
 use Rattle.lists.specs.Refusals.{Refused, no_refusals}
-use Rattle.line_engine.specs.Outputs.{Written, Puts, AppendsBeginning, Prints, Writes, FailsIn}
-use Rattle.line_engine.proofs.Putting.{begins_after_puts}
+use Rattle.lines.specs.Outputs.{Written, Puts, AppendsBeginning, Prints, Writes, FailsIn}
+use Rattle.lines.proofs.Putting.{begins_after_puts}
 use Rattle.program.proofs.Told.{tells_same}
 use Rattle.program.specs.Endings.{Ending, ending, Refuses, HasTold, HasWritten, status_of, end_text}
 use Rattle.program.specs.Messages.{Tells}
@@ -386,7 +386,7 @@ module _ {Z W E : Type 0} (known : KnownLists) (words : List (String Z)) (reques
       logs_filtered held has h = goes_on (inr (held, subst (λ (l : Result Listed X). IfOk l (HoldsRead request.longest was_read.read)) has was_read.holds, h))
 
 -- nothing was told before
-pub all_by : {W E T F : Type 0} (filter : Filter) (counts : Bool) (known : KnownLists) (names : List (List ℕ)) 
+pub all_by : {W E T F : Type 0} (filter : Filter) (counts : Bool) (known : KnownLists) (names : List (List ℕ))
     (output mid after : Written W) (errors silent told_errors : Written E) (status told : ℕ) → silent ≡ errors → (written : Result T F) (wanted : ℕ) (old now : Tally) → old.selected ≡ 0 → now.selected ≡ told
     → FiltersNames filter counts known names (stand output old) (stand mid now)
     → OnOk written (Writes mid after (total_text counts told))

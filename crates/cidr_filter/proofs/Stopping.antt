@@ -4,11 +4,11 @@ use Rattle.std.specs.Prelude.{Option, Result, Ok, Err, OnErr, IsTrue}
 use Rattle.std.specs.Io.KnownBytes.{Consumes, Keeps}
 use Rattle.std.specs.List.{list_all, filter}
 use Rattle.std.proofs.KnownBytes.{Consumes-trans, Consumes-kept}
-use Rattle.line_engine.specs.LineBuffers.{Buffered, IsPending, HandsOut, Gives, Receives}
-use Rattle.line_engine.specs.Outputs.{Puts, AppendsBeginning}
-use Rattle.line_engine.specs.declared.line_buffer.NextLine.TheVariants.{Line, TooLong, End}
-use Rattle.line_engine.specs.declared.line_end.LineEnd.{LineEnd}
-use Rattle.line_engine.proofs.Putting.{begins_after_puts}
+use Rattle.lines.specs.LineBuffers.{Buffered, IsPending, HandsOut, Gives, Receives}
+use Rattle.lines.specs.Outputs.{Puts, AppendsBeginning}
+use Rattle.lines.specs.declared.line_buffer.NextLine.TheVariants.{Line, TooLong, End}
+use Rattle.lines.specs.declared.line_end.LineEnd.{LineEnd}
+use Rattle.lines.proofs.Putting.{begins_after_puts}
 use Rattle.cidr_filter.specs.Filters.{Judges, is_refused, is_selected, one_if, output_of, Filters}
 use Rattle.cidr_filter.specs.Lines.{LogLine, log_lines, ended_lines, printed}
 use Rattle.cidr_filter.specs.Stands.{Stand, Goes}

@@ -1,9 +1,9 @@
 -- A line that ends the run, and what comes after what was read of the log.
 use Rattle.std.proofs.Common.{◌≡◌, ℕ, ◌<◌, ◌⊎◌, true, List, [], ◌∷◌, ◌++◌, length, inl, inr, sym, ap, ◌∙◌, subst, arith, append_assoc, append-nil, length-append, true≢false}
 use Rattle.std.proofs.lemmas.Bool.{ne_eqb}
-use Rattle.line_engine.proofs.BytesLemmas.{HasNo, HasNo-push}
-use Rattle.line_engine.proofs.BytesLemmas.{strip_length}
-use Rattle.line_engine.proofs.Lines.{newline_cases}
+use Rattle.lines.proofs.BytesLemmas.{HasNo, HasNo-push}
+use Rattle.lines.proofs.BytesLemmas.{strip_length}
+use Rattle.lines.proofs.Lines.{newline_cases}
 use Rattle.cidr_filter.specs.Filters.{Judges}
 use Rattle.cidr_filter.specs.Laws.{LinesThatEndRunsAreWhole}
 use Rattle.cidr_filter.specs.Lines.{LogLine, log_lines, content}

@@ -1,6 +1,6 @@
 -- Where a run stands.
 use Rattle.std.specs.Prelude.{◌≡◌, ℕ, ◌+◌, ◌-◌, ◌^◌, ◌≤◌, min, List, Option}
-use Rattle.line_engine.specs.Outputs.{Written, Puts}
+use Rattle.lines.specs.Outputs.{Written, Puts}
 use Rattle.cidr_filter.specs.declared.log.Tally.{Tally}
 
 -- what the writer holds, what waits, how many lines of all logs were selected, and how many of this log were filtered

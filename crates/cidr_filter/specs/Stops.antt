@@ -1,7 +1,7 @@
 -- How the filtering of a log ends.
 use Rattle.std.specs.Prelude.{◌≡◌, ℕ, ◌-◌, ◌^◌, ◌<◌, Bool, true, false, IsTrue, List, ◌∷◌, ◌++◌, length, Option, Result, Ok, Err}
 use Rattle.std.specs.Io.KnownBytes.{Consumes, IsAtEnd}
-use Rattle.line_engine.specs.Outputs.{AppendsBeginning}
+use Rattle.lines.specs.Outputs.{AppendsBeginning}
 use Rattle.cidr_filter.specs.Filters.{Judges, is_refused, Filters}
 use Rattle.cidr_filter.specs.Lines.{LogLine, log_lines, ended_lines, content, IsWhole}
 use Rattle.cidr_filter.specs.Stands.{Stand, Goes}

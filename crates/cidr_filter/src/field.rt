@@ -7,7 +7,8 @@ use byte_search::find_from;
 
 /// The field of this number, from 1 on, of a line that is cut at each single separator. Does not allocate.
 pub(crate) fn field_of(line: &[u8], number: u32, separator: u8) -> Option<&[u8]>
-    ensures { MatchOption result (field_of number separator line.now ≡ None) (λ field. field_of number separator line.now ≡ Some field.now) }
+    ensures { MatchOption result (field_of number separator line.now ≡ None)
+        (λ field. field_of number separator line.now ≡ Some field.now) }
 {
     let mut start = 0;
     let mut more = number.saturating_sub(1);
@@ -24,7 +25,8 @@ pub(crate) fn field_of(line: &[u8], number: u32, separator: u8) -> Option<&[u8]>
 // The field that begins at a place.
 fn field_at(line: &[u8], start: usize, separator: u8) -> &[u8]
     requires { start ≤ length line.now }
-    ensures { part_behind 0 (slice_split (λ b. b == separator) (drop start line.now)) ≡ Some result.now }
+    ensures { part_behind 0 (slice_split (λ b. b == separator) (drop start line.now))
+        ≡ Some result.now }
 {
     match find_from(line, start, separator) {
         Some(end) => &line[start..end],

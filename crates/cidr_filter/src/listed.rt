@@ -61,7 +61,8 @@ impl Tables {
 
     /// The block of greatest prefix length that holds the address.
     pub(crate) fn longest(&self, address: IpAddr) -> Option<IpNetwork>
-        ensures { MatchOption result (NoBlockHolds self.now address) (IsLongestBlock self.now address) }
+        ensures { MatchOption result (NoBlockHolds self.now address)
+            (IsLongestBlock self.now address) }
     {
         match address {
             IpAddr::V4(address) => match self.v4.lookup(address) {

@@ -1,7 +1,7 @@
 //! Filters the lines of a log.
 ghost use Rattle.std.specs.Prelude.{◌≡◌, ◌||◌, ◌≤◌, ◌++◌, [], if◌then◌else◌, length, IsTrue, OnOk, OnErr, IfErr, IsOkUnless, Err};
-ghost use Rattle.line_engine.specs.Outputs.{AppendsBeginning};
-ghost use Rattle.line_engine.specs.Watched.{device_of, has_failed};
+ghost use Rattle.lines.specs.Outputs.{AppendsBeginning};
+ghost use Rattle.lines.specs.Watched.{device_of, has_failed};
 ghost use Rattle.cidr_filter.specs.Filters.{mark_of};
 ghost use Rattle.cidr_filter.specs.Stands.{stand, stand, Goes};
 ghost use Rattle.cidr_filter.specs.Stops.{Ends, Stops, ended_by_read, ended_by_write};
@@ -10,10 +10,10 @@ ghost use Rattle.cidr_filter.specs.Private.Progress.{feed_behind, FiltersLine, L
 
 use crate::filter::{Filter, LINE_MAX, Verdict};
 use crate::printing::print_line;
-use line_engine::line_buffer::{LineBuffer, NextLine};
-use line_engine::line_end::LineEnd;
-use line_engine::output::Output;
-use line_engine::watched::Watched;
+use lines::line_buffer::{LineBuffer, NextLine};
+use lines::line_end::LineEnd;
+use lines::output::Output;
+use lines::watched::Watched;
 use std::io::{Read, Write};
 
 /// Why a log is not filtered to its end.
@@ -55,10 +55,14 @@ pub fn filter_log<R: Read, W: Write>(
     tally: &mut Tally,
 ) -> Result<(), LogFault>
     requires room { 1048578 ≤ length buffer.old }
-    ensures ok { OnOk result (Ends filter.now counts (R.remaining (device_of reader.old)) (R.remaining (device_of reader.new))
+    ensures ok { OnOk result
+        (Ends filter.now counts (R.remaining (device_of reader.old))
+        (R.remaining (device_of reader.new))
         (stand output.old tally.old)
         (stand output.new tally.new)) }
-    ensures err { IfErr result (Stops filter.now counts (R.remaining (device_of reader.old)) (R.remaining (device_of reader.new))
+    ensures err { IfErr result
+        (Stops filter.now counts (R.remaining (device_of reader.old))
+        (R.remaining (device_of reader.new))
         (has_failed reader.new) output.new.failed
         (stand output.old tally.old)
         (stand output.new tally.new)) }
@@ -150,11 +154,13 @@ fn select_line<W: Write>(
 ) -> Result<(), LogFault>
     ensures ok { OnOk result (Goes
         (stand output.old tally.old) (stand output.new tally.new)
-        (if counts then [] else mark_of filter.now.listed verdict.now ++ (whole.now ++ feed_behind end)) 1 0) }
+        (if counts then [] else mark_of filter.now.listed verdict.now
+        ++ (whole.now ++ feed_behind end)) 1 0) }
     ensures err { OnErr result (IsTrue output.new.failed) }
     ensures beginning { OnErr result (AppendsBeginning
         output.old.holds output.new.holds (output.old.waits
-        ++ (if counts then [] else mark_of filter.now.listed verdict.now ++ (whole.now ++ feed_behind end)))) }
+        ++ (if counts then []
+        else mark_of filter.now.listed verdict.now ++ (whole.now ++ feed_behind end)))) }
     ensures fault { IsOkUnless result LogFault.Write }
     ensures writer_failed { output.new.failed ≡ (output.old.failed || ended_by_write result) }
 {

@@ -1,7 +1,7 @@
 //! Filters the logs of a run in turn.
 ghost use Rattle.std.specs.Prelude.{◌≡◌, ◌≤◌, ◌++◌, ◌||◌, ◌∷◌, [], true, false, decimal, length, nat_lt, if◌then◌else◌, is_err, OnOk, OnErr};
 ghost use Rattle.std.specs.Io.KnownBytes.{Appends};
-ghost use Rattle.line_engine.specs.Outputs.{Prints, Writes, FailsIn};
+ghost use Rattle.lines.specs.Outputs.{Prints, Writes, FailsIn};
 ghost use Rattle.cidr_filter.specs.Logs.{logs_of};
 ghost use Rattle.program.specs.Endings.{ending};
 ghost use Rattle.cidr_filter.specs.Runs.{EndsLogs, StopsAtLog, total_text};
@@ -11,9 +11,9 @@ ghost use Rattle.cidr_filter.specs.Private.Runs.{FiltersNames, StopsBy};
 use crate::filter::Filter;
 use crate::log::{LogFault, Tally, filter_log};
 use crate::telling::tell_log_fault;
-use line_engine::fault::RunFault;
-use line_engine::output::Output;
-use line_engine::watched::Watched;
+use lines::fault::RunFault;
+use lines::output::Output;
+use lines::watched::Watched;
 use lists::OpenLists;
 use program::ending::{FAILED, end};
 use program::messages::number_text;
@@ -68,7 +68,8 @@ fn filter_each<L: OpenLists, W: Write, E: Write>(
     ensures all { result ≡ true → (errors.new ≡ errors.old)
         × FiltersNames filter.now counts (L.known lists.now) (logs_of files.now)
         (stand output.old tally.old) (stand output.new tally.new) }
-    ensures stopped { result ≡ false → StopsAtLog filter.now counts (L.known lists.now) (logs_of files.now)
+    ensures stopped { result ≡ false
+        → StopsAtLog filter.now counts (L.known lists.now) (logs_of files.now)
         (ending output.old output.new errors.old errors.new 2) }
 {
     if files.is_empty() {
@@ -99,7 +100,8 @@ fn filter_one<L: OpenLists, W: Write, E: Write>(
     ensures all { result ≡ true → (errors.new ≡ errors.old)
         × FiltersNames filter.now counts (L.known lists.now) (name.now ∷ [])
         (stand output.old tally.old) (stand output.new tally.new) }
-    ensures stopped { result ≡ false → StopsAtLog filter.now counts (L.known lists.now) (name.now ∷ [])
+    ensures stopped { result ≡ false
+        → StopsAtLog filter.now counts (L.known lists.now) (name.now ∷ [])
         (ending output.old output.new errors.old errors.new 2) }
 {
     tally.lines = 0;

@@ -1,15 +1,15 @@
 //! Prints a line.
 ghost use Rattle.std.specs.Prelude.{◌≡◌, ◌||◌, ◌++◌, ◌∷◌, [], OnOk, OnErr, is_err};
-ghost use Rattle.line_engine.specs.Outputs.{Puts, AppendsBeginning, Prints, FailsIn};
+ghost use Rattle.lines.specs.Outputs.{Puts, AppendsBeginning, Prints, FailsIn};
 ghost use Rattle.cidr_filter.specs.Filters.{mark_of, block_text, block_in};
 ghost use Rattle.cidr_filter.specs.Private.Progress.{feed_behind};
 
 use crate::filter::Verdict;
 use crate::listed::Listed;
 use ipnetwork::IpNetwork;
-use line_engine::fault::RunFault;
-use line_engine::line_end::LineEnd;
-use line_engine::output::Output;
+use lines::fault::RunFault;
+use lines::line_end::LineEnd;
+use lines::output::Output;
 use std::io::Write;
 
 /// Writes a line of this verdict, and before it, with `--longest`, the block that holds its address. `whole` is the line
@@ -77,7 +77,8 @@ fn put_mark<W: Write>(
 ) -> Result<(), RunFault>
     ensures ok { OnOk result (Prints output.old output.new (mark_of listed.now verdict.now)) }
     ensures failed { output.new.failed ≡ (output.old.failed || is_err result) }
-    ensures beginning { OnErr result (FailsIn output.old output.new (mark_of listed.now verdict.now)) }
+    ensures beginning { OnErr result
+        (FailsIn output.old output.new (mark_of listed.now verdict.now)) }
 {
     match listed {
         Listed::Addresses(_) => Ok(()),
@@ -89,7 +90,8 @@ fn put_mark<W: Write>(
 fn put_block<W: Write>(block: Option<IpNetwork>, output: &mut Output<'_, W>) -> Result<(), RunFault>
     ensures ok { OnOk result (Prints output.old output.new (block_text block ++ 9 ∷ [])) }
     ensures failed { output.new.failed ≡ (output.old.failed || is_err result) }
-    ensures beginning { OnErr result (FailsIn output.old output.new ((block_text block ++ 9 ∷ []))) }
+    ensures beginning { OnErr result
+        (FailsIn output.old output.new ((block_text block ++ 9 ∷ []))) }
 {
     put_text(block, output)?;
     output.put(b"\t")

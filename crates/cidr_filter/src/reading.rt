@@ -21,8 +21,10 @@ pub(crate) fn read_listed<L: OpenLists>(
     words: &[String],
     longest: bool,
 ) -> (Result<Listed, AllocError>, Refusals, Result<(), ReadFault>)
-    ensures read { OnOk result.2 (ReadsAll (L.known lists.now) words.now longest result.0 result.1) }
-    ensures stopped { IfErr result.2 (λ fault. Stops (L.known lists.now) words.now (nothing_read no_refusals) fault result.1) }
+    ensures read { OnOk result.2
+        (ReadsAll (L.known lists.now) words.now longest result.0 result.1) }
+    ensures stopped { IfErr result.2
+        (λ fault. Stops (L.known lists.now) words.now (nothing_read no_refusals) fault result.1) }
 {
     let mut reader = ListReader::new(alloc, Refusals::new());
     let end = read_lists(lists, words, &mut reader);

@@ -10,7 +10,7 @@ use crate::help::{HELP, PROGRAM, USAGE, VERSION};
 use crate::logs::filter_logs;
 use crate::reading::read_listed;
 use crate::telling::InOptions;
-use line_engine::output::Output;
+use lines::output::Output;
 use lists::OpenLists;
 use program::ending::{FAILED, print_text};
 use program::messages::tell;

@@ -7,7 +7,7 @@ ghost use Rattle.cidr_filter.specs.Told.{is_text, texts_in, line_text, log_fault
 
 use crate::log::LogFault;
 use crate::options::behind;
-use line_engine::output::Output;
+use lines::output::Output;
 use lists::Refusal;
 use program::messages::{tell, tell_number};
 use program::telling::Places;

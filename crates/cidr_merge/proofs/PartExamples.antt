@@ -6,7 +6,7 @@ use Rattle.std.specs.String.{string_bytes}
 use Rattle.ipnetwork_blocks.specs.Aggregate.{IsAggregate}
 use Rattle.lists.specs.Lists.{ReadLists, nothing_read, at_list, TakesLines}
 use Rattle.lists.specs.Refusals.{Refused, no_refusals}
-use Rattle.line_engine.specs.Outputs.{Written}
+use Rattle.lines.specs.Outputs.{Written}
 use Rattle.program.specs.Endings.{Ending, HasTold, HasWritten}
 use Rattle.lists.specs.KnownLists.{KnownLists}
 use Rattle.program.specs.Messages.{Tells}

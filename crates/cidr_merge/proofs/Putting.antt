@@ -4,8 +4,8 @@ use Rattle.std.specs.Prelude.{Option, Result, Ok, Err, OnOk, ◌≢◌}
 use Rattle.std.specs.List.{flat_map}
 use Rattle.std.proofs.lemmas.Grind.{flat_map-append}
 use Rattle.cidr_merge.specs.Answers.{sign_of, AreBoth, AreCountsLeft, AreCounts}
-use Rattle.line_engine.specs.Outputs.{Puts}
-use Rattle.line_engine.proofs.Putting.{puts_more}
+use Rattle.lines.specs.Outputs.{Puts}
+use Rattle.lines.proofs.Putting.{puts_more}
 use Rattle.cidr_merge.specs.declared.command_line.Form.{Form}
 use Rattle.cidr_merge.specs.declared.command_line.Operation.{Operation}
 use Rattle.cidr_merge.specs.declared.command_line.Operation.TheVariants.{Union, Common, Minus, Differ}

@@ -1,5 +1,5 @@
 -- How a run ends.
-use Rattle.line_engine.specs.Outputs.{Written}
+use Rattle.lines.specs.Outputs.{Written}
 use Rattle.std.proofs.Common.{◌≡◌, ◌==◌, List, Bool, not, sym, subst, inl, inr, length}
 use Rattle.std.specs.Prelude.{Result, Ok, Err, OnOk, IfErr, String, slice_range}
 use Rattle.lists.specs.Lists.{nothing_read}

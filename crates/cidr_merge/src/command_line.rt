@@ -52,7 +52,9 @@ pub struct Request {
 /// The operation, its options and its lists, which the words after the program's name say. Does not allocate.
 pub(crate) fn request_of(words: &[String]) -> Result<Request, UsageFault>
     ensures within { IfOk result (IsWithin (length words.now)) }
-    ensures asked { MatchResult result (λ request. AreFor words.now request.operation × Says words.now request) (λ fault. AreForNone words.now × (fault_in words.now ≡ Some fault)) }
+    ensures asked { MatchResult result (λ request. AreFor words.now request.operation
+        × Says words.now request) (λ fault. AreForNone words.now
+        × (fault_in words.now ≡ Some fault)) }
 {
     let Some((name, others)) = words.split_first() else {
         return Err(nothing_said());

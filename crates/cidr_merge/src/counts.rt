@@ -22,7 +22,8 @@ impl Counts {
     /// The counts of these blocks.
     pub(crate) fn of<N: AddressSpace>(mut blocks: Sweep<'_, N>) -> Counts
         ensures blocks { result.blocks ≡ min (length (blocks_left blocks.entry)) (2 ^ 128 - 1) }
-        ensures addresses { count_number result.addresses ≡ min (total N.WIDTH (blocks_left blocks.entry)) (2 ^ 128) }
+        ensures addresses { count_number result.addresses ≡ min
+            (total N.WIDTH (blocks_left blocks.entry)) (2 ^ 128) }
     {
         let mut count = 0u128;
         let mut addresses = AddressCount::ZERO;
@@ -38,7 +39,8 @@ impl Counts {
 
     /// Both numbers, with a blank between them.
     pub(crate) fn text(self) -> ArrayString<80>
-        ensures { result.bytes ≡ decimal self.blocks ++ codes " " ++ decimal (count_number self.addresses) }
+        ensures { result.bytes ≡ decimal self.blocks ++ codes " " ++ decimal
+            (count_number self.addresses) }
     {
         let mut text = ArrayString::new();
         push_number(&mut text, self.blocks);

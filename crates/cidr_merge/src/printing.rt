@@ -3,7 +3,7 @@ ghost use Rattle.std.specs.Prelude.{◌≡◌, ◌≤◌, ◌++◌, ◌∷◌, �
 ghost use Rattle.std.specs.List.{flat_map};
 ghost use Rattle.cidr_merge.specs.Answers.{sign_of, merged_by, AreBlockLines, AreRangeLines, IsCountLine, AreCountsLeft, AreCounts, IsAnswer, IsLeft};
 ghost use Rattle.cidr_merge.specs.Private.Sweeps.{left_of_second};
-ghost use Rattle.line_engine.specs.Outputs.{Prints};
+ghost use Rattle.lines.specs.Outputs.{Prints};
 
 use crate::command_line::{Form, Operation};
 use crate::counts::Counts;
@@ -13,8 +13,8 @@ use crate::sides::{Side, Sides};
 use crate::sweep::Sweep;
 use ipnetwork::{Address, Network};
 use ipnetwork_sets::{AddressSet, Ranges};
-use line_engine::fault::RunFault;
-use line_engine::output::Output;
+use lines::fault::RunFault;
+use lines::output::Output;
 use std::io::Write;
 
 /// Prints what the operation leaves of the sides.
@@ -49,7 +49,8 @@ fn print_blocks<A: Address, W: Write>(
     second: &AddressSet<Network<A>>,
     output: &mut Output<'_, W>,
 ) -> Result<(), RunFault>
-    ensures text { OnOk result ((text : List ℕ) × AreBlockLines operation A.family first.now second.now text
+    ensures text { OnOk result ((text : List ℕ)
+        × AreBlockLines operation A.family first.now second.now text
         × Prints output.old output.new text) }
     ensures failed { output.new.failed ≡ (output.old.failed || is_err result) }
 {
@@ -65,7 +66,8 @@ fn print_ranges<A: Address, W: Write>(
     second: &AddressSet<Network<A>>,
     output: &mut Output<'_, W>,
 ) -> Result<(), RunFault>
-    ensures text { OnOk result ((text : List ℕ) × AreRangeLines operation A.family first.now second.now text
+    ensures text { OnOk result ((text : List ℕ)
+        × AreRangeLines operation A.family first.now second.now text
         × Prints output.old output.new text) }
     ensures failed { output.new.failed ≡ (output.old.failed || is_err result) }
 {
@@ -82,7 +84,8 @@ fn print_parts<P: Parts, W: Write>(
     output: &mut Output<'_, W>,
 ) -> Result<(), RunFault>
     ensures text { OnOk result (Prints output.old output.new
-        (flat_map (P.line operation) (merged_by P.begin (P.left firsts) (left_of_second operation (P.left seconds))))) }
+        (flat_map (P.line operation)
+        (merged_by P.begin (P.left firsts) (left_of_second operation (P.left seconds))))) }
     ensures failed { output.new.failed ≡ (output.old.failed || is_err result) }
 {
     let mut parts = Sides::of(operation, firsts, seconds);
@@ -118,7 +121,8 @@ fn print_counts_left<W: Write>(
     second: &Sets,
     output: &mut Output<'_, W>,
 ) -> Result<(), RunFault>
-    ensures text { OnOk result ((text : List ℕ) × AreCountsLeft operation (sign_of operation side) first.now second.now text
+    ensures text { OnOk result ((text : List ℕ)
+        × AreCountsLeft operation (sign_of operation side) first.now second.now text
         × Prints output.old output.new text) }
     ensures failed { output.new.failed ≡ (output.old.failed || is_err result) }
 {
@@ -138,7 +142,9 @@ fn print_count_line<A: Address, W: Write>(
 ) -> Result<(), RunFault>
     requires some { 1 ≤ A.WIDTH }
     requires bits { A.WIDTH ≤ 128 }
-    ensures text { OnOk result ((text : List ℕ) × IsCountLine A.WIDTH (sign.now ++ family.now) (IsLeft operation A.WIDTH first.now second.now) text
+    ensures text { OnOk result ((text : List ℕ)
+        × IsCountLine A.WIDTH (sign.now ++ family.now)
+        (IsLeft operation A.WIDTH first.now second.now) text
         × Prints output.old output.new text) }
     ensures failed { output.new.failed ≡ (output.old.failed || is_err result) }
 {

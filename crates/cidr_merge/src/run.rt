@@ -1,7 +1,7 @@
 //! The run that the program makes.
 ghost use Rattle.std.specs.Prelude.{◌≡◌, ◌++◌, ℕ, List, length, OnOk, IfErr, is_err};
 ghost use Rattle.std.specs.Io.KnownBytes.{Appends};
-ghost use Rattle.line_engine.specs.Outputs.{Writes};
+ghost use Rattle.lines.specs.Outputs.{Writes};
 ghost use Rattle.cidr_merge.specs.Answers.{IsAnswer};
 ghost use Rattle.cidr_merge.specs.Private.Words.{IsWithin};
 ghost use Rattle.cidr_merge.specs.Reading.{ReadsSides};
@@ -13,8 +13,8 @@ use crate::command_line::{Operation, Request, request_of};
 use crate::help::{HELP, PROGRAM, USAGE, VERSION};
 use crate::printing::print;
 use crate::reading::{Sets, read_side};
-use line_engine::fault::RunFault;
-use line_engine::output::Output;
+use lines::fault::RunFault;
+use lines::output::Output;
 use lists::{OpenLists, ReadFault, Refusals};
 use program::ending::{FAILED, end, print_text};
 use program::start::text_asked;
@@ -94,8 +94,10 @@ fn read_sides<L: OpenLists>(
     lists: &L,
 ) -> (Sets, Sets, Refusals, Result<(), ReadFault>)
     requires { IsWithin (length words.now) request }
-    ensures read { OnOk result.3 (ReadsSides (L.known lists.now) words.now request result.0 result.1 result.2) }
-    ensures stopped { IfErr result.3 (λ fault. StopsInSides (L.known lists.now) words.now request fault result.2) }
+    ensures read { OnOk result.3
+        (ReadsSides (L.known lists.now) words.now request result.0 result.1 result.2) }
+    ensures stopped { IfErr result.3
+        (λ fault. StopsInSides (L.known lists.now) words.now request fault result.2) }
 {
     let (first, refusals, read) = read_side(
         alloc,
@@ -158,7 +160,8 @@ fn write_answer<W: Write>(
     second: &Sets,
     output: &mut Output<'_, W>,
 ) -> Result<(), RunFault>
-    ensures written { OnOk result ((text : List ℕ) × IsAnswer request.operation request.form first.now second.now text
+    ensures written { OnOk result ((text : List ℕ)
+        × IsAnswer request.operation request.form first.now second.now text
         × Writes output.old output.new text) }
     ensures failed { output.new.failed ≡ is_err result }
 {

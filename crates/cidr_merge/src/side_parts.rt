@@ -1,7 +1,7 @@
 //! The parts that an operation leaves of one side: blocks, or ranges of addresses.
 ghost use Rattle.std.specs.Prelude.{◌≡◌, ◌∷◌, ◌↔◌, ◌<◌, ◌||◌, ℕ, List, [], IsTrue, MatchOption, OnOk, is_err};
 ghost use Rattle.ipnetwork_family.specs.Network.{Network};
-ghost use Rattle.line_engine.specs.Outputs.{Prints};
+ghost use Rattle.lines.specs.Outputs.{Prints};
 ghost use Rattle.cidr_merge.specs.Answers.{Sided, sign_of, block_line, range_line};
 ghost use Rattle.cidr_merge.specs.Private.Sweeps.{blocks_left, numbers};
 ghost use Rattle.cidr_merge.specs.declared.command_line.Operation.{Operation};
@@ -11,8 +11,8 @@ use crate::sides::Side;
 use crate::sweep::Sweep;
 use ipnetwork::{Address, CidrNetwork, Network};
 use ipnetwork_sets::{Ranges, SetBlocks};
-use line_engine::fault::RunFault;
-use line_engine::output::Output;
+use lines::fault::RunFault;
+use lines::output::Output;
 use std::io::Write;
 
 /// Parts in the order of where they begin, one after the other.
@@ -35,7 +35,8 @@ pub(crate) trait Parts: Drop {
 
     /// The next part.
     fn next_part(&mut self) -> Option<Self::Part>
-        ensures { MatchOption result ((left self.old ≡ []) × (left self.new ≡ [])) (λ part. left self.old ≡ seen part ∷ left self.new) };
+        ensures { MatchOption result ((left self.old ≡ []) × (left self.new ≡ []))
+            (λ part. left self.old ≡ seen part ∷ left self.new) };
 
     /// Whether the first begins before the second.
     fn begins_before(first: Self::Part, second: Self::Part) -> bool

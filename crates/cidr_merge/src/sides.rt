@@ -26,7 +26,8 @@ impl<P: Parts> Sides<P> {
     /// The parts of the first side, and, for `differ` only, those of the second.
     pub(crate) fn of(operation: Operation, mut firsts: P, mut seconds: P) -> Sides<P>
         ensures first { with_head P.seen result.first (P.left result.firsts) ≡ P.left firsts }
-        ensures second { with_head P.seen result.second (P.left result.seconds) ≡ left_of_second operation (P.left seconds) }
+        ensures second { with_head P.seen result.second
+            (P.left result.seconds) ≡ left_of_second operation (P.left seconds) }
     {
         let first = firsts.next_part();
         let second = first_of_second(operation, &mut seconds);
@@ -40,7 +41,8 @@ impl<P: Parts> Sides<P> {
 
     /// The part that comes first, and its side.
     pub(crate) fn next(&mut self) -> Option<(Side, P::Part)>
-        ensures { let left = merged_by P.begin (with_head P.seen self.old.first (P.left self.old.firsts))
+        ensures { let left = merged_by P.begin
+            (with_head P.seen self.old.first (P.left self.old.firsts))
             (with_head P.seen self.old.second (P.left self.old.seconds)) in
             MatchOption result (left ≡ []) (λ r. left ≡ record { side = r.0; part = P.seen r.1 }
             ∷ merged_by P.begin (with_head P.seen self.new.first (P.left self.new.firsts))
@@ -64,7 +66,8 @@ impl<P: Parts> Sides<P> {
     fn next_of_first(&mut self, part: P::Part) -> (Side, P::Part)
         ensures side { result.0 ≡ Side.First }
         ensures part { result.1 ≡ part }
-        ensures first { with_head P.seen self.new.first (P.left self.new.firsts) ≡ P.left self.old.firsts }
+        ensures first { with_head P.seen self.new.first
+            (P.left self.new.firsts) ≡ P.left self.old.firsts }
         ensures second { with_head P.seen self.new.second (P.left self.new.seconds)
             ≡ with_head P.seen self.old.second (P.left self.old.seconds) }
     {
@@ -78,7 +81,8 @@ impl<P: Parts> Sides<P> {
         ensures part { result.1 ≡ part }
         ensures first { with_head P.seen self.new.first (P.left self.new.firsts)
             ≡ with_head P.seen self.old.first (P.left self.old.firsts) }
-        ensures second { with_head P.seen self.new.second (P.left self.new.seconds) ≡ P.left self.old.seconds }
+        ensures second { with_head P.seen self.new.second
+            (P.left self.new.seconds) ≡ P.left self.old.seconds }
     {
         self.second = self.seconds.next_part();
         (Side::Second, part)
@@ -87,7 +91,8 @@ impl<P: Parts> Sides<P> {
 
 // The first part that the operation leaves of the second side.
 fn first_of_second<P: Parts>(operation: Operation, seconds: &mut P) -> Option<P::Part>
-    ensures { with_head P.seen result (P.left seconds.new) ≡ left_of_second operation (P.left seconds.old) }
+    ensures { with_head P.seen result (P.left seconds.new) ≡ left_of_second operation
+        (P.left seconds.old) }
 {
     match operation {
         Operation::Union => None,

@@ -24,8 +24,10 @@ impl<'a, N: AddressSpace> Sweep<'a, N> {
         first: &'a AddressSet<N>,
         second: &'a AddressSet<N>,
     ) -> Sweep<'a, N>
-        ensures left { IsLeastList N.WIDTH (IsLeft operation N.WIDTH first.now second.now) (blocks_left result) }
-        ensures counted { AddUp N.WIDTH (IsLeft operation N.WIDTH first.now second.now) (blocks_left result) }
+        ensures left { IsLeastList N.WIDTH (IsLeft operation N.WIDTH first.now second.now)
+            (blocks_left result) }
+        ensures counted { AddUp N.WIDTH (IsLeft operation N.WIDTH first.now second.now)
+            (blocks_left result) }
     {
         shortest();
         sums();

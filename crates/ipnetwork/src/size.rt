@@ -125,7 +125,8 @@ impl PartialOrd for NetworkSize {
 
     ghost partial_cmp = { as_partial_cmp (on size_number nat_cmp) };
 
-    ghost laws = { partial_order_from_own_ties (Prim.search (comparing, rules)) (Prim.search (comparing, rules)) };
+    ghost laws = { partial_order_from_own_ties (Prim.search (comparing, rules))
+        (Prim.search (comparing, rules)) };
 
     fn partial_cmp(&self, other: &NetworkSize) -> Option<Ordering> {
         Some(self.cmp(other))

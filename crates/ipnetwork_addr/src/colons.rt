@@ -25,7 +25,8 @@ pub(crate) fn read_address(text: &[u8]) -> Option<u128>
 /// The groups before the end of the text or before a `::`: how many, the number whose digits in base
 /// 2^16 they are, and what follows the `::`.
 fn read_left(text: &[u8]) -> Option<(usize, u128, Option<&[u8]>)>
-    ensures { MatchOption result (NoLeft text.now) (λ found. BeginsWithLeft text.now found.0 found.1 (option_copied found.2)) }
+    ensures { MatchOption result (NoLeft text.now)
+        (λ found. BeginsWithLeft text.now found.0 found.1 (option_copied found.2)) }
 {
     match text {
         [b':', b':', behind_gap @ ..] => Some((0, 0, Some(behind_gap))),
@@ -36,7 +37,8 @@ fn read_left(text: &[u8]) -> Option<(usize, u128, Option<&[u8]>)>
 /// The number of the groups that a text is, of which there are no more than there is room for.
 fn read_right(text: &[u8], room: usize) -> Option<u128>
     requires { room ≤ 8 }
-    ensures { MatchOption result (NoRight room text.now) (λ number. EndsWithRight room text.now number) }
+    ensures { MatchOption result (NoRight room text.now)
+        (λ number. EndsWithRight room text.now number) }
 {
     if text.is_empty() {
         return Some(0);

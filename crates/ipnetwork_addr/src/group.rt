@@ -13,7 +13,8 @@ use crate::octet::read_octets;
 #[inline(always)]
 pub(crate) fn read_part(text: &[u8], room: usize) -> Option<(usize, u128, Option<&[u8]>)>
     requires { room ≤ 8 }
-    ensures { MatchOption result (NoPart room text.now) (λ found. BeginsWithPart room text.now found.0 found.1 (option_copied found.2)) }
+    ensures { MatchOption result (NoPart room text.now)
+        (λ found. BeginsWithPart room text.now found.0 found.1 (option_copied found.2)) }
 {
     let mut rest = text;
     let mut number = 0u128;
@@ -43,7 +44,8 @@ pub(crate) fn read_part(text: &[u8], room: usize) -> Option<(usize, u128, Option
 
 /// The text without its first byte, if that is this one.
 fn after_byte(text: &[u8], byte: u8) -> Option<&[u8]>
-    ensures { MatchOption result ((rest : List ℕ) → text.now ≢ byte ∷ rest) (λ rest. text.now ≡ byte ∷ rest.now) }
+    ensures { MatchOption result ((rest : List ℕ)
+        → text.now ≢ byte ∷ rest) (λ rest. text.now ≡ byte ∷ rest.now) }
 {
     let [first, rest @ ..] = text else {
         return None;
@@ -79,7 +81,8 @@ fn read_v4(text: &[u8]) -> Option<u32>
 
 /// The group that the text begins with, up to the first byte that is not a hex digit, and the text from there.
 fn read_group(text: &[u8]) -> Option<(u16, &[u8])>
-    ensures { MatchOption result (NoGroup text.now) (λ found. BeginsWithGroup text.now found.0 found.1.now) }
+    ensures { MatchOption result (NoGroup text.now)
+        (λ found. BeginsWithGroup text.now found.0 found.1.now) }
 {
     let (first, after_first) = read_hex(text)?;
     let Some((second, after_second)) = read_hex(after_first) else {
@@ -102,7 +105,8 @@ fn read_group(text: &[u8]) -> Option<(u16, &[u8])>
 /// The value of the first byte as a hex digit, and the text after it.
 #[inline(always)]
 fn read_hex(text: &[u8]) -> Option<(u32, &[u8])>
-    ensures { MatchOption result (NoHex text.now) (λ found. BeginsWithHex text.now found.0 found.1.now) }
+    ensures { MatchOption result (NoHex text.now)
+        (λ found. BeginsWithHex text.now found.0 found.1.now) }
 {
     let [byte, rest @ ..] = text else {
         return None;

@@ -8,7 +8,8 @@ const NO_DIGIT: u8 = 16;
 /// The value of a byte as a hex digit of either case, if it is one.
 #[inline(always)]
 pub(crate) fn hex_value(byte: u8) -> Option<u32>
-    ensures { MatchOption result (16 ≤ digit_value byte) (λ value. (digit_value byte ≡ value) × (value < 16)) }
+    ensures { MatchOption result (16 ≤ digit_value byte) (λ value. (digit_value byte ≡ value)
+        × (value < 16)) }
 {
     let value = VALUES[usize::from(byte)];
     if value == NO_DIGIT {

@@ -13,7 +13,8 @@ const OCTET_MAX: u32 = 255;
 
 /// The four octets of a text that is an IPv4 address.
 pub(crate) fn read_octets(text: &[u8]) -> Option<[u8; 4]>
-    ensures { MatchOption result (NamesNoV4 text.now) (λ octets. NamesV4 text.now (number_from_digits 256 octets)) }
+    ensures { MatchOption result (NamesNoV4 text.now)
+        (λ octets. NamesV4 text.now (number_from_digits 256 octets)) }
 {
     let (first, rest) = read_octet_and_dot(text)?;
     let (second, rest) = read_octet_and_dot(rest)?;
@@ -25,7 +26,8 @@ pub(crate) fn read_octets(text: &[u8]) -> Option<[u8; 4]>
 /// The octet before the first dot, and the text after that dot.
 #[inline(always)]
 fn read_octet_and_dot(text: &[u8]) -> Option<(u8, &[u8])>
-    ensures { MatchOption result (NoOctetAndDot text.now) (λ found. BeginsWithOctet text.now found.0 (dot ∷ found.1.now)) }
+    ensures { MatchOption result (NoOctetAndDot text.now)
+        (λ found. BeginsWithOctet text.now found.0 (dot ∷ found.1.now)) }
 {
     if text.len() < 4 || text[1] == b'.' {
         return read_by_places(text);
@@ -43,7 +45,8 @@ fn read_octet_and_dot(text: &[u8]) -> Option<(u8, &[u8])>
 /// The same, with one place tried after the other.
 #[inline(always)]
 fn read_by_places(text: &[u8]) -> Option<(u8, &[u8])>
-    ensures { MatchOption result (NoOctetAndDot text.now) (λ found. BeginsWithOctet text.now found.0 (dot ∷ found.1.now)) }
+    ensures { MatchOption result (NoOctetAndDot text.now)
+        (λ found. BeginsWithOctet text.now found.0 (dot ∷ found.1.now)) }
 {
     let end = octet_end(text)?;
     let octet = read_octet(&text[..end])?;
@@ -106,7 +109,8 @@ fn octet_of_one(a: u8) -> Option<u8>
 #[inline(always)]
 fn octet_of_several(a: u8, b: u8, c: u8, more: u32) -> Option<u8>
     requires { more ≤ 1 }
-    ensures { MatchOption result (IsNoOctet (take (2 + more) (a ∷ b ∷ c ∷ []))) (IsOctet (take (2 + more) (a ∷ b ∷ c ∷ []))) }
+    ensures { MatchOption result (IsNoOctet (take (2 + more) (a ∷ b ∷ c ∷ [])))
+        (IsOctet (take (2 + more) (a ∷ b ∷ c ∷ []))) }
 {
     let two = first_value(a) + decimal_value(b);
     let value = two + (two * 9 + decimal_value(c)) * more;

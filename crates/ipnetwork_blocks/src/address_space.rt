@@ -41,7 +41,8 @@ pub trait AddressSpace: CidrNetwork {
     /// ```
     fn next_address(addr: Self::Addr) -> Option<Self::Addr>
         ensures { MatchOption result (Self.number addr + 1 ≡ 2 ^ Self.WIDTH)
-            (λ next. (Self.number addr + 1 < 2 ^ Self.WIDTH) × (Self.number next ≡ Self.number addr + 1)) };
+            (λ next. (Self.number addr + 1 < 2 ^ Self.WIDTH)
+            × (Self.number next ≡ Self.number addr + 1)) };
 
     /// The address before this one; `None` if it is the first of the family.
     ///
@@ -50,7 +51,8 @@ pub trait AddressSpace: CidrNetwork {
     /// assert_eq!(rt; previous, Some(Ipv4Addr::new(10, 0, 0, 255)));
     /// ```
     fn previous_address(addr: Self::Addr) -> Option<Self::Addr>
-        ensures { MatchOption result (Self.number addr ≡ 0) (λ previous. Self.number previous + 1 ≡ Self.number addr) };
+        ensures { MatchOption result (Self.number addr ≡ 0)
+            (λ previous. Self.number previous + 1 ≡ Self.number addr) };
 
     /// The address `offset` addresses after this one. It must not be past the last address of the family.
     ///

@@ -23,7 +23,8 @@ use ipnetwork_family::CidrNetwork;
 /// ```
 pub fn aggregate_in_place<N: CidrNetwork>(networks: &mut [N]) -> usize
     ensures within { result ≤ length networks.old }
-    ensures aggregate { IsAggregate N.WIDTH (map N.pair networks.old) (map N.pair (take result networks.new)) }
+    ensures aggregate { IsAggregate N.WIDTH (map N.pair networks.old)
+        (map N.pair (take result networks.new)) }
 {
     aggregate_held::<N, N>(networks)
 }
@@ -37,7 +38,8 @@ pub fn aggregate_in_place<N: CidrNetwork>(networks: &mut [N]) -> usize
 /// assert_eq!(rt; networks.as_slice(), ["10.0.0.0/8".parse()?].as_slice());
 /// ```
 pub fn aggregate_vec<N: CidrNetwork>(networks: &mut Vec<N>)
-    ensures aggregate { IsAggregate N.WIDTH (map N.pair networks.old.items) (map N.pair networks.new.items) }
+    ensures aggregate { IsAggregate N.WIDTH (map N.pair networks.old.items)
+        (map N.pair networks.new.items) }
     ensures capacity { vec_capacity networks.new ≡ vec_capacity networks.old }
 {
     let count = aggregate_in_place(networks.as_mut_slice());
@@ -58,7 +60,8 @@ pub fn aggregate_vec<N: CidrNetwork>(networks: &mut Vec<N>)
 pub fn aggregate_held<N: CidrNetwork, H: HoldsNetwork<N>>(values: &mut [H]) -> usize
     requires { All H.holds values.old }
     ensures within { result ≤ length values.old }
-    ensures aggregate { IsAggregate N.WIDTH (map H.held values.old) (map H.held (take result values.new)) }
+    ensures aggregate { IsAggregate N.WIDTH (map H.held values.old)
+        (map H.held (take result values.new)) }
     ensures held { All H.holds values.new }
 {
     clear_host_bits::<N, H>(values);
@@ -86,7 +89,8 @@ fn join_sorted<N: CidrNetwork, H: HoldsNetwork<N>>(values: &mut [H]) -> usize
     requires order { AreInOrder (map H.held values.old) }
     ensures within { result ≤ length values.old }
     ensures joined { AreJoined N.WIDTH (take result (map H.held values.new)) }
-    ensures union { SameUnion N.WIDTH (take result (map H.held values.new)) (map H.held values.old) }
+    ensures union { SameUnion N.WIDTH (take result (map H.held values.new))
+        (map H.held values.old) }
     ensures held { All H.holds values.new }
 {
     let mut kept = 0;
@@ -120,8 +124,11 @@ fn join_back<N: CidrNetwork, H: HoldsNetwork<N>>(front: &[H], block: N) -> (usiz
     requires block { IsCidrBlock N.WIDTH (N.pair block) }
     requires behind { All (λ a. high N.WIDTH a < (N.pair block).address) (map H.held front.now) }
     ensures left { result.0 ≤ length front.now }
-    ensures joined { AreJoined N.WIDTH (take result.0 (map H.held front.now) ++ N.pair result.1 ∷ []) }
-    ensures union { SameUnion N.WIDTH (take result.0 (map H.held front.now) ++ N.pair result.1 ∷ []) (map H.held front.now ++ N.pair block ∷ []) }
+    ensures joined { AreJoined N.WIDTH
+        (take result.0 (map H.held front.now) ++ N.pair result.1 ∷ []) }
+    ensures union { SameUnion N.WIDTH
+        (take result.0 (map H.held front.now) ++ N.pair result.1 ∷ [])
+        (map H.held front.now ++ N.pair block ∷ []) }
     ensures order { IsNetworkAtMost (N.pair result.1) (N.pair block) }
 {
     let mut left = front.len();
@@ -141,7 +148,8 @@ fn join_back<N: CidrNetwork, H: HoldsNetwork<N>>(front: &[H], block: N) -> (usiz
 // The block of which the two are the halves, if there is one.
 fn join<N: CidrNetwork>(first: N, second: N) -> Option<N>
     ensures { MatchOption result (¬ (AreHalves N.WIDTH (N.pair first) (N.pair second)))
-        (λ whole. AreHalves N.WIDTH (N.pair first) (N.pair second) × (N.pair whole ≡ parent N.WIDTH (N.pair first))) }
+        (λ whole. AreHalves N.WIDTH (N.pair first) (N.pair second)
+        × (N.pair whole ≡ parent N.WIDTH (N.pair first))) }
 {
     let prefix = first.prefix();
     if prefix == 0 || second.prefix() != prefix {

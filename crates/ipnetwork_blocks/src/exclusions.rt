@@ -49,7 +49,8 @@ impl<N: AddressSpace> Model for Exclusion<N> {
 /// assert_eq!(rt; blocks.next(), Some("10.0.0.2/31".parse()?));
 /// ```
 pub fn exclude<N: AddressSpace>(network: N, inner: N) -> Exclusion<N>
-    ensures blocks { IsLeastList N.WIDTH (InDifference N.WIDTH (N.pair network) (N.pair inner)) result }
+    ensures blocks { IsLeastList N.WIDTH
+        (InDifference N.WIDTH (N.pair network) (N.pair inner)) result }
     ensures none { Subnet N.WIDTH (N.pair network) (N.pair inner) → result ≡ [] }
     ensures all { ¬ (Overlap N.WIDTH (N.pair network) (N.pair inner))
         → result ≡ block_of N.WIDTH (N.pair network) ∷ [] }

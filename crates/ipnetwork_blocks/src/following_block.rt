@@ -15,7 +15,8 @@ use crate::address_space::AddressSpace;
 pub fn following<N: AddressSpace>(network: N) -> Option<N>
     ensures { MatchOption result (high N.WIDTH (N.pair network) + 1 ≡ 2 ^ N.WIDTH)
         (λ n. (high N.WIDTH (N.pair network) + 1 < 2 ^ N.WIDTH)
-        × (N.pair n ≡ following_block N.WIDTH (N.pair network)) × HostBitsAreZero N.WIDTH (N.pair n)) }
+        × (N.pair n ≡ following_block N.WIDTH (N.pair network))
+        × HostBitsAreZero N.WIDTH (N.pair n)) }
 {
     match N::next_address(network.broadcast()) {
         Some(next) => Some(N::block_at(next, network.prefix())),

@@ -42,7 +42,8 @@ pub trait HoldsNetwork<N: CidrNetwork>: Copy + Ord {
         ensures { holds result × (held result ≡ N.pair network) };
 
     // Values that hold networks are ordered as these are.
-    ghost held_order: { (x y : Self) → holds x → holds y → Self.cmp x y ≡ network_cmp (held x) (held y) };
+    ghost held_order: { (x y : Self) → holds x → holds y
+        → Self.cmp x y ≡ network_cmp (held x) (held y) };
 }
 
 impl<N: CidrNetwork> HoldsNetwork<N> for N {

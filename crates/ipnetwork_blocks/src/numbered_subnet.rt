@@ -16,7 +16,8 @@ use crate::address_space::AddressSpace;
 /// ```
 pub fn subnet_at<N: AddressSpace>(network: N, prefix: u8, number: u128) -> Option<N>
     ensures { MatchOption result
-        ((prefix < (N.pair network).prefix) ⊎ (N.WIDTH < prefix) ⊎ (2 ^ (prefix - (N.pair network).prefix) ≤ number))
+        ((prefix < (N.pair network).prefix) ⊎ (N.WIDTH < prefix)
+        ⊎ (2 ^ (prefix - (N.pair network).prefix) ≤ number))
         (λ block. ((N.pair network).prefix ≤ prefix) × (prefix ≤ N.WIDTH)
         × (number < 2 ^ (prefix - (N.pair network).prefix))
         × (N.pair block ≡ subnet_number N.WIDTH (N.pair network) prefix number)) }

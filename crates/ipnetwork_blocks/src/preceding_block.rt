@@ -15,7 +15,8 @@ use crate::address_space::AddressSpace;
 pub fn preceding<N: AddressSpace>(network: N) -> Option<N>
     ensures { MatchOption result (low N.WIDTH (N.pair network) ≡ 0)
         (λ n. (0 < low N.WIDTH (N.pair network))
-        × (N.pair n ≡ preceding_block N.WIDTH (N.pair network)) × HostBitsAreZero N.WIDTH (N.pair n)) }
+        × (N.pair n ≡ preceding_block N.WIDTH (N.pair network))
+        × HostBitsAreZero N.WIDTH (N.pair n)) }
 {
     match N::previous_address(network.network()) {
         Some(previous) => Some(N::block_at(previous, network.prefix())),

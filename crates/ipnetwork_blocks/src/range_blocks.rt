@@ -32,9 +32,11 @@ impl<N: AddressSpace> Model for RangeBlocks<N> {
 
     ghost Value = { List Network };
 
-    ghost view = { λ r. cond r.is_done [] (blocks_from_to N.WIDTH (N.number r.next) (N.number r.last)) };
+    ghost view = { λ r. cond r.is_done []
+        (blocks_from_to N.WIDTH (N.number r.next) (N.number r.last)) };
 
-    ghost invariant = { λ r. (N.number r.next ≤ N.number r.last) × (N.number r.last < 2 ^ N.WIDTH) };
+    ghost invariant = { λ r. (N.number r.next ≤ N.number r.last)
+        × (N.number r.last < 2 ^ N.WIDTH) };
 }
 
 /// The blocks whose addresses are those from `first` to `last`, both included: the fewest possible, in ascending order.
@@ -145,7 +147,8 @@ fn ends_behind<N: AddressSpace>(network: N, address: N::Addr) -> bool
 fn widest_block<N: AddressSpace>(first: N::Addr, last: N::Addr) -> N
     requires { N.number first ≤ N.number last }
     ensures begins { (N.pair result).address ≡ N.number first }
-    ensures maximal { IsMaximalIn N.WIDTH (FromTo (N.number first) (N.number last)) (N.pair result) }
+    ensures maximal { IsMaximalIn N.WIDTH (FromTo (N.number first) (N.number last))
+        (N.pair result) }
 {
     let aligned = N::WIDTH - N::trailing_zeros(first);
     let shared = N::shared_bits(first, last);

@@ -13,7 +13,8 @@ use crate::supernets::block;
 /// assert_eq!(rt; spanning(&networks), Some("10.0.0.0/22".parse()?));
 /// ```
 pub fn spanning<N: AddressSpace>(networks: &[N]) -> Option<N>
-    ensures { MatchOption result (networks.now ≡ []) (λ around. IsSpanning N.WIDTH (map N.pair networks.now) (N.pair around)) }
+    ensures { MatchOption result (networks.now ≡ [])
+        (λ around. IsSpanning N.WIDTH (map N.pair networks.now) (N.pair around)) }
 {
     if networks.is_empty() {
         return None;

@@ -32,7 +32,8 @@ pub fn block<N: CidrNetwork>(network: N) -> N
 /// ```
 pub fn supernet<N: CidrNetwork>(network: N, prefix: u8) -> Option<N>
     ensures { MatchOption result ((N.pair network).prefix < prefix)
-        (λ wide. (prefix ≤ (N.pair network).prefix) × IsAround N.WIDTH (N.pair network) prefix (N.pair wide)) }
+        (λ wide. (prefix ≤ (N.pair network).prefix)
+        × IsAround N.WIDTH (N.pair network) prefix (N.pair wide)) }
 {
     if prefix > network.prefix() {
         return None;
@@ -49,7 +50,8 @@ pub fn supernet<N: CidrNetwork>(network: N, prefix: u8) -> Option<N>
 /// ```
 pub fn sibling<N: CidrNetwork>(network: N) -> Option<N>
     ensures { MatchOption result ((N.pair network).prefix ≡ 0)
-        (λ other. (0 < (N.pair network).prefix) × IsSibling N.WIDTH (N.pair network) (N.pair other)) }
+        (λ other. (0 < (N.pair network).prefix)
+        × IsSibling N.WIDTH (N.pair network) (N.pair other)) }
 {
     let prefix = network.prefix();
     if prefix == 0 {

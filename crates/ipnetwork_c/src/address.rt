@@ -79,7 +79,8 @@ pub extern "C" fn ipnetwork_address_canonical(
     buffer: &mut [u8],
     length: &mut usize,
 ) -> u32
-    ensures { Finds (λ a. held_address address.now ≡ Some a) (NoAddress address.now) (λ a. PutsText (canonical_ip a)) (buffer.old, length.old) (buffer.new, length.new) result }
+    ensures { Finds (λ a. held_address address.now ≡ Some a) (NoAddress address.now)
+        (λ a. PutsText (canonical_ip a)) (buffer.old, length.old) (buffer.new, length.new) result }
 {
     match address.address() {
         Some(address) => text::tell_address(&address, buffer, length),

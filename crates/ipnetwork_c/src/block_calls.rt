@@ -16,7 +16,8 @@ fn range<N: AddressSpace, H: HoldsNetwork<N>>(
     blocks: &mut [H],
     count: &mut usize,
 ) -> u32
-    ensures { RangeOperation N.WIDTH H.held (N.number first) (N.number last) (blocks.old, count.old) (blocks.new, count.new) result }
+    ensures { RangeOperation N.WIDTH H.held (N.number first) (N.number last)
+        (blocks.old, count.old) (blocks.new, count.new) result }
 {
     let Some(counted) = range_to_blocks::<N>(first, last) else {
         return NO_RANGE;
@@ -43,7 +44,8 @@ pub extern "C" fn ipnetwork_v4_range_to_blocks(
     blocks: &mut [Ipv4InC],
     count: &mut usize,
 ) -> u32
-    ensures { RangeOperation 32 v4_in (number_of_octets first.now) (number_of_octets last.now) (blocks.old, count.old) (blocks.new, count.new) result }
+    ensures { RangeOperation 32 v4_in (number_of_octets first.now) (number_of_octets last.now)
+        (blocks.old, count.old) (blocks.new, count.new) result }
 {
     range::<Ipv4Network, Ipv4InC>(Ipv4Addr::from(*first), Ipv4Addr::from(*last), blocks, count)
 }
@@ -56,7 +58,8 @@ pub extern "C" fn ipnetwork_v6_range_to_blocks(
     blocks: &mut [Ipv6InC],
     count: &mut usize,
 ) -> u32
-    ensures { RangeOperation 128 v6_in (number_of_octets first.now) (number_of_octets last.now) (blocks.old, count.old) (blocks.new, count.new) result }
+    ensures { RangeOperation 128 v6_in (number_of_octets first.now) (number_of_octets last.now)
+        (blocks.old, count.old) (blocks.new, count.new) result }
 {
     range::<Ipv6Network, Ipv6InC>(address_of(first), address_of(last), blocks, count)
 }
@@ -71,7 +74,8 @@ pub extern "C" fn ipnetwork_v4_subnet_at(
     number: u32,
     subnet: &mut Ipv4InC,
 ) -> u32
-    ensures { WritesSubnet 32 HoldsV4 (v4_in network.now) prefix number subnet.old subnet.new result }
+    ensures { WritesSubnet 32 HoldsV4
+        (v4_in network.now) prefix number subnet.old subnet.new result }
 {
     let Some(network) = network.network() else {
         return PREFIX;
@@ -96,7 +100,8 @@ pub extern "C" fn ipnetwork_v6_subnet_at(
     number: &[u8; 16],
     subnet: &mut Ipv6InC,
 ) -> u32
-    ensures { WritesSubnet 128 HoldsV6 (v6_in network.now) prefix (number_of_octets number.now) subnet.old subnet.new result }
+    ensures { WritesSubnet 128 HoldsV6 (v6_in network.now) prefix
+        (number_of_octets number.now) subnet.old subnet.new result }
 {
     let Some(network) = network.network() else {
         return PREFIX;

@@ -11,7 +11,9 @@ use ipnetwork_blocks::HoldsNetwork;
 use std::cmp::Ordering;
 
 impl PartialEq for Ipv4InC {
-    ghost eq = { eq_by_cmp (then_cmp (on (λ held. number_of_octets held.address) nat_cmp) (on (λ held. held.prefix) nat_cmp)) };
+    ghost eq = { eq_by_cmp
+        (then_cmp (on (λ held. number_of_octets held.address) nat_cmp)
+        (on (λ held. held.prefix) nat_cmp)) };
 
     ghost laws = { Prim.search (comparing, rules) };
 
@@ -25,7 +27,8 @@ impl Eq for Ipv4InC {
 }
 
 impl Ord for Ipv4InC {
-    ghost cmp = { then_cmp (on (λ held. number_of_octets held.address) nat_cmp) (on (λ held. held.prefix) nat_cmp) };
+    ghost cmp = { then_cmp (on (λ held. number_of_octets held.address) nat_cmp)
+        (on (λ held. held.prefix) nat_cmp) };
 
     ghost total = { Prim.search (comparing, rules) };
 
@@ -41,9 +44,12 @@ impl Ord for Ipv4InC {
 }
 
 impl PartialOrd for Ipv4InC {
-    ghost partial_cmp = { as_partial_cmp (then_cmp (on (λ held. number_of_octets held.address) nat_cmp) (on (λ held. held.prefix) nat_cmp)) };
+    ghost partial_cmp = { as_partial_cmp
+        (then_cmp (on (λ held. number_of_octets held.address) nat_cmp)
+        (on (λ held. held.prefix) nat_cmp)) };
 
-    ghost laws = { partial_order_from_own_ties (Prim.search (comparing, rules)) (Prim.search (comparing, rules)) };
+    ghost laws = { partial_order_from_own_ties (Prim.search (comparing, rules))
+        (Prim.search (comparing, rules)) };
 
     fn partial_cmp(&self, other: &Ipv4InC) -> Option<Ordering> {
         Some(self.cmp(other))
@@ -74,7 +80,9 @@ impl HoldsNetwork<Ipv4Network> for Ipv4InC {
 }
 
 impl PartialEq for Ipv6InC {
-    ghost eq = { eq_by_cmp (then_cmp (on (λ held. number_of_octets held.address) nat_cmp) (on (λ held. held.prefix) nat_cmp)) };
+    ghost eq = { eq_by_cmp
+        (then_cmp (on (λ held. number_of_octets held.address) nat_cmp)
+        (on (λ held. held.prefix) nat_cmp)) };
 
     ghost laws = { Prim.search (comparing, rules) };
 
@@ -88,7 +96,8 @@ impl Eq for Ipv6InC {
 }
 
 impl Ord for Ipv6InC {
-    ghost cmp = { then_cmp (on (λ held. number_of_octets held.address) nat_cmp) (on (λ held. held.prefix) nat_cmp) };
+    ghost cmp = { then_cmp (on (λ held. number_of_octets held.address) nat_cmp)
+        (on (λ held. held.prefix) nat_cmp) };
 
     ghost total = { Prim.search (comparing, rules) };
 
@@ -104,9 +113,12 @@ impl Ord for Ipv6InC {
 }
 
 impl PartialOrd for Ipv6InC {
-    ghost partial_cmp = { as_partial_cmp (then_cmp (on (λ held. number_of_octets held.address) nat_cmp) (on (λ held. held.prefix) nat_cmp)) };
+    ghost partial_cmp = { as_partial_cmp
+        (then_cmp (on (λ held. number_of_octets held.address) nat_cmp)
+        (on (λ held. held.prefix) nat_cmp)) };
 
-    ghost laws = { partial_order_from_own_ties (Prim.search (comparing, rules)) (Prim.search (comparing, rules)) };
+    ghost laws = { partial_order_from_own_ties (Prim.search (comparing, rules))
+        (Prim.search (comparing, rules)) };
 
     fn partial_cmp(&self, other: &Ipv6InC) -> Option<Ordering> {
         Some(self.cmp(other))

@@ -34,7 +34,9 @@ pub extern "C" fn ipnetwork_v4_read(text: &[u8], network: &mut Ipv4InC) -> u32
 /// The network of this address, host bits kept, and this prefix length; `PREFIX` if that is greater than 32.
 #[unsafe(no_mangle)]
 pub extern "C" fn ipnetwork_v4_new(address: &[u8; 4], prefix: u8, network: &mut Ipv4InC) -> u32
-    ensures { IfFit (prefix ≤ 32) (Writes (λ held. (held.address ≡ address.now) × (held.prefix ≡ prefix))) network.old network.new result }
+    ensures { IfFit (prefix ≤ 32)
+        (Writes (λ held. (held.address ≡ address.now)
+        × (held.prefix ≡ prefix))) network.old network.new result }
 {
     if prefix > 32 {
         return PREFIX;
@@ -55,7 +57,9 @@ pub extern "C" fn ipnetwork_v4_canonical(
     buffer: &mut [u8],
     length: &mut usize,
 ) -> u32
-    ensures { IfFit (PrefixFits 32 (v4_in network.now)) (PutsText (network_text canonical_v4 (v4_in network.now))) (buffer.old, length.old) (buffer.new, length.new) result }
+    ensures { IfFit (PrefixFits 32 (v4_in network.now))
+        (PutsText (network_text canonical_v4 (v4_in network.now))) (buffer.old, length.old)
+        (buffer.new, length.new) result }
 {
     match network.network() {
         Some(network) => text::tell(network.canonical().as_str().as_bytes(), buffer, length),
@@ -70,7 +74,9 @@ pub extern "C" fn ipnetwork_v4_contains(
     address: &[u8; 4],
     answer: &mut u8,
 ) -> u32
-    ensures { IfFit (PrefixFits 32 (v4_in network.now)) (Writes (IsFlag (Member 32 (v4_in network.now) (number_of_octets address.now)))) answer.old answer.new result }
+    ensures { IfFit (PrefixFits 32 (v4_in network.now))
+        (Writes (IsFlag (Member 32 (v4_in network.now) (number_of_octets address.now)))) answer.old
+        answer.new result }
 {
     match network.network() {
         Some(network) => {
@@ -84,7 +90,9 @@ pub extern "C" fn ipnetwork_v4_contains(
 /// The least member: the address with its host bits cleared. `PREFIX` if the prefix length is greater than 32.
 #[unsafe(no_mangle)]
 pub extern "C" fn ipnetwork_v4_network(network: &Ipv4InC, address: &mut [u8; 4]) -> u32
-    ensures { IfFit (PrefixFits 32 (v4_in network.now)) (Writes (λ octets. octets ≡ octets_of (low 32 (v4_in network.now)))) address.old address.new result }
+    ensures { IfFit (PrefixFits 32 (v4_in network.now))
+        (Writes (λ octets. octets ≡ octets_of (low 32 (v4_in network.now)))) address.old
+        address.new result }
 {
     match network.network() {
         Some(network) => {
@@ -98,7 +106,9 @@ pub extern "C" fn ipnetwork_v4_network(network: &Ipv4InC, address: &mut [u8; 4])
 /// The greatest member: the address with its host bits set. `PREFIX` if the prefix length is greater than 32.
 #[unsafe(no_mangle)]
 pub extern "C" fn ipnetwork_v4_broadcast(network: &Ipv4InC, address: &mut [u8; 4]) -> u32
-    ensures { IfFit (PrefixFits 32 (v4_in network.now)) (Writes (λ octets. octets ≡ octets_of (high 32 (v4_in network.now)))) address.old address.new result }
+    ensures { IfFit (PrefixFits 32 (v4_in network.now))
+        (Writes (λ octets. octets ≡ octets_of (high 32 (v4_in network.now)))) address.old
+        address.new result }
 {
     match network.network() {
         Some(network) => {
@@ -113,7 +123,9 @@ pub extern "C" fn ipnetwork_v4_broadcast(network: &Ipv4InC, address: &mut [u8; 4
 /// is greater than 32.
 #[unsafe(no_mangle)]
 pub extern "C" fn ipnetwork_v4_mask(network: &Ipv4InC, mask: &mut [u8; 4]) -> u32
-    ensures { IfFit (PrefixFits 32 (v4_in network.now)) (Writes (λ octets. octets ≡ octets_of (mask_of 32 network.now.prefix))) mask.old mask.new result }
+    ensures { IfFit (PrefixFits 32 (v4_in network.now))
+        (Writes (λ octets. octets ≡ octets_of (mask_of 32 network.now.prefix))) mask.old mask.new
+        result }
 {
     match network.network() {
         Some(network) => {
@@ -141,7 +153,8 @@ pub extern "C" fn ipnetwork_v4_prefix_of_mask(mask: &[u8; 4], prefix: &mut u8) -
 /// The number of members, 2^32 at prefix length 0. `PREFIX` if the prefix length is greater than 32.
 #[unsafe(no_mangle)]
 pub extern "C" fn ipnetwork_v4_size(network: &Ipv4InC, size: &mut u64) -> u32
-    ensures { IfFit (PrefixFits 32 (v4_in network.now)) (Writes (HasSize 32 (v4_in network.now))) size.old size.new result }
+    ensures { IfFit (PrefixFits 32 (v4_in network.now))
+        (Writes (HasSize 32 (v4_in network.now))) size.old size.new result }
 {
     match network.network() {
         Some(network) => {
@@ -178,7 +191,9 @@ pub extern "C" fn ipnetwork_v4_is_subnet_of(
     outer: &Ipv4InC,
     answer: &mut u8,
 ) -> u32
-    ensures { IfFit (PrefixFits 32 (v4_in inner.now) × PrefixFits 32 (v4_in outer.now)) (Writes (IsFlag (Subnet 32 (v4_in inner.now) (v4_in outer.now)))) answer.old answer.new result }
+    ensures { IfFit (PrefixFits 32 (v4_in inner.now) × PrefixFits 32 (v4_in outer.now))
+        (Writes (IsFlag (Subnet 32 (v4_in inner.now) (v4_in outer.now)))) answer.old answer.new
+        result }
 {
     match (inner.network(), outer.network()) {
         (Some(inner), Some(outer)) => {
@@ -192,7 +207,9 @@ pub extern "C" fn ipnetwork_v4_is_subnet_of(
 /// Whether some address is a member of both, as 1 or 0. `PREFIX` if a prefix length is greater than 32.
 #[unsafe(no_mangle)]
 pub extern "C" fn ipnetwork_v4_overlaps(one: &Ipv4InC, other: &Ipv4InC, answer: &mut u8) -> u32
-    ensures { IfFit (PrefixFits 32 (v4_in one.now) × PrefixFits 32 (v4_in other.now)) (Writes (IsFlag (Overlap 32 (v4_in one.now) (v4_in other.now)))) answer.old answer.new result }
+    ensures { IfFit (PrefixFits 32 (v4_in one.now) × PrefixFits 32 (v4_in other.now))
+        (Writes (IsFlag (Overlap 32 (v4_in one.now) (v4_in other.now)))) answer.old answer.new
+        result }
 {
     match (one.network(), other.network()) {
         (Some(one), Some(other)) => {
@@ -207,7 +224,9 @@ pub extern "C" fn ipnetwork_v4_overlaps(one: &Ipv4InC, other: &Ipv4InC, answer: 
 /// equal. `PREFIX` if a prefix length is greater than 32.
 #[unsafe(no_mangle)]
 pub extern "C" fn ipnetwork_v4_compare(one: &Ipv4InC, other: &Ipv4InC, order: &mut i32) -> u32
-    ensures { IfFit (PrefixFits 32 (v4_in one.now) × PrefixFits 32 (v4_in other.now)) (Writes (λ told. told ≡ order_number (network_cmp (v4_in one.now) (v4_in other.now)))) order.old order.new result }
+    ensures { IfFit (PrefixFits 32 (v4_in one.now) × PrefixFits 32 (v4_in other.now))
+        (Writes (λ told. told ≡ order_number (network_cmp (v4_in one.now) (v4_in other.now))))
+        order.old order.new result }
 {
     match (one.network(), other.network()) {
         (Some(one), Some(other)) => {

@@ -34,7 +34,9 @@ pub extern "C" fn ipnetwork_v6_read(text: &[u8], network: &mut Ipv6InC) -> u32
 /// The network of this address, host bits kept, and this prefix length; `PREFIX` if that is greater than 128.
 #[unsafe(no_mangle)]
 pub extern "C" fn ipnetwork_v6_new(address: &[u8; 16], prefix: u8, network: &mut Ipv6InC) -> u32
-    ensures { IfFit (prefix ≤ 128) (Writes (λ held. (held.address ≡ address.now) × (held.prefix ≡ prefix))) network.old network.new result }
+    ensures { IfFit (prefix ≤ 128)
+        (Writes (λ held. (held.address ≡ address.now)
+        × (held.prefix ≡ prefix))) network.old network.new result }
 {
     if prefix > 128 {
         return PREFIX;
@@ -55,7 +57,9 @@ pub extern "C" fn ipnetwork_v6_canonical(
     buffer: &mut [u8],
     length: &mut usize,
 ) -> u32
-    ensures { IfFit (PrefixFits 128 (v6_in network.now)) (PutsText (network_text canonical_v6 (v6_in network.now))) (buffer.old, length.old) (buffer.new, length.new) result }
+    ensures { IfFit (PrefixFits 128 (v6_in network.now))
+        (PutsText (network_text canonical_v6 (v6_in network.now))) (buffer.old, length.old)
+        (buffer.new, length.new) result }
 {
     match network.network() {
         Some(network) => text::tell(network.canonical().as_str().as_bytes(), buffer, length),
@@ -70,7 +74,9 @@ pub extern "C" fn ipnetwork_v6_contains(
     address: &[u8; 16],
     answer: &mut u8,
 ) -> u32
-    ensures { IfFit (PrefixFits 128 (v6_in network.now)) (Writes (IsFlag (Member 128 (v6_in network.now) (number_of_octets address.now)))) answer.old answer.new result }
+    ensures { IfFit (PrefixFits 128 (v6_in network.now))
+        (Writes (IsFlag (Member 128 (v6_in network.now) (number_of_octets address.now))))
+        answer.old answer.new result }
 {
     match network.contains(address) {
         Some(member) => {
@@ -84,7 +90,9 @@ pub extern "C" fn ipnetwork_v6_contains(
 /// The least member: the address with its host bits cleared. `PREFIX` if the prefix length is greater than 128.
 #[unsafe(no_mangle)]
 pub extern "C" fn ipnetwork_v6_network(network: &Ipv6InC, address: &mut [u8; 16]) -> u32
-    ensures { IfFit (PrefixFits 128 (v6_in network.now)) (Writes (λ octets. octets ≡ octets_of_v6 (low 128 (v6_in network.now)))) address.old address.new result }
+    ensures { IfFit (PrefixFits 128 (v6_in network.now))
+        (Writes (λ octets. octets ≡ octets_of_v6 (low 128 (v6_in network.now)))) address.old
+        address.new result }
 {
     match network.network() {
         Some(network) => {
@@ -98,7 +106,9 @@ pub extern "C" fn ipnetwork_v6_network(network: &Ipv6InC, address: &mut [u8; 16]
 /// The greatest member: the address with its host bits set. `PREFIX` if the prefix length is greater than 128.
 #[unsafe(no_mangle)]
 pub extern "C" fn ipnetwork_v6_broadcast(network: &Ipv6InC, address: &mut [u8; 16]) -> u32
-    ensures { IfFit (PrefixFits 128 (v6_in network.now)) (Writes (λ octets. octets ≡ octets_of_v6 (high 128 (v6_in network.now)))) address.old address.new result }
+    ensures { IfFit (PrefixFits 128 (v6_in network.now))
+        (Writes (λ octets. octets ≡ octets_of_v6 (high 128 (v6_in network.now)))) address.old
+        address.new result }
 {
     match network.network() {
         Some(network) => {
@@ -113,7 +123,9 @@ pub extern "C" fn ipnetwork_v6_broadcast(network: &Ipv6InC, address: &mut [u8; 1
 /// is greater than 128.
 #[unsafe(no_mangle)]
 pub extern "C" fn ipnetwork_v6_mask(network: &Ipv6InC, mask: &mut [u8; 16]) -> u32
-    ensures { IfFit (PrefixFits 128 (v6_in network.now)) (Writes (λ octets. octets ≡ octets_of_v6 (mask_of 128 network.now.prefix))) mask.old mask.new result }
+    ensures { IfFit (PrefixFits 128 (v6_in network.now))
+        (Writes (λ octets. octets ≡ octets_of_v6 (mask_of 128 network.now.prefix))) mask.old
+        mask.new result }
 {
     match network.network() {
         Some(network) => {
@@ -142,7 +154,9 @@ pub extern "C" fn ipnetwork_v6_prefix_of_mask(mask: &[u8; 16], prefix: &mut u8) 
 /// greater than 128.
 #[unsafe(no_mangle)]
 pub extern "C" fn ipnetwork_v6_size(network: &Ipv6InC, size: &mut [u8; 17]) -> u32
-    ensures { IfFit (PrefixFits 128 (v6_in network.now)) (Writes (λ octets. HasSize 128 (v6_in network.now) (number_of_octets octets))) size.old size.new result }
+    ensures { IfFit (PrefixFits 128 (v6_in network.now))
+        (Writes (λ octets. HasSize 128 (v6_in network.now) (number_of_octets octets))) size.old
+        size.new result }
 {
     match network.network() {
         Some(network) => {
@@ -157,7 +171,8 @@ pub extern "C" fn ipnetwork_v6_size(network: &Ipv6InC, size: &mut [u8; 17]) -> u
 /// network has no more than `n` members. `PREFIX` if the prefix length is greater than 128.
 #[unsafe(no_mangle)]
 pub extern "C" fn ipnetwork_v6_nth(network: &Ipv6InC, n: &[u8; 16], address: &mut [u8; 16]) -> u32
-    ensures { WritesMember 128 octets_of_v6 (v6_in network.now) (number_of_octets n.now) address.old address.new result }
+    ensures { WritesMember 128 octets_of_v6 (v6_in network.now)
+        (number_of_octets n.now) address.old address.new result }
 {
     match network.network() {
         Some(network) => match sizes::nth(&network, u128::from(address_of(n))) {
@@ -179,7 +194,9 @@ pub extern "C" fn ipnetwork_v6_is_subnet_of(
     outer: &Ipv6InC,
     answer: &mut u8,
 ) -> u32
-    ensures { IfFit (PrefixFits 128 (v6_in inner.now) × PrefixFits 128 (v6_in outer.now)) (Writes (IsFlag (Subnet 128 (v6_in inner.now) (v6_in outer.now)))) answer.old answer.new result }
+    ensures { IfFit (PrefixFits 128 (v6_in inner.now) × PrefixFits 128 (v6_in outer.now))
+        (Writes (IsFlag (Subnet 128 (v6_in inner.now) (v6_in outer.now)))) answer.old answer.new
+        result }
 {
     match (inner.network(), outer.network()) {
         (Some(inner), Some(outer)) => {
@@ -193,7 +210,9 @@ pub extern "C" fn ipnetwork_v6_is_subnet_of(
 /// Whether some address is a member of both, as 1 or 0. `PREFIX` if a prefix length is greater than 128.
 #[unsafe(no_mangle)]
 pub extern "C" fn ipnetwork_v6_overlaps(one: &Ipv6InC, other: &Ipv6InC, answer: &mut u8) -> u32
-    ensures { IfFit (PrefixFits 128 (v6_in one.now) × PrefixFits 128 (v6_in other.now)) (Writes (IsFlag (Overlap 128 (v6_in one.now) (v6_in other.now)))) answer.old answer.new result }
+    ensures { IfFit (PrefixFits 128 (v6_in one.now) × PrefixFits 128 (v6_in other.now))
+        (Writes (IsFlag (Overlap 128 (v6_in one.now) (v6_in other.now)))) answer.old answer.new
+        result }
 {
     match (one.network(), other.network()) {
         (Some(one), Some(other)) => {
@@ -208,7 +227,9 @@ pub extern "C" fn ipnetwork_v6_overlaps(one: &Ipv6InC, other: &Ipv6InC, answer: 
 /// equal. `PREFIX` if a prefix length is greater than 128.
 #[unsafe(no_mangle)]
 pub extern "C" fn ipnetwork_v6_compare(one: &Ipv6InC, other: &Ipv6InC, order: &mut i32) -> u32
-    ensures { IfFit (PrefixFits 128 (v6_in one.now) × PrefixFits 128 (v6_in other.now)) (Writes (λ told. told ≡ order_number (network_cmp (v6_in one.now) (v6_in other.now)))) order.old order.new result }
+    ensures { IfFit (PrefixFits 128 (v6_in one.now) × PrefixFits 128 (v6_in other.now))
+        (Writes (λ told. told ≡ order_number (network_cmp (v6_in one.now) (v6_in other.now))))
+        order.old order.new result }
 {
     match (one.network(), other.network()) {
         (Some(one), Some(other)) => {

@@ -19,7 +19,10 @@ pub extern "C" fn ipnetwork_v4_list_contains(
     address: &[u8; 4],
     answer: &mut u8,
 ) -> u32
-    ensures { IfFit (All (λ held. PrefixFits 32 (v4_in held)) networks.now) (Writes (IsFlag (Any (λ held. Member 32 (v4_in held) (number_of_octets address.now)) networks.now))) answer.old answer.new result }
+    ensures { IfFit (All (λ held. PrefixFits 32 (v4_in held)) networks.now)
+        (Writes (IsFlag (Any
+        (λ held. Member 32 (v4_in held) (number_of_octets address.now)) networks.now))) answer.old
+        answer.new result }
 {
     contains::<Ipv4Network, Ipv4InC>(networks, Ipv4Addr::from(*address), answer)
 }
@@ -31,14 +34,19 @@ pub extern "C" fn ipnetwork_v6_list_contains(
     address: &[u8; 16],
     answer: &mut u8,
 ) -> u32
-    ensures { IfFit (All (λ held. PrefixFits 128 (v6_in held)) networks.now) (Writes (IsFlag (Any (λ held. Member 128 (v6_in held) (number_of_octets address.now)) networks.now))) answer.old answer.new result }
+    ensures { IfFit (All (λ held. PrefixFits 128 (v6_in held)) networks.now)
+        (Writes (IsFlag (Any
+        (λ held. Member 128 (v6_in held) (number_of_octets address.now)) networks.now))) answer.old
+        answer.new result }
 {
     contains::<Ipv6Network, Ipv6InC>(networks, address_of(address), answer)
 }
 
 // The same for either family.
 fn contains<N: AddressSpace, H: Listed<N>>(networks: &[H], addr: N::Addr, answer: &mut u8) -> u32
-    ensures { IfFit (All H.holds networks.now) (Writes (IsFlag (Any (λ held. Member N.WIDTH (H.held held) (N.number addr)) networks.now))) answer.old answer.new result }
+    ensures { IfFit (All H.holds networks.now)
+        (Writes (IsFlag (Any (λ held. Member N.WIDTH (H.held held) (N.number addr)) networks.now)))
+        answer.old answer.new result }
 {
     if !all_fit::<N, H>(networks) {
         return PREFIX;
@@ -50,7 +58,8 @@ fn contains<N: AddressSpace, H: Listed<N>>(networks: &[H], addr: N::Addr, answer
 // Whether the address lies in the set of a network.
 fn any_has<N: AddressSpace, H: Listed<N>>(networks: &[H], addr: N::Addr) -> bool
     requires { All H.holds networks.now }
-    ensures { IsTrue result ↔ Any (λ held. Member N.WIDTH (H.held held) (N.number addr)) networks.now }
+    ensures { IsTrue result
+        ↔ Any (λ held. Member N.WIDTH (H.held held) (N.number addr)) networks.now }
 {
     for held in networks {
         if (*held).held_network().contains(addr) {

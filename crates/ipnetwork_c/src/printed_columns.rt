@@ -142,7 +142,8 @@ fn print_rows<R: PrintsRow>(
     offsets: &mut [u32],
     length: &mut usize,
 ) -> u32
-    ensures { PrintsColumn R.fits R.refused R.text rows.now ((texts.old, offsets.old), length.old) ((texts.new, offsets.new), length.new) result }
+    ensures { PrintsColumn R.fits R.refused R.text rows.now ((texts.old, offsets.old), length.old)
+        ((texts.new, offsets.new), length.new) result }
 {
     let fault = first_fault(rows);
     if fault != OK {
@@ -208,7 +209,10 @@ pub extern "C" fn ipnetwork_v4_print_column(
     offsets: &mut [u32],
     length: &mut usize,
 ) -> u32
-    ensures { PrintsColumn v4_fits v4_refused v4_text networks.now ((texts.old, offsets.old), length.old) ((texts.new, offsets.new), length.new) result }
+    ensures { PrintsColumn v4_fits v4_refused v4_text networks.now (
+      (texts.old, offsets.old),
+      length.old,
+    ) ((texts.new, offsets.new), length.new) result }
 {
     print_rows(networks, texts, offsets, length)
 }
@@ -221,7 +225,10 @@ pub extern "C" fn ipnetwork_v6_print_column(
     offsets: &mut [u32],
     length: &mut usize,
 ) -> u32
-    ensures { PrintsColumn v6_fits v6_refused v6_text networks.now ((texts.old, offsets.old), length.old) ((texts.new, offsets.new), length.new) result }
+    ensures { PrintsColumn v6_fits v6_refused v6_text networks.now (
+      (texts.old, offsets.old),
+      length.old,
+    ) ((texts.new, offsets.new), length.new) result }
 {
     print_rows(networks, texts, offsets, length)
 }
@@ -235,7 +242,10 @@ pub extern "C" fn ipnetwork_print_column(
     offsets: &mut [u32],
     length: &mut usize,
 ) -> u32
-    ensures { PrintsColumn ip_fits NoIpNetwork ip_text networks.now ((texts.old, offsets.old), length.old) ((texts.new, offsets.new), length.new) result }
+    ensures { PrintsColumn ip_fits NoIpNetwork ip_text networks.now (
+      (texts.old, offsets.old),
+      length.old,
+    ) ((texts.new, offsets.new), length.new) result }
 {
     print_rows(networks, texts, offsets, length)
 }
@@ -249,7 +259,8 @@ pub extern "C" fn ipnetwork_address_print_column(
     offsets: &mut [u32],
     length: &mut usize,
 ) -> u32
-    ensures { PrintsColumn address_fits NoAddress address_text addresses.now ((texts.old, offsets.old), length.old) ((texts.new, offsets.new), length.new) result }
+    ensures { PrintsColumn address_fits NoAddress address_text addresses.now
+        ((texts.old, offsets.old), length.old) ((texts.new, offsets.new), length.new) result }
 {
     print_rows(addresses, texts, offsets, length)
 }

@@ -19,7 +19,8 @@ use crate::text;
 /// written.
 #[unsafe(no_mangle)]
 pub extern "C" fn ipnetwork_canonical(network: &IpInC, buffer: &mut [u8], length: &mut usize) -> u32
-    ensures { OfNetwork network.now (λ n. PutsText (ip_network_text n)) (buffer.old, length.old) (buffer.new, length.new) result }
+    ensures { OfNetwork network.now (λ n. PutsText (ip_network_text n)) (buffer.old, length.old)
+        (buffer.new, length.new) result }
 {
     match network.network() {
         Ok(network) => text::tell_network(&network, buffer, length),
@@ -30,7 +31,8 @@ pub extern "C" fn ipnetwork_canonical(network: &IpInC, buffer: &mut [u8], length
 /// The least member: the address with its host bits cleared.
 #[unsafe(no_mangle)]
 pub extern "C" fn ipnetwork_network(network: &IpInC, address: &mut AddressInC) -> u32
-    ensures { OfNetwork network.now (λ n. Writes (λ held. HoldsAddress held (ip_low n))) address.old address.new result }
+    ensures { OfNetwork network.now
+        (λ n. Writes (λ held. HoldsAddress held (ip_low n))) address.old address.new result }
 {
     match network.network() {
         Ok(network) => {
@@ -44,7 +46,8 @@ pub extern "C" fn ipnetwork_network(network: &IpInC, address: &mut AddressInC) -
 /// The greatest member: the address with its host bits set.
 #[unsafe(no_mangle)]
 pub extern "C" fn ipnetwork_broadcast(network: &IpInC, address: &mut AddressInC) -> u32
-    ensures { OfNetwork network.now (λ n. Writes (λ held. HoldsAddress held (ip_high n))) address.old address.new result }
+    ensures { OfNetwork network.now
+        (λ n. Writes (λ held. HoldsAddress held (ip_high n))) address.old address.new result }
 {
     match network.network() {
         Ok(network) => {
@@ -58,7 +61,8 @@ pub extern "C" fn ipnetwork_broadcast(network: &IpInC, address: &mut AddressInC)
 /// The mask, in the network's family.
 #[unsafe(no_mangle)]
 pub extern "C" fn ipnetwork_mask(network: &IpInC, mask: &mut AddressInC) -> u32
-    ensures { OfNetwork network.now (λ n. Writes (λ held. HoldsAddress held (ip_mask_of n))) mask.old mask.new result }
+    ensures { OfNetwork network.now
+        (λ n. Writes (λ held. HoldsAddress held (ip_mask_of n))) mask.old mask.new result }
 {
     match network.network() {
         Ok(network) => {
@@ -73,7 +77,9 @@ pub extern "C" fn ipnetwork_mask(network: &IpInC, mask: &mut AddressInC) -> u32
 /// Host bits are ignored. The first struct is checked first.
 #[unsafe(no_mangle)]
 pub extern "C" fn ipnetwork_is_subnet_of(inner: &IpInC, outer: &IpInC, answer: &mut u8) -> u32
-    ensures { OfNetwork inner.now (λ a. OfNetwork outer.now (λ b. Writes (IsFlag (IpSubnet a b)))) answer.old answer.new result }
+    ensures { OfNetwork inner.now
+        (λ a. OfNetwork outer.now
+        (λ b. Writes (IsFlag (IpSubnet a b)))) answer.old answer.new result }
 {
     let inner = match inner.network() {
         Ok(network) => network,
@@ -91,7 +97,9 @@ pub extern "C" fn ipnetwork_is_subnet_of(inner: &IpInC, outer: &IpInC, answer: &
 /// Whether some address is a member of both, as 1 or 0. The first struct is checked first.
 #[unsafe(no_mangle)]
 pub extern "C" fn ipnetwork_overlaps(one: &IpInC, other: &IpInC, answer: &mut u8) -> u32
-    ensures { OfNetwork one.now (λ a. OfNetwork other.now (λ b. Writes (IsFlag (IpOverlap a b)))) answer.old answer.new result }
+    ensures { OfNetwork one.now
+        (λ a. OfNetwork other.now
+        (λ b. Writes (IsFlag (IpOverlap a b)))) answer.old answer.new result }
 {
     let one = match one.network() {
         Ok(network) => network,
@@ -110,7 +118,10 @@ pub extern "C" fn ipnetwork_overlaps(one: &IpInC, other: &IpInC, answer: &mut u8
 /// IPv6 network; in a family the address decides, then the prefix length. The first struct is checked first.
 #[unsafe(no_mangle)]
 pub extern "C" fn ipnetwork_compare(one: &IpInC, other: &IpInC, order: &mut i32) -> u32
-    ensures { OfNetwork one.now (λ a. OfNetwork other.now (λ b. Writes (λ told. told ≡ order_number (ip_network_cmp a b)))) order.old order.new result }
+    ensures { OfNetwork one.now
+        (λ a. OfNetwork other.now
+        (λ b. Writes (λ told. told ≡ order_number (ip_network_cmp a b)))) order.old order.new
+        result }
 {
     let one = match one.network() {
         Ok(network) => network,

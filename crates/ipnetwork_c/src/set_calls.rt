@@ -17,7 +17,8 @@ pub extern "C" fn ipnetwork_v4_set_contains(
     address: &[u8; 4],
     answer: &mut u8,
 ) -> u32
-    ensures { SetQuery 32 v4_in blocks.now (number_of_octets address.now) answer.old answer.new result }
+    ensures { SetQuery 32 v4_in blocks.now
+        (number_of_octets address.now) answer.old answer.new result }
 {
     match sets::contains::<Ipv4Network, Ipv4InC>(blocks, Ipv4Addr::from(*address)) {
         Some(found) => {
@@ -35,7 +36,8 @@ pub extern "C" fn ipnetwork_v6_set_contains(
     address: &[u8; 16],
     answer: &mut u8,
 ) -> u32
-    ensures { SetQuery 128 v6_in blocks.now (number_of_octets address.now) answer.old answer.new result }
+    ensures { SetQuery 128 v6_in blocks.now
+        (number_of_octets address.now) answer.old answer.new result }
 {
     match sets::contains::<Ipv6Network, Ipv6InC>(blocks, address_of(address)) {
         Some(found) => {

@@ -33,7 +33,8 @@ fn operate<N: AddressSpace, H: Listed<N>>(
     blocks: &mut [H],
     count: &mut usize,
 ) -> u32
-    ensures { SetOperation N.WIDTH H.held (kept_by operation N.WIDTH) first.now second.now (blocks.old, count.old) (blocks.new, count.new) result }
+    ensures { SetOperation N.WIDTH H.held (kept_by operation N.WIDTH) first.now second.now
+        (blocks.old, count.old) (blocks.new, count.new) result }
 {
     if !all_fit::<N, H>(first) || !all_fit::<N, H>(second) {
         return PREFIX;
@@ -60,7 +61,9 @@ fn put_kept<N: AddressSpace, H: Listed<N>>(
 ) -> u128
     requires first { HoldSet N.WIDTH H.holds H.held first.now }
     requires second { HoldSet N.WIDTH H.holds H.held second.now }
-    ensures { PutsSet N.WIDTH H.held (kept_by operation N.WIDTH (map H.held first.now) (map H.held second.now)) list.old list.new result }
+    ensures { PutsSet N.WIDTH H.held
+        (kept_by operation N.WIDTH (map H.held first.now)
+        (map H.held second.now)) list.old list.new result }
 {
     match operation {
         Operation::Union => { put_blocks::<N, H, Union<'_, N, H>>(Union::of(first, second), list) }
@@ -84,7 +87,8 @@ pub extern "C" fn ipnetwork_v4_union(
     blocks: &mut [Ipv4InC],
     count: &mut usize,
 ) -> u32
-    ensures { SetOperation 32 v4_in (InEither 32) first.now second.now (blocks.old, count.old) (blocks.new, count.new) result }
+    ensures { SetOperation 32 v4_in (InEither 32) first.now second.now (blocks.old, count.old)
+        (blocks.new, count.new) result }
 {
     operate::<Ipv4Network, Ipv4InC>(Operation::Union, first, second, blocks, count)
 }
@@ -97,7 +101,8 @@ pub extern "C" fn ipnetwork_v6_union(
     blocks: &mut [Ipv6InC],
     count: &mut usize,
 ) -> u32
-    ensures { SetOperation 128 v6_in (InEither 128) first.now second.now (blocks.old, count.old) (blocks.new, count.new) result }
+    ensures { SetOperation 128 v6_in (InEither 128) first.now second.now (blocks.old, count.old)
+        (blocks.new, count.new) result }
 {
     operate::<Ipv6Network, Ipv6InC>(Operation::Union, first, second, blocks, count)
 }
@@ -110,7 +115,8 @@ pub extern "C" fn ipnetwork_v4_intersection(
     blocks: &mut [Ipv4InC],
     count: &mut usize,
 ) -> u32
-    ensures { SetOperation 32 v4_in (InBoth 32) first.now second.now (blocks.old, count.old) (blocks.new, count.new) result }
+    ensures { SetOperation 32 v4_in (InBoth 32) first.now second.now (blocks.old, count.old)
+        (blocks.new, count.new) result }
 {
     operate::<Ipv4Network, Ipv4InC>(Operation::Intersection, first, second, blocks, count)
 }
@@ -123,7 +129,8 @@ pub extern "C" fn ipnetwork_v6_intersection(
     blocks: &mut [Ipv6InC],
     count: &mut usize,
 ) -> u32
-    ensures { SetOperation 128 v6_in (InBoth 128) first.now second.now (blocks.old, count.old) (blocks.new, count.new) result }
+    ensures { SetOperation 128 v6_in (InBoth 128) first.now second.now (blocks.old, count.old)
+        (blocks.new, count.new) result }
 {
     operate::<Ipv6Network, Ipv6InC>(Operation::Intersection, first, second, blocks, count)
 }
@@ -137,7 +144,8 @@ pub extern "C" fn ipnetwork_v4_difference(
     blocks: &mut [Ipv4InC],
     count: &mut usize,
 ) -> u32
-    ensures { SetOperation 32 v4_in (InFirstAlone 32) first.now second.now (blocks.old, count.old) (blocks.new, count.new) result }
+    ensures { SetOperation 32 v4_in (InFirstAlone 32) first.now second.now (blocks.old, count.old)
+        (blocks.new, count.new) result }
 {
     operate::<Ipv4Network, Ipv4InC>(Operation::Difference, first, second, blocks, count)
 }
@@ -150,7 +158,8 @@ pub extern "C" fn ipnetwork_v6_difference(
     blocks: &mut [Ipv6InC],
     count: &mut usize,
 ) -> u32
-    ensures { SetOperation 128 v6_in (InFirstAlone 128) first.now second.now (blocks.old, count.old) (blocks.new, count.new) result }
+    ensures { SetOperation 128 v6_in (InFirstAlone 128) first.now second.now
+        (blocks.old, count.old) (blocks.new, count.new) result }
 {
     operate::<Ipv6Network, Ipv6InC>(Operation::Difference, first, second, blocks, count)
 }

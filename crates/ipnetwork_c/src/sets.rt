@@ -13,8 +13,10 @@ use ipnetwork_blocks::{AddressSpace, laws};
 /// Whether an address lies in the set of a list, as 1 or 0. If the list is not that of a set, an address may be missed.
 /// `None` if the prefix length of the struct that the search ends at is not one of the family.
 pub(crate) fn contains<N: AddressSpace, H: Listed<N>>(list: &[H], addr: N::Addr) -> Option<u8>
-    ensures answered { MatchOption result (¬ (All H.holds list.now)) (λ answer. FindsIn N.WIDTH (map H.held list.now) (N.number addr) answer) }
-    ensures fits { MatchOption result (EndDoesNotFit N.WIDTH (map H.held list.now) (N.number addr)) (λ _. EndFits N.WIDTH (map H.held list.now) (N.number addr)) }
+    ensures answered { MatchOption result (¬ (All H.holds list.now))
+        (λ answer. FindsIn N.WIDTH (map H.held list.now) (N.number addr) answer) }
+    ensures fits { MatchOption result (EndDoesNotFit N.WIDTH (map H.held list.now) (N.number addr))
+        (λ _. EndFits N.WIDTH (map H.held list.now) (N.number addr)) }
 {
     laws::one_block();
     let count = begun::<N, H>(list, addr);
@@ -32,7 +34,8 @@ pub(crate) fn contains<N: AddressSpace, H: Listed<N>>(list: &[H], addr: N::Addr)
 /// which the last does, and the next one does not.
 pub(crate) fn begun<N: AddressSpace, H: Listed<N>>(list: &[H], addr: N::Addr) -> usize
     ensures within { result ≤ length list.now }
-    ensures split { AllPairs (λ a b. a.address ≤ b.address) (map H.held list.now) → IsSplit (map H.held list.now) (N.number addr) result result }
+    ensures split { AllPairs (λ a b. a.address ≤ b.address) (map H.held list.now)
+        → IsSplit (map H.held list.now) (N.number addr) result result }
     ensures stands { StandsAt (map H.held list.now) (N.number addr) result }
 {
     let mut from = 0;

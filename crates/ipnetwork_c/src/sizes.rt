@@ -63,7 +63,8 @@ fn last_index<A: Numbered>(network: &Network<A>) -> u128
 /// The member number `n`, counted from 0 in ascending order.
 #[tactic(auto, using(crate::proofs::MemberCounts::ends_apart))]
 pub(crate) fn nth<A: Numbered>(network: &Network<A>, n: u128) -> Option<A>
-    ensures { MatchOption result (length (members A.WIDTH network.now) ≤ n) (λ member. IsNth A.WIDTH network.now n (A.number member)) }
+    ensures { MatchOption result (length (members A.WIDTH network.now) ≤ n)
+        (λ member. IsNth A.WIDTH network.now n (A.number member)) }
 {
     let (least, greatest) = ends(network);
     if n > greatest - least {

@@ -79,7 +79,9 @@ impl Ipv6InC {
 
     /// Whether an address of 16 octets lies in the network's set, if the prefix length is at most 128.
     pub(crate) fn contains(&self, address: &[u8; 16]) -> Option<bool>
-        ensures { MatchOption result (¬ (PrefixFits 128 (v6_in self.now))) (λ answer. PrefixFits 128 (v6_in self.now) × (IsTrue answer ↔ Member 128 (v6_in self.now) (number_of_octets address.now))) }
+        ensures { MatchOption result (¬ (PrefixFits 128 (v6_in self.now)))
+            (λ answer. PrefixFits 128 (v6_in self.now)
+            × (IsTrue answer ↔ Member 128 (v6_in self.now) (number_of_octets address.now))) }
     {
         if self.prefix > 128 {
             return None;

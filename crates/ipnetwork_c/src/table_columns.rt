@@ -16,7 +16,8 @@ pub extern "C" fn ipnetwork_v4_table_find_column(
     indexes: &mut [usize],
     faults: &mut [u8],
 ) -> u32
-    ensures { TableRows 32 v4_in blocks.now addresses.now (indexes.old, faults.old) (indexes.new, faults.new) result }
+    ensures { TableRows 32 v4_in blocks.now addresses.now (indexes.old, faults.old)
+        (indexes.new, faults.new) result }
 {
     if indexes.len() < addresses.len() || faults.len() < addresses.len() {
         return SHORT_BUFFER;
@@ -29,7 +30,8 @@ pub extern "C" fn ipnetwork_v4_table_find_column(
 
 /// The fault of the call for one address, as a byte.
 fn v4_find(blocks: &[Ipv4InC], address: &[u8; 4], index: &mut usize) -> u8
-    ensures { TableQuery 32 v4_in blocks.now (number_of_octets address.now) index.old index.new result }
+    ensures { TableQuery 32 v4_in blocks.now
+        (number_of_octets address.now) index.old index.new result }
 {
     ipnetwork_v4_table_find(blocks, address, index) as u8
 }
@@ -42,7 +44,8 @@ pub extern "C" fn ipnetwork_v6_table_find_column(
     indexes: &mut [usize],
     faults: &mut [u8],
 ) -> u32
-    ensures { TableRows 128 v6_in blocks.now addresses.now (indexes.old, faults.old) (indexes.new, faults.new) result }
+    ensures { TableRows 128 v6_in blocks.now addresses.now (indexes.old, faults.old)
+        (indexes.new, faults.new) result }
 {
     if indexes.len() < addresses.len() || faults.len() < addresses.len() {
         return SHORT_BUFFER;
@@ -55,7 +58,8 @@ pub extern "C" fn ipnetwork_v6_table_find_column(
 
 /// The fault of the call for one address, as a byte.
 fn v6_find(blocks: &[Ipv6InC], address: &[u8; 16], index: &mut usize) -> u8
-    ensures { TableQuery 128 v6_in blocks.now (number_of_octets address.now) index.old index.new result }
+    ensures { TableQuery 128 v6_in blocks.now
+        (number_of_octets address.now) index.old index.new result }
 {
     ipnetwork_v6_table_find(blocks, address, index) as u8
 }

@@ -25,7 +25,8 @@ pub extern "C" fn ipnetwork_v4_table_make(
     blocks: &mut [Ipv4InC],
     places: &mut [usize],
 ) -> u32
-    ensures { MakesTable 32 v4_in networks.now (blocks.old, places.old) (blocks.new, places.new) result }
+    ensures { MakesTable 32 v4_in networks.now (blocks.old, places.old)
+        (blocks.new, places.new) result }
 {
     make::<Ipv4Network, Ipv4InC>(networks, blocks, places)
 }
@@ -37,7 +38,8 @@ pub extern "C" fn ipnetwork_v6_table_make(
     blocks: &mut [Ipv6InC],
     places: &mut [usize],
 ) -> u32
-    ensures { MakesTable 128 v6_in networks.now (blocks.old, places.old) (blocks.new, places.new) result }
+    ensures { MakesTable 128 v6_in networks.now (blocks.old, places.old)
+        (blocks.new, places.new) result }
 {
     make::<Ipv6Network, Ipv6InC>(networks, blocks, places)
 }
@@ -48,7 +50,8 @@ fn make<N: AddressSpace, H: Listed<N>>(
     blocks: &mut [H],
     places: &mut [usize],
 ) -> u32
-    ensures { MakesTable N.WIDTH H.held networks.now (blocks.old, places.old) (blocks.new, places.new) result }
+    ensures { MakesTable N.WIDTH H.held networks.now (blocks.old, places.old)
+        (blocks.new, places.new) result }
 {
     if !all_fit::<N, H>(networks) {
         return PREFIX;
@@ -113,7 +116,9 @@ fn put_rows<N: AddressSpace, H: Listed<N>>(networks: &[H], places: &[usize], blo
     requires held { All H.holds networks.now }
     requires room { length blocks.old ≡ length places.now }
     ensures rows { length blocks.new ≡ length blocks.old }
-    ensures put { (k : ℕ) (d : Network) → k < length places.now → slice_index_or (map H.held blocks.new) k d ≡ row_block N.WIDTH (map H.held networks.now) (slice_index places.now k) }
+    ensures put { (k : ℕ) (d : Network) → k < length places.now
+        → slice_index_or (map H.held blocks.new) k d ≡ row_block N.WIDTH (map H.held networks.now)
+        (slice_index places.now k) }
     ensures blocks { All (IsCidrBlock N.WIDTH) (map H.held blocks.new) }
 {
     for row in 0..places.len() {

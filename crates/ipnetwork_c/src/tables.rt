@@ -43,7 +43,8 @@ pub extern "C" fn ipnetwork_v4_table_find(
     address: &[u8; 4],
     index: &mut usize,
 ) -> u32
-    ensures { TableQuery 32 v4_in blocks.now (number_of_octets address.now) index.old index.new result }
+    ensures { TableQuery 32 v4_in blocks.now
+        (number_of_octets address.now) index.old index.new result }
 {
     find::<Ipv4Network, Ipv4InC>(blocks, Ipv4Addr::from(*address), index)
 }
@@ -55,7 +56,8 @@ pub extern "C" fn ipnetwork_v6_table_find(
     address: &[u8; 16],
     index: &mut usize,
 ) -> u32
-    ensures { TableQuery 128 v6_in blocks.now (number_of_octets address.now) index.old index.new result }
+    ensures { TableQuery 128 v6_in blocks.now
+        (number_of_octets address.now) index.old index.new result }
 {
     find::<Ipv6Network, Ipv6InC>(blocks, address_of(address), index)
 }

@@ -31,14 +31,16 @@ pub(crate) fn tell(text: &[u8], buffer: &mut [u8], length: &mut usize) -> u32
 
 /// The canonical text of a network of either family, as `tell` puts it.
 pub(crate) fn tell_network(network: &IpNetwork, buffer: &mut [u8], length: &mut usize) -> u32
-    ensures { PutsText (ip_network_text network.now) (buffer.old, length.old) (buffer.new, length.new) result }
+    ensures { PutsText (ip_network_text network.now) (buffer.old, length.old)
+        (buffer.new, length.new) result }
 {
     tell(network.canonical().as_str().as_bytes(), buffer, length)
 }
 
 /// The canonical text of an address of either family, as `tell` puts it.
 pub(crate) fn tell_address(address: &IpAddr, buffer: &mut [u8], length: &mut usize) -> u32
-    ensures { PutsText (canonical_ip address.now) (buffer.old, length.old) (buffer.new, length.new) result }
+    ensures { PutsText (canonical_ip address.now) (buffer.old, length.old)
+        (buffer.new, length.new) result }
 {
     tell(address.canonical().as_str().as_bytes(), buffer, length)
 }

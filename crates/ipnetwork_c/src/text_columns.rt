@@ -72,7 +72,8 @@ fn are_offsets(texts: &[u8], offsets: &[u32]) -> bool
 
 /// Reads each text into the row of its place, and its fault into the fault of that place.
 fn read_rows<R: ReadsRow>(texts: &[u8], offsets: &[u32], rows: &mut [R], faults: &mut [u8]) -> u32
-    ensures { ReadsColumn R.reads texts.now offsets.now (rows.old, faults.old) (rows.new, faults.new) result }
+    ensures { ReadsColumn R.reads texts.now offsets.now (rows.old, faults.old)
+        (rows.new, faults.new) result }
 {
     if !are_offsets(texts, offsets) {
         return NO_OFFSETS;
@@ -101,7 +102,8 @@ pub extern "C" fn ipnetwork_v4_read_column(
     networks: &mut [Ipv4InC],
     faults: &mut [u8],
 ) -> u32
-    ensures { ReadsColumn v4_reads texts.now offsets.now (networks.old, faults.old) (networks.new, faults.new) result }
+    ensures { ReadsColumn v4_reads texts.now offsets.now (networks.old, faults.old)
+        (networks.new, faults.new) result }
 {
     read_rows(texts, offsets, networks, faults)
 }
@@ -114,7 +116,8 @@ pub extern "C" fn ipnetwork_v6_read_column(
     networks: &mut [Ipv6InC],
     faults: &mut [u8],
 ) -> u32
-    ensures { ReadsColumn v6_reads texts.now offsets.now (networks.old, faults.old) (networks.new, faults.new) result }
+    ensures { ReadsColumn v6_reads texts.now offsets.now (networks.old, faults.old)
+        (networks.new, faults.new) result }
 {
     read_rows(texts, offsets, networks, faults)
 }
@@ -127,7 +130,8 @@ pub extern "C" fn ipnetwork_read_column(
     networks: &mut [IpInC],
     faults: &mut [u8],
 ) -> u32
-    ensures { ReadsColumn ip_reads texts.now offsets.now (networks.old, faults.old) (networks.new, faults.new) result }
+    ensures { ReadsColumn ip_reads texts.now offsets.now (networks.old, faults.old)
+        (networks.new, faults.new) result }
 {
     read_rows(texts, offsets, networks, faults)
 }
@@ -140,7 +144,8 @@ pub extern "C" fn ipnetwork_address_read_column(
     addresses: &mut [AddressInC],
     faults: &mut [u8],
 ) -> u32
-    ensures { ReadsColumn ReadsAddress texts.now offsets.now (addresses.old, faults.old) (addresses.new, faults.new) result }
+    ensures { ReadsColumn ReadsAddress texts.now offsets.now (addresses.old, faults.old)
+        (addresses.new, faults.new) result }
 {
     read_rows(texts, offsets, addresses, faults)
 }

@@ -107,7 +107,8 @@ pub trait CidrNetwork: Copy + Ord {
     fn block(addr: Self::Addr, prefix: u8) -> Option<Self>
         ensures address { number addr < 2 ^ WIDTH }
         ensures cases { MatchOption result (WIDTH < prefix)
-            (λ n. (prefix ≤ WIDTH) × (pair n ≡ block_of WIDTH (record { address = number addr; prefix = prefix }))) };
+            (λ n. (prefix ≤ WIDTH)
+            × (pair n ≡ block_of WIDTH (record { address = number addr; prefix = prefix }))) };
 
     // Addresses are ordered by their numbers.
     ghost address_order: { (x y : Self.Addr) → Self.Addr.cmp x y ≡ nat_cmp (number x) (number y) };
@@ -164,5 +165,7 @@ impl<A: Address> CidrNetwork for Network<A> {
 
     ghost address_order = { A.address_order };
 
-    ghost network_order = { λ a b. ap (λ o. ordering_then o (nat_cmp a.prefix b.prefix)) (A.address_order (A.of_number a.address) (A.of_number b.address) ∙ ap₂ nat_cmp (A.forth a.address) (A.forth b.address)) };
+    ghost network_order = { λ a b. ap (λ o. ordering_then o (nat_cmp a.prefix b.prefix))
+        (A.address_order (A.of_number a.address) (A.of_number b.address) ∙ ap₂ nat_cmp
+        (A.forth a.address) (A.forth b.address)) };
 }

@@ -23,7 +23,8 @@ impl IpAddressSet {
         v6_memory: Vec<Ipv6Network>,
     ) -> Result<Self, AllocError>
         ensures set { IfOk result (λ set. set ≡ self.now) }
-        ensures room { OnErr result (HasTooLittleRoom (vec_capacity v4_memory) (vec_capacity v6_memory) self.now) }
+        ensures room { OnErr result
+            (HasTooLittleRoom (vec_capacity v4_memory) (vec_capacity v6_memory) self.now) }
     {
         self.iter().into_set(v4_memory, v6_memory)
     }
@@ -45,7 +46,8 @@ impl<'a> IpBlocks<Blocks<'a, Ipv4Network>, Blocks<'a, Ipv6Network>> {
         v6_memory: Vec<Ipv6Network>,
     ) -> Result<IpAddressSet, AllocError>
         ensures set { IfOk result (λ set. set ≡ self.entry) }
-        ensures room { OnErr result (HasTooLittleRoom (vec_capacity v4_memory) (vec_capacity v6_memory) self.entry) }
+        ensures room { OnErr result
+            (HasTooLittleRoom (vec_capacity v4_memory) (vec_capacity v6_memory) self.entry) }
     {
         let v4 = self.v4.into_set(v4_memory)?;
         let v6 = self.v6.into_set(v6_memory)?;
@@ -69,7 +71,8 @@ impl<'a> IpBlocks<Intersection<'a, Ipv4Network>, Intersection<'a, Ipv6Network>> 
         v6_memory: Vec<Ipv6Network>,
     ) -> Result<IpAddressSet, AllocError>
         ensures set { IfOk result (λ set. set ≡ self.entry) }
-        ensures room { OnErr result (HasTooLittleRoom (vec_capacity v4_memory) (vec_capacity v6_memory) self.entry) }
+        ensures room { OnErr result
+            (HasTooLittleRoom (vec_capacity v4_memory) (vec_capacity v6_memory) self.entry) }
     {
         let v4 = self.v4.into_set(v4_memory)?;
         let v6 = self.v6.into_set(v6_memory)?;
@@ -93,7 +96,8 @@ impl<'a> IpBlocks<Difference<'a, Ipv4Network>, Difference<'a, Ipv6Network>> {
         v6_memory: Vec<Ipv6Network>,
     ) -> Result<IpAddressSet, AllocError>
         ensures set { IfOk result (λ set. set ≡ self.entry) }
-        ensures room { OnErr result (HasTooLittleRoom (vec_capacity v4_memory) (vec_capacity v6_memory) self.entry) }
+        ensures room { OnErr result
+            (HasTooLittleRoom (vec_capacity v4_memory) (vec_capacity v6_memory) self.entry) }
     {
         let v4 = self.v4.into_set(v4_memory)?;
         let v6 = self.v6.into_set(v6_memory)?;
@@ -117,7 +121,8 @@ impl<'a> IpBlocks<Union<'a, Ipv4Network>, Union<'a, Ipv6Network>> {
         v6_memory: Vec<Ipv6Network>,
     ) -> Result<IpAddressSet, AllocError>
         ensures set { IfOk result (λ set. set ≡ self.entry) }
-        ensures room { OnErr result (HasTooLittleRoom (vec_capacity v4_memory) (vec_capacity v6_memory) self.entry) }
+        ensures room { OnErr result
+            (HasTooLittleRoom (vec_capacity v4_memory) (vec_capacity v6_memory) self.entry) }
     {
         let v4 = self.v4.into_set(v4_memory)?;
         let v6 = self.v6.into_set(v6_memory)?;

@@ -14,7 +14,8 @@ impl PartialEq for IpAddressSet {
 
     ghost eq = { same_ip_blocks };
 
-    ghost laws = { and_per (on_per (filter_map as_v4) (lists_per (Prim.search (comparing, rules)))) (on_per (filter_map as_v6) (lists_per (Prim.search (comparing, rules)))) };
+    ghost laws = { and_per (on_per (filter_map as_v4) (lists_per (Prim.search (comparing, rules))))
+        (on_per (filter_map as_v6) (lists_per (Prim.search (comparing, rules)))) };
 
     fn eq(&self, other: &IpAddressSet) -> bool {
         self.v4() == other.v4() && self.v6() == other.v6()

@@ -59,7 +59,8 @@ impl IpAddressSet {
         mut v6_memory: Vec<Ipv6Network>,
     ) -> Result<Self, AllocError>
         ensures set { IfOk result (λ set. IsIpAggregate networks.now set) }
-        ensures room { OnErr result (HasTooLittleRoom (vec_capacity v4_memory) (vec_capacity v6_memory) networks.now) }
+        ensures room { OnErr result
+            (HasTooLittleRoom (vec_capacity v4_memory) (vec_capacity v6_memory) networks.now) }
     {
         v4_memory.clear();
         v6_memory.clear();
@@ -233,7 +234,9 @@ fn push_network(
     ensures v6 { OnOk result (v6.new.items ≡ v6.old.items ++ filter_map as_v6 (network ∷ [])) }
     ensures v4_capacity { vec_capacity v4.old ≤ vec_capacity v4.new }
     ensures v6_capacity { vec_capacity v6.old ≤ vec_capacity v6.new }
-    ensures room { OnErr result ((vec_capacity v4.old < vec_len v4.old + length (filter_map as_v4 (network ∷ []))) ⊎ (vec_capacity v6.old < vec_len v6.old + length (filter_map as_v6 (network ∷ [])))) }
+    ensures room { OnErr result
+        ((vec_capacity v4.old < vec_len v4.old + length (filter_map as_v4 (network ∷ [])))
+        ⊎ (vec_capacity v6.old < vec_len v6.old + length (filter_map as_v6 (network ∷ [])))) }
 {
     match network {
         IpNetwork::V4(network) => v4.push(network)?,

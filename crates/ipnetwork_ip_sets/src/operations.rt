@@ -108,7 +108,10 @@ impl IpAddressSet {
         v6_memory: Vec<Ipv6Network>,
     ) -> Result<Self, AllocError>
         ensures set { IfOk result (λ set. IsIpLeastList (InIpEither self.now other.now) set) }
-        ensures room { (blocks : List IpNetwork) → IsIpLeastList (InIpEither self.now other.now) blocks → OnErr result (HasTooLittleRoom (vec_capacity v4_memory) (vec_capacity v6_memory) blocks) }
+        ensures room { (blocks : List IpNetwork)
+            → IsIpLeastList (InIpEither self.now other.now) blocks
+            → OnErr result (HasTooLittleRoom (vec_capacity v4_memory)
+            (vec_capacity v6_memory) blocks) }
     {
         self.union_blocks(other).into_set(v4_memory, v6_memory)
     }

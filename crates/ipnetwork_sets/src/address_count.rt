@@ -51,7 +51,8 @@ impl AddressCount {
     /// assert_eq!(rt; count, AddressCount::from(256));
     /// ```
     pub fn add_block<N: AddressSpace>(self, network: N) -> AddressCount
-        ensures { count_number result ≡ min (count_number self + block_size N.WIDTH (N.pair network).prefix) (2 ^ 128) }
+        ensures { count_number result ≡ min
+            (count_number self + block_size N.WIDTH (N.pair network).prefix) (2 ^ 128) }
     {
         let host_bits = N::WIDTH - network.prefix();
         let AddressCount::Number(number) = self else {
@@ -132,7 +133,8 @@ impl PartialOrd for AddressCount {
 
     ghost partial_cmp = { as_partial_cmp (on count_number nat_cmp) };
 
-    ghost laws = { partial_order_from_own_ties (Prim.search (comparing, rules)) (Prim.search (comparing, rules)) };
+    ghost laws = { partial_order_from_own_ties (Prim.search (comparing, rules))
+        (Prim.search (comparing, rules)) };
 
     fn partial_cmp(&self, other: &AddressCount) -> Option<Ordering> {
         Some(self.cmp(other))

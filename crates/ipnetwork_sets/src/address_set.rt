@@ -64,7 +64,8 @@ impl<N: AddressSpace> AddressSet<N> {
     /// ```
     pub fn from_blocks(blocks: Vec<N>) -> Result<Self, Vec<N>>
         ensures { MatchResult result
-            (λ set. IsAddressSet N.WIDTH (map N.pair blocks.items) × (set ≡ map N.pair blocks.items))
+            (λ set. IsAddressSet N.WIDTH (map N.pair blocks.items)
+            × (set ≡ map N.pair blocks.items))
             (λ back. ¬ (IsAddressSet N.WIDTH (map N.pair blocks.items)) × (back ≡ blocks)) }
     {
         if is_address_set::<N, N>(blocks.as_slice()) {

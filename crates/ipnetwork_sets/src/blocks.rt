@@ -33,7 +33,8 @@ pub trait SetBlocks<N: AddressSpace>: Drop {
     /// assert_eq!(rt; blocks.next_block(), None);
     /// ```
     fn next_block(&mut self) -> Option<N>
-        ensures step { MatchOption result ((left self.old ≡ []) × (left self.new ≡ [])) (λ block. left self.old ≡ N.pair block ∷ left self.new) }
+        ensures step { MatchOption result ((left self.old ≡ []) × (left self.new ≡ []))
+            (λ block. left self.old ≡ N.pair block ∷ left self.new) }
         ensures set { IsAddressSet N.WIDTH (left self.old) };
 }
 

@@ -37,7 +37,8 @@ impl<'a, N: AddressSpace, H: HoldsNetwork<N>> Model for Intersection<'a, N, H> {
 
     ghost view = { λ i. common_blocks N.WIDTH (map H.held i.first.now) (map H.held i.second.now) };
 
-    ghost invariant = { λ i. HoldSet N.WIDTH H.holds H.held i.first.now × HoldSet N.WIDTH H.holds H.held i.second.now };
+    ghost invariant = { λ i. HoldSet N.WIDTH H.holds H.held i.first.now
+        × HoldSet N.WIDTH H.holds H.held i.second.now };
 }
 
 impl<'a, N: AddressSpace, H: HoldsNetwork<N>> Intersection<'a, N, H> {
@@ -52,7 +53,8 @@ impl<'a, N: AddressSpace, H: HoldsNetwork<N>> Intersection<'a, N, H> {
     pub fn of(first: &'a [H], second: &'a [H]) -> Self
         requires first { HoldSet N.WIDTH H.holds H.held first.now }
         requires second { HoldSet N.WIDTH H.holds H.held second.now }
-        ensures { IsLeastList N.WIDTH (InBoth N.WIDTH (map H.held first.now) (map H.held second.now)) result }
+        ensures { IsLeastList N.WIDTH
+            (InBoth N.WIDTH (map H.held first.now) (map H.held second.now)) result }
     {
         Intersection {
             first,

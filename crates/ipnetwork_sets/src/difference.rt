@@ -45,10 +45,13 @@ impl<'a, N: AddressSpace, H: HoldsNetwork<N>> Model for Difference<'a, N, H> {
 
     ghost Value = { List Network };
 
-    ghost view = { λ d. left_blocks N.WIDTH (option_map (λ p. (N.pair p.whole, N.pair p.piece)) d.at_hand) (map H.held d.rest.now) (map H.held d.cut.now) };
+    ghost view = { λ d. left_blocks N.WIDTH
+        (option_map (λ p. (N.pair p.whole, N.pair p.piece)) d.at_hand) (map H.held d.rest.now)
+        (map H.held d.cut.now) };
 
     ghost invariant = { λ d. All H.holds d.rest.now × All H.holds d.cut.now
-        × IsAtHand N.WIDTH (option_map (λ p. (N.pair p.whole, N.pair p.piece)) d.at_hand) (map H.held d.rest.now) (map H.held d.cut.now) };
+        × IsAtHand N.WIDTH (option_map (λ p. (N.pair p.whole, N.pair p.piece)) d.at_hand)
+        (map H.held d.rest.now) (map H.held d.cut.now) };
 }
 
 impl<'a, N: AddressSpace, H: HoldsNetwork<N>> Difference<'a, N, H> {
@@ -63,7 +66,8 @@ impl<'a, N: AddressSpace, H: HoldsNetwork<N>> Difference<'a, N, H> {
     pub fn of(first: &'a [H], cut: &'a [H]) -> Self
         requires first { HoldSet N.WIDTH H.holds H.held first.now }
         requires cut { HoldSet N.WIDTH H.holds H.held cut.now }
-        ensures { IsLeastList N.WIDTH (InFirstAlone N.WIDTH (map H.held first.now) (map H.held cut.now)) result }
+        ensures { IsLeastList N.WIDTH
+            (InFirstAlone N.WIDTH (map H.held first.now) (map H.held cut.now)) result }
     {
         Difference {
             at_hand: None,
@@ -75,7 +79,8 @@ impl<'a, N: AddressSpace, H: HoldsNetwork<N>> Difference<'a, N, H> {
     /// The blocks of the addresses that the network has and the cut set has not.
     pub(crate) fn within(network: N, cut: &'a [H]) -> Self
         requires { HoldSet N.WIDTH H.holds H.held cut.now }
-        ensures { IsLeastList N.WIDTH (InNetworkAlone N.WIDTH (N.pair network) (map H.held cut.now)) result }
+        ensures { IsLeastList N.WIDTH
+            (InNetworkAlone N.WIDTH (N.pair network) (map H.held cut.now)) result }
     {
         let whole = block(network);
         Difference {
@@ -120,12 +125,19 @@ fn next_left<'a, N: AddressSpace, H: HoldsNetwork<N>>(
 ) -> Option<(N, Option<Part<N>>, &'a [H], &'a [H])>
     requires rest { All H.holds rest.now }
     requires cut { All H.holds cut.now }
-    requires at_hand { IsAtHand N.WIDTH (option_map (λ p. (N.pair p.whole, N.pair p.piece)) at_hand) (map H.held rest.now) (map H.held cut.now) }
+    requires at_hand { IsAtHand N.WIDTH
+        (option_map (λ p. (N.pair p.whole, N.pair p.piece)) at_hand) (map H.held rest.now)
+        (map H.held cut.now) }
     ensures { MatchOption result
-        (left_blocks N.WIDTH (option_map (λ p. (N.pair p.whole, N.pair p.piece)) at_hand) (map H.held rest.entry.now) (map H.held cut.entry.now) ≡ [])
-        (λ r. All H.holds r.2.now × All H.holds r.3.now × IsAtHand N.WIDTH (option_map (λ p. (N.pair p.whole, N.pair p.piece)) r.1) (map H.held r.2.now) (map H.held r.3.now)
-        × (left_blocks N.WIDTH (option_map (λ p. (N.pair p.whole, N.pair p.piece)) at_hand) (map H.held rest.entry.now) (map H.held cut.entry.now)
-        ≡ N.pair r.0 ∷ left_blocks N.WIDTH (option_map (λ p. (N.pair p.whole, N.pair p.piece)) r.1) (map H.held r.2.now) (map H.held r.3.now))) }
+        (left_blocks N.WIDTH (option_map (λ p. (N.pair p.whole, N.pair p.piece)) at_hand)
+        (map H.held rest.entry.now) (map H.held cut.entry.now) ≡ [])
+        (λ r. All H.holds r.2.now × All H.holds r.3.now
+        × IsAtHand N.WIDTH (option_map (λ p. (N.pair p.whole, N.pair p.piece)) r.1)
+        (map H.held r.2.now) (map H.held r.3.now)
+        × (left_blocks N.WIDTH (option_map (λ p. (N.pair p.whole, N.pair p.piece)) at_hand)
+        (map H.held rest.entry.now) (map H.held cut.entry.now)
+        ≡ N.pair r.0 ∷ left_blocks N.WIDTH (option_map (λ p. (N.pair p.whole, N.pair p.piece)) r.1)
+        (map H.held r.2.now) (map H.held r.3.now))) }
 {
     laws::one_block();
     loop {
@@ -149,9 +161,12 @@ fn take_part<'a, N: AddressSpace, H: HoldsNetwork<N>>(
     rest: &'a [H],
 ) -> Option<(Part<N>, &'a [H])>
     requires { All H.holds rest.now }
-    ensures { MatchOption result (HasNoPart (option_map (λ p. (N.pair p.whole, N.pair p.piece)) at_hand) (map H.held rest.now))
+    ensures { MatchOption result
+        (HasNoPart (option_map (λ p. (N.pair p.whole, N.pair p.piece)) at_hand)
+        (map H.held rest.now))
         (λ r. All H.holds r.1.now
-        × TakesPart (option_map (λ p. (N.pair p.whole, N.pair p.piece)) at_hand) (map H.held rest.now) (N.pair r.0.whole, N.pair r.0.piece) (map H.held r.1.now)) }
+        × TakesPart (option_map (λ p. (N.pair p.whole, N.pair p.piece)) at_hand)
+        (map H.held rest.now) (N.pair r.0.whole, N.pair r.0.piece) (map H.held r.1.now)) }
 {
     match at_hand {
         Some(part) => Some((part, rest)),
@@ -171,7 +186,8 @@ fn take_part<'a, N: AddressSpace, H: HoldsNetwork<N>>(
 // The piece after this one, if the whole goes on after it.
 fn part_behind<N: AddressSpace>(whole: N, piece: N) -> Option<Part<N>>
     requires { IsPiece N.WIDTH (N.pair whole) (N.pair piece) }
-    ensures { IsNextPart N.WIDTH (N.pair whole) (N.pair piece) (option_map (λ p. (N.pair p.whole, N.pair p.piece)) result) }
+    ensures { IsNextPart N.WIDTH (N.pair whole) (N.pair piece)
+        (option_map (λ p. (N.pair p.whole, N.pair p.piece)) result) }
 {
     match piece_behind(whole, piece) {
         Some(piece) => Some(Part { whole, piece }),

@@ -24,8 +24,12 @@ impl<N: AddressSpace> AddressSet<N> {
         ranges: &[(N::Addr, N::Addr)],
         mut memory: Vec<N>,
     ) -> Result<Self, AllocError>
-        ensures set { IfOk result (λ set. IsLeastList N.WIDTH (InRanges (map (λ r. (N.number r.0, N.number r.1)) ranges.now)) set) }
-        ensures room { (blocks : List Network) → AreBlocksOf N.WIDTH (map (λ r. (N.number r.0, N.number r.1)) ranges.now) blocks → OnErr result (vec_capacity memory < length blocks) }
+        ensures set { IfOk result
+            (λ set. IsLeastList N.WIDTH
+            (InRanges (map (λ r. (N.number r.0, N.number r.1)) ranges.now)) set) }
+        ensures room { (blocks : List Network)
+            → AreBlocksOf N.WIDTH (map (λ r. (N.number r.0, N.number r.1)) ranges.now) blocks
+            → OnErr result (vec_capacity memory < length blocks) }
     {
         laws::ranges_are_shortest();
         memory.clear();
@@ -51,11 +55,16 @@ pub fn push_range<N: AddressSpace>(
     last: N::Addr,
 ) -> Result<(), AllocError>
     ensures address { N.number last < 2 ^ N.WIDTH }
-    ensures added { IfOk result (λ _. AddsLeastList N.WIDTH (FromTo (N.number first) (N.number last)) (map N.pair networks.old.items) (map N.pair networks.new.items)) }
+    ensures added { IfOk result
+        (λ _. AddsLeastList N.WIDTH (FromTo (N.number first) (N.number last))
+        (map N.pair networks.old.items) (map N.pair networks.new.items)) }
     ensures front { take (length networks.old.items) networks.new.items ≡ networks.old.items }
-    ensures part { AddsFirstOfLeastList N.WIDTH (FromTo (N.number first) (N.number last)) (map N.pair networks.old.items) (map N.pair networks.new.items) }
+    ensures part { AddsFirstOfLeastList N.WIDTH (FromTo (N.number first) (N.number last))
+        (map N.pair networks.old.items) (map N.pair networks.new.items) }
     ensures capacity { vec_capacity networks.old ≤ vec_capacity networks.new }
-    ensures room { (blocks : List Network) → IsLeastList N.WIDTH (FromTo (N.number first) (N.number last)) blocks → OnErr result (vec_capacity networks.old < vec_len networks.old + length blocks) }
+    ensures room { (blocks : List Network)
+        → IsLeastList N.WIDTH (FromTo (N.number first) (N.number last)) blocks
+        → OnErr result (vec_capacity networks.old < vec_len networks.old + length blocks) }
 {
     // The clause `address` of this call says that `last` is an address of the family.
     let _ = N::block(last, N::WIDTH);

@@ -11,7 +11,8 @@ pub(crate) fn split_held<'a, N: AddressSpace, H: HoldsNetwork<N>>(
 ) -> Option<(N, &'a [H])>
     requires { All H.holds list.now }
     ensures { MatchOption result (map H.held list.now ≡ [])
-        (λ r. (map H.held list.now ≡ N.pair r.0 ∷ map H.held r.1.now) × All H.holds r.1.now × (length r.1.now < length list.now)) }
+        (λ r. (map H.held list.now ≡ N.pair r.0 ∷ map H.held r.1.now) × All H.holds r.1.now
+        × (length r.1.now < length list.now)) }
 {
     let Some((first, others)) = list.split_first() else {
         return None;

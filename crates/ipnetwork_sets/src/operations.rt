@@ -78,8 +78,11 @@ impl<N: AddressSpace> AddressSet<N> {
     /// assert!(rt; set.union(&other, Vec::new(rt.alloc()))?.covers("192.0.2.0/24".parse()?));
     /// ```
     pub fn union(&self, other: &AddressSet<N>, memory: Vec<N>) -> Result<Self, AllocError>
-        ensures set { IfOk result (λ set. IsLeastList N.WIDTH (InEither N.WIDTH self.now other.now) set) }
-        ensures room { (blocks : List Network) → IsLeastList N.WIDTH (InEither N.WIDTH self.now other.now) blocks → OnErr result (vec_capacity memory < length blocks) }
+        ensures set { IfOk result
+            (λ set. IsLeastList N.WIDTH (InEither N.WIDTH self.now other.now) set) }
+        ensures room { (blocks : List Network)
+            → IsLeastList N.WIDTH (InEither N.WIDTH self.now other.now) blocks
+            → OnErr result (vec_capacity memory < length blocks) }
     {
         self.union_blocks(other).into_set(memory)
     }

@@ -22,9 +22,11 @@ pub(crate) fn first_free<'a, N: AddressSpace, H: HoldsNetwork<N>>(
     requires set { HoldSet N.WIDTH H.holds H.held cut.now }
     ensures set { HoldSet N.WIDTH H.holds H.held result.1.now }
     ensures free { MatchOption result.0
-        (Skips N.WIDTH (N.pair whole) (N.pair from).address (map H.held cut.now) (high N.WIDTH (N.pair whole) + 1) (map H.held result.1.now))
+        (Skips N.WIDTH (N.pair whole) (N.pair from).address (map H.held cut.now)
+        (high N.WIDTH (N.pair whole) + 1) (map H.held result.1.now))
         (λ piece. IsFree N.WIDTH (N.pair whole) (N.pair piece) (map H.held result.1.now)
-        × Skips N.WIDTH (N.pair whole) (N.pair from).address (map H.held cut.now) (N.pair piece).address (map H.held result.1.now)) }
+        × Skips N.WIDTH (N.pair whole) (N.pair from).address (map H.held cut.now)
+        (N.pair piece).address (map H.held result.1.now)) }
 {
     laws::one_block();
     let mut piece = from;
@@ -77,7 +79,8 @@ pub(crate) fn piece_behind<N: AddressSpace>(whole: N, piece: N) -> Option<N>
 fn lower_half<N: AddressSpace>(block: N) -> N
     requires shorter { (N.pair block).prefix < N.WIDTH }
     requires fits { (N.pair block).prefix < 255 }
-    ensures { N.pair result ≡ block_of N.WIDTH (record { address = (N.pair block).address; prefix = (N.pair block).prefix + 1 }) }
+    ensures { N.pair result ≡ block_of N.WIDTH
+        (record { address = (N.pair block).address; prefix = (N.pair block).prefix + 1 }) }
 {
     let Some(half) = N::block(block.ip(), block.prefix() + 1) else {
         unreachable!()

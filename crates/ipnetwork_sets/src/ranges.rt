@@ -80,7 +80,11 @@ impl<N: AddressSpace, B: SetBlocks<N>> Iterator for Ranges<N, B> {
 fn last_of_run<N: AddressSpace, B: SetBlocks<N>>(first: N, blocks: &mut B) -> (N, Option<N>)
     requires { IsAddressSet N.WIDTH (N.pair first ∷ B.left blocks.old) }
     ensures ahead { IsAhead N.WIDTH (option_map N.pair result.1) (B.left blocks.new) }
-    ensures run { runs N.WIDTH (N.pair first ∷ B.left blocks.old) ≡ (low N.WIDTH (N.pair first), high N.WIDTH (N.pair result.0)) ∷ runs_left N.WIDTH (option_map N.pair result.1) (B.left blocks.new) }
+    ensures run { runs N.WIDTH (N.pair first ∷ B.left blocks.old) ≡ (
+      low N.WIDTH (N.pair first),
+      high N.WIDTH (N.pair result.0),
+    ) ∷ runs_left N.WIDTH (option_map N.pair result.1)
+        (B.left blocks.new) }
 {
     laws::one_block();
     let mut last = first;

@@ -117,7 +117,8 @@ fn size_of_quarter(left: usize) -> usize
 // product with a single condition.
 fn times_if(first: bool, second: bool, third: bool, size: usize) -> usize
     requires { 3 * size < 2 ^ 64 }
-    ensures { result ≡ (if first then size else 0) + (if second then size else 0) + (if third then size else 0) }
+    ensures { result ≡ (if first then size else 0) + (if second then size else 0) + (if third
+        then size else 0) }
 {
     (one_if(first) + one_if(second) + one_if(third)) * size
 }

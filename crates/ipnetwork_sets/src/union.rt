@@ -40,10 +40,14 @@ impl<'a, N: AddressSpace, H: HoldsNetwork<N>> Model for Union<'a, N, H> {
 
     ghost Value = { List Network };
 
-    ghost view = { λ u. at_hand u.run ++ either_blocks N.WIDTH (map H.held u.first.now) (map H.held u.second.now) };
+    ghost view = { λ u. at_hand u.run ++ either_blocks N.WIDTH (map H.held u.first.now)
+        (map H.held u.second.now) };
 
-    ghost invariant = { λ u. HoldSet N.WIDTH H.holds H.held u.first.now × HoldSet N.WIDTH H.holds H.held u.second.now
-        × IsAddressSet N.WIDTH (at_hand u.run ++ either_blocks N.WIDTH (map H.held u.first.now) (map H.held u.second.now)) };
+    ghost invariant = { λ u. HoldSet N.WIDTH H.holds H.held u.first.now
+        × HoldSet N.WIDTH H.holds H.held u.second.now
+        × IsAddressSet N.WIDTH
+        (at_hand u.run ++ either_blocks N.WIDTH (map H.held u.first.now)
+        (map H.held u.second.now)) };
 }
 
 impl<'a, N: AddressSpace, H: HoldsNetwork<N>> Union<'a, N, H> {
@@ -58,7 +62,8 @@ impl<'a, N: AddressSpace, H: HoldsNetwork<N>> Union<'a, N, H> {
     pub fn of(first: &'a [H], second: &'a [H]) -> Self
         requires first { HoldSet N.WIDTH H.holds H.held first.now }
         requires second { HoldSet N.WIDTH H.holds H.held second.now }
-        ensures { IsLeastList N.WIDTH (InEither N.WIDTH (map H.held first.now) (map H.held second.now)) result }
+        ensures { IsLeastList N.WIDTH
+            (InEither N.WIDTH (map H.held first.now) (map H.held second.now)) result }
     {
         Union {
             run: None,
@@ -104,7 +109,8 @@ impl<'a, N: AddressSpace, H: HoldsNetwork<N>> Iterator for Union<'a, N, H> {
 
 // The next block of the run at hand, if it has one.
 fn next_at_hand<N: AddressSpace>(run: &mut Option<RangeBlocks<N>>) -> Option<N>
-    ensures { MatchOption result ((at_hand run.old ≡ []) × (at_hand run.new ≡ [])) (λ block. at_hand run.old ≡ N.pair block ∷ at_hand run.new) }
+    ensures { MatchOption result ((at_hand run.old ≡ []) × (at_hand run.new ≡ []))
+        (λ block. at_hand run.old ≡ N.pair block ∷ at_hand run.new) }
 {
     match run {
         Some(blocks) => blocks.next(),
@@ -123,7 +129,8 @@ fn next_run<'a, N: AddressSpace, H: HoldsNetwork<N>>(
     requires second { HoldSet N.WIDTH H.holds H.held second.now }
     ensures { MatchOption result ((map H.held first.now ≡ []) × (map H.held second.now ≡ []))
         (λ r. IsCidrBlock N.WIDTH (N.pair r.0)
-        × IsRun N.WIDTH (map H.held first.now) (map H.held second.now) (low N.WIDTH (N.pair r.0)) (N.number r.1) (map H.held r.2.now) (map H.held r.3.now)
+        × IsRun N.WIDTH (map H.held first.now) (map H.held second.now) (low N.WIDTH (N.pair r.0))
+        (N.number r.1) (map H.held r.2.now) (map H.held r.3.now)
         × All H.holds r.2.now × All H.holds r.3.now) }
 {
     laws::one_block();
@@ -155,7 +162,8 @@ fn take_next<'a, N: AddressSpace, H: HoldsNetwork<N>>(
 ) -> Option<(N, &'a [H])>
     requires { All H.holds blocks.now }
     ensures { MatchOption result (EndsAt N.WIDTH (N.number last) (map H.held blocks.now))
-        (λ r. (map H.held blocks.now ≡ N.pair r.0 ∷ map H.held r.1.now) × ((N.pair r.0).address ≤ N.number last + 1)
+        (λ r. (map H.held blocks.now ≡ N.pair r.0 ∷ map H.held r.1.now)
+        × ((N.pair r.0).address ≤ N.number last + 1)
         × All H.holds r.1.now × (length r.1.now < length blocks.now)) }
 {
     let Some((block, after)) = split_held::<N, H>(blocks) else {
@@ -176,7 +184,8 @@ fn take_first<'a, N: AddressSpace, H: HoldsNetwork<N>>(
     requires first { All H.holds first.now }
     requires second { All H.holds second.now }
     ensures { MatchOption result ((map H.held first.now ≡ []) × (map H.held second.now ≡ []))
-        (λ r. IsFirst (map H.held first.now) (map H.held second.now) (N.pair r.0) (map H.held r.1.now) (map H.held r.2.now)
+        (λ r. IsFirst (map H.held first.now) (map H.held second.now) (N.pair r.0)
+        (map H.held r.1.now) (map H.held r.2.now)
         × All H.holds r.1.now × All H.holds r.2.now) }
 {
     let Some(one) = split_held::<N, H>(first) else {

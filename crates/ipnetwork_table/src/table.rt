@@ -177,7 +177,8 @@ impl<N: CidrNetwork, V: Copy> PrefixTable<N, V> {
     /// ```
     pub fn insert(&mut self, net: N, value: V) -> Result<Option<V>, AllocError>
         ensures old { IfOk result (λ old. old ≡ map.get self.old (block_of N.WIDTH (N.pair net))) }
-        ensures set { OnOk result (self.new ≡ map.insert self.old (block_of N.WIDTH (N.pair net)) value) }
+        ensures set { OnOk result
+            (self.new ≡ map.insert self.old (block_of N.WIDTH (N.pair net)) value) }
         ensures absent { OnErr result (map.get self.old (block_of N.WIDTH (N.pair net)) ≡ None) }
         ensures unchanged { OnErr result (self.new ≡ self.old) }
     {

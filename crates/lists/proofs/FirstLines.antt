@@ -3,9 +3,9 @@ use Rattle.std.proofs.Common.{◌≡◌, ℕ, List, [], ◌++◌, ◌∙◌, sym
 use Rattle.std.specs.Prelude.{Option, None, Some}
 use Rattle.std.specs.Io.KnownBytes.{Consumes}
 use Rattle.std.specs.Str.Lines.{lines}
-use Rattle.line_engine.specs.Answers.{complete_part, IsBeginning}
-use Rattle.line_engine.specs.declared.fault.RunFault.TheVariants.{Read, InputTooLong}
-use Rattle.line_engine.proofs.Lines.{lines_from, pending_from, last_line, lines_split, lines-append, lines_complete}
+use Rattle.lines.specs.Parts.{complete_part, IsBeginning}
+use Rattle.lines.specs.declared.fault.RunFault.TheVariants.{Read, InputTooLong}
+use Rattle.lines.proofs.Lines.{lines_from, pending_from, last_line, lines_split, lines-append, lines_complete}
 use Rattle.lists.specs.Lists.{ReadLists, TakesLines}
 use Rattle.lists.specs.Stopped.{TakesBefore}
 

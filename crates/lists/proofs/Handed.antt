@@ -5,14 +5,14 @@ use Rattle.std.proofs.lemmas.Bool.{ltb-true, ltb-false}
 use Rattle.std.specs.Io.KnownBytes.{Consumes, Keeps, IsAtEnd}
 use Rattle.std.specs.Prelude.{Bool, Option, None, Some, nat_lt}
 use Rattle.std.specs.Str.Lines.{lines}
-use Rattle.line_engine.specs.Answers.{asked, complete_part}
-use Rattle.line_engine.specs.LineBuffers.{Buffered, waits, HasNoFeed, IsPending, AreFirst, IsFirstLine, Gives}
-use Rattle.line_engine.specs.declared.fault.RunFault.TheVariants.{Read, InputTooLong}
-use Rattle.line_engine.specs.declared.line_buffer.NextLine.TheVariants.{Line, TooLong, Ask, End}
-use Rattle.line_engine.specs.declared.line_end.LineEnd.{LineEnd}
-use Rattle.line_engine.proofs.FirstLines.{next_first, first_still, are_all}
-use Rattle.line_engine.proofs.HandingOut.{has_no}
-use Rattle.line_engine.proofs.Lines.{last_line, lines_last, first_are_complete}
+use Rattle.lines.specs.Parts.{asked, complete_part}
+use Rattle.lines.specs.LineBuffers.{Buffered, waits, HasNoFeed, IsPending, AreFirst, IsFirstLine, Gives}
+use Rattle.lines.specs.declared.fault.RunFault.TheVariants.{Read, InputTooLong}
+use Rattle.lines.specs.declared.line_buffer.NextLine.TheVariants.{Line, TooLong, Ask, End}
+use Rattle.lines.specs.declared.line_end.LineEnd.{LineEnd}
+use Rattle.lines.proofs.FirstLines.{next_first, first_still, are_all}
+use Rattle.lines.proofs.HandingOut.{has_no}
+use Rattle.lines.proofs.Lines.{last_line, lines_last, first_are_complete}
 use Rattle.lists.specs.Lists.{ReadLists, Takes, TakesLines}
 use Rattle.lists.specs.Private.Waiting.{TakesSome, HasNoLine, TakesWhole}
 use Rattle.lists.specs.Stopped.{TakesBefore}

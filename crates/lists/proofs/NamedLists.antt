@@ -3,9 +3,9 @@ use Rattle.std.proofs.Common.{◌≡◌, ◌<◌, ◌-◌, ◌^◌, [], ℕ, Lis
 use Rattle.std.specs.Prelude.{Option, None, Some, Result, Ok, Err, OnOk, IfErr}
 use Rattle.std.specs.Io.KnownBytes.{Consumes}
 use Rattle.std.specs.Str.Lines.{lines}
-use Rattle.line_engine.specs.Faults.{ended_by_read}
-use Rattle.line_engine.specs.declared.fault.RunFault.{RunFault}
-use Rattle.line_engine.specs.declared.fault.RunFault.TheVariants as faults
+use Rattle.lines.specs.Faults.{ended_by_read}
+use Rattle.lines.specs.declared.fault.RunFault.{RunFault}
+use Rattle.lines.specs.declared.fault.RunFault.TheVariants as faults
 use Rattle.lists.specs.Lists.{ReadLists, at_list, TakesLines}
 use Rattle.lists.specs.Stopped.{TakesBefore}
 use Rattle.lists.proofs.FirstLines.{first_taken, first_taken_of_too_many}

@@ -8,8 +8,8 @@ use Rattle.ipnetwork_addr.specs.declared.ip.IpAddr.{IpAddr}
 use Rattle.ipnetwork_addr.specs.declared.ip.IpAddr.TheVariants.{V4, V6}
 use Rattle.ipnetwork_family.specs.Network.{Network}
 use Rattle.ipnetwork_blocks.specs.Aggregate.{InUnion}
-use Rattle.line_engine.specs.Answers.{complete_part, IsBeginning}
-use Rattle.line_engine.specs.declared.fault.RunFault.TheVariants as runs
+use Rattle.lines.specs.Parts.{complete_part, IsBeginning}
+use Rattle.lines.specs.declared.fault.RunFault.TheVariants as runs
 use Rattle.lists.specs.Entries.{ReadsEntry}
 use Rattle.lists.specs.declared.entry.Entry.{Entry}
 use Rattle.lists.specs.declared.entry.Entry.TheVariants as entries

@@ -9,8 +9,8 @@ use Rattle.ipnetwork.specs.IpNetworks.{IsIpNetwork, IpMember}
 use Rattle.ipnetwork.specs.IpNetworkText.{NamesIpNetwork, ip_network_text}
 use Rattle.ipnetwork.specs.declared.ip_network.IpNetwork.{IpNetwork}
 use Rattle.ipnetwork_blocks.proofs.LeastLists.{contains_cons, contains_head, contains_tail, contains_nil}
-use Rattle.line_engine.proofs.BytesLemmas.{HasNo}
-use Rattle.line_engine.proofs.Lines.{lines_line}
+use Rattle.lines.proofs.BytesLemmas.{HasNo}
+use Rattle.lines.proofs.Lines.{lines_line}
 use Rattle.lists.specs.Entries.{ReadsEntry}
 use Rattle.lists.specs.Laws.{OneReading, NetworkTextsAreEntries}
 use Rattle.lists.specs.declared.entry.Entry.{Entry}

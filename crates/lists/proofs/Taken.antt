@@ -6,7 +6,7 @@ use Rattle.std.proofs.lemmas.Bool.{ltb-true, ltb-false}
 use Rattle.ipnetwork_addr.specs.declared.ip.IpAddr.{IpAddr}
 use Rattle.ipnetwork_addr.specs.declared.ip.IpAddr.TheVariants.{V4, V6}
 use Rattle.ipnetwork_blocks.proofs.LeastLists.{contains_cons, contains_head, contains_tail, contains_nil}
-use Rattle.line_engine.specs.Answers.{asked}
+use Rattle.lines.specs.Parts.{asked}
 use Rattle.lists.specs.Entries.{ReadsEntry}
 use Rattle.lists.specs.Laws.{OneReading}
 use Rattle.lists.specs.declared.entry.Entry.{Entry}

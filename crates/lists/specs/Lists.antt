@@ -6,7 +6,7 @@ use Rattle.ipnetwork_addr.specs.declared.ip.IpAddr.TheVariants.{V4, V6}
 use Rattle.ipnetwork_family.specs.Network.{Network}
 use Rattle.ipnetwork.specs.IpNetworks.{IpMember}
 use Rattle.ipnetwork_blocks.specs.Aggregate.{InUnion}
-use Rattle.line_engine.specs.Answers.{asked}
+use Rattle.lines.specs.Parts.{asked}
 use Rattle.lists.specs.Entries.{IsRange, ReadsEntry}
 use Rattle.lists.specs.declared.entry.Entry.{Entry}
 use Rattle.lists.specs.declared.entry.Entry.TheVariants as entries

@@ -2,9 +2,9 @@
 use Rattle.std.specs.Prelude.{ℕ, ◌-◌, ◌^◌, ◌<◌, List, length, Option}
 use Rattle.std.specs.Io.KnownBytes.{Consumes}
 use Rattle.std.specs.Str.Lines.{lines}
-use Rattle.line_engine.specs.Answers.{complete_part, IsBeginning}
-use Rattle.line_engine.specs.declared.fault.RunFault.{RunFault}
-use Rattle.line_engine.specs.declared.fault.RunFault.TheVariants.{Read, Write, InputTooLong}
+use Rattle.lines.specs.Parts.{complete_part, IsBeginning}
+use Rattle.lines.specs.declared.fault.RunFault.{RunFault}
+use Rattle.lines.specs.declared.fault.RunFault.TheVariants.{Read, Write, InputTooLong}
 use Rattle.lists.specs.Lists.{ReadLists, TakesLines}
 
 -- the lines that these bytes complete are taken, and no others

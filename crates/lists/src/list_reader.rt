@@ -23,8 +23,8 @@ use std::marker::Model;
 ///
 /// ```
 /// let mut lists = ListReader::new(rt.alloc(), Refusals::new());
-/// read_list(&mut lists, 1, &mut line_engine::watched::Watched::new(b"10.0.0.0/9\n::1".as_slice()))?;
-/// read_list(&mut lists, 2, &mut line_engine::watched::Watched::new(b"10.128.0.0/9".as_slice()))?;
+/// read_list(&mut lists, 1, &mut lines::watched::Watched::new(b"10.0.0.0/9\n::1".as_slice()))?;
+/// read_list(&mut lists, 2, &mut lines::watched::Watched::new(b"10.128.0.0/9".as_slice()))?;
 /// let (v4, v6, _) = lists.into_sets();
 /// assert_eq!(rt; v4.blocks(), ["10.0.0.0/8".parse()?].as_slice());
 /// assert_eq!(rt; v6.blocks(), ["::1/128".parse()?].as_slice());
@@ -88,7 +88,7 @@ impl ListReader {
     ///
     /// ```
     /// let mut lists = ListReader::new(rt.alloc(), Refusals::new());
-    /// read_list(&mut lists, 1, &mut line_engine::watched::Watched::new(b"10.0.0.0/8".as_slice()))?;
+    /// read_list(&mut lists, 1, &mut lines::watched::Watched::new(b"10.0.0.0/8".as_slice()))?;
     /// assert!(rt; !lists.is_out_of_memory());
     /// ```
     pub fn is_out_of_memory(&self) -> bool
@@ -101,7 +101,7 @@ impl ListReader {
     ///
     /// ```
     /// let mut lists = ListReader::new(rt.alloc(), Refusals::new());
-    /// read_list(&mut lists, 1, &mut line_engine::watched::Watched::new(b"192.0.2.4-192.0.2.7".as_slice()))?;
+    /// read_list(&mut lists, 1, &mut lines::watched::Watched::new(b"192.0.2.4-192.0.2.7".as_slice()))?;
     /// let (v4, _, refusals) = lists.into_sets();
     /// assert_eq!(rt; v4.blocks(), ["192.0.2.4/30".parse()?].as_slice());
     /// assert!(rt; refusals.is_empty());
@@ -121,7 +121,7 @@ impl ListReader {
     /// ```
     /// let mut lists = ListReader::new(rt.alloc(), Refusals::new());
     /// let list = b"10.0.0.0/8\n192.0.2.7 - 192.0.2.8\n10.1.0.0/16".as_slice();
-    /// read_list(&mut lists, 1, &mut line_engine::watched::Watched::new(list))?;
+    /// read_list(&mut lists, 1, &mut lines::watched::Watched::new(list))?;
     /// let (v4, _, _) = lists.into_networks();
     /// assert_eq!(rt; v4.len(), 4);
     /// assert_eq!(rt; v4[1], "192.0.2.7/32".parse()?);

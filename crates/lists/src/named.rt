@@ -8,8 +8,8 @@ ghost use Rattle.lists.specs.Reading.{ReadsList, StopsAt, StopsAtText};
 use crate::list_reader::ListReader;
 use crate::open_lists::OpenLists;
 use crate::read::{read_list, take_text};
-use line_engine::fault::RunFault;
-use line_engine::watched::Watched;
+use lines::fault::RunFault;
+use lines::watched::Watched;
 
 /// Why lists were not read to the end.
 ///

@@ -45,7 +45,8 @@ impl<N: AddressSpace> Networks<N> {
     /// Adds the blocks of the addresses from `first` to `last`.
     pub(crate) fn push_range(&mut self, first: N::Addr, last: N::Addr) -> Result<(), AllocError>
         requires { N.number first ≤ N.number last }
-        ensures pushed { OnOk result (AddsBlocks N.WIDTH (N.number first) (N.number last) self.old self.new) }
+        ensures pushed { OnOk result
+            (AddsBlocks N.WIDTH (N.number first) (N.number last) self.old self.new) }
         ensures address { N.number last < 2 ^ N.WIDTH }
     {
         // The clause `address` of this call says that `last` is an address of the family.

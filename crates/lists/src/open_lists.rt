@@ -1,9 +1,9 @@
 //! Where lists come from.
 ghost use Rattle.std.specs.Prelude.{◌≡◌, ℕ, IsTrue, List as Bytes, Some, IfOk, is_ok};
-ghost use Rattle.line_engine.specs.Watched.{has_failed};
+ghost use Rattle.lines.specs.Watched.{has_failed};
 ghost use Rattle.lists.specs.KnownLists.{KnownLists, nothing_known};
 
-use line_engine::watched::Watched;
+use lines::watched::Watched;
 use std::io;
 use std::io::Read;
 
@@ -34,13 +34,15 @@ pub trait OpenLists {
     /// assert!(rt; system.open("no such file").is_err());
     /// ```
     fn open(&self, name: &str) -> io::Result<Self::List>
-        ensures bytes { IfOk result (λ list. (bytes : Bytes ℕ) → (known self.now).bytes_of name.now ≡ Some bytes → Self.List.remaining list ≡ Some bytes) }
+        ensures bytes { IfOk result (λ list. (bytes : Bytes ℕ)
+            → (known self.now).bytes_of name.now ≡ Some bytes
+            → Self.List.remaining list ≡ Some bytes) }
         ensures opened { (known self.now).may_open name.now (is_ok result) };
 
     /// Closes the list of this name. The contract records whether a read of it failed.
     ///
     /// ```
-    /// use line_engine::watched::Watched;
+    /// use lines::watched::Watched;
     /// use lists::OpenLists;
     ///
     /// let system = program::system::System::new(&rt);

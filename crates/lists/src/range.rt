@@ -22,7 +22,8 @@ pub(crate) fn read_range(before: &[u8], after: &[u8]) -> Result<Entry, EntryFaul
 
 /// The range from one address to another.
 fn between(first: IpAddr, last: IpAddr) -> Result<Entry, EntryFault>
-    ensures { MatchResult result (λ entry. (entry ≡ Entry.Range first last) × IsRange first last) (λ fault. (fault ≡ EntryFault.Range) × ¬ (IsRange first last)) }
+    ensures { MatchResult result (λ entry. (entry ≡ Entry.Range first last) × IsRange first last)
+        (λ fault. (fault ≡ EntryFault.Range) × ¬ (IsRange first last)) }
 {
     if !is_range(&first, &last) {
         return Err(EntryFault::Range);

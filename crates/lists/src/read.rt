@@ -1,18 +1,18 @@
 //! Reads lists.
 ghost use Rattle.std.specs.Prelude.{◌≡◌, ◌||◌, ℕ, List, Some, OnOk, IfErr};
 ghost use Rattle.std.specs.Str.Lines.{lines};
-ghost use Rattle.line_engine.specs.Answers.{asked};
-ghost use Rattle.line_engine.specs.LineBuffers.{IsPending};
-ghost use Rattle.line_engine.specs.Faults.{ended_by_read};
-ghost use Rattle.line_engine.specs.Watched.{device_of, has_failed};
+ghost use Rattle.lines.specs.Parts.{asked};
+ghost use Rattle.lines.specs.LineBuffers.{IsPending};
+ghost use Rattle.lines.specs.Faults.{ended_by_read};
+ghost use Rattle.lines.specs.Watched.{device_of, has_failed};
 ghost use Rattle.lists.specs.Lists.{at_list, Takes, TakesLines};
 ghost use Rattle.lists.specs.Private.Waiting.{TakesWhole};
 ghost use Rattle.lists.specs.Stopped.{TakesBefore};
 
 use crate::list_reader::ListReader;
-use line_engine::fault::RunFault;
-use line_engine::line_buffer::{LineBuffer, NextLine};
-use line_engine::watched::Watched;
+use lines::fault::RunFault;
+use lines::line_buffer::{LineBuffer, NextLine};
+use lines::watched::Watched;
 use std::io::Read;
 
 /// The most bytes of a line, not counting its line end.
@@ -20,7 +20,7 @@ use std::io::Read;
 /// ```
 /// let line = [b'#'].repeat(rt.alloc(), LINE_MAX + 1)?;
 /// let mut lists = ListReader::new(rt.alloc(), Refusals::new());
-/// read_list(&mut lists, 1, &mut line_engine::watched::Watched::new(line.as_slice()))?;
+/// read_list(&mut lists, 1, &mut lines::watched::Watched::new(line.as_slice()))?;
 /// assert_eq!(rt; lists.into_sets().2.kept()[0].fault, LineFault::Length);
 /// ```
 pub const LINE_MAX: usize = 1024;
@@ -37,7 +37,7 @@ const BUFFER_MAX: usize = 65536;
 /// ```
 /// let mut lists = ListReader::new(rt.alloc(), Refusals::new());
 /// let list = b"# private\n10.0.0.0/8\n10.0.0.0/33\n".as_slice();
-/// read_list(&mut lists, 1, &mut line_engine::watched::Watched::new(list))?;
+/// read_list(&mut lists, 1, &mut lines::watched::Watched::new(list))?;
 /// let (v4, _, refusals) = lists.into_sets();
 /// assert_eq!(rt; v4.blocks(), ["10.0.0.0/8".parse()?].as_slice());
 /// assert_eq!(rt; refusals.kept()[0].line, 3);

@@ -6,7 +6,7 @@ use Rattle.std.specs.String.{string_bytes}
 use Rattle.std.specs.Str.Lines.{lines}
 use Rattle.lists.specs.Lists.{ReadLists, at_list, TakesLines}
 use Rattle.lists.specs.Refusals.{Refused}
-use Rattle.line_engine.specs.declared.fault.RunFault.TheVariants as faults
+use Rattle.lines.specs.declared.fault.RunFault.TheVariants as faults
 use Rattle.lists.specs.KnownLists.{KnownLists}
 use Rattle.lists.specs.Private.Readings.{end_of}
 use Rattle.lists.specs.Reading.{ReadsList, StopsAt, StopsAtText}

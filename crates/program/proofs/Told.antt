@@ -5,8 +5,8 @@ use Rattle.std.specs.List.{flat_map}
 use Rattle.std.specs.String.{string_bytes}
 use Rattle.std.proofs.lemmas.Grind.{flat_map-append}
 use Rattle.std.proofs.lemmas.Bool.Decides.{nat_tests}
-use Rattle.line_engine.specs.Outputs.{Written}
-use Rattle.line_engine.proofs.Putting.{puts_more, puts_nothing}
+use Rattle.lines.specs.Outputs.{Written}
+use Rattle.lines.proofs.Putting.{puts_more, puts_nothing}
 use Rattle.program.specs.Messages.{Tells}
 use Rattle.program.specs.Told.{name_at, more_text}
 

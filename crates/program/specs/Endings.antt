@@ -1,6 +1,6 @@
 -- How a program ends.
 use Rattle.std.specs.Prelude.{◌≡◌, ℕ, List, [], codes, Bool, if◌then◌else◌, Result, is_err}
-use Rattle.line_engine.specs.Outputs.{Written, Writes}
+use Rattle.lines.specs.Outputs.{Written, Writes}
 use Rattle.program.specs.Messages.{Tells}
 
 -- the exit status of a program: this one if its output was written, and 2 if not

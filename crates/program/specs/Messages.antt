@@ -1,6 +1,6 @@
 -- Messages on an error writer.
 use Rattle.std.specs.Prelude.{ℕ, IsTrue, IsFalse, List}
-use Rattle.line_engine.specs.Outputs.{Written, Prints}
+use Rattle.lines.specs.Outputs.{Written, Prints}
 
 -- the text was added to what the writer gets, unless the writer has failed; a writer that had failed before still has
 pub record Tells {W : Type 0} (old new : Written W) (text : List ℕ) : Type 0 where

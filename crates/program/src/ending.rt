@@ -1,13 +1,13 @@
 //! How a program ends: its exit status, and what it reports on the error writer.
 ghost use Rattle.std.specs.Prelude.{◌≡◌, ◌++◌, OnOk, is_err};
 ghost use Rattle.std.specs.Io.KnownBytes.{Appends};
-ghost use Rattle.line_engine.specs.Outputs.{Writes};
+ghost use Rattle.lines.specs.Outputs.{Writes};
 ghost use Rattle.program.specs.Endings.{ending, status_of, end_text, EndsPrinting};
 ghost use Rattle.program.specs.Messages.{Tells};
 
 use crate::messages::tell;
-use line_engine::fault::RunFault;
-use line_engine::output::Output;
+use lines::fault::RunFault;
+use lines::output::Output;
 use std::io::Write;
 
 /// The exit status of a program that could not do what it was asked.
@@ -21,9 +21,9 @@ pub const FAILED: u8 = 2;
 ///
 /// ```
 /// let mut slice = [0; 64];
-/// let mut errors = line_engine::output::Output::new(Vec::new(rt.alloc()), &mut slice);
+/// let mut errors = lines::output::Output::new(Vec::new(rt.alloc()), &mut slice);
 /// assert_eq!(rt; program::ending::end(Ok(()), 1, &mut errors), 1);
-/// assert_eq!(rt; program::ending::end(Err(line_engine::fault::RunFault::Write), 1, &mut errors), 2);
+/// assert_eq!(rt; program::ending::end(Err(lines::fault::RunFault::Write), 1, &mut errors), 2);
 /// ```
 pub fn end<E: Write>(written: Result<(), RunFault>, status: u8, errors: &mut Output<'_, E>) -> u8
     ensures status { result ≡ status_of written status }
@@ -42,8 +42,8 @@ pub fn end<E: Write>(written: Result<(), RunFault>, status: u8, errors: &mut Out
 ///
 /// ```
 /// let (slice, error_slice) = (&mut [0; 64], &mut [0; 64]);
-/// let mut output = line_engine::output::Output::new(Vec::new(rt.alloc()), slice);
-/// let mut errors = line_engine::output::Output::new(Vec::new(rt.alloc()), error_slice);
+/// let mut output = lines::output::Output::new(Vec::new(rt.alloc()), slice);
+/// let mut errors = lines::output::Output::new(Vec::new(rt.alloc()), error_slice);
 /// assert_eq!(rt; program::ending::print_text("sum 1\n", &mut output, &mut errors), 0);
 /// ```
 pub fn print_text<W: Write, E: Write>(

@@ -4,14 +4,14 @@ ghost use Rattle.program.specs.Messages.{Tells};
 
 use arrayvec::ArrayString;
 use ipnetwork_addr::decimal::push_number;
-use line_engine::output::Output;
+use lines::output::Output;
 use std::io::Write;
 
 /// Writes a text to the error writer. If that fails, now or earlier, the text is lost, and nothing else happens.
 ///
 /// ```
 /// let mut slice = [0; 64];
-/// let mut errors = line_engine::output::Output::new(Vec::new(rt.alloc()), &mut slice);
+/// let mut errors = lines::output::Output::new(Vec::new(rt.alloc()), &mut slice);
 /// program::messages::tell("out of memory\n", &mut errors);
 /// assert_eq!(rt; errors.finish(), Ok(()));
 /// ```
@@ -25,7 +25,7 @@ pub fn tell<E: Write>(text: &str, errors: &mut Output<'_, E>)
 ///
 /// ```
 /// let mut slice = [0; 64];
-/// let mut errors = line_engine::output::Output::new(Vec::new(rt.alloc()), &mut slice);
+/// let mut errors = lines::output::Output::new(Vec::new(rt.alloc()), &mut slice);
 /// program::messages::tell_number(1024, &mut errors);
 /// assert_eq!(rt; errors.finish(), Ok(()));
 /// ```

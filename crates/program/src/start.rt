@@ -6,7 +6,7 @@ use crate::arguments::arguments;
 use crate::system::System;
 use crate::usage::refuse_arguments;
 use crate::words::is_only;
-use line_engine::output::Output;
+use lines::output::Output;
 use std::io::{Stderr, Stdout};
 use std::process::ExitCode;
 

@@ -1,8 +1,8 @@
 //! The files of the system.
 ghost use Rattle.std.specs.Prelude.{IsTrue};
-ghost use Rattle.line_engine.specs.Watched.{has_failed};
+ghost use Rattle.lines.specs.Watched.{has_failed};
 
-use line_engine::watched::Watched;
+use lines::watched::Watched;
 use lists::OpenLists;
 use std::fs::File;
 use std::io::{Read, Stdin};

@@ -5,7 +5,7 @@ ghost use Rattle.program.specs.Told.{name_at, refusal_line, refusals_text, more_
 
 use crate::messages::{tell, tell_number};
 use crate::words::text_at;
-use line_engine::output::Output;
+use lines::output::Output;
 use lists::{ReadFault, Refusal, Refusals};
 use std::io::Write;
 
@@ -57,7 +57,7 @@ impl Places for InLists {
 /// use program::telling::{InLists, tell_refusals};
 ///
 /// let mut slice = [0; 64];
-/// let mut errors = line_engine::output::Output::new(Vec::new(rt.alloc()), &mut slice);
+/// let mut errors = lines::output::Output::new(Vec::new(rt.alloc()), &mut slice);
 /// tell_refusals(&[], &InLists, &Refusals::new(), &mut errors);
 /// assert_eq!(rt; errors.finish(), Ok(()));
 /// ```
@@ -100,7 +100,7 @@ fn tell_refusal<P: Places, E: Write>(
 ///
 /// ```
 /// let mut slice = [0; 64];
-/// let mut errors = line_engine::output::Output::new(Vec::new(rt.alloc()), &mut slice);
+/// let mut errors = lines::output::Output::new(Vec::new(rt.alloc()), &mut slice);
 /// program::telling::tell_name(&[], 0, &mut errors);
 /// assert_eq!(rt; errors.finish(), Ok(()));
 /// ```
@@ -114,7 +114,7 @@ pub fn tell_name<E: Write>(words: &[String], place: usize, errors: &mut Output<'
 ///
 /// ```
 /// let mut slice = [0; 64];
-/// let mut errors = line_engine::output::Output::new(Vec::new(rt.alloc()), &mut slice);
+/// let mut errors = lines::output::Output::new(Vec::new(rt.alloc()), &mut slice);
 /// program::telling::tell_more(3, &mut errors);
 /// assert_eq!(rt; errors.finish(), Ok(()));
 /// ```
@@ -131,7 +131,7 @@ pub fn tell_more<E: Write>(more: u64, errors: &mut Output<'_, E>)
 ///
 /// ```
 /// let mut slice = [0; 64];
-/// let mut errors = line_engine::output::Output::new(Vec::new(rt.alloc()), &mut slice);
+/// let mut errors = lines::output::Output::new(Vec::new(rt.alloc()), &mut slice);
 /// program::telling::tell_fault(&[], lists::ReadFault::OutOfMemory, &mut errors);
 /// assert_eq!(rt; errors.finish(), Ok(()));
 /// ```

@@ -8,7 +8,7 @@ use crate::arguments::ArgumentsFault;
 use crate::ending::FAILED;
 use crate::messages::tell;
 use crate::words::text_at;
-use line_engine::output::Output;
+use lines::output::Output;
 use std::io::Write;
 
 /// Which words of a command line a fault is about.
@@ -42,7 +42,7 @@ pub enum Subject {
 /// use program::usage::{Subject, refuse_usage};
 ///
 /// let mut slice = [0; 64];
-/// let mut errors = line_engine::output::Output::new(Vec::new(rt.alloc()), &mut slice);
+/// let mut errors = lines::output::Output::new(Vec::new(rt.alloc()), &mut slice);
 /// let (usage, nothing) = ("usage: sum FILE\n", Subject::CommandLine);
 /// assert_eq!(rt; refuse_usage("sum", usage, &[], nothing, "no FILE", &mut errors), 2);
 /// ```
@@ -107,7 +107,7 @@ fn shown(word: &str) -> &str
 /// use program::usage::refuse_arguments;
 ///
 /// let mut slice = [0; 64];
-/// let mut errors = line_engine::output::Output::new(Vec::new(rt.alloc()), &mut slice);
+/// let mut errors = lines::output::Output::new(Vec::new(rt.alloc()), &mut slice);
 /// let fault = ArgumentsFault::OutOfMemory;
 /// assert_eq!(rt; refuse_arguments(fault, "sum", "usage: sum FILE\n", &mut errors), 2);
 /// ```

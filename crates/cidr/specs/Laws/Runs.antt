@@ -1,7 +1,7 @@
 -- The laws of runs: what a caller may conclude from how one ended.
 use Rattle.std.specs.Prelude.{◌≡◌, ℕ, ◌<◌, ◌≤◌, List, ◌++◌, length, take, Option, Some, Ok, Err}
-use Rattle.line_engine.specs.Answers.{complete_part}
-use Rattle.line_engine.specs.declared.fault.RunFault.TheVariants.{Read, Write, InputTooLong}
+use Rattle.lines.specs.Parts.{complete_part}
+use Rattle.lines.specs.declared.fault.RunFault.TheVariants.{Read, Write, InputTooLong}
 use Rattle.cidr.specs.Output.{IsOutput}
 use Rattle.cidr.specs.Run.{Ran, BeginsOutput}
 

@@ -1,8 +1,8 @@
 -- How far a run has come.
 use Rattle.std.specs.Prelude.{◌≡◌, ℕ, ◌+◌, true, List, [], ◌++◌, length, Option}
 use Rattle.std.specs.Io.KnownBytes.{Consumes, IsAtEnd}
-use Rattle.line_engine.specs.LineBuffers.{Buffered, IsPending, AreFirst}
-use Rattle.line_engine.specs.Outputs.{AppendsBeginning, Puts}
+use Rattle.lines.specs.LineBuffers.{Buffered, IsPending, AreFirst}
+use Rattle.lines.specs.Outputs.{AppendsBeginning, Puts}
 use Rattle.cidr.specs.declared.answering.Answering.{Answering}
 use Rattle.cidr.specs.Output.{MayGet, MayAnswer, replies}
 use Rattle.cidr.specs.Private.Routes.{routes_of}

@@ -1,7 +1,7 @@
 -- What contracts see of the replies that wait.
 use Rattle.std.specs.Prelude.{ℕ, List}
-use Rattle.line_engine.specs.Buffers as engine
-use Rattle.line_engine.specs.Buffers.{Filled}
+use Rattle.lines.specs.Buffers as engine
+use Rattle.lines.specs.Buffers.{Filled}
 use Rattle.cidr.specs.declared.replies.TheConstants.{ANSWER_MAX}
 use Rattle.cidr.specs.Output.{MayGet, reply}
 use Rattle.cidr.specs.Requests.{Request}

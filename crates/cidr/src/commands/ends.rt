@@ -8,7 +8,7 @@ use crate::commands::REFUSED;
 use crate::replies::{ANSWER_MAX, Answer, reply};
 use ipnetwork::decimal::push_number;
 use ipnetwork::{IpNetwork, laws};
-use line_engine::buffer::Buffer;
+use lines::buffer::Buffer;
 
 /// `ends`: the ends of a network, its mask and its size.
 pub(crate) fn ends(word: &[u8], replies: &mut Buffer<'_>)

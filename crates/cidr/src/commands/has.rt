@@ -4,7 +4,7 @@ ghost use Rattle.cidr.specs.Private.Replies.{HasRoom, Adds};
 
 use crate::replies::reply;
 use ipnetwork::{IpAddr, IpNetwork, Ipv4Addr, Ipv4Network, laws};
-use line_engine::buffer::Buffer;
+use lines::buffer::Buffer;
 
 /// The answers if a text names no network, or no address.
 const NO_NETWORK: &str = "refused network";

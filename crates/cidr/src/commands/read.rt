@@ -6,7 +6,7 @@ ghost use Rattle.cidr.specs.Private.Replies.{HasRoom, Adds};
 use crate::commands::REFUSED;
 use crate::replies::reply;
 use ipnetwork::{CidrFault, IpNetwork, Ipv4Network, Ipv6Network, laws};
-use line_engine::buffer::Buffer;
+use lines::buffer::Buffer;
 
 /// `read`: the canonical text of a network of either family.
 pub(crate) fn read(word: &[u8], replies: &mut Buffer<'_>)

@@ -6,7 +6,7 @@ ghost use Rattle.cidr.specs.Private.Replies.{HasRoom, Adds};
 use crate::commands::REFUSED;
 use crate::replies::reply;
 use ipnetwork::{IpNetwork, laws};
-use line_engine::buffer::Buffer;
+use lines::buffer::Buffer;
 
 /// `rel`: how the sets of two networks relate to each other.
 pub(crate) fn rel(first: &[u8], second: &[u8], replies: &mut Buffer<'_>)

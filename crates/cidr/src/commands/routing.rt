@@ -14,7 +14,7 @@ use crate::route_tables::RouteTables;
 use ipnetwork::decimal::push_number;
 use ipnetwork::parse::read_number;
 use ipnetwork::{IpAddr, IpNetwork, laws};
-use line_engine::buffer::Buffer;
+use lines::buffer::Buffer;
 
 /// The answer if no block holds the address.
 const NONE: &str = "none";
@@ -26,7 +26,8 @@ const NONE: &str = "none";
 #[inline(never)]
 pub(crate) fn add(network: &[u8], number: &[u8], routes: &mut RouteTables, replies: &mut Buffer<'_>)
     requires { HasRoom replies.old }
-    ensures { RepliesTo (routes_of routes.old) (adding (ip_network_of network.now) (route_number_of number.now))
+    ensures { RepliesTo (routes_of routes.old)
+        (adding (ip_network_of network.now) (route_number_of number.now))
         replies.old replies.new (routes_of routes.new) }
 {
     // Does nothing: the proof of this body needs the laws.
@@ -45,7 +46,8 @@ pub(crate) fn add(network: &[u8], number: &[u8], routes: &mut RouteTables, repli
 
 /// Gives the block of a network a number, and returns the answer: whether it had one.
 fn insert(network: IpNetwork, number: u32, routes: &mut RouteTables) -> &'static str
-    ensures text { MayGet (routes_of routes.old) (Add network number) result.now (routes_of routes.new) }
+    ensures text { MayGet (routes_of routes.old) (Add network number) result.now
+        (routes_of routes.new) }
     ensures short { length result.now ≤ 15 }
 {
     match routes.insert(network, number) {
@@ -59,7 +61,8 @@ fn insert(network: IpNetwork, number: u32, routes: &mut RouteTables) -> &'static
 #[inline(never)]
 pub(crate) fn drop(network: &[u8], routes: &mut RouteTables, replies: &mut Buffer<'_>)
     requires { HasRoom replies.old }
-    ensures { RepliesTo (routes_of routes.old) (dropping (ip_network_of network.now)) replies.old replies.new (routes_of routes.new) }
+    ensures { RepliesTo (routes_of routes.old)
+        (dropping (ip_network_of network.now)) replies.old replies.new (routes_of routes.new) }
 {
     // Does nothing: the proof of this body needs the law.
     laws::ip_network_reading_is_computed();
@@ -85,7 +88,8 @@ fn remove(network: IpNetwork, routes: &mut RouteTables) -> &'static str
 #[inline(never)]
 pub(crate) fn find(address: &[u8], routes: &RouteTables, replies: &mut Buffer<'_>)
     requires { HasRoom replies.old }
-    ensures { RepliesTo (routes_of routes.now) (finding (ip_of address.now)) replies.old replies.new (routes_of routes.now) }
+    ensures { RepliesTo (routes_of routes.now)
+        (finding (ip_of address.now)) replies.old replies.new (routes_of routes.now) }
 {
     // Does nothing: the proof of this body needs the law.
     laws::ip_reading_is_computed();

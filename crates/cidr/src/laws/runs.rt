@@ -2,7 +2,7 @@
 ghost use Rattle.std.specs.Prelude.{◌≡◌, ◌↔◌, IsTrue, Ok, Result};
 ghost use Rattle.cidr.specs.Laws.Runs.{AfterOk, AfterReadFault, AfterWriteFault, AfterTooLong};
 
-use line_engine::fault::RunFault;
+use lines::fault::RunFault;
 use std::alloc::AllocError;
 
 /// After Ok the input was within the limit, and an output of it was written.

@@ -1,6 +1,6 @@
 -- How the logs of a run are filtered, step by step.
 use Rattle.std.specs.Prelude.{◌≡◌, ℕ, ◌⊎◌, Bool, List, []}
-use Rattle.line_engine.specs.Outputs.{Puts}
+use Rattle.lines.specs.Outputs.{Puts}
 use Rattle.lists.specs.KnownLists.{KnownLists}
 use Rattle.cidr_filter.specs.Logs.{FiltersLogs}
 use Rattle.program.specs.Endings.{Ending, HasTold, HasWritten}

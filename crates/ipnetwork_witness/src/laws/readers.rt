@@ -18,7 +18,8 @@ use ipnetwork_addr::laws as addresses;
 /// the same bits or two errors.
 pub fn v4_readers_agree()
     ensures { (text : List ℕ)
-        (ours : Result ℕ error.AddrParseError) (theirs : Result std_v4.Ipv4Addr std_error.AddrParseError)
+        (ours : Result ℕ error.AddrParseError)
+        (theirs : Result std_v4.Ipv4Addr std_error.AddrParseError)
         → Reads NamesV4 kinds.Ipv4 text ours → Parses IsIpv4Text text theirs
         → Agree SameV4 ours theirs }
 {
@@ -30,7 +31,8 @@ pub fn v4_readers_agree()
 /// the same bits or two errors.
 pub fn v6_readers_agree()
     ensures { (text : List ℕ)
-        (ours : Result ℕ error.AddrParseError) (theirs : Result std_v6.Ipv6Addr std_error.AddrParseError)
+        (ours : Result ℕ error.AddrParseError)
+        (theirs : Result std_v6.Ipv6Addr std_error.AddrParseError)
         → Reads NamesV6 kinds.Ipv6 text ours → Parses IsIpv6Text text theirs
         → Agree SameV6 ours theirs }
 {

@@ -1,6 +1,6 @@
 -- How the reading of a list ends.
 use Rattle.std.specs.Prelude.{ℕ, Bool, Result, Ok, Err, if◌then◌else◌}
-use Rattle.line_engine.specs.declared.fault.RunFault.{RunFault}
+use Rattle.lines.specs.declared.fault.RunFault.{RunFault}
 use Rattle.lists.specs.declared.named.ReadFault.{ReadFault}
 use Rattle.lists.specs.declared.named.ReadFault.TheVariants.{Read, OutOfMemory}
 

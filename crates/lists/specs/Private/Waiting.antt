@@ -1,6 +1,6 @@
 -- How far the lines of a list were taken.
 use Rattle.std.specs.Prelude.{◌≡◌, ℕ, Bool, true, false, List, []}
-use Rattle.line_engine.specs.LineBuffers.{Buffered, waits, HasNoFeed, IsPending, AreFirst}
+use Rattle.lines.specs.LineBuffers.{Buffered, waits, HasNoFeed, IsPending, AreFirst}
 use Rattle.lists.specs.Lists.{ReadLists, TakesLines}
 
 -- the first lines of what was pending were taken

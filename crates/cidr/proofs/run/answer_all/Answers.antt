@@ -1,6 +1,6 @@
 use Rattle.std.proofs.Common.{◌-◌, ◌∙◌, length, ap, refl, sym, arith, rules}
 use Rattle.std.proofs.lemmas.Result.{err_from_is_err_and}
-use Rattle.line_engine.proofs.Writes.{still_works}
+use Rattle.lines.proofs.Writes.{still_works}
 use Rattle.cidr.proofs.Runs.{begins, after_line, after_long, before_asking, after_asking, less_to_read, read_failed, too_long, line_failed, long_failed, writing_failed, finished}
 use Rattle.cidr.proofs.run.answer_all.Goals as goal
 

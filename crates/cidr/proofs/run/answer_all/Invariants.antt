@@ -1,6 +1,6 @@
 use Rattle.std.proofs.Common.{◌≡◌, ◌+◌, ◌*◌, ◌≤◌, length, if◌then◌else◌}
-use Rattle.line_engine.specs.LineBuffers.{work}
-use Rattle.line_engine.specs.Watched.{device_of, has_failed}
+use Rattle.lines.specs.LineBuffers.{work}
+use Rattle.lines.specs.Watched.{device_of, has_failed}
 use Rattle.cidr.specs.Private.Progress.{standing, begun, RunSoFar}
 use Rattle.cidr.specs.declared.replies.TheConstants.{ANSWER_MAX}
 use Rattle.cidr.proofs.run.answer_all.Given as goal

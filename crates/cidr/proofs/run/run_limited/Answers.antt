@@ -1,5 +1,5 @@
 use Rattle.std.proofs.Common.{◌∙◌, sym}
-use Rattle.line_engine.specs.Watched.{has_failed}
+use Rattle.lines.specs.Watched.{has_failed}
 use Rattle.cidr.proofs.Runs.{reader_had_failed, writer_had_failed}
 use Rattle.cidr.proofs.Succeeds.{ran_output, ran_succeeds}
 use Rattle.cidr.proofs.run.run_limited.Goals as goal

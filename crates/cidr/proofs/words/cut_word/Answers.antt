@@ -1,4 +1,4 @@
-use Rattle.line_engine.proofs.BytesLemmas.{none_behind}
+use Rattle.lines.proofs.BytesLemmas.{none_behind}
 use Rattle.cidr.proofs.Cuts.{cut_behind, no_cut}
 use Rattle.cidr.proofs.words.cut_word.Goals as goal
 

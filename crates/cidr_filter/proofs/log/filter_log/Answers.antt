@@ -1,7 +1,7 @@
 use Rattle.std.proofs.Common.{◌-◌, ◌∙◌, length, ap, refl, sym, arith}
-use Rattle.line_engine.specs.Watched.{has_failed}
-use Rattle.line_engine.proofs.Putting.{puts_nothing}
-use Rattle.line_engine.proofs.Writes.{still_works}
+use Rattle.lines.specs.Watched.{has_failed}
+use Rattle.lines.proofs.Putting.{puts_nothing}
+use Rattle.lines.proofs.Writes.{still_works}
 use Rattle.cidr_filter.proofs.Filtering.{counts_none, goes_out, begins, after_line, after_long, before_asking, after_asking, less_to_hand, less_to_read}
 use Rattle.cidr_filter.proofs.Stopping.{failed_now, line_stops, long_line_stops, log_ends, writing_stops, read_stops, endless_stops, long_stops}
 use Rattle.cidr_filter.proofs.log.filter_log.Goals as goal

@@ -1,5 +1,5 @@
 use Rattle.std.proofs.Common.{◌≡◌, length}
-use Rattle.line_engine.specs.Watched.{device_of, has_failed}
+use Rattle.lines.specs.Watched.{device_of, has_failed}
 use Rattle.cidr_filter.specs.Private.Progress.{FiltersSoFar}
 use Rattle.cidr_filter.specs.Stands.{stand}
 use Rattle.cidr_filter.proofs.Filtering.{to_do}

@@ -1,5 +1,5 @@
 use Rattle.std.proofs.Common.{◌∙◌, ap, refl}
-use Rattle.line_engine.specs.Watched.{device_of, has_failed}
+use Rattle.lines.specs.Watched.{device_of, has_failed}
 use Rattle.program.specs.Endings.{ending}
 use Rattle.cidr_filter.specs.Stands.{stand}
 use Rattle.cidr_filter.specs.declared.log.LogFault.TheVariants.{Open}

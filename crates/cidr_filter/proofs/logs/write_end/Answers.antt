@@ -1,5 +1,5 @@
 use Rattle.std.proofs.Common.{◌++◌, List, ℕ, subst, arith}
-use Rattle.line_engine.specs.Outputs.{AppendsBeginning}
+use Rattle.lines.specs.Outputs.{AppendsBeginning}
 use Rattle.cidr_filter.proofs.Failing.{none_or, or_on}
 use Rattle.cidr_filter.proofs.Runs.{number_then_ok, number_then_err, none_then_ok, none_then_err, number_told, nothing_told}
 use Rattle.cidr_filter.proofs.Stopping.{on_err}

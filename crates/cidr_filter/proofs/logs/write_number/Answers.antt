@@ -1,6 +1,6 @@
 use Rattle.std.proofs.Common.{[], ◌∷◌, ◌++◌, List, ℕ, subst, append_assoc}
-use Rattle.line_engine.specs.Outputs.{AppendsBeginning}
-use Rattle.line_engine.proofs.Putting.{begins_within}
+use Rattle.lines.specs.Outputs.{AppendsBeginning}
+use Rattle.lines.proofs.Putting.{begins_within}
 use Rattle.std.proofs.Common.{decimal}
 use Rattle.cidr_filter.proofs.Filtering.{put_two_ok}
 use Rattle.cidr_filter.proofs.Stopping.{on_err, begins_after_ok}

@@ -1,7 +1,7 @@
 use Rattle.std.proofs.Common.{ℕ, List}
 use Rattle.ipnetwork_family.specs.Family.{v4_family, v6_family}
 use Rattle.cidr_merge.specs.Answers.{AreBlockLines, AreRangeLines, IsAnswer}
-use Rattle.line_engine.specs.Outputs.{Prints}
+use Rattle.lines.specs.Outputs.{Prints}
 use Rattle.cidr_merge.specs.declared.command_line.Form.TheVariants.{Blocks, Ranges, Counts}
 use Rattle.cidr_merge.proofs.Putting.{both_ok, by_form}
 use Rattle.cidr_merge.proofs.printing.print.Goals as goal

@@ -1,6 +1,6 @@
 use Rattle.std.proofs.Common.{◌++◌, ℕ, List, codes, subst}
 use Rattle.std.specs.Prelude.{OnOk}
-use Rattle.line_engine.specs.Outputs.{Prints}
+use Rattle.lines.specs.Outputs.{Prints}
 use Rattle.cidr_merge.specs.Answers.{IsLeft, IsCountLine, AreCountsLeft}
 use Rattle.cidr_merge.proofs.Putting.{both_ok}
 use Rattle.cidr_merge.proofs.printing.print_counts_left.Goals as goal

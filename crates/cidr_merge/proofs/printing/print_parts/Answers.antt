@@ -1,6 +1,6 @@
 use Rattle.std.proofs.Common.{[], refl}
 use Rattle.cidr_merge.proofs.Merging.{shorter}
-use Rattle.line_engine.proofs.Putting.{puts_nothing}
+use Rattle.lines.proofs.Putting.{puts_nothing}
 use Rattle.cidr_merge.proofs.Putting.{puts_line, puts_all, failed_same}
 use Rattle.cidr_merge.proofs.printing.print_parts.Goals as goal
 

@@ -1,7 +1,7 @@
 use Rattle.std.proofs.Common.{◌≡◌, ◌++◌, List, length}
 use Rattle.std.specs.List.{flat_map}
 use Rattle.cidr_merge.specs.Answers.{Sided, merged_by}
-use Rattle.line_engine.specs.Outputs.{Prints}
+use Rattle.lines.specs.Outputs.{Prints}
 use Rattle.cidr_merge.specs.Private.Sweeps.{with_head}
 use Rattle.cidr_merge.proofs.printing.print_parts.Given as goal
 

@@ -1,7 +1,7 @@
 use Rattle.std.proofs.Common.{◌∙◌, Bool, ap}
 use Rattle.std.specs.Prelude.{◌||◌}
-use Rattle.line_engine.specs.Faults.{ended_by_read}
-use Rattle.line_engine.specs.Watched.{device_of}
+use Rattle.lines.specs.Faults.{ended_by_read}
+use Rattle.lines.specs.Watched.{device_of}
 use Rattle.lists.proofs.NamedLists.{read_stopped}
 use Rattle.lists.proofs.named.read_named.Goals as goal
 

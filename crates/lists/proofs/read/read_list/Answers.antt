@@ -2,9 +2,9 @@ use Rattle.std.proofs.Common.{◌≡◌, ◌-◌, ◌∙◌, ◌==◌, ℕ, true
 use Rattle.std.proofs.lemmas.Bool.{ne_eqb}
 use Rattle.std.specs.Prelude.{Some}
 use Rattle.std.specs.Str.Lines.{lines}
-use Rattle.line_engine.specs.Watched.{device_of}
-use Rattle.line_engine.specs.declared.fault.RunFault.TheVariants.{Read, InputTooLong}
-use Rattle.line_engine.proofs.Writes.{still_works}
+use Rattle.lines.specs.Watched.{device_of}
+use Rattle.lines.specs.declared.fault.RunFault.TheVariants.{Read, InputTooLong}
+use Rattle.lines.proofs.Writes.{still_works}
 use Rattle.lists.specs.Lists.{ReadLists, TakesLines}
 use Rattle.lists.specs.Stopped.{TakesBefore}
 use Rattle.lists.proofs.Handed.{goes_on, goes_idle, stops_reading, stops_too_long, ends, runs_out}

@@ -1,6 +1,6 @@
 use Rattle.std.proofs.Common.{◌≡◌}
-use Rattle.line_engine.specs.LineBuffers.{waits, HasNoFeed}
-use Rattle.line_engine.specs.Watched.{device_of, has_failed}
+use Rattle.lines.specs.LineBuffers.{waits, HasNoFeed}
+use Rattle.lines.specs.Watched.{device_of, has_failed}
 use Rattle.lists.proofs.Handed.{TakesSoFar}
 use Rattle.lists.proofs.read.read_list.Given as goal
 

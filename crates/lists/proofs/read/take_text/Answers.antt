@@ -1,7 +1,7 @@
 use Rattle.std.proofs.Common.{List, ℕ, subst}
 use Rattle.std.proofs.lemmas.Iterator.Consumers.{YieldsList-end}
 use Rattle.std.proofs.lemmas.Iterator.Splits.{YieldsList-from_lines}
-use Rattle.line_engine.specs.Answers.{asked}
+use Rattle.lines.specs.Parts.{asked}
 use Rattle.lists.specs.Lists.{at_list, Takes, TakesLines}
 use Rattle.lists.proofs.Taken.{takes_more}
 use Rattle.lists.proofs.read.take_text.Goals as goal

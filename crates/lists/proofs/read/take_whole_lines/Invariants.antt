@@ -1,5 +1,5 @@
 use Rattle.std.proofs.Common.{◌≡◌, ℕ, List}
-use Rattle.line_engine.specs.LineBuffers.{IsPending, work}
+use Rattle.lines.specs.LineBuffers.{IsPending, work}
 use Rattle.lists.specs.Private.Waiting.{TakesSome}
 use Rattle.lists.proofs.read.take_whole_lines.Given as goal
 

@@ -1,10 +1,10 @@
 use Rattle.std.proofs.Common.{codes, inl, refl, sym, subst, ap, ◌∷◌, []}
-use Rattle.line_engine.specs.Buffers.{Filled}
+use Rattle.lines.specs.Buffers.{Filled}
 use Rattle.cidr.specs.Output.{MayGet}
 use Rattle.cidr.specs.Private.Routes.{routes_of}
 use Rattle.cidr.specs.Requests.{Request, request_of}
 use Rattle.cidr.proofs.LongLines.{request_long}
-use Rattle.line_engine.proofs.Putting.{on_err_any}
+use Rattle.lines.proofs.Putting.{on_err_any}
 use Rattle.cidr.proofs.Runs.{one_answer, fails_at_once}
 use Rattle.cidr.proofs.answering.Answering.answer_too_long.Goals as goal
 

@@ -1,9 +1,0 @@
-pub mod Answers
-pub mod Buffers
-pub mod Faults
-pub mod LineBuffers
-pub mod LineEnds
-pub mod LineReaders
-pub mod Outputs
-pub mod Private
-pub mod Watched

@@ -1,0 +1,23 @@
+use Rattle.std.proofs.Common.{◌<◌, ◌≤◌, ◌-◌, length, take, drop, refl, sym, subst, arith, length-take, length-drop}
+use Rattle.std.proofs.lemmas.List.{length-take-le}
+use Rattle.lines.specs.LineBuffers.{IsPending}
+use Rattle.lines.proofs.HandingOut.{holds_more, waits_more}
+use Rattle.lines.proofs.line_buffer.LineBuffer.ask.Goals as goal
+
+pub returns-clause-read : goal.returns-clause-read
+returns-clause-read g c =
+    let inside = c.self.inside in
+    let buffer = inside.buffer.now in
+    let count = c.in-Ok.count in
+    let part = c.read.new.buf in
+    let room : inside.end < length buffer = subst (λ v. v.end < length v.bytes) (sym c.self.view_is) c.make_room.ensures.room in
+    let some : 0 < length part = omega (arith, c.read.auto.buf, room, length-take (length buffer - inside.end) (drop inside.end buffer), length-drop inside.end buffer) in
+    let order : inside.start ≤ inside.end = omega (arith, c.self.invariant.0.behind, c.self.invariant.0.up_to) in
+    record {
+      chunk = take count part;
+      counted = length-take-le count part c.in-Ok.ensures.bound.0;
+      consumed = c.in-Ok.ensures.bytes.0;
+      holds = λ pending h. holds_more _ _ (take count part) pending (subst (λ v. IsPending v pending) (sym c.self.view_is) (c.make_room.ensures.holds pending h)) refl refl
+          (waits_more inside.start inside.end count buffer part order c.self.invariant.0.within c.in-Ok.ensures.bound.0);
+      at_end = λ none. c.in-Ok.ensures.bytes.1 none some;
+    }

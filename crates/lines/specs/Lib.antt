@@ -1,0 +1,9 @@
+pub mod Buffers
+pub mod Faults
+pub mod LineBuffers
+pub mod LineEnds
+pub mod LineReaders
+pub mod Outputs
+pub mod Parts
+pub mod Private
+pub mod Watched

@@ -1,0 +1,102 @@
+-- What contracts see of a `LineBuffer`: bytes that were read, and the lines that are handed out of them.
+use Rattle.std.specs.Prelude.{◌≡◌, ℕ, ◌+◌, ◌<◌, ◌≤◌, Bool, true, false, if◌then◌else◌, List, [], ◌∷◌, ◌++◌, length, take, drop, Option}
+use Rattle.std.specs.Io.KnownBytes.{Consumes, IsAtEnd}
+use Rattle.std.specs.Str.Lines.{lines}
+use Rattle.byte_search.specs.Bytes.{IsAbsent}
+use Rattle.lines.specs.LineEnds.{end_bytes}
+use Rattle.lines.specs.declared.line_end.LineEnd.{LineEnd}
+use Rattle.lines.specs.declared.line_end.LineEnd.TheVariants.{LineFeed, ReturnAndLineFeed, EndOfInput}
+use Rattle.lines.specs.declared.line_buffer.NextLine.{NextLine}
+use Rattle.lines.specs.declared.line_buffer.NextLine.TheVariants.{Line, TooLong, Ask, End}
+
+-- a buffer, the bytes that wait in it, and the line that was handed out last
+pub record Buffered : Type 0 where
+  -- the buffer, and the places in it from which and up to which bytes wait
+  pub bytes : List ℕ
+  pub start : ℕ
+  pub end : ℕ
+  -- the most bytes of a line
+  pub limit : ℕ
+  -- whether first bytes of a line that is too long were dropped
+  pub dropped : Bool
+  -- whether the last read came to the end of the input
+  pub ended : Bool
+  -- the line that was handed out last, without the bytes that end it, and with them
+  pub line : List ℕ
+  pub whole : List ℕ
+
+-- the bytes that wait in the buffer
+abbrev pub waits : Buffered → List ℕ
+waits held = drop held.start (take held.end held.bytes)
+
+-- none of these bytes is a line feed
+abbrev pub HasNoFeed : List ℕ → Type 0
+HasNoFeed bytes = IsAbsent 10 bytes 0 (length bytes)
+
+-- the bytes that were dropped: none, or so many without a line feed that their line is too long
+abbrev pub IsDropped : Bool → ℕ → List ℕ → Type 0
+IsDropped false limit bytes = bytes ≡ []
+IsDropped true limit bytes = HasNoFeed bytes × (limit + 2 ≤ length bytes)
+
+-- these bytes are pending, that is, were read and are not yet handed out: those that were dropped, and those that wait
+pub record IsPending (held : Buffered) (pending : List ℕ) : Type 0 where
+  pub gone : List ℕ
+  pub dropped : IsDropped held.dropped held.limit gone
+  pub bytes : pending ≡ gone ++ waits held
+
+-- of the pending bytes this line is the first one, and these bytes come after it and its end. It is the first one
+-- whatever is read after them; only a line that the end of the input ends has nothing after it
+abbrev pub IsFirstLine : LineEnd → Bool → List ℕ → List ℕ → List ℕ → Type 0
+IsFirstLine LineFeed ended pending line after = (rest : List ℕ) → lines (pending ++ rest) ≡ line ∷ lines (after ++ rest)
+IsFirstLine ReturnAndLineFeed ended pending line after = (rest : List ℕ) → lines (pending ++ rest) ≡ line ∷ lines (after ++ rest)
+IsFirstLine EndOfInput ended pending line after = (ended ≡ true) × (after ≡ []) × (lines pending ≡ line ∷ [])
+
+-- of the pending bytes this line was handed out, with the bytes that end it, and the others are pending still
+pub record HandsOut (held : Buffered) (pending line : List ℕ) (end : LineEnd) : Type 0 where
+  pub after : List ℕ
+  pub holds : IsPending held after
+  pub bytes : pending ≡ line ++ end_bytes end ++ after
+  pub first : IsFirstLine end held.ended pending line after
+
+-- these lines, and then those of the pending bytes, are the lines of what was read, whatever is read after it
+abbrev pub AreFirst : Bool → List ℕ → List (List ℕ) → List ℕ → Type 0
+AreFirst ended read first pending = (more : List ℕ) → (ended ≡ true → more ≡ []) → lines (read ++ more) ≡ first ++ lines (pending ++ more)
+
+-- what `next` hands out of the pending bytes, by what it returns
+abbrev pub Gives : Buffered → List ℕ → NextLine → Type 0
+-- a line within the limit, which the buffer lends
+Gives new pending (Line end) = HandsOut new pending new.line end × (length new.line ≤ new.limit) × (new.whole ≡ new.line ++ end_bytes end)
+-- a line that is longer
+Gives new pending TooLong = (line : List ℕ) × (end : LineEnd) × HandsOut new pending line end × (new.limit < length line)
+-- nothing: no line is whole yet
+Gives new pending Ask = IsPending new pending × HasNoFeed pending × HasNoFeed (waits new) × (new.ended ≡ false)
+-- nothing: all lines were handed out
+Gives new pending End = (pending ≡ []) × IsPending new [] × (new.ended ≡ true)
+
+-- a measure of what there is to hand out
+abbrev pub work : Buffered → ℕ
+work held = length (waits held) + (if held.dropped then 1 else 0)
+
+-- there is less of it after a line
+abbrev pub IsLess : Buffered → Buffered → NextLine → Type 0
+IsLess old new (Line end) = work new < work old
+IsLess old new TooLong = work new < work old
+IsLess old new Ask = Unit {0}
+IsLess old new End = Unit {0}
+
+-- a read gave this many bytes, which are pending behind those that were; none only at the end of the input
+pub record Receives (left rest : Option (List ℕ)) (old new : Buffered) (count : ℕ) : Type 0 where
+  pub chunk : List ℕ
+  pub counted : length chunk ≡ count
+  pub consumed : Consumes left rest chunk
+  pub holds : (pending : List ℕ) → IsPending old pending → IsPending new (pending ++ chunk)
+  pub at_end : count ≡ 0 → IsAtEnd rest
+
+-- the bytes that wait stay where they are
+abbrev pub Stays : Buffered → Buffered → Type 0
+Stays old new = (new.start ≡ old.start) × (take old.end new.bytes ≡ take old.end old.bytes)
+
+-- they do while there is room behind them; if there is none, they stand at the front of the buffer afterwards. So a byte
+-- is moved at most once each time that the buffer is full
+abbrev pub Settles : Buffered → Buffered → Type 0
+Settles old new = (old.end < length old.bytes → 0 < length (waits old) → Stays old new) × (length old.bytes ≤ old.end → new.start ≡ 0)
