@@ -1,5 +1,5 @@
 -- Lists at which a misreading of the definition of too little room would show.
-use Rattle.std.proofs.Common.{◌⊎◌, ⊎_elim, ◌<◌, arith, ap, List, [], ◌∷◌, length}
+use Rattle.std.proofs.Common.{⊎_elim, ◌<◌, arith, ap, [], ◌∷◌, length}
 use Rattle.std.specs.List.{filter_map}
 use Rattle.ipnetwork_family.specs.Network.{Network}
 use Rattle.ipnetwork_blocks.specs.AggregateIp.{as_v4, as_v6}

@@ -1,5 +1,5 @@
 -- The operations on lists of networks of either family, family by family.
-use Rattle.std.proofs.Common.{◌≡◌, ◌↔◌, ◌&&◌, ℕ, Bool, true, false, IsTrue, ◌⊎◌, inl, inr, ⊎_elim, sym, subst, refl, List}
+use Rattle.std.proofs.Common.{◌≡◌, ◌↔◌, ℕ, ◌⊎◌, inl, inr, ⊎_elim, sym, subst, List}
 use Rattle.std.specs.List.{filter_map}
 use Rattle.ipnetwork_addr.specs.declared.ip.IpAddr.{IpAddr}
 use Rattle.ipnetwork_addr.specs.declared.ip.IpAddr.TheVariants as addresses
@@ -10,7 +10,7 @@ use Rattle.ipnetwork_blocks.specs.LeastList.{IsLeastList}
 use Rattle.ipnetwork_sets.specs.Counts.{HasCount}
 use Rattle.ipnetwork_sets.specs.Sets.{InBoth, InFirstAlone, InComplement, InEither, IsWithin, AreDisjoint}
 use Rattle.ipnetwork_ip_sets.specs.IpSets.{v4_then_v6, IsIpLeastList, InIpBoth, InIpFirstAlone, InIpComplement, InIpEither, IsIpWithin, AreIpDisjoint}
-use Rattle.ipnetwork_ip_sets.proofs.Families.{through, in_v4, in_v6, v4_of_both, v6_of_both, put_together}
+use Rattle.ipnetwork_ip_sets.proofs.Families.{through, in_v4, in_v6, put_together}
 
 -- ---- facts that hold together
 

@@ -1,5 +1,5 @@
 -- What is asked of IPv4 first, and then of IPv6; and how many blocks the families have together.
-use Rattle.std.proofs.Common.{◌≡◌, ◌↔◌, ℕ, suc, ◌+◌, Bool, true, false, true≢false, IsTrue, sym, subst, refl, ap, ◌∙◌, List, [], ◌∷◌, map, length, arith}
+use Rattle.std.proofs.Common.{◌≡◌, ◌↔◌, ℕ, ◌+◌, Bool, true, false, true≢false, IsTrue, sym, subst, refl, ap, ◌∙◌, List, [], ◌∷◌, map, length, arith}
 use Rattle.std.proofs.lemmas.List.{map-id}
 use Rattle.std.specs.List.{filter_map}
 use Rattle.ipnetwork_family.specs.Network.{Network}

@@ -1,27 +1,23 @@
 -- The laws of sets of addresses of either family, from those of one family.
-use Rattle.std.proofs.Common.{◌≡◌, ◌↔◌, ℕ, ◌+◌, ◌&&◌, Bool, true, false, true≢false, IsTrue, sym, refl, ap, subst, ◌∙◌, arith, List, ◌++◌, map, length}
-use Rattle.std.specs.List.{All, filter_map}
+use Rattle.std.proofs.Common.{◌≡◌, ◌↔◌, ℕ, ◌&&◌, Bool, true, false, true≢false, IsTrue, sym, refl, ap, subst, ◌∙◌, List}
+use Rattle.std.specs.List.{filter_map}
 use Rattle.ipnetwork_addr.specs.declared.ip.IpAddr.{IpAddr}
 use Rattle.ipnetwork_addr.specs.declared.ip.IpAddr.TheVariants as addresses
 use Rattle.ipnetwork_family.specs.Network.{Network}
 use Rattle.ipnetwork.specs.declared.ip_network.IpNetwork.{IpNetwork}
-use Rattle.ipnetwork.specs.declared.ip_network.IpNetwork.TheVariants.{V4, V6}
-use Rattle.ipnetwork_blocks.specs.Aggregate.{InUnion, SameUnion, IsAggregate}
+use Rattle.ipnetwork_blocks.specs.Aggregate.{InUnion, SameUnion}
 use Rattle.ipnetwork_blocks.specs.AggregateIp.{as_v4, as_v6, IsIpAggregate}
 use Rattle.ipnetwork_blocks.specs.AggregateIpLaws.{InIpUnion, SameIpUnion, IpAggregateIsApart, IpAggregateIsLeast}
-use Rattle.ipnetwork_blocks.specs.LeastList.{IsLeastList}
-use Rattle.ipnetwork_blocks.specs.LeastListLaws.{IsShortest}
 use Rattle.ipnetwork_blocks.proofs.LeastLists.{least_of_same, least_unique}
 use Rattle.ipnetwork_sets.specs.Equality.{same_blocks, SameBlocksAreEqual}
 use Rattle.ipnetwork_sets.specs.Laws as sets
-use Rattle.ipnetwork_sets.specs.Sets.{IsAddressSet, InBoth, InFirstAlone, InNetworkAlone, InComplement, InEither, AreDisjoint}
+use Rattle.ipnetwork_sets.specs.Sets.{IsAddressSet, InBoth, InFirstAlone, InNetworkAlone, InComplement, InEither}
 use Rattle.ipnetwork_sets.proofs.WholeSpace.{whole, whole_has_all}
-use Rattle.ipnetwork_ip_sets.specs.IpEquality.{same_ip_blocks}
 use Rattle.ipnetwork_ip_sets.specs.IpSets.{v4_then_v6, IsIpLeastList, IsIpAddressSet, InIpBoth, InIpFirstAlone, InIpComplement, InIpEither}
 use Rattle.ipnetwork_ip_sets.specs.Laws.{EachFamilyKeepsItsAddresses, IpAggregateIsLeastList, IsIpShortest, IpCommonPartIsShortest, IpDifferenceIsShortest}
 use Rattle.ipnetwork_ip_sets.specs.Laws.{IpComplementIsShortest, IpUnionIsShortest, SameIpAddressesAreOneSet, SameIpBlocksAreEqual, IpCommonPartCommutes}
 use Rattle.ipnetwork_ip_sets.specs.Laws.{IpUnionCommutes, IpCommonPartOfOne, IpUnionOfOne, IpDifferenceIsDisjoint, IpPartsMakeTheWhole}
-use Rattle.ipnetwork_ip_sets.proofs.Families.{through, v4_of_both, v6_of_both, in_v4, in_v6, v4_part, v6_part, both_equal, put_together}
+use Rattle.ipnetwork_ip_sets.proofs.Families.{through, v4_of_both, v6_of_both, in_v4, in_v6, v4_part, v6_part, both_equal}
 use Rattle.ipnetwork_ip_sets.proofs.FamilySets.{both_v4, both_v6, alone_v4, alone_v6, rest_v4, rest_v6, either_v4, either_v6, disjoint_by_family}
 
 -- ---- each family

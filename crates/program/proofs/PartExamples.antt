@@ -1,5 +1,5 @@
 -- What the definitions promise, part by part: a definition without one of these parts would not give it.
-use Rattle.std.proofs.Common.{◌≡◌, ◌++◌, ℕ, List, refl, subst}
+use Rattle.std.proofs.Common.{◌≡◌, ℕ, List, refl, subst}
 use Rattle.std.specs.Prelude.{IsTrue, IsFalse, Option, Some, MatchOption, Ok, Err, codes, if◌then◌else◌, String}
 use Rattle.lines.specs.Outputs.{Written, Prints, Writes}
 use Rattle.program.specs.Endings.{status_of, failure_text, end_text, Ending, IsSilent, HasTold, HasWritten, EndsPrinting}
