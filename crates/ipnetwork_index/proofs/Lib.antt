@@ -5,4 +5,5 @@ pub mod Inside
 pub mod LawExamples
 pub mod Searching
 pub mod Starting
+pub mod Telling
 pub mod Turning

@@ -1,6 +1,7 @@
 //! The index over a set of addresses.
-ghost use Rattle.std.specs.Prelude.{◌≡◌, ◌↔◌, IfOk, IsTrue};
+ghost use Rattle.std.specs.Prelude.{◌≡◌, ◌↔◌, IfOk, IsTrue, length, map};
 ghost use Rattle.ipnetwork_blocks.specs.Aggregate.{InUnion};
+ghost use Rattle.ipnetwork_index.specs.Columns.{AreTold};
 ghost use Rattle.ipnetwork_index.specs.Turns.{CutInto};
 
 use crate::cuts::{closed, cuts_of};
@@ -79,6 +80,27 @@ impl<N: IndexedNetwork> AddressIndex<N> {
     {
         let odd = self.partition.place_of(N::number_of(addr)) % 2 == 1;
         odd != self.first_is_in
+    }
+
+    /// Whether each of the addresses is in the set: its answer is put at the same place. There must
+    /// be as many answers as addresses.
+    ///
+    /// ```
+    /// let networks = vec![in rt.alloc(); "192.0.2.0/25".parse::<Ipv4Network>()?]?;
+    /// let set = AddressSet::from_networks(networks);
+    /// let index = AddressIndex::from_set(rt.alloc(), &set)?;
+    /// let mut answers = [false, true];
+    /// let addrs = [Ipv4Addr::new(192, 0, 2, 127), Ipv4Addr::new(192, 0, 2, 128)];
+    /// index.contains_each(&addrs, &mut answers);
+    /// assert_eq!(rt; answers, [true, false]);
+    /// ```
+    pub fn contains_each(&self, addrs: &[N::Addr], answers: &mut [bool])
+        requires { length answers.old ≡ length addrs.now }
+        ensures { AreTold N.WIDTH self.now (map N.number addrs.now) answers.new }
+    {
+        for place in 0..addrs.len() {
+            answers[place] = self.contains(addrs[place]);
+        }
     }
 
     /// The number of ranges that the set cuts the addresses into: each is in it whole or not at
