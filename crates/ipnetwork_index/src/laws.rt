@@ -1,7 +1,8 @@
 //! The laws of indexes. Each function's contract is a law. One that takes nothing does nothing; a
 //! proof whose function calls it may use the law.
-ghost use Rattle.std.specs.Prelude.{◌≡◌};
-ghost use Rattle.ipnetwork_table.specs.Table.{found_by_pair};
+ghost use Rattle.std.specs.Prelude.{◌≡◌, ◌↔◌, IsTrue};
+ghost use Rattle.ipnetwork_blocks.specs.Aggregate.{InUnion};
+ghost use Rattle.ipnetwork_table.specs.Table.{Finds, found_by_pair};
 ghost use Rattle.ipnetwork_index.specs.Turns.{SetHasFewRanges};
 
 use crate::address_index::AddressIndex;
@@ -27,7 +28,8 @@ pub fn set_and_index_agree<N: IndexedNetwork>(
     addr: N::Addr,
 ) -> (bool, bool)
     requires { index.now ≡ set.now }
-    ensures { result.0 ≡ result.1 }
+    ensures agree { result.0 ≡ result.1 }
+    ensures answer { IsTrue result.0 ↔ InUnion N.WIDTH set.now (N.number addr) }
 {
     (set.contains(addr), index.contains(addr))
 }
@@ -40,7 +42,8 @@ pub fn table_and_index_agree<N: IndexedNetwork, V: Copy>(
     addr: N::Addr,
 ) -> (Option<(N, V)>, Option<(N, V)>)
     requires { index.now ≡ table.now }
-    ensures { found_by_pair N.pair result.0 ≡ found_by_pair N.pair result.1 }
+    ensures agree { found_by_pair N.pair result.0 ≡ found_by_pair N.pair result.1 }
+    ensures answer { Finds N.pair N.WIDTH table.now (N.number addr) result.0 }
 {
     one_answer::<V>();
     (table.lookup(addr), index.lookup(addr))
