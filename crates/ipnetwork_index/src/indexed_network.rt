@@ -56,7 +56,7 @@ pub trait IndexedNetwork: AddressSpace {
         ensures { IsPart (value number) (value base) shift last result };
 
     /// How large parts are, as a power of two, if about 2^`bits` of them reach from `base` to a
-    /// number.
+    /// number. The contract leaves the size open: another would cost time and change no answer.
     ///
     /// ```
     /// assert_eq!(rt; Ipv4Network::part_size(259, 3, 4), 5);

@@ -1,8 +1,17 @@
-//! The laws of indexes. Each function's contract is a law; none does anything. A proof whose
-//! function calls one may use the law.
+//! The laws of indexes. Each function's contract is a law. One that takes nothing does nothing; a
+//! proof whose function calls it may use the law.
+ghost use Rattle.std.specs.Prelude.{◌≡◌, ◌↔◌, IsTrue};
+ghost use Rattle.ipnetwork_blocks.specs.Aggregate.{InUnion};
+ghost use Rattle.ipnetwork_table.specs.Table.{Finds, found_by_pair};
 ghost use Rattle.ipnetwork_index.specs.Turns.{SetHasFewRanges};
 
+use crate::address_index::AddressIndex;
+use crate::indexed_network::IndexedNetwork;
+use crate::route_index::RouteIndex;
 use ipnetwork_blocks::laws;
+use ipnetwork_sets::AddressSet;
+use ipnetwork_table::PrefixTable;
+use ipnetwork_table::laws::one_answer;
 
 /// A set of n blocks cuts the addresses into at most 2 n + 1 ranges: as many as the blocks, and one
 /// more between them.
@@ -10,4 +19,32 @@ pub fn few_ranges()
     ensures { SetHasFewRanges }
 {
     laws::one_block();
+}
+
+/// What a set and its index say of an address: the same.
+pub fn set_and_index_agree<N: IndexedNetwork>(
+    set: &AddressSet<N>,
+    index: &AddressIndex<N>,
+    addr: N::Addr,
+) -> (bool, bool)
+    requires { index.now ≡ set.now }
+    ensures agree { result.0 ≡ result.1 }
+    ensures answer { IsTrue result.0 ↔ InUnion N.WIDTH set.now (N.number addr) }
+{
+    (set.contains(addr), index.contains(addr))
+}
+
+/// What a table and its index find for an address: the same block, as its address and its prefix
+/// length, and the same value.
+pub fn table_and_index_agree<N: IndexedNetwork, V: Copy>(
+    table: &PrefixTable<N, V>,
+    index: &RouteIndex<'_, N, V>,
+    addr: N::Addr,
+) -> (Option<(N, V)>, Option<(N, V)>)
+    requires { index.now ≡ table.now }
+    ensures agree { found_by_pair N.pair result.0 ≡ found_by_pair N.pair result.1 }
+    ensures answer { Finds N.pair N.WIDTH table.now (N.number addr) result.0 }
+{
+    one_answer::<V>();
+    (table.lookup(addr), index.lookup(addr))
 }

@@ -1,6 +1,7 @@
 //! The index over a table.
-ghost use Rattle.std.specs.Prelude.{◌≡◌, IfOk, map};
+ghost use Rattle.std.specs.Prelude.{◌≡◌, IfOk, length, map};
 ghost use Rattle.ipnetwork_table.specs.Table.{HasBlocksAlone, Finds};
+ghost use Rattle.ipnetwork_index.specs.Columns.{AreFound};
 ghost use Rattle.ipnetwork_index.specs.Private.Answers.{AreAnswers};
 
 use crate::edges::ranges_of;
@@ -86,6 +87,27 @@ impl<'a, N: IndexedNetwork, V: Copy> RouteIndex<'a, N, V> {
     {
         let answers = self.answers.as_slice();
         answers[self.partition.place_of(N::number_of(addr))]
+    }
+
+    /// What a look-up of each of the addresses finds, put at the same place. There must be as many
+    /// answers as addresses.
+    ///
+    /// ```
+    /// let mut table = PrefixTable::new(rt.alloc());
+    /// table.insert("10.0.0.0/8".parse::<Ipv4Network>()?, 2)?;
+    /// let index = RouteIndex::from_table(rt.alloc(), &table)?;
+    /// let mut answers = [None, None];
+    /// let addrs = [Ipv4Addr::new(10, 1, 9, 32), Ipv4Addr::new(11, 0, 0, 0)];
+    /// index.lookup_each(&addrs, &mut answers);
+    /// assert_eq!(rt; answers, [Some(("10.0.0.0/8".parse()?, 2)), None]);
+    /// ```
+    pub fn lookup_each(&self, addrs: &[N::Addr], answers: &mut [Option<(N, V)>])
+        requires { length answers.old ≡ length addrs.now }
+        ensures { AreFound N.pair N.WIDTH self.now (map N.number addrs.now) answers.new }
+    {
+        for place in 0..addrs.len() {
+            answers[place] = self.lookup(addrs[place]);
+        }
     }
 }
 

@@ -1,9 +1,8 @@
-use Rattle.std.proofs.Common.{◌≡◌, ◌↔◌, ℕ, true, List, length, map, get_or, arith, sym, subst}
+use Rattle.std.proofs.Common.{◌≡◌, ℕ, false, List, length, map, get_or, arith, sym, subst}
 use Rattle.std.proofs.lemmas.List.{length-map}
-use Rattle.ipnetwork_blocks.specs.Aggregate.{InUnion}
-use Rattle.ipnetwork_index.specs.Columns.{AreToldUpTo}
+use Rattle.ipnetwork_index.specs.Columns.{AreAnsweredUpTo, IsTold}
 use Rattle.ipnetwork_index.proofs.Searching.{read_number}
-use Rattle.ipnetwork_index.proofs.Telling.{told_more}
+use Rattle.ipnetwork_index.proofs.Telling.{answered_more}
 use Rattle.ipnetwork_index.proofs.address_index.AddressIndex.contains_each.Goals as goal
 
 pub loop-place-init : goal.loop-place-init
@@ -23,10 +22,9 @@ loop-place-preserved g c =
     let here : get_or xs at 0 ≡ f c.index-addrs-place.result
     = read_number f c.args.addrs.now at c.index-addrs-place.result
     (omega (arith, c.loop-place-test.true)) c.index-addrs-place.is in
-    told_more w c.args.self.now xs c.loop-place.answers at c.contains.result c.loop-place.invariant
-    (omega (arith, c.loop-place-test.true, size))
-    (subst (λ (x : ℕ). (c.contains.result ≡ true) ↔ InUnion w c.args.self.now x) (sym here)
-    c.contains.ensures)
+    answered_more (IsTold w c.args.self.now) false xs c.loop-place.answers at c.contains.result
+    c.loop-place.invariant (omega (arith, c.loop-place-test.true, size))
+    (subst (λ (x : ℕ). IsTold w c.args.self.now x c.contains.result) (sym here) c.contains.ensures)
 
 pub returns : goal.returns
 returns g c =
@@ -36,5 +34,6 @@ returns g c =
     let all : c.loop-place.place ≡ length xs
     = omega (arith, c.loop-place-test.false, c.loop-place.auto.place-end, size) in
     subst (λ (n : ℕ).
-    AreToldUpTo g.N.CidrNetwork.WIDTH c.args.self.now xs c.loop-place.answers n) all
+    AreAnsweredUpTo (IsTold g.N.CidrNetwork.WIDTH c.args.self.now) false xs c.loop-place.answers n)
+    all
     c.loop-place.invariant

@@ -1,0 +1,9 @@
+use Rattle.std.proofs.Common.{None, map}
+use Rattle.ipnetwork_table.specs.Table.{Finds}
+use Rattle.ipnetwork_index.specs.Columns.{AreAnsweredUpTo}
+use Rattle.ipnetwork_index.proofs.route_index.RouteIndex.lookup_each.Given as goal
+
+abbrev pub invariant-loop-place : goal.invariant-loop-place
+invariant-loop-place g l =
+    AreAnsweredUpTo (Finds g.N.CidrNetwork.pair g.N.CidrNetwork.WIDTH l.self) None
+    (map g.N.CidrNetwork.number l.addrs) l.answers l.place
