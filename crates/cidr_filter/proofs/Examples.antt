@@ -85,7 +85,11 @@ printed_with_an_end = refl
 -- ---- what a line is to a list
 
 abbrev pub by : Bool → Bad → Filter
-by inverts bad = record { listed = Addresses (record { v4 = []; v6 = [] }); field = 1; separator = 32; inverts = inverts; bad = bad }
+by inverts bad = record { listed = Addresses (record { v4 = []; v6 = [] }); field = 1; separator = 32; inverts = inverts; bad = bad; counts = false }
+
+-- one that only counts
+abbrev pub counting : Bad → Filter
+counting bad = record (by false bad) { counts = true }
 
 pub line_inside : (address : IpAddr) → NamesIp (codes "10.0.0.1") address → IsListed (by false bads.Drop) address → Judges (by false bads.Drop) (codes "10.0.0.1 x") (verdicts.Inside None)
 line_inside address names listed = (omega arith, (address, (codes "10.0.0.1", refl, names), listed, refl))
@@ -149,10 +153,10 @@ block_before_a_line tables = refl
 pub no_block : (tables : Tables) → mark_of (Blocks tables) verdicts.Bad ≡ codes "-\t"
 no_block tables = refl
 
-pub line_selected : output_of (by false bads.Drop) false (verdicts.Inside None) (ended (codes "a\r")) ≡ codes "a\r\n"
+pub line_selected : output_of (by false bads.Drop) (verdicts.Inside None) (ended (codes "a\r")) ≡ codes "a\r\n"
 line_selected = refl
 
-pub line_counted : output_of (by false bads.Drop) true (verdicts.Inside None) (ended (codes "a")) ≡ []
+pub line_counted : output_of (counting bads.Drop) (verdicts.Inside None) (ended (codes "a")) ≡ []
 line_counted = refl
 
 -- ---- what is told
@@ -214,7 +218,7 @@ no_number = refl
 -- without a refused line a run is not silent: there is no memory, or the logs are filtered
 pub not_silent : {Z W E : Type 0} (known : KnownLists) (words : List (String Z)) (request : Request) (read : ReadLists) (end : Ending W E) → was_refused read.refused ≡ false → EndsFiltering known words request read end
     → Refuses (codes "out of memory\n") end
-    ⊎ ((listed : Listed) × HoldsRead request.longest read listed × EndsLogs (filter_of request listed) request.counts known (logs_of (drop request.files words)) end)
+    ⊎ ((listed : Listed) × HoldsRead request.longest read listed × EndsLogs (filter_of request listed) known (logs_of (drop request.files words)) end)
 not_silent known words request read end none (inl ends) = absurd (true≢false (sym ends.0 ∙ none))
 not_silent known words request read end none (inr ends) = ends.1
 
@@ -235,7 +239,7 @@ module _ (known : KnownLists) (inside : Judges (by false bads.Stop) (codes "in")
     (bad : Judges (by false bads.Stop) (codes "bad") verdicts.Bad) where
   -- two logs, of which the second has no last line feed
   pub two_logs : IsAllOf known (codes "a") (codes "out\nin\n") → IsAllOf known (codes "b") (codes "in")
-      → FiltersLogs (by false bads.Stop) false known (codes "a" ∷ codes "b" ∷ []) (codes "in\nin\n") 2
+      → FiltersLogs (by false bads.Stop) known (codes "a" ∷ codes "b" ∷ []) (codes "in\nin\n") 2
   two_logs a b = (
     codes "out\nin\n",
     codes "in\n",
@@ -251,7 +255,7 @@ module _ (known : KnownLists) (inside : Judges (by false bads.Stop) (codes "in")
 
   -- they are counted together
   pub two_logs_counted : IsAllOf known (codes "a") (codes "in\n") → IsAllOf known (codes "b") (codes "in\n") → {W E : Type 0} (end : Ending W E) → HasWritten end (codes "2\n") → HasTold end [] → end.status ≡ 0
-      → EndsLogs (by false bads.Stop) true known (codes "a" ∷ codes "b" ∷ []) end
+      → EndsLogs (counting bads.Stop) known (codes "a" ∷ codes "b" ∷ []) end
   unfolding digits
   two_logs_counted a b end written told status = inl (record {
     output = [];
@@ -273,7 +277,7 @@ module _ (known : KnownLists) (inside : Judges (by false bads.Stop) (codes "in")
 
   -- a line that ends the run: what comes before it is written
   pub stopped_at_the_second_line : known.may_open (codes "a") true → IsFirstOf known (codes "a") (codes "in\nbad\nin\n") → {W E : Type 0} (end : Ending W E) → HasWritten end (codes "in\n") → HasTold end (codes "a:2: refused address\n")
-      → end.status ≡ 2 → EndsLogs (by false bads.Stop) false known (codes "a" ∷ codes "b" ∷ []) end
+      → end.status ≡ 2 → EndsLogs (by false bads.Stop) known (codes "a" ∷ codes "b" ∷ []) end
   unfolding digits
   stopped_at_the_second_line opened a end written told status = inr (record {
     before = [];
@@ -308,7 +312,7 @@ module _ (known : KnownLists) (inside : Judges (by false bads.Stop) (codes "in")
 
   -- a read that fails: the lines before it whose line feed was read were filtered, and what follows them is no line
   pub stopped_by_a_failed_read : known.may_open (codes "a") true → known.may_fail (codes "a") → IsFirstOf known (codes "a") (codes "in\nin") → {W E : Type 0} (end : Ending W E) → HasWritten end (codes "in\n")
-      → HasTold end (codes "a: cannot read\n") → end.status ≡ 2 → EndsLogs (by false bads.Stop) false known (codes "a" ∷ codes "b" ∷ []) end
+      → HasTold end (codes "a: cannot read\n") → end.status ≡ 2 → EndsLogs (by false bads.Stop) known (codes "a" ∷ codes "b" ∷ []) end
   stopped_by_a_failed_read opened fails a end written told status = inr (record {
     before = [];
     name = codes "a";
@@ -330,7 +334,7 @@ module _ (known : KnownLists) (inside : Judges (by false bads.Stop) (codes "in")
 
   -- no line of a log is selected
   pub nothing_selected : IsAllOf known (codes "-") (codes "out\n") → {W E : Type 0} (end : Ending W E) → HasWritten end [] → HasTold end [] → end.status ≡ 1
-      → EndsLogs (by false bads.Stop) false known (codes "-" ∷ []) end
+      → EndsLogs (by false bads.Stop) known (codes "-" ∷ []) end
   nothing_selected a end written told status = inl (record {
     output = [];
     selected = 0;

@@ -113,10 +113,10 @@ no_bytes count e = elim (eqb_tells count 0) [
   | inr apart ↦ absurd (true≢false (sym e ∙ apart.0))
 ]
 
-module _ (filter : Filter) (counts : Bool) where
+module _ (filter : Filter) where
   pub begins : (room : ℕ) (held : Buffered) (remained : Option (List ℕ)) (old : Stand)
       → room ≡ 2 ^ 64 - 1 → IsPending held [] → held.ended ≡ false
-      → FiltersSoFar filter counts room held remained remained old old
+      → FiltersSoFar filter room held remained remained old old
   begins room held remained old all h going = record {
     read = [];
     reads = Consumes-nil remained;
@@ -134,7 +134,7 @@ module _ (filter : Filter) (counts : Bool) where
   }
 
   module _ (room : ℕ) (was now : Buffered) (remained remains : Option (List ℕ)) (old mid : Stand)
-      (s : FiltersSoFar filter counts room was remained remains old mid)
+      (s : FiltersSoFar filter room was remained remains old mid)
       (same : now.ended ≡ was.ended) where
     still_first : AreFirst now.ended s.read s.first s.pending
     still_first = subst (λ (e : Bool). AreFirst e s.read s.first s.pending) (sym same) s.lines
@@ -143,13 +143,13 @@ module _ (filter : Filter) (counts : Bool) where
     one_more : (new : Stand) (line : List ℕ) (end : LineEnd) (verdict : Verdict)
         → HandsOut now s.pending line end → Judges filter line verdict
         → is_refused filter verdict ≡ false
-        → Goes mid new (output_of filter counts verdict (log_line line end))
+        → Goes mid new (output_of filter verdict (log_line line end))
         (one_if (is_selected filter verdict)) 1
-        → FiltersSoFar filter counts room now remained remains old new
+        → FiltersSoFar filter room now remained remains old new
     one_more new line end verdict hands judges passes goes =
         let next = log_line line end in
         let is = handed_first now s.pending line end hands in
-        let added = output_of filter counts verdict next in
+        let added = output_of filter verdict next in
         let count = one_if (is_selected filter verdict) in
         record {
           read = s.read;
@@ -166,7 +166,7 @@ module _ (filter : Filter) (counts : Bool) where
               ∙ ap (λ b. b && true) (ended_too now.ended next e is.whole);
           added = s.added ++ added;
           count = s.count + count;
-          filters = both filter counts s.first (next ∷ []) s.added added s.count count s.filters (
+          filters = both filter s.first (next ∷ []) s.added added s.count count s.filters (
             verdict,
             [],
             0,
@@ -185,21 +185,21 @@ module _ (filter : Filter) (counts : Bool) where
     pub after_line : (new : Stand) (end : LineEnd) (line whole : List ℕ)
         → ((pending : List ℕ) → IsPending was pending → Gives now pending (Line end))
         → line ≡ now.line → whole ≡ now.whole
-        → FiltersLine filter counts line (whole ++ feed_behind end) mid new
-        → FiltersSoFar filter counts room now remained remains old new
+        → FiltersLine filter line (whole ++ feed_behind end) mid new
+        → FiltersSoFar filter room now remained remains old new
     after_line new end line whole gives is all f =
         let given = gives s.pending s.holds in
         let text : whole ++ feed_behind end ≡ printed (log_line now.line end) = ap
         (λ l. l ++ feed_behind end) (all ∙ given.2) ∙ printed_is now.line end in
         one_more new now.line end f.0 given.0 (subst (λ l. Judges filter l f.0) is f.1) f.2
-        (subst (λ t. Goes mid new (shown filter counts f.0 t) (one_if (is_selected filter f.0)) 1)
+        (subst (λ t. Goes mid new (shown filter f.0 t) (one_if (is_selected filter f.0)) 1)
         text f.3)
 
     -- one that is too long was dropped
     pub after_long : (new : Stand) → ((pending : List ℕ) → IsPending was pending
         → Gives now pending TooLong) → now.limit ≡ 1048576
         → is_refused filter verdicts.TooLong ≡ false
-        → Goes mid new [] 0 1 → FiltersSoFar filter counts room now remained remains old new
+        → Goes mid new [] 0 1 → FiltersSoFar filter room now remained remains old new
     after_long new gives limit passes goes =
         let given = gives s.pending s.holds in
         one_more new given.0 given.1 verdicts.TooLong given.2 (omega (arith, given.3, limit)) passes
@@ -207,7 +207,7 @@ module _ (filter : Filter) (counts : Bool) where
 
     -- what waited was written
     pub handed_on : (new : Stand) → IsPending now s.pending → Goes mid new [] 0 0
-        → FiltersSoFar filter counts room now remained remains old new
+        → FiltersSoFar filter room now remained remains old new
     handed_on new holds goes = record {
       read = s.read;
       reads = s.reads;
@@ -227,12 +227,12 @@ module _ (filter : Filter) (counts : Bool) where
   -- what was read before the device is asked: no line of what is pending is whole
   pub record Idle (room : ℕ) (held : Buffered) (remained remains : Option (List ℕ))
       (old now : Stand) : Type 0 where
-    pub sofar : FiltersSoFar filter counts room held remained remains old now
+    pub sofar : FiltersSoFar filter room held remained remains old now
     pub going : held.ended ≡ false
     pub none : HasNo 10 sofar.pending
 
   pub before_asking : (room : ℕ) (was now : Buffered) (remained remains : Option (List ℕ))
-      (old mid new : Stand) → FiltersSoFar filter counts room was remained remains old mid
+      (old mid new : Stand) → FiltersSoFar filter room was remained remains old mid
       → ((pending : List ℕ) → IsPending was pending → Gives now pending Ask) → now.ended ≡ was.ended
       → Goes mid new [] 0 0 → Idle room now remained remains old new
   unfolding handed_on
@@ -248,7 +248,7 @@ module _ (filter : Filter) (counts : Bool) where
       (remained mid remains : Option (List ℕ)) (old new : Stand)
       → Idle room was remained mid old new
       → Receives mid remains was now count → now.ended ≡ (count == 0) → count ≤ room
-      → left ≡ room - count → FiltersSoFar filter counts left now remained remains old new
+      → left ≡ room - count → FiltersSoFar filter left now remained remains old new
   after_asking room left count was now remained mid remains old new idle r ended fits lefts =
       let s = idle.sofar in
       record {

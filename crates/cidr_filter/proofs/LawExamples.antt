@@ -54,30 +54,30 @@ not_two_blocks law filter line p q =
 -- ---- one output
 
 -- not one line is selected and two, whatever is written
-pub not_two_counts : LogsHaveOneOutput → (filter : Filter) (counts : Bool) (log a b : List ℕ) → Filters filter counts (log_lines log) a 1 → Filters filter counts (log_lines log) b 2 → ⊥
-not_two_counts law filter counts log a b p q = omega (arith, (law filter counts log a b 1 2 p q).1)
+pub not_two_counts : LogsHaveOneOutput → (filter : Filter) (log a b : List ℕ) → Filters filter (log_lines log) a 1 → Filters filter (log_lines log) b 2 → ⊥
+not_two_counts law filter log a b p q = omega (arith, (law filter log a b 1 2 p q).1)
 
 -- a line is not both written and left out, however many are selected
-pub not_two_outputs : LogsHaveOneOutput → (filter : Filter) (counts : Bool) (log : List ℕ) (m n : ℕ) → Filters filter counts (log_lines log) (codes "x\n") m
-    → Filters filter counts (log_lines log) [] n → ⊥
-not_two_outputs law filter counts log m n p q = omega (arith, ap length (law filter counts log (codes "x\n") [] m n p q).0)
+pub not_two_outputs : LogsHaveOneOutput → (filter : Filter) (log : List ℕ) (m n : ℕ) → Filters filter (log_lines log) (codes "x\n") m
+    → Filters filter (log_lines log) [] n → ⊥
+not_two_outputs law filter log m n p q = omega (arith, ap length (law filter log (codes "x\n") [] m n p q).0)
 
 -- ---- parts
 
 -- parts that both have lines, output and lines that are selected
-pub parts_with_lines : OutputsOfPartsFollow → (filter : Filter) → Filters filter false (log_lines (codes "x\n")) (codes "x\n") 1 → Filters filter false (log_lines (codes "y\nz")) (codes "y\nz\n") 2
-    → Filters filter false (log_lines (codes "x\ny\nz")) (codes "x\ny\nz\n") 3
-parts_with_lines law filter p q = law filter false (codes "x") (codes "y\nz") (codes "x\n") (codes "y\nz\n") 1 2 p q
+pub parts_with_lines : OutputsOfPartsFollow → (filter : Filter) → Filters filter (log_lines (codes "x\n")) (codes "x\n") 1 → Filters filter (log_lines (codes "y\nz")) (codes "y\nz\n") 2
+    → Filters filter (log_lines (codes "x\ny\nz")) (codes "x\ny\nz\n") 3
+parts_with_lines law filter p q = law filter (codes "x") (codes "y\nz") (codes "x\n") (codes "y\nz\n") 1 2 p q
 
 -- so the whole does not have the output of its second part alone, nor the lines of one part counted alone
-pub parts_are_not_left_out : OutputsOfPartsFollow → LogsHaveOneOutput → (filter : Filter) → Filters filter false (log_lines (codes "x\n")) (codes "x\n") 1
-    → Filters filter false (log_lines (codes "y")) (codes "y\n") 1 → Filters filter false (log_lines (codes "x\ny")) (codes "y\n") 1 → ⊥
+pub parts_are_not_left_out : OutputsOfPartsFollow → LogsHaveOneOutput → (filter : Filter) → Filters filter (log_lines (codes "x\n")) (codes "x\n") 1
+    → Filters filter (log_lines (codes "y")) (codes "y\n") 1 → Filters filter (log_lines (codes "x\ny")) (codes "y\n") 1 → ⊥
 parts_are_not_left_out law one filter p q whole =
-    omega (arith, (one filter false (codes "x\ny") (codes "x\ny\n") (codes "y\n") 2 1 (law filter false (codes "x") (codes "y") (codes "x\n") (codes "y\n") 1 1 p q) whole).1)
+    omega (arith, (one filter (codes "x\ny") (codes "x\ny\n") (codes "y\n") 2 1 (law filter (codes "x") (codes "y") (codes "x\n") (codes "y\n") 1 1 p q) whole).1)
 
-pub counts_of_parts_are_summed : OutputsOfPartsFollow → LogsHaveOneOutput → (filter : Filter) → Filters filter true (log_lines (codes "x\n")) [] 1
-    → Filters filter true (log_lines (codes "y")) [] 1 → Filters filter true (log_lines (codes "x\ny")) [] 1 → ⊥
-counts_of_parts_are_summed law one filter p q whole = omega (arith, (one filter true (codes "x\ny") [] [] 2 1 (law filter true (codes "x") (codes "y") [] [] 1 1 p q) whole).1)
+pub counts_of_parts_are_summed : OutputsOfPartsFollow → LogsHaveOneOutput → (filter : Filter) → Filters filter (log_lines (codes "x\n")) [] 1
+    → Filters filter (log_lines (codes "y")) [] 1 → Filters filter (log_lines (codes "x\ny")) [] 1 → ⊥
+counts_of_parts_are_summed law one filter p q whole = omega (arith, (one filter (codes "x\ny") [] [] 2 1 (law filter (codes "x") (codes "y") [] [] 1 1 p q) whole).1)
 
 -- ---- lines that end runs
 

@@ -21,22 +21,22 @@ lines_two p (x ∷ first) second none = elim (newline_cases x) [
       ∙ ap (λ b. log_lines b ++ log_lines second) (append_assoc p (x ∷ []) (first ++ 10 ∷ []))
 ]
 
-pub both : (filter : Filter) (counts : Bool) (lines more : List LogLine) (a b : List ℕ) (m n : ℕ) → Filters filter counts lines a m → Filters filter counts more b n
-    → Filters filter counts (lines ++ more) (a ++ b) (m + n)
-both filter counts [] more a b m n p q =
-    subst (λ (t : List ℕ). Filters filter counts more t (m + n)) (ap (λ t. t ++ b) (sym p.0)) (subst (λ (k : ℕ). Filters filter counts more b k) (omega (arith, p.1)) q)
-both filter counts (line ∷ lines) more a b m n p q =
-    let shown = output_of filter counts p.0 line in (
+pub both : (filter : Filter) (lines more : List LogLine) (a b : List ℕ) (m n : ℕ) → Filters filter lines a m → Filters filter more b n
+    → Filters filter (lines ++ more) (a ++ b) (m + n)
+both filter [] more a b m n p q =
+    subst (λ (t : List ℕ). Filters filter more t (m + n)) (ap (λ t. t ++ b) (sym p.0)) (subst (λ (k : ℕ). Filters filter more b k) (omega (arith, p.1)) q)
+both filter (line ∷ lines) more a b m n p q =
+    let shown = output_of filter p.0 line in (
       p.0,
       p.1 ++ b,
       p.2 + n,
       p.3,
       p.4,
-      both filter counts lines more p.1 b p.2 n p.5 q,
+      both filter lines more p.1 b p.2 n p.5 q,
       ap (λ t. t ++ b) p.6 ∙ append_assoc shown p.1 b,
       omega (arith, p.7),
     )
 
 pub parts_follow : OutputsOfPartsFollow
-parts_follow filter counts first second a b m n p q =
-    subst (λ (ls : List LogLine). Filters filter counts ls (a ++ b) (m + n)) (sym (lines_two [] first second tt)) (both filter counts (log_lines (first ++ 10 ∷ [])) (log_lines second) a b m n p q)
+parts_follow filter first second a b m n p q =
+    subst (λ (ls : List LogLine). Filters filter ls (a ++ b) (m + n)) (sym (lines_two [] first second tt)) (both filter (log_lines (first ++ 10 ∷ [])) (log_lines second) a b m n p q)

@@ -51,11 +51,11 @@ PutsBy faults.Length failed old new added lines = Puts old.holds old.waits new.h
 PutsBy faults.Endless failed old new added lines = Puts old.holds old.waits new.holds new.waits added × (new.lines ≡ min lines (2 ^ 64 - 1))
 
 -- the log of this name was not filtered to its end, by the fault
-pub record NameStops (filter : Filter) (counts : Bool) (known : KnownLists) (name : List ℕ) (failed : Bool) (old new : Stand) (fault : LogFault) : Type 0 where
+pub record NameStops (filter : Filter) (known : KnownLists) (name : List ℕ) (failed : Bool) (old new : Stand) (fault : LogFault) : Type 0 where
   pub lines : List LogLine
   pub added : List ℕ
   pub count : ℕ
-  pub filters : Filters filter counts lines added count
+  pub filters : Filters filter lines added count
   pub halts : HaltsBy filter known name lines fault
   pub puts : PutsBy fault failed old new added (length lines)
 
@@ -81,7 +81,7 @@ module _ where
 pub ended_first : (read : List ℕ) → (others : List LogLine) × (log_lines read ≡ ended_lines read ++ others)
 ended_first read = ended_before (slice_split (λ b. b == 10) read)
 
-module _ (filter : Filter) (counts : Bool) (known : KnownLists) where
+module _ (filter : Filter) (known : KnownLists) where
   -- what the first lines of a log are, whatever ends it
   pub some_first : (name : List ℕ) (lines : List LogLine) (fault : LogFault) → HaltsBy filter known name lines fault → HaltsBy filter known name lines faults.Write
   some_first name lines faults.Open h = ([], [], (λ input e. (input, refl)), sym (ap (λ ls. ls ++ []) h.0))
@@ -102,7 +102,7 @@ module _ (filter : Filter) (counts : Bool) (known : KnownLists) where
     first_of : (read : List ℕ) → Consumes remained remains read → IsFirstOf known name read
     first_of read took = λ input e. known_first remained remains read input (has input e) took
 
-    line_halts : (verdict : Verdict) (old new : Stand) (h : EndsAtLine filter counts remained remains old new verdict) → RefusesAfter filter known name h.first verdict
+    line_halts : (verdict : Verdict) (old new : Stand) (h : EndsAtLine filter remained remains old new verdict) → RefusesAfter filter known name h.first verdict
     line_halts verdict old new h = record {
       read = h.read;
       line = h.line;
@@ -121,8 +121,8 @@ module _ (filter : Filter) (counts : Bool) (known : KnownLists) where
     }
 
     -- a log that was not filtered to its end
-    pub stops_by : (read_failed write_failed : Bool) (old new : Stand) (fault : LogFault) → (IsTrue read_failed → known.may_fail name) → Stops filter counts remained remains read_failed write_failed (record old { lines = 0 }) new fault
-        → NameStops filter counts known name write_failed old new fault
+    pub stops_by : (read_failed write_failed : Bool) (old new : Stand) (fault : LogFault) → (IsTrue read_failed → known.may_fail name) → Stops filter remained remains read_failed write_failed (record old { lines = 0 }) new fault
+        → NameStops filter known name write_failed old new fault
     stops_by read_failed write_failed old new faults.Open fails h = absurd h
     stops_by read_failed write_failed old new faults.Read fails h = record {
       lines = ended_lines h.1;
@@ -166,7 +166,7 @@ module _ (filter : Filter) (counts : Bool) (known : KnownLists) where
     }
 
   -- a log that was not opened
-  pub name_closed : (name : List ℕ) (failed : Bool) (old : Stand) → known.may_open name false → NameStops filter counts known name failed old (record old { lines = 0 }) faults.Open
+  pub name_closed : (name : List ℕ) (failed : Bool) (old : Stand) → known.may_open name false → NameStops filter known name failed old (record old { lines = 0 }) faults.Open
   name_closed name failed old closed = record {
     lines = [];
     added = [];
@@ -178,7 +178,7 @@ module _ (filter : Filter) (counts : Bool) (known : KnownLists) where
 
   -- ---- logs in turn
 
-  pub names_none : (old : Stand) → FiltersNames filter counts known [] old old
+  pub names_none : (old : Stand) → FiltersNames filter known [] old old
   names_none old = record {
     output = [];
     count = 0;
@@ -187,13 +187,13 @@ module _ (filter : Filter) (counts : Bool) (known : KnownLists) where
     counted = counts_none old.selected old.selected refl;
   }
 
-  logs_both : (first second : List (List ℕ)) (a b : List ℕ) (m n : ℕ) → FiltersLogs filter counts known first a m → FiltersLogs filter counts known second b n
-      → FiltersLogs filter counts known (first ++ second) (a ++ b) (m + n)
+  logs_both : (first second : List (List ℕ)) (a b : List ℕ) (m n : ℕ) → FiltersLogs filter known first a m → FiltersLogs filter known second b n
+      → FiltersLogs filter known (first ++ second) (a ++ b) (m + n)
   logs_both [] second a b m n f g =
       let none = f.1 in
       let same : n ≡ m + n = omega (arith, none) in
-      subst (λ (t : List ℕ). FiltersLogs filter counts known second (t ++ b) (m + n)) (sym f.0)
-      (subst (λ (k : ℕ). FiltersLogs filter counts known second b k) same g)
+      subst (λ (t : List ℕ). FiltersLogs filter known second (t ++ b) (m + n)) (sym f.0)
+      (subst (λ (k : ℕ). FiltersLogs filter known second b k) same g)
   logs_both (name ∷ first) second a b m n f g = (
     f.0,
     f.1,
@@ -207,8 +207,8 @@ module _ (filter : Filter) (counts : Bool) (known : KnownLists) where
     let e = f.9 in omega (arith, e),
   )
 
-  pub names_both : (first second : List (List ℕ)) (old mid new : Stand) → FiltersNames filter counts known first old mid → FiltersNames filter counts known second mid new
-      → FiltersNames filter counts known (first ++ second) old new
+  pub names_both : (first second : List (List ℕ)) (old mid new : Stand) → FiltersNames filter known first old mid → FiltersNames filter known second mid new
+      → FiltersNames filter known (first ++ second) old new
   names_both first second old mid new f g = record {
     output = f.output ++ g.output;
     count = f.count + g.count;
@@ -217,8 +217,8 @@ module _ (filter : Filter) (counts : Bool) (known : KnownLists) where
     counted = counts_more old.selected mid.selected new.selected f.count g.count f.counted g.counted;
   }
 
-  pub filters_both : (first second : List (List ℕ)) (a b : List ℕ) (m n : ℕ) → FiltersLogs filter counts known first a m → FiltersLogs filter counts known second b n
-      → FiltersLogs filter counts known (first ++ second) (a ++ b) (m + n)
+  pub filters_both : (first second : List (List ℕ)) (a b : List ℕ) (m n : ℕ) → FiltersLogs filter known first a m → FiltersLogs filter known second b n
+      → FiltersLogs filter known (first ++ second) (a ++ b) (m + n)
   filters_both first second a b m n f g = logs_both first second a b m n f g
 
 -- ---- what was put and then written

@@ -63,14 +63,14 @@ one_verdict one meet filter line verdicts.TooLong verdicts.Outside p q = absurd 
 one_verdict one meet filter line verdicts.TooLong verdicts.Bad p q = absurd (omega (arith, p, q.0))
 one_verdict one meet filter line verdicts.TooLong verdicts.TooLong p q = refl
 
-one_of_lines : NamesOne → BlocksOfAnyWidthThatMeet → (filter : Filter) (counts : Bool) (lines : List LogLine) (a b : List ℕ) (m n : ℕ) → Filters filter counts lines a m → Filters filter counts lines b n → (a ≡ b) × (m ≡ n)
-one_of_lines one meet filter counts [] a b m n p q = (p.0 ∙ sym q.0, p.1 ∙ sym q.1)
-one_of_lines one meet filter counts (line ∷ lines) a b m n p q =
+one_of_lines : NamesOne → BlocksOfAnyWidthThatMeet → (filter : Filter) (lines : List LogLine) (a b : List ℕ) (m n : ℕ) → Filters filter lines a m → Filters filter lines b n → (a ≡ b) × (m ≡ n)
+one_of_lines one meet filter [] a b m n p q = (p.0 ∙ sym q.0, p.1 ∙ sym q.1)
+one_of_lines one meet filter (line ∷ lines) a b m n p q =
     let same : p.0 ≡ q.0 = one_verdict one meet filter _ p.0 q.0 p.3 q.3 in
-    let others = one_of_lines one meet filter counts lines p.1 q.1 p.2 q.2 p.5 q.5 in (
-      p.6 ∙ ap (λ v. output_of filter counts v line ++ p.1) same ∙ ap (λ t. output_of filter counts q.0 line ++ t) others.0 ∙ sym q.6,
+    let others = one_of_lines one meet filter lines p.1 q.1 p.2 q.2 p.5 q.5 in (
+      p.6 ∙ ap (λ v. output_of filter v line ++ p.1) same ∙ ap (λ t. output_of filter q.0 line ++ t) others.0 ∙ sym q.6,
       p.7 ∙ ap (λ v. one_if (is_selected filter v) + p.2) same ∙ ap (λ k. one_if (is_selected filter q.0) + k) others.1 ∙ sym q.7,
     )
 
 pub one_output : NamesOne → BlocksOfAnyWidthThatMeet → LogsHaveOneOutput
-one_output one meet filter counts log a b m n p q = one_of_lines one meet filter counts (log_lines log) a b m n p q
+one_output one meet filter log a b m n p q = one_of_lines one meet filter (log_lines log) a b m n p q

@@ -51,10 +51,10 @@ told_log name lines count faults.Length e = told_line name (codes "length") line
 told_log name lines count faults.Endless e = refl
 
 -- the first lines of a log were filtered, and then it stopped
-at_log : {W E : Type 0} (filter : Filter) (counts : Bool) (known : KnownLists) (name : List ℕ) (fault : LogFault) (lines : List LogLine) (added : List ℕ) (more : ℕ) (end : Ending W E)
-    → end.status ≡ 2 → Filters filter counts lines added more → HaltsBy filter known name lines fault → Wrote fault end ([] ++ added)
-    → HasTold end (log_fault_text name (length lines) fault) → StopsAtLog filter counts known (name ∷ []) end
-at_log filter counts known name fault lines added more end two filters halts wrote told = record {
+at_log : {W E : Type 0} (filter : Filter) (known : KnownLists) (name : List ℕ) (fault : LogFault) (lines : List LogLine) (added : List ℕ) (more : ℕ) (end : Ending W E)
+    → end.status ≡ 2 → Filters filter lines added more → HaltsBy filter known name lines fault → Wrote fault end ([] ++ added)
+    → HasTold end (log_fault_text name (length lines) fault) → StopsAtLog filter known (name ∷ []) end
+at_log filter known name fault lines added more end two filters halts wrote told = record {
   before = [];
   name = name;
   behind = [];
@@ -90,29 +90,29 @@ failed_behind end mid added p h = (
       (begins_after_puts _ _ _ _ _ added [] p h.1),
 )
 
-module _ {W E : Type 0} (filter : Filter) (counts : Bool) (known : KnownLists) (name : List ℕ) (lines : List LogLine) (added : List ℕ) (more : ℕ)
-    (filters : Filters filter counts lines added more) (end : Ending W E) (two : end.status ≡ 2) (mid : Written W) (told : ℕ) where
+module _ {W E : Type 0} (filter : Filter) (known : KnownLists) (name : List ℕ) (lines : List LogLine) (added : List ℕ) (more : ℕ)
+    (filters : Filters filter lines added more) (end : Ending W E) (two : end.status ≡ 2) (mid : Written W) (told : ℕ) where
   -- the output of these lines was put, and then what waited was written or not
   handed : (fault : LogFault) → HaltsBy filter known name lines fault → ((text : List ℕ) → HasWritten end text → Wrote fault end text)
       → Prints end.output mid added × (told ≡ min (length lines) (2 ^ 64 - 1))
-      → HandsOn name told fault (record end { output = mid }) → StopsAtLog filter counts known (name ∷ []) end
+      → HandsOn name told fault (record end { output = mid }) → StopsAtLog filter known (name ∷ []) end
   handed fault halts wrote p (inl h) =
-      at_log filter counts known name fault lines added more end two filters halts (wrote ([] ++ added) (written_behind end mid added p.0 h.0))
+      at_log filter known name fault lines added more end two filters halts (wrote ([] ++ added) (written_behind end mid added p.0 h.0))
       (tells_same end.errors end.errors_after _ _ (told_log name told (length lines) fault p.1) h.1)
   handed fault halts wrote p (inr h) =
-      at_log filter counts known name faults.Write lines added more end two filters (some_first filter counts known name lines fault halts) (failed_behind end mid added p.0 h.0) h.1
+      at_log filter known name faults.Write lines added more end two filters (some_first filter known name lines fault halts) (failed_behind end mid added p.0 h.0) h.1
 
   -- the writer had failed
   had_failed : HaltsBy filter known name lines faults.Write → IsTrue mid.failed
       × FailsIn end.output mid added
-      → (end.output_after ≡ mid) × HasTold (record end { output = mid }) (codes "write error\n") → StopsAtLog filter counts known (name ∷ []) end
+      → (end.output_after ≡ mid) × HasTold (record end { output = mid }) (codes "write error\n") → StopsAtLog filter known (name ∷ []) end
   had_failed halts p stops =
-      at_log filter counts known name faults.Write lines added more end two filters halts
+      at_log filter known name faults.Write lines added more end two filters halts
       (subst (λ (o : Written W). (o.failed ≡ true) × FailsIn end.output o added) (sym stops.0) p) stops.1
 
   stops_now : (fault : LogFault) (old new : Tally) → new.lines ≡ told → HaltsBy filter known name lines fault
       → PutsBy fault mid.failed (stand end.output old) (stand mid new) added (length lines)
-      → StopsBy name told fault (record end { output = mid }) → StopsAtLog filter counts known (name ∷ []) end
+      → StopsBy name told fault (record end { output = mid }) → StopsAtLog filter known (name ∷ []) end
   stops_now faults.Open old new same halts puts stops = handed faults.Open halts (λ text h. h) (puts.0, sym same ∙ puts.1) stops
   stops_now faults.Read old new same halts puts stops = handed faults.Read halts (λ text h. h) (puts.0, sym same ∙ puts.1) stops
   stops_now faults.Write old new same halts puts stops = had_failed halts puts stops
@@ -121,11 +121,11 @@ module _ {W E : Type 0} (filter : Filter) (counts : Bool) (known : KnownLists) (
   stops_now faults.Endless old new same halts puts stops = handed faults.Endless halts (λ text h. h) (puts.0, sym same ∙ puts.1) stops
 
 -- a log that was not filtered to its end
-pub name_stops : {W E : Type 0} (filter : Filter) (counts : Bool) (known : KnownLists) (name : List ℕ) (end : Ending W E) → end.status ≡ 2 → (mid : Written W) (fault : LogFault) (old new : Tally)
-    → NameStops filter counts known name mid.failed (stand end.output old) (stand mid new) fault → StopsBy name new.lines fault (record end { output = mid })
-    → StopsAtLog filter counts known (name ∷ []) end
-name_stops filter counts known name end two mid fault old new s stops =
-    stops_now filter counts known name s.lines s.added s.count s.filters end two mid new.lines fault old new refl s.halts s.puts stops
+pub name_stops : {W E : Type 0} (filter : Filter) (known : KnownLists) (name : List ℕ) (end : Ending W E) → end.status ≡ 2 → (mid : Written W) (fault : LogFault) (old new : Tally)
+    → NameStops filter known name mid.failed (stand end.output old) (stand mid new) fault → StopsBy name new.lines fault (record end { output = mid })
+    → StopsAtLog filter known (name ∷ []) end
+name_stops filter known name end two mid fault old new s stops =
+    stops_now filter known name s.lines s.added s.count s.filters end two mid new.lines fault old new refl s.halts s.puts stops
 
 -- ---- logs in turn
 
@@ -143,11 +143,11 @@ wrote_same : {W E : Type 0} (fault : LogFault) (end : Ending W E) (text other : 
 wrote_same fault end text other e h = subst (λ (t : List ℕ). Wrote fault end t) e h
 
 -- a log that stops behind others that were filtered
-pub stops_behind_names : {W E : Type 0} (filter : Filter) (counts : Bool) (known : KnownLists) (done more rest names : List (List ℕ)) (end : Ending W E) (mid : Written W) (old now : Tally)
+pub stops_behind_names : {W E : Type 0} (filter : Filter) (known : KnownLists) (done more rest names : List (List ℕ)) (end : Ending W E) (mid : Written W) (old now : Tally)
     → names ≡ done ++ (more ++ rest)
-    → FiltersNames filter counts known done (stand end.output old) (stand mid now)
-    → StopsAtLog filter counts known more (record end { output = mid }) → StopsAtLog filter counts known names end
-stops_behind_names filter counts known done more rest names end mid old now e f s = record {
+    → FiltersNames filter known done (stand end.output old) (stand mid now)
+    → StopsAtLog filter known more (record end { output = mid }) → StopsAtLog filter known names end
+stops_behind_names filter known done more rest names end mid old now e f s = record {
   before = done ++ s.before;
   name = s.name;
   behind = s.behind ++ rest;
@@ -158,7 +158,7 @@ stops_behind_names filter counts known done more rest names end mid old now e f 
   more = s.more;
   fault = s.fault;
   logs = e ∙ ap (λ l. done ++ (l ++ rest)) s.logs ∙ ap (λ l. done ++ l) (append_assoc s.before (s.name ∷ s.behind) rest) ∙ sym (append_assoc done s.before (s.name ∷ (s.behind ++ rest)));
-  filters = filters_both filter counts known done s.before f.output s.output f.count s.selected f.filters s.filters;
+  filters = filters_both filter known done s.before f.output s.output f.count s.selected f.filters s.filters;
   first = s.first;
   halts = s.halts;
   wrote = wrote_same s.fault end _ _ (sym (append_assoc f.output s.output s.added)) (wrote_behind s.fault end mid f.output (s.output ++ s.added) f.puts s.wrote);
@@ -193,38 +193,38 @@ names_apart files i name e =
 
 -- ---- one file more
 
-module _ {Z : Type 0} (filter : Filter) (counts : Bool) (known : KnownLists) (files : List (String Z)) where
+module _ {Z : Type 0} (filter : Filter) (known : KnownLists) (files : List (String Z)) where
   -- there is none
-  pub input_named : (old new : Stand) → (length files == 0) ≡ true → FiltersNames filter counts known (codes "-" ∷ []) old new → FiltersNames filter counts known (logs_of files) old new
-  input_named old new none h = subst (λ (n : List (List ℕ)). FiltersNames filter counts known n old new) (sym (logs_none files none)) h
+  pub input_named : (old new : Stand) → (length files == 0) ≡ true → FiltersNames filter known (codes "-" ∷ []) old new → FiltersNames filter known (logs_of files) old new
+  input_named old new none h = subst (λ (n : List (List ℕ)). FiltersNames filter known n old new) (sym (logs_none files none)) h
 
-  pub input_stops : {W E : Type 0} (end : Ending W E) → (length files == 0) ≡ true → StopsAtLog filter counts known (codes "-" ∷ []) end → StopsAtLog filter counts known (logs_of files) end
-  input_stops end none h = subst (λ (n : List (List ℕ)). StopsAtLog filter counts known n end) (sym (logs_none files none)) h
+  pub input_stops : {W E : Type 0} (end : Ending W E) → (length files == 0) ≡ true → StopsAtLog filter known (codes "-" ∷ []) end → StopsAtLog filter known (logs_of files) end
+  input_stops end none h = subst (λ (n : List (List ℕ)). StopsAtLog filter known n end) (sym (logs_none files none)) h
 
   -- the one at a place was filtered too
   pub one_more : (i : ℕ) (name : List ℕ) (old mid new : Stand) → map string_bytes (take (i + 1) files) ≡ map string_bytes (take i files) ++ name ∷ []
-      → FiltersNames filter counts known (map string_bytes (take i files)) old mid → FiltersNames filter counts known (name ∷ []) mid new
-      → FiltersNames filter counts known (map string_bytes (take (i + 1) files)) old new
+      → FiltersNames filter known (map string_bytes (take i files)) old mid → FiltersNames filter known (name ∷ []) mid new
+      → FiltersNames filter known (map string_bytes (take (i + 1) files)) old new
   one_more i name old mid new e f g =
-      subst (λ (n : List (List ℕ)). FiltersNames filter counts known n old new) (sym e) (names_both filter counts known (map string_bytes (take i files)) (name ∷ []) old mid new f g)
+      subst (λ (n : List (List ℕ)). FiltersNames filter known n old new) (sym e) (names_both filter known (map string_bytes (take i files)) (name ∷ []) old mid new f g)
 
   -- all were
-  pub all_named : (i : ℕ) (old new : Stand) → (length files == 0) ≡ false → length files ≤ i → FiltersNames filter counts known (map string_bytes (take i files)) old new
-      → FiltersNames filter counts known (logs_of files) old new
+  pub all_named : (i : ℕ) (old new : Stand) → (length files == 0) ≡ false → length files ≤ i → FiltersNames filter known (map string_bytes (take i files)) old new
+      → FiltersNames filter known (logs_of files) old new
   all_named i old new some past h =
-      subst (λ (n : List (List ℕ)). FiltersNames filter counts known n old new) (ap (map string_bytes) (take_all i files past) ∙ sym (logs_some files some)) h
+      subst (λ (n : List (List ℕ)). FiltersNames filter known n old new) (ap (map string_bytes) (take_all i files past) ∙ sym (logs_some files some)) h
 
   -- the one at a place stopped
   pub one_stops : {W E : Type 0} (i : ℕ) (name : List ℕ) (output mid after : Written W) (errors silent told : Written E) (old now : Tally)
       → silent ≡ errors → (length files == 0) ≡ false → map string_bytes (take (i + 1) files) ≡ map string_bytes (take i files) ++ name ∷ []
-      → FiltersNames filter counts known (map string_bytes (take i files)) (stand output old) (stand mid now)
-      → StopsAtLog filter counts known (name ∷ []) (ending mid after silent told 2)
-      → StopsAtLog filter counts known (logs_of files) (ending output after errors told 2)
+      → FiltersNames filter known (map string_bytes (take i files)) (stand output old) (stand mid now)
+      → StopsAtLog filter known (name ∷ []) (ending mid after silent told 2)
+      → StopsAtLog filter known (logs_of files) (ending output after errors told 2)
   one_stops {W} {E} i name output mid after errors silent told old now same some more f s =
       let end : Ending W E = ending output after errors told 2 in
-      subst (λ (n : List (List ℕ)). StopsAtLog filter counts known n end) (sym (logs_some files some))
-      (stops_behind_names filter counts known (map string_bytes (take i files)) (name ∷ []) (map string_bytes (drop (i + 1) files)) (map string_bytes files) end mid old now (names_apart files i name more) f
-      (subst (λ (o : Written E). StopsAtLog filter counts known (name ∷ []) (ending mid after o told 2)) same s))
+      subst (λ (n : List (List ℕ)). StopsAtLog filter known n end) (sym (logs_some files some))
+      (stops_behind_names filter known (map string_bytes (take i files)) (name ∷ []) (map string_bytes (drop (i + 1) files)) (map string_bytes files) end mid old now (names_apart files i name more) f
+      (subst (λ (o : Written E). StopsAtLog filter known (name ∷ []) (ending mid after o told 2)) same s))
 
 -- ---- all logs
 
@@ -246,13 +246,13 @@ status_same (suc told) (suc count) e = positive (suc told) (omega arith) ∙ sym
 counted_told : (told count : ℕ) → Counts 0 told count → told ≡ min count (2 ^ 64 - 1)
 counted_told told count counted = let e = counted (omega arith) in omega (arith, e)
 
-module _ {W E T F : Type 0} (filter : Filter) (counts : Bool) (known : KnownLists) (names : List (List ℕ)) (end : Ending W E) (mid : Written W) (told : ℕ) where
+module _ {W E T F : Type 0} (filter : Filter) (known : KnownLists) (names : List (List ℕ)) (end : Ending W E) (mid : Written W) (told : ℕ) where
   pub all_ended : (written : Result T F) (status : ℕ) (old now : Tally) → old.selected ≡ 0 → now.selected ≡ told
-      → FiltersNames filter counts known names (stand end.output old) (stand mid now)
-      → OnOk written (Writes mid end.output_after (total_text counts told))
-      → OnErr written (FailsIn mid end.output_after (total_text counts told))
+      → FiltersNames filter known names (stand end.output old) (stand mid now)
+      → OnOk written (Writes mid end.output_after (total_text filter.counts told))
+      → OnErr written (FailsIn mid end.output_after (total_text filter.counts told))
       → end.output_after.failed ≡ (mid.failed || is_err written) → status ≡ (if nat_lt 0 told then 0 else 1) → end.status ≡ status_of written status
-      → HasTold end (end_text written) → FiltersAll filter counts known names end
+      → HasTold end (end_text written) → FiltersAll filter known names end
   all_ended (Ok done) status old now none same f ok err failed st two tells =
       let counted = counted_told told f.count (subst (λ n. Counts n told f.count) none (subst (λ n. Counts old.selected n f.count) same f.counted)) in
       record {
@@ -260,8 +260,8 @@ module _ {W E T F : Type 0} (filter : Filter) (counts : Bool) (known : KnownList
         selected = f.count;
         filters = f.filters;
         ends = inl (
-          puts_then_all _ _ _ _ _ f.output (total_text counts f.count) f.puts
-              (subst (λ t. Writes mid end.output_after t) (total_same counts told f.count counted) ok),
+          puts_then_all _ _ _ _ _ f.output (total_text filter.counts f.count) f.puts
+              (subst (λ t. Writes mid end.output_after t) (total_same filter.counts told f.count counted) ok),
           tells,
           two ∙ st ∙ ap (λ b. if b then 0 else 1) (status_same told f.count counted),
         );
@@ -275,8 +275,8 @@ module _ {W E T F : Type 0} (filter : Filter) (counts : Bool) (known : KnownList
         ends = inr (
           (
             failed_now end.output_after.failed mid.failed failed,
-            begins_after_puts _ _ _ _ _ f.output (total_text counts f.count) f.puts
-                (subst (λ t. FailsIn mid end.output_after t) (total_same counts told f.count counted) err),
+            begins_after_puts _ _ _ _ _ f.output (total_text filter.counts f.count) f.puts
+                (subst (λ t. FailsIn mid end.output_after t) (total_same filter.counts told f.count counted) err),
           ),
           tells,
           two,
@@ -370,7 +370,7 @@ module _ {Z W E : Type 0} (known : KnownLists) (words : List (String Z)) (reques
     module _ (is_empty : Bool) (e : is_empty ≡ (length refused.kept == 0)) (none : is_empty ≡ true) where
       -- none was, and the filtering ended so
       goes_on : Refuses (codes "out of memory\n") (record end { errors = told }) ⊎ ((held : Listed) × HoldsRead request.longest was_read.read held
-          × EndsLogs (filter_of request held) request.counts known (logs_of (drop request.files words)) (record end { errors = told })) → EndsRequest known words request end
+          × EndsLogs (filter_of request held) known (logs_of (drop request.files words)) (record end { errors = told })) → EndsRequest known words request end
       goes_on h = (
         refused,
         told,
@@ -381,19 +381,19 @@ module _ {Z W E : Type 0} (known : KnownLists) (words : List (String Z)) (reques
       pub memory_ran_out : Refuses (codes "out of memory\n") (record end { errors = told }) → EndsRequest known words request end
       memory_ran_out h = goes_on (inl h)
 
-      pub logs_filtered : (held : Listed) → listed ≡ Ok held → EndsLogs (filter_of request held) request.counts known (logs_of (drop request.files words)) (record end { errors = told })
+      pub logs_filtered : (held : Listed) → listed ≡ Ok held → EndsLogs (filter_of request held) known (logs_of (drop request.files words)) (record end { errors = told })
           → EndsRequest known words request end
       logs_filtered held has h = goes_on (inr (held, subst (λ (l : Result Listed X). IfOk l (HoldsRead request.longest was_read.read)) has was_read.holds, h))
 
 -- nothing was told before
-pub all_by : {W E T F : Type 0} (filter : Filter) (counts : Bool) (known : KnownLists) (names : List (List ℕ))
+pub all_by : {W E T F : Type 0} (filter : Filter) (known : KnownLists) (names : List (List ℕ))
     (output mid after : Written W) (errors silent told_errors : Written E) (status told : ℕ) → silent ≡ errors → (written : Result T F) (wanted : ℕ) (old now : Tally) → old.selected ≡ 0 → now.selected ≡ told
-    → FiltersNames filter counts known names (stand output old) (stand mid now)
-    → OnOk written (Writes mid after (total_text counts told))
-    → OnErr written (FailsIn mid after (total_text counts told))
+    → FiltersNames filter known names (stand output old) (stand mid now)
+    → OnOk written (Writes mid after (total_text filter.counts told))
+    → OnErr written (FailsIn mid after (total_text filter.counts told))
     → after.failed ≡ (mid.failed || is_err written) → wanted ≡ (if nat_lt 0 told then 0 else 1) → status ≡ status_of written wanted
     → Tells silent told_errors (end_text written)
-    → FiltersAll filter counts known names (ending output after errors told_errors status)
-all_by {W} {E} filter counts known names output mid after errors silent told_errors status told same written wanted old now none is f ok err failed st two text =
-    all_ended filter counts known names (ending output after errors told_errors status) mid told
+    → FiltersAll filter known names (ending output after errors told_errors status)
+all_by {W} {E} filter known names output mid after errors silent told_errors status told same written wanted old now none is f ok err failed st two text =
+    all_ended filter known names (ending output after errors told_errors status) mid told
     written wanted old now none is f ok err failed st two (subst (λ (o : Written E). Tells o told_errors (end_text written)) same text)

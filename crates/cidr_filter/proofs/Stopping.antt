@@ -73,11 +73,11 @@ first_ended (x ∷ first) others all none = by (λ h. first_ended first others h
       by rest false e = absurd (true≢false (sym
           (ap (λ b. b && list_all (λ line. line.is_ended) first) (sym e) ∙ all)))
 
-module _ (filter_by : Filter) (counts : Bool) where
+module _ (filter_by : Filter) where
   -- ---- at a line
 
   module _ (room : ℕ) (was now : Buffered) (remained remains : Option (List ℕ)) (old mid : Stand)
-      (s : FiltersSoFar filter_by counts room was remained remains old mid)
+      (s : FiltersSoFar filter_by room was remained remains old mid)
       (same : now.ended ≡ was.ended) where
     -- the next line is the one that was handed out
     next_is : (line : List ℕ) (end : LineEnd) (hands : HandsOut now s.pending line end)
@@ -92,7 +92,7 @@ module _ (filter_by : Filter) (counts : Bool) where
     -- it ends the run
     ends_at : (line : List ℕ) (end : LineEnd) (verdict : Verdict) → HandsOut now s.pending line end
         → Judges filter_by line verdict → is_refused filter_by verdict ≡ true
-        → EndsAtLine filter_by counts remained remains old mid verdict
+        → EndsAtLine filter_by remained remains old mid verdict
     ends_at line end verdict hands judges refused =
         let is = handed_first now s.pending line end hands in
         record {
@@ -116,12 +116,12 @@ module _ (filter_by : Filter) (counts : Bool) where
         → HandsOut now s.pending line end → Judges filter_by line verdict
         → is_refused filter_by verdict ≡ false
         → AppendsBeginning mid.holds new.holds
-        (mid.waits ++ output_of filter_by counts verdict (log_line line end))
-        → WritesBeginning filter_by counts remained remains old new
+        (mid.waits ++ output_of filter_by verdict (log_line line end))
+        → WritesBeginning filter_by remained remains old new
     writes_at new line end verdict hands judges passes took =
         let is = handed_first now s.pending line end hands in
         let next = log_line line end in
-        let added = output_of filter_by counts verdict next in
+        let added = output_of filter_by verdict next in
         let count = one_if (is_selected filter_by verdict) in
         record {
           read = s.read;
@@ -132,7 +132,7 @@ module _ (filter_by : Filter) (counts : Bool) where
           reads = s.reads;
           lines = next_is line end hands ∙ sym (append_assoc s.first (next ∷ [])
               (log_lines hands.after));
-          filters = both filter_by counts s.first (next ∷ []) s.added added s.count count s.filters (
+          filters = both filter_by s.first (next ∷ []) s.added added s.count count s.filters (
             verdict,
             [],
             0,
@@ -160,20 +160,20 @@ module _ (filter_by : Filter) (counts : Bool) where
           ∙ ap (λ l. printed (log_line l end)) (sym is)
 
       refused_at : (verdict : Verdict) → RefusesLine filter_by line mid new verdict
-          → EndsAtLine filter_by counts remained remains old new verdict
-      refused_at verdict r = subst (λ (n : Stand). EndsAtLine filter_by counts remained remains old
+          → EndsAtLine filter_by remained remains old new verdict
+      refused_at verdict r = subst (λ (n : Stand). EndsAtLine filter_by remained remains old
           n verdict) (sym r.2) (ends_at line end verdict hands r.0 r.1)
 
       pub line_stops : (read_failed write_failed : Bool) (fault : LogFault)
-          → LineStops filter_by counts line (whole ++ feed_behind end) write_failed mid new fault
-          → Stops filter_by counts remained remains read_failed write_failed old new fault
+          → LineStops filter_by line (whole ++ feed_behind end) write_failed mid new fault
+          → Stops filter_by remained remains read_failed write_failed old new fault
       line_stops read_failed write_failed faults.Open h = absurd h
       line_stops read_failed write_failed faults.Read h = absurd h
       line_stops read_failed write_failed faults.Write h = (
         h.0,
         writes_at new line end h.1 hands h.2 h.3
             (subst (λ t. AppendsBeginning mid.holds new.holds
-            (mid.waits ++ shown filter_by counts h.1 t)) text h.4),
+            (mid.waits ++ shown filter_by h.1 t)) text h.4),
       )
       line_stops read_failed write_failed faults.Address h = refused_at verdicts.Bad h
       line_stops read_failed write_failed faults.Length h = refused_at verdicts.TooLong h
@@ -182,7 +182,7 @@ module _ (filter_by : Filter) (counts : Bool) where
     -- a line that is longer
     pub long_line_stops : ((pending : List ℕ) → IsPending was pending → Gives now pending TooLong)
         → now.limit ≡ 1048576 → is_refused filter_by verdicts.TooLong ≡ true
-        → EndsAtLine filter_by counts remained remains old mid verdicts.TooLong
+        → EndsAtLine filter_by remained remains old mid verdicts.TooLong
     long_line_stops gives limit refused =
         let given = gives s.pending s.holds in
         ends_at given.0 given.1 verdicts.TooLong given.2 (omega (arith, given.3, limit)) refused
@@ -191,7 +191,7 @@ module _ (filter_by : Filter) (counts : Bool) where
 
     pub log_ends : (new : Stand) → ((pending : List ℕ) → IsPending was pending
         → Gives now pending End) → Goes mid new [] 0 0
-        → Ends filter_by counts remained remains old new
+        → Ends filter_by remained remains old new
     log_ends new gives goes =
         let given = gives s.pending s.holds in
         let lines : log_lines s.read ≡ s.first = all_lines was.ended s.read s.first s.pending
@@ -202,7 +202,7 @@ module _ (filter_by : Filter) (counts : Bool) where
           count = s.count;
           reads = s.reads;
           end = s.at_end (sym same ∙ given.2);
-          filters = subst (λ (ls : List LogLine). Filters filter_by counts ls s.added s.count)
+          filters = subst (λ (ls : List LogLine). Filters filter_by ls s.added s.count)
               (sym lines) s.filters;
           goes = subst (λ (ls : List LogLine). Goes old new s.added s.count (length ls)) (sym lines)
               (goes_still old mid new s.added s.count (length s.first) s.goes goes);
@@ -211,9 +211,9 @@ module _ (filter_by : Filter) (counts : Bool) where
   -- ---- a writer that fails to take what waits
 
   pub writing_stops : (room : ℕ) (held : Buffered) (remained remains : Option (List ℕ))
-      (old mid new : Stand) → FiltersSoFar filter_by counts room held remained remains old mid
+      (old mid new : Stand) → FiltersSoFar filter_by room held remained remains old mid
       → AppendsBeginning mid.holds new.holds mid.waits
-      → WritesBeginning filter_by counts remained remains old new
+      → WritesBeginning filter_by remained remains old new
   writing_stops room held remained remains old mid new s took = record {
     read = s.read;
     first = s.first;
@@ -232,8 +232,8 @@ module _ (filter_by : Filter) (counts : Bool) where
   -- ---- where more bytes are needed
 
   module _ (room : ℕ) (held : Buffered) (remained mid remains : Option (List ℕ)) (old now : Stand)
-      (idle : Idle filter_by counts room held remained mid old now) where
-    filters_ended : FiltersEnded filter_by counts old now idle.sofar.read
+      (idle : Idle filter_by room held remained mid old now) where
+    filters_ended : FiltersEnded filter_by old now idle.sofar.read
     filters_ended =
         let s = idle.sofar in
         let lines : ended_lines s.read ≡ s.first =
@@ -243,7 +243,7 @@ module _ (filter_by : Filter) (counts : Bool) where
         record {
           added = s.added;
           count = s.count;
-          filters = subst (λ (ls : List LogLine). Filters filter_by counts ls s.added s.count)
+          filters = subst (λ (ls : List LogLine). Filters filter_by ls s.added s.count)
               (sym lines) s.filters;
           goes = subst (λ (ls : List LogLine). Goes old now s.added s.count (length ls))
               (sym lines) s.goes;
@@ -251,7 +251,7 @@ module _ (filter_by : Filter) (counts : Bool) where
 
     -- a read failed
     pub read_stops : Keeps mid remains → (read : List ℕ) × Consumes remained remains read
-        × FiltersEnded filter_by counts old now read
+        × FiltersEnded filter_by old now read
     read_stops kept = (
       idle.sofar.read,
       Consumes-kept remained mid remains idle.sofar.read
@@ -263,7 +263,7 @@ module _ (filter_by : Filter) (counts : Bool) where
     pub endless_stops : (new : Buffered) (count : ℕ) → Receives mid remains held new count
         → room < count
         → (read : List ℕ) × (last : List ℕ) × Consumes remained remains (read ++ last)
-        × (2 ^ 64 - 1 < length (read ++ last)) × FiltersEnded filter_by counts old now read
+        × (2 ^ 64 - 1 < length (read ++ last)) × FiltersEnded filter_by old now read
     endless_stops new count r over =
         let s = idle.sofar in (
           s.read,
@@ -275,9 +275,9 @@ module _ (filter_by : Filter) (counts : Bool) where
 
   -- a line is too long without its end
   pub long_stops : (room : ℕ) (held : Buffered) (remained remains : Option (List ℕ))
-      (old now : Stand) (idle : Idle filter_by counts room held remained remains old now)
+      (old now : Stand) (idle : Idle filter_by room held remained remains old now)
       → 1048577 < length idle.sofar.pending → is_refused filter_by verdicts.TooLong ≡ true
-      → EndsAtLine filter_by counts remained remains old now verdicts.TooLong
+      → EndsAtLine filter_by remained remains old now verdicts.TooLong
   long_stops room held remained remains old now idle long refused =
       let s = idle.sofar in
       record {

@@ -86,16 +86,16 @@ mark_of (Addresses sets) verdict = []
 mark_of (Blocks tables) verdict = block_text (block_in verdict) ++ 9 ∷ []
 
 -- what is written for a line: its mark and the line if it is selected, and nothing if lines are only counted
-abbrev pub output_of : Filter → Bool → Verdict → LogLine → List ℕ
-output_of filter counts verdict line = if is_selected filter verdict && not counts then mark_of filter.listed verdict ++ printed line else []
+abbrev pub output_of : Filter → Verdict → LogLine → List ℕ
+output_of filter verdict line = if is_selected filter verdict && not filter.counts then mark_of filter.listed verdict ++ printed line else []
 
 -- how many lines that is
 abbrev pub one_if : Bool → ℕ
 one_if selected = if selected then 1 else 0
 
 -- for these lines in turn this is written, this many are selected, and none ends the run
-abbrev pub Filters : Filter → Bool → List LogLine → List ℕ → ℕ → Type 0
-Filters filter counts [] output count = (output ≡ []) × (count ≡ 0)
-Filters filter counts (line ∷ lines) output count = (verdict : Verdict) × (others : List ℕ) × (more : ℕ) × Judges filter (content line) verdict
-    × (is_refused filter verdict ≡ false) × Filters filter counts lines others more
-    × (output ≡ output_of filter counts verdict line ++ others) × (count ≡ one_if (is_selected filter verdict) + more)
+abbrev pub Filters : Filter → List LogLine → List ℕ → ℕ → Type 0
+Filters filter [] output count = (output ≡ []) × (count ≡ 0)
+Filters filter (line ∷ lines) output count = (verdict : Verdict) × (others : List ℕ) × (more : ℕ) × Judges filter (content line) verdict
+    × (is_refused filter verdict ≡ false) × Filters filter lines others more
+    × (output ≡ output_of filter verdict line ++ others) × (count ≡ one_if (is_selected filter verdict) + more)

@@ -18,13 +18,13 @@ LinesHaveOneVerdict = (filter : Filter) (line : List ℕ) (a b : Verdict) → Ju
 
 -- for the lines of a log at most one output is written, and as many are selected
 abbrev pub LogsHaveOneOutput : Type 0
-LogsHaveOneOutput = (filter : Filter) (counts : Bool) (log : List ℕ) (a b : List ℕ) (m n : ℕ) → Filters filter counts (log_lines log) a m → Filters filter counts (log_lines log) b n
+LogsHaveOneOutput = (filter : Filter) (log : List ℕ) (a b : List ℕ) (m n : ℕ) → Filters filter (log_lines log) a m → Filters filter (log_lines log) b n
     → (a ≡ b) × (m ≡ n)
 
 -- a log that is cut after a line feed gives what its two parts give, one after the other
 abbrev pub OutputsOfPartsFollow : Type 0
-OutputsOfPartsFollow = (filter : Filter) (counts : Bool) (first second a b : List ℕ) (m n : ℕ) → Filters filter counts (log_lines (first ++ 10 ∷ [])) a m
-    → Filters filter counts (log_lines second) b n → Filters filter counts (log_lines (first ++ 10 ∷ second)) (a ++ b) (m + n)
+OutputsOfPartsFollow = (filter : Filter) (first second a b : List ℕ) (m n : ℕ) → Filters filter (log_lines (first ++ 10 ∷ [])) a m
+    → Filters filter (log_lines second) b n → Filters filter (log_lines (first ++ 10 ∷ second)) (a ++ b) (m + n)
 
 -- a line that ends the run is a line of the log in its place, with the same verdict, whatever comes after what was read:
 -- one whose end was not read too, if the log ends with it or it is too long with any end

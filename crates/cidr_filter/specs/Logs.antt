@@ -26,10 +26,10 @@ IsFirstOf known name read = (input : List ℕ) → known.bytes_of name ≡ Some 
 
 -- the logs of these names were read to their ends: this is the output of their lines, one log after the other, and this
 -- many lines of all of them were selected
-abbrev pub FiltersLogs : Filter → Bool → KnownLists → List (List ℕ) → List ℕ → ℕ → Type 0
-FiltersLogs filter counts known [] output selected = (output ≡ []) × (selected ≡ 0)
-FiltersLogs filter counts known (name ∷ names) output selected = (read : List ℕ) × (added : List ℕ) × (others : List ℕ) × (one : ℕ) × (more : ℕ)
-    × IsAllOf known name read × Filters filter counts (log_lines read) added one × FiltersLogs filter counts known names others more
+abbrev pub FiltersLogs : Filter → KnownLists → List (List ℕ) → List ℕ → ℕ → Type 0
+FiltersLogs filter known [] output selected = (output ≡ []) × (selected ≡ 0)
+FiltersLogs filter known (name ∷ names) output selected = (read : List ℕ) × (added : List ℕ) × (others : List ℕ) × (one : ℕ) × (more : ℕ)
+    × IsAllOf known name read × Filters filter (log_lines read) added one × FiltersLogs filter known names others more
     × (output ≡ added ++ others) × (selected ≡ one + more)
 
 -- of the log of this name some bytes were read; after these first lines of them a line of this verdict ends the run,

@@ -40,7 +40,7 @@ Wrote faults.Endless end text = HasWritten end text
 
 -- a log was not filtered to its end, and ended the run: those before it were filtered, and its first lines; their
 -- outputs were written, the cause was reported, and the status is 2
-pub record StopsAtLog {W E : Type 0} (filter : Filter) (counts : Bool) (known : KnownLists) (names : List (List ℕ)) (end : Ending W E) : Type 0 where
+pub record StopsAtLog {W E : Type 0} (filter : Filter) (known : KnownLists) (names : List (List ℕ)) (end : Ending W E) : Type 0 where
   pub before : List (List ℕ)
   pub name : List ℕ
   pub behind : List (List ℕ)
@@ -51,8 +51,8 @@ pub record StopsAtLog {W E : Type 0} (filter : Filter) (counts : Bool) (known : 
   pub more : ℕ
   pub fault : LogFault
   pub logs : names ≡ before ++ name ∷ behind
-  pub filters : FiltersLogs filter counts known before output selected
-  pub first : Filters filter counts lines added more
+  pub filters : FiltersLogs filter known before output selected
+  pub first : Filters filter lines added more
   pub halts : HaltsBy filter known name lines fault
   pub wrote : Wrote fault end (output ++ added)
   pub told : HasTold end (log_fault_text name (length lines) fault)
@@ -63,22 +63,22 @@ abbrev pub total_text : Bool → ℕ → List ℕ
 total_text counts selected = if counts then decimal (min selected (2 ^ 64 - 1)) ++ codes "\n" else []
 
 -- all logs were filtered to their ends
-pub record FiltersAll {W E : Type 0} (filter : Filter) (counts : Bool) (known : KnownLists) (names : List (List ℕ)) (end : Ending W E) : Type 0 where
+pub record FiltersAll {W E : Type 0} (filter : Filter) (known : KnownLists) (names : List (List ℕ)) (end : Ending W E) : Type 0 where
   pub output : List ℕ
   pub selected : ℕ
-  pub filters : FiltersLogs filter counts known names output selected
+  pub filters : FiltersLogs filter known names output selected
   -- their output was written and nothing reported, and the status is 0 if a line was selected and else 1; or the writer
   -- failed, and that was reported
-  pub ends : (HasWritten end (output ++ total_text counts selected) × HasTold end [] × (end.status ≡ (if nat_lt 0 selected then 0 else 1)))
-      ⊎ (FailsWriting end (output ++ total_text counts selected) × HasTold end (codes "write error\n") × (end.status ≡ 2))
+  pub ends : (HasWritten end (output ++ total_text filter.counts selected) × HasTold end [] × (end.status ≡ (if nat_lt 0 selected then 0 else 1)))
+      ⊎ (FailsWriting end (output ++ total_text filter.counts selected) × HasTold end (codes "write error\n") × (end.status ≡ 2))
 
 -- the logs were filtered, in turn
-abbrev pub EndsLogs : {W E : Type 0} → Filter → Bool → KnownLists → List (List ℕ) → Ending W E → Type 0
-EndsLogs filter counts known names end = FiltersAll filter counts known names end ⊎ StopsAtLog filter counts known names end
+abbrev pub EndsLogs : {W E : Type 0} → Filter → KnownLists → List (List ℕ) → Ending W E → Type 0
+EndsLogs filter known names end = FiltersAll filter known names end ⊎ StopsAtLog filter known names end
 
 -- the filter of a request
 abbrev pub filter_of : Request → Listed → Filter
-filter_of request listed = record { listed = listed; field = request.field; separator = request.separator; inverts = request.inverts; bad = request.bad }
+filter_of request listed = record { listed = listed; field = request.field; separator = request.separator; inverts = request.inverts; bad = request.bad; counts = request.counts }
 
 -- this was read of the lists: if a line of them was refused, or there is no memory, nothing is written. Else the logs are
 -- filtered by it
@@ -87,7 +87,7 @@ EndsFiltering known words request read end =
     ((was_refused read.refused ≡ true) × Refuses [] end)
     ⊎ ((was_refused read.refused ≡ false) × (Refuses (codes "out of memory\n") end
     ⊎ ((listed : Listed) × HoldsRead request.longest read listed
-    × EndsLogs (filter_of request listed) request.counts known (logs_of (drop request.files words)) end)))
+    × EndsLogs (filter_of request listed) known (logs_of (drop request.files words)) end)))
 
 -- the lists were not read to their ends, and these lines were refused before: nothing was written, and the cause was
 -- reported

@@ -12,24 +12,24 @@ use Rattle.cidr_filter.specs.declared.log.LogFault.{LogFault}
 use Rattle.cidr_filter.specs.declared.log.LogFault.TheVariants.{Open, Read, Write, Address, Length, Endless}
 
 -- what was read was filtered to its end
-pub record Ends (filter : Filter) (counts : Bool) (remained remains : Option (List ℕ)) (old new : Stand) : Type 0 where
+pub record Ends (filter : Filter) (remained remains : Option (List ℕ)) (old new : Stand) : Type 0 where
   pub read : List ℕ
   pub added : List ℕ
   pub count : ℕ
   pub reads : Consumes remained remains read
   pub end : IsAtEnd remains
-  pub filters : Filters filter counts (log_lines read) added count
+  pub filters : Filters filter (log_lines read) added count
   pub goes : Goes old new added count (length (log_lines read))
 
 -- of these bytes the lines were filtered whose line feed is there
-pub record FiltersEnded (filter : Filter) (counts : Bool) (old new : Stand) (bytes : List ℕ) : Type 0 where
+pub record FiltersEnded (filter : Filter) (old new : Stand) (bytes : List ℕ) : Type 0 where
   pub added : List ℕ
   pub count : ℕ
-  pub filters : Filters filter counts (ended_lines bytes) added count
+  pub filters : Filters filter (ended_lines bytes) added count
   pub goes : Goes old new added count (length (ended_lines bytes))
 
 -- of what was read the first lines were filtered, and the writer, which failed, took a beginning of their output
-pub record WritesBeginning (filter : Filter) (counts : Bool) (remained remains : Option (List ℕ)) (old new : Stand) : Type 0 where
+pub record WritesBeginning (filter : Filter) (remained remains : Option (List ℕ)) (old new : Stand) : Type 0 where
   pub read : List ℕ
   pub first : List LogLine
   pub others : List LogLine
@@ -37,11 +37,11 @@ pub record WritesBeginning (filter : Filter) (counts : Bool) (remained remains :
   pub count : ℕ
   pub reads : Consumes remained remains read
   pub lines : log_lines read ≡ first ++ others
-  pub filters : Filters filter counts first added count
+  pub filters : Filters filter first added count
   pub beginning : AppendsBeginning old.holds new.holds (old.waits ++ added)
 
 -- of what was read the first lines were filtered, and the next line, of this verdict, ends the run
-pub record EndsAtLine (filter : Filter) (counts : Bool) (remained remains : Option (List ℕ)) (old new : Stand) (verdict : Verdict) : Type 0 where
+pub record EndsAtLine (filter : Filter) (remained remains : Option (List ℕ)) (old new : Stand) (verdict : Verdict) : Type 0 where
   pub read : List ℕ
   pub first : List LogLine
   pub line : LogLine
@@ -50,27 +50,27 @@ pub record EndsAtLine (filter : Filter) (counts : Bool) (remained remains : Opti
   pub count : ℕ
   pub reads : Consumes remained remains read
   pub lines : log_lines read ≡ first ++ line ∷ others
-  pub filters : Filters filter counts first added count
+  pub filters : Filters filter first added count
   pub goes : Goes old new added count (length first)
   pub is_line : IsWhole (IsAtEnd remains) line
   pub judges : Judges filter (content line) verdict
   pub refused : is_refused filter verdict ≡ true
 
 -- what is true if a log is not filtered to its end, by the fault
-abbrev pub Stops : Filter → Bool → Option (List ℕ) → Option (List ℕ) → Bool → Bool → Stand → Stand → LogFault → Type 0
+abbrev pub Stops : Filter → Option (List ℕ) → Option (List ℕ) → Bool → Bool → Stand → Stand → LogFault → Type 0
 -- it was opened
-Stops filter counts remained remains read_failed write_failed old new Open = ⊥
+Stops filter remained remains read_failed write_failed old new Open = ⊥
 -- a read failed, and what was read before was filtered
-Stops filter counts remained remains read_failed write_failed old new Read = IsTrue read_failed × (read : List ℕ) × Consumes remained remains read × FiltersEnded filter counts old new read
+Stops filter remained remains read_failed write_failed old new Read = IsTrue read_failed × (read : List ℕ) × Consumes remained remains read × FiltersEnded filter old new read
 -- a write failed
-Stops filter counts remained remains read_failed write_failed old new Write = IsTrue write_failed × WritesBeginning filter counts remained remains old new
+Stops filter remained remains read_failed write_failed old new Write = IsTrue write_failed × WritesBeginning filter remained remains old new
 -- the first line without an address ends the run
-Stops filter counts remained remains read_failed write_failed old new Address = EndsAtLine filter counts remained remains old new verdicts.Bad
+Stops filter remained remains read_failed write_failed old new Address = EndsAtLine filter remained remains old new verdicts.Bad
 -- the first line that is too long does
-Stops filter counts remained remains read_failed write_failed old new Length = EndsAtLine filter counts remained remains old new verdicts.TooLong
+Stops filter remained remains read_failed write_failed old new Length = EndsAtLine filter remained remains old new verdicts.TooLong
 -- more bytes were read than 64 bits count; all but the last of them were filtered
-Stops filter counts remained remains read_failed write_failed old new Endless =
-    (read : List ℕ) × (last : List ℕ) × Consumes remained remains (read ++ last) × (2 ^ 64 - 1 < length (read ++ last)) × FiltersEnded filter counts old new read
+Stops filter remained remains read_failed write_failed old new Endless =
+    (read : List ℕ) × (last : List ℕ) × Consumes remained remains (read ++ last) × (2 ^ 64 - 1 < length (read ++ last)) × FiltersEnded filter old new read
 
 -- whether a read ended the filtering
 abbrev pub ended_by_read : {T : Type 0} → Result T LogFault → Bool

@@ -42,6 +42,8 @@ pub struct Filter {
     pub(crate) separator: u8,
     pub(crate) inverts: bool,
     pub(crate) bad: Bad,
+    /// Whether the selected lines are only counted.
+    pub(crate) counts: bool,
 }
 
 impl Filter {

@@ -42,13 +42,12 @@ pub struct Tally {
     pub lines: u64,
 }
 
-/// Filters the lines of a log: those that are selected are written, or, if `counts`, only counted.
+/// Filters the lines of a log: those that are selected are written, or only counted.
 ///
 /// What is selected of the lines that a read completes is written before the next read. After a failed read nothing is
 /// written. A line that is too long ends the run even if its end was not read.
 pub fn filter_log<R: Read, W: Write>(
     filter: &Filter,
-    counts: bool,
     buffer: &mut [u8],
     reader: &mut Watched<R>,
     output: &mut Output<'_, W>,
@@ -56,19 +55,20 @@ pub fn filter_log<R: Read, W: Write>(
 ) -> Result<(), LogFault>
     requires room { 1048578 ≤ length buffer.old }
     ensures ok { OnOk result
-        (Ends filter.now counts (R.remaining (device_of reader.old))
+        (Ends filter.now (R.remaining (device_of reader.old))
         (R.remaining (device_of reader.new))
         (stand output.old tally.old)
         (stand output.new tally.new)) }
     ensures err { IfErr result
-        (Stops filter.now counts (R.remaining (device_of reader.old))
+        (Stops filter.now (R.remaining (device_of reader.old))
         (R.remaining (device_of reader.new))
         (has_failed reader.new) output.new.failed
         (stand output.old tally.old)
         (stand output.new tally.new)) }
     // A device has failed exactly if it had failed before, or its failure ended the log. So nothing is written after a
     // read that failed.
-    ensures reader_failed { has_failed reader.new ≡ (has_failed reader.old || ended_by_read result) }
+    ensures reader_failed {
+        has_failed reader.new ≡ (has_failed reader.old || ended_by_read result) }
     ensures writer_failed { output.new.failed ≡ (output.old.failed || ended_by_write result) }
     ensures written { OnOk result (output.new.waits ≡ []) }
     ensures handed_on { result ≡ Err LogFault.Read → output.old.waits ≡ [] → output.new.waits ≡ [] }
@@ -81,7 +81,7 @@ pub fn filter_log<R: Read, W: Write>(
             NextLine::Line(end) => {
                 let line = lines.line();
                 let whole = lines.whole_line();
-                if let Err(fault) = filter_line(filter, counts, line, whole, end, output, tally) {
+                if let Err(fault) = filter_line(filter, line, whole, end, output, tally) {
                     return Err(fault);
                 }
             }
@@ -117,16 +117,15 @@ pub fn filter_log<R: Read, W: Write>(
 // Filters a line within the limit. `whole` is the line as it was read, with its end.
 fn filter_line<W: Write>(
     filter: &Filter,
-    counts: bool,
     line: &[u8],
     whole: &[u8],
     end: LineEnd,
     output: &mut Output<'_, W>,
     tally: &mut Tally,
 ) -> Result<(), LogFault>
-    ensures ok { OnOk result (FiltersLine filter.now counts line.now (whole.now ++ feed_behind end)
+    ensures ok { OnOk result (FiltersLine filter.now line.now (whole.now ++ feed_behind end)
         (stand output.old tally.old) (stand output.new tally.new)) }
-    ensures err { IfErr result (LineStops filter.now counts line.now (whole.now ++ feed_behind end)
+    ensures err { IfErr result (LineStops filter.now line.now (whole.now ++ feed_behind end)
         output.new.failed
         (stand output.old tally.old) (stand output.new tally.new)) }
     ensures writer_failed { output.new.failed ≡ (output.old.failed || ended_by_write result) }
@@ -139,13 +138,12 @@ fn filter_line<W: Write>(
     if !filter.selects(&verdict) {
         return Ok(());
     }
-    select_line(filter, counts, &verdict, whole, end, output, tally)
+    select_line(filter, &verdict, whole, end, output, tally)
 }
 
 // Counts a line, and writes it unless lines are only counted.
 fn select_line<W: Write>(
     filter: &Filter,
-    counts: bool,
     verdict: &Verdict,
     whole: &[u8],
     end: LineEnd,
@@ -154,18 +152,18 @@ fn select_line<W: Write>(
 ) -> Result<(), LogFault>
     ensures ok { OnOk result (Goes
         (stand output.old tally.old) (stand output.new tally.new)
-        (if counts then [] else mark_of filter.now.listed verdict.now
+        (if filter.now.counts then [] else mark_of filter.now.listed verdict.now
         ++ (whole.now ++ feed_behind end)) 1 0) }
     ensures err { OnErr result (IsTrue output.new.failed) }
     ensures beginning { OnErr result (AppendsBeginning
         output.old.holds output.new.holds (output.old.waits
-        ++ (if counts then []
+        ++ (if filter.now.counts then []
         else mark_of filter.now.listed verdict.now ++ (whole.now ++ feed_behind end)))) }
     ensures fault { IsOkUnless result LogFault.Write }
     ensures writer_failed { output.new.failed ≡ (output.old.failed || ended_by_write result) }
 {
     tally.selected = tally.selected.saturating_add(1);
-    if counts {
+    if filter.counts {
         return Ok(());
     }
     match print_line(&filter.listed, verdict, whole, end, output) {

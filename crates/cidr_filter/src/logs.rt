@@ -28,7 +28,6 @@ const NONE_SELECTED: u8 = 1;
 /// Filters the logs of these names in their order, or standard input if there is no name, and returns the exit status.
 pub(crate) fn filter_logs<L: OpenLists, W: Write, E: Write>(
     filter: &Filter,
-    counts: bool,
     files: &[String],
     lists: &L,
     buffer: &mut [u8],
@@ -36,19 +35,17 @@ pub(crate) fn filter_logs<L: OpenLists, W: Write, E: Write>(
     errors: &mut Output<'_, E>,
 ) -> u8
     requires { 1048578 ≤ length buffer.old }
-    ensures { EndsLogs filter.now counts (L.known lists.now) (logs_of files.now)
+    ensures { EndsLogs filter.now (L.known lists.now) (logs_of files.now)
         (ending output.old output.new errors.old errors.new result) }
 {
     let mut tally = Tally {
         selected: 0,
         lines: 0,
     };
-    if !filter_each(
-        filter, counts, files, lists, buffer, output, &mut tally, errors,
-    ) {
+    if !filter_each(filter, files, lists, buffer, output, &mut tally, errors) {
         return FAILED;
     }
-    let written = write_end(counts, tally.selected, output);
+    let written = write_end(filter.counts, tally.selected, output);
     end(written, status(tally.selected), errors)
 }
 
@@ -56,7 +53,6 @@ pub(crate) fn filter_logs<L: OpenLists, W: Write, E: Write>(
 // reported.
 fn filter_each<L: OpenLists, W: Write, E: Write>(
     filter: &Filter,
-    counts: bool,
     files: &[String],
     lists: &L,
     buffer: &mut [u8],
@@ -66,19 +62,19 @@ fn filter_each<L: OpenLists, W: Write, E: Write>(
 ) -> bool
     requires { 1048578 ≤ length buffer.old }
     ensures all { result ≡ true → (errors.new ≡ errors.old)
-        × FiltersNames filter.now counts (L.known lists.now) (logs_of files.now)
+        × FiltersNames filter.now (L.known lists.now) (logs_of files.now)
         (stand output.old tally.old) (stand output.new tally.new) }
     ensures stopped { result ≡ false
-        → StopsAtLog filter.now counts (L.known lists.now) (logs_of files.now)
+        → StopsAtLog filter.now (L.known lists.now) (logs_of files.now)
         (ending output.old output.new errors.old errors.new 2) }
 {
     if files.is_empty() {
         let input = "-";
-        return filter_one(filter, counts, input, lists, buffer, output, tally, errors);
+        return filter_one(filter, input, lists, buffer, output, tally, errors);
     }
     for file in files {
         let name = file.as_str();
-        if !filter_one(filter, counts, name, lists, buffer, output, tally, errors) {
+        if !filter_one(filter, name, lists, buffer, output, tally, errors) {
             return false;
         }
     }
@@ -88,7 +84,6 @@ fn filter_each<L: OpenLists, W: Write, E: Write>(
 // Opens the log of this name and filters it, and returns whether it came to its end. If not, the cause is reported.
 fn filter_one<L: OpenLists, W: Write, E: Write>(
     filter: &Filter,
-    counts: bool,
     name: &str,
     lists: &L,
     buffer: &mut [u8],
@@ -98,10 +93,10 @@ fn filter_one<L: OpenLists, W: Write, E: Write>(
 ) -> bool
     requires { 1048578 ≤ length buffer.old }
     ensures all { result ≡ true → (errors.new ≡ errors.old)
-        × FiltersNames filter.now counts (L.known lists.now) (name.now ∷ [])
+        × FiltersNames filter.now (L.known lists.now) (name.now ∷ [])
         (stand output.old tally.old) (stand output.new tally.new) }
     ensures stopped { result ≡ false
-        → StopsAtLog filter.now counts (L.known lists.now) (name.now ∷ [])
+        → StopsAtLog filter.now (L.known lists.now) (name.now ∷ [])
         (ending output.old output.new errors.old errors.new 2) }
 {
     tally.lines = 0;
@@ -110,7 +105,7 @@ fn filter_one<L: OpenLists, W: Write, E: Write>(
         return false;
     };
     let mut log = Watched::new(log);
-    let end = filter_log(filter, counts, buffer, &mut log, output, tally);
+    let end = filter_log(filter, buffer, &mut log, output, tally);
     lists.close(name, log);
     match end {
         Ok(()) => true,

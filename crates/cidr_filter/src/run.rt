@@ -80,18 +80,11 @@ fn filter<L: OpenLists, W: Write, E: Write>(
         separator: request.separator,
         inverts: request.inverts,
         bad: request.bad,
+        counts: request.counts,
     };
     let files = &words[request.files..];
     let buffer = buffer.as_mut_slice();
-    filter_logs(
-        &filter,
-        request.counts,
-        files,
-        lists,
-        buffer,
-        output,
-        errors,
-    )
+    filter_logs(&filter, files, lists, buffer, output, errors)
 }
 
 // Reports that memory ran out, and returns the exit status for that.

@@ -22,15 +22,15 @@ feed_behind ReturnAndLineFeed = []
 feed_behind EndOfInput = 10 ∷ []
 
 -- what is written for a line of this verdict, if this is its text: that behind the mark, or nothing
-abbrev pub shown : Filter → Bool → Verdict → List ℕ → List ℕ
-shown filter counts verdict text =
-    if is_selected filter verdict && not counts then mark_of filter.listed verdict ++ text else []
+abbrev pub shown : Filter → Verdict → List ℕ → List ℕ
+shown filter verdict text =
+    if is_selected filter verdict && not filter.counts then mark_of filter.listed verdict ++ text else []
 
 -- a line, given without its end and as it is written, was filtered
-abbrev pub FiltersLine : Filter → Bool → List ℕ → List ℕ → Stand → Stand → Type 0
-FiltersLine filter counts line text old new = (verdict : Verdict) × Judges filter line verdict
+abbrev pub FiltersLine : Filter → List ℕ → List ℕ → Stand → Stand → Type 0
+FiltersLine filter line text old new = (verdict : Verdict) × Judges filter line verdict
     × (is_refused filter verdict ≡ false)
-    × Goes old new (shown filter counts verdict text) (one_if (is_selected filter verdict)) 1
+    × Goes old new (shown filter verdict text) (one_if (is_selected filter verdict)) 1
 
 -- a line, given without its end, ends the run
 abbrev pub RefusesLine : Filter → List ℕ → Stand → Stand → Verdict → Type 0
@@ -38,17 +38,17 @@ RefusesLine filter line old new verdict =
     Judges filter line verdict × (is_refused filter verdict ≡ true) × (new ≡ old)
 
 -- or the writer failed, which took a beginning of what waited and of the line's output
-abbrev pub LineStops : Filter → Bool → List ℕ → List ℕ → Bool → Stand → Stand → LogFault → Type 0
-LineStops filter counts line text write_failed old new faults.Open = ⊥
-LineStops filter counts line text write_failed old new faults.Read = ⊥
-LineStops filter counts line text write_failed old new faults.Write =
+abbrev pub LineStops : Filter → List ℕ → List ℕ → Bool → Stand → Stand → LogFault → Type 0
+LineStops filter line text write_failed old new faults.Open = ⊥
+LineStops filter line text write_failed old new faults.Read = ⊥
+LineStops filter line text write_failed old new faults.Write =
     IsTrue write_failed × (verdict : Verdict) × Judges filter line verdict × (is_refused filter verdict ≡ false)
-    × AppendsBeginning old.holds new.holds (old.waits ++ shown filter counts verdict text)
-LineStops filter counts line text write_failed old new faults.Address =
+    × AppendsBeginning old.holds new.holds (old.waits ++ shown filter verdict text)
+LineStops filter line text write_failed old new faults.Address =
     RefusesLine filter line old new verdicts.Bad
-LineStops filter counts line text write_failed old new faults.Length =
+LineStops filter line text write_failed old new faults.Length =
     RefusesLine filter line old new verdicts.TooLong
-LineStops filter counts line text write_failed old new faults.Endless = ⊥
+LineStops filter line text write_failed old new faults.Endless = ⊥
 
 -- these lines, and then those of what is pending, are the lines of what was read, whatever is read after it
 abbrev pub AreFirst : Bool → List ℕ → List LogLine → List ℕ → Type 0
@@ -56,7 +56,7 @@ AreFirst ended read first pending = (more : List ℕ) → (ended ≡ true → mo
     → log_lines (read ++ more) ≡ first ++ log_lines (pending ++ more)
 
 -- what was read, with room for so many more bytes: its first lines were filtered, and what follows them is pending
-pub record FiltersSoFar (filter : Filter) (counts : Bool) (room : ℕ) (held : Buffered)
+pub record FiltersSoFar (filter : Filter) (room : ℕ) (held : Buffered)
     (remained remains : Option (List ℕ)) (old new : Stand) : Type 0 where
   pub read : List ℕ
   pub reads : Consumes remained remains read
@@ -69,5 +69,5 @@ pub record FiltersSoFar (filter : Filter) (counts : Bool) (room : ℕ) (held : B
   pub ended : held.ended ≡ false → list_all (λ line. line.is_ended) first ≡ true
   pub added : List ℕ
   pub count : ℕ
-  pub filters : Filters filter counts first added count
+  pub filters : Filters filter first added count
   pub goes : Goes old new added count (length first)

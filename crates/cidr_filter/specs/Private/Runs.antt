@@ -12,10 +12,10 @@ use Rattle.cidr_filter.specs.declared.log.LogFault.{LogFault}
 use Rattle.cidr_filter.specs.declared.log.LogFault.TheVariants as faults
 
 -- the logs of these names were filtered to their ends, in turn
-pub record FiltersNames (filter : Filter) (counts : Bool) (known : KnownLists) (names : List (List ℕ)) (old new : Stand) : Type 0 where
+pub record FiltersNames (filter : Filter) (known : KnownLists) (names : List (List ℕ)) (old new : Stand) : Type 0 where
   pub output : List ℕ
   pub count : ℕ
-  pub filters : FiltersLogs filter counts known names output count
+  pub filters : FiltersLogs filter known names output count
   pub puts : Puts old.holds old.waits new.holds new.waits output
   pub counted : Counts old.selected new.selected count
 

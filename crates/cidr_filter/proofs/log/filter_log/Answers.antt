@@ -8,7 +8,7 @@ use Rattle.cidr_filter.proofs.log.filter_log.Goals as goal
 
 pub lines-init : goal.lines-init
 lines-init g c = record {
-  sofar = begins c.args.filter.now c.args.counts _ c.new-lines.result _ _ refl
+  sofar = begins c.args.filter.now _ c.new-lines.result _ _ refl
       c.new-lines.ensures.holds c.new-lines.ensures.ended;
   limit = c.new-lines.ensures.limit;
   size = refl;
@@ -20,7 +20,7 @@ lines-init g c = record {
 
 pub returns-in-Err-clause-err : goal.returns-in-Err-clause-err
 returns-in-Err-clause-err g c =
-    line_stops c.args.filter.now c.args.counts c.lines.room c.lines.lines c.next.new.self _ _ _ _
+    line_stops c.args.filter.now c.lines.room c.lines.lines c.next.new.self _ _ _ _
     c.lines.invariant.sofar c.next.ensures.ended _ c.in-Line.end c.line-line.result.now
     c.whole_line-whole.result.now c.in-Line.ensures.gives c.line-line.ensures
     c.whole_line-whole.ensures (has_failed c.lines.reader)
@@ -29,7 +29,7 @@ returns-in-Err-clause-err g c =
 
 pub lines-preserved-in_default : goal.lines-preserved-in_default
 lines-preserved-in_default g c = record {
-  sofar = after_line c.args.filter.now c.args.counts c.lines.room c.lines.lines c.next.new.self _ _
+  sofar = after_line c.args.filter.now c.lines.room c.lines.lines c.next.new.self _ _
       _ _ c.lines.invariant.sofar c.next.ensures.ended _ c.in-Line.end c.line-line.result.now
       c.whole_line-whole.result.now c.in-Line.ensures.gives c.line-line.ensures
       c.whole_line-whole.ensures c.in_default.ensures.ok;
@@ -43,14 +43,14 @@ lines-preserved-in_default g c = record {
 
 pub returns-then-refuses_long_lines-clause-err : goal.returns-then-refuses_long_lines-clause-err
 returns-then-refuses_long_lines-clause-err g c =
-    long_line_stops c.args.filter.now c.args.counts c.lines.room c.lines.lines c.next.new.self _ _ _
+    long_line_stops c.args.filter.now c.lines.room c.lines.lines c.next.new.self _ _ _
     _ c.lines.invariant.sofar c.next.ensures.ended c.in-TooLong.ensures.gives
     (c.next.ensures.limit ∙ c.lines.invariant.limit)
     (sym c.refuses-refuses_long_lines.ensures ∙ c.if-refuses_long_lines.true)
 
 pub lines-preserved-in-TooLong : goal.lines-preserved-in-TooLong
 lines-preserved-in-TooLong g c = record {
-  sofar = after_long c.args.filter.now c.args.counts c.lines.room c.lines.lines c.next.new.self _ _
+  sofar = after_long c.args.filter.now c.lines.room c.lines.lines c.next.new.self _ _
       _ _ c.lines.invariant.sofar c.next.ensures.ended _ c.in-TooLong.ensures.gives
       (c.next.ensures.limit ∙ c.lines.invariant.limit)
       (sym c.refuses-refuses_long_lines.ensures ∙ c.if-refuses_long_lines.false) (
@@ -70,7 +70,7 @@ lines-preserved-in-TooLong g c = record {
 pub returns-in_default-hand_on-clause-err : goal.returns-in_default-hand_on-clause-err
 returns-in_default-hand_on-clause-err g c = (
   failed_now c.hand_on.new.self.failed _ c.in_default-hand_on.ensures.failed,
-  writing_stops c.args.filter.now c.args.counts c.lines.room c.lines.lines _ _ _ _ _
+  writing_stops c.args.filter.now c.lines.room c.lines.lines _ _ _ _ _
       c.lines.invariant.sofar c.in_default-hand_on.ensures.err,
 )
 
@@ -80,13 +80,13 @@ is_too_long-requires g c = (c.in-Ask.ensures.gives c.lines.invariant.sofar.pendi
 
 pub returns-then-is_too_long-clause-err : goal.returns-then-is_too_long-clause-err
 returns-then-is_too_long-clause-err g c =
-    let idle = before_asking c.args.filter.now c.args.counts c.lines.room c.lines.lines
+    let idle = before_asking c.args.filter.now c.lines.room c.lines.lines
     c.next.new.self _ _ _ _ _ c.lines.invariant.sofar c.in-Ask.ensures.gives
     c.next.ensures.ended
     (goes_out _ _ refl refl c.in-Ok.ensures.emptied c.in-Ok.ensures.ok) in
     let long = (c.is_too_long.ensures idle.sofar.pending idle.sofar.holds).0
     c.if-is_too_long.true in
-    long_stops c.args.filter.now c.args.counts c.lines.room c.next.new.self _ _ _ _ idle
+    long_stops c.args.filter.now c.lines.room c.next.new.self _ _ _ _ idle
     (omega (arith, long, c.next.ensures.limit, c.lines.invariant.limit))
     (sym c.refuses-refuses_long_lines.ensures ∙ c.if-refuses_long_lines-2.true)
 
@@ -96,11 +96,11 @@ ask-requires g c = (c.in-Ask.ensures.gives c.lines.invariant.sofar.pending
 
 pub returns-in_default-ask-clause-err : goal.returns-in_default-ask-clause-err
 returns-in_default-ask-clause-err g c =
-    let idle = before_asking c.args.filter.now c.args.counts c.lines.room c.lines.lines
+    let idle = before_asking c.args.filter.now c.lines.room c.lines.lines
     c.next.new.self _ _ _ _ _ c.lines.invariant.sofar c.in-Ask.ensures.gives
     c.next.ensures.ended
     (goes_out _ _ refl refl c.in-Ok.ensures.emptied c.in-Ok.ensures.ok) in
-    let stops = read_stops c.args.filter.now c.args.counts c.lines.room c.next.new.self _ _ _ _ _
+    let stops = read_stops c.args.filter.now c.lines.room c.next.new.self _ _ _ _ _
     idle c.in_default-ask.ensures.err in (
       failed_now (has_failed c.ask.new.reader) _ c.in_default-ask.ensures.failed,
       stops.0,
@@ -110,22 +110,22 @@ returns-in_default-ask-clause-err g c =
 
 pub returns-then-count-room-clause-err : goal.returns-then-count-room-clause-err
 returns-then-count-room-clause-err g c =
-    let idle = before_asking c.args.filter.now c.args.counts c.lines.room c.lines.lines
+    let idle = before_asking c.args.filter.now c.lines.room c.lines.lines
     c.next.new.self _ _ _ _ _ c.lines.invariant.sofar c.in-Ask.ensures.gives
     c.next.ensures.ended
     (goes_out _ _ refl refl c.in-Ok.ensures.emptied c.in-Ok.ensures.ok) in
-    endless_stops c.args.filter.now c.args.counts c.lines.room c.next.new.self _ _ _ _ _ idle
+    endless_stops c.args.filter.now c.lines.room c.next.new.self _ _ _ _ _ idle
     c.ask.new.self c.in-Ok-ask.count c.in-Ok-ask.ensures.read c.if-count-room.true
 
 pub lines-preserved : goal.lines-preserved
 lines-preserved g c =
     let before = c.lines.invariant in
     let asked = c.in-Ok-ask.ensures in
-    let idle = before_asking c.args.filter.now c.args.counts c.lines.room c.lines.lines
+    let idle = before_asking c.args.filter.now c.lines.room c.lines.lines
     c.next.new.self _ _ _ _ _ before.sofar c.in-Ask.ensures.gives c.next.ensures.ended
     (goes_out _ _ refl refl c.in-Ok.ensures.emptied c.in-Ok.ensures.ok) in
     record {
-      sofar = after_asking c.args.filter.now c.args.counts c.lines.room
+      sofar = after_asking c.args.filter.now c.lines.room
           (c.lines.room - c.in-Ok-ask.count) c.in-Ok-ask.count c.next.new.self c.ask.new.self _ _ _
           _ _ idle
           asked.read asked.ended c.if-count-room.false refl;
@@ -159,12 +159,12 @@ lines-smaller g c =
 pub returns-in-Err-hand_on-clause-err : goal.returns-in-Err-hand_on-clause-err
 returns-in-Err-hand_on-clause-err g c = (
   failed_now c.hand_on-in-End.new.self.failed _ c.in-Err-hand_on.ensures.failed,
-  writing_stops c.args.filter.now c.args.counts c.lines.room c.lines.lines _ _ _ _ _
+  writing_stops c.args.filter.now c.lines.room c.lines.lines _ _ _ _ _
       c.lines.invariant.sofar c.in-Err-hand_on.ensures.err,
 )
 
 pub returns-in-Ok-hand_on-clause-ok : goal.returns-in-Ok-hand_on-clause-ok
 returns-in-Ok-hand_on-clause-ok g c =
-    log_ends c.args.filter.now c.args.counts c.lines.room c.lines.lines c.next.new.self _ _ _ _
+    log_ends c.args.filter.now c.lines.room c.lines.lines c.next.new.self _ _ _ _
     c.lines.invariant.sofar c.next.ensures.ended _ c.in-End.ensures.gives
     (goes_out _ _ refl refl c.in-Ok-hand_on.ensures.emptied c.in-Ok-hand_on.ensures.ok)

@@ -7,7 +7,7 @@ use Rattle.cidr_filter.proofs.log.filter_log.Given as goal
 
 abbrev pub invariant-lines : goal.invariant-lines
 invariant-lines g l = record {
-  sofar : FiltersSoFar l.filter l.counts l.room l.lines
+  sofar : FiltersSoFar l.filter l.room l.lines
       (g.R.Read.remaining (device_of l.initial.reader)) (g.R.Read.remaining (device_of l.reader))
       (stand l.initial.output l.initial.tally)
       (stand l.output l.tally);

@@ -6,17 +6,17 @@ use Rattle.cidr_filter.proofs.logs.filter_each.Goals as goal
 pub returns-then-is_empty-clause-all : goal.returns-then-is_empty-clause-all
 returns-then-is_empty-clause-all g c = λ yes.
     let all = c.filter_one.ensures.all yes in
-    (all.0, input_named c.args.filter.now c.args.counts (g.L.OpenLists.known c.args.lists.now) c.args.files.now _ _ (sym c.is_empty.ensures ∙ c.if-is_empty.true) all.1)
+    (all.0, input_named c.args.filter.now (g.L.OpenLists.known c.args.lists.now) c.args.files.now _ _ (sym c.is_empty.ensures ∙ c.if-is_empty.true) all.1)
 
 pub returns-then-is_empty-clause-stopped : goal.returns-then-is_empty-clause-stopped
 returns-then-is_empty-clause-stopped g c = λ no.
-    input_stops c.args.filter.now c.args.counts (g.L.OpenLists.known c.args.lists.now) c.args.files.now _ (sym c.is_empty.ensures ∙ c.if-is_empty.true) (c.filter_one.ensures.stopped no)
+    input_stops c.args.filter.now (g.L.OpenLists.known c.args.lists.now) c.args.files.now _ (sym c.is_empty.ensures ∙ c.if-is_empty.true) (c.filter_one.ensures.stopped no)
 
 pub loop-file-init : goal.loop-file-init
 loop-file-init g c = record {
   room = c.requires;
   silent = refl;
-  names = names_none c.args.filter.now c.args.counts (g.L.OpenLists.known c.args.lists.now) _;
+  names = names_none c.args.filter.now (g.L.OpenLists.known c.args.lists.now) _;
 }
 
 pub loop-file-preserved : goal.loop-file-preserved
@@ -28,7 +28,7 @@ loop-file-preserved g c =
     record {
       room = omega (arith, c.loop-file.invariant.room, c.filter_one-in-loop-file.auto.buffer);
       silent = all.0 ∙ c.loop-file.invariant.silent;
-      names = one_more c.args.filter.now c.args.counts (g.L.OpenLists.known c.args.lists.now) files i name _ _ _ (names_more files i c.file-item.result name (omega arith) c.file-item.is c.as_str-name.ensures.value)
+      names = one_more c.args.filter.now (g.L.OpenLists.known c.args.lists.now) files i name _ _ _ (names_more files i c.file-item.result name (omega arith) c.file-item.is c.as_str-name.ensures.value)
           c.loop-file.invariant.names all.1;
     }
 
@@ -37,7 +37,7 @@ returns-then-not-filter_one-clause-stopped g c = λ no.
     let files = c.args.files.now in
     let i = c.loop-file.file-index in
     let name = c.as_str-name.result.now in
-    one_stops c.args.filter.now c.args.counts (g.L.OpenLists.known c.args.lists.now) files i name c.args.output.now c.loop-file.output
+    one_stops c.args.filter.now (g.L.OpenLists.known c.args.lists.now) files i name c.args.output.now c.loop-file.output
     c.filter_one-in-loop-file.new.output c.args.errors.now c.loop-file.errors c.filter_one-in-loop-file.new.errors c.args.tally.now c.loop-file.tally c.loop-file.invariant.silent
     (sym c.is_empty.ensures ∙ c.if-is_empty.false) (names_more files i c.file-item.result name (omega arith) c.file-item.is c.as_str-name.ensures.value) c.loop-file.invariant.names
     (c.filter_one-in-loop-file.ensures.stopped c.if-not-filter_one.true)
@@ -45,6 +45,6 @@ returns-then-not-filter_one-clause-stopped g c = λ no.
 pub returns-clause-all : goal.returns-clause-all
 returns-clause-all g c = λ yes. (
   c.loop-file.invariant.silent,
-  all_named c.args.filter.now c.args.counts (g.L.OpenLists.known c.args.lists.now) c.args.files.now c.loop-file.file-index _ _ (sym c.is_empty.ensures ∙ c.if-is_empty.false) (omega arith)
+  all_named c.args.filter.now (g.L.OpenLists.known c.args.lists.now) c.args.files.now c.loop-file.file-index _ _ (sym c.is_empty.ensures ∙ c.if-is_empty.false) (omega arith)
       c.loop-file.invariant.names,
 )

@@ -8,6 +8,6 @@ abbrev pub invariant-loop-file : goal.invariant-loop-file
 invariant-loop-file g l = record {
   room : 1048578 ≤ length l.buffer;
   silent : l.errors ≡ l.initial.errors;
-  names : FiltersNames l.filter l.counts (g.L.OpenLists.known l.lists) (map string_bytes (take l.file-index l.files))
+  names : FiltersNames l.filter (g.L.OpenLists.known l.lists) (map string_bytes (take l.file-index l.files))
       (stand l.initial.output l.initial.tally) (stand l.output l.tally);
 }
