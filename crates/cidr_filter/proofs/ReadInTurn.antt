@@ -6,7 +6,6 @@ use Rattle.std.specs.String.{string_bytes}
 use Rattle.std.specs.Str.Lines.{lines}
 use Rattle.std.proofs.lemmas.List.{get_or-drop}
 use Rattle.std.proofs.lemmas.Option.{none-some}
-use Rattle.ipnetwork_blocks.specs.Aggregate.{IsAggregate}
 use Rattle.ipnetwork_family.specs.Network.{Network}
 use Rattle.lists.specs.Lists.{ReadLists, nothing_read, at_list, TakesLines}
 use Rattle.lists.specs.Refusals.{Refused, no_refusals}
@@ -19,7 +18,7 @@ use Rattle.cidr_filter.specs.Listed.{HasBlocksOf}
 use Rattle.cidr_filter.specs.Options.{option_of, behind_option, takes_next, in_one_word, field_option, separator_option, bad_option, letters_option, is_field, is_separator, is_letter, number_of, begins, is_list}
 use Rattle.cidr_filter.specs.Reading.{ReadsOption, next_place, ReadsOptions, ReadsLists, StopsAtOption, Stops, HoldsRead}
 use Rattle.program.specs.Told.{name_at}
-use Rattle.cidr_filter.specs.Private.Reading.{ReadsAll, HasSets, HasBlocks}
+use Rattle.cidr_filter.specs.Private.Reading.{ReadsAll, HasBlocks}
 use Rattle.cidr_filter.specs.declared.filter.Bad.TheVariants as bads
 use Rattle.cidr_filter.specs.declared.listed.Listed.{Listed}
 use Rattle.cidr_filter.specs.declared.listed.Listed.TheVariants.{Addresses, Blocks}
@@ -145,13 +144,6 @@ reads_file result known number choice value name before after list not same h =
     file_is result known number choice value before after list not (subst (λ (n : List ℕ). OnOk result (ReadsList known number n before after)) (sym same) h)
 
 -- ---- what was read
-
-pub sets_held : {E : Type 0} (result : Result Listed E) (longest : Bool) (read : ReadLists) (v4 v6 : List Network) → longest ≡ false
-    → IsAggregate 32 read.v4 v4 → IsAggregate 128 read.v6 v6 → IfOk result (HasSets v4 v6) → IfOk result (HoldsRead longest read)
-sets_held (Ok (Addresses sets)) longest read v4 v6 e f g h =
-    (e, subst (λ (n : List Network). IsAggregate 32 read.v4 n) (sym h.0) f, subst (λ (n : List Network). IsAggregate 128 read.v6 n) (sym h.1) g)
-sets_held (Ok (Blocks tables)) longest read v4 v6 e f g h = absurd h
-sets_held (Err fault) longest read v4 v6 e f g h = tt
 
 pub blocks_held : {E : Type 0} (result : Result Listed E) (longest : Bool) (read : ReadLists) (v4 v6 : List Network) → longest ≡ true → v4 ≡ read.v4 → v6 ≡ read.v6
     → IfOk result (HasBlocks v4 v6) → IfOk result (HoldsRead longest read)

@@ -35,7 +35,7 @@ pub enum Verdict {
 }
 
 /// What decides which lines are selected.
-#[derive(Drop)]
+#[derive(Debug, Drop)]
 pub struct Filter {
     pub(crate) listed: Listed,
     pub(crate) field: u32,

@@ -66,7 +66,7 @@ impl<N: IndexedNetwork> AddressIndex<N> {
         })
     }
 
-    /// Whether the address is in the set. Takes a few reads, however many blocks the set has.
+    /// Whether the address is in the set. Takes a few reads if the blocks lie spread.
     ///
     /// ```
     /// let networks = vec![in rt.alloc(); "192.0.2.0/25".parse::<Ipv4Network>()?]?;

@@ -72,7 +72,7 @@ impl<'a, N: IndexedNetwork, V: Copy> RouteIndex<'a, N, V> {
     }
 
     /// The stored block of greatest prefix length whose set holds the address, with its value;
-    /// `None` if no stored block holds it. Takes a few reads, however many blocks there are.
+    /// `None` if no stored block holds it. Takes a few reads if the blocks lie spread.
     ///
     /// ```
     /// let mut table = PrefixTable::new(rt.alloc());
