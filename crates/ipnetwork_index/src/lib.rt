@@ -1,7 +1,7 @@
 //! Indexes for look-ups that are made again and again: a set of addresses that is only asked, and a
 //! table of which only the longest block of an address is asked. A look-up takes a few reads in a
-//! row if the networks lie spread. If most of them lie close together and others far away, it takes
-//! up to a quarter as many as there are networks: then ask the set or the table itself.
+//! row if the networks lie spread. If most of them lie close together and others far away, it may
+//! read the ends of nearly all of them, four at a step: then ask the set or the table itself.
 //!
 //! Only what makes an index allocates.
 #![tactic(auto)]
