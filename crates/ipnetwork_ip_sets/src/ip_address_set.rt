@@ -1,10 +1,11 @@
 //! The type of a set of addresses of either family.
-ghost use Rattle.std.specs.Prelude.{◌≡◌, ◌↔◌, ◌+◌, ◌<◌, ◌≤◌, ◌⊎◌, ◌++◌, ◌∷◌, [], length, IsTrue, IfOk, OnOk, OnErr, vec_capacity, vec_len};
+ghost use Rattle.std.specs.Prelude.{◌≡◌, ◌↔◌, ◌+◌, ◌<◌, ◌≤◌, ◌⊎◌, ◌++◌, ◌∷◌, [], List, length, IsTrue, IfOk, OnOk, OnErr, vec_capacity, vec_len};
 ghost use Rattle.std.specs.List.{filter_map};
+ghost use Rattle.ipnetwork.specs.declared.ip_network.IpNetwork.{IpNetwork};
 ghost use Rattle.ipnetwork_blocks.specs.AggregateIp.{as_v4, as_v6, IsIpAggregate};
 ghost use Rattle.ipnetwork_blocks.specs.AggregateIpLaws.{InIpUnion, LiesInIpUnion};
 ghost use Rattle.ipnetwork_sets.specs.Sets.{IsAddressSet};
-ghost use Rattle.ipnetwork_ip_sets.specs.IpSets.{v4_then_v6, IsIpAddressSet, MeetsIpUnion, HasTooLittleRoom};
+ghost use Rattle.ipnetwork_ip_sets.specs.IpSets.{v4_then_v6, IsIpAddressSet, IsIpLeastList, InIpEither, InIpFirstAlone, MeetsIpUnion, HasTooLittleRoom};
 
 use crate::blocks::IpBlocks;
 use ipnetwork::{IpAddr, IpNetwork, Ipv4Network, Ipv6Network};
@@ -157,6 +158,58 @@ impl IpAddressSet {
         ensures set { IsIpAddressSet self.now }
     {
         IpBlocks::of(self.v4.iter(), self.v6.iter())
+    }
+
+    /// Adds the addresses of the network to the set, in the list of its family, and returns whether one of them is new.
+    /// Host bits are ignored. `AllocError` means that the list had to grow, by the one block that it grows by at most,
+    /// and memory ran out; the set is unchanged then.
+    ///
+    /// ```
+    /// let v4 = vec![in rt.alloc(); "192.0.2.0/25".parse::<Ipv4Network>()?]?;
+    /// let mut set = IpAddressSet::from_lists(v4, Vec::new(rt.alloc()));
+    /// assert!(rt; set.insert("192.0.2.128/25".parse()?)?);
+    /// assert!(rt; set.insert("2001:db8::/32".parse()?)?);
+    /// assert!(rt; set.iter().eq(["192.0.2.0/24".parse()?, "2001:db8::/32".parse()?]));
+    /// ```
+    pub fn insert(&mut self, network: IpNetwork) -> Result<bool, AllocError>
+        ensures set { OnOk result (IsIpLeastList (InIpEither self.old (network ∷ [])) self.new) }
+        ensures added { IfOk result (λ added. IsTrue added ↔ ¬ (LiesInIpUnion network self.old)) }
+        ensures room { (blocks : List IpNetwork)
+            → IsIpLeastList (InIpEither self.old (network ∷ [])) blocks
+            → OnErr result (length self.old < length blocks) }
+        ensures unchanged { OnErr result (self.new ≡ self.old) }
+    {
+        match network {
+            IpNetwork::V4(network) => self.v4.insert(network),
+            IpNetwork::V6(network) => self.v6.insert(network),
+        }
+    }
+
+    /// Takes the addresses of the network from the set, in the list of its family, and returns whether one of them was
+    /// in it. Host bits are ignored. A block that has other addresses too is split. `AllocError` means that the list had
+    /// to grow and memory ran out; the set is unchanged then.
+    ///
+    /// ```
+    /// let v4 = vec![in rt.alloc(); "192.0.2.0/24".parse::<Ipv4Network>()?]?;
+    /// let mut set = IpAddressSet::from_lists(v4, vec![in rt.alloc(); "::1/128".parse::<Ipv6Network>()?]?);
+    /// assert!(rt; set.remove("192.0.2.0/25".parse()?)?);
+    /// assert!(rt; !set.remove("2001:db8::/32".parse()?)?);
+    /// assert!(rt; set.iter().eq(["192.0.2.128/25".parse()?, "::1/128".parse()?]));
+    /// ```
+    pub fn remove(&mut self, network: IpNetwork) -> Result<bool, AllocError>
+        ensures set { OnOk result
+            (IsIpLeastList (InIpFirstAlone self.old (network ∷ [])) self.new) }
+        ensures removed { IfOk result
+            (λ removed. IsTrue removed ↔ MeetsIpUnion network self.old) }
+        ensures room { (blocks : List IpNetwork)
+            → IsIpLeastList (InIpFirstAlone self.old (network ∷ [])) blocks
+            → OnErr result (length self.old < length blocks) }
+        ensures unchanged { OnErr result (self.new ≡ self.old) }
+    {
+        match network {
+            IpNetwork::V4(network) => self.v4.remove(network),
+            IpNetwork::V6(network) => self.v6.remove(network),
+        }
     }
 
     /// Whether there is no address in the set.

@@ -1,15 +1,16 @@
 -- What the laws let one conclude, where a weaker law would not: over addresses of 3 bits, of sets of several blocks and
 -- a network with host bits.
-use Rattle.std.proofs.Common.{◌≡◌, ◌↔◌, ℕ, ◌+◌, ◌^◌, ◌<◌, ◌≤◌, sym, refl, ap, arith, List, [], ◌∷◌, length}
+use Rattle.std.proofs.Common.{◌≡◌, ◌↔◌, ℕ, ◌+◌, ◌^◌, ◌<◌, ◌≤◌, inr, sym, refl, ap, arith, ⊎_elim, List, [], ◌∷◌, length}
 use Rattle.std.specs.Prelude.{min, IsTrue}
 use Rattle.std.specs.List.{AllPairs, Contains}
-use Rattle.ipnetwork_family.specs.Network.{Network, IsCidrBlock, Overlap}
-use Rattle.ipnetwork_blocks.specs.Aggregate.{InUnion, SameUnion}
+use Rattle.ipnetwork_family.specs.Network.{Network, IsCidrBlock, Member, Overlap}
+use Rattle.ipnetwork_blocks.specs.Aggregate.{InUnion, LiesInUnion, SameUnion, IsAggregate}
 use Rattle.ipnetwork_blocks.specs.Exclusion.{InDifference}
 use Rattle.ipnetwork_blocks.specs.LeastList.{LiesIn, IsLeastList}
 use Rattle.ipnetwork_blocks.specs.LeastListLaws.{IsShortest}
 use Rattle.ipnetwork_blocks.proofs.AggregateExamples.{no_halves}
 use Rattle.ipnetwork_blocks.proofs.LeastLists.{contains_head, least_of_same}
+use Rattle.ipnetwork_sets.specs.ChangeLaws.{UnionOfPushed, AddedIsPushed, AddedHas, TakenHas, AddedAndTaken, TakenAndAdded}
 use Rattle.ipnetwork_sets.specs.CountLaws.{AscendingIsOneList, UnionHasOneCount, RangesAreOneList, UnionHasOneRangeList, SetAddsUp, CommonPartAddsUp, DifferenceAddsUp, FreePartAddsUp, UnionAddsUp, TotalGoesOn, SetHasFewerBlocks, UnionHasAtMost}
 use Rattle.ipnetwork_sets.specs.Counts.{HasCount}
 use Rattle.ipnetwork_sets.specs.DifferenceLaws.{CommonPartIsSettled, DifferenceIsSettled, FreePartIsSettled, UnionIsSettled, DifferenceOfOne, DifferenceOfUnion, DifferenceOfCommonPart}
@@ -226,3 +227,24 @@ pub as_many_as_both : IsLeastList 4 (InEither 4 (net 4 2 ∷ []) (net 8 2 ∷ []
 as_many_as_both =
     least_of_same 4 (InUnion 4 (net 4 2 ∷ net 8 2 ∷ [])) (InEither 4 (net 4 2 ∷ []) (net 8 2 ∷ [])) (net 4 2 ∷ net 8 2 ∷ [])
     (union_append 4 (net 4 2 ∷ []) (net 8 2 ∷ [])) no_halves
+
+-- ---- networks added and taken
+
+pub pushed_to_two : UnionOfPushed → InUnion 3 (net 6 3 ∷ net 4 2 ∷ n ∷ []) 2 → ¬ (InUnion 3 (net 6 3 ∷ net 4 2 ∷ []) 2) → Member 3 n 2
+pushed_to_two law h other = ⊎_elim (λ (k : InUnion 3 (net 6 3 ∷ net 4 2 ∷ []) 2). absurd (other k)) (λ (m : Member 3 n 2). m) ((law 3 (net 6 3 ∷ net 4 2 ∷ []) n 2).0 h)
+
+pub added_or_pushed : AddedIsPushed → (d r : List Network) → IsAggregate 3 b d → IsLeastList 3 (InEither 3 d (n ∷ [])) r → IsAggregate 3 (net 0 3 ∷ net 2 2 ∷ net 6 2 ∷ n ∷ []) r
+added_or_pushed law = law 3 b n
+
+pub added_has_more : AddedHas → (r : List Network) → IsLeastList 3 (InEither 3 b (n ∷ [])) r → Member 3 n 1 → InUnion 3 r 1
+added_has_more law r h m = (law 3 b n r h 1).1 (inr m)
+
+pub taken_has_less : TakenHas → (r : List Network) → IsLeastList 3 (InFirstAlone 3 b (n ∷ [])) r → Member 3 n 2 → ¬ (InUnion 3 r 2)
+taken_has_less law r h m c = ((law 3 b n r h 2).0 c).1 m
+
+pub there_and_back : AddedAndTaken → (r s : List Network) → IsAddressSet 3 c → ¬ (MeetsUnion 3 n c) → IsLeastList 3 (InEither 3 c (n ∷ [])) r → IsLeastList 3 (InFirstAlone 3 r (n ∷ [])) s → s ≡ c
+there_and_back law = law 3 c n
+
+pub back_and_there : TakenAndAdded → (r s : List Network) → IsAddressSet 3 a → LiesInUnion 3 (net 5 2) a → IsLeastList 3 (InFirstAlone 3 a (net 5 2 ∷ [])) r
+    → IsLeastList 3 (InEither 3 r (net 5 2 ∷ [])) s → s ≡ a
+back_and_there law = law 3 a (net 5 2)

@@ -1,3 +1,5 @@
+pub mod ChangeLaws
+pub mod Changed
 pub mod Checked
 pub mod CollectedBlocks
 pub mod CommonPart
@@ -8,12 +10,16 @@ pub mod Examples
 pub mod FewerBlocks
 pub mod FreeBlocks
 pub mod FromRanges
+pub mod JoinedAround
 pub mod LawExamples
 pub mod LeastBlocks
+pub mod LeftOver
 pub mod LeftParts
 pub mod LeftSets
 pub mod Lists
+pub mod Placed
 pub mod QuestionLaws
+pub mod RoomMade
 pub mod RunLists
 pub mod Searched
 pub mod SetLaws

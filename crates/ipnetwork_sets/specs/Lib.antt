@@ -1,4 +1,5 @@
 -- What the contracts of this crate cite.
+pub mod ChangeLaws
 pub mod CountLaws
 pub mod Counts
 pub mod DifferenceLaws

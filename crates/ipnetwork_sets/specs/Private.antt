@@ -1,6 +1,7 @@
 -- What the private functions promise each other, and how contracts see private fields.
 pub mod LeastBlocks
 pub mod Left
+pub mod Places
 pub mod Runs
 pub mod Search
 pub mod Together

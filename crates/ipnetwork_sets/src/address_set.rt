@@ -1,11 +1,14 @@
 //! The type of a set of addresses.
-ghost use Rattle.std.specs.Prelude.{◌≡◌, ◌↔◌, IsTrue, MatchResult, map, []};
+ghost use Rattle.std.specs.Prelude.{◌≡◌, ◌↔◌, ◌<◌, ◌∷◌, [], IsTrue, IfOk, OnOk, OnErr, MatchResult, List, length, map};
+ghost use Rattle.ipnetwork_family.specs.Network.{Network};
 ghost use Rattle.ipnetwork_blocks.specs.Aggregate.{InUnion, LiesInUnion, IsAggregate};
-ghost use Rattle.ipnetwork_sets.specs.Sets.{IsAddressSet, MeetsUnion};
+ghost use Rattle.ipnetwork_blocks.specs.LeastList.{IsLeastList};
+ghost use Rattle.ipnetwork_sets.specs.Sets.{IsAddressSet, MeetsUnion, InEither, InFirstAlone};
 
 use crate::check::is_address_set;
-use crate::search;
+use crate::{changes, search};
 use ipnetwork_blocks::{AddressSpace, aggregate_vec, laws};
+use std::alloc::AllocError;
 use std::marker::Model;
 
 /// A set of addresses of one family: the maximal blocks of the set, in ascending order. Each set has one such
@@ -112,6 +115,61 @@ impl<N: AddressSpace> AddressSet<N> {
     {
         let AddressSet { blocks } = self;
         blocks
+    }
+
+    /// Adds the addresses of the network to the set, in its own list, and returns whether one of them is new. Host bits
+    /// are ignored. One block takes the place of the blocks within the network and of those that make a larger block
+    /// with it, so the list grows by one block at most. `AllocError` means that it had to grow and memory ran out; the
+    /// set is unchanged then.
+    ///
+    /// Takes a few binary searches, at most one step for each bit of the prefix length, and one move of the blocks after
+    /// the network.
+    ///
+    /// ```
+    /// let mut set = AddressSet::from_networks(vec![in rt.alloc(); "192.0.2.0/25".parse::<Ipv4Network>()?]?);
+    /// assert!(rt; set.insert("192.0.2.128/25".parse()?)?);
+    /// assert_eq!(rt; set.blocks(), ["192.0.2.0/24".parse()?].as_slice());
+    /// assert!(rt; !set.insert("192.0.2.64/26".parse()?)?);
+    /// ```
+    pub fn insert(&mut self, network: N) -> Result<bool, AllocError>
+        ensures set { OnOk result (IsLeastList N.WIDTH
+            (InEither N.WIDTH self.old (N.pair network ∷ [])) self.new) }
+        ensures added { IfOk result
+            (λ added. IsTrue added ↔ ¬ (LiesInUnion N.WIDTH (N.pair network) self.old)) }
+        ensures room { (blocks : List Network)
+            → IsLeastList N.WIDTH (InEither N.WIDTH self.old (N.pair network ∷ [])) blocks
+            → OnErr result (length self.old < length blocks) }
+        ensures unchanged { OnErr result (self.new ≡ self.old) }
+        ensures blocks { IsAddressSet N.WIDTH self.new }
+    {
+        changes::insert(&mut self.blocks, network)
+    }
+
+    /// Takes the addresses of the network from the set, in its own list, and returns whether one of them was in it.
+    /// Host bits are ignored. A block that has other addresses too is split into as many blocks as its prefix length is
+    /// shorter than the network's, `WIDTH` at most. `AllocError` means that the list had to grow and memory ran out; the
+    /// set is unchanged then.
+    ///
+    /// Takes a few binary searches, one step for each block of a split, and one move of the blocks after the network.
+    ///
+    /// ```
+    /// let mut set = AddressSet::from_networks(vec![in rt.alloc(); "192.0.2.0/24".parse::<Ipv4Network>()?]?);
+    /// assert!(rt; set.remove("192.0.2.64/26".parse()?)?);
+    /// assert_eq!(rt; set.blocks(), ["192.0.2.0/26".parse()?, "192.0.2.128/25".parse()?].as_slice());
+    /// assert!(rt; !set.remove("192.0.2.64/27".parse()?)?);
+    /// ```
+    pub fn remove(&mut self, network: N) -> Result<bool, AllocError>
+        ensures set { OnOk result (IsLeastList N.WIDTH
+            (InFirstAlone N.WIDTH self.old (N.pair network ∷ [])) self.new) }
+        ensures removed { IfOk result
+            (λ removed. IsTrue removed ↔ MeetsUnion N.WIDTH (N.pair network) self.old) }
+        ensures room { (blocks : List Network)
+            → IsLeastList N.WIDTH (InFirstAlone N.WIDTH self.old (N.pair network ∷ [])) blocks
+            → OnErr result (length self.old < length blocks) }
+        ensures unchanged { OnErr result (self.new ≡ self.old) }
+        ensures blocks { IsAddressSet N.WIDTH self.new }
+    {
+        changes::remove(&mut self.blocks, network)
     }
 
     /// Whether there is no address in the set.

@@ -47,8 +47,8 @@ fn follows<N: AddressSpace>(first: N, second: N) -> bool
     ends_before(first, second) && !are_halves(first, second)
 }
 
-// Whether two blocks that differ are the halves of one block.
-fn are_halves<N: AddressSpace>(first: N, second: N) -> bool
+/// Whether two blocks that differ are the halves of one block.
+pub(crate) fn are_halves<N: AddressSpace>(first: N, second: N) -> bool
     ensures { IsTrue result ↔ AreHalves N.WIDTH (N.pair first) (N.pair second) }
 {
     let prefix = first.prefix();

@@ -1,5 +1,6 @@
 //! The laws of the operations on sets, for addresses of any number of bits. Each function's contract is laws; it does
 //! nothing, and a proof whose function calls it may use them.
+ghost use Rattle.ipnetwork_sets.specs.ChangeLaws.{UnionOfPushed, AddedIsPushed, AddedHas, TakenHas, AddedAndTaken, TakenAndAdded};
 ghost use Rattle.ipnetwork_sets.specs.CountLaws.{AscendingIsOneList, UnionHasOneCount, RangesAreOneList, UnionHasOneRangeList, SetAddsUp, CommonPartAddsUp, DifferenceAddsUp, FreePartAddsUp, UnionAddsUp, TotalGoesOn, SetHasFewerBlocks, UnionHasAtMost};
 ghost use Rattle.ipnetwork_sets.specs.DifferenceLaws.{CommonPartIsSettled, DifferenceIsSettled, FreePartIsSettled, UnionIsSettled, DifferenceOfOne, DifferenceOfUnion, DifferenceOfCommonPart};
 ghost use Rattle.ipnetwork_sets.specs.Equality.{SameBlocksAreEqual};
@@ -137,4 +138,23 @@ pub fn differences()
     ensures of_one { DifferenceOfOne }
     ensures of_union { DifferenceOfUnion }
     ensures of_common { DifferenceOfCommonPart }
+{}
+
+/// The union of a list has what was pushed to it and what it had; so the set of a list, with a network inserted, is the
+/// set of the list with that network pushed.
+pub fn pushed()
+    ensures union { UnionOfPushed }
+    ensures set { AddedIsPushed }
+{
+    laws::same_union();
+}
+
+/// A set into which a network was inserted has its addresses and the network's, and one from which a network was removed
+/// those of its addresses that the network has not. So a network that has no address of a set, inserted and removed
+/// again, changes nothing; nor does one that lies in the set, removed and inserted again.
+pub fn changes()
+    ensures inserted { AddedHas }
+    ensures removed { TakenHas }
+    ensures there { AddedAndTaken }
+    ensures back { TakenAndAdded }
 {}

@@ -1,12 +1,13 @@
 //! Sets of IP addresses of one family, as lists of blocks, for both families.
 //!
-//! Only the calls that return an `AllocError` allocate: they grow the list that the caller gives.
+//! Only the calls that return an `AllocError` allocate: they grow the list that the caller gives, or the set's own.
 #![tactic(auto)]
 
 mod address_count;
 mod address_set;
 mod address_slice;
 mod blocks;
+mod changes;
 mod check;
 mod collecting;
 mod common;
@@ -17,11 +18,14 @@ mod equality;
 mod free_block;
 mod from_ranges;
 mod held;
+mod joining;
 pub mod laws;
 mod operations;
 mod order;
 mod pieces;
+mod place;
 mod ranges;
+mod replacing;
 mod search;
 mod text;
 mod union;

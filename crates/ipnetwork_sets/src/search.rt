@@ -47,22 +47,32 @@ pub(crate) fn overlaps<N: AddressSpace>(blocks: &[N], network: N) -> bool
     }
 }
 
-// The last of the blocks that begins at the address or before it. No branch depends on what the blocks are: it would be
-// mispredicted every other time.
+// The last of the blocks that begins at the address or before it.
 fn last_up_to<N: AddressSpace>(blocks: &[N], addr: N::Addr) -> Option<N>
     requires { AllPairs (λ a b. a.address < b.address) (map N.pair blocks.now) }
     ensures { MatchOption result (NoneUpTo (map N.pair blocks.now) (N.number addr))
         (λ last. IsLastUpTo (map N.pair blocks.now) (N.number addr) (N.pair last)) }
+{
+    let count = count_up_to(blocks, addr);
+    if count == 0 {
+        return None;
+    }
+    Some(blocks[count - 1])
+}
+
+/// How many of the blocks begin at the address or before it. No branch depends on what the blocks are: it would be
+/// mispredicted every other time.
+#[inline(always)]
+pub(crate) fn count_up_to<N: AddressSpace>(blocks: &[N], addr: N::Addr) -> usize
+    requires { AllPairs (λ a b. a.address < b.address) (map N.pair blocks.now) }
+    ensures { IsSplit (map N.pair blocks.now) (N.number addr) result result }
 {
     let (mut from, mut left) = by_quarters(blocks, addr);
     while left > 0 {
         from += one_if(begins_up_to(blocks[from], addr));
         left -= 1;
     }
-    if from == 0 {
-        return None;
-    }
-    Some(blocks[from - 1])
+    from
 }
 
 // Where the blocks begin among which the search goes on, and how many they are: two at the most.

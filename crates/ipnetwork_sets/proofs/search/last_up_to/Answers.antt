@@ -1,34 +1,24 @@
-use Rattle.std.proofs.Common.{◌+◌, ◌-◌, ℕ, List, map, sym, subst, arith}
+use Rattle.std.proofs.Common.{◌-◌, ℕ, List, map, arith}
 use Rattle.std.proofs.lemmas.List.{length-map}
 use Rattle.ipnetwork_family.specs.Network.{Network}
-use Rattle.ipnetwork_sets.specs.Private.Search.{IsSplit}
 use Rattle.ipnetwork_sets.proofs.Lists.{read_pair}
-use Rattle.ipnetwork_sets.proofs.Searched.{split_one, split_last}
+use Rattle.ipnetwork_sets.proofs.Searched.{split_none_at, split_last}
 use Rattle.ipnetwork_sets.proofs.search.last_up_to.Goals as goal
 
-pub bounds-blocks-from : goal.bounds-blocks-from
-bounds-blocks-from g c = omega (arith, length-map c.args.blocks.now g.N.CidrNetwork.pair, c.loop-left.invariant.within)
+pub bounds-blocks-count : goal.bounds-blocks-count
+bounds-blocks-count g c = omega (arith, length-map c.args.blocks.now g.N.CidrNetwork.pair, c.count_up_to-count.ensures.within)
 
-pub loop-left-preserved : goal.loop-left-preserved
-loop-left-preserved g c =
-    let bs : List Network = map g.N.CidrNetwork.pair c.args.blocks.now in
-    let x : ℕ = g.N.CidrNetwork.number c.args.addr in
-    let size = length-map c.args.blocks.now g.N.CidrNetwork.pair in
-    let from : ℕ = c.loop-left.from in
-    let left : ℕ = c.loop-left.left in
-    let within = c.loop-left.invariant.within in
-    let b : Network = g.N.CidrNetwork.pair c.index-blocks-from.result in
-    let is = read_pair g.N.CidrNetwork.pair c.args.blocks.now from c.index-blocks-from.result (omega (arith, size, within)) c.index-blocks-from.is in
-    let step = split_one bs x from left b c.begins_up_to.result c.requires c.loop-left.invariant (omega arith) is c.begins_up_to.ensures in
-    subst (λ (k : ℕ). IsSplit bs x (from + k) (from + k + (left - 1))) (sym c.one_if-from.ensures) step
+pub returns-then-count-eq0 : goal.returns-then-count-eq0
+returns-then-count-eq0 g c =
+    split_none_at (map g.N.CidrNetwork.pair c.args.blocks.now) (g.N.CidrNetwork.number c.args.addr) c.count_up_to-count.result c.count_up_to-count.result c.count_up_to-count.ensures
+    (omega arith) (omega arith)
 
 pub returns : goal.returns
 returns g c =
     let bs : List Network = map g.N.CidrNetwork.pair c.args.blocks.now in
     let size = length-map c.args.blocks.now g.N.CidrNetwork.pair in
-    let from : ℕ = c.loop-left.from in
-    let within = c.loop-left.invariant.within in
-    let ordered = c.loop-left.invariant.ordered in
-    let b : Network = g.N.CidrNetwork.pair c.index-blocks-from-2.result in
-    let is = read_pair g.N.CidrNetwork.pair c.args.blocks.now (from - 1) c.index-blocks-from-2.result (omega (arith, size, within)) c.index-blocks-from-2.is in
-    split_last bs (g.N.CidrNetwork.number c.args.addr) from (from + c.loop-left.left) b c.requires c.loop-left.invariant (omega arith) (omega arith) is
+    let count : ℕ = c.count_up_to-count.result in
+    let within = c.count_up_to-count.ensures.within in
+    let b : Network = g.N.CidrNetwork.pair c.index-blocks-count.result in
+    let is = read_pair g.N.CidrNetwork.pair c.args.blocks.now (count - 1) c.index-blocks-count.result (omega (arith, size, within)) c.index-blocks-count.is in
+    split_last bs (g.N.CidrNetwork.number c.args.addr) count count b c.requires c.count_up_to-count.ensures (omega arith) (omega arith) is

@@ -1,0 +1,24 @@
+use Rattle.std.proofs.Common.{List, refl, subst}
+use Rattle.ipnetwork_family.specs.Network.{Network}
+use Rattle.ipnetwork_blocks.specs.Aggregate.{InUnion}
+use Rattle.example_guide.proofs.address_pool.AddressPool.give_back.Goals as goal
+
+-- where memory ran out, what is taken is as it was
+pub invariant_of-self : goal.invariant_of-self
+invariant_of-self c = λ x held.
+    c.self.invariant x (subst (λ (l : List Network). InUnion 32 l x) c.in_err-remove.ensures.unchanged held)
+
+-- else what is taken still was taken: so says the law
+pub invariant_of-self-2 : goal.invariant_of-self-2
+invariant_of-self-2 c = λ x held.
+    let law = c.changes.ensures.removed 32 c.self.inside.taken c.args.network c.remove.new.self in
+    c.self.invariant x ((law c.in_ok-remove.ensures.set x).0 held).0
+
+pub returns-clause-given : goal.returns-clause-given
+returns-clause-given c =
+    let law = c.changes.ensures.removed 32 c.self.inside.taken c.args.network c.remove.new.self in
+    rw (← c.self.view_is) record {
+      same = refl;
+      all = c.covers.ensures.0 c.if-not-covers.false;
+      taken = law c.in_ok-remove.ensures.set;
+    }

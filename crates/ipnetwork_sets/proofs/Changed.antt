@@ -1,0 +1,48 @@
+-- What a change of a set makes of its list, and when the list is longer afterwards.
+use Rattle.std.proofs.Common.{◌≡◌, ℕ, ◌+◌, ◌<◌, ◌≤◌, ◌⊎◌, inl, ap, arith, ⊎_elim, List, [], ◌∷◌, ◌++◌, length, take, drop}
+use Rattle.std.proofs.lemmas.List.{length-append, length-take-le, length-drop}
+use Rattle.ipnetwork_family.specs.Network.{Network}
+use Rattle.ipnetwork_blocks.specs.Aggregate.{InUnion, LiesInUnion}
+use Rattle.ipnetwork_blocks.specs.LeastList.{IsLeastList}
+use Rattle.ipnetwork_blocks.proofs.LeastLists.{least_of_same, least_unique}
+use Rattle.ipnetwork_sets.specs.Sets.{IsAddressSet, MeetsUnion, InEither, InFirstAlone}
+use Rattle.ipnetwork_sets.proofs.JoinedAround.{union_of_one_network}
+use Rattle.ipnetwork_sets.proofs.SetLaws.{union_is_shortest, difference_is_shortest, least_is_set}
+
+-- a network that lies in the set adds nothing
+pub nothing_added : (w : ℕ) (bs : List Network) (n : Network) → IsAddressSet w bs → LiesInUnion w n bs → IsLeastList w (InEither w bs (n ∷ [])) bs
+nothing_added w bs n h lies =
+    least_of_same w (InUnion w bs) (InEither w bs (n ∷ [])) bs
+    (λ x. (
+      (λ c. inl c),
+      (λ o. ⊎_elim (λ (c : InUnion w bs x). c) (λ (c : InUnion w (n ∷ []) x). lies x ((union_of_one_network w n x).0 c)) o),
+    ))
+    h
+
+-- one that has no address of the set takes nothing from it
+pub nothing_taken : (w : ℕ) (bs : List Network) (n : Network) → IsAddressSet w bs → ¬ (MeetsUnion w n bs) → IsLeastList w (InFirstAlone w bs (n ∷ [])) bs
+nothing_taken w bs n h apart =
+    least_of_same w (InUnion w bs) (InFirstAlone w bs (n ∷ [])) bs
+    (λ x. ((λ c. (c, λ d. apart (x, (union_of_one_network w n x).0 d, c))), (λ p. p.0)))
+    h
+
+-- what a change makes is a set
+pub added_is_set : (w : ℕ) (bs : List Network) (n : Network) (r : List Network) → IsLeastList w (InEither w bs (n ∷ [])) r → IsAddressSet w r
+added_is_set w bs n r h = least_is_set w (InEither w bs (n ∷ [])) r h (union_is_shortest w bs (n ∷ []) r h)
+
+pub left_is_set : (w : ℕ) (bs : List Network) (n : Network) (r : List Network) → IsLeastList w (InFirstAlone w bs (n ∷ [])) r → IsAddressSet w r
+left_is_set w bs n r h = least_is_set w (InFirstAlone w bs (n ∷ [])) r h (difference_is_shortest w bs (n ∷ []) r h)
+
+-- the list grew if there was no place for the block
+pub grew_by_one : (w : ℕ) (S : ℕ → Type 0) (bs r : List Network) (first behind : ℕ) (b : Network) → first ≤ behind → behind ≤ length bs
+    → IsLeastList w S (take first bs ++ b ∷ drop behind bs) → IsLeastList w S r → behind < first + 1 → length bs < length r
+grew_by_one w S bs r first behind b le fits h k full =
+    let same : length (take first bs ++ b ∷ drop behind bs) ≡ length r = ap length (least_unique w S (take first bs ++ b ∷ drop behind bs) r h k) in
+    omega (arith, same, length-append (take first bs) (b ∷ drop behind bs), length-take-le first bs (omega arith), length-drop behind bs)
+
+-- or fewer places than blocks that are left
+pub grew_by_more : (w : ℕ) (S : ℕ → Type 0) (bs r left : List Network) (from to count : ℕ) → from ≤ to → to ≤ length bs → length left ≡ count
+    → IsLeastList w S (take from bs ++ left ++ drop to bs) → IsLeastList w S r → to < from + count → length bs < length r
+grew_by_more w S bs r left from to count le fits long h k full =
+    let same : length (take from bs ++ left ++ drop to bs) ≡ length r = ap length (least_unique w S (take from bs ++ left ++ drop to bs) r h k) in
+    omega (arith, same, long, length-append (take from bs ++ left) (drop to bs), length-append (take from bs) left, length-take-le from bs (omega arith), length-drop to bs)

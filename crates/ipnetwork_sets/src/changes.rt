@@ -1,0 +1,84 @@
+//! Networks added to a set and taken from it, in its own list.
+ghost use Rattle.std.specs.Prelude.{◌≡◌, ◌↔◌, ◌<◌, ◌≤◌, ◌++◌, ◌∷◌, [], IsTrue, IfOk, OnOk, OnErr, MatchOption, List, drop, length, map, take};
+ghost use Rattle.ipnetwork_family.specs.Network.{Network};
+ghost use Rattle.ipnetwork_blocks.specs.Aggregate.{LiesInUnion};
+ghost use Rattle.ipnetwork_blocks.specs.LeastList.{IsLeastList};
+ghost use Rattle.ipnetwork_sets.specs.Sets.{IsAddressSet, MeetsUnion, InEither, InFirstAlone};
+
+use crate::joining::join_around;
+use crate::place::place_of;
+use crate::replacing::{make_room, write_over};
+use crate::search::covers;
+use ipnetwork_blocks::{AddressSpace, exclude, laws};
+use std::alloc::AllocError;
+
+/// Adds the addresses of the network to the set with these blocks, and tells whether one of them is new.
+pub(crate) fn insert<N: AddressSpace>(blocks: &mut Vec<N>, network: N) -> Result<bool, AllocError>
+    requires { IsAddressSet N.WIDTH (map N.pair blocks.old.items) }
+    ensures set { OnOk result (IsLeastList N.WIDTH
+        (InEither N.WIDTH (map N.pair blocks.old.items) (N.pair network ∷ []))
+        (map N.pair blocks.new.items)) }
+    ensures added { IfOk result (λ added. IsTrue added
+        ↔ ¬ (LiesInUnion N.WIDTH (N.pair network) (map N.pair blocks.old.items))) }
+    ensures room { (list : List Network)
+        → IsLeastList N.WIDTH
+        (InEither N.WIDTH (map N.pair blocks.old.items) (N.pair network ∷ [])) list
+        → OnErr result (length (map N.pair blocks.old.items) < length list) }
+    ensures unchanged { OnErr result (blocks.new.items ≡ blocks.old.items) }
+    ensures blocks { IsAddressSet N.WIDTH (map N.pair blocks.new.items) }
+{
+    let Some(found) = block_to_add(blocks.as_slice(), network) else {
+        return Ok(false);
+    };
+    make_room(blocks, found.0, found.1, 1)?;
+    blocks[found.0] = found.2;
+    Ok(true)
+}
+
+// The block that takes the place of the network, and of the blocks from the first index up to before the second; `None`
+// if each address of the network is one of the set.
+fn block_to_add<N: AddressSpace>(blocks: &[N], network: N) -> Option<(usize, usize, N)>
+    requires { IsAddressSet N.WIDTH (map N.pair blocks.now) }
+    ensures { MatchOption result (LiesInUnion N.WIDTH (N.pair network) (map N.pair blocks.now))
+        (λ r. (¬ (LiesInUnion N.WIDTH (N.pair network) (map N.pair blocks.now)))
+        × (r.0 ≤ r.1) × (r.1 ≤ length blocks.now)
+        × IsLeastList N.WIDTH
+        (InEither N.WIDTH (map N.pair blocks.now) (N.pair network ∷ []))
+        (take r.0 (map N.pair blocks.now) ++ N.pair r.2 ∷ drop r.1 (map N.pair blocks.now))) }
+{
+    if covers(blocks, network) {
+        return None;
+    }
+    let (from, to) = place_of(blocks, network);
+    Some(join_around(blocks, network, from, to))
+}
+
+/// Takes the addresses of the network from the set with these blocks, and tells whether one of them was in it.
+pub(crate) fn remove<N: AddressSpace>(blocks: &mut Vec<N>, network: N) -> Result<bool, AllocError>
+    requires { IsAddressSet N.WIDTH (map N.pair blocks.old.items) }
+    ensures set { OnOk result (IsLeastList N.WIDTH
+        (InFirstAlone N.WIDTH (map N.pair blocks.old.items) (N.pair network ∷ []))
+        (map N.pair blocks.new.items)) }
+    ensures removed { IfOk result (λ removed. IsTrue removed
+        ↔ MeetsUnion N.WIDTH (N.pair network) (map N.pair blocks.old.items)) }
+    ensures room { (list : List Network)
+        → IsLeastList N.WIDTH
+        (InFirstAlone N.WIDTH (map N.pair blocks.old.items) (N.pair network ∷ [])) list
+        → OnErr result (length (map N.pair blocks.old.items) < length list) }
+    ensures unchanged { OnErr result (blocks.new.items ≡ blocks.old.items) }
+    ensures blocks { IsAddressSet N.WIDTH (map N.pair blocks.new.items) }
+{
+    laws::one_block();
+    // The clauses of this call say that it is a network of addresses of WIDTH bits.
+    let _ = network.ip();
+    let (from, to) = place_of(blocks.as_slice(), network);
+    if from == to {
+        return Ok(false);
+    }
+    let whole = blocks[from];
+    let left = exclude(whole, network);
+    let count = network.prefix().saturating_sub(whole.prefix());
+    make_room(blocks, from, to, count)?;
+    write_over(blocks.as_mut_slice(), from, left);
+    Ok(true)
+}

@@ -1,0 +1,38 @@
+//! Where the blocks of a set stand that a network changes.
+ghost use Rattle.std.specs.Prelude.{map};
+ghost use Rattle.ipnetwork_sets.specs.Sets.{IsAddressSet};
+ghost use Rattle.ipnetwork_sets.specs.Private.Places.{IsBefore, IsPlace};
+
+use crate::search::count_up_to;
+use ipnetwork_blocks::{AddressSpace, laws};
+
+/// The blocks that share an address with the network: those from the first index up to before the second. Three
+/// questions to the list, two of them by binary search.
+pub(crate) fn place_of<N: AddressSpace>(blocks: &[N], network: N) -> (usize, usize)
+    requires { IsAddressSet N.WIDTH (map N.pair blocks.now) }
+    ensures { IsPlace N.WIDTH (map N.pair blocks.now) (N.pair network) result.0 result.1 }
+{
+    laws::one_block();
+    // The clauses of this call say that it is a network of addresses of WIDTH bits.
+    let _ = network.ip();
+    let from = count_before(blocks, network);
+    (from, count_up_to(blocks, network.broadcast()))
+}
+
+// How many of the blocks end before the network begins.
+fn count_before<N: AddressSpace>(blocks: &[N], network: N) -> usize
+    requires { IsAddressSet N.WIDTH (map N.pair blocks.now) }
+    ensures { IsBefore N.WIDTH (map N.pair blocks.now) (N.pair network) result }
+{
+    laws::one_block();
+    // The clauses of this call say that it is a network of addresses of WIDTH bits.
+    let _ = network.ip();
+    let begun = count_up_to(blocks, network.network());
+    if begun == 0 {
+        return 0;
+    }
+    if blocks[begun - 1].overlaps(network) {
+        return begun - 1;
+    }
+    begun
+}
