@@ -10,6 +10,7 @@ use Rattle.ipnetwork_table.specs.Table.{HasBlocksAlone, Finds}
 use Rattle.ipnetwork_index.specs.Private.Partitions.{IsPartition, LiesAt}
 use Rattle.ipnetwork_index.specs.Private.Edges.{IsCutOut, CutsOut}
 use Rattle.ipnetwork_index.specs.Private.Answers.{AreAnswersUpTo, AreAnswers, IsAnswered}
+use Rattle.ipnetwork_index.proofs.RangeCounts.{cut_by_blocks}
 
 -- ---- the last number of a range is in the same networks as its others
 
@@ -102,6 +103,7 @@ answered pair w t lasts answers blocks c a = record {
       answer_moves pair w t x (get_or lasts at 0) (get_or answers at None)
       (λ n s. same_members w lasts x at n c.partition h (c.blocks n s) (blocks n s).network)
       (a.all at one);
+  cut = cut_by_blocks w t lasts c;
 }
 
 -- ---- one answer more

@@ -1,5 +1,5 @@
 -- The edges of the blocks of a table.
-use Rattle.std.proofs.Common.{◌≡◌, ℕ, zero, suc, ◌+◌, ◌^◌, ◌<◌, ◌≤◌, Bool, true, false, List, [], ◌∷◌, ◌++◌, map, arith, sym, refl, ap, subst, ◌∙◌, ⊎_elim, Option, None, Some, IsSome, is_some, slice_get, Ordering, true≢false}
+use Rattle.std.proofs.Common.{◌≡◌, ℕ, zero, suc, ◌+◌, ◌^◌, ◌<◌, ◌≤◌, ◌⊎◌, inl, inr, Bool, true, false, List, [], ◌∷◌, ◌++◌, map, arith, sym, refl, ap, subst, ◌∙◌, ⊎_elim, Option, None, Some, IsSome, is_some, slice_get, Ordering, true≢false}
 use Rattle.std.specs.declared.cmp.Ordering.TheVariants.{Less, Equal}
 use Rattle.std.specs.Cmp.{IsTotalOrder, IsEquivalence, ranked}
 use Rattle.std.specs.Ordering.{nat_cmp, eq_by_cmp}
@@ -7,11 +7,12 @@ use Rattle.std.specs.List.{AllByRecursion, Contains, dedup}
 use Rattle.std.specs.List.Sorted.{IsSorted, IsStrictlySortedBy, IsPermutation}
 use Rattle.std.specs.Option.{unwrap_or}
 use Rattle.std.specs.FinMap.{FinMap, get, entries}
-use Rattle.std.proofs.lemmas.List.Kept.{Any-dedup, IsStrictlySortedBy-dedup}
-use Rattle.std.proofs.lemmas.List.Sorted.{Contains-permutation, IsPermutation-map}
-use Rattle.std.proofs.lemmas.List.Elements.{Contains-append_left, Contains-append_right, Contains-push}
+use Rattle.std.proofs.lemmas.List.Kept.{Any-dedup, Contains-from_dedup, IsStrictlySortedBy-dedup}
+use Rattle.std.proofs.lemmas.List.Sorted.{Contains-permutation, IsPermutation-map, IsPermutation-sym}
+use Rattle.std.proofs.lemmas.List.Elements.{Contains-append_cases, Contains-append_left, Contains-append_right, Contains-push}
 use Rattle.ipnetwork_family.specs.Network.{Network, low, high, network_cmp}
-use Rattle.ipnetwork_table.specs.Laws.{StoredIsListed}
+use Rattle.ipnetwork_table.specs.Laws.{ListedIsStored, StoredIsListed}
+use Rattle.ipnetwork_blocks.proofs.LeastLists.{contains_cons, contains_nil}
 use Rattle.ipnetwork_table.proofs.Pairs.{tie_of}
 use Rattle.ipnetwork_index.specs.Private.Cuts.{before, cuts_of, Rises, Closes}
 use Rattle.ipnetwork_index.specs.Private.Edges.{edges_of, CutsOut}
@@ -21,7 +22,7 @@ use Rattle.ipnetwork_index.specs.Private.Edges.{edges_of, CutsOut}
 nothing : {A : Type 0} (a : A) → None ≡ Some a → ⊥
 nothing a e = let f : false ≡ true = ap is_some e in cc
 
-edge_in : {V : Type 0} (w : ℕ) (es : List (Network × V)) (i : ℕ) (e : Network × V) (y : ℕ)
+pub edge_in : {V : Type 0} (w : ℕ) (es : List (Network × V)) (i : ℕ) (e : Network × V) (y : ℕ)
     → slice_get es i ≡ Some e → Contains (cuts_of (low w e.0, high w e.0)) y
     → Contains (edges_of w es) y
 edge_in {V} w [] i e y at c = absurd (nothing e at)
@@ -39,7 +40,38 @@ end_before : (first last x : ℕ) → x + 1 ≡ first → Contains (cuts_of (fir
 end_before zero last x e = absurd (omega arith)
 end_before (suc n) last x e = let same : n ≡ x = omega arith in (0, omega arith, same)
 
-some_value : {A : Type 0} (o : Option A) → IsSome o → (a : A) × (o ≡ Some a)
+pub edge_into : (first last x : ℕ) → (last ≡ x) ⊎ (first ≡ x + 1)
+    → Contains (cuts_of (first, last)) x
+edge_into first last x e =
+    ⊎_elim
+    (λ (h : last ≡ x). subst (λ (y : ℕ). Contains (cuts_of (first, last)) y) h (own_end first last))
+    (λ (l : first ≡ x + 1). end_before first last x (sym l))
+    e
+
+-- and each edge is of a block
+edge_of : (first last x : ℕ) → Contains (cuts_of (first, last)) x → (last ≡ x) ⊎ (first ≡ x + 1)
+edge_of zero last x c =
+    ⊎_elim (λ (e : last ≡ x). inl e) (λ (d : Contains [] x). absurd (contains_nil x d))
+    (contains_cons last [] x c)
+edge_of (suc n) last x c =
+    ⊎_elim (λ (e : n ≡ x). inr (omega arith))
+    (λ (d : Contains (last ∷ []) x). ⊎_elim (λ (e : last ≡ x). inl e)
+    (λ (f : Contains [] x). absurd (contains_nil x f)) (contains_cons last [] x d))
+    (contains_cons n (last ∷ []) x c)
+
+edge_back : {V : Type 0} (w : ℕ) (es : List (Network × V)) (x : ℕ) → Contains (edges_of w es) x
+    → (i : ℕ) × (e : Network × V) × (slice_get es i ≡ Some e)
+    × ((high w e.0 ≡ x) ⊎ (low w e.0 ≡ x + 1))
+edge_back {V} w [] x c = absurd (contains_nil x c)
+edge_back {V} w (e ∷ es) x c =
+    ⊎_elim
+    (λ (d : Contains (cuts_of (low w e.0, high w e.0)) x).
+    (0, e, refl, edge_of (low w e.0) (high w e.0) x d))
+    (λ (d : Contains (edges_of w es) x).
+    let r = edge_back w es x d in (suc r.0, r.1, r.2, r.3))
+    (Contains-append_cases (cuts_of (low w e.0, high w e.0)) (edges_of w es) x c)
+
+pub some_value : {A : Type 0} (o : Option A) → IsSome o → (a : A) × (o ≡ Some a)
 some_value None s = absurd (true≢false (sym s))
 some_value (Some a) s = (a, refl)
 
@@ -52,6 +84,21 @@ closes_keeps w cuts lasts y h c =
     (λ (more : (top : ℕ) × (top + 1 ≡ 2 ^ w) × (lasts ≡ cuts ++ top ∷ [])).
     subst (λ (xs : List ℕ). Contains xs y) (sym more.2) (Contains-append_left cuts (more.0 ∷ []) y
     c))
+    h.either
+
+-- and the last numbers but the greatest are cuts
+closes_only : (w : ℕ) (cuts lasts : List ℕ) (x : ℕ) → Closes w cuts lasts → Contains lasts x
+    → x + 1 < 2 ^ w → Contains cuts x
+closes_only w cuts lasts x h c small =
+    ⊎_elim
+    (λ (same : lasts ≡ cuts). subst (λ (xs : List ℕ). Contains xs x) same c)
+    (λ (more : (top : ℕ) × (top + 1 ≡ 2 ^ w) × (lasts ≡ cuts ++ top ∷ [])).
+    ⊎_elim
+    (λ (d : Contains cuts x). d)
+    (λ (d : Contains (more.0 ∷ []) x). ⊎_elim
+    (λ (e : more.0 ≡ x). let top : more.0 + 1 ≡ 2 ^ w = more.1 in absurd (omega arith))
+    (λ (f : Contains [] x). absurd (contains_nil x f)) (contains_cons more.0 [] x d))
+    (Contains-append_cases cuts (more.0 ∷ []) x (subst (λ (xs : List ℕ). Contains xs x) more.2 c)))
     h.either
 
 -- ---- sorted, and each once
@@ -112,9 +159,9 @@ module _ {A : Type 0} (R : A → A → Ordering) (E : A → A → Bool) (f : A �
 
   pub all_cut_out : {V : Type 0} (w : ℕ) (t : FinMap network_cmp V) (edges sorted : List A)
       (lasts : List ℕ) → IsEquivalence E → StoredIsListed V
-      → map f edges ≡ edges_of w (entries t) → IsPermutation edges sorted
+      → ListedIsStored V → map f edges ≡ edges_of w (entries t) → IsPermutation edges sorted
       → Closes w (map f (dedup E sorted)) lasts → CutsOut w t lasts
-  all_cut_out {V} w t edges sorted lasts e listed is p c =
+  all_cut_out {V} w t edges sorted lasts e listed stored is p c =
       let through : (y : ℕ) → Contains (edges_of w (entries t)) y → Contains lasts y = λ y h.
       closes_keeps w (map f (dedup E sorted)) lasts y c
       (kept e sorted y (Contains-permutation (map f edges) (map f sorted) y
@@ -130,4 +177,16 @@ module _ {A : Type 0} (R : A → A → Ordering) (E : A → A → Bool) (f : A �
               start = λ x q. through x (edge_in w (entries t) at.0 (n, v.0) x at.1
                   (end_before (low w n) (high w n) x q));
             };
+        only = λ x k small.
+            let d = contains_of_map f (dedup E sorted) x
+            (closes_only w (map f (dedup E sorted)) lasts x c k small) in
+            let a = map_of_contains f sorted d.0 (Contains-from_dedup E sorted d.0 d.1) in
+            let b = Contains-permutation (map f sorted) (map f edges) (f d.0)
+            (IsPermutation-sym (map f edges) (map f sorted) (IsPermutation-map f edges sorted p))
+            a in
+            let m : Contains (edges_of w (entries t)) x
+            = subst (λ (y : ℕ). Contains (edges_of w (entries t)) y) d.2
+            (subst (λ (xs : List ℕ). Contains xs (f d.0)) is b) in
+            let r = edge_back w (entries t) x m in
+            (r.1.0, ap is_some (stored t r.0 r.1.0 r.1.1 r.2), r.3);
       }

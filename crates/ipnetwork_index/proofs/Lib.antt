@@ -1,8 +1,10 @@
 pub mod Answering
 pub mod Cutting
 pub mod Edging
+pub mod Halving
 pub mod Inside
 pub mod LawExamples
+pub mod RangeCounts
 pub mod Searching
 pub mod Starting
 pub mod Telling

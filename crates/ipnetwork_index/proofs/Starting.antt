@@ -1,12 +1,14 @@
 -- The fields that a partition is built with.
-use Rattle.std.proofs.Common.{◌≡◌, ℕ, zero, suc, ◌+◌, ◌-◌, ◌*◌, ◌^◌, ◌<◌, ◌≤◌, List, [], ◌∷◌, ◌++◌, length, get_or, take, arith, sym, refl, ◌∙◌, subst, ⊎_elim, append_assoc, length-append}
+use Rattle.std.proofs.Common.{◌≡◌, ◌≢◌, ℕ, zero, suc, ◌+◌, ◌-◌, ◌*◌, ◌^◌, ◌<◌, ◌≤◌, List, [], ◌∷◌, ◌++◌, length, get_or, take, slice_set, arith, sym, refl, ◌∙◌, subst, ⊎_elim, append_assoc, length-append}
 use Rattle.std.proofs.lemmas.Bool.{cases_lt, cases_eq}
-use Rattle.std.proofs.lemmas.List.{get_or_append_left, get_or-append-add, get_or_push}
+use Rattle.std.proofs.lemmas.List.{get_or_append_left, get_or-append-add, get_or-set_same, get_or-set_other, get_or-take, length-take}
 use Rattle.std.proofs.Math.Nat.{mul-le-mul_right}
 use Rattle.std.proofs.Math.Seq.{take-append_seam}
 use Rattle.ipnetwork_index.specs.Parts.{IsPart}
-use Rattle.ipnetwork_index.specs.Private.Partitions.{IsPartition}
-use Rattle.ipnetwork_index.specs.Private.Padded.{unpadded, IsSearched, IsStart, AreStarts, AreStartsSoFar}
+use Rattle.ipnetwork_index.specs.Searches.{IsStart, AreStarts, IsPlaceOf, IsWithin}
+use Rattle.ipnetwork_index.specs.Private.Partitions.{IsPartition, LiesAt}
+use Rattle.ipnetwork_index.specs.Private.Padded.{unpadded, IsPadded, Pads}
+use Rattle.ipnetwork_index.specs.Private.Steps.{AreStartsSoFar}
 
 -- ---- where the search for a part begins
 
@@ -51,29 +53,42 @@ start_next lasts base shift part at s =
           let l : get_or lasts k 0 < base + part * 2 ^ shift = f.1 in (omega arith, omega arith);
     }
 
+-- none of the numbers is before the first part
+pub starts_none : (lasts starts : List ℕ) (base shift : ℕ)
+    → AreStartsSoFar lasts starts base shift 0 0
+starts_none lasts starts base shift = record {
+  all = λ h l. absurd (omega arith);
+  next = record { within = omega arith; less = λ k l. absurd (omega arith) };
+}
+
 -- the place of one more part
 pub starts_more : (lasts starts : List ℕ) (base shift part before at start : ℕ)
-    → AreStartsSoFar lasts starts base shift part before
-    → IsStart lasts base shift part at → start ≤ at → AreStartsSoFar lasts (starts ++ start ∷ [])
-    base shift (part + 1) at
-starts_more lasts starts base shift part before at start t s l =
-    let size = t.size in
-    let longer : length (starts ++ start ∷ []) ≡ length starts + 1
-    = length-append starts (start ∷ []) in
-    record {
-      size = omega arith;
-      all = λ h m. ⊎_elim
-          (λ (early : h < length starts). rw (get_or_append_left starts (start ∷ []) 0 h early)
-          (t.all h early))
-          (λ (last : length starts ≤ h).
-          let here : length starts ≡ h = omega arith in
-          let p : part ≡ h = omega arith in
-          rw (get_or_push starts start 0 h here)
-          (subst (λ (j : ℕ). IsStart lasts base shift j start) p (start_fewer lasts base shift part
-          at start l s)))
-          (cases_lt h (length starts));
-      next = start_next lasts base shift part at s;
-    }
+    → AreStartsSoFar lasts starts base shift part before → part < length starts
+    → IsStart lasts base shift part at → start ≤ at
+    → AreStartsSoFar lasts (slice_set starts part start) base shift (part + 1) at
+starts_more lasts starts base shift part before at start t own s l = record {
+  all = λ h m. ⊎_elim
+      (λ (early : h < part).
+      let other : h ≢ part = omega arith in
+      subst (λ (j : ℕ). IsStart lasts base shift h j)
+      (sym (get_or-set_other starts part h start 0 other)) (t.all h early))
+      (λ (here : part ≤ h).
+      let e : part ≡ h = omega arith in
+      subst (λ (i : ℕ). IsStart lasts base shift i (get_or (slice_set starts part start) i 0)) e
+      (subst (λ (j : ℕ). IsStart lasts base shift part j)
+      (sym (get_or-set_same starts part start 0 own))
+      (start_fewer lasts base shift part at start l s)))
+      (cases_lt h part);
+  next = start_next lasts base shift part at s;
+}
+
+pub all_started : (lasts starts : List ℕ) (base shift part at : ℕ) → 1 ≤ length starts
+    → length starts ≤ part → AreStartsSoFar lasts starts base shift part at
+    → AreStarts lasts starts base shift
+all_started lasts starts base shift part at some all t = record {
+  some = some;
+  all = λ h l. t.all h (omega arith);
+}
 
 -- ---- three more of the greatest number
 
@@ -109,13 +124,16 @@ read_more lasts top k le l =
     subst (λ (i : ℕ). get_or (lasts ++ (top ∷ top ∷ top ∷ [])) i 0 ≡ top) e
     (get_or-append-add lasts (top ∷ top ∷ top ∷ []) j 0 ∙ of_three top j (omega arith))
 
-padded_is : (w : ℕ) (lasts starts : List ℕ) (top base shift : ℕ) → IsPartition w lasts
-    → AreStarts lasts starts base shift → shift < w
-    → top + 1 ≡ 2 ^ w → IsSearched w (lasts ++ (top ∷ top ∷ top ∷ [])) starts base shift
-padded_is w lasts starts top base shift h t narrow is =
+padded_is : (w : ℕ) (lasts : List ℕ) (top : ℕ) → IsPartition w lasts → top + 1 ≡ 2 ^ w
+    → IsPadded w (lasts ++ (top ∷ top ∷ top ∷ []))
+padded_is w lasts top h is =
     let all : List ℕ = lasts ++ (top ∷ top ∷ top ∷ []) in
     let some = h.some in
     let size : length all ≡ length lasts + 3 = length-append lasts (top ∷ top ∷ top ∷ []) in
+    let k : ℕ = length lasts - 1 in
+    let own : get_or all k 0 ≡ get_or lasts k 0 = read_own lasts top k (omega arith) in
+    let q : get_or lasts k 0 + 1 ≡ 2 ^ w = h.last k (omega arith) in
+    let e : k ≡ length all - 4 = omega arith in
     record {
       some = omega arith;
       ascending = record {
@@ -129,8 +147,8 @@ padded_is w lasts starts top base shift h t narrow is =
             let a : get_or lasts i 0 < get_or lasts j 0 = h.ascending i j less early in
             omega arith)
             (λ (ge : j ≤ i).
-            let e : i ≡ j = omega arith in
-            subst (λ (m : ℕ). get_or all i 0 ≤ get_or all m 0) e (omega arith))
+            let same : i ≡ j = omega arith in
+            subst (λ (m : ℕ). get_or all i 0 ≤ get_or all m 0) same (omega arith))
             (cases_lt i j))
             (λ (late : length lasts ≤ j).
             let rj = read_more lasts top j late (omega arith) in
@@ -138,33 +156,12 @@ padded_is w lasts starts top base shift h t narrow is =
             (λ (early : i < length lasts).
             let ri = read_own lasts top i early in
             let m = at_most_top w lasts top i h is early in omega arith)
-            (λ (both : length lasts ≤ i). let ri = read_more lasts top i both (omega arith) in omega
-            arith)
+            (λ (both : length lasts ≤ i). let ri = read_more lasts top i both (omega arith) in
+            omega arith)
             (cases_lt i (length lasts)))
             (cases_lt j (length lasts));
       };
-      padded = λ k near l.
-          ⊎_elim
-          (λ (early : k < length lasts).
-          let r = read_own lasts top k early in
-          let q : get_or lasts k 0 + 1 ≡ 2 ^ w = h.last k (omega arith) in omega arith)
-          (λ (late : length lasts ≤ k). let r = read_more lasts top k late (omega arith) in omega
-          arith)
-          (cases_lt k (length lasts));
-      narrow = narrow;
-      starts_are = record {
-        some = t.some;
-        all = λ part l.
-            let s = t.all part l in
-            let within = s.within in
-            record {
-              within = omega arith;
-              less = λ k m.
-                  let r = read_own lasts top k (omega arith) in
-                  let f = s.less k m in
-                  let less : get_or lasts k 0 < base + part * 2 ^ shift = f.1 in (f.0, omega arith);
-            };
-      };
+      top = subst (λ (j : ℕ). get_or all j 0 + 1 ≡ 2 ^ w) e (omega arith);
     }
 
 -- pushed one after the other
@@ -172,19 +169,36 @@ pushed : (lasts : List ℕ) (top : ℕ) → ((lasts ++ top ∷ []) ++ top ∷ []
     (top ∷ top ∷ top ∷ [])
 pushed lasts top = simp append_assoc
 
-pub searched : (w : ℕ) (lasts starts all : List ℕ) (top base shift : ℕ)
-    → all ≡ ((lasts ++ top ∷ []) ++ top ∷ []) ++ top ∷ []
-    → IsPartition w lasts → AreStarts lasts starts base shift → shift < w → top + 1 ≡ 2 ^ w
-    → IsSearched w all starts base shift
-searched w lasts starts all top base shift e h t narrow is =
-    subst (λ (xs : List ℕ). IsSearched w xs starts base shift) (sym (e ∙ pushed lasts top))
-    (padded_is w lasts starts top base shift h t narrow is)
-
-pub unpadded_is : (lasts all : List ℕ) (top : ℕ) → all ≡ ((lasts ++ top ∷ []) ++ top ∷ []) ++ top ∷
-    [] → unpadded all ≡ lasts
-unpadded_is lasts all top e =
-    subst (λ (xs : List ℕ). take (length xs - 3) xs ≡ lasts) (sym (e ∙ pushed lasts top))
-    (let size : length (lasts ++ (top ∷ top ∷ top ∷ [])) ≡ length lasts + 3
+unpadded_is : (lasts : List ℕ) (top : ℕ) → unpadded (lasts ++ (top ∷ top ∷ top ∷ [])) ≡ lasts
+unpadded_is lasts top =
+    let size : length (lasts ++ (top ∷ top ∷ top ∷ [])) ≡ length lasts + 3
     = length-append lasts (top ∷ top ∷ top ∷ []) in
     let n : length (lasts ++ (top ∷ top ∷ top ∷ [])) - 3 ≡ length lasts = omega arith in
-    rw n (take-append_seam lasts (top ∷ top ∷ top ∷ [])))
+    rw n (take-append_seam lasts (top ∷ top ∷ top ∷ []))
+
+pub pads : (w : ℕ) (lasts all : List ℕ) (top : ℕ)
+    → all ≡ ((lasts ++ top ∷ []) ++ top ∷ []) ++ top ∷ []
+    → IsPartition w lasts → top + 1 ≡ 2 ^ w → Pads w lasts all
+pads w lasts all top e h is =
+    subst (λ (xs : List ℕ). Pads w lasts xs) (sym (e ∙ pushed lasts top))
+    (record { is_padded = padded_is w lasts top h is; own = unpadded_is lasts top })
+
+-- ---- a number of w bits is found
+
+pub is_within : (w : ℕ) (padded : List ℕ) (x : ℕ) → IsPadded w padded → x < 2 ^ w
+    → IsWithin padded x
+is_within w padded x i small =
+    let q = i.top in
+    record { some = i.some; most = omega arith }
+
+-- and the place of it is that of its range
+pub lies : (lasts : List ℕ) (x at : ℕ) → IsPlaceOf lasts x at → LiesAt (unpadded lasts) x at
+lies lasts x at h =
+    let room = h.room in
+    let size : length (take (length lasts - 3) lasts) ≡ length lasts - 3
+    = omega (arith, length-take {A = ℕ}) in
+    record {
+      one = omega arith;
+      after = λ k l. rw (get_or-take (length lasts - 3) lasts k 0 (omega arith)) (h.after k l);
+      within = rw (get_or-take (length lasts - 3) lasts at 0 (omega arith)) h.within;
+    }

@@ -1,5 +1,7 @@
 -- What the contracts of this crate cite.
 pub mod Columns
+pub mod Halves
 pub mod Parts
 pub mod Private
+pub mod Searches
 pub mod Turns

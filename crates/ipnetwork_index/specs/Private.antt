@@ -2,5 +2,7 @@
 pub mod Answers
 pub mod Cuts
 pub mod Edges
+pub mod Halved
 pub mod Padded
 pub mod Partitions
+pub mod Steps

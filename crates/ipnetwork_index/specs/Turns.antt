@@ -1,6 +1,7 @@
--- Where a set of addresses begins and ends.
-use Rattle.std.specs.Prelude.{◌≡◌, ℕ, ◌+◌, ◌*◌, ◌^◌, ◌<◌, ◌≤◌, ◌⊎◌, List, length}
-use Rattle.ipnetwork_family.specs.Network.{Network}
+-- Where a set of addresses, or a block of a table, begins and ends.
+use Rattle.std.specs.Prelude.{◌≡◌, ℕ, ◌+◌, ◌*◌, ◌^◌, ◌<◌, ◌≤◌, ◌⊎◌, List, length, IsSome}
+use Rattle.std.specs.FinMap.{FinMap, get, len}
+use Rattle.ipnetwork_family.specs.Network.{Network, low, high, network_cmp}
 use Rattle.ipnetwork_blocks.specs.Aggregate.{InUnion}
 use Rattle.ipnetwork_sets.specs.Counts.{HasCount}
 use Rattle.ipnetwork_sets.specs.Sets.{IsAddressSet}
@@ -17,3 +18,20 @@ CutInto w set n = (turns : ℕ) × HasCount (IsTurn w set) turns × (n ≡ turns
 abbrev pub SetHasFewRanges : Type 0
 SetHasFewRanges = (w : ℕ) (blocks : List Network) (n : ℕ) → IsAddressSet w blocks
     → CutInto w (InUnion w blocks) n → n ≤ 2 * length blocks + 1
+
+-- a block of the table ends with x, or one begins with the number after it
+abbrev pub HasEdge : {V : Type 0} → ℕ → FinMap network_cmp V → ℕ → Type 0
+HasEdge w t x = (n : Network) × IsSome (get t n) × ((high w n ≡ x) ⊎ (low w n ≡ x + 1))
+
+-- so it is, and x is not the last number of w bits
+abbrev pub IsEdge : {V : Type 0} → ℕ → FinMap network_cmp V → ℕ → Type 0
+IsEdge w t x = (x + 1 < 2 ^ w) × HasEdge w t x
+
+-- where blocks of the table begin and end cuts the numbers of w bits into n ranges
+abbrev pub CutByBlocks : {V : Type 0} → ℕ → FinMap network_cmp V → ℕ → Type 0
+CutByBlocks w t n = (edges : ℕ) × HasCount (IsEdge w t) edges × (n ≡ edges + 1)
+
+-- n blocks cut the numbers into at most 2 n + 1 ranges
+abbrev pub TableHasFewRanges : Type 0 → Type 0
+TableHasFewRanges V = (w : ℕ) (t : FinMap network_cmp V) (n : ℕ) → CutByBlocks w t n
+    → n ≤ 2 * len t + 1

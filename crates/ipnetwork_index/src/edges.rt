@@ -32,7 +32,7 @@ fn edges_of<N: IndexedNetwork, V: Copy>(
     ensures { IfOk result
         (λ edges. map N.number edges.items ≡ edges_of N.WIDTH (finite_map.entries table.now)) }
 {
-    let mut edges = Vec::new(alloc);
+    let mut edges = Vec::with_capacity(alloc, table.len().saturating_mul(2).saturating_add(1))?;
     let mut entries = table.iter();
     'edging: while let Some(entry) = entries.next() {
         let block = entry.0;

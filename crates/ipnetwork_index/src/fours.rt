@@ -1,30 +1,27 @@
 //! Four numbers compared at once.
-ghost use Rattle.std.specs.Prelude.{◌+◌, ◌≤◌, length, map};
-ghost use Rattle.ipnetwork_index.specs.Private.Padded.{Ascends, IsStep, IsOneIfLess};
+ghost use Rattle.std.specs.Prelude.{◌+◌, ◌*◌, ◌<◌, length, map};
+ghost use Rattle.ipnetwork_index.specs.Searches.{Ascends};
+ghost use Rattle.ipnetwork_index.specs.Private.Steps.{IsStep, IsOneIfLess};
 
-use crate::indexed_network::IndexedNetwork;
+use crate::key::Key;
 
-// How many of the four numbers from `at` on are less than this one. No branch depends on what they
-// are.
-pub(crate) fn below_of_four<N: IndexedNetwork>(
-    lasts: &[N::Number],
-    at: usize,
-    number: N::Number,
-) -> usize
-    requires within { at + 4 ≤ length lasts.now }
-    requires ascending { Ascends (map N.value lasts.now) }
-    ensures { IsStep (map N.value lasts.now) (N.value number) at result }
+// From `at` on each fourth of so many keys and one more is the last of a step: how many of the ends
+// of the next four steps are less than this key. No branch depends on what they are.
+pub(crate) fn below_of_four<K: Key>(keys: &[K], at: usize, step: usize, key: K) -> usize
+    requires within { at + (4 * step + 3) < length keys.now }
+    requires ascending { Ascends (map K.value keys.now) }
+    ensures { IsStep (map K.value keys.now) (K.value key) at step result }
 {
-    let first = one_if_less::<N>(lasts[at], number);
-    let second = one_if_less::<N>(lasts[at + 1], number);
-    let third = one_if_less::<N>(lasts[at + 2], number);
-    let fourth = one_if_less::<N>(lasts[at + 3], number);
+    let first = one_if_less::<K>(keys[at + step], key);
+    let second = one_if_less::<K>(keys[at + (2 * step + 1)], key);
+    let third = one_if_less::<K>(keys[at + (3 * step + 2)], key);
+    let fourth = one_if_less::<K>(keys[at + (4 * step + 3)], key);
     first + second + third + fourth
 }
 
 // 1 if the first is less than the second, and 0 if not.
-fn one_if_less<N: IndexedNetwork>(last: N::Number, number: N::Number) -> usize
-    ensures { IsOneIfLess (N.value last) (N.value number) result }
+fn one_if_less<K: Key>(first: K, second: K) -> usize
+    ensures { IsOneIfLess (K.value first) (K.value second) result }
 {
-    usize::from(N::is_less(last, number))
+    usize::from(first.is_less(second))
 }

@@ -1,7 +1,8 @@
 //! What an index needs of a family of addresses.
-ghost use Rattle.std.specs.Prelude.{◌≡◌, ◌↔◌, ℕ, ◌+◌, ◌^◌, ◌<◌, IsTrue};
-ghost use Rattle.ipnetwork_index.specs.Parts.{IsPart};
+ghost use Rattle.std.specs.Prelude.{◌≡◌, ℕ, ◌+◌, ◌/◌, ◌^◌, ◌<◌, ◌≤◌, IsTrue};
+ghost use Rattle.ipnetwork_index.specs.Halves.{IsLastOf, halves_ascend};
 
+use crate::key::Key;
 use ipnetwork_addr::{Ipv4Addr, Ipv6Addr};
 use ipnetwork_blocks::AddressSpace;
 use ipnetwork_family::{Ipv4Network, Ipv6Network};
@@ -14,10 +15,13 @@ use ipnetwork_family::{Ipv4Network, Ipv6Network};
 /// ```
 pub trait IndexedNetwork: AddressSpace {
     /// The bare numbers of the family.
-    type Number: Copy;
+    type Number: Key;
 
-    // What a bare number means.
-    ghost value: { Self.Number → ℕ };
+    /// Their high halves.
+    type High: Key;
+
+    // What the high half of a number means.
+    ghost high: { ℕ → ℕ };
 
     /// The number of an address.
     ///
@@ -25,8 +29,8 @@ pub trait IndexedNetwork: AddressSpace {
     /// assert_eq!(rt; Ipv6Network::number_of("::1:2".parse()?), 65538);
     /// ```
     fn number_of(addr: Self::Addr) -> Self::Number
-        ensures number { value result ≡ Self.number addr }
-        ensures width { value result < 2 ^ Self.WIDTH };
+        ensures number { Self.Number.value result ≡ Self.number addr }
+        ensures width { Self.Number.value result < 2 ^ Self.WIDTH };
 
     /// The number of the last address.
     ///
@@ -34,41 +38,44 @@ pub trait IndexedNetwork: AddressSpace {
     /// assert_eq!(rt; Ipv4Network::greatest(), u32::MAX);
     /// ```
     fn greatest() -> Self::Number
-        ensures { value result + 1 ≡ 2 ^ Self.WIDTH };
+        ensures { Self.Number.value result + 1 ≡ 2 ^ Self.WIDTH };
 
-    /// Whether the number is less than the other.
+    /// The high half of a number, or the number itself if it is not compared by halves.
     ///
     /// ```
-    /// assert!(rt; Ipv4Network::is_less(1, 2));
+    /// assert_eq!(rt; Ipv6Network::high_of(5 << 64 | 7), 5);
+    /// assert_eq!(rt; Ipv4Network::high_of(7), 7);
     /// ```
-    fn is_less(number: Self::Number, other: Self::Number) -> bool
-        ensures { IsTrue result ↔ (value number < value other) };
+    fn high_of(number: Self::Number) -> Self::High
+        ensures { Self.High.value result ≡ high (Self.Number.value number) };
 
-    /// In which part of the numbers from `base` on a number lies, if each has 2^`shift` numbers:
-    /// the first for the numbers before `base`, and the part `last` for those after it.
+    /// Whether the number is known to be the greatest of those that have its high half.
     ///
     /// ```
-    /// assert_eq!(rt; Ipv4Network::part_of(259, 3, 6, 9), 4);
-    /// assert_eq!(rt; Ipv4Network::part_of(259, 3, 6, 2), 2);
+    /// assert!(rt; Ipv6Network::ends_high((5 << 64) - 1));
+    /// assert!(rt; !Ipv6Network::ends_high(5 << 64));
     /// ```
-    fn part_of(number: Self::Number, base: Self::Number, shift: u32, last: usize) -> usize
-        requires { shift < Self.WIDTH }
-        ensures { IsPart (value number) (value base) shift last result };
+    fn ends_high(number: Self::Number) -> bool
+        ensures { IsTrue result → IsLastOf high (Self.Number.value number) };
 
-    /// How large parts are, as a power of two, if about 2^`bits` of them reach from `base` to a
-    /// number. The contract leaves the size open: another would cost time and change no answer.
+    /// Whether numbers are to be compared by halves: those of an IPv6 address are, since most
+    /// networks end where a high half does.
     ///
     /// ```
-    /// assert_eq!(rt; Ipv4Network::part_size(259, 3, 4), 5);
+    /// assert!(rt; Ipv6Network::has_halves());
     /// ```
-    fn part_size(number: Self::Number, base: Self::Number, bits: u32) -> u32
-        ensures { result < Self.WIDTH };
+    fn has_halves() -> bool;
+
+    // A greater number has no lesser high half.
+    ghost high_ascends: { (x y : ℕ) → x ≤ y → high x ≤ high y };
 }
 
 impl IndexedNetwork for Ipv4Network {
     type Number = u32;
 
-    ghost value = { λ n. n };
+    type High = u32;
+
+    ghost high = { λ n. n };
 
     fn number_of(addr: Ipv4Addr) -> u32 {
         u32::from(addr)
@@ -78,25 +85,27 @@ impl IndexedNetwork for Ipv4Network {
         u32::MAX
     }
 
-    fn is_less(number: u32, other: u32) -> bool {
-        number < other
+    fn high_of(number: u32) -> u32 {
+        number
     }
 
-    fn part_of(number: u32, base: u32, shift: u32, last: usize) -> usize {
-        let part = (number.saturating_sub(base) >> shift) as usize;
-        part.min(last)
+    fn ends_high(_number: u32) -> bool {
+        true
     }
 
-    fn part_size(number: u32, base: u32, bits: u32) -> u32 {
-        let width = 32 - number.saturating_sub(base).leading_zeros();
-        width.saturating_sub(bits).min(31)
+    fn has_halves() -> bool {
+        false
     }
+
+    ghost high_ascends = { λ x y l. l };
 }
 
 impl IndexedNetwork for Ipv6Network {
     type Number = u128;
 
-    ghost value = { λ n. n };
+    type High = u64;
+
+    ghost high = { λ n. n / 2 ^ 64 };
 
     fn number_of(addr: Ipv6Addr) -> u128 {
         u128::from(addr)
@@ -106,17 +115,17 @@ impl IndexedNetwork for Ipv6Network {
         u128::MAX
     }
 
-    fn is_less(number: u128, other: u128) -> bool {
-        number < other
+    fn high_of(number: u128) -> u64 {
+        (number >> 64) as u64
     }
 
-    fn part_of(number: u128, base: u128, shift: u32, last: usize) -> usize {
-        let part = number.saturating_sub(base) >> shift;
-        part.min(last as u128) as usize
+    fn ends_high(number: u128) -> bool {
+        number % (1 << 64) == (1 << 64) - 1
     }
 
-    fn part_size(number: u128, base: u128, bits: u32) -> u32 {
-        let width = 128 - number.saturating_sub(base).leading_zeros();
-        width.saturating_sub(bits).min(127)
+    fn has_halves() -> bool {
+        true
     }
+
+    ghost high_ascends = { halves_ascend };
 }

@@ -3,7 +3,7 @@
 ghost use Rattle.std.specs.Prelude.{◌≡◌, ◌↔◌, IsTrue};
 ghost use Rattle.ipnetwork_blocks.specs.Aggregate.{InUnion};
 ghost use Rattle.ipnetwork_table.specs.Table.{Finds, found_by_pair};
-ghost use Rattle.ipnetwork_index.specs.Turns.{SetHasFewRanges};
+ghost use Rattle.ipnetwork_index.specs.Turns.{SetHasFewRanges, TableHasFewRanges};
 
 use crate::address_index::AddressIndex;
 use crate::indexed_network::IndexedNetwork;
@@ -11,7 +11,7 @@ use crate::route_index::RouteIndex;
 use ipnetwork_blocks::laws;
 use ipnetwork_sets::AddressSet;
 use ipnetwork_table::PrefixTable;
-use ipnetwork_table::laws::one_answer;
+use ipnetwork_table::laws::{listing, one_answer};
 
 /// A set of n blocks cuts the addresses into at most 2 n + 1 ranges: as many as the blocks, and one
 /// more between them.
@@ -19,6 +19,13 @@ pub fn few_ranges()
     ensures { SetHasFewRanges }
 {
     laws::one_block();
+}
+
+/// A table of n blocks cuts the addresses into at most 2 n + 1 ranges: each block begins and ends one.
+pub fn few_routed_ranges<V: Copy>()
+    ensures { TableHasFewRanges V }
+{
+    listing::<V>();
 }
 
 /// What a set and its index say of an address: the same.
@@ -38,7 +45,7 @@ pub fn set_and_index_agree<N: IndexedNetwork>(
 /// length, and the same value.
 pub fn table_and_index_agree<N: IndexedNetwork, V: Copy>(
     table: &PrefixTable<N, V>,
-    index: &RouteIndex<'_, N, V>,
+    index: &RouteIndex<N, V>,
     addr: N::Addr,
 ) -> (Option<(N, V)>, Option<(N, V)>)
     requires { index.now ≡ table.now }

@@ -1,21 +1,27 @@
 //! Indexes for look-ups that are made again and again: a set of addresses that is only asked, and a
 //! table of which only the longest block of an address is asked. A look-up takes a few reads in a
-//! row if the networks lie spread. If most of them lie close together and others far away, it may
-//! read the ends of nearly all of them, four at a step: then ask the set or the table itself.
+//! row if the networks lie spread, and else about as many as a search that halves its list.
 //!
-//! Only what makes an index allocates.
+//! Only what makes an index allocates. `place_of`, by which both indexes search, and `write_starts`,
+//! which tells it where to begin, work on slices, in whatever memory these lie.
 #![tactic(auto)]
 
 mod address_index;
 mod cuts;
 mod edges;
 mod fours;
+mod halves;
 mod indexed_network;
+mod key;
 pub mod laws;
 mod partition;
 mod route_index;
+mod search;
 mod starts;
 
 pub use address_index::AddressIndex;
 pub use indexed_network::IndexedNetwork;
+pub use key::Key;
 pub use route_index::RouteIndex;
+pub use search::place_of;
+pub use starts::{part_bits, write_starts};

@@ -1,10 +1,14 @@
 //! All addresses of a family, cut into ranges.
-ghost use Rattle.std.specs.Prelude.{◌≡◌, ◌+◌, ◌^◌, ◌<◌, ◌≤◌, IfOk, length, map};
+ghost use Rattle.std.specs.Prelude.{◌≡◌, ◌^◌, ◌<◌, ◌≤◌, IfOk, length, map};
+ghost use Rattle.ipnetwork_index.specs.Searches.{AreStarts};
 ghost use Rattle.ipnetwork_index.specs.Private.Partitions.{IsPartition, LiesAt};
+ghost use Rattle.ipnetwork_index.specs.Private.Padded.{unpadded, IsPadded, Pads};
 
-use crate::fours::below_of_four;
+use crate::halves::{all_end, are_worth_it, highs_of, place_by_halves};
 use crate::indexed_network::IndexedNetwork;
-use crate::starts::starts_of;
+use crate::key::Key;
+use crate::search::place_of;
+use crate::starts::{part_bits, write_starts};
 use std::alloc::{AllocError, Global};
 use std::marker::Model;
 
@@ -13,12 +17,18 @@ use std::marker::Model;
 pub(crate) struct Partition<N: IndexedNetwork> {
     // The last number of each range, and three times more that of the last range.
     lasts: Vec<N::Number>,
-    // For each part of the numbers from `base` on, how many ranges end before it. A greater part
-    // has more.
+    // For each part of the numbers or of the high halves from a base on, how many ranges end before
+    // it. A greater part has more.
     starts: Vec<u32>,
     base: N::Number,
-    // Each part has 2 ^ shift numbers.
+    // Each part has 2 ^ shift numbers or high halves.
     shift: u32,
+    // Whether the high halves are searched first, of which these are those of the last numbers, and
+    // whether all of the last numbers end their high halves: then the place is known by these.
+    by_halves: bool,
+    highs: Vec<N::High>,
+    high_base: N::High,
+    highs_tell: bool,
 }
 
 // A contract sees the last numbers of the ranges, in ascending order.
@@ -28,10 +38,11 @@ impl<N: IndexedNetwork> Model for Partition<N> {
 
     ghost Value = { List ℕ };
 
-    ghost view = { λ p. unpadded (map N.value p.lasts.items) };
+    ghost view = { λ p. unpadded (map N.Number.value p.lasts.items) };
 
-    ghost invariant = { λ p. IsSearched N.WIDTH (map N.value p.lasts.items) p.starts.items
-        (N.value p.base) p.shift };
+    ghost invariant = { λ p. IsSearched N.WIDTH N.high N.Number.BITS N.High.BITS
+        (map N.Number.value p.lasts.items) p.starts.items (N.Number.value p.base) p.shift
+        p.by_halves (map N.High.value p.highs.items) (N.High.value p.high_base) p.highs_tell };
 }
 
 impl<N: IndexedNetwork> Partition<N> {
@@ -40,30 +51,74 @@ impl<N: IndexedNetwork> Partition<N> {
         requires { IsPartition N.WIDTH (map N.number addresses.now) }
         ensures { IfOk result (λ partition. partition ≡ map N.number addresses.now) }
     {
-        Self::of_numbers(alloc, numbers_of::<N>(alloc, addresses)?)
+        let lasts = padded::<N>(numbers_of::<N>(alloc, addresses)?)?;
+        Self::of_padded(alloc, lasts)
     }
 
-    // The ranges with these last numbers. Which parts there are depends on them: a few for each
+    // The ranges with these last numbers, which are searched by halves if these differ.
+    fn of_padded(alloc: Global, lasts: Vec<N::Number>) -> Result<Self, AllocError>
+        requires { IsPadded N.WIDTH (map N.Number.value lasts.items) }
+        ensures { IfOk result (λ partition. partition ≡ unpadded (map N.Number.value lasts.items)) }
+    {
+        if N::has_halves() {
+            let highs = highs_of::<N>(alloc, lasts.as_slice())?;
+            if are_worth_it::<N::High>(highs.as_slice()) {
+                return Self::of_halves(alloc, lasts, highs);
+            }
+        }
+        Self::of_wholes(alloc, lasts)
+    }
+
+    // The same, searched by whole numbers. Which parts there are depends on them: a few for each
     // range, from the first to the last but one, so that the first bits that all of them share are
     // left out.
-    fn of_numbers(alloc: Global, mut lasts: Vec<N::Number>) -> Result<Self, AllocError>
-        requires { IsPartition N.WIDTH (map N.value lasts.items) }
-        ensures { IfOk result (λ partition. partition ≡ map N.value lasts.items) }
+    fn of_wholes(alloc: Global, lasts: Vec<N::Number>) -> Result<Self, AllocError>
+        requires { IsPadded N.WIDTH (map N.Number.value lasts.items) }
+        ensures { IfOk result (λ partition. partition ≡ unpadded (map N.Number.value lasts.items)) }
     {
-        let bits = bits_for(lasts.len());
-        let base = number_at::<N>(lasts.as_slice(), 0);
-        let end = number_at::<N>(lasts.as_slice(), lasts.len().saturating_sub(2));
-        let shift = N::part_size(end, base, bits);
-        let starts = starts_of::<N>(alloc, lasts.as_slice(), base, shift, 1 << bits)?;
-        let greatest = N::greatest();
-        lasts.push(greatest)?;
-        lasts.push(greatest)?;
-        lasts.push(greatest)?;
+        let ranges = lasts.len() - 3;
+        let bits = part_bits(ranges);
+        let base = lasts[0];
+        let shift = lasts[ranges.saturating_sub(2)].part_size(base, bits);
+        let starts = starts_of::<N::Number>(alloc, lasts.as_slice(), base, shift, 1 << bits)?;
         Ok(Partition {
             lasts,
             starts,
             base,
             shift,
+            by_halves: false,
+            highs: Vec::new(alloc),
+            high_base: N::high_of(base),
+            highs_tell: false,
+        })
+    }
+
+    // The same, searched by these high halves first.
+    fn of_halves(
+        alloc: Global,
+        lasts: Vec<N::Number>,
+        highs: Vec<N::High>,
+    ) -> Result<Self, AllocError>
+        requires padded { IsPadded N.WIDTH (map N.Number.value lasts.items) }
+        requires halves { map N.High.value highs.items ≡ map N.high (map N.Number.value lasts.items) }
+        ensures { IfOk result (λ partition. partition ≡ unpadded (map N.Number.value lasts.items)) }
+    {
+        let ranges = highs.len() - 3;
+        let bits = part_bits(ranges);
+        let high_base = highs[0];
+        let shift = highs[ranges.saturating_sub(2)].part_size(high_base, bits);
+        let starts = starts_of::<N::High>(alloc, highs.as_slice(), high_base, shift, 1 << bits)?;
+        let highs_tell = all_end::<N>(lasts.as_slice());
+        let base = lasts[0];
+        Ok(Partition {
+            lasts,
+            starts,
+            base,
+            shift,
+            by_halves: true,
+            highs,
+            high_base,
+            highs_tell,
         })
     }
 
@@ -76,49 +131,70 @@ impl<N: IndexedNetwork> Partition<N> {
 
     /// At which place the range stands that the number lies in.
     pub(crate) fn place_of(&self, number: N::Number) -> usize
-        requires { N.value number < 2 ^ N.WIDTH }
-        ensures { LiesAt self.now (N.value number) result }
+        requires { N.Number.value number < 2 ^ N.WIDTH }
+        ensures { LiesAt self.now (N.Number.value number) result }
     {
         let lasts = self.lasts.as_slice();
         let starts = self.starts.as_slice();
-        let part = N::part_of(number, self.base, self.shift, starts.len() - 1);
-        let mut at = starts[part] as usize;
-        'fours: loop {
-            let below = below_of_four::<N>(lasts, at, number);
-            at += below;
-            if below < 4 {
-                return at;
-            }
+        let by_halves = self.by_halves;
+        if by_halves {
+            let highs = self.highs.as_slice();
+            return place_by_halves::<N>(
+                lasts,
+                highs,
+                starts,
+                self.high_base,
+                self.shift,
+                self.highs_tell,
+                number,
+            );
         }
+        place_of::<N::Number>(lasts, starts, self.base, self.shift, number)
     }
 }
 
-// The numbers of the addresses.
+// The numbers of the addresses, with room for three more.
 fn numbers_of<N: IndexedNetwork>(
     alloc: Global,
     addresses: &[N::Addr],
 ) -> Result<Vec<N::Number>, AllocError>
-    ensures { IfOk result (λ numbers. map N.value numbers.items ≡ map N.number addresses.now) }
+    ensures { IfOk result
+        (λ numbers. map N.Number.value numbers.items ≡ map N.number addresses.now) }
 {
-    let mut numbers = Vec::new(alloc);
+    let mut numbers = Vec::with_capacity(alloc, addresses.len().saturating_add(3))?;
     for address in addresses {
         numbers.push(N::number_of(*address))?;
     }
     Ok(numbers)
 }
 
-// How many parts there are, as a power of two: two to four for each range, and at most 2^20.
-fn bits_for(ranges: usize) -> u32
-    ensures { result ≤ 20 }
+// The last numbers of ranges, and three times more that of the last of them.
+fn padded<N: IndexedNetwork>(mut lasts: Vec<N::Number>) -> Result<Vec<N::Number>, AllocError>
+    requires { IsPartition N.WIDTH (map N.Number.value lasts.items) }
+    ensures { IfOk result (λ padded. Pads N.WIDTH (map N.Number.value lasts.items)
+        (map N.Number.value padded.items)) }
 {
-    let bits = usize::BITS - ranges.leading_zeros() + 1;
-    bits.min(20)
+    let greatest = N::greatest();
+    lasts.push(greatest)?;
+    lasts.push(greatest)?;
+    lasts.push(greatest)?;
+    Ok(lasts)
 }
 
-// The number at this place, or the greatest if there is none.
-fn number_at<N: IndexedNetwork>(numbers: &[N::Number], at: usize) -> N::Number {
-    if at < numbers.len() {
-        return numbers[at];
-    }
-    N::greatest()
+// Where the search for the numbers of each of so many parts begins.
+fn starts_of<K: Key>(
+    alloc: Global,
+    keys: &[K],
+    base: K,
+    shift: u32,
+    count: usize,
+) -> Result<Vec<u32>, AllocError>
+    requires some { 1 ≤ count }
+    requires narrow { shift < K.BITS }
+    ensures { IfOk result
+        (λ starts. AreStarts (map K.value keys.now) starts.items (K.value base) shift) }
+{
+    let mut starts = vec![in alloc; 0u32; count]?;
+    write_starts::<K>(keys, base, shift, starts.as_mut_slice());
+    Ok(starts)
 }

@@ -2,6 +2,7 @@
 ghost use Rattle.std.specs.Prelude.{◌≡◌, IfOk, length, map};
 ghost use Rattle.ipnetwork_table.specs.Table.{HasBlocksAlone, Finds};
 ghost use Rattle.ipnetwork_index.specs.Columns.{AreFound};
+ghost use Rattle.ipnetwork_index.specs.Turns.{CutByBlocks};
 ghost use Rattle.ipnetwork_index.specs.Private.Answers.{AreAnswers};
 
 use crate::edges::ranges_of;
@@ -11,19 +12,20 @@ use ipnetwork_table::PrefixTable;
 use std::alloc::{AllocError, Global};
 use std::marker::Model;
 
-/// A table that is asked for the longest block of addresses, and cannot change meanwhile: the index
-/// borrows it. The answers are copied, so a look-up reads the index alone.
+/// A table that is asked for the longest block of addresses, and does not change meanwhile: the
+/// index takes it over, and `into_table` gives it back. The answers are copied, so a look-up does
+/// not read the table.
 ///
 /// ```
 /// let mut table = PrefixTable::new(rt.alloc());
 /// table.insert("10.0.0.0/8".parse::<Ipv4Network>()?, 2)?;
 /// table.insert("10.1.0.0/16".parse()?, 3)?;
-/// let index = RouteIndex::from_table(rt.alloc(), &table)?;
+/// let index = RouteIndex::from_table(rt.alloc(), table)?;
 /// assert_eq!(rt; index.lookup(Ipv4Addr::new(10, 1, 9, 32)), Some(("10.1.0.0/16".parse()?, 3)));
 /// ```
 #[derive(Drop)]
-pub struct RouteIndex<'a, N: IndexedNetwork, V: Copy> {
-    table: &'a PrefixTable<N, V>,
+pub struct RouteIndex<N: IndexedNetwork, V: Copy> {
+    table: PrefixTable<N, V>,
     // The addresses, cut where a block begins or ends.
     partition: Partition<N>,
     // What the table finds for the addresses of each range.
@@ -31,7 +33,7 @@ pub struct RouteIndex<'a, N: IndexedNetwork, V: Copy> {
 }
 
 // A contract sees the finite map of the table.
-impl<'a, N: IndexedNetwork, V: Copy> Model for RouteIndex<'a, N, V> {
+impl<N: IndexedNetwork, V: Copy> Model for RouteIndex<N, V> {
     ghost use Rattle.std.specs.FinMap as finite_map;
     ghost use Rattle.ipnetwork_family.specs.Network.{network_cmp};
     ghost use Rattle.ipnetwork_table.specs.Table.{network_code};
@@ -41,28 +43,28 @@ impl<'a, N: IndexedNetwork, V: Copy> Model for RouteIndex<'a, N, V> {
 
     ghost coded = { finite_map.code network_code V.code };
 
-    ghost view = { λ i. i.table.now };
+    ghost view = { λ i. i.table };
 
-    ghost invariant = { λ i. IsAnswered N.pair N.WIDTH i.table.now i.partition i.answers.items };
+    ghost invariant = { λ i. IsAnswered N.pair N.WIDTH i.table i.partition i.answers.items };
 }
 
-impl<'a, N: IndexedNetwork, V: Copy> RouteIndex<'a, N, V> {
+impl<N: IndexedNetwork, V: Copy> RouteIndex<N, V> {
     /// The index over a table. Sorts where its blocks begin and end, and asks the table once for
-    /// each range between.
+    /// each range between. If memory runs out, the table is dropped.
     ///
     /// ```
     /// let mut table = PrefixTable::new(rt.alloc());
     /// table.insert("2001:db8::/32".parse::<Ipv6Network>()?, 2)?;
-    /// let index = RouteIndex::from_table(rt.alloc(), &table)?;
+    /// let index = RouteIndex::from_table(rt.alloc(), table)?;
     /// assert_eq!(rt; index.lookup("2001:db9::".parse()?), None);
     /// ```
-    pub fn from_table(alloc: Global, table: &'a PrefixTable<N, V>) -> Result<Self, AllocError>
-        ensures { IfOk result (λ index. index ≡ table.now) }
+    pub fn from_table(alloc: Global, table: PrefixTable<N, V>) -> Result<Self, AllocError>
+        ensures { IfOk result (λ index. index ≡ table) }
     {
         // The clause `blocks` of this call says that the keys are blocks.
         let _ = table.len();
-        let lasts = ranges_of(alloc, table)?;
-        let answers = answers_of(alloc, table, lasts.as_slice())?;
+        let lasts = ranges_of(alloc, &table)?;
+        let answers = answers_of(alloc, &table, lasts.as_slice())?;
         let partition = Partition::new(alloc, lasts.as_slice())?;
         Ok(RouteIndex {
             table,
@@ -72,12 +74,13 @@ impl<'a, N: IndexedNetwork, V: Copy> RouteIndex<'a, N, V> {
     }
 
     /// The stored block of greatest prefix length whose set holds the address, with its value;
-    /// `None` if no stored block holds it. Takes a few reads if the blocks lie spread.
+    /// `None` if no stored block holds it. Takes a few reads if the blocks lie spread, and else about
+    /// as many as a search that halves its list.
     ///
     /// ```
     /// let mut table = PrefixTable::new(rt.alloc());
     /// table.insert("10.0.0.0/8".parse::<Ipv4Network>()?, 2)?;
-    /// let index = RouteIndex::from_table(rt.alloc(), &table)?;
+    /// let index = RouteIndex::from_table(rt.alloc(), table)?;
     /// assert_eq!(rt; index.lookup(Ipv4Addr::new(10, 1, 9, 32)), Some(("10.0.0.0/8".parse()?, 2)));
     /// assert_eq!(rt; index.lookup(Ipv4Addr::new(11, 0, 0, 0)), None);
     /// ```
@@ -95,7 +98,7 @@ impl<'a, N: IndexedNetwork, V: Copy> RouteIndex<'a, N, V> {
     /// ```
     /// let mut table = PrefixTable::new(rt.alloc());
     /// table.insert("10.0.0.0/8".parse::<Ipv4Network>()?, 2)?;
-    /// let index = RouteIndex::from_table(rt.alloc(), &table)?;
+    /// let index = RouteIndex::from_table(rt.alloc(), table)?;
     /// let mut answers = [None, None];
     /// let addrs = [Ipv4Addr::new(10, 1, 9, 32), Ipv4Addr::new(11, 0, 0, 0)];
     /// index.lookup_each(&addrs, &mut answers);
@@ -109,6 +112,49 @@ impl<'a, N: IndexedNetwork, V: Copy> RouteIndex<'a, N, V> {
             answers[place] = self.lookup(addrs[place]);
         }
     }
+
+    /// The table, to ask what an index does not answer.
+    ///
+    /// ```
+    /// let mut table = PrefixTable::new(rt.alloc());
+    /// table.insert("10.0.0.0/8".parse::<Ipv4Network>()?, 2)?;
+    /// let index = RouteIndex::from_table(rt.alloc(), table)?;
+    /// assert_eq!(rt; index.table().len(), 1);
+    /// ```
+    pub fn table(&self) -> &PrefixTable<N, V>
+        ensures { result.now ≡ self.now }
+    {
+        &self.table
+    }
+
+    /// The table, to change it. What else the index has is dropped.
+    ///
+    /// ```
+    /// let table = PrefixTable::<Ipv4Network, u8>::new(rt.alloc());
+    /// let index = RouteIndex::from_table(rt.alloc(), table)?;
+    /// assert!(rt; index.into_table().is_empty());
+    /// ```
+    pub fn into_table(self) -> PrefixTable<N, V>
+        ensures { result ≡ self }
+    {
+        self.table
+    }
+
+    /// The number of ranges that the table's blocks cut the addresses into, where one begins or ends:
+    /// what a look-up finds is the same for all addresses of one. There are at most one more than
+    /// twice the blocks (`laws::few_routed_ranges`). Beside what an `AddressIndex` has of so many
+    /// ranges, the index has the table and what a look-up finds in each range.
+    ///
+    /// ```
+    /// let mut table = PrefixTable::new(rt.alloc());
+    /// table.insert("10.0.0.0/8".parse::<Ipv4Network>()?, 2)?;
+    /// assert_eq!(rt; RouteIndex::from_table(rt.alloc(), table)?.range_count(), 3);
+    /// ```
+    pub fn range_count(&self) -> usize
+        ensures { CutByBlocks N.WIDTH self.now result }
+    {
+        self.partition.len()
+    }
 }
 
 // What the table finds for the last address of each range.
@@ -120,7 +166,7 @@ fn answers_of<N: IndexedNetwork, V: Copy>(
     ensures { IfOk result
         (λ answers. AreAnswers N.pair N.WIDTH table.now (map N.number lasts.now) answers.items) }
 {
-    let mut answers = Vec::new(alloc);
+    let mut answers = Vec::with_capacity(alloc, lasts.len())?;
     for last in lasts {
         answers.push(table.lookup(*last))?;
     }

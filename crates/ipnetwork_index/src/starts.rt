@@ -1,47 +1,52 @@
 //! Where the search for a number begins.
-ghost use Rattle.std.specs.Prelude.{◌<◌, ◌≤◌, IfOk, map};
-ghost use Rattle.ipnetwork_index.specs.Private.Padded.{IsStart, AreStarts};
+ghost use Rattle.std.specs.Prelude.{◌<◌, ◌≤◌, length, map};
+ghost use Rattle.ipnetwork_index.specs.Searches.{IsStart, AreStarts};
 
-use crate::indexed_network::IndexedNetwork;
-use std::alloc::{AllocError, Global};
+use crate::key::Key;
 
-// For each of `count` parts of the numbers from `base` on, how many ranges end before each number
-// of the part.
-pub(crate) fn starts_of<N: IndexedNetwork>(
-    alloc: Global,
-    lasts: &[N::Number],
-    base: N::Number,
-    shift: u32,
-    count: usize,
-) -> Result<Vec<u32>, AllocError>
-    requires some { 1 ≤ count }
-    requires narrow { shift < N.WIDTH }
-    ensures { IfOk result
-        (λ starts. AreStarts (map N.value lasts.now) starts.items (N.value base) shift) }
+/// How many parts an index has for so many ranges, as a power of two: two to four for each range,
+/// and at most 2^20.
+///
+/// ```
+/// assert_eq!(rt; part_bits(1000), 11);
+/// ```
+pub fn part_bits(ranges: usize) -> u32
+    ensures { result ≤ 20 }
 {
-    let mut starts = Vec::new(alloc);
-    let mut at = 0;
-    for part in 0..count {
-        at = start_of::<N>(lasts, at, base, shift, part);
-        starts.push(at.min(u32::MAX as usize) as u32)?;
-    }
-    Ok(starts)
+    let bits = usize::BITS - ranges.leading_zeros() + 1;
+    bits.min(20)
 }
 
-// How many ranges end before each number of the part. Those before `from` do.
-fn start_of<N: IndexedNetwork>(
-    lasts: &[N::Number],
-    from: usize,
-    base: N::Number,
-    shift: u32,
-    part: usize,
-) -> usize
-    requires narrow { shift < N.WIDTH }
-    requires before { IsStart (map N.value lasts.now) (N.value base) shift part from }
-    ensures { IsStart (map N.value lasts.now) (N.value base) shift part result }
+/// Writes for each part of the numbers from `base` on, which has 2^`shift` numbers, the place that
+/// the search for a number of it may begin at: how many of the keys are less than each of them, or
+/// fewer if there are 2^32 or more. There are as many parts as places to write to, at least one;
+/// the last part has the numbers after it too, and the first one those before it.
+///
+/// ```
+/// let mut starts = [0, 0, 0];
+/// write_starts(&[9u32, 20, u32::MAX, u32::MAX, u32::MAX, u32::MAX], 9, 4, &mut starts);
+/// assert_eq!(rt; starts, [0, 2, 2]);
+/// ```
+pub fn write_starts<K: Key>(keys: &[K], base: K, shift: u32, starts: &mut [u32])
+    requires some { 1 ≤ length starts.old }
+    requires narrow { shift < K.BITS }
+    ensures { AreStarts (map K.value keys.now) starts.new (K.value base) shift }
+{
+    let mut at = 0;
+    for part in 0..starts.len() {
+        at = start_of::<K>(keys, at, base, shift, part);
+        starts[part] = at.min(u32::MAX as usize) as u32;
+    }
+}
+
+// How many keys are less than each number of the part. Those before `from` are.
+fn start_of<K: Key>(keys: &[K], from: usize, base: K, shift: u32, part: usize) -> usize
+    requires narrow { shift < K.BITS }
+    requires before { IsStart (map K.value keys.now) (K.value base) shift part from }
+    ensures { IsStart (map K.value keys.now) (K.value base) shift part result }
 {
     let mut at = from;
-    while at < lasts.len() && N::part_of(lasts[at], base, shift, usize::MAX) < part {
+    while at < keys.len() && keys[at].part_of(base, shift, usize::MAX) < part {
         at += 1;
     }
     at

@@ -4,6 +4,7 @@ use Rattle.std.proofs.Common.{get_or}
 use Rattle.std.specs.FinMap.{FinMap}
 use Rattle.ipnetwork_family.specs.Network.{Network, network_cmp}
 use Rattle.ipnetwork_table.specs.Table.{HasBlocksAlone, Finds}
+use Rattle.ipnetwork_index.specs.Turns.{CutByBlocks}
 use Rattle.ipnetwork_index.specs.Private.Partitions.{LiesAt}
 
 -- each answer is what a look-up of the last number of its range finds, and they are so many
@@ -23,3 +24,4 @@ pub record IsAnswered {N V : Type 0} (pair : N → Network) (w : ℕ) (t : FinMa
   pub blocks : HasBlocksAlone w t
   pub size : length answers ≡ length lasts
   pub all : (x at : ℕ) → x < 2 ^ w → LiesAt lasts x at → Finds pair w t x (get_or answers at None)
+  pub cut : CutByBlocks w t (length lasts)

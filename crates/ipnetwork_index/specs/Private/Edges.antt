@@ -1,8 +1,9 @@
 -- Where blocks cut the numbers of w bits.
-use Rattle.std.specs.Prelude.{◌≡◌, ℕ, ◌+◌, List, IsSome}
+use Rattle.std.specs.Prelude.{◌≡◌, ℕ, ◌+◌, ◌^◌, ◌<◌, List, IsSome}
 use Rattle.std.specs.List.{Contains, flat_map}
 use Rattle.std.specs.FinMap.{FinMap, get}
 use Rattle.ipnetwork_family.specs.Network.{Network, low, high, network_cmp}
+use Rattle.ipnetwork_index.specs.Turns.{HasEdge}
 use Rattle.ipnetwork_index.specs.Private.Partitions.{IsPartition}
 use Rattle.ipnetwork_index.specs.Private.Cuts.{cuts_of}
 
@@ -15,7 +16,8 @@ pub record IsCutOut (w : ℕ) (lasts : List ℕ) (n : Network) : Type 0 where
   pub end : Contains lasts (high w n)
   pub start : (x : ℕ) → x + 1 ≡ low w n → Contains lasts x
 
--- the numbers are cut into ranges, and each block of the table is cut out
+-- the numbers are cut into ranges, each block of the table is cut out, and there is no other cut
 pub record CutsOut {V : Type 0} (w : ℕ) (t : FinMap network_cmp V) (lasts : List ℕ) : Type 0 where
   pub partition : IsPartition w lasts
   pub blocks : (n : Network) → IsSome (get t n) → IsCutOut w lasts n
+  pub only : (x : ℕ) → Contains lasts x → x + 1 < 2 ^ w → HasEdge w t x

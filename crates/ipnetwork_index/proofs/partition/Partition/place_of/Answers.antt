@@ -1,30 +1,34 @@
-use Rattle.std.proofs.Common.{map}
-use Rattle.ipnetwork_index.specs.Private.Padded.{IsSearched}
-use Rattle.ipnetwork_index.proofs.Searching.{begins, goes_on, found}
+use Rattle.ipnetwork_index.proofs.Starting.{is_within, lies}
 use Rattle.ipnetwork_index.proofs.partition.Partition.place_of.Goals as goal
 
-pub fours-init : goal.fours-init
-fours-init g c =
-    let fields : IsSearched g.N.CidrNetwork.WIDTH
-    (map g.N.IndexedNetwork.value c.as_slice-lasts.result.now) c.as_slice-starts.result.now
-    (g.N.IndexedNetwork.value c.self.inside.base) c.self.inside.shift
-    = rw (c.as_slice-lasts.ensures.value, c.as_slice-starts.ensures.value) c.self.invariant in
-    begins _ _ _ _ _ _ _ fields c.requires c.part_of-part.ensures
+pub place_of-requires-clause-within : goal.place_of-requires-clause-within
+place_of-requires-clause-within g c =
+    rw c.as_slice-lasts.ensures.value
+    (is_within g.N.CidrNetwork.WIDTH _ _ c.self.invariant.is_padded c.requires)
 
-pub returns-then-below-lt4 : goal.returns-then-below-lt4
-returns-then-below-lt4 g c =
-    rw (← c.self.view_is, ← c.as_slice-lasts.ensures.value)
-    (let fields : IsSearched g.N.CidrNetwork.WIDTH
-    (map g.N.IndexedNetwork.value c.as_slice-lasts.result.now) c.as_slice-starts.result.now
-    (g.N.IndexedNetwork.value c.self.inside.base) c.self.inside.shift
-    = rw (c.as_slice-lasts.ensures.value, c.as_slice-starts.ensures.value) c.self.invariant in
-    found _ _ _ _ _ _ _ _ fields c.requires c.fours.invariant c.below_of_four-below.ensures
-    c.if-below-lt4.true)
+pub place_of-requires-clause-searched : goal.place_of-requires-clause-searched
+place_of-requires-clause-searched g c =
+    rw (c.as_slice-lasts.ensures.value, c.as_slice-starts.ensures.value)
+    (c.self.invariant.searchable c.if-by_halves.false)
 
-pub fours-preserved : goal.fours-preserved
-fours-preserved g c =
-    let fields : IsSearched g.N.CidrNetwork.WIDTH
-    (map g.N.IndexedNetwork.value c.as_slice-lasts.result.now) c.as_slice-starts.result.now
-    (g.N.IndexedNetwork.value c.self.inside.base) c.self.inside.shift
-    = rw (c.as_slice-lasts.ensures.value, c.as_slice-starts.ensures.value) c.self.invariant in
-    goes_on _ _ _ _ _ _ _ _ fields c.requires c.fours.invariant c.below_of_four-below.ensures
+pub place_of-requires-clause-narrow : goal.place_of-requires-clause-narrow
+place_of-requires-clause-narrow g c = c.self.invariant.narrow c.if-by_halves.false
+
+pub place_by_halves-requires-clause-padded : goal.place_by_halves-requires-clause-padded
+place_by_halves-requires-clause-padded g c =
+    rw c.as_slice-lasts.ensures.value c.self.invariant.is_padded
+
+pub place_by_halves-requires-clause-halved : goal.place_by_halves-requires-clause-halved
+place_by_halves-requires-clause-halved g c =
+    rw
+    (c.as_slice-lasts.ensures.value, c.as_slice-highs.ensures.value, c.as_slice-starts.ensures.value)
+    (c.self.invariant.is_halved c.if-by_halves.true)
+
+pub returns-then-by_halves : goal.returns-then-by_halves
+returns-then-by_halves g c =
+    rw (← c.self.view_is)
+    (rw c.as_slice-lasts.ensures.value at (lies _ _ _ c.place_by_halves.ensures))
+
+pub returns : goal.returns
+returns g c =
+    rw (← c.self.view_is) (rw c.as_slice-lasts.ensures.value at (lies _ _ _ c.place_of.ensures))

@@ -8,7 +8,7 @@ new-requires g c = rw c.as_slice-2.ensures.value c.in_ok-lasts.ensures.partition
 pub invariant_of-result : goal.invariant_of-result
 invariant_of-result g c =
     rw (c.in_ok-partition.ensures, c.as_slice-2.ensures.value)
-    (answered g.N.CidrNetwork.pair g.N.CidrNetwork.WIDTH c.args.table.now
+    (answered g.N.CidrNetwork.pair g.N.CidrNetwork.WIDTH c.args.table
     (map g.N.CidrNetwork.number c.in_ok-lasts.lasts.items) c.in_ok-answers.answers.items
     c.len.ensures.blocks c.in_ok-lasts.ensures (rw (← c.as_slice.ensures.value)
     c.in_ok-answers.ensures))

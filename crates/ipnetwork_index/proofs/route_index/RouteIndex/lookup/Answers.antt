@@ -21,5 +21,5 @@ returns-clause-answer g c =
     = get_or_default answers at None found own ∙ sym (c.index-answers-place_of.is
     ∙ ap (λ xs. get_or xs at found) c.as_slice-answers.ensures.value) in
     rw (← c.self.view_is)
-    (subst (λ o. Finds g.N.CidrNetwork.pair w c.self.inside.table.now x o) read
+    (subst (λ o. Finds g.N.CidrNetwork.pair w c.self.inside.table x o) read
     (c.self.invariant.all x at small place))

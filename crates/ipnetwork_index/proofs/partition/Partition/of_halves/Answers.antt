@@ -1,0 +1,16 @@
+use Rattle.std.proofs.Common.{ℕ, List, map}
+use Rattle.ipnetwork_index.specs.Searches.{AreStarts}
+use Rattle.ipnetwork_index.proofs.Halving.{halved}
+use Rattle.ipnetwork_index.proofs.partition.Partition.of_halves.Goals as goal
+
+pub invariant_of-result : goal.invariant_of-result
+invariant_of-result g c =
+    let padded : List ℕ = map g.N.Number.Key.value c.args.lasts.items in
+    let highs : List ℕ = map g.N.High.Key.value c.args.highs.items in
+    let starts : AreStarts highs c.in_ok-starts.starts.items _ c.part_size-shift.result
+    = rw (← c.as_slice.ensures.value) c.in_ok-starts.ensures in
+    halved g.N.IndexedNetwork.high g.met.N.IndexedNetwork.high_ascends g.N.CidrNetwork.WIDTH
+    g.N.Number.Key.BITS g.N.High.Key.BITS padded c.in_ok-starts.starts.items highs _
+    c.part_size-shift.result _ c.all_end-highs_tell.result c.requires.padded c.requires.halves
+    starts c.part_size-shift.ensures
+    (rw (← c.as_slice-2.ensures.value) c.all_end-highs_tell.ensures)

@@ -1,0 +1,11 @@
+use Rattle.std.proofs.Common.{arith}
+use Rattle.ipnetwork_index.proofs.Searching.{narrows, narrowed_to}
+use Rattle.ipnetwork_index.proofs.search.narrowed.Goals as goal
+
+pub narrowing-preserved : goal.narrowing-preserved
+narrowing-preserved g c =
+    rw c.min-end.ensures
+    (narrows _ _ _ _ _ _ c.narrowing.invariant (omega arith) c.below_of_four.ensures)
+
+pub returns : goal.returns
+returns g c = narrowed_to _ _ _ _ c.narrowing.invariant c.narrowing-test.false

@@ -1,0 +1,7 @@
+use Rattle.std.proofs.Common.{map}
+use Rattle.ipnetwork_index.specs.Private.Steps.{AreStartsSoFar}
+use Rattle.ipnetwork_index.proofs.starts.write_starts.Given as goal
+
+abbrev pub invariant-loop-part : goal.invariant-loop-part
+invariant-loop-part g l = AreStartsSoFar (map g.K.Key.value l.keys) l.starts
+    (g.K.Key.value l.base) l.shift l.part l.at

@@ -1,0 +1,14 @@
+-- The high halves of numbers.
+use Rattle.std.specs.Prelude.{ℕ, ◌/◌, ◌^◌, ◌≤◌}
+use Rattle.std.proofs.Common.{lit<}
+use Rattle.std.proofs.Math.Nat.{div-mul-le_self, le_trans}
+use Rattle.std.proofs.lemmas.Nat.{le-div}
+
+-- no greater number has the high half of x, or a lesser one
+abbrev pub IsLastOf : (ℕ → ℕ) → ℕ → Type 0
+IsLastOf high x = (y : ℕ) → high y ≤ high x → y ≤ x
+
+-- a greater number of 128 bits has no lesser high half
+pub halves_ascend : (x y : ℕ) → x ≤ y → x / 2 ^ 64 ≤ y / 2 ^ 64
+halves_ascend x y l =
+    le-div (x / 2 ^ 64) y (2 ^ 64) (lit< tt) (le_trans (div-mul-le_self x (2 ^ 64)) l)

@@ -1,0 +1,75 @@
+//! The search for a number by its high half first.
+ghost use Rattle.std.specs.Prelude.{◌≡◌, ◌^◌, ◌<◌, IfOk, IsTrue, map};
+ghost use Rattle.ipnetwork_index.specs.Searches.{IsPlaceOf};
+ghost use Rattle.ipnetwork_index.specs.Private.Halved.{AllAreLast, IsHalved};
+ghost use Rattle.ipnetwork_index.specs.Private.Padded.{IsPadded};
+
+use crate::indexed_network::IndexedNetwork;
+use crate::key::Key;
+use crate::search::{place_from, place_of};
+use std::alloc::{AllocError, Global};
+
+// The place of the first number that is not less than this one: it is searched for among the high
+// halves, and then, unless these tell the place, from there on among the whole numbers.
+pub(crate) fn place_by_halves<N: IndexedNetwork>(
+    lasts: &[N::Number],
+    highs: &[N::High],
+    starts: &[u32],
+    base: N::High,
+    shift: u32,
+    tell: bool,
+    number: N::Number,
+) -> usize
+    requires padded { IsPadded N.WIDTH (map N.Number.value lasts.now) }
+    requires halved { IsHalved N.high N.High.BITS (map N.Number.value lasts.now)
+        (map N.High.value highs.now) starts.now (N.High.value base) shift tell }
+    requires small { N.Number.value number < 2 ^ N.WIDTH }
+    ensures { IsPlaceOf (map N.Number.value lasts.now) (N.Number.value number) result }
+{
+    let high = N::high_of(number);
+    let at = place_of::<N::High>(highs, starts, base, shift, high);
+    if tell {
+        return at;
+    }
+    place_from::<N::Number>(lasts, at, number)
+}
+
+// The high halves of the numbers.
+pub(crate) fn highs_of<N: IndexedNetwork>(
+    alloc: Global,
+    lasts: &[N::Number],
+) -> Result<Vec<N::High>, AllocError>
+    ensures { IfOk result
+        (λ highs. map N.High.value highs.items ≡ map N.high (map N.Number.value lasts.now)) }
+{
+    let mut highs = Vec::with_capacity(alloc, lasts.len())?;
+    for last in lasts {
+        highs.push(N::high_of(*last))?;
+    }
+    Ok(highs)
+}
+
+// Whether enough of the high halves differ from the one before: every fourth or more. The contract
+// leaves the answer open: another would cost time and change no answer.
+pub(crate) fn are_worth_it<K: Key>(highs: &[K]) -> bool {
+    let mut differ = 0usize;
+    for place in 1..highs.len() {
+        if highs[place - 1].is_less(highs[place]) {
+            differ = differ.saturating_add(1);
+        }
+    }
+    differ.saturating_mul(4) >= highs.len()
+}
+
+// Whether each number is the greatest of those that have its high half.
+pub(crate) fn all_end<N: IndexedNetwork>(lasts: &[N::Number]) -> bool
+    ensures { IsTrue result → AllAreLast N.high (map N.Number.value lasts.now) }
+{
+    for last in lasts {
+        let ends = N::ends_high(*last);
+        if !ends {
+            return false;
+        }
+    }
+    true
+}
