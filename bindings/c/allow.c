@@ -5,7 +5,7 @@
  *
  * It prints each address and whether it is allowed. The status is 0; or 2, with the reason on standard error, where
  * the list or standard input cannot be read to its end, an answer cannot be written, memory is out, or a line of the
- * list is no network. Nothing is printed to standard output before the whole list has been read. */
+ * list is no network: then it says why not. Nothing is printed to standard output before the whole list has been read. */
 #define _POSIX_C_SOURCE 200809L
 #include "ipnetwork.h"
 
@@ -59,6 +59,14 @@ static int has_place(struct list *list) {
     return 1;
 }
 
+/* Tells which line of a list is no network, and why. */
+static void tell_refusal(const char *name, size_t number, const struct line *line, ipnetwork_fault fault) {
+    char words[IPNETWORK_FAULT_TEXT];
+    size_t length;
+    if (ipnetwork_fault_text(fault, words, sizeof words, &length) == IPNETWORK_OK)
+        fprintf(stderr, "%s:%zu: %s: %.*s\n", name, number, words, (int)line->length, line->text);
+}
+
 /* Whether the list was read, and each line of it is a network. */
 static int read_list(FILE *file, const char *name, struct list *list, struct line *line) {
     for (size_t number = 1; next_line(file, line); number++) {
@@ -66,8 +74,9 @@ static int read_list(FILE *file, const char *name, struct list *list, struct lin
             continue;
         if (!has_place(list))
             return 0;
-        if (ipnetwork_read(line->text, line->length, &list->networks[list->count]) != IPNETWORK_OK) {
-            fprintf(stderr, "%s:%zu: no network: %.*s\n", name, number, (int)line->length, line->text);
+        ipnetwork_fault fault = ipnetwork_read_with_cause(line->text, line->length, &list->networks[list->count]);
+        if (fault != IPNETWORK_OK) {
+            tell_refusal(name, number, line, fault);
             return 0;
         }
         list->count += 1;

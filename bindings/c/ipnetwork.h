@@ -35,7 +35,7 @@ extern "C" {
  * that of the library. A call that is added raises the minor version, which ipnetwork_abi_minor_version() returns: a
  * program needs a library of the version that it was compiled with, and of the same minor version or a later one. */
 #define IPNETWORK_ABI_VERSION 2
-#define IPNETWORK_ABI_MINOR_VERSION 3
+#define IPNETWORK_ABI_MINOR_VERSION 5
 
 /* Enough for every text of the family and the zero byte after it. */
 #define IPNETWORK_V4_TEXT 19
@@ -53,7 +53,8 @@ enum {
     IPNETWORK_OK = 0,
     IPNETWORK_FORMAT = 1,       /* the text holds two or more '/' */
     IPNETWORK_ADDRESS = 2,      /* what stands before the '/', or the whole text if there is none, is no address of
-                                   the family; of ipnetwork_read: the text is no network of either family */
+                                   the family; of ipnetwork_read and ipnetwork_read_column: the text is no network of
+                                   either family */
     IPNETWORK_PREFIX = 3,       /* no prefix length of the family, whether a text, an argument or a struct has it */
     IPNETWORK_SHORT_BUFFER = 4, /* no room for the text and a zero byte, or for as many rows or blocks */
     IPNETWORK_NO_MASK = 5,      /* the address is no mask */
@@ -132,6 +133,12 @@ IPNETWORK_CHECKED_AT(3) ipnetwork_fault ipnetwork_v6_read(const char *text, size
  * fault is IPNETWORK_ADDRESS, whatever is wrong with it. */
 IPNETWORK_CHECKED_AT(3) ipnetwork_fault ipnetwork_read(const char *text, size_t text_length,
                                                         ipnetwork_ip *IPNETWORK_ALONE network);
+
+/* The same with the cause: for any other text the fault is IPNETWORK_FORMAT if it holds two or more '/'; else
+ * IPNETWORK_ADDRESS if what stands before the '/', or the whole text if there is none, is an address of neither family;
+ * else IPNETWORK_PREFIX. */
+IPNETWORK_CHECKED_AT(3) ipnetwork_fault ipnetwork_read_with_cause(const char *text, size_t text_length,
+                                                                   ipnetwork_ip *IPNETWORK_ALONE network);
 
 /* The network of this address, host bits kept, and this prefix length. IPNETWORK_PREFIX past the width. */
 IPNETWORK_CHECKED ipnetwork_fault ipnetwork_v4_new(const uint8_t address[4], uint8_t prefix,
@@ -321,6 +328,50 @@ IPNETWORK_CHECKED_FAULT ipnetwork_fault ipnetwork_v6_table_find_column(const ipn
     const uint8_t *addresses, size_t address_count, size_t *IPNETWORK_ALONE indexes, size_t index_count,
     uint8_t *IPNETWORK_ALONE faults, size_t fault_count);
 
+/* An index of a list of blocks, in the caller's memory, by which the next calls search the list in a few steps: index_length
+ * numbers of 32 bits. The addresses from the first of the list to the last are cut into as many parts of one size, a
+ * power of two, as small as it can be; index[0] is this power, and index[i] is how many of the blocks begin before the
+ * part number i. The list is that of a set, as a call of aggregate leaves it, or a table, as
+ * ipnetwork_v4_table_make and ipnetwork_v6_table_make leave it; of another list an index can be made too. No struct is
+ * refused. ipnetwork_index_size tells how long the index of block_count blocks should be: four numbers for each block,
+ * but no more than 2^20; a shorter one makes a search slower, a longer one hardly faster, and none (NULL, and 0) as slow
+ * as without. If the list changes, make its index again. */
+IPNETWORK_CHECKED ipnetwork_fault ipnetwork_index_size(size_t block_count, size_t *IPNETWORK_ALONE index_length);
+IPNETWORK_CHECKED_FAULT ipnetwork_fault ipnetwork_v4_index_make(const ipnetwork_v4 *blocks, size_t block_count,
+    uint32_t *IPNETWORK_ALONE index, size_t index_length);
+IPNETWORK_CHECKED_FAULT ipnetwork_fault ipnetwork_v6_index_make(const ipnetwork_v6 *blocks, size_t block_count,
+    uint32_t *IPNETWORK_ALONE index, size_t index_length);
+
+/* What ipnetwork_v4_set_contains and ipnetwork_v6_set_contains answer, and what ipnetwork_v4_table_find and
+ * ipnetwork_v6_table_find find, with the same faults, by an index of the blocks. The index only says where the search
+ * begins. Whatever it holds, the answer is that of the list: an index of another list costs time and nothing else. */
+IPNETWORK_CHECKED_AT(5, 6) ipnetwork_fault ipnetwork_v4_index_contains(const ipnetwork_v4 *blocks, size_t block_count,
+    const uint32_t *index, size_t index_length, const uint8_t address[4], uint8_t *IPNETWORK_ALONE answer);
+IPNETWORK_CHECKED_AT(5, 6) ipnetwork_fault ipnetwork_v6_index_contains(const ipnetwork_v6 *blocks, size_t block_count,
+    const uint32_t *index, size_t index_length, const uint8_t address[16], uint8_t *IPNETWORK_ALONE answer);
+IPNETWORK_CHECKED_AT(5, 6) ipnetwork_fault ipnetwork_v4_index_find(const ipnetwork_v4 *blocks, size_t block_count,
+    const uint32_t *index, size_t index_length, const uint8_t address[4], size_t *IPNETWORK_ALONE place);
+IPNETWORK_CHECKED_AT(5, 6) ipnetwork_fault ipnetwork_v6_index_find(const ipnetwork_v6 *blocks, size_t block_count,
+    const uint32_t *index, size_t index_length, const uint8_t address[16], size_t *IPNETWORK_ALONE place);
+
+/* The same of many addresses in one call: answers[i], or places[i], and faults[i] are what the call for one address leaves
+ * and returns of the address number i, so that a fault of one leaves its answer as it was, and stops nothing. There are
+ * address_count addresses, of 4 or 16 octets each, one after the other. What comes after the last of the answers, or
+ * places, and faults is not written. IPNETWORK_SHORT_BUFFER if there is room for fewer answers, or places, or faults
+ * than addresses: then nothing is written. */
+IPNETWORK_CHECKED_FAULT ipnetwork_fault ipnetwork_v4_index_contains_column(const ipnetwork_v4 *blocks, size_t block_count,
+    const uint32_t *index, size_t index_length, const uint8_t *addresses, size_t address_count,
+    uint8_t *IPNETWORK_ALONE answers, size_t answer_count, uint8_t *IPNETWORK_ALONE faults, size_t fault_count);
+IPNETWORK_CHECKED_FAULT ipnetwork_fault ipnetwork_v6_index_contains_column(const ipnetwork_v6 *blocks, size_t block_count,
+    const uint32_t *index, size_t index_length, const uint8_t *addresses, size_t address_count,
+    uint8_t *IPNETWORK_ALONE answers, size_t answer_count, uint8_t *IPNETWORK_ALONE faults, size_t fault_count);
+IPNETWORK_CHECKED_FAULT ipnetwork_fault ipnetwork_v4_index_find_column(const ipnetwork_v4 *blocks, size_t block_count,
+    const uint32_t *index, size_t index_length, const uint8_t *addresses, size_t address_count,
+    size_t *IPNETWORK_ALONE places, size_t place_count, uint8_t *IPNETWORK_ALONE faults, size_t fault_count);
+IPNETWORK_CHECKED_FAULT ipnetwork_fault ipnetwork_v6_index_find_column(const ipnetwork_v6 *blocks, size_t block_count,
+    const uint32_t *index, size_t index_length, const uint8_t *addresses, size_t address_count,
+    size_t *IPNETWORK_ALONE places, size_t place_count, uint8_t *IPNETWORK_ALONE faults, size_t fault_count);
+
 /* The union of two sets, what both have (intersection), and what the first has and the second has not (difference): the
  * fewest blocks with these addresses, in ascending order and without host bits, in the front of blocks, an array of the
  * caller's with room for room of them. Each set is given as its blocks, as a call of aggregate, or one of these calls,
@@ -382,6 +433,9 @@ IPNETWORK_CHECKED_FAULT ipnetwork_fault ipnetwork_v6_read_column(const char *tex
 IPNETWORK_CHECKED_FAULT ipnetwork_fault ipnetwork_read_column(const char *texts, size_t texts_length, const uint32_t *offsets,
     size_t offset_count, ipnetwork_ip *IPNETWORK_ALONE networks, size_t network_count, uint8_t *IPNETWORK_ALONE faults,
     size_t fault_count);
+IPNETWORK_CHECKED_FAULT ipnetwork_fault ipnetwork_read_with_cause_column(const char *texts, size_t texts_length,
+    const uint32_t *offsets, size_t offset_count, ipnetwork_ip *IPNETWORK_ALONE networks, size_t network_count,
+    uint8_t *IPNETWORK_ALONE faults, size_t fault_count);
 IPNETWORK_CHECKED_FAULT ipnetwork_fault ipnetwork_address_read_column(const char *texts, size_t texts_length, const uint32_t *offsets,
     size_t offset_count, ipnetwork_address *IPNETWORK_ALONE addresses, size_t address_count, uint8_t *IPNETWORK_ALONE faults,
     size_t fault_count);

@@ -1,7 +1,7 @@
 /* Nanoseconds a call of read and contains, of both families, beside inet_pton, which reads only an address, and
  * nanoseconds a row of a column. The texts are random networks with random prefix lengths; the address asked for lies
  * in the network every other time. Searches in a set and in a table of 10,000 random networks are measured beside a
- * plain binary search in C over the same array. */
+ * plain binary search in C over the same array, and then the same by an index. */
 #define _POSIX_C_SOURCE 200809L
 #include "ipnetwork.h"
 
@@ -143,6 +143,66 @@ static uint64_t table_column_v4(size_t i) {
     return i != 0 ? 0 : ipnetwork_v4_table_find_column(table_blocks, MANY, searched[0], COUNT, indexes, COUNT, faults, COUNT) + indexes[1];
 }
 
+/* The same by an index, and sets of IPv6 networks of 36 to 64 bits, of which all share the first 20. */
+static ipnetwork_v6 set_six[MANY];
+static uint8_t searched_six[COUNT][16], told[COUNT];
+static uint32_t *index_set, *index_table, *index_six;
+static size_t length_set, length_table, length_six, set_six_count;
+
+static uint32_t *make_index(size_t count, size_t *length) {
+    if (ipnetwork_index_size(count, length) != IPNETWORK_OK)
+        abort();
+    uint32_t *index = malloc(*length * sizeof *index);
+    if (index == NULL)
+        abort();
+    return index;
+}
+
+static void make_indexes(void) {
+    for (size_t i = 0; i < MANY; i++) {
+        memcpy(set_six[i].address, (uint8_t[]){0x20, 1, 0x0d}, 3);
+        for (size_t at = 3; at < 16; at++)
+            set_six[i].address[at] = random_byte();
+        set_six[i].prefix = (uint8_t)(36 + next() % 29);
+    }
+    for (size_t i = 0; i < COUNT; i++) {
+        memcpy(searched_six[i], (uint8_t[]){0x20, 1, 0x0d}, 3);
+        for (size_t at = 3; at < 16; at++)
+            searched_six[i][at] = random_byte();
+        if (next() & 1)
+            memcpy(searched_six[i], set_six[next() % MANY].address, 16);
+    }
+    if (ipnetwork_v6_aggregate(set_six, MANY, &set_six_count) != IPNETWORK_OK)
+        abort();
+    index_set = make_index(set_count, &length_set);
+    index_table = make_index(MANY, &length_table);
+    index_six = make_index(set_six_count, &length_six);
+    if (ipnetwork_v4_index_make(set_blocks, set_count, index_set, length_set) != IPNETWORK_OK ||
+        ipnetwork_v4_index_make(table_blocks, MANY, index_table, length_table) != IPNETWORK_OK ||
+        ipnetwork_v6_index_make(set_six, set_six_count, index_six, length_six) != IPNETWORK_OK)
+        abort();
+}
+
+static uint64_t set_by(size_t i) {
+    return ipnetwork_v4_index_contains(set_blocks, set_count, index_set, length_set, searched[i], &answer) + answer;
+}
+static uint64_t set_column_by(size_t i) {
+    return i != 0 ? 0 : ipnetwork_v4_index_contains_column(set_blocks, set_count, index_set, length_set, searched[0], COUNT, told, COUNT, faults, COUNT) + told[1];
+}
+static uint64_t table_by(size_t i) {
+    return ipnetwork_v4_index_find(table_blocks, MANY, index_table, length_table, searched[i], indexes) + indexes[0];
+}
+static uint64_t table_column_by(size_t i) {
+    return i != 0 ? 0 : ipnetwork_v4_index_find_column(table_blocks, MANY, index_table, length_table, searched[0], COUNT, indexes, COUNT, faults, COUNT) + indexes[1];
+}
+static uint64_t set_v6(size_t i) { return ipnetwork_v6_set_contains(set_six, set_six_count, searched_six[i], &answer) + answer; }
+static uint64_t six_by(size_t i) {
+    return ipnetwork_v6_index_contains(set_six, set_six_count, index_six, length_six, searched_six[i], &answer) + answer;
+}
+static uint64_t six_column_by(size_t i) {
+    return i != 0 ? 0 : ipnetwork_v6_index_contains_column(set_six, set_six_count, index_six, length_six, searched_six[0], COUNT, told, COUNT, faults, COUNT) + told[1];
+}
+
 struct row {
     const char *name;
     uint64_t (*call)(size_t);
@@ -151,7 +211,7 @@ struct row {
 /* The least of several measurements of each row, which take turns, so that what else the machine does meets all of
  * them. */
 static void measure(const struct row *rows, size_t count) {
-    double least[4] = {1e300, 1e300, 1e300, 1e300};
+    double least[7] = {1e300, 1e300, 1e300, 1e300, 1e300, 1e300, 1e300};
     for (int try = 0; try < TRIES; try++) {
         for (size_t row = 0; row < count; row++) {
             uint64_t sum = 0;
@@ -166,7 +226,7 @@ static void measure(const struct row *rows, size_t count) {
         }
     }
     for (size_t row = 0; row < count; row++)
-        printf("%-30s %6.1f ns\n", rows[row].name, least[row]);
+        printf("%-34s %6.1f ns\n", rows[row].name, least[row]);
 }
 
 int main(void) {
@@ -176,10 +236,15 @@ int main(void) {
         {"ipnetwork_v4_contains_column", column_v4}, {"ipnetwork_v6_contains_column", column_v6}};
     static const struct row searches[] = {{"ipnetwork_v4_set_contains", set_v4}, {"a plain binary search in C", plain_set_v4},
         {"ipnetwork_v4_table_find", table_v4}, {"ipnetwork_v4_table_find_column", table_column_v4}};
+    static const struct row by_index[] = {{"ipnetwork_v4_index_contains", set_by}, {"ipnetwork_v4_index_contains_column", set_column_by},
+        {"ipnetwork_v4_index_find", table_by}, {"ipnetwork_v4_index_find_column", table_column_by},
+        {"ipnetwork_v6_set_contains", set_v6}, {"ipnetwork_v6_index_contains", six_by}, {"ipnetwork_v6_index_contains_column", six_column_by}};
     make();
     make_lists();
+    make_indexes();
     measure(reads, 4);
     measure(members, 4);
     measure(searches, 4);
+    measure(by_index, 7);
     return 0;
 }

@@ -72,6 +72,14 @@ static ipnetwork_fault read_ip(const char *text, ipnetwork_ip *network) {
     return fault;
 }
 
+static ipnetwork_fault read_with_cause(const char *text, ipnetwork_ip *network) {
+    size_t length = strlen(text);
+    char *copy = block(text, length);
+    ipnetwork_fault fault = ipnetwork_read_with_cause(somewhere(copy, length), length, network);
+    free(copy);
+    return fault;
+}
+
 static ipnetwork_v4 v4(const char *text) {
     ipnetwork_v4 network = {{0}, 0};
     CHECK(text, read_v4(text, &network) == IPNETWORK_OK);
@@ -96,16 +104,18 @@ static void texts(void) {
         struct row row = rows[i];
         ipnetwork_v4 four, four_before;
         ipnetwork_v6 six, six_before;
-        ipnetwork_ip ip, ip_before;
+        ipnetwork_ip ip, told, ip_before;
         memset(&four_before, 0xa5, sizeof four);
         memset(&six_before, 0xa5, sizeof six);
         memset(&ip_before, 0xa5, sizeof ip);
         four = four_before;
         six = six_before;
-        ip = ip_before;
+        ip = told = ip_before;
         CHECK(row.text, read_v4(row.text, &four) == row.v4);
         CHECK(row.text, read_v6(row.text, &six) == row.v6);
         CHECK(row.text, read_ip(row.text, &ip) == (row.canonical != NULL ? YES : ADDR));
+        CHECK(row.text, read_with_cause(row.text, &told) == (row.canonical != NULL ? YES : row.v4 == ADDR ? row.v6 : row.v4));
+        CHECK(row.text, memcmp(&told, &ip, sizeof ip) == 0);
         char buffer[IPNETWORK_V6_TEXT];
         size_t length = 0;
         if (row.v4 == YES) {
@@ -148,6 +158,7 @@ static void nothing(void) {
     CHECK("NULL", ipnetwork_v4_read(NULL, 0, &four) == ADDR && four.prefix == 16);
     CHECK("NULL", ipnetwork_v6_read(NULL, 0, &six) == ADDR && six.prefix == 64);
     CHECK("NULL", ipnetwork_read(NULL, 0, &ip) == ADDR && ip.family == 6);
+    CHECK("NULL", ipnetwork_read_with_cause(NULL, 0, &ip) == ADDR && ip.family == 6);
     CHECK("NULL", ipnetwork_address_read(NULL, 0, &address) == ADDR && address.length == 4);
     CHECK("NULL", ipnetwork_contains(&ip, NULL, 0, &answer) == IPNETWORK_NO_FAMILY && answer == 77);
     CHECK("NULL", ipnetwork_v4_canonical(&four, NULL, 0, &length) == IPNETWORK_SHORT_BUFFER && length == 12);
@@ -874,6 +885,130 @@ static void tables_made(void) {
     CHECK("past", told[0] == YES && told[1] == PREF && told[2] == IPNETWORK_NO_MEMBER && found[0] == 0 && found[1] == 77 && found[2] == 77);
 }
 
+/* What an index has to hold, counted from numbers in ascending order as plainly as it can be. The span is below 2^32. */
+static void plain_index(const uint32_t *starts, size_t count, uint32_t *index, size_t length) {
+    uint32_t span = count == 0 ? 0 : starts[count - 1] - starts[0], shift = 0;
+    while (shift < 31 && span >> shift >= length) shift++;
+    for (size_t part = 0; part < length; part++) {
+        index[part] = 0;
+        for (size_t i = 0; i < count; i++)
+            if ((uint64_t)(starts[i] - starts[0]) < (uint64_t)part << shift) index[part]++;
+    }
+    if (length > 0) index[0] = shift;
+}
+
+/* The answers by an index, of each address and as a column, are those of the calls that search without one. */
+static void asked_by(const ipnetwork_v4 *fours, const ipnetwork_v6 *sixes, size_t count, const uint32_t *index, size_t length,
+                     uint8_t (*addresses)[4], uint8_t (*addresses_six)[16], size_t asked) {
+    uint8_t answers[300], answers_six[300], faults[300], faults_six[300], found_faults[300], found_faults_six[300];
+    size_t places[300], places_six[300];
+    memset(answers, 77, sizeof answers);
+    memset(answers_six, 77, sizeof answers_six);
+    memset(faults, 77, sizeof faults);
+    memset(places, 77, sizeof places);
+    memset(places_six, 77, sizeof places_six);
+    CHECK("column", ipnetwork_v4_index_contains_column(fours, count, index, length, addresses[0], asked, answers, asked, faults, 300) == YES);
+    CHECK("column", ipnetwork_v6_index_contains_column(sixes, count, index, length, addresses_six[0], asked, answers_six, 300, faults_six, asked) == YES);
+    CHECK("column", ipnetwork_v4_index_find_column(fours, count, index, length, addresses[0], asked, places, asked, found_faults, 300) == YES);
+    CHECK("column", ipnetwork_v6_index_find_column(sixes, count, index, length, addresses_six[0], asked, places_six, 300, found_faults_six, asked) == YES);
+    CHECK("past", answers[asked] == 77 && faults[asked] == 77 && ((uint8_t *)places)[asked * sizeof *places] == 77);
+    for (size_t i = 0; i < asked; i++) {
+        uint8_t answer = 77, by_index = 77;
+        size_t place, found;
+        memset(&place, 77, sizeof place);
+        found = place;
+        CHECK("index", ipnetwork_v4_set_contains(fours, count, addresses[i], &answer) == faults[i] && answer == answers[i]);
+        CHECK("index", ipnetwork_v4_index_contains(fours, count, index, length, addresses[i], &by_index) == faults[i] && by_index == answer);
+        CHECK("index", ipnetwork_v4_table_find(fours, count, addresses[i], &place) == found_faults[i] && place == places[i]);
+        CHECK("index", ipnetwork_v4_index_find(fours, count, index, length, addresses[i], &found) == found_faults[i] && found == place);
+        answer = by_index = 77;
+        memset(&place, 77, sizeof place);
+        found = place;
+        CHECK("index", ipnetwork_v6_set_contains(sixes, count, addresses_six[i], &answer) == faults_six[i] && answer == answers_six[i]);
+        CHECK("index", ipnetwork_v6_index_contains(sixes, count, index, length, addresses_six[i], &by_index) == faults_six[i] && by_index == answer);
+        CHECK("index", ipnetwork_v6_table_find(sixes, count, addresses_six[i], &place) == found_faults_six[i] && place == places_six[i]);
+        CHECK("index", ipnetwork_v6_index_find(sixes, count, index, length, addresses_six[i], &found) == found_faults_six[i] && found == place);
+    }
+}
+
+/* Indexes of lists of random networks, sets and tables, of every length up to 40, and what is asked by them; then by
+ * indexes that hold something else. */
+static void indexes(void) {
+    uint8_t addresses[258][4], addresses_six[258][16] = {{0}};
+    for (unsigned host = 0; host < 256; host++) {
+        memcpy(addresses[host], ((uint8_t[]){192, 0, 2, (uint8_t)host}), 4);
+        memcpy(addresses_six[host], ((uint8_t[]){0x20, 1, 0x0d, 0xb8}), 4);
+        addresses_six[host][15] = (uint8_t)host;
+    }
+    memset(addresses[256], 0, 4);
+    memset(addresses[257], 255, 4);
+    memset(addresses_six[257], 255, 16);
+    for (size_t round = 0; round < 400; round++) {
+        size_t count = round % 21, length = number() % 41, told = count, told_six = count;
+        ipnetwork_v4 *four = edge(count * sizeof *four), *fours = edge(count * sizeof *fours);
+        ipnetwork_v6 *six = edge(count * sizeof *six), *sixes = edge(count * sizeof *sixes);
+        size_t places[20];
+        uint32_t *index = edge(length * sizeof *index), *index_six = edge(length * sizeof *index_six), wanted[41], starts[20] = {0};
+        for (size_t i = 0; i < count; i++) random_network(&four[i], &six[i]);
+        /* Some lists have a network far away from the others. */
+        if (count > 0 && round % 3 == 0) {
+            four[0].address[0] = 250;
+            six[0].address[14] = 200;
+        }
+        if (round % 2 == 0) {
+            memcpy(fours, four, count * sizeof *four);
+            memcpy(sixes, six, count * sizeof *six);
+            CHECK("index", ipnetwork_v4_aggregate(fours, count, &told) == YES && ipnetwork_v6_aggregate(sixes, count, &told_six) == YES);
+        } else {
+            CHECK("index", ipnetwork_v4_table_make(four, count, fours, count, places, count) == YES);
+            CHECK("index", ipnetwork_v6_table_make(six, count, sixes, count, places, count) == YES);
+        }
+        for (size_t i = 0; i < told; i++)
+            starts[i] = (uint32_t)fours[i].address[0] << 24 | (uint32_t)fours[i].address[1] << 16 | (uint32_t)fours[i].address[2] << 8 | fours[i].address[3];
+        plain_index(starts, told, wanted, length);
+        CHECK("index", ipnetwork_v4_index_make(fours, told, index, length) == YES);
+        CHECK("index", ipnetwork_v6_index_make(sixes, told_six, index_six, length) == YES);
+        CHECK("index", memcmp(index, wanted, length * sizeof *index) == 0);
+        asked_by(fours, sixes, told, index, length, addresses, addresses_six, 258);
+        if (told_six == told) asked_by(fours, sixes, told, index_six, length, addresses, addresses_six, 258);
+        for (size_t i = 0; i < told_six; i++)
+            starts[i] = (uint32_t)sixes[i].address[14] << 8 | sixes[i].address[15];
+        plain_index(starts, told_six, wanted, length);
+        CHECK("index", memcmp(index_six, wanted, length * sizeof *index) == 0);
+        for (size_t i = 0; i < length; i++) index[i] = number() % 4 == 0 ? number() * 65537u : number() % 24;
+        if (told_six == told) asked_by(fours, sixes, told, index, length, addresses, addresses_six, 258);
+        if (told > 0 && told_six == told) {
+            fours[round % told].prefix = 33;
+            sixes[round % told].prefix = 129;
+            asked_by(fours, sixes, told, index_six, length, addresses, addresses_six, 258);
+            asked_by(fours, sixes, told, index, length, addresses, addresses_six, 258);
+        }
+        leave_edge(four, count * sizeof *four);
+        leave_edge(fours, count * sizeof *fours);
+        leave_edge(six, count * sizeof *six);
+        leave_edge(sixes, count * sizeof *sixes);
+        leave_edge(index, length * sizeof *index);
+        leave_edge(index_six, length * sizeof *index_six);
+    }
+    size_t size = 77;
+    CHECK("size", ipnetwork_index_size(0, &size) == YES && size == 0);
+    CHECK("size", ipnetwork_index_size(300, &size) == YES && size == 1200);
+    CHECK("size", ipnetwork_index_size(SIZE_MAX, &size) == YES && size == 1048576);
+    uint8_t answer = 77, none[1] = {77};
+    uint32_t few[4] = {77, 77, 77, 77};
+    CHECK("NULL", ipnetwork_v4_index_make(NULL, 0, few, 4) == YES && is_blank(few, sizeof few));
+    CHECK("NULL", ipnetwork_v6_index_make(NULL, 0, NULL, 0) == YES);
+    CHECK("NULL", ipnetwork_v4_index_contains(NULL, 0, NULL, 0, addresses[0], &answer) == YES && answer == 0);
+    CHECK("NULL", ipnetwork_v6_index_find(NULL, 0, few, 4, addresses_six[0], &size) == IPNETWORK_NO_MEMBER && size == 1048576);
+    CHECK("NULL", ipnetwork_v4_index_contains_column(NULL, 0, NULL, 0, NULL, 0, NULL, 0, NULL, 0) == YES);
+    CHECK("NULL", ipnetwork_v6_index_find_column(NULL, 0, NULL, 0, NULL, 0, NULL, 0, NULL, 0) == YES);
+    CHECK("room", ipnetwork_v4_index_contains_column(NULL, 0, few, 4, addresses[0], 2, &answer, 1, none, 1) == IPNETWORK_SHORT_BUFFER);
+    CHECK("room", ipnetwork_v6_index_contains_column(NULL, 0, few, 4, addresses_six[0], 1, &answer, 1, none, 0) == IPNETWORK_SHORT_BUFFER);
+    CHECK("room", ipnetwork_v4_index_find_column(NULL, 0, few, 4, addresses[0], 1, &size, 0, none, 1) == IPNETWORK_SHORT_BUFFER);
+    CHECK("room", ipnetwork_v6_index_find_column(NULL, 0, few, 4, addresses_six[0], 2, &size, 1, none, 1) == IPNETWORK_SHORT_BUFFER);
+    CHECK("room", answer == 0 && none[0] == 77 && size == 1048576);
+}
+
 /* The blocks of ranges within 256 addresses, and the longest lists that there are. */
 static void ranges(void) {
     for (unsigned first = 0; first < 256; first += 3) {
@@ -971,9 +1106,9 @@ static void columns_of_texts(void) {
         uint32_t at = 0, *offsets = malloc((count + 1) * sizeof *offsets);
         ipnetwork_v4 *fours = malloc(count * sizeof *fours);
         ipnetwork_v6 *sixes = malloc(count * sizeof *sixes);
-        ipnetwork_ip *ips = malloc(count * sizeof *ips);
+        ipnetwork_ip *ips = malloc(count * sizeof *ips), *told = malloc(count * sizeof *told);
         ipnetwork_address *addresses = malloc(count * sizeof *addresses);
-        uint8_t *faults = malloc(4 * count);
+        uint8_t *faults = malloc(5 * count);
         for (size_t i = 0; i < count; i++) {
             const char *text = rows[(i + shift) % count].text;
             if (at + strlen(text) > sizeof bytes)
@@ -987,21 +1122,27 @@ static void columns_of_texts(void) {
         memset(fours, 0xa5, count * sizeof *fours);
         memset(sixes, 0xa5, count * sizeof *sixes);
         memset(ips, 0xa5, count * sizeof *ips);
+        memset(told, 0xa5, count * sizeof *told);
         memset(addresses, 0xa5, count * sizeof *addresses);
-        memset(faults, 77, 4 * count);
+        memset(faults, 77, 5 * count);
         CHECK("column", ipnetwork_v4_read_column(texts, at, offsets, count + 1, fours, count - 1, faults, count) == IPNETWORK_SHORT_BUFFER);
         CHECK("column", ipnetwork_v4_read_column(texts, at, offsets, count + 1, fours, count, faults, count - 1) == IPNETWORK_SHORT_BUFFER);
         CHECK("column", ipnetwork_v4_read_column(texts, at - 1, offsets, count + 1, fours, count, faults, count) == IPNETWORK_NO_OFFSETS);
         uint32_t kept = offsets[shift];
         offsets[shift] = offsets[shift + 1] + 1;
         CHECK("column", ipnetwork_read_column(texts, at, offsets, count + 1, ips, count, faults, count) == IPNETWORK_NO_OFFSETS);
+        CHECK("column", ipnetwork_read_with_cause_column(texts, at, offsets, count + 1, told, count, faults, count) == IPNETWORK_NO_OFFSETS);
         offsets[shift] = kept;
-        for (size_t i = 0; i < 4 * count; i++)
+        CHECK("column", ipnetwork_read_with_cause_column(texts, at, offsets, count + 1, told, count - 1, faults, count) == IPNETWORK_SHORT_BUFFER);
+        CHECK("column", ipnetwork_read_with_cause_column(texts, at, offsets, count + 1, told, count, faults, count - 1) == IPNETWORK_SHORT_BUFFER);
+        for (size_t i = 0; i < 5 * count; i++)
             CHECK("written", faults[i] == 77);
         CHECK("column", ipnetwork_v4_read_column(texts, at, offsets, count + 1, fours, count, faults, count) == YES);
         CHECK("column", ipnetwork_v6_read_column(texts, at, offsets, count + 1, sixes, count, faults + count, count) == YES);
         CHECK("column", ipnetwork_read_column(texts, at, offsets, count + 1, ips, count, faults + 2 * count, count) == YES);
         CHECK("column", ipnetwork_address_read_column(texts, at, offsets, count + 1, addresses, count, faults + 3 * count, count) == YES);
+        CHECK("column", ipnetwork_read_with_cause_column(texts, at, offsets, count + 1, told, count, faults + 4 * count, count) == YES);
+        CHECK("column", memcmp(told, ips, count * sizeof *ips) == 0);
         for (size_t i = 0; i < count; i++) {
             const char *text = rows[(i + shift) % count].text;
             ipnetwork_v4 four;
@@ -1015,6 +1156,7 @@ static void columns_of_texts(void) {
             CHECK(text, read_v4(text, &four) == faults[i] && memcmp(&four, &fours[i], sizeof four) == 0);
             CHECK(text, read_v6(text, &six) == faults[count + i] && memcmp(&six, &sixes[i], sizeof six) == 0);
             CHECK(text, read_ip(text, &ip) == faults[2 * count + i] && memcmp(&ip, &ips[i], sizeof ip) == 0);
+            CHECK(text, read_with_cause(text, &ip) == faults[4 * count + i]);
             CHECK(text, ipnetwork_address_read(text, strlen(text), &address) == faults[3 * count + i]);
             CHECK(text, memcmp(&address, &addresses[i], sizeof address) == 0);
         }
@@ -1022,6 +1164,7 @@ static void columns_of_texts(void) {
         free(fours);
         free(sixes);
         free(ips);
+        free(told);
         free(addresses);
         free(faults);
         free(texts);
@@ -1031,6 +1174,7 @@ static void columns_of_texts(void) {
     CHECK("NULL", ipnetwork_v6_read_column(NULL, 0, &none, 1, NULL, 0, NULL, 0) == YES);
     none = 1;
     CHECK("NULL", ipnetwork_read_column(NULL, 0, &none, 1, NULL, 0, NULL, 0) == IPNETWORK_NO_OFFSETS);
+    CHECK("NULL", ipnetwork_read_with_cause_column(NULL, 0, &none, 1, NULL, 0, NULL, 0) == IPNETWORK_NO_OFFSETS);
     /* Offsets of 32 bits that a number with a sign, or a sum of 32 bits, has not. */
     static const uint32_t wide[] = {2, 0x7fffffff, 0x80000000, 0x80000001, 0xfffffffe, 0xffffffff};
     for (size_t i = 0; i < sizeof wide / sizeof *wide; i++) {
@@ -1045,6 +1189,7 @@ static void columns_of_texts(void) {
             CHECK("wide", ipnetwork_v4_read_column("1", 1, offsets, 2, &four, 1, &fault, 1) == IPNETWORK_NO_OFFSETS);
             CHECK("wide", ipnetwork_v6_read_column("1", 1, offsets, 2, &six, 1, &fault, 1) == IPNETWORK_NO_OFFSETS);
             CHECK("wide", ipnetwork_read_column("1", 1, offsets, 2, &ip, 1, &fault, 1) == IPNETWORK_NO_OFFSETS);
+            CHECK("wide", ipnetwork_read_with_cause_column("1", 1, offsets, 2, &ip, 1, &fault, 1) == IPNETWORK_NO_OFFSETS);
             CHECK("wide", ipnetwork_address_read_column("1", 1, offsets, 2, &address, 1, &fault, 1) == IPNETWORK_NO_OFFSETS);
         }
         CHECK("wide", four.prefix == 8 && six.prefix == 0 && ip.family == 4 && address.length == 16 && fault == 77);
@@ -1341,6 +1486,7 @@ int main(void) {
     operations();
     tables();
     tables_made();
+    indexes();
     ranges();
     subnets();
     columns_of_texts();

@@ -1,23 +1,26 @@
 -- Results of calls of either family and of tables, and ends of sets: with which number the answer is there, and with which
 -- nothing has been written.
-use Rattle.std.proofs.Common.{◌≡◌, ◌≢◌, ℕ, ◌<◌, ◌≤◌, List, [], ◌∷◌, ◌++◌, length, map, drop, get_or, refl, arith}
-use Rattle.std.specs.Prelude.{Option, Some, None, take}
+use Rattle.std.proofs.Common.{◌≡◌, ◌≢◌, ◌↔◌, ℕ, ◌<◌, ◌≤◌, List, [], ◌∷◌, ◌++◌, length, map, drop, get_or, refl, arith}
+use Rattle.std.specs.Prelude.{Option, Some, None, Ok, take}
 use Rattle.std.specs.List.{All}
 use Rattle.ipnetwork_addr.specs.declared.ip.IpAddr.{IpAddr}
 use Rattle.ipnetwork_addr.specs.declared.ip.IpAddr.TheVariants as addresses
+use Rattle.ipnetwork_addr.specs.Either.{NamesIp}
 use Rattle.ipnetwork_family.specs.Network.{Network}
+use Rattle.ipnetwork_family.specs.NetworkText.{slashes, before_slash, HasSeveralSlashes}
+use Rattle.ipnetwork_family.specs.declared.error.CidrFault.TheVariants.{Format, Addr, Prefix}
 use Rattle.ipnetwork.specs.declared.ip_network.IpNetwork.{IpNetwork}
 use Rattle.ipnetwork.specs.declared.ip_network.IpNetwork.TheVariants.{V6}
 use Rattle.ipnetwork.specs.IpNetworks.{IpMember}
-use Rattle.ipnetwork.specs.IpNetworkText.{ip_network_text}
+use Rattle.ipnetwork.specs.IpNetworkText.{NamesIpNetwork, ReadsIpNetwork, ip_network_text}
 use Rattle.ipnetwork_c.specs.declared.structs.IpInC.{IpInC}
 use Rattle.ipnetwork_c.specs.declared.address.AddressInC.{AddressInC}
-use Rattle.ipnetwork_c.specs.Numbers.{ok, prefix, short_buffer, no_family}
+use Rattle.ipnetwork_c.specs.Numbers.{ok, format, address, prefix, short_buffer, no_family}
 use Rattle.ipnetwork_c.specs.Held.{PrefixFits, number_of_octets}
 use Rattle.ipnetwork_c.specs.Outcomes.Unless.{On, Nothing}
-use Rattle.ipnetwork_c.specs.Answers.{IsFlag, StandsIn, PutsText}
+use Rattle.ipnetwork_c.specs.Answers.{IsFlag, ReadsInto, StandsIn, PutsText}
 use Rattle.ipnetwork_c.specs.Columns.{AnswersEach}
-use Rattle.ipnetwork_c.specs.Either.{address_in, MemberQuery, NoAddress, NoIpNetwork, OfNetwork, StandsForIp}
+use Rattle.ipnetwork_c.specs.Either.{address_in, HoldsIp, ReadsWithCause, MemberQuery, NoAddress, NoIpNetwork, OfNetwork, StandsForIp}
 use Rattle.ipnetwork_c.specs.Either.NoIpNetwork.{NoFamily as ip_no_family, NoPrefix as ip_no_prefix}
 use Rattle.ipnetwork_c.specs.Tables.{TableQuery, TableRows, IsTableOf, MakesTable}
 
@@ -52,6 +55,31 @@ pub no_ipv4_address_is_a_member_of_an_ipv6_network : (n : Network) (a : ℕ) →
 no_ipv4_address_is_a_member_of_an_ipv6_network n a h = h.1.0 refl
 
 -- ---- texts of either family
+
+pub the_same_network_is_read_with_a_cause : (text : List ℕ) (n : IpNetwork) → ReadsWithCause text (Ok n) ↔ ReadsIpNetwork text (Ok n)
+the_same_network_is_read_with_a_cause text n = ((λ h. h), (λ h. h))
+
+pub a_network_text_has_no_cause : (text : List ℕ) (n : IpNetwork) (before after : IpInC) (code : ℕ) → NamesIpNetwork text n → ReadsInto ReadsWithCause HoldsIp text before after code → code ≡ ok
+a_network_text_has_no_cause text n before after code named (On (m, read, (is, holds))) = is
+a_network_text_has_no_cause text n before after code named (Nothing (cause, (told, is)) same) = absurd (told.1 n named)
+
+pub several_slashes_are_told_first : (text : List ℕ) (before after : IpInC) (code : ℕ) → HasSeveralSlashes text → code ≢ ok → ReadsInto ReadsWithCause HoldsIp text before after code → code ≡ format
+several_slashes_are_told_first text before after code several fault (On (m, read, (is, holds))) = absurd (fault is)
+several_slashes_are_told_first text before after code several fault (Nothing (Format, (told, is)) same) = is
+several_slashes_are_told_first text before after code several fault (Nothing (Addr, (told, is)) same) = absurd (omega (arith, several, told.0.0))
+several_slashes_are_told_first text before after code several fault (Nothing (Prefix, (told, is)) same) = absurd (omega (arith, several, told.0.0))
+
+pub no_address_is_told_next : (text : List ℕ) (before after : IpInC) (code : ℕ) → slashes text ≤ 1 → ((a : IpAddr) → ¬ (NamesIp (before_slash text) a)) → code ≢ ok → ReadsInto ReadsWithCause HoldsIp text before after code → code ≡ address
+no_address_is_told_next text before after code few none fault (On (m, read, (is, holds))) = absurd (fault is)
+no_address_is_told_next text before after code few none fault (Nothing (Format, (told, is)) same) = absurd (omega (arith, few, told.0))
+no_address_is_told_next text before after code few none fault (Nothing (Addr, (told, is)) same) = is
+no_address_is_told_next text before after code few none fault (Nothing (Prefix, (told, is)) same) = absurd (none told.0.1.0 told.0.1.1)
+
+pub what_stands_after_an_address_is_told : (text : List ℕ) (a : IpAddr) (before after : IpInC) (code : ℕ) → slashes text ≤ 1 → NamesIp (before_slash text) a → code ≢ ok → ReadsInto ReadsWithCause HoldsIp text before after code → code ≡ prefix
+what_stands_after_an_address_is_told text a before after code few named fault (On (m, read, (is, holds))) = absurd (fault is)
+what_stands_after_an_address_is_told text a before after code few named fault (Nothing (Format, (told, is)) same) = absurd (omega (arith, few, told.0))
+what_stands_after_an_address_is_told text a before after code few named fault (Nothing (Addr, (told, is)) same) = absurd (told.0.1 a named)
+what_stands_after_an_address_is_told text a before after code few named fault (Nothing (Prefix, (told, is)) same) = is
 
 pub no_address_has_no_text : (held : AddressInC) (code : ℕ) → held.length ≡ 5 → NoAddress held code → code ≡ no_family
 no_address_has_no_text held code five h = h.1

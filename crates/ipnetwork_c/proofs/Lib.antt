@@ -8,6 +8,8 @@ pub mod TextLengths
 pub mod Truths
 pub mod Rows
 pub mod Searching
+pub mod Indexed
+pub mod IndexParts
 pub mod BlocksPut
 pub mod PrintedRows
 pub mod TableFinding
@@ -18,4 +20,5 @@ pub mod ResultExamples
 pub mod SearchExamples
 pub mod ColumnExamples
 pub mod EitherExamples
+pub mod IndexExamples
 pub mod LawExamples

@@ -1,30 +1,21 @@
 -- Where an address stands in the list of a set, and what that tells of the set.
-use Rattle.std.proofs.Common.{◌≡◌, ◌↔◌, ℕ, ◌+◌, ◌-◌, ◌<◌, ◌≤◌, List, length, map, get_or, Bool, true, false, IsTrue, refl, sym, ap, subst, ◌∙◌, arith}
+use Rattle.std.proofs.Common.{◌≡◌, ◌↔◌, ℕ, ◌+◌, ◌-◌, ◌<◌, ◌≤◌, ⊎_elim, List, length, map, get_or, Bool, true, false, IsTrue, refl, sym, ap, subst, ◌∙◌, arith}
 use Rattle.std.specs.Int.{from_bool}
 use Rattle.std.specs.List.{AllPairs}
 use Rattle.std.proofs.lemmas.List.{length-map}
 use Rattle.ipnetwork_family.specs.Network.{Network, Member}
 use Rattle.ipnetwork_blocks.specs.AggregateLaws.{AggregateHasOneBlock}
 use Rattle.ipnetwork_sets.specs.Private.Search.{NoneUpTo, IsLastUpTo, IsSplit}
-use Rattle.ipnetwork_sets.proofs.Searched.{split_starts, split_none_at, split_last, none_holds, holds_by_last}
+use Rattle.ipnetwork_sets.proofs.Searched.{split_none_at, split_last, none_holds, holds_by_last}
 use Rattle.std.specs.Prelude.{slice_get, Some}
-use Rattle.std.proofs.lemmas.Option.{get_or_from_slice_get, slice_get_within, slice_get_read}
+use Rattle.std.proofs.lemmas.Bool.{cases_lt}
+use Rattle.std.proofs.lemmas.Option.{get_or_from_slice_get, slice_get-get_or, slice_get_within, slice_get_read}
 use Rattle.ipnetwork_c.specs.Held.{PrefixFits}
 use Rattle.ipnetwork_c.specs.Searches.{StandsAt, LastFits}
 use Rattle.ipnetwork_c.specs.Lists.{FindsIn, SetQuery}
 use Rattle.ipnetwork_c.specs.Outcomes.Unless.{On, Nothing}
-use Rattle.ipnetwork_c.specs.Private.Sets.{EndFits, EndDoesNotFit}
+use Rattle.ipnetwork_c.specs.Private.Sets.{EndFits, EndDoesNotFit, LastUpTo, NextAfter, IsBetween}
 use Rattle.ipnetwork_c.proofs.Truths.{no_true}
-
-pub search_starts : {X : Type 0} (held : X → Network) (list : List X) (x : ℕ) → IsSplit (map held list) x 0 (length list)
-search_starts held list x = subst (λ (k : ℕ). IsSplit (map held list) x 0 k) (length-map list held) (split_starts (map held list) x)
-
--- both ends of the search have met
-pub split_met : (ns : List Network) (x from to : ℕ) → IsSplit ns x from to → to ≤ from → IsSplit ns x from from
-split_met ns x from to h le =
-    let ordered = h.ordered in
-    let within = h.within in
-    record { ordered = omega arith; within = omega arith; below = h.below; above = λ k d l m. h.above k d (omega arith) m }
 
 pub none_up_to : (ns : List Network) (x : ℕ) → IsSplit ns x 0 0 → NoneUpTo ns x
 none_up_to ns x h = split_none_at ns x 0 0 h refl (omega arith)
@@ -56,18 +47,13 @@ finds_last w ns x i b false byte one split some within is has told = record {
 
 -- ---- where a search stands in any list
 
--- the network before `from` begins at x or before it, and that at `to` after it
-pub record IsBetween (ns : List Network) (x from to : ℕ) : Type 0 where
-  pub last : (n : Network) → 0 < from → slice_get ns (from - 1) ≡ Some n → n.address ≤ x
-  pub next : (n : Network) → slice_get ns to ≡ Some n → x < n.address
-
 pub between_all : {X : Type 0} (held : X → Network) (list : List X) (x : ℕ) → IsBetween (map held list) x 0 (length list)
 between_all held list x = record {
   last = λ n none is. absurd (omega (arith, none));
   next = λ n is. let l = slice_get_within (map held list) (length list) n is in let size = length-map list held in absurd (omega arith);
 }
 
-the_one : (ns : List Network) (k : ℕ) (b n : Network) → b ≡ get_or ns k b → slice_get ns k ≡ Some n → b ≡ n
+pub the_one : (ns : List Network) (k : ℕ) (b n : Network) → b ≡ get_or ns k b → slice_get ns k ≡ Some n → b ≡ n
 the_one ns k b n is got = is ∙ get_or_from_slice_get ns k n b got
 
 pub between_behind : (ns : List Network) (x from to middle : ℕ) (b : Network) → IsBetween ns x from to → b ≡ get_or ns middle b → b.address ≤ x → IsBetween ns x (middle + 1) to
@@ -92,6 +78,54 @@ between_met ns x from to h ordered met within =
     let e : to ≡ from = omega arith in
     record { within = omega arith; last = h.last; next = subst (λ (k : ℕ). (n : Network) → slice_get ns k ≡ Some n → x < n.address) e h.next }
 
+-- if the addresses ascend, all others are on the side of their neighbour
+pub stands_split : (ns : List Network) (x i : ℕ) → StandsAt ns x i → AllPairs (λ a b. a.address ≤ b.address) ns → IsSplit ns x i i
+stands_split ns x i s up =
+    let within = s.within in
+    record {
+      ordered = omega arith;
+      within = within;
+      below = λ k d l.
+          let last : (get_or ns (i - 1) d).address ≤ x = s.last (get_or ns (i - 1) d) (omega arith) (slice_get-get_or ns (i - 1) d (omega arith)) in
+          ⊎_elim
+          (λ (less : k < i - 1). let o : (get_or ns k d).address ≤ (get_or ns (i - 1) d).address = up k (i - 1) d less (omega arith) in omega arith)
+          (λ (ge : i - 1 ≤ k).
+          let e : i - 1 ≡ k = omega arith in
+          subst (λ (j : ℕ). (get_or ns j d).address ≤ x) e last)
+          (cases_lt k (i - 1));
+      above = λ k d le l.
+          let next : x < (get_or ns i d).address = s.next (get_or ns i d) (slice_get-get_or ns i d (omega arith)) in
+          ⊎_elim
+          (λ (more : i < k). let o : (get_or ns i d).address ≤ (get_or ns k d).address = up i k d more l in omega arith)
+          (λ (ge : k ≤ i).
+          let e : i ≡ k = omega arith in
+          subst (λ (j : ℕ). x < (get_or ns j d).address) e next)
+          (cases_lt i k);
+    }
+
+-- ---- what is known of a neighbour that was looked at
+
+pub last_at : (ns : List Network) (x i k : ℕ) (n : Network) → i ≡ k + 1 → n ≡ get_or ns k n → n.address ≤ x → LastUpTo ns x i
+last_at ns x i k n e is begins m some got =
+    let at : i - 1 ≡ k = omega arith in
+    let same = ap (λ (o : Network). o.address) (the_one ns k n m is (subst (λ (j : ℕ). slice_get ns j ≡ Some m) at got)) in
+    omega (arith, same, begins)
+
+pub next_at : (ns : List Network) (x i k : ℕ) (n : Network) → i ≡ k → n ≡ get_or ns k n → x < n.address → NextAfter ns x i
+next_at ns x i k n e is later m got =
+    let same = ap (λ (o : Network). o.address) (the_one ns k n m is (subst (λ (j : ℕ). slice_get ns j ≡ Some m) e got)) in
+    omega (arith, same, later)
+
+-- nothing stands before the first, and nothing behind the last
+pub none_last : (ns : List Network) (x i : ℕ) → i ≡ 0 → LastUpTo ns x i
+none_last ns x i e m some got = absurd (omega (arith, e, some))
+
+pub none_next : {X : Type 0} (held : X → Network) (list : List X) (x i : ℕ) → i ≡ length list → NextAfter (map held list) x i
+none_next held list x i e m got =
+    let l = slice_get_within (map held list) i m got in
+    let size = length-map list held in
+    absurd (omega (arith, e, l, size))
+
 -- the last network fits, if the one that stands there does
 pub last_fits : (w : ℕ) (ns : List Network) (i : ℕ) (b : Network) → b ≡ get_or ns (i - 1) b → PrefixFits w b → LastFits w ns i
 last_fits w ns i b is fits n some got = subst (PrefixFits w) (the_one ns (i - 1) b n is got) fits
@@ -110,3 +144,8 @@ set_answered w held list y x before after is ends finds = subst (λ (z : ℕ). S
 
 pub set_refused : {C : Type 0} (w : ℕ) (held : C → Network) (list : List C) (y x before : ℕ) → y ≡ x → EndDoesNotFit w (map held list) y → SetQuery w held list x before before 3
 set_refused w held list y x before is ends = subst (λ (z : ℕ). SetQuery w held list z before before 3) is (ends.0, ends.1, Nothing (ends.2, refl) refl)
+
+-- the number of a fault that a search returns is that of a byte
+pub set_fault_is_byte : {C : Type 0} {before after code : ℕ} (w : ℕ) (held : C → Network) (list : List C) (x : ℕ) → SetQuery w held list x before after code → code < 256
+set_fault_is_byte _ _ _ _ (_, _, Nothing (_, is) _) = omega (arith, is)
+set_fault_is_byte _ _ _ _ (_, _, On (_, (is, _))) = omega (arith, is)

@@ -1,12 +1,14 @@
 -- Networks and addresses of either family in C.
-use Rattle.std.specs.Prelude.{◌≡◌, ◌==◌, if◌then◌else◌, ◌++◌, ℕ, List, length, replicate, take, Option, Some, None}
+use Rattle.std.specs.Prelude.{◌≡◌, ◌==◌, if◌then◌else◌, ◌++◌, ℕ, List, length, replicate, take, Option, Some, None, Result, Ok, Err}
 use Rattle.ipnetwork_addr.specs.Digits.{octets_of, octets_of_v6}
 use Rattle.ipnetwork_addr.specs.Either.{NamesIp}
 use Rattle.ipnetwork_addr.specs.declared.ip.IpAddr.{IpAddr}
 use Rattle.ipnetwork_addr.specs.declared.ip.IpAddr.TheVariants as addresses
+use Rattle.ipnetwork_family.specs.declared.error.CidrFault.{CidrFault}
 use Rattle.ipnetwork.specs.declared.ip_network.IpNetwork.{IpNetwork}
 use Rattle.ipnetwork.specs.declared.ip_network.IpNetwork.TheVariants.{V4, V6}
 use Rattle.ipnetwork.specs.IpNetworks.{IpMember}
+use Rattle.ipnetwork.specs.IpNetworkText.{NamesIpNetwork, TellsIpCause}
 use Rattle.ipnetwork_c.specs.declared.structs.Ipv4InC.{Ipv4InC}
 use Rattle.ipnetwork_c.specs.declared.structs.Ipv6InC.{Ipv6InC}
 use Rattle.ipnetwork_c.specs.declared.structs.IpInC.{IpInC}
@@ -27,6 +29,11 @@ BlankV6 held = (held.address ≡ replicate 16 0) × (held.prefix ≡ 0)
 abbrev pub HoldsIp : IpInC → IpNetwork → Type 0
 HoldsIp held (V4 n) = (held.family ≡ 4) × HoldsV4 held.v4 n × BlankV6 held.v6
 HoldsIp held (V6 n) = (held.family ≡ 6) × BlankV4 held.v4 × HoldsV6 held.v6 n
+
+-- what reading with the cause returns: the network that the text names, or the cause that is told of a text that names none
+abbrev pub ReadsWithCause : List ℕ → Result IpNetwork CidrFault → Type 0
+ReadsWithCause text (Ok n) = NamesIpNetwork text n
+ReadsWithCause text (Err cause) = TellsIpCause text (Some cause)
 
 -- the network of the family that the struct names, if that is a family
 abbrev pub ip_in : IpInC → Option IpNetwork

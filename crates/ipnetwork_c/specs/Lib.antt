@@ -9,6 +9,7 @@ pub mod Lists
 pub mod Blocks
 pub mod Sets
 pub mod Tables
+pub mod Indexes
 pub mod TextColumns
 pub mod PrintedColumns
 pub mod ColumnLaws

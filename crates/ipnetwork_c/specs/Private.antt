@@ -5,3 +5,4 @@ pub mod Sets
 pub mod Writing
 pub mod Kept
 pub mod Tables
+pub mod Indexes

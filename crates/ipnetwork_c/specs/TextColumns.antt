@@ -6,12 +6,13 @@ use Rattle.ipnetwork.specs.IpNetworkText.{ReadsIpNetwork}
 use Rattle.ipnetwork_c.specs.declared.structs.Ipv4InC.{Ipv4InC}
 use Rattle.ipnetwork_c.specs.declared.structs.Ipv6InC.{Ipv6InC}
 use Rattle.ipnetwork_c.specs.declared.structs.IpInC.{IpInC}
+use Rattle.ipnetwork_c.specs.declared.structs.IpWithCauseInC.{IpWithCauseInC}
 use Rattle.ipnetwork_c.specs.Numbers.{short_buffer, no_offsets}
 use Rattle.ipnetwork_c.specs.Held.{HoldsV4, HoldsV6}
 use Rattle.ipnetwork_c.specs.Outcomes.{Writes, Needs}
 use Rattle.ipnetwork_c.specs.Answers.{ReadsInto}
 use Rattle.ipnetwork_c.specs.Columns.{AnswersEach}
-use Rattle.ipnetwork_c.specs.Either.{HoldsIp}
+use Rattle.ipnetwork_c.specs.Either.{HoldsIp, ReadsWithCause}
 
 -- how many texts there are: one less than offsets
 abbrev pub row_count : List ℕ → ℕ
@@ -45,3 +46,6 @@ v6_reads = ReadsInto ReadsV6Network HoldsV6
 
 abbrev pub ip_reads : List ℕ → IpInC → IpInC → ℕ → Type 0
 ip_reads = ReadsInto ReadsIpNetwork HoldsIp
+
+abbrev pub ip_reads_with_cause : List ℕ → IpWithCauseInC → IpWithCauseInC → ℕ → Type 0
+ip_reads_with_cause = ReadsInto ReadsWithCause (λ row. HoldsIp row.held)

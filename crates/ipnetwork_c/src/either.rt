@@ -1,12 +1,12 @@
 //! The calls of networks of either family.
 ghost use Rattle.std.specs.Prelude.{◌≡◌};
 ghost use Rattle.ipnetwork.specs.IpNetworkText.{ReadsIpNetwork};
-ghost use Rattle.ipnetwork_c.specs.Either.{HoldsIp, MemberQuery, address_in as address_in_c};
+ghost use Rattle.ipnetwork_c.specs.Either.{HoldsIp, ReadsWithCause, MemberQuery, address_in as address_in_c};
 ghost use Rattle.ipnetwork_c.specs.Answers.{ReadsInto};
 
 use crate::fault::{self, NO_FAMILY, OK, PREFIX};
 use crate::structs::{IpInC, V4, V6, address_of};
-use ipnetwork::{IpAddr, IpNetwork, Ipv4Addr};
+use ipnetwork::{CidrFault, IpAddr, IpNetwork, Ipv4Addr, cause};
 
 /// Reads the network of either family that a text names, as `IpNetwork::read_bytes` does: `OK`, and the network is
 /// written, with the struct of the other family all zeros. Any other text is `ADDRESS`.
@@ -20,6 +20,34 @@ pub extern "C" fn ipnetwork_read(text: &[u8], network: &mut IpInC) -> u32
             OK
         }
         Err(cause) => fault::number_of(cause),
+    }
+}
+
+/// The same with the cause: any other text is `FORMAT` if it has two or more `/`, else `ADDRESS` if what stands before
+/// the `/` is an address of neither family, else `PREFIX`.
+#[unsafe(no_mangle)]
+pub extern "C" fn ipnetwork_read_with_cause(text: &[u8], network: &mut IpInC) -> u32
+    ensures { ReadsInto ReadsWithCause HoldsIp text.now network.old network.new result }
+{
+    match network_or_cause(text) {
+        Ok(read) => {
+            *network = IpInC::of(&read);
+            OK
+        }
+        Err(cause) => fault::number_of(cause),
+    }
+}
+
+/// The network of either family that a text names, or why it names none. Only a text that is refused is looked at again.
+fn network_or_cause(text: &[u8]) -> Result<IpNetwork, CidrFault>
+    ensures { ReadsWithCause text.now result }
+{
+    match IpNetwork::read_bytes(text) {
+        Ok(read) => Ok(read),
+        Err(_) => match cause(text) {
+            Some(cause) => Err(cause),
+            None => unreachable!(),
+        },
     }
 }
 

@@ -14,7 +14,8 @@ use crate::fault::{self, NO_MASK, NO_MEMBER, OK, PREFIX};
 use crate::order::number_of_order;
 use crate::structs::Ipv4InC;
 use crate::{sizes, text};
-use ipnetwork::{Ipv4Addr, Ipv4Network, ipv4_mask_to_prefix};
+use ipnetwork::{Ipv4Addr, Ipv4Network};
+use ipnetwork_family::Address;
 
 /// Reads the network that a text names, as `Ipv4Network::read_bytes` does: `OK`, and the network is written. Else
 /// `FORMAT`, `ADDRESS` or `PREFIX`, the first that applies.
@@ -141,12 +142,12 @@ pub extern "C" fn ipnetwork_v4_mask(network: &Ipv4InC, mask: &mut [u8; 4]) -> u3
 pub extern "C" fn ipnetwork_v4_prefix_of_mask(mask: &[u8; 4], prefix: &mut u8) -> u32
     ensures { WritesPrefix 32 (number_of_octets mask.now) prefix.old prefix.new result }
 {
-    match ipv4_mask_to_prefix(Ipv4Addr::from(*mask)) {
-        Ok(found) => {
+    match Ipv4Addr::from(*mask).prefix_of_mask() {
+        Some(found) => {
             *prefix = found;
             OK
         }
-        Err(_) => NO_MASK,
+        None => NO_MASK,
     }
 }
 

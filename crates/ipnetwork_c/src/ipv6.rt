@@ -14,7 +14,8 @@ use crate::fault::{self, NO_MASK, NO_MEMBER, OK, PREFIX};
 use crate::order::number_of_order;
 use crate::structs::{Ipv6InC, address_of};
 use crate::{sizes, text};
-use ipnetwork::{Ipv6Addr, Ipv6Network, ipv6_mask_to_prefix};
+use ipnetwork::{Ipv6Addr, Ipv6Network};
+use ipnetwork_family::Address;
 
 /// Reads the network that a text names, as `Ipv6Network::read_bytes` does: `OK`, and the network is written. Else
 /// `FORMAT`, `ADDRESS` or `PREFIX`, the first that applies.
@@ -141,12 +142,12 @@ pub extern "C" fn ipnetwork_v6_mask(network: &Ipv6InC, mask: &mut [u8; 16]) -> u
 pub extern "C" fn ipnetwork_v6_prefix_of_mask(mask: &[u8; 16], prefix: &mut u8) -> u32
     ensures { WritesPrefix 128 (number_of_octets mask.now) prefix.old prefix.new result }
 {
-    match ipv6_mask_to_prefix(address_of(mask)) {
-        Ok(found) => {
+    match address_of(mask).prefix_of_mask() {
+        Some(found) => {
             *prefix = found;
             OK
         }
-        Err(_) => NO_MASK,
+        None => NO_MASK,
     }
 }
 

@@ -9,16 +9,21 @@ ghost use Rattle.std.specs.Prelude.{◌≡◌};
 
 mod address;
 mod aggregates;
+mod begun;
 mod block_calls;
 mod columns;
 mod either;
 mod fault;
 mod holding;
+mod index_calls;
+mod index_columns;
+mod index_making;
 mod ipv4;
 mod ipv6;
 pub mod laws;
 mod listed;
 mod lists;
+mod numbered;
 mod order;
 mod printed_columns;
 mod questions;
@@ -35,7 +40,7 @@ mod text_columns;
 mod writing;
 
 pub use address::AddressInC;
-pub use structs::{IpInC, Ipv4InC, Ipv6InC};
+pub use structs::{IpInC, IpWithCauseInC, Ipv4InC, Ipv6InC};
 
 /// The version of what C relies on: the names, the structs and the numbers. A change of any of them changes it.
 #[unsafe(no_mangle)]
@@ -48,7 +53,7 @@ pub extern "C" fn ipnetwork_abi_version() -> u32
 /// The minor version: each call that is added raises it, and a change of `ipnetwork_abi_version` begins it again at 0.
 #[unsafe(no_mangle)]
 pub extern "C" fn ipnetwork_abi_minor_version() -> u32
-    ensures { result ≡ 3 }
+    ensures { result ≡ 5 }
 {
-    3
+    5
 }

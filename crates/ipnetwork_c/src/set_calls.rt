@@ -4,8 +4,8 @@ ghost use Rattle.ipnetwork_c.specs.Lists.{SetQuery};
 
 use crate::fault::{OK, PREFIX};
 use crate::sets;
-use crate::structs::{Ipv4InC, Ipv6InC, address_of};
-use ipnetwork::{Ipv4Addr, Ipv4Network, Ipv6Network};
+use crate::structs::{Ipv4InC, Ipv6InC, number_of, number_of_four};
+use ipnetwork::{Ipv4Network, Ipv6Network};
 
 /// Whether an address lies in the set of a list that is that of a set, as `ipnetwork_v4_aggregate` leaves it: 1 or 0.
 /// For any other list, 1 is right too, but 0 says nothing. The search ends at the last struct whose own address is this
@@ -20,7 +20,7 @@ pub extern "C" fn ipnetwork_v4_set_contains(
     ensures { SetQuery 32 v4_in blocks.now
         (number_of_octets address.now) answer.old answer.new result }
 {
-    match sets::contains::<Ipv4Network, Ipv4InC>(blocks, Ipv4Addr::from(*address)) {
+    match sets::contains::<Ipv4Network, Ipv4InC>(blocks, &[], number_of_four(address)) {
         Some(found) => {
             *answer = found;
             OK
@@ -39,7 +39,7 @@ pub extern "C" fn ipnetwork_v6_set_contains(
     ensures { SetQuery 128 v6_in blocks.now
         (number_of_octets address.now) answer.old answer.new result }
 {
-    match sets::contains::<Ipv6Network, Ipv6InC>(blocks, address_of(address)) {
+    match sets::contains::<Ipv6Network, Ipv6InC>(blocks, &[], number_of(address)) {
         Some(found) => {
             *answer = found;
             OK

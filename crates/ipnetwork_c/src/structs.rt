@@ -166,6 +166,14 @@ impl IpInC {
     }
 }
 
+/// The same in a column whose texts are read with the cause. C has the struct of the network in its place.
+#[repr(C)]
+#[derive(Clone, Copy)]
+pub struct IpWithCauseInC {
+    /// The network.
+    pub held: IpInC,
+}
+
 /// The IPv6 address of 16 octets, made of its segments: to write a number and read its segments costs more.
 pub(crate) fn address_of(octets: &[u8; 16]) -> Ipv6Addr
     ensures { result ≡ number_of_octets octets.now }
@@ -181,6 +189,13 @@ pub(crate) fn address_of(octets: &[u8; 16]) -> Ipv6Addr
         u16::from_be_bytes([m, n]),
         u16::from_be_bytes([o, p]),
     )
+}
+
+/// The number of 4 octets.
+pub(crate) fn number_of_four(octets: &[u8; 4]) -> u32
+    ensures { result ≡ number_of_octets octets.now }
+{
+    u32::from_be_bytes(*octets)
 }
 
 /// The number of 16 octets.

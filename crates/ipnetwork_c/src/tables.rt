@@ -2,20 +2,25 @@
 ghost use Rattle.ipnetwork_c.specs.Held.{v4_in, v6_in, number_of_octets};
 ghost use Rattle.ipnetwork_c.specs.Tables.{TableQuery};
 
+use crate::begun::begun;
 use crate::fault::{NO_MEMBER, OK, PREFIX};
-use crate::listed::Listed;
-use crate::sets::begun;
+use crate::numbered::Numbered;
 use crate::structs::{Ipv4InC, Ipv6InC, address_of};
 use ipnetwork::{Ipv4Addr, Ipv4Network, Ipv6Network};
 use ipnetwork_blocks::AddressSpace;
 
-// Puts the index of the longest block with an address in `index`. If the last block up to the address does not have it,
-// a block that does lies around both, so that it begins with the bits that both share: the search goes on up to that
-// address.
-fn find<N: AddressSpace, H: Listed<N>>(blocks: &[H], address: N::Addr, index: &mut usize) -> u32
-    ensures { TableQuery N.WIDTH H.held blocks.now (N.number address) index.old index.new result }
+/// Puts the place of the longest block with an address in `place`, by an index of the blocks, or by none. If the last block
+/// up to the address does not have it, a block that does lies around both, so that it begins with the bits that both
+/// share: the search goes on up to that address.
+pub(crate) fn find<N: AddressSpace, H: Numbered<N>>(
+    blocks: &[H],
+    index: &[u32],
+    address: N::Addr,
+    place: &mut usize,
+) -> u32
+    ensures { TableQuery N.WIDTH H.held blocks.now (N.number address) place.old place.new result }
 {
-    let mut end = begun::<N, H>(blocks, address);
+    let mut end = begun::<N, H>(blocks, index, H::number_of(address));
     while end > 0 {
         let last = blocks[end - 1];
         if !last.fits() {
@@ -23,12 +28,12 @@ fn find<N: AddressSpace, H: Listed<N>>(blocks: &[H], address: N::Addr, index: &m
         }
         let block = last.held_network();
         if block.contains(address) {
-            *index = end - 1;
+            *place = end - 1;
             return OK;
         }
         let shared = N::shared_bits(block.ip(), address);
         let around = N::block_at(address, shared);
-        end = begun::<N, H>(&blocks[..end - 1], around.ip());
+        end = begun::<N, H>(&blocks[..end - 1], index, H::number_of(around.ip()));
     }
     NO_MEMBER
 }
@@ -46,7 +51,7 @@ pub extern "C" fn ipnetwork_v4_table_find(
     ensures { TableQuery 32 v4_in blocks.now
         (number_of_octets address.now) index.old index.new result }
 {
-    find::<Ipv4Network, Ipv4InC>(blocks, Ipv4Addr::from(*address), index)
+    find::<Ipv4Network, Ipv4InC>(blocks, &[], Ipv4Addr::from(*address), index)
 }
 
 /// The same for IPv6, for prefix lengths up to 128.
@@ -59,5 +64,5 @@ pub extern "C" fn ipnetwork_v6_table_find(
     ensures { TableQuery 128 v6_in blocks.now
         (number_of_octets address.now) index.old index.new result }
 {
-    find::<Ipv6Network, Ipv6InC>(blocks, address_of(address), index)
+    find::<Ipv6Network, Ipv6InC>(blocks, &[], address_of(address), index)
 }

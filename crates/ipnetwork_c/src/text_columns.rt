@@ -2,14 +2,14 @@
 //! offsets at which each begins and the last ends.
 ghost use Rattle.std.specs.Prelude.{◌↔◌, ◌<◌, IsTrue};
 ghost use Rattle.ipnetwork_c.specs.Either.{ReadsAddress};
-ghost use Rattle.ipnetwork_c.specs.TextColumns.{AreOffsets, ReadsColumn, v4_reads, v6_reads, ip_reads};
+ghost use Rattle.ipnetwork_c.specs.TextColumns.{AreOffsets, ReadsColumn, v4_reads, v6_reads, ip_reads, ip_reads_with_cause};
 
 use crate::address::{AddressInC, ipnetwork_address_read};
-use crate::either::ipnetwork_read;
+use crate::either::{ipnetwork_read, ipnetwork_read_with_cause};
 use crate::fault::{NO_OFFSETS, OK, SHORT_BUFFER};
 use crate::ipv4::ipnetwork_v4_read;
 use crate::ipv6::ipnetwork_v6_read;
-use crate::structs::{IpInC, Ipv4InC, Ipv6InC};
+use crate::structs::{IpInC, IpWithCauseInC, Ipv4InC, Ipv6InC};
 
 /// What a row is read into.
 pub(crate) trait ReadsRow {
@@ -45,6 +45,14 @@ impl ReadsRow for IpInC {
 
     fn read_row(&mut self, text: &[u8]) -> u32 {
         ipnetwork_read(text, self)
+    }
+}
+
+impl ReadsRow for IpWithCauseInC {
+    ghost reads = { ip_reads_with_cause };
+
+    fn read_row(&mut self, text: &[u8]) -> u32 {
+        ipnetwork_read_with_cause(text, &mut self.held)
     }
 }
 
@@ -131,6 +139,20 @@ pub extern "C" fn ipnetwork_read_column(
     faults: &mut [u8],
 ) -> u32
     ensures { ReadsColumn ip_reads texts.now offsets.now (networks.old, faults.old)
+        (networks.new, faults.new) result }
+{
+    read_rows(texts, offsets, networks, faults)
+}
+
+/// The same for networks of either family, as `ipnetwork_read_with_cause` reads them.
+#[unsafe(no_mangle)]
+pub extern "C" fn ipnetwork_read_with_cause_column(
+    texts: &[u8],
+    offsets: &[u32],
+    networks: &mut [IpWithCauseInC],
+    faults: &mut [u8],
+) -> u32
+    ensures { ReadsColumn ip_reads_with_cause texts.now offsets.now (networks.old, faults.old)
         (networks.new, faults.new) result }
 {
     read_rows(texts, offsets, networks, faults)

@@ -5,15 +5,15 @@ use Rattle.ipnetwork_family.specs.Network.{Network}
 use Rattle.ipnetwork_blocks.proofs.AggregateMapped.{read_map}
 use Rattle.ipnetwork_sets.specs.Private.Search.{IsSplit}
 use Rattle.ipnetwork_sets.proofs.Searched.{weakly}
-use Rattle.ipnetwork_c.proofs.Searching.{finds_none, finds_last, none_fits, last_fits, last_does_not_fit}
+use Rattle.ipnetwork_c.proofs.Searching.{stands_split, finds_none, finds_last, none_fits, last_fits, last_does_not_fit}
 use Rattle.ipnetwork_c.proofs.sets.contains.Goals as goal
 
 pub returns-then-count-eq0-clause-answered : goal.returns-then-count-eq0-clause-answered
 returns-then-count-eq0-clause-answered g c =
     let ns : List Network = map g.H.HoldsNetwork.held c.args.list.now in
-    let x : ℕ = g.N.CidrNetwork.number c.args.addr in
+    let x : ℕ = g.H.Numbered.value c.args.number in
     finds_none g.N.CidrNetwork.WIDTH ns x c.one_block.ensures.one
-    (λ up. subst (λ (i : ℕ). IsSplit ns x i i) c.if-count-eq0.true (c.begun-count.ensures.split (weakly ns up)))
+    (λ up. subst (λ (i : ℕ). IsSplit ns x i i) c.if-count-eq0.true (stands_split ns x c.begun-count.result c.begun-count.ensures.stands (weakly ns up)))
 
 pub returns-then-count-eq0-clause-fits : goal.returns-then-count-eq0-clause-fits
 returns-then-count-eq0-clause-fits g c =
@@ -48,10 +48,10 @@ pub returns-clause-answered : goal.returns-clause-answered
 returns-clause-answered g c =
     let w : ℕ = g.N.CidrNetwork.WIDTH in
     let ns : List Network = map g.H.HoldsNetwork.held c.args.list.now in
-    let x : ℕ = g.N.CidrNetwork.number c.args.addr in
+    let x : ℕ = g.H.Numbered.value c.args.number in
     let size = length-map c.args.list.now g.H.HoldsNetwork.held in
     let within = c.begun-count.ensures.within in
     let last : Network = g.H.HoldsNetwork.held c.index-list-count.result in
     let is = read_map g.H.HoldsNetwork.held c.args.list.now (c.begun-count.result - 1) c.index-list-count.result (omega arith) c.index-list-count.is in
-    finds_last w ns x c.begun-count.result last c.contains.result c.from.result c.one_block.ensures.one (λ up. c.begun-count.ensures.split (weakly ns up)) (omega arith) (omega arith) is
-    (rw c.held_network.ensures at c.contains.ensures) c.from.ensures
+    finds_last w ns x c.begun-count.result last c.has.result c.from.result c.one_block.ensures.one (λ up. stands_split ns x c.begun-count.result c.begun-count.ensures.stands (weakly ns up)) (omega arith) (omega arith) is
+    c.has.ensures c.from.ensures

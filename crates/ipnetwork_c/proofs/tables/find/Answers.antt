@@ -11,19 +11,21 @@ use Rattle.std.proofs.lemmas.Option.{slice_get_read}
 use Rattle.ipnetwork_c.specs.Searches.{StandsAt, ComesTo}
 use Rattle.ipnetwork_c.specs.Searches.ComesTo.{First, On}
 use Rattle.ipnetwork_sets.specs.Private.Search.{IsSplit}
-use Rattle.ipnetwork_c.proofs.Searching.{none_fits, last_fits, last_does_not_fit}
+use Rattle.ipnetwork_c.proofs.Searching.{stands_split, none_fits, last_fits, last_does_not_fit}
 use Rattle.ipnetwork_c.proofs.TableFinding.{by_address, taken_ascends, search_begins, search_goes_on, search_finds, search_fails}
 use Rattle.ipnetwork_c.proofs.tables.find.Goals as goal
 
 pub loop-end-init : goal.loop-end-init
 loop-end-init g c =
     let w : ℕ = g.N.CidrNetwork.WIDTH in
+    let x : ℕ = g.N.CidrNetwork.number c.args.address in
     let ns : List Network = map g.H.HoldsNetwork.held c.args.blocks.now in
+    let x_is : g.H.Numbered.value c.number_of.result ≡ x = c.number_of.ensures in
     record {
       within = c.begun-end.ensures.within;
-      searched = λ t. search_begins w ns (g.N.CidrNetwork.number c.args.address) c.begun-end.result t (c.begun-end.ensures.split (by_address w ns t));
-      comes = First c.begun-end.result c.begun-end.ensures.stands;
-      index = refl;
+      searched = λ t. search_begins w ns x c.begun-end.result t (subst (λ (y : ℕ). IsSplit ns y c.begun-end.result c.begun-end.result) x_is (stands_split ns (g.H.Numbered.value c.number_of.result) c.begun-end.result c.begun-end.ensures.stands (by_address w ns t)));
+      comes = First c.begun-end.result (subst (λ (y : ℕ). StandsAt ns y c.begun-end.result) x_is c.begun-end.ensures.stands);
+      place = refl;
     }
 
 pub returns-then-not-fits : goal.returns-then-not-fits
@@ -35,7 +37,7 @@ returns-then-not-fits g c =
     let b : Network = g.H.HoldsNetwork.held c.index-blocks-end.result in
     let is = read_map g.H.HoldsNetwork.held c.args.blocks.now (c.loop-end.end - 1) c.index-blocks-end.result (omega arith) c.index-blocks-end.is in
     let not = last_does_not_fit w ns c.loop-end.end b (omega arith) (omega arith) is (λ fits. iff_false c.fits.ensures c.if-not-fits.true ((g.met.H.Listed.fitting c.index-blocks-end.result).1 fits)) in
-    (c.loop-end.end, c.loop-end.invariant.comes, Nothing (not, refl) c.loop-end.invariant.index)
+    (c.loop-end.end, c.loop-end.invariant.comes, Nothing (not, refl) c.loop-end.invariant.place)
 
 pub returns-then-contains : goal.returns-then-contains
 returns-then-contains g c =
@@ -66,18 +68,17 @@ loop-end-preserved g c =
     let not : ¬ (Member w b x) = λ m. iff_false c.contains.ensures c.if-contains.false (rw (sym c.held_network-block.ensures) at m) in
     let address_is : g.N.CidrNetwork.number c.ip.result ≡ b.address = c.ip.ensures.made ∙ ap (λ (n : Network). n.address) c.held_network-block.ensures in
     let shares : SharesBits w b.address x shared = subst (λ (a : ℕ). SharesBits w a x shared) address_is c.shared_bits-shared.ensures in
-    let bound_is : g.N.CidrNetwork.number c.ip-in-loop-end.result ≡ (block_at w x shared).address = c.ip-in-loop-end.ensures.made ∙ ap (λ (n : Network). n.address) c.block_at-around.ensures.made in
+    let y : ℕ = g.H.Numbered.value c.number_of-in-loop-end.result in
+    let bound_is : y ≡ (block_at w x shared).address = c.number_of-in-loop-end.ensures ∙ c.ip-in-loop-end.ensures.made ∙ ap (λ (n : Network). n.address) c.block_at-around.ensures.made in
     let part : take (end - 1) ns ≡ map g.H.HoldsNetwork.held (take (end - 1) c.args.blocks.now) = take-map g.H.HoldsNetwork.held (end - 1) c.args.blocks.now in
     let most : length (take (end - 1) c.args.blocks.now) ≡ end - 1 = length-take-le (end - 1) c.args.blocks.now (omega arith) in
     let less : next ≤ end - 1 = omega (arith, most, c.begun-end-in-loop-end.ensures.within) in
-    let split : IsTable w ns → IsSplit (take (end - 1) ns) (block_at w x shared).address next next = λ t.
-    subst (λ (y : ℕ). IsSplit (take (end - 1) ns) y next next) bound_is
-    (subst (λ (l : List Network). IsSplit l (g.N.CidrNetwork.number c.ip-in-loop-end.result) next next) (sym part)
-    (c.begun-end-in-loop-end.ensures.split (subst (λ (l : List Network). AllPairs (λ a b. a.address ≤ b.address) l) part (taken_ascends ns (end - 1) (omega arith) (by_address w ns t))))) in
     let again : end ≡ end - 1 + 1 = omega arith in
     let stands : StandsAt (take (end - 1) ns) (block_at w x shared).address next =
-    subst (λ (y : ℕ). StandsAt (take (end - 1) ns) y next) bound_is
-    (subst (λ (l : List Network). StandsAt l (g.N.CidrNetwork.number c.ip-in-loop-end.result) next) (sym part) c.begun-end-in-loop-end.ensures.stands) in
+    subst (λ (z : ℕ). StandsAt (take (end - 1) ns) z next) bound_is
+    (subst (λ (l : List Network). StandsAt l y next) (sym part) c.begun-end-in-loop-end.ensures.stands) in
+    let split : IsTable w ns → IsSplit (take (end - 1) ns) (block_at w x shared).address next next = λ t.
+    stands_split (take (end - 1) ns) (block_at w x shared).address next stands (taken_ascends ns (end - 1) (omega arith) (by_address w ns t)) in
     record {
       comes = On (end - 1) shared next b (subst (ComesTo w ns x) again c.loop-end.invariant.comes)
           (record {
@@ -88,7 +89,7 @@ loop-end-preserved g c =
           shares stands;
       within = omega (arith, less);
       searched = λ t. search_goes_on w ns x end next shared b t (c.loop-end.invariant.searched t) c.block_at-around.ensures.address (omega arith) (omega arith) is not shares less (split t);
-      index = c.loop-end.invariant.index;
+      place = c.loop-end.invariant.place;
     }
 
 pub returns : goal.returns
@@ -97,4 +98,4 @@ returns g c =
     let w : ℕ = g.N.CidrNetwork.WIDTH in
     let ns : List Network = map g.H.HoldsNetwork.held c.args.blocks.now in
     let fails = search_fails w ns (g.N.CidrNetwork.number c.args.address) c.loop-end.end c.loop-end.invariant.searched none in
-    (c.loop-end.end, c.loop-end.invariant.comes, On (none_fits w ns c.loop-end.end none, Nothing ((none, fails), refl) c.loop-end.invariant.index))
+    (c.loop-end.end, c.loop-end.invariant.comes, On (none_fits w ns c.loop-end.end none, Nothing ((none, fails), refl) c.loop-end.invariant.place))

@@ -9,7 +9,7 @@ invariant-loop-end g l = record {
   within : l.end ≤ length l.blocks;
   searched : IsTable g.N.CidrNetwork.WIDTH (map g.H.HoldsNetwork.held l.blocks) → IsSearched g.N.CidrNetwork.WIDTH (map g.H.HoldsNetwork.held l.blocks) (g.N.CidrNetwork.number l.address) l.end;
   comes : ComesTo g.N.CidrNetwork.WIDTH (map g.H.HoldsNetwork.held l.blocks) (g.N.CidrNetwork.number l.address) l.end;
-  index : l.index ≡ l.initial.index;
+  place : l.place ≡ l.initial.place;
 }
 
 abbrev pub decreases-loop-end : goal.decreases-loop-end

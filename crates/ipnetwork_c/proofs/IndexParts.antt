@@ -1,0 +1,145 @@
+-- Parts of the numbers, and how many networks of a list begin before one.
+use Rattle.std.proofs.Common.{◌≡◌, ◌↔◌, ℕ, suc, [], ◌∷◌, ◌+◌, ◌-◌, ◌*◌, ◌/◌, ◌^◌, ◌<◌, ◌≤◌, ⊎_elim, List, length, map, get_or, ap, sym, subst, ◌∙◌, arith}
+use Rattle.std.specs.Prelude.{min, slice_get, Some, slice_set}
+use Rattle.std.proofs.lemmas.Bool.{cases_lt, cases_eq}
+use Rattle.std.proofs.lemmas.Nat.{pow_pos, div_below, le-div}
+use Rattle.std.proofs.lemmas.List.{get_or_default, length-map, get_or-set_same, get_or-set_other}
+use Rattle.std.proofs.lemmas.Option.{slice_get_within}
+use Rattle.std.proofs.Math.Nat.{mul-le-mul_right, two-pow-succ}
+use Rattle.ipnetwork_family.specs.Network.{Network}
+use Rattle.ipnetwork_blocks.proofs.AggregateMapped.{read_map}
+use Rattle.ipnetwork_c.specs.Indexes.{address_at, span, AreLeastParts, BeginBefore, IsIndexOf}
+use Rattle.ipnetwork_c.specs.Private.Indexes.{LastBefore, HasStarts}
+use Rattle.ipnetwork_c.proofs.Searching.{the_one}
+
+-- ---- in which part a number lies
+
+part_size : (shift part : ℕ) → 1 ≤ part → 2 ^ shift ≤ part * 2 ^ shift
+part_size shift part some =
+    let e : 1 * 2 ^ shift ≤ part * 2 ^ shift = mul-le-mul_right (2 ^ shift) some in
+    omega arith
+
+-- it lies before a part exactly if it is less than each number of the part
+pub lies_before : (a base shift own part : ℕ) → own ≡ min ((a - base) / 2 ^ shift) 18446744073709551615 → 1 ≤ part → part ≤ 18446744073709551615 → (own < part) ↔ (a < base + part * 2 ^ shift)
+lies_before a base shift own part is some few =
+    let pos : 0 < 2 ^ shift = pow_pos shift in
+    let size : 2 ^ shift ≤ part * 2 ^ shift = part_size shift part some in (
+      (λ (less : own < part).
+          ⊎_elim
+          (λ (l : a - base < part * 2 ^ shift). let r : a < base + part * 2 ^ shift = omega arith in r)
+          (λ (ge : part * 2 ^ shift ≤ a - base).
+          let most : part ≤ (a - base) / 2 ^ shift = le-div part (a - base) (2 ^ shift) pos ge in
+          absurd (omega arith))
+          (cases_lt (a - base) (part * 2 ^ shift))),
+      (λ (l : a < base + part * 2 ^ shift).
+          let below : (a - base) / 2 ^ shift < part = div_below (a - base) (2 ^ shift) part pos (omega arith) in
+          omega arith),
+    )
+
+-- ---- the size of the parts
+
+-- the address of a struct of a list
+pub own_is : {X : Type 0} (held : X → Network) (list : List X) (k : ℕ) (x : X) → k < length list → x ≡ get_or list k x → (held x).address ≡ address_at (map held list) k
+own_is held list k x l is =
+    let none : Network = record { address = 0; prefix = 0 } in
+    let size = length-map list held in
+    let at : held x ≡ get_or (map held list) k (held x) = read_map held list k x l is in
+    ap (λ (n : Network). n.address) (at ∙ get_or_default (map held list) k (held x) none (omega (arith, l, size)))
+
+-- how far the last one is from the first
+pub span_is : {X : Type 0} (held : X → Network) (list : List X) (first last : X) (a b : ℕ) → 1 ≤ length list → first ≡ get_or list 0 first → last ≡ get_or list (length list - 1) last
+    → a ≡ (held first).address → b ≡ (held last).address → b - a ≡ span (map held list)
+span_is held list first last a b some first_is last_is a_is b_is =
+    let ns : List Network = map held list in
+    let from : a ≡ address_at ns 0 = a_is ∙ own_is held list 0 first (omega arith) first_is in
+    let to : b ≡ address_at ns (length list - 1) = b_is ∙ own_is held list (length list - 1) last (omega arith) last_is in
+    subst (λ (k : ℕ). b - a ≡ address_at ns (k - 1) - address_at ns 0) (sym (length-map list held)) (omega (arith, from, to))
+
+pub parts_of_none : (ns : List Network) (count : ℕ) → length ns ≡ 0 → 1 ≤ count → AreLeastParts ns count 0
+parts_of_none [] count none some = record { enough = λ two. omega arith; least = λ smaller l. absurd (omega arith) }
+parts_of_none (n ∷ ns) count none some = absurd (omega (arith, none))
+
+-- parts of this size are few enough, and those of smaller sizes are not
+pub parts_found : (ns : List Network) (count shift own : ℕ) → own ≡ min (span ns / 2 ^ shift) 18446744073709551615 → own < count → count ≤ 18446744073709551615
+    → ((smaller : ℕ) → smaller < shift → count ≤ span ns / 2 ^ smaller) → AreLeastParts ns count shift
+parts_found ns count shift own is less few more = record { enough = λ two. omega arith; least = more }
+
+pub parts_more : (ns : List Network) (count shift own : ℕ) → own ≡ min (span ns / 2 ^ shift) 18446744073709551615 → count ≤ own
+    → ((smaller : ℕ) → smaller < shift → count ≤ span ns / 2 ^ smaller) → (smaller : ℕ) → smaller < shift + 1 → count ≤ span ns / 2 ^ smaller
+parts_more ns count shift own is le more smaller l =
+    ⊎_elim
+    (λ (early : smaller < shift). more smaller early)
+    (λ (here : shift ≤ smaller).
+    let e : shift ≡ smaller = omega arith in
+    subst (λ (k : ℕ). count ≤ span ns / 2 ^ k) e (omega arith))
+    (cases_lt smaller shift)
+
+-- the two halves of all numbers are at most two parts
+pub parts_half : (ns : List Network) (w count half : ℕ) → half + 1 ≡ w → span ns < 2 ^ w → ((smaller : ℕ) → smaller < half → count ≤ span ns / 2 ^ smaller) → AreLeastParts ns count half
+parts_half ns w count half e small more =
+    let pos : 0 < 2 ^ half = pow_pos half in
+    let is : w ≡ suc half = omega arith in
+    let whole : 2 ^ w ≡ 2 ^ half + 2 ^ half = ap (λ k. 2 ^ k) is ∙ two-pow-succ half in
+    let two : span ns / 2 ^ half < 2 = div_below (span ns) (2 ^ half) 2 pos (omega arith) in
+    record { enough = λ some. omega arith; least = more }
+
+-- ---- how many begin before a part
+
+pub before_more : (ns : List Network) (number at : ℕ) (n : Network) → LastBefore ns number at → at < length ns → n ≡ get_or ns at n → n.address < number → LastBefore ns number (at + 1)
+before_more ns number at n h l is less = record {
+  within = omega arith;
+  last = λ m some got.
+      let e : at + 1 - 1 ≡ at = omega arith in
+      let same = ap (λ (o : Network). o.address) (the_one ns at n m is (subst (λ (j : ℕ). slice_get ns j ≡ Some m) e got)) in
+      omega (arith, same, less);
+}
+
+pub before_found : (ns : List Network) (number at : ℕ) (n : Network) → LastBefore ns number at → n ≡ get_or ns at n → number ≤ n.address → BeginBefore ns number at
+before_found ns number at n h is more = record {
+  within = h.within;
+  last = h.last;
+  next = λ m got. let same = ap (λ (o : Network). o.address) (the_one ns at n m is got) in omega (arith, same, more);
+}
+
+pub before_all : (ns : List Network) (number at : ℕ) → LastBefore ns number at → length ns ≤ at → BeginBefore ns number at
+before_all ns number at h all = record {
+  within = h.within;
+  last = h.last;
+  next = λ m got. let l = slice_get_within ns at m got in absurd (omega arith);
+}
+
+-- ---- the index, number by number
+
+pub starts_none : (ns : List Network) (index : List ℕ) (shift : ℕ) → 0 < length index → HasStarts ns (slice_set index 0 shift) shift 1 0
+starts_none ns index shift some = record {
+  first = get_or-set_same index 0 shift 0 some;
+  starts = λ one more less. absurd (omega arith);
+  at_least = record { within = omega arith; last = λ n none got. absurd (omega arith) };
+}
+
+pub starts_more : (ns : List Network) (index : List ℕ) (shift part before at start : ℕ) → HasStarts ns index shift part before → 1 ≤ part → part < length index
+    → BeginBefore ns (address_at ns 0 + part * 2 ^ shift) at → start ≡ min at 4294967295 → HasStarts ns (slice_set index part start) shift (part + 1) at
+starts_more ns index shift part before at start h some room begins is =
+    let grows : part * 2 ^ shift ≤ (part + 1) * 2 ^ shift = mul-le-mul_right (2 ^ shift) (omega arith) in
+    record {
+      first = get_or-set_other index part 0 start 0 (λ e. omega (arith, e, some)) ∙ h.first;
+      starts = λ one more less. ⊎_elim
+          (λ (early : one < part).
+          let own = h.starts one more early in
+          (own.0, own.1, get_or-set_other index part one start 0 (λ e. omega (arith, e, early)) ∙ own.2))
+          (λ (late : part ≤ one).
+          let e : part ≡ one = omega arith in
+          subst (λ (k : ℕ). (i : ℕ) × BeginBefore ns (address_at ns 0 + k * 2 ^ shift) i × (get_or (slice_set index part start) k 0 ≡ min i 4294967295)) e
+          (at, begins, get_or-set_same index part start 0 room ∙ is))
+          (cases_lt one part);
+      at_least = record {
+        within = begins.within;
+        last = λ n any got. let l = begins.last n any got in omega arith;
+      };
+    }
+
+pub index_made : (ns : List Network) (index : List ℕ) (shift part at : ℕ) → HasStarts ns index shift part at → length index ≤ part → AreLeastParts ns (length index) shift → IsIndexOf ns index
+index_made ns index shift part at h all parts = record {
+  size = λ some. subst (λ (k : ℕ). AreLeastParts ns (length index) k) (sym h.first) parts;
+  starts = λ one more less. subst (λ (k : ℕ). (i : ℕ) × BeginBefore ns (address_at ns 0 + one * 2 ^ k) i × (get_or index one 0 ≡ min i 4294967295)) (sym h.first) (h.starts one more (omega arith));
+}

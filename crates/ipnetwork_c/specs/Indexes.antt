@@ -1,0 +1,45 @@
+-- Indexes of lists of networks, in the caller's memory: numbers of 32 bits that say where the search for an address begins.
+use Rattle.std.specs.Prelude.{◌≡◌, ℕ, ◌+◌, ◌-◌, ◌*◌, ◌/◌, ◌^◌, ◌<◌, ◌≤◌, min, List, [], length, map, get_or, slice_get, Some}
+use Rattle.ipnetwork_family.specs.Network.{Network}
+use Rattle.ipnetwork_c.specs.Numbers.{short_buffer}
+use Rattle.ipnetwork_c.specs.Held.{number_of_octets}
+use Rattle.ipnetwork_c.specs.Outcomes.{Writes, Needs}
+use Rattle.ipnetwork_c.specs.Columns.{AnswersEach}
+use Rattle.ipnetwork_c.specs.Lists.{SetQuery}
+
+-- the address of the network at a place, and 0 if there is none
+abbrev pub address_at : List Network → ℕ → ℕ
+address_at networks place = (get_or networks place (record { address = 0; prefix = 0 })).address
+
+-- how far the address of the last network is from that of the first
+abbrev pub span : List Network → ℕ
+span networks = address_at networks (length networks - 1) - address_at networks 0
+
+-- after i networks, of which the last begins before the number, comes one that does not, or none: if the addresses ascend,
+-- i is how many begin before it
+pub record BeginBefore (networks : List Network) (number i : ℕ) : Type 0 where
+  pub within : i ≤ length networks
+  pub last : (n : Network) → 0 < i → slice_get networks (i - 1) ≡ Some n → n.address < number
+  pub next : (n : Network) → slice_get networks i ≡ Some n → number ≤ n.address
+
+-- so many parts of 2 ^ shift numbers each, at least two of them, reach from the first address to the last, and as many
+-- smaller ones do not
+pub record AreLeastParts (networks : List Network) (count shift : ℕ) : Type 0 where
+  pub enough : 2 ≤ count → span networks / 2 ^ shift < count
+  pub least : (smaller : ℕ) → smaller < shift → count ≤ span networks / 2 ^ smaller
+
+-- the index of networks, as many numbers as there are parts: the first is the size of the parts, as a power of two, and
+-- each other one is how many networks begin before its part, as far as 32 bits go
+pub record IsIndexOf (networks : List Network) (index : List ℕ) : Type 0 where
+  pub size : 0 < length index → AreLeastParts networks (length index) (get_or index 0 0)
+  pub starts : (part : ℕ) → 0 < part → part < length index → (i : ℕ) × BeginBefore networks (address_at networks 0 + part * 2 ^ get_or index 0 0) i × (get_or index part 0 ≡ min i (2 ^ 32 - 1))
+
+-- the index of a list is written, over all numbers that there are
+abbrev pub MakesIndex : {C : Type 0} → (C → Network) → List C → List ℕ → List ℕ → ℕ → Type 0
+MakesIndex held list before = Writes (λ index. (length index ≡ length before) × IsIndexOf (map held list) index) before
+
+-- each address is asked as the call for one asks it, with an answer and a fault of its own, if there is room for these
+abbrev pub SetRows : {C : Type 0} → ℕ → (C → Network) → List C → List (List ℕ) → List ℕ × List ℕ → List ℕ × List ℕ → ℕ → Type 0
+SetRows w held list addresses before =
+    Needs ((length addresses ≤ length before.0) × (length addresses ≤ length before.1)) short_buffer
+    (Writes (λ after. AnswersEach (λ i. SetQuery w held list (number_of_octets (get_or addresses i []))) (length addresses) before.0 after.0 before.1 after.1)) before

@@ -1,0 +1,133 @@
+//! Lists asked for many addresses in one call by an index of them, a row for each.
+ghost use Rattle.ipnetwork_c.specs.Held.{v4_in, v6_in, number_of_octets};
+ghost use Rattle.ipnetwork_c.specs.Indexes.{SetRows};
+ghost use Rattle.ipnetwork_c.specs.Lists.{SetQuery};
+ghost use Rattle.ipnetwork_c.specs.Tables.{TableQuery, TableRows};
+
+use crate::fault::{OK, SHORT_BUFFER};
+use crate::index_calls::{
+    ipnetwork_v4_index_contains, ipnetwork_v4_index_find, ipnetwork_v6_index_contains,
+    ipnetwork_v6_index_find,
+};
+use crate::structs::{Ipv4InC, Ipv6InC};
+
+/// For each of these addresses whether it is in the set of a list, by an index of the list: answer i and fault i are what
+/// `ipnetwork_v4_index_contains` leaves and returns of address i, so that a refusal stops nothing. What comes after them
+/// stays as it is. `SHORT_BUFFER` if there are fewer answers or faults than addresses.
+#[unsafe(no_mangle)]
+pub extern "C" fn ipnetwork_v4_index_contains_column(
+    blocks: &[Ipv4InC],
+    index: &[u32],
+    addresses: &[[u8; 4]],
+    answers: &mut [u8],
+    faults: &mut [u8],
+) -> u32
+    ensures { SetRows 32 v4_in blocks.now addresses.now (answers.old, faults.old)
+        (answers.new, faults.new) result }
+{
+    if answers.len() < addresses.len() || faults.len() < addresses.len() {
+        return SHORT_BUFFER;
+    }
+    for (row, address) in addresses.iter().enumerate() {
+        faults[row] = v4_contains(blocks, index, address, &mut answers[row]);
+    }
+    OK
+}
+
+// The fault of the call for one address, as a byte.
+fn v4_contains(blocks: &[Ipv4InC], index: &[u32], address: &[u8; 4], answer: &mut u8) -> u8
+    ensures { SetQuery 32 v4_in blocks.now
+        (number_of_octets address.now) answer.old answer.new result }
+{
+    ipnetwork_v4_index_contains(blocks, index, address, answer) as u8
+}
+
+/// The same of IPv6, as `ipnetwork_v6_index_contains` answers.
+#[unsafe(no_mangle)]
+pub extern "C" fn ipnetwork_v6_index_contains_column(
+    blocks: &[Ipv6InC],
+    index: &[u32],
+    addresses: &[[u8; 16]],
+    answers: &mut [u8],
+    faults: &mut [u8],
+) -> u32
+    ensures { SetRows 128 v6_in blocks.now addresses.now (answers.old, faults.old)
+        (answers.new, faults.new) result }
+{
+    if answers.len() < addresses.len() || faults.len() < addresses.len() {
+        return SHORT_BUFFER;
+    }
+    for (row, address) in addresses.iter().enumerate() {
+        faults[row] = v6_contains(blocks, index, address, &mut answers[row]);
+    }
+    OK
+}
+
+// The fault of the call for one address, as a byte.
+fn v6_contains(blocks: &[Ipv6InC], index: &[u32], address: &[u8; 16], answer: &mut u8) -> u8
+    ensures { SetQuery 128 v6_in blocks.now
+        (number_of_octets address.now) answer.old answer.new result }
+{
+    ipnetwork_v6_index_contains(blocks, index, address, answer) as u8
+}
+
+/// For each of these addresses the place of the longest block of a table that has it, by an index of the table: place i
+/// and fault i are what `ipnetwork_v4_index_find` leaves and returns of address i, so that an address without a block
+/// stops nothing. What comes after them stays as it is. `SHORT_BUFFER` if there are fewer places or faults than
+/// addresses.
+#[unsafe(no_mangle)]
+pub extern "C" fn ipnetwork_v4_index_find_column(
+    blocks: &[Ipv4InC],
+    index: &[u32],
+    addresses: &[[u8; 4]],
+    places: &mut [usize],
+    faults: &mut [u8],
+) -> u32
+    ensures { TableRows 32 v4_in blocks.now addresses.now (places.old, faults.old)
+        (places.new, faults.new) result }
+{
+    if places.len() < addresses.len() || faults.len() < addresses.len() {
+        return SHORT_BUFFER;
+    }
+    for (row, address) in addresses.iter().enumerate() {
+        faults[row] = v4_find(blocks, index, address, &mut places[row]);
+    }
+    OK
+}
+
+// The fault of the call for one address, as a byte.
+fn v4_find(blocks: &[Ipv4InC], index: &[u32], address: &[u8; 4], place: &mut usize) -> u8
+    ensures { TableQuery 32 v4_in blocks.now
+        (number_of_octets address.now) place.old place.new result }
+{
+    ipnetwork_v4_index_find(blocks, index, address, place) as u8
+}
+
+/// The same of IPv6, as `ipnetwork_v6_index_find` finds blocks.
+#[unsafe(no_mangle)]
+pub extern "C" fn ipnetwork_v6_index_find_column(
+    blocks: &[Ipv6InC],
+    index: &[u32],
+    addresses: &[[u8; 16]],
+    places: &mut [usize],
+    faults: &mut [u8],
+) -> u32
+    ensures { TableRows 128 v6_in blocks.now addresses.now (places.old, faults.old)
+        (places.new, faults.new) result }
+{
+    if places.len() < addresses.len() || faults.len() < addresses.len() {
+        return SHORT_BUFFER;
+    }
+    for (row, address) in addresses.iter().enumerate() {
+        faults[row] = v6_find(blocks, index, address, &mut places[row]);
+    }
+    OK
+}
+
+// The fault of the call for one address, as a byte.
+fn v6_find(blocks: &[Ipv6InC], index: &[u32], address: &[u8; 16], place: &mut usize) -> u8
+    ensures { TableQuery 128 v6_in blocks.now
+        (number_of_octets address.now) place.old place.new result }
+{
+    ipnetwork_v6_index_find(blocks, index, address, place) as u8
+}

@@ -1,0 +1,121 @@
+//! Indexes of lists, made in the caller's memory.
+ghost use Rattle.std.specs.Prelude.{◌≡◌, ◌↔◌, ◌+◌, ◌*◌, ◌^◌, ◌<◌, ◌≤◌, IsTrue, length, map, min};
+ghost use Rattle.ipnetwork_c.specs.Held.{v4_in, v6_in};
+ghost use Rattle.ipnetwork_c.specs.Indexes.{address_at, AreLeastParts, BeginBefore, IsIndexOf, MakesIndex};
+ghost use Rattle.ipnetwork_c.specs.Outcomes.{Writes};
+ghost use Rattle.ipnetwork_c.specs.Private.Indexes.{LastBefore};
+
+use crate::fault::OK;
+use crate::numbered::Numbered;
+use crate::structs::{Ipv4InC, Ipv6InC};
+use ipnetwork::{Ipv4Network, Ipv6Network};
+use ipnetwork_blocks::AddressSpace;
+
+/// How many numbers an index of so many blocks should have: four for each block, but no more than 2^20. One of fewer
+/// numbers makes a search slower, and one of more hardly faster.
+#[unsafe(no_mangle)]
+pub extern "C" fn ipnetwork_index_size(block_count: usize, index_length: &mut usize) -> u32
+    ensures { Writes (λ told. told ≡ min (4 * block_count) (2 ^ 20)) index_length.old
+        index_length.new result }
+{
+    *index_length = block_count.saturating_mul(4).min(1 << 20);
+    OK
+}
+
+/// Writes the index of a list, of as many numbers as there is room for, so that a search of the list by
+/// `ipnetwork_v4_index_contains` or `ipnetwork_v4_index_find` takes a few steps. The addresses from the first of the list
+/// to the last are cut into parts, all of one size, a power of two, as small as it can be: the index has this power, and
+/// then, of each part but the first, how many of the list begin before it. No struct is refused.
+#[unsafe(no_mangle)]
+pub extern "C" fn ipnetwork_v4_index_make(blocks: &[Ipv4InC], index: &mut [u32]) -> u32
+    ensures { MakesIndex v4_in blocks.now index.old index.new result }
+{
+    make::<Ipv4Network, Ipv4InC>(blocks, index);
+    OK
+}
+
+/// The same of IPv6.
+#[unsafe(no_mangle)]
+pub extern "C" fn ipnetwork_v6_index_make(blocks: &[Ipv6InC], index: &mut [u32]) -> u32
+    ensures { MakesIndex v6_in blocks.now index.old index.new result }
+{
+    make::<Ipv6Network, Ipv6InC>(blocks, index);
+    OK
+}
+
+// Goes over the list once.
+fn make<N: AddressSpace, H: Numbered<N>>(list: &[H], index: &mut [u32])
+    ensures size { length index.new ≡ length index.old }
+    ensures made { IsIndexOf (map H.held list.now) index.new }
+{
+    if index.is_empty() {
+        return;
+    }
+    let shift = least_shift::<N, H>(list, index.len());
+    index[0] = shift;
+    let mut at = 0;
+    for part in 1..index.len() {
+        at = start_from::<N, H>(list, at, shift, part);
+        index[part] = at.min(u32::MAX as usize) as u32;
+    }
+}
+
+// The size of the least parts of which so many reach over the list, as a power of two.
+fn least_shift<N: AddressSpace, H: Numbered<N>>(list: &[H], count: usize) -> u32
+    requires { 1 ≤ count }
+    ensures narrow { result < N.WIDTH }
+    ensures least { AreLeastParts (map H.held list.now) count result }
+{
+    let half = H::half();
+    if list.is_empty() {
+        return 0;
+    }
+    let first = list[0].own_number();
+    let last = list[list.len() - 1].own_number();
+    let mut shift = 0;
+    while shift < half {
+        if H::part_of(last, first, shift) < count {
+            return shift;
+        }
+        shift += 1;
+    }
+    half
+}
+
+// How many structs of the list begin before the part. The last one before `from` does.
+fn start_from<N: AddressSpace, H: Numbered<N>>(
+    list: &[H],
+    from: usize,
+    shift: u32,
+    part: usize,
+) -> usize
+    requires narrow { shift < N.WIDTH }
+    requires part { 1 ≤ part }
+    requires before { LastBefore (map H.held list.now)
+        (address_at (map H.held list.now) 0 + part * 2 ^ shift) from }
+    ensures { BeginBefore (map H.held list.now)
+        (address_at (map H.held list.now) 0 + part * 2 ^ shift) result }
+{
+    let mut at = from;
+    while at < list.len() {
+        if !begins_before::<N, H>(list[at], list[0], shift, part) {
+            return at;
+        }
+        at += 1;
+    }
+    at
+}
+
+// Whether the struct begins before this part of the numbers from those of the first struct on.
+fn begins_before<N: AddressSpace, H: Numbered<N>>(
+    held: H,
+    first: H,
+    shift: u32,
+    part: usize,
+) -> bool
+    requires narrow { shift < N.WIDTH }
+    requires part { 1 ≤ part }
+    ensures { IsTrue result ↔ ((H.held held).address < (H.held first).address + part * 2 ^ shift) }
+{
+    H::part_of(held.own_number(), first.own_number(), shift) < part
+}
