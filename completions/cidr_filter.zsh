@@ -5,6 +5,11 @@ _arguments \
     '*-e[a network or a range]:text: ' \
     '*-k[the address is the Nth field]:number: ' \
     '*-d[fields are cut at each single character]:character: ' \
+    '*-w[fields are what stands between runs of blanks]' \
+    '*-a[addresses are looked for anywhere in a line]' \
+    '*--after[the address is the first that follows a text]:text: ' \
+    '*-o[print the addresses that are in a network in place of lines]' \
+    '*--mapped[an IPv4-mapped address counts as its IPv4 one]' \
     '*-v[lines whose address is in no network]' \
     '*-c[print how many lines are selected]' \
     '*--longest[print the longest network before a line]' \

@@ -185,6 +185,9 @@ WHOLE = (
     "-vc --bad=drop -f made",
     "-e 0.0.0.0/32 --",
     "-k1 -c -f made",
+    "-ac -f made",
+    "-ao --mapped -f made",
+    "--after -c -f made",
     "-f absent",
     "-f bad -c",
 )

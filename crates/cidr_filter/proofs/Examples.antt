@@ -1,11 +1,13 @@
 -- Values at which a misreading of the definitions would show.
-use Rattle.std.proofs.Common.{◌≡◌, ℕ, length, List, [], ◌∷◌, Bool, true, false, inl, inr, refl, subst, arith, drop, sym, ◌∙◌, ◌⊎◌, true≢false}
+use Rattle.std.proofs.Common.{◌≡◌, ℕ, length, List, [], ◌∷◌, Bool, true, false, inl, inr, refl, arith, drop, sym, ◌∙◌, ◌⊎◌, true≢false}
 use Rattle.std.specs.Prelude.{codes, String, Some, None}
 use Rattle.std.specs.Fmt.{digits}
 use Rattle.std.specs.String.{string_bytes}
 use Rattle.std.specs.Str.Lines.{lines}
-use Rattle.ipnetwork_addr.specs.Either.{NamesIp}
+use Rattle.ipnetwork_addr.specs.Computed.Ipv6Text.{v6_of, gap_below}
 use Rattle.ipnetwork_addr.specs.declared.ip.IpAddr.{IpAddr}
+use Rattle.ipnetwork_addr.specs.declared.ip.IpAddr.TheVariants as addresses
+use Rattle.line_addresses.specs.Addresses.{address_of, before_port, address_in}
 use Rattle.ipnetwork.specs.IpNetworks.{IpMember}
 use Rattle.ipnetwork.specs.declared.ip_network.IpNetwork.TheVariants.{V4}
 use Rattle.lists.specs.declared.entry.EntryFault.TheVariants.{Prefix}
@@ -14,19 +16,22 @@ use Rattle.lists.specs.declared.fault.LineFault.TheVariants.{Entry}
 use Rattle.lists.specs.KnownLists.{KnownLists}
 use Rattle.program.specs.Told.{was_refused}
 use Rattle.cidr_filter.specs.Fields.{field_of}
-use Rattle.cidr_filter.specs.Filters.{IsListed, Judges, is_selected, is_refused, mark_of, output_of}
+use Rattle.cidr_filter.specs.Filters.{IsListed, Judges, addresses_in, is_selected, is_refused, mark_of, output_of}
 use Rattle.cidr_filter.specs.Lines.{LogLine, log_lines, ended_lines, content, printed}
 use Rattle.cidr_filter.specs.Listed.{IsStored, IsLongestBlock}
 use Rattle.cidr_filter.specs.Logs.{logs_of, IsAllOf, IsFirstOf, FiltersLogs}
 use Rattle.cidr_filter.specs.Reading.{ReadsOptions, HoldsRead}
 use Rattle.program.specs.Endings.{Ending, Refuses, HasTold, HasWritten}
-use Rattle.cidr_filter.specs.Runs.{total_text, EndsLogs, EndsFiltering, filter_of}
+use Rattle.cidr_filter.specs.Options.{no_options, said_by}
+use Rattle.cidr_filter.specs.Runs.{total_text, EndsLogs, EndsFiltering, place_of, filter_of}
 use Rattle.lists.specs.declared.refusals.Refusal.{Refusal}
 use Rattle.program.specs.Told.{refusals_text}
 use Rattle.cidr_filter.specs.Told.{in_option, log_fault_text}
 use Rattle.cidr_filter.specs.declared.filter.Bad.{Bad}
 use Rattle.cidr_filter.specs.declared.filter.Bad.TheVariants as bads
 use Rattle.cidr_filter.specs.declared.filter.Filter.{Filter}
+use Rattle.cidr_filter.specs.declared.filter.Place.{Place}
+use Rattle.cidr_filter.specs.declared.filter.Place.TheVariants as places
 use Rattle.cidr_filter.specs.declared.filter.Verdict.TheVariants as verdicts
 use Rattle.cidr_filter.specs.declared.command_line.Request.{Request}
 use Rattle.cidr_filter.specs.declared.listed.Listed.{Listed}
@@ -34,7 +39,7 @@ use Rattle.cidr_filter.specs.declared.listed.Listed.TheVariants.{Addresses, Bloc
 use Rattle.cidr_filter.specs.declared.listed.Tables.{Tables}
 use Rattle.cidr_filter.specs.declared.log.LogFault.TheVariants as faults
 use Rattle.cidr_filter.specs.declared.options.Choice.TheVariants as choices
-use Rattle.cidr_filter.proofs.Judging.{same_some}
+use Rattle.cidr_filter.proofs.OptionExamples.{letters}
 
 -- ---- fields, cut at each comma (44) or blank (32)
 
@@ -85,20 +90,76 @@ printed_with_an_end = refl
 -- ---- what a line is to a list
 
 abbrev pub by : Bool → Bad → Filter
-by inverts bad = record { listed = Addresses (record { v4 = []; v6 = [] }); field = 1; separator = 32; inverts = inverts; bad = bad; counts = false }
+by inverts bad = record { listed = Addresses (record { v4 = []; v6 = [] }); place = places.Field 1 32; mapped = false; inverts = inverts; bad = bad; counts = false; only = false }
 
 -- one that only counts
 abbrev pub counting : Bad → Filter
 counting bad = record (by false bad) { counts = true }
 
-pub line_inside : (address : IpAddr) → NamesIp (codes "10.0.0.1") address → IsListed (by false bads.Drop) address → Judges (by false bads.Drop) (codes "10.0.0.1 x") (verdicts.Inside None)
-line_inside address names listed = (omega arith, (address, (codes "10.0.0.1", refl, names), listed, refl))
+-- one that looks at this place
+abbrev pub looking : Place → Bool → Filter
+looking place mapped = record (by false bads.Drop) { place = place; mapped = mapped }
 
-pub line_outside : (address : IpAddr) → NamesIp (codes "10.0.0.1") address → ¬ (IsListed (by true bads.Drop) address) → Judges (by true bads.Drop) (codes "10.0.0.1 x") verdicts.Outside
-line_outside address names listed = (omega arith, (address, (codes "10.0.0.1", refl, names), listed))
+pub line_inside : IsListed (by false bads.Drop) (addresses.V4 0x0a000001) → Judges (by false bads.Drop) (codes "10.0.0.1 x") (verdicts.Inside None)
+unfolding address_of digits v6_of gap_below
+line_inside listed = (omega arith, inl (listed, refl))
 
-pub address_in_another_field : ((address : IpAddr) → ¬ (NamesIp (codes "x") address)) → Judges (by false bads.Drop) (codes "x 10.0.0.1") verdicts.Bad
-address_in_another_field none = (omega arith, λ address holds. none address (subst (λ (f : List ℕ). NamesIp f address) (same_some holds.0 (codes "x") _ holds.1 refl) holds.2))
+pub line_outside : ¬ (IsListed (by true bads.Drop) (addresses.V4 0x0a000001)) → Judges (by true bads.Drop) (codes "10.0.0.1 x") verdicts.Outside
+unfolding address_of digits v6_of gap_below
+line_outside not = (omega arith, (omega arith, (not, tt)))
+
+pub address_in_another_field : Judges (by false bads.Drop) (codes "x 10.0.0.1") verdicts.Bad
+unfolding address_of digits v6_of gap_below
+address_in_another_field = (omega arith, refl)
+
+-- the second word, behind two blanks
+pub address_in_a_word : addresses_in (looking (places.Word 2) false) (codes "a  10.0.0.1 b") ≡ addresses.V4 0x0a000001 ∷ []
+unfolding address_of digits v6_of gap_below
+address_in_a_word = refl
+
+pub addresses_anywhere : addresses_in (looking places.Anywhere false) (codes "a=10.0.0.1:80 [10.0.0.2]") ≡ addresses.V4 0x0a000001 ∷ addresses.V4 0x0a000002 ∷ []
+unfolding address_in before_port address_of digits v6_of gap_below
+addresses_anywhere = refl
+
+-- only the first that follows the first place of a text
+pub address_after : addresses_in (looking (places.After (codes "SRC=")) false) (codes "DST=10.0.0.9 SRC=10.0.0.1 SRC=10.0.0.2") ≡ addresses.V4 0x0a000001 ∷ []
+unfolding address_in before_port address_of digits v6_of gap_below
+address_after = refl
+
+pub no_text : addresses_in (looking (places.After (codes "SRC=")) false) (codes "DST=10.0.0.9") ≡ []
+no_text = refl
+
+-- an IPv4-mapped address counts as its IPv4 one only if the option says so
+pub mapped_address : addresses_in (looking (places.Field 1 32) true) (codes "::ffff:10.0.0.1 x") ≡ addresses.V4 0x0a000001 ∷ []
+unfolding address_of digits v6_of gap_below
+mapped_address = refl
+
+pub address_as_it_is : addresses_in (looking (places.Field 1 32) false) (codes "::ffff:10.0.0.1 x") ≡ addresses.V6 0xffff0a000001 ∷ []
+unfolding address_of digits v6_of gap_below
+address_as_it_is = refl
+
+-- of two addresses the second is in the lists
+pub second_address_inside : ¬ (IsListed (looking places.Anywhere false) (addresses.V4 0x0a000001)) → IsListed (looking places.Anywhere false) (addresses.V4 0x0a000002)
+    → Judges (looking places.Anywhere false) (codes "10.0.0.1 10.0.0.2") (verdicts.Inside None)
+unfolding address_in before_port address_of digits v6_of gap_below
+second_address_inside not listed = (omega arith, inr (not, inl (listed, refl)))
+
+-- without options the first field is looked at, at single spaces
+pub place_without_options : place_of {Z = Unit {0}} [] no_options ≡ places.Field 1 32
+place_without_options = refl
+
+pub place_of_words : place_of {Z = Unit {0}} [] (said_by (choices.Letters (letters false false false true) ∷ choices.Field 3 ∷ [])) ≡ places.Word 3
+place_of_words = refl
+
+pub place_anywhere : place_of {Z = Unit {0}} [] (said_by (choices.Letters (letters false false true false) ∷ [])) ≡ places.Anywhere
+place_anywhere = refl
+
+pub place_after : {Z : Type 0} (name text log : String Z) → string_bytes name ≡ codes "--after" → string_bytes text ≡ codes "SRC="
+    → place_of (name ∷ text ∷ log ∷ []) (record (said_by (choices.After ∷ [])) { files = 2 }) ≡ places.After (codes "SRC=")
+place_after name text log n t = rw (n, t)
+
+pub place_of_both : place_of {Z = Unit {0}} [] (said_by (choices.Field 3 ∷ choices.Separator 44 ∷ [])) ≡ places.Field 3 44
+place_of_both = refl
 
 -- 1,048,576 bytes are judged, and a byte more is too long
 pub longest_line : (line : List ℕ) → length line ≡ 1048576 → Judges (by false bads.Drop) line verdicts.TooLong → ⊥
@@ -159,6 +220,20 @@ line_selected = refl
 pub line_counted : output_of (counting bads.Drop) (verdicts.Inside None) (ended (codes "a")) ≡ []
 line_counted = refl
 
+-- with `-o` only the addresses that are in the lists, whatever they are beside: 10.0.0.0/8 has the first and the third
+abbrev pub addresses_of_ten : Filter
+addresses_of_ten = record (looking places.Anywhere false) {
+  listed = Addresses (record { v4 = record { address = 0x0a000000; prefix = 8 } ∷ []; v6 = [] });
+  only = true;
+}
+
+pub addresses_selected : output_of addresses_of_ten (verdicts.Inside None) (ended (codes "a=10.0.0.1:80 b=11.0.0.1,10.0.0.2.")) ≡ codes "10.0.0.1\n10.0.0.2\n"
+unfolding address_in before_port address_of digits v6_of gap_below
+addresses_selected = refl
+
+pub no_addresses_counted : output_of (record addresses_of_ten { counts = true }) (verdicts.Inside None) (ended (codes "10.0.0.1")) ≡ []
+no_addresses_counted = refl
+
 -- ---- what is told
 
 pub a_refused_line : {Z : Type 0} (file list text value : String Z) → string_bytes file ≡ codes "-f"
@@ -218,7 +293,7 @@ no_number = refl
 -- without a refused line a run is not silent: there is no memory, or the logs are filtered
 pub not_silent : {Z W E : Type 0} (known : KnownLists) (words : List (String Z)) (request : Request) (read : ReadLists) (end : Ending W E) → was_refused read.refused ≡ false → EndsFiltering known words request read end
     → Refuses (codes "out of memory\n") end
-    ⊎ ((listed : Listed) × HoldsRead request.longest read listed × EndsLogs (filter_of request listed) known (logs_of (drop request.files words)) end)
+    ⊎ ((listed : Listed) × HoldsRead request.longest read listed × EndsLogs (filter_of words request listed) known (logs_of (drop request.files words)) end)
 not_silent known words request read end none (inl ends) = absurd (true≢false (sym ends.0 ∙ none))
 not_silent known words request read end none (inr ends) = ends.1
 

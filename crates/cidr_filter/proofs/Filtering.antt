@@ -16,7 +16,7 @@ use Rattle.lines.proofs.BytesLemmas.{HasNo}
 use Rattle.lines.proofs.HandingOut.{has_no}
 use Rattle.lines.proofs.Putting.{puts_nothing, puts_out, puts_more}
 use Rattle.cidr_filter.specs.Filters.{Judges, is_refused, is_selected, one_if, output_of}
-use Rattle.cidr_filter.specs.Lines.{LogLine, log_lines, printed}
+use Rattle.cidr_filter.specs.Lines.{LogLine, log_lines, content, printed}
 use Rattle.cidr_filter.specs.Stands.{Stand, Counts, Goes}
 use Rattle.cidr_filter.specs.Private.Progress.{feed_behind, shown, FiltersLine, AreFirst, FiltersSoFar}
 use Rattle.cidr_filter.specs.declared.filter.Filter.{Filter}
@@ -191,9 +191,11 @@ module _ (filter : Filter) where
         let given = gives s.pending s.holds in
         let text : whole ++ feed_behind end ≡ printed (log_line now.line end) = ap
         (λ l. l ++ feed_behind end) (all ∙ given.2) ∙ printed_is now.line end in
+        let handed = handed_first now s.pending now.line end given.0 in
         one_more new now.line end f.0 given.0 (subst (λ l. Judges filter l f.0) is f.1) f.2
-        (subst (λ t. Goes mid new (shown filter f.0 t) (one_if (is_selected filter f.0)) 1)
-        text f.3)
+        (subst (λ t. Goes mid new (shown filter f.0 (content (log_line now.line end)) t) (one_if (is_selected filter f.0)) 1) text
+        (subst (λ l. Goes mid new (shown filter f.0 l (whole ++ feed_behind end)) (one_if (is_selected filter f.0)) 1)
+        (is ∙ sym handed.is) f.3))
 
     -- one that is too long was dropped
     pub after_long : (new : Stand) → ((pending : List ℕ) → IsPending was pending

@@ -18,6 +18,7 @@ use Rattle.cidr_filter.specs.declared.options.Choice.TheVariants as choices
 use Rattle.cidr_filter.specs.declared.usage.Problem.TheVariants as problems
 use Rattle.cidr_filter.specs.declared.usage.UsageFault.{UsageFault}
 use Rattle.cidr_filter.proofs.LogLines.{ended}
+use Rattle.cidr_filter.proofs.OptionExamples.{letters}
 
 -- ---- one verdict
 
@@ -110,21 +111,21 @@ no_more_letters word others law w = law (ap is_option_word w)
 pub no_fewer_letters : {Z : Type 0} (word : String Z) (others : List (String Z)) → OthersAreNoOptions (word ∷ others) → string_bytes word ≡ codes "--ba" → option_of (word ∷ others) ≡ None
 no_fewer_letters word others law w = law (ap is_option_word w)
 
-pub no_third_flag : {Z : Type 0} (word : String Z) (others : List (String Z)) → OthersAreNoOptions (word ∷ others) → string_bytes word ≡ codes "-w" → option_of (word ∷ others) ≡ None
+pub no_third_flag : {Z : Type 0} (word : String Z) (others : List (String Z)) → OthersAreNoOptions (word ∷ others) → string_bytes word ≡ codes "-x" → option_of (word ∷ others) ≡ None
 no_third_flag word others law w = law (ap is_option_word w)
 
 -- nor does such a word ask for something behind an option
 pub not_behind_an_option : {Z : Type 0} (flag word : String Z) (others : List (String Z)) → OthersAskForNothing (flag ∷ word ∷ others) → string_bytes flag ≡ codes "-v" → string_bytes word ≡ codes "--longesu"
     → AsksNothing (flag ∷ word ∷ others)
 not_behind_an_option flag word others law f w =
-    law (choices.Letters true false ∷ []) word others (rw f, rw f) (ap is_option_word w) (ap (begins_with (codes "-")) w) (ap (is_one_of (codes "-" ∷ codes "--" ∷ [])) w)
+    law (choices.Letters (letters true false false false) ∷ []) word others (rw f, rw f) (ap is_option_word w) (ap (begins_with (codes "-")) w) (ap (is_one_of (codes "-" ∷ codes "--" ∷ [])) w)
 
 -- the law leaves out the words of options, and no others
-pub words_of_options : list_all is_option_word (codes "-f" ∷ codes "-e" ∷ codes "-k" ∷ codes "-k3" ∷ codes "-d" ∷ codes "-d," ∷ codes "--bad" ∷ codes "--bad=drop" ∷ codes "--longest" ∷ codes "-v" ∷ codes "-c" ∷ codes "-vc" ∷ []) ≡ true
+pub words_of_options : list_all is_option_word (codes "-f" ∷ codes "-e" ∷ codes "-k" ∷ codes "-k3" ∷ codes "-d" ∷ codes "-d," ∷ codes "--bad" ∷ codes "--bad=drop" ∷ codes "--longest" ∷ codes "--mapped" ∷ codes "--after" ∷ codes "-v" ∷ codes "-c" ∷ codes "-vc" ∷ codes "-aw" ∷ codes "-o" ∷ []) ≡ true
 words_of_options = refl
 
 pub words_of_none :
-    list_any is_option_word ([] ∷ codes "-" ∷ codes "--" ∷ codes "f" ∷ codes "-fx" ∷ codes "-e10.0.0.0/8" ∷ codes "-K" ∷ codes "--bad-drop" ∷ codes "--longest=" ∷ codes "--help" ∷ codes "-vx" ∷ codes "-xv" ∷ []) ≡ false
+    list_any is_option_word ([] ∷ codes "-" ∷ codes "--" ∷ codes "f" ∷ codes "-fx" ∷ codes "-e10.0.0.0/8" ∷ codes "-K" ∷ codes "--bad-drop" ∷ codes "--longest=" ∷ codes "--map" ∷ codes "--after=x" ∷ codes "--help" ∷ codes "-vx" ∷ codes "-xv" ∷ []) ≡ false
 words_of_none = refl
 
 -- ---- one fault

@@ -1,3 +1,5 @@
+pub mod AfterTexts
+pub mod Among
 pub mod Examples
 pub mod Failing
 pub mod Faults
@@ -16,6 +18,7 @@ pub mod Requests
 pub mod Runs
 pub mod Stopping
 pub mod Tables
+pub mod Texts
 pub mod Told
 pub mod UsageExamples
 pub mod WholeLines

@@ -20,9 +20,11 @@ use Rattle.cidr_filter.specs.declared.filter.Verdict.{Verdict}
 use Rattle.cidr_filter.specs.declared.log.LogFault.{LogFault}
 use Rattle.cidr_filter.specs.declared.log.LogFault.TheVariants as faults
 use Rattle.cidr_filter.proofs.Filtering.{counts_more, counts_none}
-use Rattle.cidr_filter.proofs.Judging.{same_some}
 
 -- ---- what was read of a log
+
+same_some : (a b : List ℕ) (o : Option (List ℕ)) → o ≡ Some a → o ≡ Some b → a ≡ b
+same_some a b o e f = cc
 
 known_first : (remained remains : Option (List ℕ)) (read input : List ℕ) → remained ≡ Some input → Consumes remained remains read → IsBeginning read input
 known_first None remains read input e h = absurd (none-some input e)

@@ -1,12 +1,11 @@
 -- A log has one output.
-use Rattle.std.proofs.Common.{◌≡◌, ℕ, ◌+◌, Bool, List, [], ◌∷◌, ◌++◌, Option, Some, refl, sym, ap, subst, ◌∙◌, arith}
-use Rattle.ipnetwork_addr.specs.Either.{NamesIp}
+use Rattle.std.proofs.Common.{◌≡◌, ℕ, ◌+◌, Bool, List, [], ◌∷◌, ◌++◌, Option, Some, length, refl, sym, ap, subst, ◌∙◌, arith, inl, inr}
 use Rattle.ipnetwork_addr.specs.declared.ip.IpAddr.{IpAddr}
 use Rattle.ipnetwork_addr.specs.declared.ip.IpAddr.TheVariants as addresses
 use Rattle.ipnetwork.specs.declared.ip_network.IpNetwork.{IpNetwork}
 use Rattle.ipnetwork.specs.declared.ip_network.IpNetwork.TheVariants as networks
 use Rattle.ipnetwork_table.specs.Laws.{BlocksOfAnyWidthThatMeet}
-use Rattle.cidr_filter.specs.Filters.{IsListed, TellsBlock, Holds, is_selected, output_of, one_if, Filters}
+use Rattle.cidr_filter.specs.Filters.{TellsBlock, addresses_in, FirstListed, NoneListed, is_selected, output_of, one_if, Filters}
 use Rattle.cidr_filter.specs.Laws.{LinesHaveOneVerdict, LogsHaveOneOutput}
 use Rattle.cidr_filter.specs.Lines.{LogLine, log_lines}
 use Rattle.cidr_filter.specs.declared.filter.Filter.{Filter}
@@ -15,17 +14,6 @@ use Rattle.cidr_filter.specs.declared.filter.Verdict.TheVariants as verdicts
 use Rattle.cidr_filter.specs.declared.listed.Listed.{Listed}
 use Rattle.cidr_filter.specs.declared.listed.Listed.TheVariants.{Addresses, Blocks}
 use Rattle.cidr_filter.specs.declared.listed.Tables.{Tables}
-use Rattle.cidr_filter.proofs.Judging.{same_some}
-
-abbrev NamesOne : Type 0
-NamesOne = (text : List ℕ) (a b : IpAddr) → NamesIp text a → NamesIp text b → a ≡ b
-
-holds_one : NamesOne → (filter : Filter) (line : List ℕ) (a b : IpAddr) → Holds filter line a → Holds filter line b → a ≡ b
-holds_one one filter line a b p q = one p.0 a b p.2 (subst (λ (f : List ℕ). NamesIp f b) (same_some q.0 p.0 _ q.1 p.1) q.2)
-
--- one line cannot hold an address of the list and one that is not
-apart : NamesOne → (filter : Filter) (line : List ℕ) (a b : IpAddr) → Holds filter line a → IsListed filter a → Holds filter line b → ¬ (IsListed filter b) → ⊥
-apart one filter line a b p listed q other = other (subst (λ (x : IpAddr). IsListed filter x) (holds_one one filter line a b p q) listed)
 
 -- one address has one longest block
 same_block : BlocksOfAnyWidthThatMeet → (tables : Tables) (address : IpAddr) (m n : IpNetwork) → IsLongestBlock tables address m → IsLongestBlock tables address n → m ≡ n
@@ -43,34 +31,49 @@ same_told : BlocksOfAnyWidthThatMeet → (listed : Listed) (address : IpAddr) (a
 same_told meet (Addresses sets) address a b p q = p ∙ sym q
 same_told meet (Blocks tables) address a b p q = p.1 ∙ ap Some (same_block meet tables address p.0 q.0 p.2 q.2) ∙ sym q.1
 
-pub one_verdict : NamesOne → BlocksOfAnyWidthThatMeet → LinesHaveOneVerdict
-one_verdict one meet filter line (verdicts.Inside told) (verdicts.Inside other) p q =
-    ap verdicts.Inside (same_told meet filter.listed p.1.0 told other p.1.3
-    (subst (λ (x : IpAddr). TellsBlock filter.listed x other) (holds_one one filter line q.1.0 p.1.0 q.1.1 p.1.1) q.1.3))
-one_verdict one meet filter line (verdicts.Inside told) verdicts.Outside p q = absurd (apart one filter line p.1.0 q.1.0 p.1.1 p.1.2 q.1.1 q.1.2)
-one_verdict one meet filter line (verdicts.Inside told) verdicts.Bad p q = absurd (q.1 p.1.0 p.1.1)
-one_verdict one meet filter line (verdicts.Inside told) verdicts.TooLong p q = absurd (omega (arith, p.0, q))
-one_verdict one meet filter line verdicts.Outside (verdicts.Inside told) p q = absurd (apart one filter line q.1.0 p.1.0 q.1.1 q.1.2 p.1.1 p.1.2)
-one_verdict one meet filter line verdicts.Outside verdicts.Outside p q = refl
-one_verdict one meet filter line verdicts.Outside verdicts.Bad p q = absurd (q.1 p.1.0 p.1.1)
-one_verdict one meet filter line verdicts.Outside verdicts.TooLong p q = absurd (omega (arith, p.0, q))
-one_verdict one meet filter line verdicts.Bad (verdicts.Inside told) p q = absurd (p.1 q.1.0 q.1.1)
-one_verdict one meet filter line verdicts.Bad verdicts.Outside p q = absurd (p.1 q.1.0 q.1.1)
-one_verdict one meet filter line verdicts.Bad verdicts.Bad p q = refl
-one_verdict one meet filter line verdicts.Bad verdicts.TooLong p q = absurd (omega (arith, p.0, q))
-one_verdict one meet filter line verdicts.TooLong (verdicts.Inside told) p q = absurd (omega (arith, p, q.0))
-one_verdict one meet filter line verdicts.TooLong verdicts.Outside p q = absurd (omega (arith, p, q.0))
-one_verdict one meet filter line verdicts.TooLong verdicts.Bad p q = absurd (omega (arith, p, q.0))
-one_verdict one meet filter line verdicts.TooLong verdicts.TooLong p q = refl
+-- so one thing is told of the first that is in the lists
+one_first : BlocksOfAnyWidthThatMeet → (filter : Filter) (all : List IpAddr) (a b : Option IpNetwork) → FirstListed filter all a → FirstListed filter all b → a ≡ b
+one_first meet filter [] a b p q = absurd p
+one_first meet filter (address ∷ all) a b (inl p) (inl q) = same_told meet filter.listed address a b p.1 q.1
+one_first meet filter (address ∷ all) a b (inl p) (inr q) = absurd (q.0 p.0)
+one_first meet filter (address ∷ all) a b (inr p) (inl q) = absurd (p.0 q.0)
+one_first meet filter (address ∷ all) a b (inr p) (inr q) = one_first meet filter all a b p.1 q.1
 
-one_of_lines : NamesOne → BlocksOfAnyWidthThatMeet → (filter : Filter) (lines : List LogLine) (a b : List ℕ) (m n : ℕ) → Filters filter lines a m → Filters filter lines b n → (a ≡ b) × (m ≡ n)
-one_of_lines one meet filter [] a b m n p q = (p.0 ∙ sym q.0, p.1 ∙ sym q.1)
-one_of_lines one meet filter (line ∷ lines) a b m n p q =
-    let same : p.0 ≡ q.0 = one_verdict one meet filter _ p.0 q.0 p.3 q.3 in
-    let others = one_of_lines one meet filter lines p.1 q.1 p.2 q.2 p.5 q.5 in (
+-- one of some addresses is in the lists, or none is
+apart : (filter : Filter) (all : List IpAddr) (told : Option IpNetwork) → FirstListed filter all told → NoneListed filter all → ⊥
+apart filter [] told p q = p
+apart filter (address ∷ all) told (inl p) q = q.0 p.0
+apart filter (address ∷ all) told (inr p) q = apart filter all told p.1 q.1
+
+none_of_none : (filter : Filter) (all : List IpAddr) (told : Option IpNetwork) → FirstListed filter all told → all ≡ [] → ⊥
+none_of_none filter all told p none = subst (λ (l : List IpAddr). FirstListed filter l told) none p
+
+pub one_verdict : BlocksOfAnyWidthThatMeet → LinesHaveOneVerdict
+one_verdict meet filter line (verdicts.Inside told) (verdicts.Inside other) p q = ap verdicts.Inside (one_first meet filter (addresses_in filter line) told other p.1 q.1)
+one_verdict meet filter line (verdicts.Inside told) verdicts.Outside p q = absurd (apart filter (addresses_in filter line) told p.1 (q.1).1)
+one_verdict meet filter line (verdicts.Inside told) verdicts.Bad p q = absurd (none_of_none filter (addresses_in filter line) told p.1 q.1)
+one_verdict meet filter line (verdicts.Inside told) verdicts.TooLong p q = absurd (omega (arith, p.0, q))
+one_verdict meet filter line verdicts.Outside (verdicts.Inside told) p q = absurd (apart filter (addresses_in filter line) told q.1 (p.1).1)
+one_verdict meet filter line verdicts.Outside verdicts.Outside p q = refl
+one_verdict meet filter line verdicts.Outside verdicts.Bad p q = absurd (omega (arith, (p.1).0, ap length q.1))
+one_verdict meet filter line verdicts.Outside verdicts.TooLong p q = absurd (omega (arith, p.0, q))
+one_verdict meet filter line verdicts.Bad (verdicts.Inside told) p q = absurd (none_of_none filter (addresses_in filter line) told q.1 p.1)
+one_verdict meet filter line verdicts.Bad verdicts.Outside p q = absurd (omega (arith, (q.1).0, ap length p.1))
+one_verdict meet filter line verdicts.Bad verdicts.Bad p q = refl
+one_verdict meet filter line verdicts.Bad verdicts.TooLong p q = absurd (omega (arith, p.0, q))
+one_verdict meet filter line verdicts.TooLong (verdicts.Inside told) p q = absurd (omega (arith, p, q.0))
+one_verdict meet filter line verdicts.TooLong verdicts.Outside p q = absurd (omega (arith, p, q.0))
+one_verdict meet filter line verdicts.TooLong verdicts.Bad p q = absurd (omega (arith, p, q.0))
+one_verdict meet filter line verdicts.TooLong verdicts.TooLong p q = refl
+
+one_of_lines : BlocksOfAnyWidthThatMeet → (filter : Filter) (lines : List LogLine) (a b : List ℕ) (m n : ℕ) → Filters filter lines a m → Filters filter lines b n → (a ≡ b) × (m ≡ n)
+one_of_lines meet filter [] a b m n p q = (p.0 ∙ sym q.0, p.1 ∙ sym q.1)
+one_of_lines meet filter (line ∷ lines) a b m n p q =
+    let same : p.0 ≡ q.0 = one_verdict meet filter _ p.0 q.0 p.3 q.3 in
+    let others = one_of_lines meet filter lines p.1 q.1 p.2 q.2 p.5 q.5 in (
       p.6 ∙ ap (λ v. output_of filter v line ++ p.1) same ∙ ap (λ t. output_of filter q.0 line ++ t) others.0 ∙ sym q.6,
       p.7 ∙ ap (λ v. one_if (is_selected filter v) + p.2) same ∙ ap (λ k. one_if (is_selected filter q.0) + k) others.1 ∙ sym q.7,
     )
 
-pub one_output : NamesOne → BlocksOfAnyWidthThatMeet → LogsHaveOneOutput
-one_output one meet filter log a b m n p q = one_of_lines one meet filter (log_lines log) a b m n p q
+pub one_output : BlocksOfAnyWidthThatMeet → LogsHaveOneOutput
+one_output meet filter log a b m n p q = one_of_lines meet filter (log_lines log) a b m n p q

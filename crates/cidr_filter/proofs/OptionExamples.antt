@@ -5,11 +5,12 @@ use Rattle.std.specs.List.{list_all}
 use Rattle.std.specs.Char.{is_ascii_digit}
 use Rattle.std.specs.String.{string_bytes}
 use Rattle.cidr_filter.specs.CommandLines.{files_among, names_in, inputs_among, is_plain, is_name}
-use Rattle.cidr_filter.specs.Options.{number_of, field_option, separator_option, bad_option, letters_option, begins, in_one_word, option_of, with_option, said_by}
+use Rattle.cidr_filter.specs.Options.{number_of, field_option, separator_option, bad_option, letters_option, begins, in_one_word, option_of, with_option, said_by, text_after}
 use Rattle.cidr_filter.specs.declared.command_line.Request.{Request}
 use Rattle.cidr_filter.specs.declared.filter.Bad.{Bad}
 use Rattle.cidr_filter.specs.declared.filter.Bad.TheVariants as bads
 use Rattle.cidr_filter.specs.declared.options.Choice.TheVariants as choices
+use Rattle.cidr_filter.specs.declared.options.Letters.{Letters}
 
 are_four : (a b c d : Bool) → a ≡ true → b ≡ true → c ≡ true → d ≡ true → (a && b && c && d) ≡ true
 are_four a b c d p q r s = rw (p, q, r, s)
@@ -76,14 +77,24 @@ other_bad_word = refl
 pub no_fourth_bad_word : (text : List ℕ) → bytes_eq text (codes "drop") ≡ false → bytes_eq text (codes "keep") ≡ false → bytes_eq text (codes "stop") ≡ false → bad_option text ≡ None
 no_fourth_bad_word text drop keep stop = rw (drop, keep, stop)
 
-pub letters_together : letters_option (codes "vc") ≡ Some (choices.Letters true true)
+-- letters, of which these are given
+abbrev pub letters : Bool → Bool → Bool → Bool → Letters
+letters inverts counts anywhere words = record { inverts = inverts; counts = counts; anywhere = anywhere; words = words; only = false }
+
+pub letters_together : letters_option (codes "vc") ≡ Some (choices.Letters (letters true true false false))
 letters_together = refl
 
-pub one_letter : letters_option (codes "c") ≡ Some (choices.Letters false true)
+pub one_letter : letters_option (codes "c") ≡ Some (choices.Letters (letters false true false false))
 one_letter = refl
+
+pub letters_of_places : letters_option (codes "aw") ≡ Some (choices.Letters (letters false false true true))
+letters_of_places = refl
 
 pub other_letter : letters_option (codes "vx") ≡ None
 other_letter = refl
+
+pub letter_of_addresses : letters_option (codes "oa") ≡ Some (choices.Letters (record (letters false false true false) { only = true }))
+letter_of_addresses = refl
 
 pub field_in_one_word : in_one_word (codes "-k3") ≡ Some (choices.Field 3)
 field_in_one_word = refl
@@ -96,6 +107,9 @@ bad_in_one_word = refl
 
 pub longest_word : in_one_word (codes "--longest") ≡ Some choices.Longest
 longest_word = refl
+
+pub mapped_word : in_one_word (codes "--mapped") ≡ Some choices.Mapped
+mapped_word = refl
 
 pub dashes_are_no_option : in_one_word (codes "--") ≡ None
 dashes_are_no_option = refl
@@ -115,6 +129,20 @@ text_dash name value n v = rw (n, v)
 
 pub no_empty_text : {Z : Type 0} (name value : String Z) → string_bytes name ≡ codes "-e" → string_bytes value ≡ [] → option_of (name ∷ value ∷ []) ≡ None
 no_empty_text name value n v = rw (n, v)
+
+-- the text that an address follows is not empty, and of two the last counts; the value of another option is none
+pub any_text_before : {Z : Type 0} (name value : String Z) → string_bytes name ≡ codes "--after" → (length (string_bytes value) == 0) ≡ false → option_of (name ∷ value ∷ []) ≡ Some choices.After
+any_text_before name value n some = rw (n, some)
+
+pub no_empty_text_before : {Z : Type 0} (name value : String Z) → string_bytes name ≡ codes "--after" → string_bytes value ≡ [] → option_of (name ∷ value ∷ []) ≡ None
+no_empty_text_before name value n v = rw (n, v)
+
+pub the_last_text : {Z : Type 0} (name one flag again two : String Z) → string_bytes name ≡ codes "--after" → string_bytes one ≡ codes "A" → string_bytes flag ≡ codes "-v" → string_bytes again ≡ codes "--after"
+    → string_bytes two ≡ codes "B" → text_after (name ∷ one ∷ flag ∷ again ∷ two ∷ []) ≡ codes "B"
+the_last_text name one flag again two n o f a t = rw (n, o, f, a, t)
+
+pub a_text_that_is_a_value : {Z : Type 0} (name value last : String Z) → string_bytes name ≡ codes "-e" → text_after (name ∷ value ∷ last ∷ []) ≡ []
+a_text_that_is_a_value name value last n = rw n
 
 pub list_dashes : {Z : Type 0} (name value : String Z) → string_bytes name ≡ codes "-f" → string_bytes value ≡ codes "--" → option_of (name ∷ value ∷ []) ≡ Some choices.File
 list_dashes name value n v = rw (n, v)
@@ -170,31 +198,34 @@ no_file_is_standard_input Z = refl
 
 -- ---- what an option says stays, whatever others say
 
-pub field_stays : (said : Request) (byte : ℕ) (inverts counts : Bool) (bad : Bad) → ((with_option said (choices.Letters inverts counts)).field ≡ said.field)
-    × ((with_option said (choices.Separator byte)).field ≡ said.field) × ((with_option said (choices.Bad bad)).field ≡ said.field) × ((with_option said choices.Longest).field ≡ said.field)
+pub field_stays : (said : Request) (byte : ℕ) (given : Letters) (bad : Bad) → ((with_option said (choices.Letters given)).field ≡ said.field)
+    × ((with_option said (choices.Separator byte)).field ≡ said.field) × ((with_option said (choices.Bad bad)).field ≡ said.field) × ((with_option said choices.Longest).field ≡ said.field) × ((with_option said choices.Mapped).field ≡ said.field) × ((with_option said choices.After).field ≡ said.field)
     × ((with_option said choices.File).field ≡ said.field) × ((with_option said choices.Input).field ≡ said.field) × ((with_option said choices.Text).field ≡ said.field)
-field_stays said byte inverts counts bad = (refl, refl, refl, refl, refl, refl, refl)
+field_stays said byte given bad = (refl, refl, refl, refl, refl, refl, refl, refl, refl)
 
-pub separator_stays : (said : Request) (field : ℕ) (inverts counts : Bool) (bad : Bad) → ((with_option said (choices.Letters inverts counts)).separator ≡ said.separator)
-    × ((with_option said (choices.Field field)).separator ≡ said.separator) × ((with_option said (choices.Bad bad)).separator ≡ said.separator) × ((with_option said choices.Longest).separator ≡ said.separator)
+pub separator_stays : (said : Request) (field : ℕ) (given : Letters) (bad : Bad) → ((with_option said (choices.Letters given)).separator ≡ said.separator)
+    × ((with_option said (choices.Field field)).separator ≡ said.separator) × ((with_option said (choices.Bad bad)).separator ≡ said.separator) × ((with_option said choices.Longest).separator ≡ said.separator) × ((with_option said choices.Mapped).separator ≡ said.separator) × ((with_option said choices.After).separator ≡ said.separator)
     × ((with_option said choices.File).separator ≡ said.separator) × ((with_option said choices.Input).separator ≡ said.separator) × ((with_option said choices.Text).separator ≡ said.separator)
-separator_stays said field inverts counts bad = (refl, refl, refl, refl, refl, refl, refl)
+separator_stays said field given bad = (refl, refl, refl, refl, refl, refl, refl, refl, refl)
 
-pub bad_stays : (said : Request) (field byte : ℕ) (inverts counts : Bool) → ((with_option said (choices.Letters inverts counts)).bad ≡ said.bad)
-    × ((with_option said (choices.Field field)).bad ≡ said.bad) × ((with_option said (choices.Separator byte)).bad ≡ said.bad) × ((with_option said choices.Longest).bad ≡ said.bad)
+pub bad_stays : (said : Request) (field byte : ℕ) (given : Letters) → ((with_option said (choices.Letters given)).bad ≡ said.bad)
+    × ((with_option said (choices.Field field)).bad ≡ said.bad) × ((with_option said (choices.Separator byte)).bad ≡ said.bad) × ((with_option said choices.Longest).bad ≡ said.bad) × ((with_option said choices.Mapped).bad ≡ said.bad) × ((with_option said choices.After).bad ≡ said.bad)
     × ((with_option said choices.File).bad ≡ said.bad) × ((with_option said choices.Input).bad ≡ said.bad) × ((with_option said choices.Text).bad ≡ said.bad)
-bad_stays said field byte inverts counts = (refl, refl, refl, refl, refl, refl, refl)
+bad_stays said field byte given = (refl, refl, refl, refl, refl, refl, refl, refl, refl)
 
--- `-v` stays too, whatever letters come after
-pub letters_stay : (said : Request) (inverts counts : Bool) → said.inverts ≡ true
-    → (with_option said (choices.Letters inverts counts)).inverts ≡ true
-letters_stay said inverts counts i = rw i
+-- a letter stays too, whatever letters come after
+pub letters_stay : (said : Request) (given : Letters) → said.letters.inverts ≡ true → (with_option said (choices.Letters given)).letters.inverts ≡ true
+letters_stay said given i = rw i
+
+pub places_stay : (said : Request) (given : Letters) → said.letters.anywhere ≡ true → said.letters.words ≡ true
+    → ((with_option said (choices.Letters given)).letters.anywhere ≡ true) × ((with_option said (choices.Letters given)).letters.words ≡ true)
+places_stay said given a w = (rw a, rw w)
 
 -- each list is one, and of two options of a kind the last is said
 pub a_text_is_a_list : (said_by (choices.Text ∷ choices.Longest ∷ [])).has_list ≡ true
 a_text_is_a_list = refl
 
-pub the_last_field : (first last : ℕ) → (said_by (choices.Field first ∷ choices.Field last ∷ [])).field ≡ last
+pub the_last_field : (first last : ℕ) → (said_by (choices.Field first ∷ choices.Field last ∷ [])).field ≡ Some last
 the_last_field first last = refl
 
 pub standard_input_twice : (said_by (choices.Input ∷ choices.Text ∷ choices.Input ∷ [])).inputs ≡ 2

@@ -1,11 +1,12 @@
 -- Lists that are read in turn.
 use Rattle.std.proofs.Common.{◌≡◌, ◌<◌, ◌≤◌, ◌+◌, ◌++◌, ◌∷◌, ◌∙◌, [], ℕ, Bool, List, true, false, not, cond, refl, sym, ap, subst, arith, length, get_or, drop, length-drop, true≢false}
 use Rattle.std.specs.Prelude.{Option, None, Some, Result, Ok, Err, OnOk, IfOk, IfErr, String, nat_lt, ◌&&◌, ◌==◌, if◌then◌else◌, codes, bytes_eq}
-use Rattle.std.specs.List.{list_all, list_any}
+use Rattle.std.specs.List.{list_all}
 use Rattle.std.specs.String.{string_bytes}
 use Rattle.std.specs.Str.Lines.{lines}
 use Rattle.std.proofs.lemmas.List.{get_or-drop}
 use Rattle.std.proofs.lemmas.Option.{none-some}
+use Rattle.ipnetwork_blocks.specs.Aggregate.{IsAggregate}
 use Rattle.ipnetwork_family.specs.Network.{Network}
 use Rattle.lists.specs.Lists.{ReadLists, nothing_read, at_list, TakesLines}
 use Rattle.lists.specs.Refusals.{Refused, no_refusals}
@@ -15,10 +16,10 @@ use Rattle.lists.specs.declared.named.ReadFault.{ReadFault}
 use Rattle.program.proofs.Told.{name_within}
 use Rattle.cidr_filter.specs.CommandLines.{Begin}
 use Rattle.cidr_filter.specs.Listed.{HasBlocksOf}
-use Rattle.cidr_filter.specs.Options.{option_of, behind_option, takes_next, in_one_word, field_option, separator_option, bad_option, letters_option, is_field, is_separator, is_letter, number_of, begins, is_list}
+use Rattle.cidr_filter.specs.Options.{option_of, behind_option, takes_next, in_one_word, field_option, separator_option, bad_option, letters_option, letters_in, is_field, is_separator, is_letter, number_of, begins, is_list}
 use Rattle.cidr_filter.specs.Reading.{ReadsOption, next_place, ReadsOptions, ReadsLists, StopsAtOption, Stops, HoldsRead}
 use Rattle.program.specs.Told.{name_at}
-use Rattle.cidr_filter.specs.Private.Reading.{ReadsAll, HasBlocks}
+use Rattle.cidr_filter.specs.Private.Reading.{ReadsAll, HasSets, HasBlocks}
 use Rattle.cidr_filter.specs.declared.filter.Bad.TheVariants as bads
 use Rattle.cidr_filter.specs.declared.listed.Listed.{Listed}
 use Rattle.cidr_filter.specs.declared.listed.Listed.TheVariants.{Addresses, Blocks}
@@ -64,7 +65,7 @@ field_other text = either (is_field text) (Some (choices.Field (number_of text))
 letters_other : (letters : List ℕ) → is_other (letters_option letters) ≡ true
 letters_other letters =
     either (nat_lt 0 (length letters) && list_all is_letter letters)
-    (Some (choices.Letters (list_any (λ letter. letter == 118) letters) (list_any (λ letter. letter == 99) letters))) None refl refl
+    (Some (choices.Letters (letters_in letters))) None refl refl
 
 bad_other : (text : List ℕ) → is_other (bad_option text) ≡ true
 bad_other text =
@@ -77,14 +78,16 @@ bad_other text =
 one_word_other : (word : List ℕ) → is_other (in_one_word word) ≡ true
 one_word_other word =
     let letters : Option Choice = if begins (codes "-") word then letters_option (drop 1 word) else None in
-    let longest : Option Choice = if bytes_eq word (codes "--longest") then Some choices.Longest else letters in
+    let mapped : Option Choice = if bytes_eq word (codes "--mapped") then Some choices.Mapped else letters in
+    let longest : Option Choice = if bytes_eq word (codes "--longest") then Some choices.Longest else mapped in
     let bad : Option Choice = if begins (codes "--bad=") word then bad_option (drop 6 word) else longest in
     let separator : Option Choice = if begins (codes "-d") word then separator_option (drop 2 word) else bad in
     either (begins (codes "-k") word) (field_option (drop 2 word)) separator (field_other (drop 2 word))
     (either (begins (codes "-d") word) (separator_option (drop 2 word)) bad (separator_other (drop 2 word))
     (either (begins (codes "--bad=") word) (bad_option (drop 6 word)) longest (bad_other (drop 6 word))
-    (either (bytes_eq word (codes "--longest")) (Some choices.Longest) letters refl
-    (either (begins (codes "-") word) (letters_option (drop 1 word)) None (letters_other (drop 1 word)) refl))))
+    (either (bytes_eq word (codes "--longest")) (Some choices.Longest) mapped refl
+    (either (bytes_eq word (codes "--mapped")) (Some choices.Mapped) letters refl
+    (either (begins (codes "-") word) (letters_option (drop 1 word)) None (letters_other (drop 1 word)) refl)))))
 
 other_not_list : (o : Option Choice) (choice : Choice) → o ≡ Some choice → is_other o ≡ true → is_list choice ≡ true → ⊥
 other_not_list o choice e other list = true≢false (sym other ∙ ap is_other e ∙ ap not list)
@@ -109,11 +112,13 @@ value_is words at value within is =
 -- ---- what an option reads
 
 pub reads_nothing : (known : KnownLists) (number : ℕ) (choice : Choice) (value : List ℕ) (before : ReadLists) → is_list choice ≡ false → ReadsOption known number choice value before before
-reads_nothing known number (choices.Letters inverts counts) value before e = refl
+reads_nothing known number (choices.Letters letters) value before e = refl
 reads_nothing known number (choices.Field field) value before e = refl
 reads_nothing known number (choices.Separator byte) value before e = refl
 reads_nothing known number (choices.Bad bad) value before e = refl
 reads_nothing known number choices.Longest value before e = refl
+reads_nothing known number choices.Mapped value before e = refl
+reads_nothing known number choices.After value before e = refl
 reads_nothing known number choices.File value before e = absurd (true≢false e)
 reads_nothing known number choices.Input value before e = absurd (true≢false e)
 reads_nothing known number choices.Text value before e = absurd (true≢false e)
@@ -127,11 +132,13 @@ reads_text result known number choice value text before after is same h =
 
 file_is : {T E : Type 0} (result : Result T E) (known : KnownLists) (number : ℕ) (choice : Choice) (value : List ℕ) (before after : ReadLists)
     → is_list choice ≡ true → ¬ (choice ≡ choices.Text) → OnOk result (ReadsList known number value before after) → OnOk result (ReadsOption known number choice value before after)
-file_is result known number (choices.Letters inverts counts) value before after list not h = absurd (true≢false (sym list))
+file_is result known number (choices.Letters letters) value before after list not h = absurd (true≢false (sym list))
 file_is result known number (choices.Field field) value before after list not h = absurd (true≢false (sym list))
 file_is result known number (choices.Separator byte) value before after list not h = absurd (true≢false (sym list))
 file_is result known number (choices.Bad bad) value before after list not h = absurd (true≢false (sym list))
 file_is result known number choices.Longest value before after list not h = absurd (true≢false (sym list))
+file_is result known number choices.Mapped value before after list not h = absurd (true≢false (sym list))
+file_is result known number choices.After value before after list not h = absurd (true≢false (sym list))
 file_is result known number choices.File value before after list not h = h
 file_is result known number choices.Input value before after list not h = h
 file_is result known number choices.Text value before after list not h = absurd (not refl)
@@ -144,6 +151,13 @@ reads_file result known number choice value name before after list not same h =
     file_is result known number choice value before after list not (subst (λ (n : List ℕ). OnOk result (ReadsList known number n before after)) (sym same) h)
 
 -- ---- what was read
+
+pub sets_held : {E : Type 0} (result : Result Listed E) (longest : Bool) (read : ReadLists) (v4 v6 : List Network) → longest ≡ false
+    → IsAggregate 32 read.v4 v4 → IsAggregate 128 read.v6 v6 → IfOk result (HasSets v4 v6) → IfOk result (HoldsRead longest read)
+sets_held (Ok (Addresses sets)) longest read v4 v6 e f g h =
+    (e, subst (λ (n : List Network). IsAggregate 32 read.v4 n) (sym h.0) f, subst (λ (n : List Network). IsAggregate 128 read.v6 n) (sym h.1) g)
+sets_held (Ok (Blocks tables)) longest read v4 v6 e f g h = absurd h
+sets_held (Err fault) longest read v4 v6 e f g h = tt
 
 pub blocks_held : {E : Type 0} (result : Result Listed E) (longest : Bool) (read : ReadLists) (v4 v6 : List Network) → longest ≡ true → v4 ≡ read.v4 → v6 ≡ read.v6
     → IfOk result (HasBlocks v4 v6) → IfOk result (HoldsRead longest read)
@@ -177,11 +191,13 @@ text_stops result known number choice value text before refused is same h =
 file_stops_at : {T : Type 0} (result : Result T ReadFault) (known : KnownLists) (number : ℕ) (choice : Choice) (value : List ℕ) (before : ReadLists) (refused : Refused)
     → is_list choice ≡ true → ¬ (choice ≡ choices.Text) → IfErr result (λ fault. StopsAt known number value before fault refused)
     → IfErr result (λ fault. StopsAtOption known number choice value before fault refused)
-file_stops_at result known number (choices.Letters inverts counts) value before refused list not h = absurd (true≢false (sym list))
+file_stops_at result known number (choices.Letters letters) value before refused list not h = absurd (true≢false (sym list))
 file_stops_at result known number (choices.Field field) value before refused list not h = absurd (true≢false (sym list))
 file_stops_at result known number (choices.Separator byte) value before refused list not h = absurd (true≢false (sym list))
 file_stops_at result known number (choices.Bad bad) value before refused list not h = absurd (true≢false (sym list))
 file_stops_at result known number choices.Longest value before refused list not h = absurd (true≢false (sym list))
+file_stops_at result known number choices.Mapped value before refused list not h = absurd (true≢false (sym list))
+file_stops_at result known number choices.After value before refused list not h = absurd (true≢false (sym list))
 file_stops_at result known number choices.File value before refused list not h = h
 file_stops_at result known number choices.Input value before refused list not h = h
 file_stops_at result known number choices.Text value before refused list not h = absurd (not refl)

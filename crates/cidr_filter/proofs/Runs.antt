@@ -370,7 +370,7 @@ module _ {Z W E : Type 0} (known : KnownLists) (words : List (String Z)) (reques
     module _ (is_empty : Bool) (e : is_empty ≡ (length refused.kept == 0)) (none : is_empty ≡ true) where
       -- none was, and the filtering ended so
       goes_on : Refuses (codes "out of memory\n") (record end { errors = told }) ⊎ ((held : Listed) × HoldsRead request.longest was_read.read held
-          × EndsLogs (filter_of request held) known (logs_of (drop request.files words)) (record end { errors = told })) → EndsRequest known words request end
+          × EndsLogs (filter_of words request held) known (logs_of (drop request.files words)) (record end { errors = told })) → EndsRequest known words request end
       goes_on h = (
         refused,
         told,
@@ -381,7 +381,7 @@ module _ {Z W E : Type 0} (known : KnownLists) (words : List (String Z)) (reques
       pub memory_ran_out : Refuses (codes "out of memory\n") (record end { errors = told }) → EndsRequest known words request end
       memory_ran_out h = goes_on (inl h)
 
-      pub logs_filtered : (held : Listed) → listed ≡ Ok held → EndsLogs (filter_of request held) known (logs_of (drop request.files words)) (record end { errors = told })
+      pub logs_filtered : (held : Listed) → listed ≡ Ok held → EndsLogs (filter_of words request held) known (logs_of (drop request.files words)) (record end { errors = told })
           → EndsRequest known words request end
       logs_filtered held has h = goes_on (inr (held, subst (λ (l : Result Listed X). IfOk l (HoldsRead request.longest was_read.read)) has was_read.holds, h))
 

@@ -10,7 +10,7 @@ use Rattle.lines.specs.declared.line_buffer.NextLine.TheVariants.{Line, TooLong,
 use Rattle.lines.specs.declared.line_end.LineEnd.{LineEnd}
 use Rattle.lines.proofs.Putting.{begins_after_puts}
 use Rattle.cidr_filter.specs.Filters.{Judges, is_refused, is_selected, one_if, output_of, Filters}
-use Rattle.cidr_filter.specs.Lines.{LogLine, log_lines, ended_lines, printed}
+use Rattle.cidr_filter.specs.Lines.{LogLine, log_lines, ended_lines, content, printed}
 use Rattle.cidr_filter.specs.Stands.{Stand, Goes}
 use Rattle.cidr_filter.specs.Stops.{Ends, FiltersEnded, WritesBeginning, EndsAtLine, Stops}
 use Rattle.cidr_filter.specs.Private.Progress.{feed_behind, shown, RefusesLine, LineStops, FiltersSoFar}
@@ -173,7 +173,10 @@ module _ (filter_by : Filter) where
         h.0,
         writes_at new line end h.1 hands h.2 h.3
             (subst (λ t. AppendsBeginning mid.holds new.holds
-            (mid.waits ++ shown filter_by h.1 t)) text h.4),
+            (mid.waits ++ shown filter_by h.1 (content (log_line line end)) t)) text
+            (subst (λ l. AppendsBeginning mid.holds new.holds
+            (mid.waits ++ shown filter_by h.1 l (whole ++ feed_behind end)))
+            (sym (handed_first now s.pending line end hands).is) h.4)),
       )
       line_stops read_failed write_failed faults.Address h = refused_at verdicts.Bad h
       line_stops read_failed write_failed faults.Length h = refused_at verdicts.TooLong h

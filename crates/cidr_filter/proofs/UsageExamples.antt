@@ -6,6 +6,7 @@ use Rattle.program.specs.declared.usage.Subject.TheVariants as subjects
 use Rattle.cidr_filter.specs.Usage.{about, value_problem, word_problem, option_fault, rest_fault, together_by, HasFault}
 use Rattle.cidr_filter.specs.declared.options.Choice.TheVariants as choices
 use Rattle.cidr_filter.specs.declared.usage.Problem.TheVariants as problems
+use Rattle.cidr_filter.proofs.OptionExamples.{letters}
 
 -- ---- a word by itself
 
@@ -50,6 +51,9 @@ value_of_a_separator name n = rw n
 pub value_of_bad : {Z : Type 0} (name : String Z) → string_bytes name ≡ codes "--bad" → value_problem name ≡ problems.Bad
 value_of_bad name n = rw n
 
+pub value_of_after : {Z : Type 0} (name : String Z) → string_bytes name ≡ codes "--after" → value_problem name ≡ problems.Empty
+value_of_after name n = rw n
+
 pub option_and_value : {Z : Type 0} (name value : String Z) → string_bytes name ≡ codes "-d" → option_fault 7 (name ∷ value ∷ []) ≡ about (subjects.Value 7 8) problems.Separator
 option_and_value name value n = rw n
 
@@ -83,16 +87,16 @@ no_files Z = refl
 
 -- ---- right words that are wrong together
 
-pub longest_counted : together_by true false false ≡ Some problems.Crossed
+pub longest_counted : together_by (Some problems.Crossed) false false ≡ Some problems.Crossed
 longest_counted = refl
 
-pub nothing_listed : together_by false false false ≡ Some problems.NoList
+pub nothing_listed : together_by None false false ≡ Some problems.NoList
 nothing_listed = refl
 
-pub input_read_twice : together_by false true false ≡ Some problems.InputTwice
+pub input_read_twice : together_by None true false ≡ Some problems.InputTwice
 input_read_twice = refl
 
-pub nothing_wrong : together_by false true true ≡ None
+pub nothing_wrong : together_by None true true ≡ None
 nothing_wrong = refl
 
 -- ---- whole command lines
@@ -100,7 +104,7 @@ nothing_wrong = refl
 pub a_zero : {Z : Type 0} (flag name value : String Z) → string_bytes flag ≡ codes "-v" → string_bytes name ≡ codes "-k" → string_bytes value ≡ codes "0"
     → HasFault (flag ∷ name ∷ value ∷ []) (about (subjects.Value 1 2) problems.Field)
 a_zero flag name value f n v = record {
-  options = choices.Letters true false ∷ [];
+  options = choices.Letters (letters true false false false) ∷ [];
   rest = name ∷ value ∷ [];
   begin = (rw f, rw f);
   no_more = rw (n, v);
@@ -129,9 +133,46 @@ list_and_log name dash n d = record {
 
 pub longest_and_v : {Z : Type 0} (one two : String Z) → string_bytes one ≡ codes "--longest" → string_bytes two ≡ codes "-v" → HasFault (one ∷ two ∷ []) (about subjects.CommandLine problems.Crossed)
 longest_and_v one two o t = record {
-  options = choices.Longest ∷ choices.Letters true false ∷ [];
+  options = choices.Longest ∷ choices.Letters (letters true false false false) ∷ [];
   rest = [];
   begin = (rw o, (rw (o, t), rw (o, t)));
   no_more = refl;
   is_fault = inr ([], problems.Crossed, refl, refl, refl);
+}
+
+pub anywhere_and_a_field : {Z : Type 0} (one two : String Z) → string_bytes one ≡ codes "-a" → string_bytes two ≡ codes "-k1" → HasFault (one ∷ two ∷ []) (about subjects.CommandLine problems.Anywhere)
+anywhere_and_a_field one two o t = record {
+  options = choices.Letters (letters false false true false) ∷ choices.Field 1 ∷ [];
+  rest = [];
+  begin = (rw o, (rw (o, t), rw (o, t)));
+  no_more = refl;
+  is_fault = inr ([], problems.Anywhere, refl, refl, refl);
+}
+
+pub words_and_a_separator : {Z : Type 0} (one two : String Z) → string_bytes one ≡ codes "-w" → string_bytes two ≡ codes "-d," → HasFault (one ∷ two ∷ []) (about subjects.CommandLine problems.Words)
+words_and_a_separator one two o t = record {
+  options = choices.Letters (letters false false false true) ∷ choices.Separator 44 ∷ [];
+  rest = [];
+  begin = (rw o, (rw (o, t), rw (o, t)));
+  no_more = refl;
+  is_fault = inr ([], problems.Words, refl, refl, refl);
+}
+
+pub addresses_and_v : {Z : Type 0} (one : String Z) → string_bytes one ≡ codes "-ov" → HasFault (one ∷ []) (about subjects.CommandLine problems.Only)
+addresses_and_v one o = record {
+  options = choices.Letters (record (letters true false false false) { only = true }) ∷ [];
+  rest = [];
+  begin = (rw o, rw o);
+  no_more = refl;
+  is_fault = inr ([], problems.Only, refl, refl, refl);
+}
+
+pub after_and_anywhere : {Z : Type 0} (name value flag : String Z) → string_bytes name ≡ codes "--after" → string_bytes value ≡ codes "x" → string_bytes flag ≡ codes "-a"
+    → HasFault (name ∷ value ∷ flag ∷ []) (about subjects.CommandLine problems.After)
+after_and_anywhere name value flag n v f = record {
+  options = choices.After ∷ choices.Letters (letters false false true false) ∷ [];
+  rest = [];
+  begin = (rw (n, v), (rw (n, f), rw (n, f)));
+  no_more = refl;
+  is_fault = inr ([], problems.After, refl, refl, refl);
 }

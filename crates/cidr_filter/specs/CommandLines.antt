@@ -1,11 +1,14 @@
 -- What the words of a command line ask for.
 use Rattle.std.specs.Prelude.{◌≡◌, ℕ, ◌+◌, ◌==◌, ◌||◌, ◌&&◌, Bool, true, false, not, List, [], ◌∷◌, Option, None, Some, drop, length, nat_le, if◌then◌else◌, codes, String}
 use Rattle.std.specs.List.{list_all}
+use Rattle.std.specs.Option.{is_some}
 use Rattle.std.specs.String.{string_bytes}
 use Rattle.program.specs.Words.{is, count}
 use Rattle.cidr_filter.specs.Options.{begins, option_of, behind_option, said_by}
 use Rattle.cidr_filter.specs.declared.options.Choice.{Choice}
 use Rattle.cidr_filter.specs.declared.command_line.Request.{Request}
+use Rattle.cidr_filter.specs.declared.usage.Problem.{Problem}
+use Rattle.cidr_filter.specs.declared.usage.Problem.TheVariants as problems
 
 -- the words are these options and then the rest
 abbrev pub Begin : {Z : Type 0} → List (String Z) → List Choice → List (String Z) → Type 0
@@ -34,12 +37,24 @@ abbrev pub inputs_among : {Z : Type 0} → List (String Z) → ℕ
 inputs_among [] = 1
 inputs_among (file ∷ files) = count (codes "-") (file ∷ files)
 
--- `--longest` is given together with `-v` or `-c`
-abbrev pub is_crossed : Request → Bool
-is_crossed request = request.longest && (request.inverts || request.counts)
+-- an option says which field a line's address is, or how fields are separated
+abbrev pub is_placed : Request → Bool
+is_placed request = request.letters.words || is_some request.field || is_some request.separator
+
+-- which options are given together that do not go together: `--longest` with `-v` or `-c`, `-a` with `-k`, `-d` or `-w`,
+-- `--after` with one of these or `-a`,
+-- `-w` with `-d`, and `-o` with `-v` or `--longest`
+abbrev pub crossed_problem : Request → Option Problem
+crossed_problem request =
+    if request.longest && (request.letters.inverts || request.letters.counts) then Some problems.Crossed
+    else if request.letters.anywhere && is_placed request then Some problems.Anywhere
+    else if request.after && (request.letters.anywhere || is_placed request) then Some problems.After
+    else if request.letters.words && is_some request.separator then Some problems.Words
+    else if request.letters.only && (request.letters.inverts || request.longest) then Some problems.Only
+    else None
 
 -- the words are options, as many as there are, and FILEs. There is a list, standard input is named at most once, and
--- `--longest` is not given together with `-v` or `-c`. The request is what the options say, and its FILEs begin after
+-- all options go together. The request is what the options say, and its FILEs begin after
 -- the options
 pub record Says {Z : Type 0} (words : List (String Z)) (request : Request) : Type 0 where
   pub options : List Choice
@@ -51,7 +66,7 @@ pub record Says {Z : Type 0} (words : List (String Z)) (request : Request) : Typ
   pub said : request ≡ record (said_by options) { files = request.files }
   pub lists : request.has_list ≡ true
   pub inputs : nat_le (request.inputs + inputs_among files) 1 ≡ true
-  pub alone : is_crossed request ≡ false
+  pub together : crossed_problem request ≡ None
   pub place : drop request.files words ≡ files
 
 -- the words ask for nothing that a request says

@@ -1,15 +1,22 @@
 -- Which lines of a log are selected.
-use Rattle.std.specs.Prelude.{◌≡◌, ℕ, ◌+◌, ◌<◌, ◌≤◌, Bool, true, false, not, ◌&&◌, List, [], ◌∷◌, ◌++◌, Option, None, Some, length, codes, if◌then◌else◌}
-use Rattle.ipnetwork_addr.specs.Either.{NamesIp}
+use Rattle.std.specs.Prelude.{◌≡◌, ℕ, ◌+◌, ◌-◌, ◌<◌, ◌≤◌, ◌⊎◌, Bool, true, false, not, ◌&&◌, List, [], ◌∷◌, ◌++◌, Option, None, Some, length, take, map, flat_map, slice_get, codes, if◌then◌else◌}
+use Rattle.std.specs.List.{AllByRecursion}
+use Rattle.std.specs.Option.{option_to_list}
 use Rattle.ipnetwork_addr.specs.declared.ip.IpAddr.{IpAddr}
 use Rattle.ipnetwork.specs.IpNetworkText.{ip_network_text}
 use Rattle.ipnetwork.specs.declared.ip_network.IpNetwork.{IpNetwork}
+use Rattle.line_addresses.specs.Addresses.{Spelled, spelled, addresses_of}
+use Rattle.line_addresses.specs.Following.{following}
+use Rattle.line_addresses.specs.Mapped.{unmapped}
+use Rattle.line_addresses.specs.Words.{words_of}
 use Rattle.cidr_filter.specs.Fields.{field_of}
 use Rattle.cidr_filter.specs.Lines.{LogLine, content, printed}
-use Rattle.cidr_filter.specs.Listed.{IsIn, IsLongestBlock}
+use Rattle.cidr_filter.specs.Listed.{IsIn, IsLongestBlock, has_address}
 use Rattle.cidr_filter.specs.declared.filter.Bad.{Bad}
 use Rattle.cidr_filter.specs.declared.filter.Bad.TheVariants as bads
 use Rattle.cidr_filter.specs.declared.filter.Filter.{Filter}
+use Rattle.cidr_filter.specs.declared.filter.Place.{Place}
+use Rattle.cidr_filter.specs.declared.filter.Place.TheVariants as places
 use Rattle.cidr_filter.specs.declared.filter.Verdict.{Verdict}
 use Rattle.cidr_filter.specs.declared.filter.Verdict.TheVariants as verdicts
 use Rattle.cidr_filter.specs.declared.listed.Listed.{Listed}
@@ -24,16 +31,57 @@ abbrev pub TellsBlock : Listed → IpAddr → Option IpNetwork → Type 0
 TellsBlock (Addresses sets) address told = told ≡ None
 TellsBlock (Blocks tables) address told = (block : IpNetwork) × (told ≡ Some block) × IsLongestBlock tables address block
 
--- the field of the line is the address, and nothing else
-abbrev pub Holds : Filter → List ℕ → IpAddr → Type 0
-Holds filter line address = (field : List ℕ) × (field_of filter.field filter.separator line ≡ Some field) × NamesIp field address
+-- the address that a part of a line is, with its text, if there is such a part and it is one
+abbrev pub of_part : Option (List ℕ) → List Spelled
+of_part None = []
+of_part (Some part) = option_to_list (spelled part)
+
+-- the first address of a rest of a line, if there is such a rest
+abbrev pub of_rest : Option (List ℕ) → List Spelled
+of_rest None = []
+of_rest (Some rest) = take 1 (addresses_of rest)
+
+-- the addresses of a line, in order: that of a field or of a word, or all that stand anywhere in it, or the first of
+-- what follows the first place of a text
+abbrev pub spelled_at : Place → List ℕ → List Spelled
+spelled_at (places.Field number separator) line = of_part (field_of number separator line)
+spelled_at (places.Word number) line = of_part (slice_get (words_of line) (number - 1))
+spelled_at places.Anywhere line = addresses_of line
+spelled_at (places.After text) line = of_rest (following text line)
+
+-- the address for which the lists are asked: of an IPv4-mapped one its IPv4 one, if the option says so
+abbrev pub asked : Bool → IpAddr → IpAddr
+asked mapped address = if mapped then unmapped address else address
+
+-- those of a line
+abbrev pub asked_of : Filter → List Spelled → List IpAddr
+asked_of filter found = map (λ one. asked filter.mapped one.address) found
+
+abbrev pub addresses_in : Filter → List ℕ → List IpAddr
+addresses_in filter line = asked_of filter (spelled_at filter.place line)
+
+-- one of these addresses is in the lists, and this is what they say about the first that is
+abbrev pub FirstListed : Filter → List IpAddr → Option IpNetwork → Type 0
+FirstListed filter [] told = ⊥
+FirstListed filter (address ∷ addresses) told =
+    (IsListed filter address × TellsBlock filter.listed address told) ⊎ (¬ (IsListed filter address) × FirstListed filter addresses told)
+
+-- none of them is
+abbrev pub NoneListed : Filter → List IpAddr → Type 0
+NoneListed filter addresses = AllByRecursion (λ address. ¬ (IsListed filter address)) addresses
+
+-- what a line with these addresses is to the lists
+abbrev pub JudgesAddresses : Filter → List IpAddr → Verdict → Type 0
+JudgesAddresses filter addresses (verdicts.Inside told) = FirstListed filter addresses told
+JudgesAddresses filter addresses verdicts.Outside = (0 < length addresses) × NoneListed filter addresses
+JudgesAddresses filter addresses verdicts.Bad = addresses ≡ []
+JudgesAddresses filter addresses verdicts.TooLong = ⊥
 
 -- what a line, without its end, is to the list. One of more than 1,048,576 bytes is too long, whatever is in it
 abbrev pub Judges : Filter → List ℕ → Verdict → Type 0
-Judges filter line (verdicts.Inside told) =
-    (length line ≤ 1048576) × ((address : IpAddr) × Holds filter line address × IsListed filter address × TellsBlock filter.listed address told)
-Judges filter line verdicts.Outside = (length line ≤ 1048576) × ((address : IpAddr) × Holds filter line address × ¬ (IsListed filter address))
-Judges filter line verdicts.Bad = (length line ≤ 1048576) × ((address : IpAddr) → ¬ (Holds filter line address))
+Judges filter line (verdicts.Inside told) = (length line ≤ 1048576) × JudgesAddresses filter (addresses_in filter line) (verdicts.Inside told)
+Judges filter line verdicts.Outside = (length line ≤ 1048576) × JudgesAddresses filter (addresses_in filter line) verdicts.Outside
+Judges filter line verdicts.Bad = (length line ≤ 1048576) × JudgesAddresses filter (addresses_in filter line) verdicts.Bad
 Judges filter line verdicts.TooLong = 1048576 < length line
 
 -- lines without an address are not selected
@@ -85,9 +133,27 @@ abbrev pub mark_of : Listed → Verdict → List ℕ
 mark_of (Addresses sets) verdict = []
 mark_of (Blocks tables) verdict = block_text (block_in verdict) ++ 9 ∷ []
 
--- what is written for a line: its mark and the line if it is selected, and nothing if lines are only counted
+-- whether an address is in the lists, as a test. Of blocks none is asked, since `-o` is not given together with
+-- `--longest`
+abbrev pub is_listed : Listed → IpAddr → Bool
+is_listed (Addresses sets) address = has_address sets address
+is_listed (Blocks tables) address = false
+
+-- with `-o`: the text of an address and a line feed, if it is in the lists
+abbrev pub text_of : Filter → IpAddr → List ℕ → List ℕ
+text_of filter address text = if is_listed filter.listed (asked filter.mapped address) then text ++ 10 ∷ [] else []
+
+abbrev pub texts_of : Filter → List Spelled → List ℕ
+texts_of filter found = flat_map (λ one. text_of filter one.address one.text) found
+
+-- what is printed of a selected line, which is given without its end, and as it is written: its mark and the line, or
+-- with `-o` those of its addresses that are in the lists
+abbrev pub shown_of : Filter → Verdict → List ℕ → List ℕ → List ℕ
+shown_of filter verdict line text = if filter.only then texts_of filter (spelled_at filter.place line) else mark_of filter.listed verdict ++ text
+
+-- what is written for a line: that, if it is selected, and nothing if lines are only counted
 abbrev pub output_of : Filter → Verdict → LogLine → List ℕ
-output_of filter verdict line = if is_selected filter verdict && not filter.counts then mark_of filter.listed verdict ++ printed line else []
+output_of filter verdict line = if is_selected filter verdict && not filter.counts then shown_of filter verdict (content line) (printed line) else []
 
 -- how many lines that is
 abbrev pub one_if : Bool → ℕ

@@ -1,10 +1,11 @@
 -- The networks of the lists, and what they say about an address.
-use Rattle.std.specs.Prelude.{◌≡◌, ◌≤◌, ◌↔◌, ℕ, List, IsSome}
+use Rattle.std.specs.Prelude.{◌≡◌, ◌≤◌, ◌↔◌, ℕ, Bool, List, IsSome}
 use Rattle.std.specs.FinMap.{FinMap, get}
-use Rattle.std.specs.List.{Contains}
+use Rattle.std.specs.List.{Contains, list_any}
 use Rattle.ipnetwork_addr.specs.declared.ip.IpAddr.{IpAddr}
 use Rattle.ipnetwork_addr.specs.declared.ip.IpAddr.TheVariants as addresses
 use Rattle.ipnetwork_blocks.specs.Aggregate.{InUnion}
+use Rattle.ipnetwork_family.specs.Computed.Network.{is_member}
 use Rattle.ipnetwork_family.specs.Network.{Network, HostBitsAreZero, block_of, network_cmp}
 use Rattle.ipnetwork.specs.IpNetworks.{IpMember, prefix_of}
 use Rattle.ipnetwork.specs.declared.ip_network.IpNetwork.{IpNetwork}
@@ -18,6 +19,14 @@ use Rattle.cidr_filter.specs.declared.listed.Tables.{Tables}
 abbrev pub HasAddress : Sets → IpAddr → Type 0
 HasAddress sets (addresses.V4 address) = InUnion 32 sets.v4 address
 HasAddress sets (addresses.V6 address) = InUnion 128 sets.v6 address
+
+-- the same as a test: the address is a member of a block
+abbrev pub is_among : ℕ → List Network → ℕ → Bool
+is_among w blocks address = list_any (λ n. is_member w n address) blocks
+
+abbrev pub has_address : Sets → IpAddr → Bool
+has_address sets (addresses.V4 address) = is_among 32 sets.v4 address
+has_address sets (addresses.V6 address) = is_among 128 sets.v6 address
 
 -- the keys of the table are the blocks of these networks: each with its host bits cleared
 abbrev pub HasBlocksOf : {V : Type 0} → ℕ → List Network → FinMap network_cmp V → Type 0

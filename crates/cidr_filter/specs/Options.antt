@@ -8,6 +8,7 @@ use Rattle.cidr_filter.specs.declared.command_line.Request.{Request}
 use Rattle.cidr_filter.specs.declared.filter.Bad.TheVariants as bads
 use Rattle.cidr_filter.specs.declared.options.Choice.{Choice}
 use Rattle.cidr_filter.specs.declared.options.Choice.TheVariants as choices
+use Rattle.cidr_filter.specs.declared.options.Letters.{Letters}
 
 -- the second text begins with the first
 abbrev pub begins : List ℕ → List ℕ → Bool
@@ -49,19 +50,30 @@ file_option name = if length name == 0 then None else if bytes_eq name (codes "-
 abbrev pub text_option : List ℕ → Option Choice
 text_option text = if length text == 0 then None else Some choices.Text
 
--- `-v` and `-c`: their letters after one `-`, in any order
+-- `--after`: a text that is not empty
+abbrev pub after_option : List ℕ → Option Choice
+after_option text = if length text == 0 then None else Some choices.After
+
+-- `-v`, `-c`, `-a`, `-w` and `-o`: their letters after one `-`, in any order
 abbrev pub is_letter : ℕ → Bool
-is_letter letter = letter == 118 || letter == 99
+is_letter letter = letter == 118 || letter == 99 || letter == 97 || letter == 119 || letter == 111
+
+abbrev pub letters_in : List ℕ → Letters
+letters_in text = record {
+  inverts = list_any (λ letter. letter == 118) text;
+  counts = list_any (λ letter. letter == 99) text;
+  anywhere = list_any (λ letter. letter == 97) text;
+  words = list_any (λ letter. letter == 119) text;
+  only = list_any (λ letter. letter == 111) text;
+}
 
 abbrev pub letters_option : List ℕ → Option Choice
-letters_option letters =
-    if nat_lt 0 (length letters) && list_all is_letter letters
-    then Some (choices.Letters (list_any (λ letter. letter == 118) letters) (list_any (λ letter. letter == 99) letters))
-    else None
+letters_option text = if nat_lt 0 (length text) && list_all is_letter text then Some (choices.Letters (letters_in text)) else None
 
 -- the value of such an option is the next word
 abbrev pub takes_next : {Z : Type 0} → String Z → Bool
 takes_next word = is (codes "-f") word || is (codes "-e") word || is (codes "-k") word || is (codes "-d") word || is (codes "--bad") word
+    || is (codes "--after") word
 
 abbrev pub in_two_words : {Z : Type 0} → String Z → List ℕ → Option Choice
 in_two_words name value =
@@ -69,7 +81,8 @@ in_two_words name value =
     else if is (codes "-e") name then text_option value
     else if is (codes "-k") name then field_option value
     else if is (codes "-d") name then separator_option value
-    else bad_option value
+    else if is (codes "--bad") name then bad_option value
+    else after_option value
 
 -- others are one word, in which the value of `-k` and of `-d` may stand after the letter, and that of `--bad` after a
 -- `=`
@@ -79,6 +92,7 @@ in_one_word word =
     else if begins (codes "-d") word then separator_option (drop 2 word)
     else if begins (codes "--bad=") word then bad_option (drop 6 word)
     else if bytes_eq word (codes "--longest") then Some choices.Longest
+    else if bytes_eq word (codes "--mapped") then Some choices.Mapped
     else if begins (codes "-") word then letters_option (drop 1 word)
     else None
 
@@ -96,25 +110,37 @@ abbrev pub behind_option : {Z : Type 0} → List (String Z) → List (String Z)
 behind_option [] = []
 behind_option (word ∷ others) = if takes_next word then drop 1 others else others
 
--- the request with an option added: of each option the last is said, and `-v` and `-c` stay
+-- the letters that are among the first or the second
+abbrev pub either : Letters → Letters → Letters
+either first second = record {
+  inverts = first.inverts || second.inverts;
+  counts = first.counts || second.counts;
+  anywhere = first.anywhere || second.anywhere;
+  words = first.words || second.words;
+  only = first.only || second.only;
+}
+
+-- the request with an option added: of each option the last is said, and letters stay
 abbrev pub with_option : Request → Choice → Request
-with_option request (choices.Letters inverts counts) =
-    record request { inverts = request.inverts || inverts; counts = request.counts || counts }
-with_option request (choices.Field number) = record request { field = number }
-with_option request (choices.Separator byte) = record request { separator = byte }
+with_option request (choices.Letters letters) = record request { letters = either request.letters letters }
+with_option request (choices.Field number) = record request { field = Some number }
+with_option request (choices.Separator byte) = record request { separator = Some byte }
 with_option request (choices.Bad bad) = record request { bad = bad }
 with_option request choices.Longest = record request { longest = true }
+with_option request choices.Mapped = record request { mapped = true }
+with_option request choices.After = record request { after = true }
 with_option request choices.File = record request { has_list = true }
 with_option request choices.Input = record request { has_list = true; inputs = request.inputs + 1 }
 with_option request choices.Text = record request { has_list = true }
 
--- without options the address is the first field, fields are cut at spaces (byte 32), and bad lines are dropped
+-- without options no place of the address is said, and bad lines are dropped
 abbrev pub no_options : Request
 no_options = record {
-  field = 1;
-  separator = 32;
-  inverts = false;
-  counts = false;
+  letters = record { inverts = false; counts = false; anywhere = false; words = false; only = false };
+  field = None;
+  separator = None;
+  after = false;
+  mapped = false;
   longest = false;
   bad = bads.Drop;
   has_list = false;
@@ -126,13 +152,31 @@ no_options = record {
 abbrev pub said_by : List Choice → Request
 said_by options = fold with_option no_options options
 
+-- the text of the last `--after` among options, or an empty one; the value of an option is none
+abbrev pub or_last : List ℕ → List ℕ → List ℕ
+or_last first [] = first
+or_last first (byte ∷ last) = byte ∷ last
+
+abbrev pub said_after : {Z : Type 0} → List (String Z) → List ℕ
+said_after [] = []
+said_after (word ∷ []) = []
+said_after (word ∷ value ∷ words) = if is (codes "--after") word then string_bytes value else []
+
+abbrev pub text_after : {Z : Type 0} → List (String Z) → List ℕ
+text_after [] = []
+text_after (word ∷ []) = []
+text_after (word ∷ value ∷ words) =
+    or_last (said_after (word ∷ value ∷ words)) (if takes_next word then text_after words else text_after (value ∷ words))
+
 -- whether an option is a list
 abbrev pub is_list : Choice → Bool
-is_list (choices.Letters inverts counts) = false
+is_list (choices.Letters letters) = false
 is_list (choices.Field number) = false
 is_list (choices.Separator byte) = false
 is_list (choices.Bad bad) = false
 is_list choices.Longest = false
+is_list choices.Mapped = false
+is_list choices.After = false
 is_list choices.File = true
 is_list choices.Input = true
 is_list choices.Text = true

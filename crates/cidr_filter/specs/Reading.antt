@@ -21,11 +21,13 @@ abbrev pub ReadsOption : KnownLists → ℕ → Choice → List ℕ → ReadList
 ReadsOption known number choices.File value before after = ReadsList known number value before after
 ReadsOption known number choices.Input value before after = ReadsList known number value before after
 ReadsOption known number choices.Text value before after = TakesLines (at_list before number) (lines value) after
-ReadsOption known number (choices.Letters inverts counts) value before after = after ≡ before
+ReadsOption known number (choices.Letters letters) value before after = after ≡ before
 ReadsOption known number (choices.Field field) value before after = after ≡ before
 ReadsOption known number (choices.Separator byte) value before after = after ≡ before
 ReadsOption known number (choices.Bad bad) value before after = after ≡ before
 ReadsOption known number choices.Longest value before after = after ≡ before
+ReadsOption known number choices.Mapped value before after = after ≡ before
+ReadsOption known number choices.After value before after = after ≡ before
 
 -- the place among all words of the word after the first of the last ones
 abbrev pub next_place : {Z : Type 0} → List (String Z) → List (String Z) → ℕ
@@ -52,11 +54,13 @@ abbrev pub StopsAtOption : KnownLists → ℕ → Choice → List ℕ → ReadLi
 StopsAtOption known number choices.File value before fault refused = StopsAt known number value before fault refused
 StopsAtOption known number choices.Input value before fault refused = StopsAt known number value before fault refused
 StopsAtOption known number choices.Text value before fault refused = StopsAtText number value before fault refused
-StopsAtOption known number (choices.Letters inverts counts) value before fault refused = ⊥
+StopsAtOption known number (choices.Letters letters) value before fault refused = ⊥
 StopsAtOption known number (choices.Field field) value before fault refused = ⊥
 StopsAtOption known number (choices.Separator byte) value before fault refused = ⊥
 StopsAtOption known number (choices.Bad bad) value before fault refused = ⊥
 StopsAtOption known number choices.Longest value before fault refused = ⊥
+StopsAtOption known number choices.Mapped value before fault refused = ⊥
+StopsAtOption known number choices.After value before fault refused = ⊥
 
 -- of the options with which the words begin those before one are read in turn, and the reading stops at that one
 pub record Stops {Z : Type 0} (known : KnownLists) (words : List (String Z)) (before : ReadLists) (fault : ReadFault) (refused : Refused) : Type 0 where

@@ -1,5 +1,6 @@
 -- How a run ends: its exit status, what was written, and what was reported.
-use Rattle.std.specs.Prelude.{◌≡◌, ℕ, ◌-◌, ◌^◌, min, List, [], ◌∷◌, ◌++◌, Bool, true, false, ◌⊎◌, if◌then◌else◌, length, nat_lt, drop, codes, decimal, String}
+use Rattle.std.specs.Prelude.{◌≡◌, ℕ, ◌-◌, ◌^◌, min, List, [], ◌∷◌, ◌++◌, Bool, true, false, ◌⊎◌, if◌then◌else◌, length, nat_lt, take, drop, codes, decimal, String}
+use Rattle.std.specs.Option.{unwrap_or}
 use Rattle.lists.specs.Lists.{ReadLists, nothing_read}
 use Rattle.lists.specs.Refusals.{Refused, no_refusals}
 use Rattle.lines.specs.Outputs.{Written, FailsIn}
@@ -15,10 +16,13 @@ use Rattle.cidr_filter.specs.Filters.{Filters}
 use Rattle.cidr_filter.specs.Logs.{logs_of, FiltersLogs, HaltsBy}
 use Rattle.cidr_filter.specs.Reading.{IsReadOf, Stops, HoldsRead}
 use Rattle.cidr_filter.specs.Lines.{LogLine}
+use Rattle.cidr_filter.specs.Options.{text_after}
 use Rattle.cidr_filter.specs.Told.{in_option, log_fault_text}
 use Rattle.cidr_filter.specs.Usage.{problem_text, HasFault}
 use Rattle.cidr_filter.specs.declared.command_line.Request.{Request}
 use Rattle.cidr_filter.specs.declared.filter.Filter.{Filter}
+use Rattle.cidr_filter.specs.declared.filter.Place.{Place}
+use Rattle.cidr_filter.specs.declared.filter.Place.TheVariants as places
 use Rattle.cidr_filter.specs.declared.listed.Listed.{Listed}
 use Rattle.cidr_filter.specs.declared.log.LogFault.{LogFault}
 use Rattle.cidr_filter.specs.declared.log.LogFault.TheVariants as faults
@@ -76,9 +80,26 @@ pub record FiltersAll {W E : Type 0} (filter : Filter) (known : KnownLists) (nam
 abbrev pub EndsLogs : {W E : Type 0} → Filter → KnownLists → List (List ℕ) → Ending W E → Type 0
 EndsLogs filter known names end = FiltersAll filter known names end ⊎ StopsAtLog filter known names end
 
+-- where a request looks for the addresses of a line: anywhere, after a text, in a word, or in a field. Without `-k` that is the first,
+-- and without `-d` fields are cut at spaces (byte 32)
+abbrev pub place_of : {Z : Type 0} → List (String Z) → Request → Place
+place_of words request =
+    if request.letters.anywhere then places.Anywhere
+    else if request.after then places.After (text_after (take request.files words))
+    else if request.letters.words then places.Word (unwrap_or request.field 1)
+    else places.Field (unwrap_or request.field 1) (unwrap_or request.separator 32)
+
 -- the filter of a request
-abbrev pub filter_of : Request → Listed → Filter
-filter_of request listed = record { listed = listed; field = request.field; separator = request.separator; inverts = request.inverts; bad = request.bad; counts = request.counts }
+abbrev pub filter_of : {Z : Type 0} → List (String Z) → Request → Listed → Filter
+filter_of words request listed = record {
+  listed = listed;
+  place = place_of words request;
+  mapped = request.mapped;
+  inverts = request.letters.inverts;
+  bad = request.bad;
+  counts = request.letters.counts;
+  only = request.letters.only;
+}
 
 -- this was read of the lists: if a line of them was refused, or there is no memory, nothing is written. Else the logs are
 -- filtered by it
@@ -87,7 +108,7 @@ EndsFiltering known words request read end =
     ((was_refused read.refused ≡ true) × Refuses [] end)
     ⊎ ((was_refused read.refused ≡ false) × (Refuses (codes "out of memory\n") end
     ⊎ ((listed : Listed) × HoldsRead request.longest read listed
-    × EndsLogs (filter_of request listed) known (logs_of (drop request.files words)) end)))
+    × EndsLogs (filter_of words request listed) known (logs_of (drop request.files words)) end)))
 
 -- the lists were not read to their ends, and these lines were refused before: nothing was written, and the cause was
 -- reported

@@ -4,7 +4,7 @@ use Rattle.std.specs.String.{string_bytes}
 use Rattle.program.specs.Words.{is}
 use Rattle.program.specs.declared.usage.Subject.{Subject}
 use Rattle.program.specs.declared.usage.Subject.TheVariants as about_this
-use Rattle.cidr_filter.specs.CommandLines.{Begin, is_plain, is_name, files_among, inputs_among, is_crossed}
+use Rattle.cidr_filter.specs.CommandLines.{Begin, is_plain, is_name, files_among, inputs_among, crossed_problem}
 use Rattle.cidr_filter.specs.Options.{begins, takes_next, option_of, said_by}
 use Rattle.cidr_filter.specs.declared.command_line.Request.{Request}
 use Rattle.cidr_filter.specs.declared.options.Choice.{Choice}
@@ -20,10 +20,15 @@ problem_text problems.Separator = codes "is not one ASCII byte other than LF, CR
 problem_text problems.Bad = codes "is not drop, keep or stop"
 problem_text problems.Name = codes "is no file name"
 problem_text problems.Text = codes "is no network or range"
+problem_text problems.Empty = codes "is no text"
 problem_text problems.NotAlone = codes "is not the only argument"
 problem_text problems.NoOption = codes "is no option"
 problem_text problems.AfterFile = codes "comes after a FILE"
 problem_text problems.Crossed = codes "--longest goes with neither -v nor -c"
+problem_text problems.Anywhere = codes "-a goes with none of -k, -d and -w"
+problem_text problems.After = codes "--after goes with none of -a, -k, -d and -w"
+problem_text problems.Words = codes "-w does not go with -d"
+problem_text problems.Only = codes "-o goes with neither -v nor --longest"
 problem_text problems.NoList = codes "neither -f nor -e is given"
 problem_text problems.InputTwice = codes "-: standard input can be read only once"
 
@@ -38,7 +43,8 @@ value_problem name =
     else if is (codes "-e") name then problems.Text
     else if is (codes "-k") name then problems.Field
     else if is (codes "-d") name then problems.Separator
-    else problems.Bad
+    else if is (codes "--bad") name then problems.Bad
+    else problems.Empty
 
 -- what is wrong with a word that is no option by itself
 abbrev pub word_problem : List ℕ → Problem
@@ -81,15 +87,13 @@ rest_fault place (word ∷ words) =
     else Some (option_fault place (word ∷ words))
 
 -- what is wrong with options and FILEs, each of which is right by itself
-abbrev pub together_by : Bool → Bool → Bool → Option Problem
-together_by are_crossed has_list is_read_once =
-    if are_crossed then Some problems.Crossed
-    else if has_list then if is_read_once then None else Some problems.InputTwice
-    else Some problems.NoList
+abbrev pub together_by : Option Problem → Bool → Bool → Option Problem
+together_by (Some problem) has_list is_read_once = Some problem
+together_by None has_list is_read_once = if has_list then if is_read_once then None else Some problems.InputTwice else Some problems.NoList
 
 abbrev pub together_problem : {Z : Type 0} → Request → List (String Z) → Option Problem
 together_problem said files =
-    together_by (is_crossed said) said.has_list (nat_le (said.inputs + inputs_among files) 1)
+    together_by (crossed_problem said) said.has_list (nat_le (said.inputs + inputs_among files) 1)
 
 -- this is wrong with the words. It is the first wrong word, or the first option with a wrong value; if there is none, it
 -- is what the words are together

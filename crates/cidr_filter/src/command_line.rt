@@ -1,12 +1,12 @@
 //! What the arguments ask for.
 ghost use Rattle.std.specs.Prelude.{◌≡◌, ◌+◌, ◌^◌, ◌<◌, ◌≤◌, drop, length, nat_le, IfOk, IfErr};
-ghost use Rattle.cidr_filter.specs.CommandLines.{is_crossed, inputs_among, Says, AsksNothing};
-ghost use Rattle.cidr_filter.specs.Options.{with_option};
+ghost use Rattle.cidr_filter.specs.CommandLines.{crossed_problem, is_placed, inputs_among, Says, AsksNothing};
+ghost use Rattle.cidr_filter.specs.Options.{with_option, either};
 ghost use Rattle.cidr_filter.specs.Private.Requests.{BeginsWith, behind_dashes};
 ghost use Rattle.cidr_filter.specs.Usage.{HasFault, together_by};
 
 use crate::filter::Bad;
-use crate::options::{Choice, behind, choice_at};
+use crate::options::{Choice, Letters, behind, choice_at};
 use crate::usage::{Problem, UsageFault, about, rest_fault};
 use program::usage::Subject;
 use program::words::{count_of, is};
@@ -14,14 +14,16 @@ use program::words::{count_of, is};
 /// What a run is asked for. Its options are the words before `files`, and the FILEs those from there on.
 #[derive(Clone, Copy, Debug, PartialEq, Eq)]
 pub struct Request {
-    /// The number of the field.
-    pub field: u32,
-    /// The byte between fields.
-    pub separator: u8,
-    /// Whether the lines whose address is in no network are selected.
-    pub inverts: bool,
-    /// Whether lines are counted.
-    pub counts: bool,
+    /// The options of one letter.
+    pub letters: Letters,
+    /// The number of the field, if an option says it.
+    pub field: Option<u32>,
+    /// The byte between fields, if an option says it.
+    pub separator: Option<u8>,
+    /// Whether an option says the text that a line's address follows.
+    pub after: bool,
+    /// Whether an IPv4-mapped address of a line counts as its IPv4 one.
+    pub mapped: bool,
     /// Whether the longest block that holds the address stands before a line.
     pub longest: bool,
     /// What becomes of a line without an address.
@@ -47,7 +49,7 @@ pub(crate) fn request_of(words: &[String]) -> Result<Request, UsageFault>
     }
     let files = files_from(words, said.files);
     let is_read_once = at_most_one(said.inputs, inputs_among(&words[files..]));
-    match together_problem(is_crossed(said), said.has_list, is_read_once) {
+    match together_problem(crossed_problem(said), said.has_list, is_read_once) {
         Some(problem) => Err(about(Subject::CommandLine, problem)),
         None => Ok(Request { files, ..said }),
     }
@@ -58,10 +60,17 @@ fn options_of(words: &[String]) -> Request
     ensures { BeginsWith words.now result }
 {
     let mut request = Request {
-        field: 1,
-        separator: b' ',
-        inverts: false,
-        counts: false,
+        letters: Letters {
+            inverts: false,
+            counts: false,
+            anywhere: false,
+            words: false,
+            only: false,
+        },
+        field: None,
+        separator: None,
+        after: false,
+        mapped: false,
         longest: false,
         bad: Bad::Drop,
         has_list: false,
@@ -79,27 +88,49 @@ fn options_of(words: &[String]) -> Request
     }
 }
 
-// What is wrong with words that are right by themselves, by whether `--longest` is beside `-v` or `-c`, whether there is
-// a list, and whether standard input is read once at the most.
-fn together_problem(are_crossed: bool, has_list: bool, is_read_once: bool) -> Option<Problem>
-    ensures { result ≡ together_by are_crossed has_list is_read_once }
+// What is wrong with words that are right by themselves, by which options do not go together, whether there is a list,
+// and whether standard input is read once at the most.
+fn together_problem(crossed: Option<Problem>, has_list: bool, is_read_once: bool) -> Option<Problem>
+    ensures { result ≡ together_by crossed has_list is_read_once }
 {
-    if are_crossed {
+    match crossed {
+        Some(problem) => Some(problem),
+        None => {
+            if !has_list {
+                Some(Problem::NoList)
+            } else if !is_read_once {
+                Some(Problem::InputTwice)
+            } else {
+                None
+            }
+        }
+    }
+}
+
+// Which options are given that do not go together.
+fn crossed_problem(request: Request) -> Option<Problem>
+    ensures { result ≡ crossed_problem request }
+{
+    if request.longest && (request.letters.inverts || request.letters.counts) {
         Some(Problem::Crossed)
-    } else if !has_list {
-        Some(Problem::NoList)
-    } else if !is_read_once {
-        Some(Problem::InputTwice)
+    } else if request.letters.anywhere && is_placed(request) {
+        Some(Problem::Anywhere)
+    } else if request.after && (request.letters.anywhere || is_placed(request)) {
+        Some(Problem::After)
+    } else if request.letters.words && request.separator.is_some() {
+        Some(Problem::Words)
+    } else if request.letters.only && (request.letters.inverts || request.longest) {
+        Some(Problem::Only)
     } else {
         None
     }
 }
 
-// Whether `--longest` is given together with `-v` or `-c`.
-fn is_crossed(request: Request) -> bool
-    ensures { result ≡ is_crossed request }
+// Whether an option says which field a line's address is, or how fields are separated.
+fn is_placed(request: Request) -> bool
+    ensures { result ≡ is_placed request }
 {
-    request.longest && (request.inverts || request.counts)
+    request.letters.words || request.field.is_some() || request.separator.is_some()
 }
 
 // The request with an option added.
@@ -109,19 +140,29 @@ fn with_choice(request: Request, choice: Choice) -> Request
     ensures inputs { result.inputs ≤ request.inputs + 1 }
 {
     match choice {
-        Choice::Letters { inverts, counts } => Request {
-            inverts: request.inverts || inverts,
-            counts: request.counts || counts,
+        Choice::Letters(letters) => Request {
+            letters: either(request.letters, letters),
             ..request
         },
-        Choice::Field(field) => Request { field, ..request },
+        Choice::Field(field) => Request {
+            field: Some(field),
+            ..request
+        },
         Choice::Separator(separator) => Request {
-            separator,
+            separator: Some(separator),
             ..request
         },
         Choice::Bad(bad) => Request { bad, ..request },
         Choice::Longest => Request {
             longest: true,
+            ..request
+        },
+        Choice::After => Request {
+            after: true,
+            ..request
+        },
+        Choice::Mapped => Request {
+            mapped: true,
             ..request
         },
         Choice::File | Choice::Text => Request {
@@ -133,6 +174,19 @@ fn with_choice(request: Request, choice: Choice) -> Request
             inputs: request.inputs + 1,
             ..request
         },
+    }
+}
+
+// The letters that are among the first or the second.
+fn either(first: Letters, second: Letters) -> Letters
+    ensures { result ≡ either first second }
+{
+    Letters {
+        inverts: first.inverts || second.inverts,
+        counts: first.counts || second.counts,
+        anywhere: first.anywhere || second.anywhere,
+        words: first.words || second.words,
+        only: first.only || second.only,
     }
 }
 

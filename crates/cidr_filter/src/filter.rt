@@ -1,11 +1,13 @@
 //! What a line is to the lists, and whether it is selected.
-ghost use Rattle.std.specs.Prelude.{◌≡◌, ◌≤◌};
-ghost use Rattle.cidr_filter.specs.Filters.{Judges, is_selected, is_refused};
-ghost use Rattle.cidr_filter.specs.Private.Judging.{JudgesField, JudgesAddress};
+ghost use Rattle.std.specs.Prelude.{◌≡◌, ◌≤◌, Some, MatchOption};
+ghost use Rattle.line_addresses.specs.Addresses.{addresses_of};
+ghost use Rattle.cidr_filter.specs.Filters.{is_listed, Judges, JudgesAddresses, IsListed, TellsBlock, asked, asked_of, of_part, of_rest, spelled_at, is_selected, is_refused};
 
 use crate::field::field_of;
 use crate::listed::Listed;
 use ipnetwork::{IpAddr, IpNetwork};
+use line_addresses::{address_of, following, next_address, unmapped, word_of};
+use std::marker::Model;
 
 /// The most bytes of a line, not counting its line end.
 pub(crate) const LINE_MAX: usize = 1_048_576;
@@ -21,32 +23,84 @@ pub enum Bad {
     Stop,
 }
 
+/// Where the addresses of a line stand.
+#[derive(Debug, Drop)]
+pub enum Place<'a> {
+    /// The field is one.
+    Field {
+        /// Its number.
+        number: u32,
+        /// The byte at which fields are cut.
+        separator: u8,
+    },
+    /// The word of this number is one.
+    Word(u32),
+    /// They stand anywhere.
+    Anywhere,
+    /// It is the first that follows a text.
+    After(Text<'a>),
+}
+
+/// A text of a command line.
+#[derive(Debug, Drop)]
+pub struct Text<'a> {
+    bytes: &'a [u8],
+}
+
+// A contract sees its bytes.
+impl<'a> Model for Text<'a> {
+    ghost use Rattle.std.specs.Prelude.{ℕ, List};
+
+    ghost Value = { List ℕ };
+
+    ghost view = { λ text. text.bytes.now };
+}
+
+impl<'a> Text<'a> {
+    /// This text.
+    pub(crate) fn new(bytes: &'a [u8]) -> Text<'a>
+        ensures { result ≡ bytes.now }
+    {
+        Text { bytes }
+    }
+
+    /// Its bytes.
+    pub(crate) fn bytes(&self) -> &[u8]
+        ensures { result.now ≡ self.now }
+    {
+        self.bytes
+    }
+}
+
 /// What a line is to a list.
 #[derive(Clone, Copy, Debug, PartialEq, Eq)]
 pub enum Verdict {
-    /// Its field is an address of the lists. With `--longest`, this is the longest block that holds the address.
+    /// An address of it is one of the lists. With `--longest`, this is the longest block that holds the first of these.
     Inside(Option<IpNetwork>),
-    /// Its field is another address.
+    /// It has addresses, and none is one of the lists.
     Outside,
-    /// Its field is not an address.
+    /// It has no address.
     Bad,
     /// It has more than 1,048,576 bytes, not counting its line end.
     TooLong,
 }
 
 /// What decides which lines are selected.
-#[derive(Debug, Drop)]
-pub struct Filter {
+#[derive(Drop)]
+pub struct Filter<'a> {
     pub(crate) listed: Listed,
-    pub(crate) field: u32,
-    pub(crate) separator: u8,
+    pub(crate) place: Place<'a>,
+    /// Whether an IPv4-mapped address of a line counts as its IPv4 one.
+    pub(crate) mapped: bool,
     pub(crate) inverts: bool,
     pub(crate) bad: Bad,
     /// Whether the selected lines are only counted.
     pub(crate) counts: bool,
+    /// Whether their addresses that are in the list are printed in place of them.
+    pub(crate) only: bool,
 }
 
-impl Filter {
+impl Filter<'_> {
     /// What a line is to the list. It is given without its end. Does not allocate.
     pub(crate) fn judge(&self, line: &[u8]) -> Verdict
         ensures { Judges self.now line.now result }
@@ -54,38 +108,118 @@ impl Filter {
         if line.len() > LINE_MAX {
             return Verdict::TooLong;
         }
-        match field_of(line, self.field, self.separator) {
-            Some(field) => self.judge_field(field),
+        self.judge_within(line)
+    }
+
+    // What a line that is not too long is to the list.
+    fn judge_within(&self, line: &[u8]) -> Verdict
+        ensures { JudgesAddresses self.now
+            (asked_of self.now (spelled_at self.now.place line.now)) result }
+    {
+        match &self.place {
+            Place::Field { number, separator } => match field_of(line, *number, *separator) {
+                Some(field) => self.judge_part(field),
+                None => Verdict::Bad,
+            },
+            Place::Word(number) => match word_of(line, *number) {
+                Some(word) => self.judge_part(word),
+                None => Verdict::Bad,
+            },
+            Place::Anywhere => self.judge_anywhere(line),
+            Place::After(text) => match following(line, text.bytes()) {
+                Some(rest) => self.judge_first(rest),
+                None => Verdict::Bad,
+            },
+        }
+    }
+
+    // What a line is to the list of which only this part is looked at.
+    fn judge_part(&self, part: &[u8]) -> Verdict
+        ensures { JudgesAddresses self.now (asked_of self.now (of_part (Some part.now))) result }
+    {
+        match address_of(part) {
+            Some(address) => match self.told_of(address) {
+                Some(told) => Verdict::Inside(told),
+                None => Verdict::Outside,
+            },
             None => Verdict::Bad,
         }
     }
 
-    // What a line with this field is to the list.
-    fn judge_field(&self, field: &[u8]) -> Verdict
-        ensures { JudgesField self.now field.now result }
+    // What a line is to the list of which the first address of this rest is looked at.
+    fn judge_first(&self, rest: &[u8]) -> Verdict
+        ensures { JudgesAddresses self.now (asked_of self.now (of_rest (Some rest.now))) result }
     {
-        match IpAddr::read_bytes(field) {
-            Ok(address) => self.judge_address(address),
-            Err(_) => Verdict::Bad,
+        match next_address(rest, 0) {
+            Some(found) => match self.told_of(found.address) {
+                Some(told) => Verdict::Inside(told),
+                None => Verdict::Outside,
+            },
+            None => Verdict::Bad,
         }
     }
 
-    // What a line with this address is to the list.
-    fn judge_address(&self, address: IpAddr) -> Verdict
-        ensures { JudgesAddress self.now address result }
+    // What a line is to the list whose addresses stand anywhere in it.
+    fn judge_anywhere(&self, line: &[u8]) -> Verdict
+        ensures { JudgesAddresses self.now (asked_of self.now (addresses_of line.now)) result }
     {
+        let mut at = 0;
+        let mut is_seen = false;
+        'addresses: while let Some(found) = next_address(line, at) {
+            if let Some(told) = self.told_of(found.address) {
+                return Verdict::Inside(told);
+            }
+            is_seen = true;
+            at = found.next;
+        }
+        if is_seen {
+            Verdict::Outside
+        } else {
+            Verdict::Bad
+        }
+    }
+
+    // If an address is one of the list, what is told of it.
+    fn told_of(&self, address: IpAddr) -> Option<Option<IpNetwork>>
+        ensures { MatchOption result (¬ (IsListed self.now (asked self.now.mapped address)))
+            (λ told. IsListed self.now (asked self.now.mapped address)
+            × TellsBlock self.now.listed (asked self.now.mapped address) told) }
+    {
+        let address = self.asked(address);
         match &self.listed {
             Listed::Addresses(sets) => {
                 if sets.contains(address) {
-                    Verdict::Inside(None)
+                    Some(None)
                 } else {
-                    Verdict::Outside
+                    None
                 }
             }
             Listed::Blocks(tables) => match tables.longest(address) {
-                Some(block) => Verdict::Inside(Some(block)),
-                None => Verdict::Outside,
+                Some(block) => Some(Some(block)),
+                None => None,
             },
+        }
+    }
+
+    /// Whether an address of a line is printed in place of it: whether it is in the list. Of blocks none is, since `-o` is
+    /// not given together with `--longest`.
+    pub(crate) fn prints(&self, address: IpAddr) -> bool
+        ensures { result ≡ is_listed self.now.listed (asked self.now.mapped address) }
+    {
+        match &self.listed {
+            Listed::Addresses(sets) => sets.has(self.asked(address)),
+            Listed::Blocks(_) => false,
+        }
+    }
+
+    // The address for which the list is asked.
+    fn asked(&self, address: IpAddr) -> IpAddr
+        ensures { result ≡ asked self.now.mapped address }
+    {
+        if self.mapped {
+            unmapped(address)
+        } else {
+            address
         }
     }
 

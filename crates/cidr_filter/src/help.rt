@@ -11,10 +11,19 @@ Prints the lines of logs whose address is in a list of IP networks.
     -e TEXT         a network or a range
     -k N            the address is the Nth field; without this option the first
     -d CHAR         fields are cut at each single CHAR; without this option at each space
-    -v              print the lines whose address is in no network
+    -w              fields are what stands between runs of spaces and tabs. Not with -d
+    -a              addresses are looked for anywhere in a line: 10.1.1.1:51234, [10.1.1.1], SRC=10.1.1.1 and
+                    [2001:db8::1]:443 have one; v10.1.2.3, 1.2.3.4.5 and 12:34:56 have none. A line is printed if one of
+                    its addresses is in a network. Not with -k, -d or -w
+    --after TEXT    the address is the first that follows the first TEXT of a line, found as by -a; a line without TEXT
+                    has none: --after SRC=. Not with -a, -k, -d or -w
+    -o              print the addresses that are in a network, one a line, in place of lines. Not with -v or --longest
+    --mapped        an address ::ffff:A.B.C.D of a line counts as A.B.C.D
+    -v              print the lines whose address is in no network; with -a those that have addresses, none of which is
     -c              print how many lines are selected
-    --longest       before a line print the longest network that holds its address, and a tab; a range counts as the
-                    fewest networks that make it up. Not with -v or -c
+    --longest       before a line print the longest network that holds its address (with -a the first of its addresses
+                    that is in one), and a tab; a range counts as the fewest networks that make it up. Not with -v
+                    or -c
     --bad drop      a line without an address is not printed, also with -v (this is the default)
     --bad keep      it is printed, after a minus sign and a tab with --longest
     --bad stop      it ends the program
@@ -30,6 +39,7 @@ read, a failed write or out of memory.
 
 Examples:
     cidr_filter -f networks.txt access.log
+    cidr_filter -a -f networks.txt auth.log
     tail -f access.log | cidr_filter -v -e 10.0.0.0/8
     cidr_filter -c -k 3 -d , -f networks.txt table.csv
 ";
@@ -42,4 +52,4 @@ pub(crate) const PROGRAM: &str = "cidr_filter";
 
 /// How the program is used: what is reported for arguments that are not a command, after what is wrong with them.
 pub(crate) const USAGE: &str =
-    "usage: cidr_filter [-v] [-c] [-k N] [-d CHAR] [--bad drop|keep|stop] [--longest] (-f LIST | -e TEXT).. [FILE..]; try --help\n";
+    "usage: cidr_filter [-v] [-c] [-o] [-a | --after TEXT | [-k N] [-d CHAR | -w]] [--mapped] [--bad drop|keep|stop] [--longest] (-f LIST | -e TEXT).. [FILE..]; try --help\n";

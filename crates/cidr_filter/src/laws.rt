@@ -2,7 +2,6 @@
 //! may use the law.
 ghost use Rattle.cidr_filter.specs.Laws.{OthersAreNoOptions, OthersAskForNothing, WordsHaveOneFault, LinesHaveOneVerdict, LogsHaveOneOutput, OutputsOfPartsFollow, LinesThatEndRunsAreWhole};
 
-use ipnetwork_addr::laws::ip_text_names_one;
 use ipnetwork_table::laws::blocks_of_any_width_that_meet;
 
 /// A line is one thing to a list, and only one. So a log has at most one output, and as many lines of it are selected.
@@ -10,7 +9,6 @@ pub fn a_log_has_one_output()
     ensures line { LinesHaveOneVerdict }
     ensures log { LogsHaveOneOutput }
 {
-    ip_text_names_one();
     blocks_of_any_width_that_meet();
 }
 

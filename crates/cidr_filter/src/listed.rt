@@ -1,15 +1,17 @@
 //! The networks of the lists, and what they say about an address.
-ghost use Rattle.std.specs.Prelude.{◌↔◌, IsTrue, map, IfOk, MatchOption};
-ghost use Rattle.cidr_filter.specs.Listed.{HasAddress, HasBlocksOf, IsLongestBlock, NoBlockHolds};
+ghost use Rattle.std.specs.Prelude.{◌≡◌, ◌↔◌, IsTrue, map, IfOk, MatchOption};
+ghost use Rattle.cidr_filter.specs.Listed.{HasAddress, has_address, HasBlocksOf, IsLongestBlock, NoBlockHolds};
 
 use ipnetwork::{IpAddr, IpNetwork, Ipv4Network, Ipv6Network};
 use ipnetwork_family::CidrNetwork;
+use ipnetwork_family::laws::membership_is_computed;
+use ipnetwork_index::AddressIndex;
 use ipnetwork_sets::AddressSet;
 use ipnetwork_table::PrefixTable;
 use std::alloc::{AllocError, Global};
 
 /// The networks of lists.
-#[derive(Debug, Drop)]
+#[derive(Drop)]
 pub enum Listed {
     /// Their addresses.
     Addresses(Sets),
@@ -18,10 +20,10 @@ pub enum Listed {
 }
 
 /// The addresses of networks, by family.
-#[derive(Debug, Drop)]
+#[derive(Drop)]
 pub struct Sets {
-    pub(crate) v4: AddressSet<Ipv4Network>,
-    pub(crate) v6: AddressSet<Ipv6Network>,
+    v4: AddressIndex<Ipv4Network>,
+    v6: AddressIndex<Ipv6Network>,
 }
 
 /// The blocks of networks, by family.
@@ -32,6 +34,21 @@ pub struct Tables {
 }
 
 impl Sets {
+    /// The addresses of these sets.
+    pub fn of(
+        alloc: Global,
+        v4: &AddressSet<Ipv4Network>,
+        v6: &AddressSet<Ipv6Network>,
+    ) -> Result<Sets, AllocError>
+        ensures v4 { IfOk result (λ sets. sets.v4 ≡ v4.now) }
+        ensures v6 { IfOk result (λ sets. sets.v6 ≡ v6.now) }
+    {
+        Ok(Sets {
+            v4: AddressIndex::from_set(alloc, v4)?,
+            v6: AddressIndex::from_set(alloc, v6)?,
+        })
+    }
+
     /// Whether the address is one of them.
     pub(crate) fn contains(&self, address: IpAddr) -> bool
         ensures { IsTrue result ↔ HasAddress self.now address }
@@ -40,6 +57,16 @@ impl Sets {
             IpAddr::V4(address) => self.v4.contains(address),
             IpAddr::V6(address) => self.v6.contains(address),
         }
+    }
+}
+
+impl Sets {
+    /// The same, as a test.
+    pub(crate) fn has(&self, address: IpAddr) -> bool
+        ensures { result ≡ has_address self.now address }
+    {
+        membership_is_computed();
+        self.contains(address)
     }
 }
 

@@ -2,14 +2,14 @@
 ghost use Rattle.std.specs.Prelude.{◌≡◌, ◌||◌, ◌≤◌, ◌++◌, [], if◌then◌else◌, length, IsTrue, OnOk, OnErr, IfErr, IsOkUnless, Err};
 ghost use Rattle.lines.specs.Outputs.{AppendsBeginning};
 ghost use Rattle.lines.specs.Watched.{device_of, has_failed};
-ghost use Rattle.cidr_filter.specs.Filters.{mark_of};
+ghost use Rattle.cidr_filter.specs.Filters.{shown_of};
 ghost use Rattle.cidr_filter.specs.Stands.{stand, stand, Goes};
 ghost use Rattle.cidr_filter.specs.Stops.{Ends, Stops, ended_by_read, ended_by_write};
 ghost use Rattle.cidr_filter.specs.Private.Judging.{fault_of};
 ghost use Rattle.cidr_filter.specs.Private.Progress.{feed_behind, FiltersLine, LineStops};
 
 use crate::filter::{Filter, LINE_MAX, Verdict};
-use crate::printing::print_line;
+use crate::printing::print_selected;
 use lines::line_buffer::{LineBuffer, NextLine};
 use lines::line_end::LineEnd;
 use lines::output::Output;
@@ -137,13 +137,14 @@ fn filter_line<W: Write>(
     if !filter.selects(&verdict) {
         return Ok(());
     }
-    select_line(filter, &verdict, whole, end, output, tally)
+    select_line(filter, &verdict, line, whole, end, output, tally)
 }
 
-// Counts a line, and writes it unless lines are only counted.
+// Counts a line, and writes what is printed of it unless lines are only counted.
 fn select_line<W: Write>(
     filter: &Filter,
     verdict: &Verdict,
+    line: &[u8],
     whole: &[u8],
     end: LineEnd,
     output: &mut Output<'_, W>,
@@ -151,13 +152,13 @@ fn select_line<W: Write>(
 ) -> Result<(), LogFault>
     ensures ok { OnOk result (Goes
         (stand output.old tally.old) (stand output.new tally.new)
-        (if filter.now.counts then [] else mark_of filter.now.listed verdict.now
-        ++ (whole.now ++ feed_behind end)) 1 0) }
+        (if filter.now.counts then []
+        else shown_of filter.now verdict.now line.now (whole.now ++ feed_behind end)) 1 0) }
     ensures err { OnErr result (IsTrue output.new.failed) }
     ensures beginning { OnErr result (AppendsBeginning
         output.old.holds output.new.holds (output.old.waits
         ++ (if filter.now.counts then []
-        else mark_of filter.now.listed verdict.now ++ (whole.now ++ feed_behind end)))) }
+        else shown_of filter.now verdict.now line.now (whole.now ++ feed_behind end)))) }
     ensures fault { IsOkUnless result LogFault.Write }
     ensures writer_failed { output.new.failed ≡ (output.old.failed || ended_by_write result) }
 {
@@ -165,7 +166,7 @@ fn select_line<W: Write>(
     if filter.counts {
         return Ok(());
     }
-    match print_line(&filter.listed, verdict, whole, end, output) {
+    match print_selected(filter, verdict, line, whole, end, output) {
         Ok(()) => Ok(()),
         Err(_) => Err(LogFault::Write),
     }

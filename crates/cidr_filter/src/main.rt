@@ -11,6 +11,7 @@ mod log;
 mod logs;
 mod options;
 mod printing;
+mod printing_addresses;
 mod reading;
 mod run;
 mod telling;

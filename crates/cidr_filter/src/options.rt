@@ -1,22 +1,32 @@
 //! The options of a command line, one at a time.
-ghost use Rattle.std.specs.Prelude.{◌≡◌, ◌-◌, ◌^◌, ◌<◌, ◌≤◌, drop, length, min};
+ghost use Rattle.std.specs.Prelude.{[], ◌≡◌, ◌-◌, ◌^◌, ◌<◌, ◌≤◌, drop, length, min};
 ghost use Rattle.std.specs.List.{list_all};
 ghost use Rattle.std.specs.Char.{is_ascii_digit};
-ghost use Rattle.cidr_filter.specs.Options.{is_letter, number_of, takes_next, behind_option, option_of, in_one_word, in_two_words, is_list, letters_option, file_option, text_option, field_option, separator_option, bad_option};
+ghost use Rattle.cidr_filter.specs.Options.{is_letter, number_of, takes_next, behind_option, option_of, in_one_word, in_two_words, is_list, letters_option, letters_in, file_option, text_option, field_option, separator_option, bad_option, after_option, text_after, said_after, or_last};
 
 use crate::filter::Bad;
 use program::words::is;
 
+/// Which letters are among those of options.
+#[derive(Clone, Copy, Debug, PartialEq, Eq)]
+pub struct Letters {
+    /// `v`: the lines whose addresses are in no network are selected.
+    pub inverts: bool,
+    /// `c`: lines are counted.
+    pub counts: bool,
+    /// `a`: the addresses of a line are looked for anywhere in it.
+    pub anywhere: bool,
+    /// `w`: the fields of a line are what stands between runs of blanks.
+    pub words: bool,
+    /// `o`: the addresses that are in a network are printed in place of lines.
+    pub only: bool,
+}
+
 /// An option.
 #[derive(Clone, Copy, Debug, PartialEq, Eq)]
 pub enum Choice {
-    /// `-v`, `-c`, or letters of both.
-    Letters {
-        /// Whether `v` is among them.
-        inverts: bool,
-        /// Whether `c` is.
-        counts: bool,
-    },
+    /// Options of one letter each, after one `-`.
+    Letters(Letters),
     /// `-k`.
     Field(u32),
     /// `-d`.
@@ -25,6 +35,10 @@ pub enum Choice {
     Bad(Bad),
     /// `--longest`.
     Longest,
+    /// `--mapped`.
+    Mapped,
+    /// `--after`, and a text.
+    After,
     /// `-f`, and the name of a list.
     File,
     /// `-f -`: the list on standard input.
@@ -69,7 +83,12 @@ pub(crate) fn choice_at(words: &[String], at: usize) -> Option<Choice>
 pub(crate) fn takes_next(word: &String) -> bool
     ensures { result ≡ takes_next word.now }
 {
-    is(word, "-f") || is(word, "-e") || is(word, "-k") || is(word, "-d") || is(word, "--bad")
+    is(word, "-f")
+        || is(word, "-e")
+        || is(word, "-k")
+        || is(word, "-d")
+        || is(word, "--bad")
+        || is(word, "--after")
 }
 
 // The option of this name with this value.
@@ -84,8 +103,10 @@ fn choice_with(name: &String, value: &[u8]) -> Option<Choice>
         field_choice(value)
     } else if is(name, "-d") {
         separator_choice(value)
-    } else {
+    } else if is(name, "--bad") {
         bad_choice(value)
+    } else {
+        after_choice(value)
     }
 }
 
@@ -105,35 +126,55 @@ fn choice_in(word: &[u8]) -> Option<Choice>
     if word == b"--longest".as_slice() {
         return Some(Choice::Longest);
     }
+    if word == b"--mapped".as_slice() {
+        return Some(Choice::Mapped);
+    }
     match word.strip_prefix(b"-".as_slice()) {
         Some(letters) => letters_choice(letters),
         None => None,
     }
 }
 
-// `-v` and `-c` by their letters.
+// Options by their letters.
 fn letters_choice(letters: &[u8]) -> Option<Choice>
     ensures { result ≡ letters_option letters.now }
 {
     if letters.is_empty() || !are_letters(letters) {
         return None;
     }
-    Some(Choice::Letters {
-        inverts: letters.contains(&b'v'),
-        counts: letters.contains(&b'c'),
-    })
+    Some(Choice::Letters(letters_in(letters)))
 }
 
-// Whether there are no other letters than `v` and `c`.
+// Which letters are among these.
+fn letters_in(letters: &[u8]) -> Letters
+    ensures { result ≡ letters_in letters.now }
+{
+    Letters {
+        inverts: letters.contains(&b'v'),
+        counts: letters.contains(&b'c'),
+        anywhere: letters.contains(&b'a'),
+        words: letters.contains(&b'w'),
+        only: letters.contains(&b'o'),
+    }
+}
+
+// Whether there are only letters of options.
 fn are_letters(letters: &[u8]) -> bool
     ensures { result ≡ list_all is_letter letters.now }
 {
     for letter in letters {
-        if *letter != b'v' && *letter != b'c' {
+        if !is_letter(*letter) {
             return false;
         }
     }
     true
+}
+
+// Whether this is the letter of an option.
+fn is_letter(letter: u8) -> bool
+    ensures { result ≡ is_letter letter }
+{
+    letter == b'v' || letter == b'c' || letter == b'a' || letter == b'w' || letter == b'o'
 }
 
 // `-f` with this value.
@@ -231,6 +272,61 @@ fn bad_choice(value: &[u8]) -> Option<Choice>
     } else {
         None
     }
+}
+
+// `--after` with this value.
+fn after_choice(value: &[u8]) -> Option<Choice>
+    ensures { result ≡ after_option value.now }
+{
+    if value.is_empty() {
+        return None;
+    }
+    Some(Choice::After)
+}
+
+/// The text of the last `--after` among options, or an empty one if there is none.
+pub(crate) fn text_after(options: &[String]) -> &[u8]
+    ensures { result.now ≡ text_after options.now }
+{
+    let mut text = no_text();
+    let mut at = 0;
+    'options: while at < options.len() {
+        text = or_last(text, said_after(options, at));
+        at = behind(options, at);
+    }
+    text
+}
+
+// The text that the option at an index says, if it is `--after`.
+fn said_after(options: &[String], at: usize) -> &[u8]
+    requires { at ≤ length options.now }
+    ensures { result.now ≡ said_after (drop at options.now) }
+{
+    let left = options.len() - at;
+    if left < 2 {
+        return no_text();
+    }
+    if !is(&options[at], "--after") {
+        return no_text();
+    }
+    options[at + 1].as_bytes()
+}
+
+// An empty text.
+fn no_text<'a>() -> &'a [u8]
+    ensures { result.now ≡ [] }
+{
+    b"".as_slice()
+}
+
+// The last of two texts that is not empty.
+fn or_last<'a>(first: &'a [u8], last: &'a [u8]) -> &'a [u8]
+    ensures { result.now ≡ or_last first.now last.now }
+{
+    if last.is_empty() {
+        return first;
+    }
+    last
 }
 
 /// Whether an option names a list, or is one.

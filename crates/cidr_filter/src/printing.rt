@@ -1,20 +1,46 @@
 //! Prints a line.
 ghost use Rattle.std.specs.Prelude.{◌≡◌, ◌||◌, ◌++◌, ◌∷◌, [], OnOk, OnErr, is_err};
 ghost use Rattle.lines.specs.Outputs.{Puts, AppendsBeginning, Prints, FailsIn};
-ghost use Rattle.cidr_filter.specs.Filters.{mark_of, block_text, block_in};
+ghost use Rattle.cidr_filter.specs.Filters.{mark_of, block_text, block_in, shown_of};
 ghost use Rattle.cidr_filter.specs.Private.Progress.{feed_behind};
 
-use crate::filter::Verdict;
+use crate::filter::{Filter, Verdict};
 use crate::listed::Listed;
+use crate::printing_addresses::print_addresses;
 use ipnetwork::IpNetwork;
 use lines::fault::RunFault;
 use lines::line_end::LineEnd;
 use lines::output::Output;
 use std::io::Write;
 
-/// Writes a line of this verdict, and before it, with `--longest`, the block that holds its address. `whole` is the line
-/// as it was read, with its end; if that is no line feed, one is written.
-pub(crate) fn print_line<W: Write>(
+/// Writes what is printed of a line of this verdict, which is given without its end too: with `-o` its addresses that are
+/// in the list.
+pub(crate) fn print_selected<W: Write>(
+    filter: &Filter,
+    verdict: &Verdict,
+    line: &[u8],
+    whole: &[u8],
+    end: LineEnd,
+    output: &mut Output<'_, W>,
+) -> Result<(), RunFault>
+    ensures ok { OnOk result (Puts
+        output.old.holds output.old.waits
+        output.new.holds output.new.waits
+        (shown_of filter.now verdict.now line.now (whole.now ++ feed_behind end))) }
+    ensures failed { output.new.failed ≡ (output.old.failed || is_err result) }
+    ensures beginning { OnErr result (AppendsBeginning
+        output.old.holds output.new.holds (output.old.waits
+        ++ shown_of filter.now verdict.now line.now (whole.now ++ feed_behind end))) }
+{
+    if filter.only {
+        return print_addresses(filter, line, output);
+    }
+    print_line(&filter.listed, verdict, whole, end, output)
+}
+
+// Writes a line of this verdict, and before it, with `--longest`, the block that holds its address. `whole` is the line
+// as it was read, with its end; if that is no line feed, one is written.
+fn print_line<W: Write>(
     listed: &Listed,
     verdict: &Verdict,
     whole: &[u8],

@@ -5,11 +5,12 @@ ghost use Rattle.lists.specs.Refusals.{no_refusals};
 ghost use Rattle.program.specs.Told.{name_at};
 ghost use Rattle.cidr_filter.specs.Options.{option_of};
 ghost use Rattle.cidr_filter.specs.Reading.{ReadsOption, ReadsLists, StopsAtOption, Stops, HoldsRead};
-ghost use Rattle.cidr_filter.specs.Private.Reading.{ReadsAll, HasBlocks};
+ghost use Rattle.cidr_filter.specs.Private.Reading.{ReadsAll, HasSets, HasBlocks};
 
 use crate::listed::{Listed, Sets, Tables};
 use crate::options::{Choice, behind, choice_at, is_list};
 use ipnetwork::{Ipv4Network, Ipv6Network};
+use ipnetwork_sets::AddressSet;
 use lists::{ListReader, OpenLists, ReadFault, Refusals, read_named, read_text};
 use std::alloc::{AllocError, Global};
 
@@ -47,7 +48,7 @@ fn listed_by(
         return (blocks_of(alloc, v4, v6), refusals);
     }
     let (v4, v6, refusals) = reader.into_sets();
-    (Ok(Listed::Addresses(Sets { v4, v6 })), refusals)
+    (addresses_of(alloc, &v4, &v6), refusals)
 }
 
 // Reads the lists that the options name.
@@ -95,6 +96,17 @@ fn read_option<L: OpenLists>(
         Choice::Text => read_text(value.as_str(), at + 1, reader),
         _ => read_named(lists, value.as_str(), at + 1, reader),
     }
+}
+
+// The addresses of sets.
+fn addresses_of(
+    alloc: Global,
+    v4: &AddressSet<Ipv4Network>,
+    v6: &AddressSet<Ipv6Network>,
+) -> Result<Listed, AllocError>
+    ensures { IfOk result (HasSets v4.now v6.now) }
+{
+    Ok(Listed::Addresses(Sets::of(alloc, v4, v6)?))
 }
 
 // The blocks of networks.

@@ -2,12 +2,13 @@
 ghost use Rattle.std.specs.Prelude.{◌≡◌, ◌≤◌, length, codes};
 ghost use Rattle.program.specs.Endings.{ending};
 ghost use Rattle.program.specs.Messages.{Tells};
-ghost use Rattle.cidr_filter.specs.Runs.{EndsRequest, EndsAs};
+ghost use Rattle.cidr_filter.specs.Runs.{EndsRequest, EndsAs, place_of};
 
 use crate::command_line::{Request, request_of};
-use crate::filter::{Filter, LINE_MAX};
+use crate::filter::{Filter, LINE_MAX, Place, Text};
 use crate::help::{HELP, PROGRAM, USAGE, VERSION};
 use crate::logs::filter_logs;
+use crate::options::text_after;
 use crate::reading::read_listed;
 use crate::telling::InOptions;
 use lines::output::Output;
@@ -76,15 +77,36 @@ fn filter<L: OpenLists, W: Write, E: Write>(
     };
     let filter = Filter {
         listed,
-        field: request.field,
-        separator: request.separator,
-        inverts: request.inverts,
+        place: place_of(words, request),
+        mapped: request.mapped,
+        inverts: request.letters.inverts,
         bad: request.bad,
-        counts: request.counts,
+        counts: request.letters.counts,
+        only: request.letters.only,
     };
     let files = &words[request.files..];
     let buffer = buffer.as_mut_slice();
     filter_logs(&filter, files, lists, buffer, output, errors)
+}
+
+// Where a request looks for the addresses of a line.
+fn place_of(words: &[String], request: Request) -> Place<'_>
+    requires { request.files ≤ length words.now }
+    ensures { result ≡ place_of words.now request }
+{
+    if request.letters.anywhere {
+        return Place::Anywhere;
+    }
+    if request.after {
+        let text = text_after(&words[..request.files]);
+        return Place::After(Text::new(text));
+    }
+    let number = request.field.unwrap_or(1);
+    if request.letters.words {
+        return Place::Word(number);
+    }
+    let separator = request.separator.unwrap_or(b' ');
+    Place::Field { number, separator }
 }
 
 // Reports that memory ran out, and returns the exit status for that.

@@ -22,6 +22,8 @@ pub enum Problem {
     Name,
     /// Not a network or a range: empty.
     Text,
+    /// Not a text: empty.
+    Empty,
     /// `--help` or `--version` beside other words.
     NotAlone,
     /// Not an option, though it begins with a `-`.
@@ -30,6 +32,14 @@ pub enum Problem {
     AfterFile,
     /// `--longest` together with `-v` or `-c`.
     Crossed,
+    /// `-a` together with `-k`, `-d` or `-w`.
+    Anywhere,
+    /// `--after` together with `-a`, `-k`, `-d` or `-w`.
+    After,
+    /// `-w` together with `-d`.
+    Words,
+    /// `-o` together with `-v` or `--longest`.
+    Only,
     /// No list.
     NoList,
     /// Standard input is to be read twice.
@@ -48,10 +58,15 @@ impl Problem {
             Problem::Bad => "is not drop, keep or stop",
             Problem::Name => "is no file name",
             Problem::Text => "is no network or range",
+            Problem::Empty => "is no text",
             Problem::NotAlone => "is not the only argument",
             Problem::NoOption => "is no option",
             Problem::AfterFile => "comes after a FILE",
             Problem::Crossed => "--longest goes with neither -v nor -c",
+            Problem::Anywhere => "-a goes with none of -k, -d and -w",
+            Problem::After => "--after goes with none of -a, -k, -d and -w",
+            Problem::Words => "-w does not go with -d",
+            Problem::Only => "-o goes with neither -v nor --longest",
             Problem::NoList => "neither -f nor -e is given",
             Problem::InputTwice => "-: standard input can be read only once",
         }
@@ -124,8 +139,10 @@ fn value_problem(name: &String) -> Problem
         Problem::Field
     } else if is(name, "-d") {
         Problem::Separator
-    } else {
+    } else if is(name, "--bad") {
         Problem::Bad
+    } else {
+        Problem::Empty
     }
 }
 

@@ -6,7 +6,7 @@ use Rattle.lines.specs.LineBuffers.{Buffered, IsPending}
 use Rattle.lines.specs.Outputs.{AppendsBeginning}
 use Rattle.lines.specs.declared.line_end.LineEnd.{LineEnd}
 use Rattle.lines.specs.declared.line_end.LineEnd.TheVariants.{LineFeed, ReturnAndLineFeed, EndOfInput}
-use Rattle.cidr_filter.specs.Filters.{Judges, is_refused, is_selected, mark_of, one_if, Filters}
+use Rattle.cidr_filter.specs.Filters.{Judges, is_refused, is_selected, shown_of, one_if, Filters}
 use Rattle.cidr_filter.specs.Lines.{LogLine, log_lines}
 use Rattle.cidr_filter.specs.Stands.{Stand, Goes}
 use Rattle.cidr_filter.specs.declared.filter.Filter.{Filter}
@@ -21,16 +21,16 @@ feed_behind LineFeed = []
 feed_behind ReturnAndLineFeed = []
 feed_behind EndOfInput = 10 ∷ []
 
--- what is written for a line of this verdict, if this is its text: that behind the mark, or nothing
-abbrev pub shown : Filter → Verdict → List ℕ → List ℕ
-shown filter verdict text =
-    if is_selected filter verdict && not filter.counts then mark_of filter.listed verdict ++ text else []
+-- what is written for a line of this verdict, given without its end and as it is written
+abbrev pub shown : Filter → Verdict → List ℕ → List ℕ → List ℕ
+shown filter verdict line text =
+    if is_selected filter verdict && not filter.counts then shown_of filter verdict line text else []
 
 -- a line, given without its end and as it is written, was filtered
 abbrev pub FiltersLine : Filter → List ℕ → List ℕ → Stand → Stand → Type 0
 FiltersLine filter line text old new = (verdict : Verdict) × Judges filter line verdict
     × (is_refused filter verdict ≡ false)
-    × Goes old new (shown filter verdict text) (one_if (is_selected filter verdict)) 1
+    × Goes old new (shown filter verdict line text) (one_if (is_selected filter verdict)) 1
 
 -- a line, given without its end, ends the run
 abbrev pub RefusesLine : Filter → List ℕ → Stand → Stand → Verdict → Type 0
@@ -43,7 +43,7 @@ LineStops filter line text write_failed old new faults.Open = ⊥
 LineStops filter line text write_failed old new faults.Read = ⊥
 LineStops filter line text write_failed old new faults.Write =
     IsTrue write_failed × (verdict : Verdict) × Judges filter line verdict × (is_refused filter verdict ≡ false)
-    × AppendsBeginning old.holds new.holds (old.waits ++ shown filter verdict text)
+    × AppendsBeginning old.holds new.holds (old.waits ++ shown filter verdict line text)
 LineStops filter line text write_failed old new faults.Address =
     RefusesLine filter line old new verdicts.Bad
 LineStops filter line text write_failed old new faults.Length =

@@ -16,6 +16,11 @@ pub record ReadsAll {Z E : Type 0} (known : KnownLists) (words : List (String Z)
   pub holds : IfOk listed (HoldsRead longest read)
   pub refused_lines : read.refused ≡ refused
 
+-- the addresses of these sets
+abbrev pub HasSets : List Network → List Network → Listed → Type 0
+HasSets v4 v6 (Addresses sets) = (sets.v4 ≡ v4) × (sets.v6 ≡ v6)
+HasSets v4 v6 (Blocks tables) = ⊥
+
 -- the blocks of these networks
 abbrev pub HasBlocks : List Network → List Network → Listed → Type 0
 HasBlocks v4 v6 (Addresses sets) = ⊥

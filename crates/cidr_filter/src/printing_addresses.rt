@@ -1,0 +1,130 @@
+//! Prints the addresses of a line that are in the list.
+ghost use Rattle.std.specs.Prelude.{◌≡◌, ◌||◌, ◌++◌, ◌∷◌, [], Some, OnOk, OnErr, is_err};
+ghost use Rattle.lines.specs.Outputs.{Prints, FailsIn};
+ghost use Rattle.line_addresses.specs.Addresses.{addresses_of};
+ghost use Rattle.cidr_filter.specs.Filters.{of_part, of_rest, spelled_at, text_of, texts_of};
+
+use crate::field::field_of;
+use crate::filter::{Filter, Place};
+use ipnetwork::IpAddr;
+use line_addresses::{address_of, following, next_address, word_of};
+use lines::fault::RunFault;
+use lines::output::Output;
+use std::io::Write;
+
+/// Writes the addresses of a line that are in the list, one a line, as they are spelled.
+pub(crate) fn print_addresses<W: Write>(
+    filter: &Filter,
+    line: &[u8],
+    output: &mut Output<'_, W>,
+) -> Result<(), RunFault>
+    ensures ok { OnOk result (Prints output.old output.new
+        (texts_of filter.now (spelled_at filter.now.place line.now))) }
+    ensures failed { output.new.failed ≡ (output.old.failed || is_err result) }
+    ensures beginning { OnErr result (FailsIn output.old output.new
+        (texts_of filter.now (spelled_at filter.now.place line.now))) }
+{
+    match &filter.place {
+        Place::Field { number, separator } => match field_of(line, *number, *separator) {
+            Some(field) => print_part(filter, field, output),
+            None => Ok(()),
+        },
+        Place::Word(number) => match word_of(line, *number) {
+            Some(word) => print_part(filter, word, output),
+            None => Ok(()),
+        },
+        Place::Anywhere => print_anywhere(filter, line, output),
+        Place::After(text) => match following(line, text.bytes()) {
+            Some(rest) => print_first(filter, rest, output),
+            None => Ok(()),
+        },
+    }
+}
+
+// Writes a part of a line, if it is an address in the list.
+fn print_part<W: Write>(
+    filter: &Filter,
+    part: &[u8],
+    output: &mut Output<'_, W>,
+) -> Result<(), RunFault>
+    ensures ok { OnOk result (Prints output.old output.new
+        (texts_of filter.now (of_part (Some part.now)))) }
+    ensures failed { output.new.failed ≡ (output.old.failed || is_err result) }
+    ensures beginning { OnErr result (FailsIn output.old output.new
+        (texts_of filter.now (of_part (Some part.now)))) }
+{
+    match address_of(part) {
+        Some(address) => print_found(filter, address, part, output),
+        None => Ok(()),
+    }
+}
+
+// Writes the first address of this rest of a line, if it is in the list.
+fn print_first<W: Write>(
+    filter: &Filter,
+    rest: &[u8],
+    output: &mut Output<'_, W>,
+) -> Result<(), RunFault>
+    ensures ok { OnOk result (Prints output.old output.new
+        (texts_of filter.now (of_rest (Some rest.now)))) }
+    ensures failed { output.new.failed ≡ (output.old.failed || is_err result) }
+    ensures beginning { OnErr result (FailsIn output.old output.new
+        (texts_of filter.now (of_rest (Some rest.now)))) }
+{
+    match next_address(rest, 0) {
+        Some(found) => {
+            let text = &rest[found.start..found.end];
+            print_found(filter, found.address, text, output)
+        }
+        None => Ok(()),
+    }
+}
+
+// Writes the addresses that stand anywhere in a line and are in the list.
+fn print_anywhere<W: Write>(
+    filter: &Filter,
+    line: &[u8],
+    output: &mut Output<'_, W>,
+) -> Result<(), RunFault>
+    ensures ok { OnOk result (Prints output.old output.new
+        (texts_of filter.now (addresses_of line.now))) }
+    ensures failed { output.new.failed ≡ (output.old.failed || is_err result) }
+    ensures beginning { OnErr result (FailsIn output.old output.new
+        (texts_of filter.now (addresses_of line.now))) }
+{
+    let mut at = 0;
+    'addresses: while let Some(found) = next_address(line, at) {
+        let text = &line[found.start..found.end];
+        print_found(filter, found.address, text, output)?;
+        at = found.next;
+    }
+    Ok(())
+}
+
+// Writes the text of an address and a line feed, if it is in the list.
+fn print_found<W: Write>(
+    filter: &Filter,
+    address: IpAddr,
+    text: &[u8],
+    output: &mut Output<'_, W>,
+) -> Result<(), RunFault>
+    ensures ok { OnOk result (Prints output.old output.new (text_of filter.now address text.now)) }
+    ensures failed { output.new.failed ≡ (output.old.failed || is_err result) }
+    ensures beginning { OnErr result
+        (FailsIn output.old output.new (text_of filter.now address text.now)) }
+{
+    if !filter.prints(address) {
+        return Ok(());
+    }
+    put_text(text, output)
+}
+
+// Writes a text and a line feed.
+fn put_text<W: Write>(text: &[u8], output: &mut Output<'_, W>) -> Result<(), RunFault>
+    ensures ok { OnOk result (Prints output.old output.new (text.now ++ 10 ∷ [])) }
+    ensures failed { output.new.failed ≡ (output.old.failed || is_err result) }
+    ensures beginning { OnErr result (FailsIn output.old output.new (text.now ++ 10 ∷ [])) }
+{
+    output.put(text)?;
+    output.put(b"\n")
+}

@@ -1,0 +1,42 @@
+-- The bytes of address texts, as a test.
+use Rattle.std.proofs.Common.{◌≡◌, ℕ, ◌≤◌, ◌==◌, ◌||◌, ◌⊎◌, Bool, true, false, refl, arith, inl, inr}
+use Rattle.std.specs.Int.{is_in_range}
+use Rattle.std.proofs.lemmas.Bool.{eqb-true}
+use Rattle.std.proofs.lemmas.Bool.Decides.{nat_tests}
+use Rattle.ipnetwork_addr.specs.Texts.{IsAddressByte, Digit, UpperHex, LowerHex, Dot, Colon}
+
+-- the test
+abbrev pub is_address_byte : ℕ → Bool
+is_address_byte byte = is_in_range 48 57 byte || is_in_range 65 70 byte || is_in_range 97 102 byte || byte == 46 || byte == 58
+
+pub passes : (byte : ℕ) → IsAddressByte byte → is_address_byte byte ≡ true
+passes byte (Digit low high) = grind (arith, nat_tests)
+passes byte (UpperHex low high) = grind (arith, nat_tests)
+passes byte (LowerHex low high) = grind (arith, nat_tests)
+passes byte (Dot is) = grind (arith, nat_tests)
+passes byte (Colon is) = grind (arith, nat_tests)
+
+either_true : (a b : Bool) → (a || b) ≡ true → (a ≡ true) ⊎ (b ≡ true)
+either_true true b e = inl refl
+either_true false b e = inr e
+
+in_range : (low high byte : ℕ) → is_in_range low high byte ≡ true → (low ≤ byte) × (byte ≤ high)
+in_range low high byte e = (grind (arith, nat_tests), grind (arith, nat_tests))
+
+by_letters : (byte : ℕ) → (is_in_range 48 57 byte || is_in_range 65 70 byte || is_in_range 97 102 byte) ≡ true → IsAddressByte byte
+by_letters byte e = elim (either_true (is_in_range 48 57 byte || is_in_range 65 70 byte) (is_in_range 97 102 byte) e) [
+  | inl more ↦ elim (either_true (is_in_range 48 57 byte) (is_in_range 65 70 byte) more) [
+    | inl digit ↦ let r = in_range 48 57 byte digit in Digit r.0 r.1
+    | inr upper ↦ let r = in_range 65 70 byte upper in UpperHex r.0 r.1
+  ]
+  | inr lower ↦ let r = in_range 97 102 byte lower in LowerHex r.0 r.1
+]
+
+pub passed : (byte : ℕ) → is_address_byte byte ≡ true → IsAddressByte byte
+passed byte e = elim (either_true (is_in_range 48 57 byte || is_in_range 65 70 byte || is_in_range 97 102 byte || byte == 46) (byte == 58) e) [
+  | inl more ↦ elim (either_true (is_in_range 48 57 byte || is_in_range 65 70 byte || is_in_range 97 102 byte) (byte == 46) more) [
+    | inl letter ↦ by_letters byte letter
+    | inr dot ↦ Dot (eqb-true byte 46 dot)
+  ]
+  | inr colon ↦ Colon (eqb-true byte 58 colon)
+]

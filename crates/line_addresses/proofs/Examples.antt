@@ -1,0 +1,33 @@
+-- Texts at which a misreading of the definitions would show. Each of these computes.
+use Rattle.std.proofs.Common.{◌≡◌, List, [], ◌∷◌, refl}
+use Rattle.std.specs.Prelude.{codes, map}
+use Rattle.std.specs.Fmt.{digits}
+use Rattle.ipnetwork_addr.specs.Computed.Ipv6Text.{v6_of, gap_below}
+use Rattle.ipnetwork_addr.specs.declared.ip.IpAddr.TheVariants.{V4, V6}
+use Rattle.line_addresses.specs.Addresses.{Spelled, address_of, before_port, address_in, addresses_of}
+use Rattle.line_addresses.specs.Mapped.{unmapped}
+use Rattle.line_addresses.specs.Words.{words_of}
+
+-- the address 10.1.1.1
+abbrev ten : List Spelled
+ten = record { text = codes "10.1.1.1"; address = V4 0x0a010101 } ∷ []
+
+pub shapes : map addresses_of (codes "10.1.1.1:51234" ∷ codes "[10.1.1.1]" ∷ codes "SRC=10.1.1.1 x" ∷ codes "10.1.1.1," ∷ codes "to 10.1.1.1." ∷ codes "10.1.1.1: no" ∷ [])
+    ≡ ten ∷ ten ∷ ten ∷ ten ∷ ten ∷ ten ∷ []
+unfolding address_in before_port address_of digits v6_of gap_below
+shapes = refl
+
+pub brackets_and_port : addresses_of (codes "[2001:db8::1]:443") ≡ record { text = codes "2001:db8::1"; address = V6 0x20010db8000000000000000000000001 } ∷ []
+unfolding address_in before_port address_of digits v6_of gap_below
+brackets_and_port = refl
+
+pub no_addresses : map addresses_of (codes "v10.1.2.3x" ∷ codes "1.2.3.4.5" ∷ codes "12:34:56" ∷ codes "00:1b:44:11:3a:b7" ∷ codes "da39a3ee5e6b" ∷ codes "10.1.1.1:123456" ∷ codes "10.1.1.1.." ∷ codes "_10.1.1.1" ∷ [])
+    ≡ [] ∷ [] ∷ [] ∷ [] ∷ [] ∷ [] ∷ [] ∷ [] ∷ []
+unfolding address_in before_port address_of digits v6_of gap_below
+no_addresses = refl
+
+pub mapped : map unmapped (V6 0xffff0a010101 ∷ V6 0x0a010101 ∷ V6 0x1ffff0a010101 ∷ V4 1 ∷ []) ≡ V4 0x0a010101 ∷ V6 0x0a010101 ∷ V6 0x1ffff0a010101 ∷ V4 1 ∷ []
+mapped = refl
+
+pub words : words_of (codes " Nov  3 10:00 ") ≡ codes "Nov" ∷ codes "3" ∷ codes "10:00" ∷ []
+words = refl

@@ -1,0 +1,13 @@
+pub mod BetweenOthers
+pub mod ByteKinds
+pub mod Examples
+pub mod FirstBytes
+pub mod FirstPlaces
+pub mod LawExamples
+pub mod LineParts
+pub mod NamedTexts
+pub mod NextRuns
+pub mod NextWords
+pub mod PortTexts
+pub mod Ports
+pub mod Shown

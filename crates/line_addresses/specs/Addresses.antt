@@ -1,0 +1,60 @@
+-- The addresses of a line.
+use Rattle.std.specs.Prelude.{ℕ, ◌-◌, ◌==◌, ◌||◌, ◌&&◌, Bool, List, Option, None, Some, length, take, filter_map, nat_lt, nat_le, slice_index, if◌then◌else◌}
+use Rattle.std.specs.Char.{is_ascii_digit}
+use Rattle.std.specs.List.{list_all, before_first, after_first}
+use Rattle.ipnetwork_addr.specs.Computed.Either.{ip_of}
+use Rattle.ipnetwork_addr.specs.declared.ip.IpAddr.{IpAddr}
+use Rattle.line_addresses.specs.Runs.{runs_of}
+
+-- an address, and the text that names it
+pub record Spelled : Type 0 where
+  pub text : List ℕ
+  pub address : IpAddr
+
+-- the address that a text names, if it names one
+unfoldable pub address_of : List ℕ → Option IpAddr
+address_of text = ip_of text
+
+-- the same beside the text
+abbrev pub with_text : List ℕ → Option IpAddr → Option Spelled
+with_text text None = None
+with_text text (Some address) = Some (record { text = text; address = address })
+
+abbrev pub spelled : List ℕ → Option Spelled
+spelled text = with_text text (address_of text)
+
+-- the text ends with a `.` or a `:`
+abbrev pub is_mark : ℕ → Bool
+is_mark byte = byte == 46 || byte == 58
+
+abbrev pub ends_with_mark : List ℕ → Bool
+ends_with_mark text = is_mark (slice_index text (length text - 1))
+
+-- of a run with a `.` or a `:` at its end: the address of the rest
+abbrev pub before_mark : List ℕ → Option Spelled
+before_mark run = if ends_with_mark run then spelled (take (length run - 1) run) else None
+
+-- one to five digits
+abbrev pub is_port : List ℕ → Bool
+is_port text = nat_lt 0 (length text) && nat_le (length text) 5 && list_all is_ascii_digit text
+
+-- of a run with a `:` and one to five digits at its end: the address of the rest, if it is an IPv4 one. Since no IPv4
+-- text has a `:`, and each IPv6 text has one, that `:` is the first
+abbrev pub is_colon : ℕ → Bool
+is_colon byte = byte == 58
+
+unfoldable pub before_port : List ℕ → Option Spelled
+before_port run = if is_port (after_first is_colon run) then spelled (before_first is_colon run) else None
+
+-- the first of two that is there
+abbrev pub or_else : Option Spelled → Option Spelled → Option Spelled
+or_else (Some first) second = Some first
+or_else None second = second
+
+-- the address of a run: the first of these three
+unfoldable pub address_in : List ℕ → Option Spelled
+address_in run = or_else (spelled run) (or_else (before_mark run) (before_port run))
+
+-- the addresses of a line: those of its runs, in order
+abbrev pub addresses_of : List ℕ → List Spelled
+addresses_of line = filter_map address_in (runs_of line)

@@ -1,0 +1,8 @@
+-- What the contracts of this crate cite.
+pub mod Addresses
+pub mod Following
+pub mod Found
+pub mod Mapped
+pub mod Private
+pub mod Runs
+pub mod Words

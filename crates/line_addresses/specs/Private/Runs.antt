@@ -1,0 +1,24 @@
+-- Where a run ends, and what it shows.
+use Rattle.std.specs.Prelude.{◌≡◌, ℕ, ◌<◌, ◌≤◌, Bool, true, false, not, List, Option, Some, length, slice_index, take}
+use Rattle.ipnetwork_addr.specs.declared.ip.IpAddr.{IpAddr}
+use Rattle.line_addresses.specs.Addresses.{Spelled}
+use Rattle.line_addresses.specs.Runs.{is_run_byte}
+use Rattle.line_addresses.specs.Words.{is_blank}
+
+-- from one index on, no byte up to the other is cut out by the test; there the line ends, or such a byte stands
+pub record IsPartEnd (cuts : ℕ → Bool) (line : List ℕ) (start end : ℕ) : Type 0 where
+  pub behind : start ≤ end
+  pub within : end ≤ length line
+  pub before : (place : ℕ) → start ≤ place → place < end → cuts (slice_index line place) ≡ false
+  pub stops : end < length line → cuts (slice_index line end) ≡ true
+
+abbrev pub IsRunEnd : List ℕ → ℕ → ℕ → Type 0
+IsRunEnd line start end = IsPartEnd (λ byte. not (is_run_byte byte)) line start end
+
+abbrev pub IsWordEnd : List ℕ → ℕ → ℕ → Type 0
+IsWordEnd line start end = IsPartEnd is_blank line start end
+
+-- what is found is this address, whose text is the run's beginning of this length
+pub record Shows (found : Option Spelled) (run : List ℕ) (address : IpAddr) (size : ℕ) : Type 0 where
+  pub within : size ≤ length run
+  pub is : found ≡ Some (record { text = take size run; address = address })

@@ -1,0 +1,56 @@
+//! The next address of a line.
+ghost use Rattle.std.specs.Prelude.{◌≡◌, ◌≤◌, [], MatchOption, length, drop};
+ghost use Rattle.line_addresses.specs.Addresses.{addresses_of};
+ghost use Rattle.line_addresses.specs.Found.{IsNextAddress};
+
+use crate::run::{address_in, run_end};
+use ipnetwork_addr::IpAddr;
+
+/// An address of a line, and where its text stands.
+#[derive(Clone, Copy, Debug, PartialEq, Eq)]
+pub struct Found {
+    /// The address.
+    pub address: IpAddr,
+    /// The index of the first byte of its text.
+    pub start: usize,
+    /// The index after the last byte of its text.
+    pub end: usize,
+    /// The index from which on the next address is looked for.
+    pub next: usize,
+}
+
+/// The first address of a line from an index on, which is at most the length of the line. The rest of the line from
+/// there is looked at as a line of its own.
+///
+/// ```
+/// let line = b"SRC=10.1.1.1 DST=[2001:db8::1]:443";
+/// let first = next_address(line, 0);
+/// assert_eq!(rt; first, Some(Found { address: "10.1.1.1".parse()?, start: 4, end: 12, next: 12 }));
+/// let second = next_address(line, 12);
+/// assert_eq!(rt; second, Some(Found { address: "2001:db8::1".parse()?, start: 18, end: 29, next: 29 }));
+/// assert_eq!(rt; next_address(line, 29), None);
+/// ```
+pub fn next_address(line: &[u8], from: usize) -> Option<Found>
+    requires { from ≤ length line.now }
+    ensures { MatchOption result (addresses_of (drop from line.now) ≡ [])
+        (IsNextAddress line.now from) }
+{
+    let mut at = from;
+    'runs: while at < line.len() {
+        let end = run_end(line, at);
+        if end == at {
+            at += 1;
+            continue 'runs;
+        }
+        if let Some((address, size)) = address_in(&line[at..end]) {
+            return Some(Found {
+                address,
+                start: at,
+                end: at + size,
+                next: end,
+            });
+        }
+        at = end;
+    }
+    None
+}

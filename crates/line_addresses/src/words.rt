@@ -1,0 +1,52 @@
+//! The words of a line.
+ghost use Rattle.std.specs.Prelude.{◌≡◌, ◌≤◌, ◌-◌, None, Some, MatchOption, length, slice_get};
+ghost use Rattle.line_addresses.specs.Words.{words_of, is_blank};
+ghost use Rattle.line_addresses.specs.Private.Runs.{IsWordEnd};
+
+/// The word of this number, from 1 on, of a line: its words are what stands between runs of spaces and tabs.
+///
+/// ```
+/// assert_eq!(rt; word_of(b"Nov  3 10:00:00 host", 2), Some(b"3".as_slice()));
+/// assert_eq!(rt; word_of(b"Nov  3 10:00:00 host", 5), None);
+/// ```
+pub fn word_of(line: &[u8], number: u32) -> Option<&[u8]>
+    ensures { MatchOption result (slice_get (words_of line.now) (number - 1) ≡ None)
+        (λ word. slice_get (words_of line.now) (number - 1) ≡ Some word.now) }
+{
+    let mut at = 0;
+    let mut more = number.saturating_sub(1);
+    'words: while at < line.len() {
+        let end = word_end(line, at);
+        if end == at {
+            at += 1;
+            continue 'words;
+        }
+        if more == 0 {
+            return Some(&line[at..end]);
+        }
+        more -= 1;
+        at = end;
+    }
+    None
+}
+
+// The index after the bytes from an index on that are not blank.
+#[inline(always)]
+fn word_end(line: &[u8], start: usize) -> usize
+    requires { start ≤ length line.now }
+    ensures { IsWordEnd line.now start result }
+{
+    for at in start..line.len() {
+        if is_blank(line[at]) {
+            return at;
+        }
+    }
+    line.len()
+}
+
+// Whether the byte is a space or a tab.
+fn is_blank(byte: u8) -> bool
+    ensures { result ≡ is_blank byte }
+{
+    byte == b' ' || byte == b'\t'
+}

@@ -1,0 +1,175 @@
+"""Rows of `tests/cidr_filter` over the addresses that stand anywhere in a line, in a word, or behind a mapped prefix. What
+is expected is computed here, by regular expressions and Python's `ipaddress`. Each function yields a name, whether the
+row is as it should be, and what was got."""
+
+import ipaddress
+import json
+import random
+import re
+import subprocess
+
+SECONDS = 60
+LIST = ["10.0.0.0/8", "192.0.2.0/24", "2001:db8::/32"]
+
+
+def address(text):
+    """The address that a text is, or None."""
+    try:
+        return ipaddress.ip_address(text)
+    except ValueError:
+        return None
+
+
+def of_run(run):
+    """The address of a run, and its text: the run, or the run without a mark at its end, or an IPv4 one without a port."""
+    tries = [run]
+    if run[-1] in ".:":
+        tries.append(run[:-1])
+    for text in tries:
+        if address(text):
+            return text, address(text)
+    port = re.fullmatch(r"(.*):[0-9]{1,5}", run)
+    if port and address(port[1]) and address(port[1]).version == 4:
+        return port[1], address(port[1])
+    return None
+
+
+def of_line(line):
+    """The addresses of a line, in order."""
+    runs = re.findall(r"[A-Za-z0-9.:_]+", line)
+    return [found for found in map(of_run, runs) if found]
+
+
+def asked(one):
+    """The address as it is, or the IPv4 address that it stands for."""
+    return (one.version == 6 and one.ipv4_mapped) or one
+
+
+def wanted(lines, networks, addresses, inverts, mapped):
+    """The lines that are selected."""
+    selected = []
+    for line in lines:
+        found = [asked(one) if mapped else one for one in addresses(line)]
+        inside = any(one in network for one in found for network in networks)
+        if found and inside != inverts:
+            selected.append(line)
+    return "".join(f"{line}\n" for line in selected)
+
+
+def logs(rng):
+    """Logs of every usual shape, each with its name and its lines."""
+    def one():
+        kind = rng.randrange(8)
+        if kind == 0:
+            return str(ipaddress.ip_address(0x20010DB8 << 96 | rng.getrandbits(rng.choice([8, 40, 96]))))
+        if kind == 1:
+            return f"::ffff:{ipaddress.ip_address(rng.choice([10, 11]) << 24 | rng.getrandbits(24))}"
+        return str(ipaddress.ip_address(rng.choice([10, 11, 192]) << 24 | rng.getrandbits(rng.choice([8, 24]))))
+
+    def time():
+        return f"{rng.randrange(24):02d}:{rng.randrange(60):02d}:{rng.randrange(60):02d}"
+
+    def host(name):
+        return f"[{name}]:{rng.randrange(65536)}" if ":" in name else f"{name}:{rng.randrange(65536)}"
+
+    def day():
+        return f"Nov {rng.randrange(1, 31):2d} {time()}"
+
+    yield "nginx combined", [
+        f'{one()} - - [{rng.randrange(1, 31):02d}/Nov/2026:{time()} +0000] "GET /a/{rng.getrandbits(32):x} HTTP/1.1" 200 {rng.randrange(9999)}'
+        f' "http://{host(one())}/" "Mozilla/5.0 (X11; rv:109.0) Gecko/20100101 Firefox/115.0"' for _ in range(400)
+    ]
+    yield "sshd through syslog", [
+        rng.choice([
+            f"{day()} host sshd[{rng.randrange(99999)}]: Failed password for invalid user admin from {one()} port {rng.randrange(65536)} ssh2",
+            f"{day()} host sshd[{rng.randrange(99999)}]: Connection closed by {one()} port {rng.randrange(65536)} [preauth]",
+            f"{day()} host sshd[{rng.randrange(99999)}]: Received disconnect from {one()}: 11: Bye",
+            f"{day()} host sshd[{rng.randrange(99999)}]: Server listening on 0.0.0.0 port 22.",
+        ]) for _ in range(400)
+    ]
+    yield "iptables", [
+        f"{day()} host kernel: [{rng.randrange(9**6)}.{rng.randrange(9**6)}] DROP IN=eth0 OUT= MAC=00:1b:44:11:3a:b7:52:54:00:12:34:56:08:00"
+        f" SRC={one()} DST={one()} LEN=40 TTL=244 ID={rng.randrange(65536)} PROTO=TCP SPT={rng.randrange(65536)}" for _ in range(400)
+    ]
+    yield "JSON lines", [
+        json.dumps({"time": f"2026-11-01T{time()}.123Z", "client": rng.choice([one(), host(one()), None]), "hash": f"{rng.getrandbits(160):040x}",
+                    "version": "v10.1.2.3", "peers": [one() for _ in range(rng.randrange(3))]}) for _ in range(400)
+    ]
+    yield "CSV", [f"{rng.randrange(999)},{one()},{one()};{one()},\"{host(one())}\",1.2.3.4.5,{one()}." for _ in range(400)]
+
+
+def shapes(program, folder):
+    """Logs of usual shapes, of which the addresses stand anywhere."""
+    networks = [ipaddress.ip_network(text) for text in LIST]
+    lists = [word for text in LIST for word in ("-e", text)]
+    anywhere = lambda line: [found for _, found in of_line(line)]
+    for name, lines in logs(random.Random(3)):
+        log = "".join(f"{line}\n" for line in lines).encode()
+        for words in (["-a"], ["-a", "-v"], ["-a", "--mapped"], ["-va", "--mapped"]):
+            inverts, mapped = any("v" in word[:3] for word in words if word[:2] != "--"), "--mapped" in words
+            output = wanted(lines, networks, anywhere, inverts, mapped).encode()
+            got = subprocess.run([program, *words, *lists], input=log, capture_output=True, timeout=SECONDS)
+            got = (got.stdout, got.stderr, got.returncode)
+            yield f"{name}, {words}", got == (output, b"", 0 if output else 1), got
+
+
+def texts(program, folder):
+    """With -o the addresses that are in a network, as they are spelled."""
+    networks = [ipaddress.ip_network(text) for text in LIST]
+    lists = [word for text in LIST for word in ("-e", text)]
+    for name, lines in logs(random.Random(6)):
+        log = "".join(f"{line}\n" for line in lines).encode()
+        for words in (["-ao"], ["-oa", "--mapped"]):
+            of = asked if "--mapped" in words else lambda one: one
+            found = [text for line in lines for text, one in of_line(line) if any(of(one) in network for network in networks)]
+            output = "".join(f"{text}\n" for text in found).encode()
+            got = subprocess.run([program, *words, *lists], input=log, capture_output=True, timeout=SECONDS)
+            got = (got.stdout, got.stderr, got.returncode)
+            yield f"{name}, {words}", got == (output, b"", 0 if output else 1), got
+
+
+def after(program, folder):
+    """With --after the first address behind a text."""
+    networks = [ipaddress.ip_network(text) for text in LIST]
+    lists = [word for text in LIST for word in ("-e", text)]
+    for name, lines in logs(random.Random(7)):
+        log = "".join(f"{line}\n" for line in lines).encode()
+        for text in ("DST=", "from ", '"', ",", " ", "1", "peers"):
+            first = lambda line: [found for _, found in of_line(line.split(text, 1)[1])][:1] if text in line else []
+            output = wanted(lines, networks, first, False, False).encode()
+            got = subprocess.run([program, "--after", text, *lists], input=log, capture_output=True, timeout=SECONDS)
+            got = (got.stdout, got.stderr, got.returncode)
+            yield f"{name}, after {text}", got == (output, b"", 0 if output else 1), got
+
+
+def words(program, folder):
+    """Words between runs of blanks, as `split` has them."""
+    networks = [ipaddress.ip_network(text) for text in LIST]
+    lists = [word for text in LIST for word in ("-e", text)]
+    for name, lines in logs(random.Random(4)):
+        lines = [line.replace(" ", "\t ") if n % 3 == 0 else line for n, line in enumerate(lines)]
+        log = "".join(f"{line}\n" for line in lines).encode()
+        for number in (1, 2, 3, 6, 11, 13, 14):
+            def at(line):
+                parts = re.split("[ \t]+", line.strip(" \t"))
+                found = address(parts[number - 1]) if number <= len(parts) else None
+                return [found] if found else []
+            output = wanted(lines, networks, at, False, False).encode()
+            got = subprocess.run([program, "-w", f"-k{number}", *lists], input=log, capture_output=True, timeout=SECONDS)
+            got = (got.stdout, got.stderr, got.returncode)
+            yield f"{name}, word {number}", got == (output, b"", 0 if output else 1), got
+
+
+def made_up_runs(program, folder):
+    """Lines of pieces of addresses, and bytes beside them: those that have an address."""
+    rng = random.Random(5)
+    pieces = ["10.1.1.1", "1.2.3", "2001:db8::1", "::", "::ffff:1.2.3.4", "1:2:3:4:5:6:7:8", "255.255.255.255", "256.1.1.1", "01.2.3.4"]
+    pieces += [*".:_:. /[]\"=,-@x0a9Gz", ":80", ":65535", ":123456", "12:34:56", "fe80::1%eth0", "ab", "\t", "\xe9"]
+    lines = ["".join(rng.choice(pieces) for _ in range(rng.randrange(1, 7))) for _ in range(60000)]
+    output = "".join(f"{line}\n" for line in lines if of_line(line)).encode()
+    log = "".join(f"{line}\n" for line in lines).encode()
+    got = subprocess.run([program, "-a", "-e", "0.0.0.0/0", "-e", "::/0"], input=log, capture_output=True, timeout=SECONDS)
+    yield "lines of pieces", (got.stdout, got.stderr, got.returncode) == (output, b"", 0), (got.stderr, got.returncode, len(got.stdout), len(output))
+    none = "".join(f"{line}\n" for line in lines if not of_line(line)).encode()
+    got = subprocess.run([program, "-a", "-v", "--bad", "keep", "-e", "0.0.0.0/0", "-e", "::/0"], input=log, capture_output=True, timeout=SECONDS)
+    yield "lines without an address", got.stdout == none, (got.stderr, got.returncode, len(got.stdout), len(none))
