@@ -1,0 +1,92 @@
+/**
+ * Builds the package: one file for each kind of module, with the library in it.
+ *
+ *     node bindings/js/build.mjs MODULE FOLDER [INSTANCE]
+ *
+ * MODULE is the library for C as WebAssembly, with a memory of 32 bits (bindings/wasm/build makes
+ * it), FOLDER what is written. INSTANCE takes the place of src/instance.mjs: the tests have one for
+ * a memory of 64 bits.
+ *
+ * The sources import one another by their own names, so that the package is these files one after
+ * the other, without the lines of import and export.
+ */
+import { copyFileSync, existsSync, mkdirSync, readFileSync, writeFileSync } from 'node:fs';
+import { dirname, join } from 'node:path';
+import { fileURLToPath } from 'node:url';
+import { deflateRawSync } from 'node:zlib';
+import { inflated } from './src/inflate.mjs';
+
+const here = dirname(fileURLToPath(import.meta.url));
+const [modulePath, folder, instancePath] = process.argv.slice(2);
+if (folder === undefined) {
+  console.error('usage: node build.mjs MODULE FOLDER [INSTANCE]');
+  process.exit(2);
+}
+if (!existsSync(modulePath)) {
+  console.error(`build.mjs: there is no ${modulePath}: bindings/wasm/build makes it`);
+  process.exit(1);
+}
+
+/** A source without the lines that import. */
+const source = (path) => readFileSync(path, 'utf8').replace(/^import [^;]*;\n/gm, '');
+
+/** The names that index.mjs exports, and its files in the order in which they need one another. */
+const index = readFileSync(join(here, 'src/index.mjs'), 'utf8');
+const names = [...index.matchAll(/^export \{ (.*) \}/gm)].flatMap((match) => match[1].split(', '));
+const order = [];
+function visit(name) {
+  const text = readFileSync(join(here, 'src', name), 'utf8');
+  for (const match of text.matchAll(/ from '\.\/(\w+\.mjs)';/g)) {
+    if (match[1] !== 'module.mjs' && !order.includes(match[1])) visit(match[1]);
+  }
+  if (name !== 'index.mjs') order.push(name);
+}
+visit('index.mjs');
+
+const pathOf = (name) => (
+  name === 'instance.mjs' && instancePath ? instancePath : join(here, 'src', name)
+);
+
+/**
+ * The same code without comments, which the types have, blank lines, and blanks before a line and
+ * beside a sign; strings stay as they are.
+ */
+const TEXT_OR_SIGN = /('(?:[^'\\\n]|\\.)*'|`(?:[^`\\]|\\.)*`)| *([-=+*/%<>!&|^?:;,(){}[\]]) */g;
+const squeezed = (code) => code
+  .replace(/^export /gm, '')
+  .replace(/^ *\/\*[^]*?\*\/\n/gm, '')
+  .replace(/\n\s+/g, '\n')
+  .replace(TEXT_OR_SIGN, (_, text, sign) => text ?? sign);
+const codeOf = (files) => squeezed(files.map((name) => source(pathOf(name))).join('\n'));
+
+const bytes = readFileSync(modulePath);
+const packed = deflateRawSync(bytes, { level: 9, memLevel: 9 });
+if (!bytes.equals(inflated(packed, bytes.length))) {
+  throw new Error('the module is another one when it is unpacked');
+}
+mkdirSync(folder, { recursive: true });
+const write = (name, text) => writeFileSync(join(folder, name), text);
+const head = '// Made by build.mjs of the sources in bindings/js/src.\n';
+const length = `const MODULE_LENGTH = ${bytes.length};\n`;
+write('index.mjs', `${head}const MODULE = '${packed.toString('base64')}';
+${length}${codeOf(order)}export { ${names.join(', ')} };\n`);
+/* Node takes the module from there, and unpacks it by itself. */
+const unpacked = order.filter((name) => name !== 'inflate.mjs');
+write('index.cjs', `${head}'use strict';
+const { readFileSync } = require('node:fs');
+const { join } = require('node:path');
+const source = readFileSync(join(__dirname, 'index.mjs'), 'latin1');
+const [, MODULE] = source.match(/^const MODULE = '(.*)';$/m);
+const inflated = (packed) => require('node:zlib').inflateRawSync(packed);
+${length}${codeOf(unpacked)}module.exports = { ${names.join(', ')} };\n`);
+write(
+  'node.mjs',
+  `import library from './index.cjs';\n\nexport const { ${names.join(', ')} } = library;\n`,
+);
+write('index.d.mts', "export * from './index.cjs';\n");
+copyFileSync(join(here, 'index.d.ts'), join(folder, 'index.d.cts'));
+copyFileSync(join(here, 'package.json'), join(folder, 'package.json'));
+copyFileSync(join(here, 'README.md'), join(folder, 'README.md'));
+for (const name of ['LICENSE-MIT', 'NOTICE']) {
+  copyFileSync(join(here, '../..', name), join(folder, name));
+}

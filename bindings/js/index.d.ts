@@ -1,0 +1,308 @@
+/**
+ * IP networks in CIDR notation, read, printed and asked by a proved library.
+ *
+ * A network keeps the host bits of its address. Its members are the addresses that share the first
+ * bits of its address, as many as the prefix length says. Values do not change, and their text
+ * (`toString`) is the key of a `Map` for them: two of them are equal exactly if their texts are.
+ *
+ * An argument of a wrong type is a `TypeError` that names the argument. A text that names no
+ * network, and a prefix length that is none, is an `IpNetworkError` with the cause as its `code`.
+ */
+
+/** Why something is refused: see {@link IpNetworkError.code}. */
+export type IpNetworkErrorCode = 'format' | 'address' | 'prefix' | 'range' | 'freed';
+
+/** The error for what names no network, no address or no range. */
+export class IpNetworkError extends Error {
+  readonly name: 'IpNetworkError';
+  /**
+   * The cause. `format`: the text has two or more slashes; `address`: what stands before the slash,
+   * or the whole text, is no address; `prefix`: what stands after the slash is no prefix length, or
+   * a number is none; `range`: the first address of a range comes after the last one, or they are
+   * of two families; `freed`: the set or the table was freed.
+   */
+  readonly code: IpNetworkErrorCode;
+  /** The text that was refused, if it was a text. */
+  readonly input?: string;
+  /** Its place, if it stood in a list. */
+  readonly index?: number;
+}
+
+/** An address of either family. */
+export abstract class IpAddress {
+  protected constructor();
+  /**
+   * The address that a text names, without a prefix length or a zone. IpNetworkError if it names
+   * none.
+   */
+  static parse(text: string): Ipv4Address | Ipv6Address;
+  /** The same, but undefined if the text names none. */
+  static tryParse(text: string): Ipv4Address | Ipv6Address | undefined;
+  /**
+   * The address of these 4 or 16 octets, the highest first. RangeError if they are of another
+   * number.
+   */
+  static fromOctets(octets: Uint8Array): Ipv4Address | Ipv6Address;
+  /** The order of two addresses, for `sort`. */
+  static compare(one: IpAddress, other: IpAddress): -1 | 0 | 1;
+  /** 4 or 6. */
+  readonly family: 4 | 6;
+  /** A copy of the octets, 4 or 16, the highest first. */
+  readonly octets: Uint8Array;
+  /**
+   * -1 if this address comes before the other, 1 if after, 0 if they are equal. IPv4 comes before
+   * IPv6.
+   */
+  compare(other: IpAddress): -1 | 0 | 1;
+  /** Whether both are the same address. An IPv4-mapped IPv6 address equals no IPv4 address. */
+  equals(other: IpAddress): boolean;
+  /**
+   * The canonical text. That of IPv6 is as RFC 5952, section 4, says, with IPv4-mapped addresses
+   * dotted.
+   */
+  toString(): string;
+  /** The same. */
+  toJSON(): string;
+}
+
+/** An IPv4 address. */
+export class Ipv4Address extends IpAddress {
+  /** The address of this number, from 0 to 4294967295. RangeError if it is another. */
+  constructor(number: number);
+  static parse(text: string): Ipv4Address;
+  static tryParse(text: string): Ipv4Address | undefined;
+  static fromOctets(octets: Uint8Array): Ipv4Address;
+  readonly family: 4;
+  /** The address as a number. */
+  readonly number: number;
+}
+
+/** An IPv6 address. */
+export class Ipv6Address extends IpAddress {
+  /** The address of this number, from 0n to 2n ** 128n - 1n. RangeError if it is another. */
+  constructor(number: bigint);
+  static parse(text: string): Ipv6Address;
+  static tryParse(text: string): Ipv6Address | undefined;
+  static fromOctets(octets: Uint8Array): Ipv6Address;
+  readonly family: 6;
+  /** The address as a number. */
+  readonly number: bigint;
+}
+
+/** How the addresses of one network stand to those of another. */
+export type Relation = 'same' | 'inside' | 'around' | 'apart';
+
+/** A network of either family. It is also an iterable of its addresses, in ascending order. */
+export abstract class IpNetwork<A extends IpAddress = Ipv4Address | Ipv6Address>
+  implements Iterable<A> {
+  protected constructor();
+  /**
+   * The network that a text names: an address, and after a `/` a prefix length or, for IPv4, a
+   * mask. Without a `/` it is the single address. IpNetworkError with the cause if the text names
+   * none.
+   */
+  static parse(text: string): Ipv4Network | Ipv6Network;
+  /** The same, but undefined if the text names none. */
+  static tryParse(text: string): Ipv4Network | Ipv6Network | undefined;
+  /** The order of two networks, for `sort`. */
+  static compare(one: IpNetwork, other: IpNetwork): -1 | 0 | 1;
+  /** 4 or 6. */
+  readonly family: 4 | 6;
+  /** The address, host bits kept. */
+  readonly address: A;
+  /** The prefix length. */
+  readonly prefix: number;
+  /** The least member: the address with its host bits cleared. */
+  readonly first: A;
+  /**
+   * The greatest member: the address with its host bits set. For IPv4 this is the broadcast
+   * address.
+   */
+  readonly last: A;
+  /** The mask. */
+  readonly mask: A;
+  /** The number of members: two to the power of the host bits. */
+  readonly size: bigint;
+  /** The network with the same members and no host bits. */
+  readonly block: IpNetwork<A>;
+  /**
+   * Whether an address is a member. One of the other family is none. IpNetworkError for a text that
+   * names no address.
+   */
+  contains(address: IpAddress | string): boolean;
+  /** Whether each member of this network is one of the other. */
+  isSubnetOf(other: IpNetwork | string): boolean;
+  /** Whether each member of the other network is one of this. */
+  isSupernetOf(other: IpNetwork | string): boolean;
+  /** Whether some address is a member of both. */
+  overlaps(other: IpNetwork | string): boolean;
+  /**
+   * Whether both have the same members, this lies inside the other or around it, or they share
+   * none.
+   */
+  relationTo(other: IpNetwork | string): Relation;
+  /**
+   * -1, 0 or 1: by address, host bits included, and then by prefix length. IPv4 comes before IPv6.
+   */
+  compare(other: IpNetwork): -1 | 0 | 1;
+  /** Whether both have the same address, host bits included, and the same prefix length. */
+  equals(other: IpNetwork): boolean;
+  /** The member of this number, counted from 0; undefined past the last. */
+  nth(number: number | bigint): A | undefined;
+  /**
+   * The blocks of this prefix length within the network, in ascending order. IpNetworkError if it
+   * is less than its own.
+   */
+  subnets(prefix: number): IterableIterator<IpNetwork<A>>;
+  /** The one of this number, counted from 0; undefined past the last. */
+  subnetAt(prefix: number, number: number | bigint): IpNetwork<A> | undefined;
+  [Symbol.iterator](): IterableIterator<A>;
+  /**
+   * The canonical text: the canonical text of the address, `/` and the prefix length in decimal.
+   */
+  toString(): string;
+  /** The same. */
+  toJSON(): string;
+}
+
+/** An IPv4 network. */
+export class Ipv4Network extends IpNetwork<Ipv4Address> {
+  /** The network of this address, host bits kept, and this prefix length, from 0 to 32. */
+  constructor(address: Ipv4Address | string, prefix: number);
+  static parse(text: string): Ipv4Network;
+  static tryParse(text: string): Ipv4Network | undefined;
+  readonly family: 4;
+  readonly block: Ipv4Network;
+  subnets(prefix: number): IterableIterator<Ipv4Network>;
+  subnetAt(prefix: number, number: number | bigint): Ipv4Network | undefined;
+}
+
+/** An IPv6 network. */
+export class Ipv6Network extends IpNetwork<Ipv6Address> {
+  /** The network of this address, host bits kept, and this prefix length, from 0 to 128. */
+  constructor(address: Ipv6Address | string, prefix: number);
+  static parse(text: string): Ipv6Network;
+  static tryParse(text: string): Ipv6Network | undefined;
+  readonly family: 6;
+  readonly block: Ipv6Network;
+  subnets(prefix: number): IterableIterator<Ipv6Network>;
+  subnetAt(prefix: number, number: number | bigint): Ipv6Network | undefined;
+}
+
+/**
+ * A column of texts read as addresses in a few calls. It is also an iterable of what `at` gives.
+ */
+export class AddressColumn implements Iterable<Ipv4Address | Ipv6Address | undefined> {
+  private constructor();
+  /** Reads a column. A text that names no address stops nothing. */
+  static read(texts: readonly string[]): AddressColumn;
+  /** The number of rows. */
+  readonly length: number;
+  /** How many of them name no address. */
+  readonly refused: number;
+  /** The address of a row; undefined if its text names none, and where there is no such row. */
+  at(row: number): Ipv4Address | Ipv6Address | undefined;
+  /** Why the text of a row names none; undefined if it names one. */
+  codeAt(row: number): 'address' | undefined;
+  [Symbol.iterator](): IterableIterator<Ipv4Address | Ipv6Address | undefined>;
+}
+
+/** A column of texts read as networks in a few calls. It is also an iterable of what `at` gives. */
+export class NetworkColumn implements Iterable<Ipv4Network | Ipv6Network | undefined> {
+  private constructor();
+  /** Reads a column. A text that names no network stops nothing. */
+  static read(texts: readonly string[]): NetworkColumn;
+  /** The number of rows. */
+  readonly length: number;
+  /** How many of them name no network. */
+  readonly refused: number;
+  /** The network of a row; undefined if its text names none, and where there is no such row. */
+  at(row: number): Ipv4Network | Ipv6Network | undefined;
+  /** Why the text of a row names none; undefined if it names one. */
+  codeAt(row: number): 'format' | 'address' | 'prefix' | undefined;
+  /** The canonical texts; undefined for a row without a network. */
+  toStrings(): (string | undefined)[];
+  [Symbol.iterator](): IterableIterator<Ipv4Network | Ipv6Network | undefined>;
+}
+
+/**
+ * Networks as a list, or as a column none of whose rows is refused. A wrong text is an
+ * IpNetworkError with its index.
+ */
+export type Networks = (Iterable<IpNetwork | string> & object) | NetworkColumn;
+
+/** A set of addresses of both families, kept as the fewest networks with exactly these. */
+export class AddressSet {
+  /** The addresses of networks, in any order, host bits or not. */
+  constructor(networks?: Networks);
+  /** Whether an address lies in the set, by a binary search. */
+  contains(address: IpAddress | string): boolean;
+  /** Whether each member of a network lies in the set. */
+  covers(network: IpNetwork | string): boolean;
+  /**
+   * For each row 1 if its address lies in the set, else 0. A row without an address does not:
+   * `codeAt` tells which.
+   */
+  containsColumn(addresses: AddressColumn | readonly string[]): Uint8Array;
+  /** The addresses of both or of one. */
+  union(other: AddressSet): AddressSet;
+  /** The addresses that both have. */
+  intersection(other: AddressSet): AddressSet;
+  /** The addresses of this set that the other has not. */
+  difference(other: AddressSet): AddressSet;
+  /** Whether both have the same addresses. */
+  equals(other: AddressSet): boolean;
+  /** The number of addresses. */
+  readonly size: bigint;
+  /** The number of its networks. */
+  readonly blockCount: number;
+  /** The fewest networks with its addresses, in ascending order, those of IPv4 first. */
+  blocks(): IterableIterator<Ipv4Network | Ipv6Network>;
+  /** Their texts. */
+  toJSON(): string[];
+  /**
+   * Gives its memory back now, and not only when the set is collected. No call but this one may
+   * follow.
+   */
+  free(): void;
+}
+
+/** Networks with values, asked for the longest network that has an address. */
+export class PrefixTable<V> implements Iterable<[Ipv4Network | Ipv6Network, V]> {
+  /** A table of pairs. Of pairs whose networks have the same members, the last one counts. */
+  constructor(entries?: Iterable<readonly [IpNetwork | string, V]>);
+  /**
+   * The longest network with an address, without host bits, and its value; undefined if none has
+   * it.
+   */
+  lookup(address: IpAddress | string): { network: Ipv4Network | Ipv6Network; value: V } | undefined;
+  /**
+   * For each row the value that lookup gives of its address; undefined if there is none, or no
+   * address.
+   */
+  lookupColumn(addresses: AddressColumn | readonly string[]): (V | undefined)[];
+  /** The value of the network with exactly these members. */
+  get(network: IpNetwork | string): V | undefined;
+  /** Whether there is one. */
+  has(network: IpNetwork | string): boolean;
+  /** The number of networks. */
+  readonly size: number;
+  /**
+   * The networks, without host bits, with their values, in ascending order, those of IPv4 first.
+   */
+  entries(): IterableIterator<[Ipv4Network | Ipv6Network, V]>;
+  [Symbol.iterator](): IterableIterator<[Ipv4Network | Ipv6Network, V]>;
+  /**
+   * Gives its memory back now, and not only when the table is collected. No call but this one may
+   * follow.
+   */
+  free(): void;
+}
+
+/** The fewest networks with the addresses of these, in ascending order, those of IPv4 first. */
+export function aggregate(networks: Networks): (Ipv4Network | Ipv6Network)[];
+
+/** The fewest networks with the addresses from first to last, both included, in ascending order. */
+export function summarizeRange(
+  first: IpAddress | string, last: IpAddress | string,
+): (Ipv4Network | Ipv6Network)[];

@@ -1,0 +1,280 @@
+import { addressCanonical, addressRead, v4Compare, v6Compare } from './library.mjs';
+import { ADDRESS, NUMBER, OTHER, bytes, view } from './memory.mjs';
+import { addressError, textOf, wrongType } from './errors.mjs';
+import { askText, printed } from './texts.mjs';
+
+/**
+ * What only this package has: the first argument of a constructor that is given what the library
+ * wrote.
+ */
+export const MADE = Symbol('made');
+
+/** The name of the method by which Node's console shows a value. */
+export const INSPECT = Symbol.for('nodejs.util.inspect.custom');
+
+/* Friends of the class: they reach its fields. */
+let familyIn;
+let putIn;
+let putFourIn;
+let putSixIn;
+let isIn;
+
+/** An address of either family. It does not change. */
+export class IpAddress {
+  #family;
+  /* The octets, four in a number, as they stand in the memory. */
+  #a;
+  #b;
+  #c;
+  #d;
+
+  static {
+    familyIn = (address) => address.#family;
+    isIn = (value) => typeof value === 'object' && value !== null && #family in value;
+    /* One for each family, so that an engine sees objects of one shape in it. */
+    putFourIn = (address, place) => {
+      if (address.#family !== 4) return false;
+      view.setInt32(place, address.#a, true);
+      return true;
+    };
+    putSixIn = (address, place) => {
+      if (address.#family !== 6) return false;
+      const target = view;
+      target.setInt32(place, address.#a, true);
+      target.setInt32(place + 4, address.#b, true);
+      target.setInt32(place + 8, address.#c, true);
+      target.setInt32(place + 12, address.#d, true);
+      return true;
+    };
+    putIn = (address, place) => {
+      if (address.#family === 4) putFourIn(address, place);
+      else putSixIn(address, place);
+    };
+  }
+
+  constructor(made, family, a, b, c, d) {
+    if (made !== MADE) {
+      throw new TypeError('an IpAddress is made by IpAddress.parse, Ipv4Address or Ipv6Address');
+    }
+    this.#family = family;
+    this.#a = a;
+    this.#b = b;
+    this.#c = c;
+    this.#d = d;
+    Object.freeze(this);
+  }
+
+  static parse(text) {
+    const fault = askText(addressRead, textOf(text, 'text'), ADDRESS);
+    if (fault !== 0) throw addressError(text, 'IP address');
+    return addressAt(ADDRESS, bytes[ADDRESS + 16]);
+  }
+
+  static tryParse(text) {
+    const fault = askText(addressRead, textOf(text, 'text'), ADDRESS);
+    return fault === 0 ? addressAt(ADDRESS, bytes[ADDRESS + 16]) : undefined;
+  }
+
+  static fromOctets(octets) {
+    if (!(octets instanceof Uint8Array)) throw wrongType('octets', 'a Uint8Array', octets);
+    const { length } = octets;
+    if (length !== 4 && length !== 16) {
+      throw new RangeError(`octets are ${length}, and not 4 or 16`);
+    }
+    bytes.set(octets, ADDRESS);
+    return addressAt(ADDRESS, length);
+  }
+
+  static compare(one, other) {
+    return requireAddress(one, 'one').compare(other);
+  }
+
+  get family() {
+    return this.#family;
+  }
+
+  get octets() {
+    putIn(this, ADDRESS);
+    return bytes.slice(ADDRESS, ADDRESS + (this.#family === 4 ? 4 : 16));
+  }
+
+  compare(other) {
+    requireAddress(other, 'other');
+    if (this.#family !== other.#family) return this.#family - other.#family < 0 ? -1 : 1;
+    return orderOfTwo(this, other);
+  }
+
+  equals(other) {
+    requireAddress(other, 'other');
+    return this.#family === other.#family && this.#a === other.#a && this.#b === other.#b
+      && this.#c === other.#c && this.#d === other.#d;
+  }
+
+  toString() {
+    putIn(this, ADDRESS);
+    bytes[ADDRESS + 16] = this.#family === 4 ? 4 : 16;
+    return printed(addressCanonical, ADDRESS);
+  }
+
+  toJSON() {
+    return this.toString();
+  }
+
+  [Symbol.toPrimitive](hint) {
+    if (hint === 'number') {
+      throw new TypeError('addresses are ordered by compare, and not by < or >');
+    }
+    return this.toString();
+  }
+
+  [INSPECT]() {
+    return `${this.constructor.name}(${this})`;
+  }
+}
+
+/** An IPv4 address. */
+export class Ipv4Address extends IpAddress {
+  constructor(number, word) {
+    if (number === MADE) {
+      super(MADE, 4, word, 0, 0, 0);
+      return;
+    }
+    if (typeof number !== 'number') throw wrongType('number', 'a number', number);
+    if (!Number.isInteger(number) || number < 0 || number > 0xffffffff) {
+      throw new RangeError(`number is ${number}, not a whole number from 0 to 4294967295`);
+    }
+    view.setUint32(NUMBER, number, false);
+    super(MADE, 4, view.getInt32(NUMBER, true), 0, 0, 0);
+  }
+
+  static parse(text) {
+    const address = Ipv4Address.tryParse(text);
+    if (address === undefined) throw addressError(text, 'IPv4 address');
+    return address;
+  }
+
+  static tryParse(text) {
+    const address = IpAddress.tryParse(text);
+    return address !== undefined && familyOf(address) === 4 ? address : undefined;
+  }
+
+  static fromOctets(octets) {
+    return ofLength(octets, 4);
+  }
+
+  get number() {
+    putIn(this, ADDRESS);
+    return view.getUint32(ADDRESS, false);
+  }
+}
+
+/** An IPv6 address. */
+export class Ipv6Address extends IpAddress {
+  constructor(number, a, b, c, d) {
+    if (number === MADE) {
+      super(MADE, 6, a, b, c, d);
+      return;
+    }
+    if (typeof number !== 'bigint') throw wrongType('number', 'a bigint', number);
+    if (BigInt.asUintN(128, number) !== number) {
+      throw new RangeError('number is not from 0 to 340282366920938463463374607431768211455');
+    }
+    view.setBigUint64(NUMBER, number >> 64n, false);
+    view.setBigUint64(NUMBER + 8, BigInt.asUintN(64, number), false);
+    const from = view;
+    super(
+      MADE, 6, from.getInt32(NUMBER, true), from.getInt32(NUMBER + 4, true),
+      from.getInt32(NUMBER + 8, true), from.getInt32(NUMBER + 12, true),
+    );
+  }
+
+  static parse(text) {
+    const address = Ipv6Address.tryParse(text);
+    if (address === undefined) throw addressError(text, 'IPv6 address');
+    return address;
+  }
+
+  static tryParse(text) {
+    const address = IpAddress.tryParse(text);
+    return address !== undefined && familyOf(address) === 6 ? address : undefined;
+  }
+
+  static fromOctets(octets) {
+    return ofLength(octets, 16);
+  }
+
+  get number() {
+    putIn(this, ADDRESS);
+    return (view.getBigUint64(ADDRESS, false) << 64n) | view.getBigUint64(ADDRESS + 8, false);
+  }
+}
+
+/** The family of an address, 4 or 6. */
+export const familyOf = (address) => familyIn(address);
+
+/** Writes the octets of an address to the memory. */
+export const putAddress = (address, place) => putIn(address, place);
+
+/* Each writes the octets of a value to the memory, if it is an address of the family, and returns
+ * whether it is; or throws a TypeError if it is no address. */
+export function putFour(value, place) {
+  try {
+    return putFourIn(value, place);
+  } catch {
+    throw wrongType('address', 'an IpAddress or a string', value);
+  }
+}
+export function putSix(value, place) {
+  try {
+    return putSixIn(value, place);
+  } catch {
+    throw wrongType('address', 'an IpAddress or a string', value);
+  }
+}
+
+/** Whether a value is an address of this package. */
+export const isAddress = (value) => isIn(value);
+
+/** The address whose octets, 4 or 16, stand at this place. */
+export function addressAt(place, length) {
+  const from = view;
+  const first = from.getInt32(place, true);
+  if (length === 4) return new Ipv4Address(MADE, first);
+  return new Ipv6Address(
+    MADE, first, from.getInt32(place + 4, true), from.getInt32(place + 8, true),
+    from.getInt32(place + 12, true),
+  );
+}
+
+/** The address that an argument is or names, or a TypeError that names the argument. */
+export function addressOf(value, name) {
+  if (isIn(value)) return value;
+  if (typeof value !== 'string') throw wrongType(name, 'an IpAddress or a string', value);
+  return IpAddress.parse(value);
+}
+
+function requireAddress(value, name) {
+  if (!isIn(value)) throw wrongType(name, 'an IpAddress', value);
+  return value;
+}
+
+function ofLength(octets, length) {
+  if (!(octets instanceof Uint8Array)) throw wrongType('octets', 'a Uint8Array', octets);
+  if (octets.length !== length) {
+    throw new RangeError(`octets are ${octets.length}, and not ${length}`);
+  }
+  return IpAddress.fromOctets(octets);
+}
+
+/** The order of two addresses of one family: that of the networks of these single addresses. */
+function orderOfTwo(one, other) {
+  const four = familyIn(one) === 4;
+  const prefix = four ? 4 : 16;
+  putIn(one, ADDRESS);
+  putIn(other, OTHER);
+  bytes[ADDRESS + prefix] = 0;
+  bytes[OTHER + prefix] = 0;
+  const compare = four ? v4Compare : v6Compare;
+  compare(ADDRESS, 0, OTHER, 0, NUMBER, 0);
+  return view.getInt32(NUMBER, true);
+}

@@ -1,0 +1,50 @@
+import { ADDRESS, NUMBER, view } from './memory.mjs';
+import { prefixError, wrongType } from './errors.mjs';
+import { addressOf, familyOf, putAddress } from './address.mjs';
+
+/** The whole number that an argument is, or an error that names the argument. */
+export function wholeNumber(value, name) {
+  if (typeof value !== 'number' && typeof value !== 'bigint') {
+    throw wrongType(name, 'a number or a bigint', value);
+  }
+  if (value < 0 || (typeof value === 'number' && !Number.isSafeInteger(value))) {
+    throw new RangeError(`${name} is ${value}, not a whole number from 0 on`);
+  }
+  return value;
+}
+
+/** Writes a number to NUMBER as the calls of a family take it; whether it has room there. */
+export function putNumber(number, family) {
+  if (family === 4) {
+    if (number > 0xffffffff) return false;
+    view.setUint32(NUMBER, Number(number), true);
+    return true;
+  }
+  if (typeof number === 'number') {
+    view.setBigUint64(NUMBER, 0n, false);
+    view.setUint32(NUMBER + 8, number / 0x100000000, false);
+    view.setUint32(NUMBER + 12, number, false);
+    return true;
+  }
+  if (BigInt.asUintN(128, number) !== number) return false;
+  view.setBigUint64(NUMBER, number >> 64n, false);
+  view.setBigUint64(NUMBER + 8, BigInt.asUintN(64, number), false);
+  return true;
+}
+
+/**
+ * The first four octets of an address of this family, which are written to ADDRESS, if the prefix
+ * length is one.
+ */
+export function requireParts(address, prefix, family, width) {
+  const member = addressOf(address, 'address');
+  if (familyOf(member) !== family) {
+    throw new TypeError(`address must be an IPv${family} address, not ${member}`);
+  }
+  if (typeof prefix !== 'number') throw wrongType('prefix', 'a number', prefix);
+  if (!Number.isInteger(prefix) || prefix < 0 || prefix > width) {
+    throw prefixError(prefix, 0, width);
+  }
+  putAddress(member, ADDRESS);
+  return view.getInt32(ADDRESS, true);
+}

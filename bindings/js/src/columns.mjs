@@ -1,0 +1,193 @@
+import { addressReadColumn, readWithCauseColumn } from './library.mjs';
+import { ADDRESS, ANSWER, OTHER, bytes, view } from './memory.mjs';
+import { codeOf, never, wrongType } from './errors.mjs';
+import { MADE, addressAt } from './address.mjs';
+import { networkAt } from './network.mjs';
+import { KINDS, withCopy, withRoom } from './blocks.mjs';
+import { readRows } from './rows.mjs';
+import { textAt } from './texts.mjs';
+
+/* How columns are read: an address is 16 octets and how many they are, a network its family and
+ * a struct of each. */
+const ADDRESSES = {
+  call: addressReadColumn, struct: 17, tag: 16, starts: [0, 0], lengths: [4, 16],
+};
+const NETWORKS = {
+  call: readWithCauseColumn, struct: 23, tag: 0, starts: [1, 6], lengths: [5, 17],
+};
+
+const PRINTED_ROWS = 1024;
+
+/* Friends of the classes: they reach their rows. */
+let addressRows;
+let networkRows;
+
+/** A column of texts read as addresses. It does not change. */
+export class AddressColumn {
+  #rows;
+
+  static {
+    addressRows = (value) => (
+      typeof value === 'object' && value !== null && #rows in value ? value.#rows : undefined
+    );
+  }
+
+  constructor(made, rows) {
+    if (made !== MADE) throw new TypeError('an AddressColumn is made by AddressColumn.read');
+    this.#rows = rows;
+    Object.freeze(this);
+  }
+
+  static read(texts) {
+    return new AddressColumn(MADE, readRows(texts, ADDRESSES));
+  }
+
+  get length() {
+    return this.#rows.count;
+  }
+
+  get refused() {
+    return this.#rows.refused;
+  }
+
+  codeAt(row) {
+    return codeOf(this.#rows.faults[row]);
+  }
+
+  at(row) {
+    return structAt(
+      this.#rows, row, ADDRESS, (family) => addressAt(ADDRESS, family === 4 ? 4 : 16),
+    );
+  }
+
+  * [Symbol.iterator]() {
+    for (let row = 0; row < this.length; row += 1) yield this.at(row);
+  }
+}
+
+/** A column of texts read as networks of either family. It does not change. */
+export class NetworkColumn {
+  #rows;
+
+  static {
+    networkRows = (value) => (
+      typeof value === 'object' && value !== null && #rows in value ? value.#rows : undefined
+    );
+  }
+
+  constructor(made, rows) {
+    if (made !== MADE) throw new TypeError('a NetworkColumn is made by NetworkColumn.read');
+    this.#rows = rows;
+    Object.freeze(this);
+  }
+
+  static read(texts) {
+    return new NetworkColumn(MADE, readRows(texts, NETWORKS));
+  }
+
+  get length() {
+    return this.#rows.count;
+  }
+
+  get refused() {
+    return this.#rows.refused;
+  }
+
+  codeAt(row) {
+    return codeOf(this.#rows.faults[row]);
+  }
+
+  at(row) {
+    return structAt(this.#rows, row, OTHER, (family) => networkAt(OTHER, family));
+  }
+
+  toStrings() {
+    const rows = this.#rows;
+    const texts = KINDS.map((kind) => printedAll(kind, rows.packedOf(kind)));
+    return Array.from(rows.families, (family, row) => (
+      family === 0 ? undefined : texts[family === 4 ? 0 : 1][rows.places[row]]));
+  }
+
+  * [Symbol.iterator]() {
+    for (let row = 0; row < this.length; row += 1) yield this.at(row);
+  }
+}
+
+/**
+ * What make gives of the struct of a row, which is written to this place; undefined if the row has
+ * none.
+ */
+function structAt(rows, row, place, make) {
+  if (typeof row !== 'number') throw wrongType('row', 'a number', row);
+  const family = rows.families[row];
+  if (family !== 4 && family !== 6) return undefined;
+  const { bytes: packed, struct } = rows.packed[family === 4 ? 0 : 1];
+  const from = rows.places[row] * struct;
+  for (let i = 0; i < struct; i += 1) bytes[place + i] = packed[from + i];
+  return make(family);
+}
+
+/** The texts of packed networks. */
+function printedAll(kind, packed) {
+  const texts = [];
+  for (let from = 0; from < packed.length; from += PRINTED_ROWS * kind.struct) {
+    const part = packed.subarray(from, from + PRINTED_ROWS * kind.struct);
+    const count = part.length / kind.struct;
+    const offsets = count * kind.textRoom;
+    withCopy(part, (networks) => withRoom(offsets + 4 * (count + 1), (place) => {
+      never(kind.printColumn(
+        networks, 0, count, 0, place, 0, offsets, 0, place + offsets, 0, count + 1, 0, ANSWER, 0,
+      ));
+      let start = 0;
+      for (let row = 1; row <= count; row += 1) {
+        const end = view.getUint32(place + offsets + 4 * row, true);
+        texts.push(textAt(place + start, end - start));
+        start = end;
+      }
+    }));
+  }
+  return texts;
+}
+
+/** The rows of a column of addresses, or of texts that are read as one. */
+export function rowsOfAddresses(value) {
+  const rows = addressRows(value);
+  if (rows !== undefined) return rows;
+  if (!Array.isArray(value)) {
+    throw wrongType('addresses', 'an AddressColumn or an array of strings', value);
+  }
+  return addressRows(AddressColumn.read(value));
+}
+
+/** The rows of a column of networks; undefined for any other value. */
+export const rowsOfNetworks = (value) => networkRows(value);
+
+/**
+ * Asks of each address of a family, some thousands at a time: ask is told where the addresses of a
+ * chunk stand, how many they are and the number of the first one.
+ */
+export function eachChunkOf(rows, kind, ask) {
+  const packed = rows.packedOf(kind);
+  const step = 4096 * kind.octets;
+  for (let from = 0; from < packed.length; from += step) {
+    const part = packed.subarray(from, from + step);
+    withCopy(part, (place) => ask(place, part.length / kind.octets, from / kind.octets));
+  }
+}
+
+/**
+ * For each row what one of two lists has at its place, by its family, or what a row without an
+ * address gets. The lists are not used otherwise.
+ */
+export function eachRow(rows, lists, Kind, none) {
+  const { families, places, count } = rows;
+  const [fours, sixes] = lists;
+  if (fours.length === count) return fours;
+  if (sixes.length === count) return sixes;
+  const target = new Kind(count);
+  for (let row = 0; row < count; row += 1) {
+    const family = families[row];
+    target[row] = family === 0 ? none : family === 4 ? fours[places[row]] : sixes[places[row]];
+  }
+  return target;
+}

@@ -1,0 +1,73 @@
+const MESSAGES = {
+  format: 'there is more than one slash',
+  address: 'what stands before the slash, or the whole text, is no address',
+  prefix: 'what stands after the slash is no prefix length',
+};
+const CODES = [undefined, 'format', 'address', 'prefix'];
+const SHOWN = 64;
+
+/** The code of a fault of the library: undefined, format, address or prefix. */
+export const codeOf = (fault) => CODES[fault];
+
+const quoted = (text) => JSON.stringify(text.length > SHOWN ? `${text.slice(0, SHOWN)}…` : text);
+
+/**
+ * Why there is no network, address or range: the error that this package throws for what is
+ * refused.
+ */
+export class IpNetworkError extends Error {
+  constructor(message, code, input, index) {
+    super(message);
+    this.code = code;
+    if (input !== undefined) this.input = input;
+    if (index !== undefined) this.index = index;
+  }
+}
+Object.defineProperty(
+  IpNetworkError.prototype, 'name', { value: 'IpNetworkError', configurable: true, writable: true },
+);
+
+/** The error of a text that names no network: for a list with the text's place in it. */
+export function networkError(fault, text, wanted, index) {
+  const code = CODES[fault];
+  const at = index === undefined ? '' : ` at ${index}`;
+  const shown = text === undefined ? '' : `${quoted(text)}: `;
+  return new IpNetworkError(`no ${wanted}${at}: ${shown}${MESSAGES[code]}`, code, text, index);
+}
+
+/** The error of a text that names no address. */
+export function addressError(text, wanted, index) {
+  const at = index === undefined ? '' : ` at ${index}`;
+  return new IpNetworkError(`no ${wanted}${at}: ${quoted(text)}`, 'address', text, index);
+}
+
+/** The error of a prefix length that is not one of least to most. */
+export function prefixError(prefix, least, most) {
+  return new IpNetworkError(
+    `prefix is ${prefix}, not a whole number from ${least} to ${most}`, 'prefix',
+  );
+}
+
+/** What a value is, in a word or two. No code of the value's is run. */
+function kindOf(value) {
+  if (value === null) return 'null';
+  if (typeof value === 'object') return 'an object';
+  if (typeof value === 'undefined') return 'undefined';
+  return `a ${typeof value}`;
+}
+
+/** The TypeError for an argument: its name, what it has to be, and what it is. */
+export const wrongType = (name, wanted, value) => new TypeError(
+  `${name} must be ${wanted}, not ${kindOf(value)}`
+);
+
+/** The text that an argument is, or a TypeError that names the argument. */
+export function textOf(value, name) {
+  if (typeof value !== 'string') throw wrongType(name, 'a string', value);
+  return value;
+}
+
+/** Throws if the library refused what this package had checked: a fault of this package. */
+export function never(fault) {
+  if (fault !== 0) throw new Error(`fault ${fault} of a call that has none`);
+}

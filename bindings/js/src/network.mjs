@@ -1,0 +1,388 @@
+import {
+  readWithCause, v4Broadcast, v4Canonical, v4Compare, v4Contains, v4IsSubnetOf, v4Mask, v4Network,
+  v4Nth, v4Overlaps, v4Read, v4Size, v4SubnetAt, v6Broadcast, v6Canonical, v6Compare, v6Contains,
+  v6IsSubnetOf, v6Mask, v6Network, v6Nth, v6Overlaps, v6Read, v6Size, v6SubnetAt,
+} from './library.mjs';
+import { ADDRESS, ANSWER, NETWORK, NUMBER, OTHER, bytes, view } from './memory.mjs';
+import { networkError, never, prefixError, textOf, wrongType } from './errors.mjs';
+import { putNumber, requireParts, wholeNumber } from './arguments.mjs';
+import { askText, printed } from './texts.mjs';
+import { INSPECT, IpAddress, MADE, addressAt, putFour, putSix } from './address.mjs';
+
+/* The network whose struct stands at NETWORK, so that asking one network again writes nothing
+ * anew. */
+let held = null;
+
+/* Friends of the class: they reach its fields. */
+let holdFour;
+let holdSix;
+let putField;
+let isField;
+let familyField;
+
+/**
+ * A network of either family: an address, host bits kept, and a prefix length. It does not change.
+ */
+export class IpNetwork {
+  #family;
+  /* The octets of the address, four in a number, as they stand in the memory. */
+  #a;
+  #b;
+  #c;
+  #d;
+  #prefix;
+
+  static {
+    familyField = (network) => network.#family;
+    isField = (value) => typeof value === 'object' && value !== null && #family in value;
+    /* Each writes the struct to NETWORK, if it is not there: one for each family, so that an engine
+     * sees objects of one shape in it. */
+    holdFour = (network) => {
+      if (held === network) return;
+      view.setInt32(NETWORK, network.#a, true);
+      bytes[NETWORK + 4] = network.#prefix;
+      held = network;
+    };
+    holdSix = (network) => {
+      if (held === network) return;
+      const target = view;
+      target.setInt32(NETWORK, network.#a, true);
+      target.setInt32(NETWORK + 4, network.#b, true);
+      target.setInt32(NETWORK + 8, network.#c, true);
+      target.setInt32(NETWORK + 12, network.#d, true);
+      bytes[NETWORK + 16] = network.#prefix;
+      held = network;
+    };
+    putField = (network, place) => {
+      const target = view;
+      target.setInt32(place, network.#a, true);
+      if (network.#family === 4) {
+        bytes[place + 4] = network.#prefix;
+        return;
+      }
+      target.setInt32(place + 4, network.#b, true);
+      target.setInt32(place + 8, network.#c, true);
+      target.setInt32(place + 12, network.#d, true);
+      bytes[place + 16] = network.#prefix;
+    };
+  }
+
+  constructor(made, family, prefix, a, b, c, d) {
+    if (made !== MADE) {
+      throw new TypeError('an IpNetwork is made by IpNetwork.parse, Ipv4Network or Ipv6Network');
+    }
+    this.#family = family;
+    this.#prefix = prefix;
+    this.#a = a;
+    this.#b = b;
+    this.#c = c;
+    this.#d = d;
+    Object.freeze(this);
+  }
+
+  static parse(text) {
+    const fault = readEither(text);
+    if (fault !== 0) throw networkError(fault, text, 'IP network');
+    return eitherAt(OTHER);
+  }
+
+  static tryParse(text) {
+    return readEither(text) === 0 ? eitherAt(OTHER) : undefined;
+  }
+
+  static compare(one, other) {
+    return requireNetwork(one, 'one').compare(other);
+  }
+
+  get family() {
+    return this.#family;
+  }
+
+  get prefix() {
+    return this.#prefix;
+  }
+
+  get address() {
+    putField(this, OTHER);
+    return addressAt(OTHER, this.#octets);
+  }
+
+  get first() {
+    return this.#end(this.#family === 4 ? v4Network : v6Network);
+  }
+
+  get last() {
+    return this.#end(this.#family === 4 ? v4Broadcast : v6Broadcast);
+  }
+
+  get mask() {
+    return this.#end(this.#family === 4 ? v4Mask : v6Mask);
+  }
+
+  get block() {
+    const first = this.first;
+    const kind = this.#family === 4 ? Ipv4Network : Ipv6Network;
+    return new kind(first, this.#prefix);
+  }
+
+  get size() {
+    this.#hold();
+    if (this.#family === 4) {
+      never(v4Size(NETWORK, 0, NUMBER, 0));
+      return view.getBigUint64(NUMBER, true);
+    }
+    never(v6Size(NETWORK, 0, NUMBER, 0));
+    const highest = BigInt(bytes[NUMBER]) << 128n;
+    const high = view.getBigUint64(NUMBER + 1, false) << 64n;
+    return highest | high | view.getBigUint64(NUMBER + 9, false);
+  }
+
+  contains(address) {
+    const member = typeof address === 'string' ? IpAddress.parse(address) : address;
+    return this.#family === 4 ? fourContains(this, member) : sixContains(this, member);
+  }
+
+  isSubnetOf(other) {
+    return this.#isPartOf(networkOf(other, 'other'));
+  }
+
+  isSupernetOf(other) {
+    return networkOf(other, 'other').#isPartOf(this);
+  }
+
+  overlaps(other) {
+    const network = networkOf(other, 'other');
+    const four = this.#family === 4;
+    return this.#ask(network, four ? v4Overlaps : v6Overlaps);
+  }
+
+  relationTo(other) {
+    const network = networkOf(other, 'other');
+    const inside = this.#isPartOf(network);
+    const around = network.#isPartOf(this);
+    if (inside) return around ? 'same' : 'inside';
+    return around ? 'around' : 'apart';
+  }
+
+  compare(other) {
+    requireNetwork(other, 'other');
+    if (this.#family !== other.#family) return this.#family === 4 ? -1 : 1;
+    this.#hold();
+    putField(other, OTHER);
+    const compare = this.#family === 4 ? v4Compare : v6Compare;
+    never(compare(NETWORK, 0, OTHER, 0, NUMBER, 0));
+    return view.getInt32(NUMBER, true);
+  }
+
+  equals(other) {
+    requireNetwork(other, 'other');
+    return this.#family === other.#family && this.#prefix === other.#prefix && this.#a === other.#a
+      && this.#b === other.#b && this.#c === other.#c && this.#d === other.#d;
+  }
+
+  nth(number) {
+    return this.#member(wholeNumber(number, 'number'));
+  }
+
+  subnetAt(prefix, number) {
+    this.#requireLonger(prefix);
+    return this.#subnet(prefix, wholeNumber(number, 'number'));
+  }
+
+  subnets(prefix) {
+    this.#requireLonger(prefix);
+    return this.#each((number) => this.#subnet(prefix, number));
+  }
+
+  [Symbol.iterator]() {
+    return this.#each((number) => this.#member(number));
+  }
+
+  toString() {
+    this.#hold();
+    return printed(this.#family === 4 ? v4Canonical : v6Canonical, NETWORK);
+  }
+
+  toJSON() {
+    return this.toString();
+  }
+
+  [Symbol.toPrimitive](hint) {
+    if (hint === 'number') {
+      throw new TypeError('networks are ordered by compare, and not by < or >');
+    }
+    return this.toString();
+  }
+
+  [INSPECT]() {
+    return `${this.constructor.name}(${this})`;
+  }
+
+  get #octets() {
+    return this.#family === 4 ? 4 : 16;
+  }
+
+  #hold() {
+    if (this.#family === 4) holdFour(this);
+    else holdSix(this);
+  }
+
+  #end(call) {
+    this.#hold();
+    never(call(NETWORK, 0, ADDRESS, 0));
+    return addressAt(ADDRESS, this.#octets);
+  }
+
+  #isPartOf(outer) {
+    return this.#ask(outer, this.#family === 4 ? v4IsSubnetOf : v6IsSubnetOf);
+  }
+
+  #ask(other, call) {
+    if (this.#family !== other.#family) return false;
+    this.#hold();
+    putField(other, OTHER);
+    never(call(NETWORK, 0, OTHER, 0, ANSWER, 0));
+    return bytes[ANSWER] === 1;
+  }
+
+  #requireLonger(prefix) {
+    const width = this.#family === 4 ? 32 : 128;
+    if (typeof prefix !== 'number') throw wrongType('prefix', 'a number', prefix);
+    if (!Number.isInteger(prefix) || prefix < this.#prefix || prefix > width) {
+      throw prefixError(prefix, this.#prefix, width);
+    }
+  }
+
+  /** The member of this number, or undefined past the last. */
+  #member(number) {
+    if (!putNumber(number, this.#family)) return undefined;
+    this.#hold();
+    const fault = this.#family === 4
+      ? v4Nth(NETWORK, 0, view.getInt32(NUMBER, true), ADDRESS, 0)
+      : v6Nth(NETWORK, 0, NUMBER, 0, ADDRESS, 0);
+    return fault === 0 ? addressAt(ADDRESS, this.#octets) : undefined;
+  }
+
+  /** The block of this prefix length and number within the network, or undefined past the last. */
+  #subnet(prefix, number) {
+    if (!putNumber(number, this.#family)) return undefined;
+    this.#hold();
+    const fault = this.#family === 4
+      ? v4SubnetAt(NETWORK, 0, prefix, view.getInt32(NUMBER, true), OTHER, 0)
+      : v6SubnetAt(NETWORK, 0, prefix, NUMBER, 0, OTHER, 0);
+    return fault === 0 ? networkAt(OTHER, this.#family) : undefined;
+  }
+
+  /** What each number from 0 on gives, up to the first that gives undefined. */
+  *#each(give) {
+    for (let number = 0; number < Number.MAX_SAFE_INTEGER; number += 1) {
+      const value = give(number);
+      if (value === undefined) return;
+      yield value;
+    }
+    for (let number = BigInt(Number.MAX_SAFE_INTEGER); ; number += 1n) {
+      const value = give(number);
+      if (value === undefined) return;
+      yield value;
+    }
+  }
+}
+
+/** An IPv4 network. */
+export class Ipv4Network extends IpNetwork {
+  constructor(address, prefix, word) {
+    if (address === MADE) {
+      super(MADE, 4, prefix, word, 0, 0, 0);
+      return;
+    }
+    const word4 = requireParts(address, prefix, 4, 32);
+    super(MADE, 4, prefix, word4, 0, 0, 0);
+  }
+
+  static parse(text) {
+    const fault = askText(v4Read, textOf(text, 'text'), OTHER);
+    if (fault !== 0) throw networkError(fault, text, 'IPv4 network');
+    return networkAt(OTHER, 4);
+  }
+
+  static tryParse(text) {
+    const fault = askText(v4Read, textOf(text, 'text'), OTHER);
+    return fault === 0 ? networkAt(OTHER, 4) : undefined;
+  }
+}
+
+/** An IPv6 network. */
+export class Ipv6Network extends IpNetwork {
+  constructor(address, prefix, a, b, c, d) {
+    if (address === MADE) {
+      super(MADE, 6, prefix, a, b, c, d);
+      return;
+    }
+    const first = requireParts(address, prefix, 6, 128);
+    super(
+      MADE, 6, prefix, first, view.getInt32(ADDRESS + 4, true), view.getInt32(ADDRESS + 8, true),
+      view.getInt32(ADDRESS + 12, true),
+    );
+  }
+
+  static parse(text) {
+    const fault = askText(v6Read, textOf(text, 'text'), OTHER);
+    if (fault !== 0) throw networkError(fault, text, 'IPv6 network');
+    return networkAt(OTHER, 6);
+  }
+
+  static tryParse(text) {
+    const fault = askText(v6Read, textOf(text, 'text'), OTHER);
+    return fault === 0 ? networkAt(OTHER, 6) : undefined;
+  }
+}
+
+function fourContains(network, member) {
+  if (!putFour(member, ADDRESS)) return false;
+  holdFour(network);
+  never(v4Contains(NETWORK, 0, ADDRESS, 0, ANSWER, 0));
+  return bytes[ANSWER] === 1;
+}
+
+function sixContains(network, member) {
+  if (!putSix(member, ADDRESS)) return false;
+  holdSix(network);
+  never(v6Contains(NETWORK, 0, ADDRESS, 0, ANSWER, 0));
+  return bytes[ANSWER] === 1;
+}
+
+/** Whether a value is a network of this package. */
+export const isNetwork = (value) => isField(value);
+
+/** The family of a network, 4 or 6. */
+export const familyOfNetwork = (network) => familyField(network);
+
+/** Writes the struct of a network to the memory. */
+export const putNetwork = (network, place) => putField(network, place);
+
+/** The network of this family whose struct stands at this place. */
+export function networkAt(place, family) {
+  const from = view;
+  const first = from.getInt32(place, true);
+  if (family === 4) return new Ipv4Network(MADE, bytes[place + 4], first);
+  return new Ipv6Network(MADE, bytes[place + 16], first, from.getInt32(place + 4, true),
+    from.getInt32(place + 8, true), from.getInt32(place + 12, true));
+}
+
+/** The network that an argument is or names, or a TypeError that names the argument. */
+export function networkOf(value, name) {
+  if (isField(value)) return value;
+  if (typeof value !== 'string') throw wrongType(name, 'an IpNetwork or a string', value);
+  return IpNetwork.parse(value);
+}
+
+/* A network of either family is its family, the struct of IPv4 and the struct of IPv6. */
+const readEither = (text) => askText(readWithCause, textOf(text, 'text'), OTHER);
+const eitherAt = (place) => (
+  bytes[place] === 4 ? networkAt(place + 1, 4) : networkAt(place + 6, 6)
+);
+
+function requireNetwork(value, name) {
+  if (!isField(value)) throw wrongType(name, 'an IpNetwork', value);
+  return value;
+}

@@ -1,0 +1,147 @@
+import { bytes, view } from './memory.mjs';
+import { never, wrongType } from './errors.mjs';
+import { withRoom } from './blocks.mjs';
+import { putText } from './texts.mjs';
+
+/* A column goes through the memory in chunks of at most this many rows, and of about so many
+ * units of text. */
+const CHUNK_ROWS = 4096;
+const CHUNK_UNITS = 65536;
+
+const encoder = new TextEncoder();
+
+/** Packed structs of one family, each of so many bytes, one after the other. */
+class Packed {
+  constructor(struct) {
+    this.struct = struct;
+    this.bytes = new Uint8Array(0);
+    this.count = 0;
+  }
+
+  /** Makes room for so many more. */
+  reserve(count) {
+    const length = (this.count + count) * this.struct;
+    if (length <= this.bytes.length) return;
+    const longer = new Uint8Array(2 * length);
+    longer.set(this.bytes.subarray(0, this.count * this.struct));
+    this.bytes = longer;
+  }
+
+  /** Takes over one from the memory. There has to be room for it. */
+  push(place) {
+    const { struct, bytes: target } = this;
+    const from = bytes;
+    const at = this.count * struct;
+    for (let i = 0; i < struct; i += 1) target[at + i] = from[place + i];
+    this.count += 1;
+  }
+
+  get packed() {
+    return this.bytes.subarray(0, this.count * this.struct);
+  }
+}
+
+/**
+ * The rows that a column of texts names: of each its fault, and its family and its place among
+ * those of the family. A form says by which call of the library a column is read: how many bytes
+ * its structs have, which of them is 4 for IPv4, and of each family where the packed form begins in
+ * a struct, and how long that is.
+ */
+export class Rows {
+  constructor(count, form) {
+    this.count = count;
+    this.form = form;
+    this.refused = 0;
+    this.faults = new Uint8Array(count);
+    this.families = new Uint8Array(count);
+    this.places = new Uint32Array(count);
+    this.packed = form.lengths.map((length) => new Packed(length));
+  }
+
+  /** Takes over so many rows from the memory, the first of which has this number. */
+  take(first, count, structs, faults) {
+    const { struct, tag, starts } = this.form;
+    const [fours, sixes] = this.packed;
+    fours.reserve(count);
+    sixes.reserve(count);
+    for (let i = 0; i < count; i += 1) {
+      const fault = bytes[faults + i];
+      if (fault !== 0) {
+        this.faults[first + i] = fault;
+        this.refused += 1;
+        continue;
+      }
+      const place = structs + i * struct;
+      const four = bytes[place + tag] === 4;
+      const packed = four ? fours : sixes;
+      this.families[first + i] = four ? 4 : 6;
+      this.places[first + i] = packed.count;
+      packed.push(place + starts[four ? 0 : 1]);
+    }
+  }
+
+  /** The packed structs of a family. */
+  packedOf(kind) {
+    return this.packed[kind.family === 4 ? 0 : 1].packed;
+  }
+}
+
+/** The rows of a column of texts. */
+export function readRows(texts, form) {
+  if (!Array.isArray(texts)) throw wrongType('texts', 'an array of strings', texts);
+  const rows = new Rows(texts.length, form);
+  for (let from = 0; from < rows.count; ) {
+    const chunk = chunkOf(texts, from, rows.count);
+    readChunk(chunk, form, (structs, faults) => rows.take(from, chunk.length, structs, faults));
+    from += chunk.length;
+  }
+  return rows;
+}
+
+/** The texts of the next chunk. Each element is looked at once. */
+function chunkOf(texts, from, count) {
+  const chunk = [];
+  let units = 0;
+  for (let row = from; row < count && chunk.length < CHUNK_ROWS && units < CHUNK_UNITS; row += 1) {
+    const text = texts[row];
+    if (typeof text !== 'string') throw wrongType(`texts[${row}]`, 'a string', text);
+    chunk.push(text);
+    units += text.length;
+  }
+  return chunk;
+}
+
+/** Reads a chunk, and tells where its structs and its faults stand. */
+function readChunk(chunk, { call, struct }, tell) {
+  const count = chunk.length;
+  const units = chunk.reduce((sum, text) => sum + text.length, 0);
+  const offsets = Math.ceil(units / 4) * 4;
+  const structs = offsets + 4 * (count + 1);
+  const faults = structs + struct * count;
+  withRoom(faults + count, (place) => {
+    putChunk(chunk, units, place, place + offsets);
+    never(call(place, 0, units, 0, place + offsets, 0, count + 1, 0, place + structs, 0, count, 0,
+      place + faults, 0, count, 0));
+    tell(place + structs, place + faults);
+  });
+}
+
+/** Writes texts one after the other, and where each begins and the last one ends. */
+function putChunk(chunk, units, place, offsets) {
+  let at = 0;
+  for (let row = 0; row < chunk.length; row += 1) {
+    view.setUint32(offsets + 4 * row, at, true);
+    at += chunk[row].length;
+  }
+  view.setUint32(offsets + 4 * chunk.length, at, true);
+  const { read, written } = encoder.encodeInto(
+    chunk.join(''), bytes.subarray(place, place + units),
+  );
+  if (read === units && written === units) return;
+  /* Some unit is not ASCII: it takes more bytes than one. */
+  let start = place;
+  for (const text of chunk) {
+    putText(text, start);
+    start += text.length;
+  }
+}

@@ -1,0 +1,197 @@
+import { v4IndexContains, v4IsSubnetOf, v6IndexContains, v6IsSubnetOf } from './library.mjs';
+import { ADDRESS, ANSWER, NUMBER, OTHER, bytes, view } from './memory.mjs';
+import { IpNetworkError, networkError, never, wrongType } from './errors.mjs';
+import { MADE, addressOf, familyOf, putAddress } from './address.mjs';
+import { familyOfNetwork, networkAt, networkOf, putNetwork } from './network.mjs';
+import {
+  KINDS, aggregated, combined, eachOf, networksOf, packedOf, sameBlocks, withRoom,
+} from './blocks.mjs';
+import { eachChunkOf, eachRow, rowsOfAddresses, rowsOfNetworks } from './columns.mjs';
+
+/**
+ * For each family the packed networks that an argument lists: an iterable, or a column, none of
+ * whose rows is refused.
+ */
+export function packedNetworks(value, name) {
+  const rows = rowsOfNetworks(value);
+  if (rows === undefined) {
+    const networks = networksOf(value, name);
+    return KINDS.map((kind) => packedOf(networks, kind));
+  }
+  if (rows.refused > 0) {
+    const row = rows.faults.findIndex((fault) => fault !== 0);
+    throw networkError(rows.faults[row], undefined, 'IP network', row);
+  }
+  return KINDS.map((kind) => rows.packedOf(kind));
+}
+
+/* Friend of the class: it reaches its lists. */
+let listsOf;
+
+/**
+ * A set of addresses of both families, kept as the fewest networks with exactly these. It does not
+ * change.
+ */
+export class AddressSet {
+  #lists;
+  #freed = false;
+
+  static {
+    listsOf = (value) => (
+      typeof value === 'object' && value !== null && #lists in value ? value.#used() : undefined
+    );
+  }
+
+  constructor(networks = [], lists = undefined) {
+    if (networks === MADE) {
+      this.#lists = lists;
+    } else {
+      const packed = packedNetworks(networks, 'networks');
+      this.#lists = KINDS.map((kind, which) => aggregated(kind, packed[which]));
+    }
+    Object.freeze(this);
+  }
+
+  contains(address) {
+    const member = addressOf(address, 'address');
+    const list = this.#used()[familyOf(member) === 4 ? 0 : 1];
+    const { index, indexCount, place, count } = list;
+    putAddress(member, ADDRESS);
+    never(list.kind.family === 4
+      ? v4IndexContains(place, 0, count, 0, index, 0, indexCount, 0, ADDRESS, 0, ANSWER, 0)
+      : v6IndexContains(place, 0, count, 0, index, 0, indexCount, 0, ADDRESS, 0, ANSWER, 0));
+    return bytes[ANSWER] === 1;
+  }
+
+  covers(network) {
+    const inner = networkOf(network, 'network');
+    const four = familyOfNetwork(inner) === 4;
+    const list = this.#used()[four ? 0 : 1];
+    const { index, indexCount, place, count, kind } = list;
+    putNetwork(inner, OTHER);
+    /* The set has the network's addresses if one of its blocks has them: no two of them are the
+     * halves of one. */
+    const found = kind.indexFind(place, 0, count, 0, index, 0, indexCount, 0, OTHER, 0, NUMBER, 0);
+    if (found !== 0) return false;
+    const block = place + view.getUint32(NUMBER, true) * kind.struct;
+    never((four ? v4IsSubnetOf : v6IsSubnetOf)(OTHER, 0, block, 0, ANSWER, 0));
+    return bytes[ANSWER] === 1;
+  }
+
+  containsColumn(addresses) {
+    const rows = rowsOfAddresses(addresses);
+    const lists = this.#used();
+    return eachRow(rows, lists.map((list) => answersOf(list, rows)), Uint8Array, 0);
+  }
+
+  union(other) {
+    return this.#combined(other, 'union');
+  }
+
+  intersection(other) {
+    return this.#combined(other, 'intersection');
+  }
+
+  difference(other) {
+    return this.#combined(other, 'difference');
+  }
+
+  equals(other) {
+    const lists = requireLists(other);
+    return this.#used().every((list, which) => sameBlocks(list, lists[which]));
+  }
+
+  get size() {
+    return this.#used().reduce((sum, list) => sum + sizeOf(list), 0n);
+  }
+
+  get blockCount() {
+    return this.#used().reduce((sum, list) => sum + list.count, 0);
+  }
+
+  * blocks() {
+    for (const which of [0, 1]) yield* eachOf(this.#used()[which]);
+  }
+
+  toJSON() {
+    return Array.from(this.blocks(), String);
+  }
+
+  free() {
+    this.#freed = true;
+    this.#lists.forEach((list) => list.free());
+  }
+
+  #used() {
+    if (this.#freed) throw new IpNetworkError('this AddressSet is freed', 'freed');
+    return this.#lists;
+  }
+
+  #combined(other, name) {
+    const lists = requireLists(other);
+    return new AddressSet(
+      MADE, this.#used().map((list, which) => combined(list, lists[which], name)),
+    );
+  }
+}
+
+function requireLists(value) {
+  const lists = listsOf(value);
+  if (lists === undefined) throw wrongType('other', 'an AddressSet', value);
+  return lists;
+}
+
+/** For each address of a list's family 1 or 0. */
+function answersOf(list, rows) {
+  const { kind } = list;
+  const answers = new Uint8Array(rows.packedOf(kind).length / kind.octets);
+  if (answers.length === 0) return answers;
+  const { index, indexCount, place, count } = list;
+  eachChunkOf(rows, kind, (addresses, length, first) => withRoom(2 * length, (room) => {
+    never(kind.indexContainsColumn(
+      place, 0, count, 0, index, 0, indexCount, 0, addresses, 0, length, 0,
+      room, 0, length, 0, room + length, 0, length, 0,
+    ));
+    for (let i = 0; i < length; i += 1) never(bytes[room + length + i]);
+    answers.set(bytes.subarray(room, room + length), first);
+  }));
+  return answers;
+}
+
+/** How many addresses a list has. */
+function sizeOf(list) {
+  const { struct, width } = list.kind;
+  const ofPrefix = new Array(width + 1).fill(0);
+  for (let at = struct - 1; at < list.packed.length; at += struct) ofPrefix[list.packed[at]] += 1;
+  return ofPrefix.reduce(
+    (sum, count, prefix) => sum + (BigInt(count) << BigInt(width - prefix)), 0n,
+  );
+}
+
+/** The fewest networks with the addresses of these, in ascending order, those of IPv4 first. */
+export function aggregate(networks) {
+  const packed = packedNetworks(networks, 'networks');
+  return KINDS.flatMap((kind, which) => [...eachOf(aggregated(kind, packed[which]))]);
+}
+
+/** The fewest networks with the addresses from first to last, both included, in ascending order. */
+export function summarizeRange(first, last) {
+  const from = addressOf(first, 'first');
+  const to = addressOf(last, 'last');
+  const family = familyOf(from);
+  if (familyOf(to) !== family) {
+    throw new IpNetworkError('first and last are of different families', 'range');
+  }
+  const kind = KINDS[family === 4 ? 0 : 1];
+  const most = 2 * kind.width - 2;
+  return withRoom(most * kind.struct, (place) => {
+    putAddress(from, ADDRESS);
+    putAddress(to, OTHER);
+    const fault = kind.rangeToBlocks(ADDRESS, 0, OTHER, 0, place, 0, most, 0, ANSWER, 0);
+    if (fault !== 0) throw new IpNetworkError(`first, ${from}, comes after last, ${to}`, 'range');
+    return Array.from(
+      { length: view.getUint32(ANSWER, true) },
+      (_, i) => networkAt(place + i * kind.struct, family),
+    );
+  });
+}

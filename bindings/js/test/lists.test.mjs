@@ -1,0 +1,233 @@
+/** Sets, tables and columns, beside a table of one byte for each address of a small network. */
+import assert from 'node:assert/strict';
+import test from 'node:test';
+import ipnetwork from './package.mjs';
+import { Random } from './random.mjs';
+
+const {
+  AddressColumn, AddressSet, IpNetwork, Ipv4Address, Ipv6Address, NetworkColumn, PrefixTable,
+  aggregate, summarizeRange,
+} = ipnetwork;
+
+/* Two families: within 192.0.2.0/24 and within the last 256 addresses of 2001:db8::/32. */
+const FAMILIES = [
+  { width: 32, of: (host) => `192.0.2.${host}` },
+  {
+    width: 128,
+    of: (host) => `2001:db8:ffff:ffff:ffff:ffff:ffff:ff${host.toString(16).padStart(2, '0')}`,
+  },
+];
+const HOSTS = Array.from({ length: 256 }, (_, host) => host);
+
+/** Random networks within both families, and for each family a byte for each address. */
+function sample(random, count) {
+  const networks = [];
+  const has = FAMILIES.map(() => new Uint8Array(256));
+  for (let i = 0; i < count; i += 1) {
+    const which = random.below(2);
+    const host = random.below(256);
+    const bits = random.below(7);
+    networks.push(`${FAMILIES[which].of(host)}/${FAMILIES[which].width - bits}`);
+    const first = host - (host % 2 ** bits);
+    has[which].fill(1, first, first + 2 ** bits);
+  }
+  return { networks, has };
+}
+
+/** A set has exactly the addresses of a table, in the fewest blocks. */
+function same(set, has) {
+  FAMILIES.forEach(({ of }, which) => {
+    const addresses = HOSTS.map(of);
+    assert.deepEqual([...set.containsColumn(addresses)], [...has[which]]);
+    assert.deepEqual([...set.containsColumn(AddressColumn.read(addresses))], [...has[which]]);
+    addresses.forEach(
+      (address, host) => assert.equal(set.contains(address), has[which][host] === 1)
+    );
+  });
+  const members = has.reduce((sum, each) => sum + each.reduce((a, b) => a + b), 0);
+  assert.equal(set.size, BigInt(members));
+  const blocks = [...set.blocks()];
+  assert.equal(blocks.length, set.blockCount);
+  assert.equal(blocks.length, has.reduce((sum, each) => sum + fewest(each), 0));
+  blocks.forEach((block, at) => {
+    assert.ok(block.equals(block.block));
+    if (at > 0) assert.equal(blocks[at - 1].compare(block), -1);
+    assert.ok(set.covers(block));
+  });
+}
+
+/** How many blocks a table needs at the least: halves are joined as long as both are whole. */
+function fewest(has) {
+  const count = (from, size) => {
+    const members = has.subarray(from, from + size).reduce((a, b) => a + b);
+    if (members === 0) return 0;
+    if (members === size) return 1;
+    return count(from, size / 2) + count(from + size / 2, size / 2);
+  };
+  return count(0, 256);
+}
+
+test('sets and their operations', () => {
+  const random = new Random(7);
+  for (let round = 0; round < 150; round += 1) {
+    const [one, other] = [sample(random, round % 9), sample(random, random.below(9))];
+    const [first, second] = [
+      new AddressSet(one.networks), new AddressSet(other.networks.map(IpNetwork.parse)),
+    ];
+    same(first, one.has);
+    const joined = (join) => one.has.map(
+      (each, which) => each.map((a, host) => join(a, other.has[which][host]))
+    );
+    same(first.union(second), joined((a, b) => a | b));
+    same(first.intersection(second), joined((a, b) => a & b));
+    same(first.difference(second), joined((a, b) => a & (1 - b)));
+    assert.ok(first.union(second).equals(second.union(first)));
+    assert.equal(
+      first.equals(second),
+      first.difference(second).size === 0n && second.difference(first).size === 0n,
+    );
+    assert.deepEqual(aggregate(one.networks).map(String), first.toJSON());
+    for (const text of other.networks) {
+      const network = IpNetwork.parse(text);
+      const all = Array.from(network).every((address) => first.contains(address));
+      assert.equal(first.covers(text), all, text);
+    }
+  }
+});
+
+/** A random number of so many bits, many of them all 0 or all 1. */
+function numberOf(random, bits) {
+  let number = 0n;
+  for (let i = 0; i < bits; i += 1) number = (number << 1n) | BigInt(random.below(2));
+  const kind = random.below(12);
+  return kind === 0 ? 0n : kind === 1 ? 2n ** BigInt(bits) - 1n : number;
+}
+
+test('large sets, close together and far apart, asked at and beside each end', () => {
+  const random = new Random(12);
+  let blocks = 0;
+  for (let round = 0; round < 120; round += 1) {
+    const width = round % 2 === 0 ? 32 : 128;
+    const address = (number) => (
+      width === 32 ? new Ipv4Address(Number(number)) : new Ipv6Address(number)
+    );
+    const most = 2n ** BigInt(width) - 1n;
+    /* All networks but a few begin with the same bits. */
+    const common = random.below(width - 8);
+    const base = numberOf(random, common) << BigInt(width - common);
+    const networks = Array.from({ length: 1 + random.below(150) }, () => {
+      const number = random.below(40) === 0 ? numberOf(random, width)
+        : base + numberOf(random, width - common);
+      const prefix = width - random.below(Math.min(width - common - 6, 20));
+      return `${address(number)}/${random.below(3000) === 0 ? 1 : prefix}`;
+    }).map(IpNetwork.parse);
+    const set = new AddressSet(networks);
+    const ends = networks.flatMap(({ first, last }) => [BigInt(first.number), BigInt(last.number)]);
+    const asked = [0n, most, base, ...ends.flatMap((end) => [end - 1n, end, end + 1n])]
+      .filter((number) => number >= 0n && number <= most).map(address);
+    const isMember = (each) => networks.some((network) => network.contains(each));
+    const wanted = asked.map((each) => (isMember(each) ? 1 : 0));
+    assert.deepEqual([...set.containsColumn(AddressColumn.read(asked.map(String)))], wanted);
+    assert.deepEqual(asked.map((each) => (set.contains(each) ? 1 : 0)), wanted);
+    blocks += set.blockCount;
+  }
+  assert.ok(blocks > 120 * 25, `${blocks} blocks`);
+});
+
+test('tables, beside a look at each network', () => {
+  const random = new Random(8);
+  for (let round = 0; round < 100; round += 1) {
+    const { networks } = sample(random, round % 20);
+    const table = new PrefixTable(networks.map((network, index) => [network, index]));
+    const longest = (address) => networks.reduce((best, text, index) => {
+      const network = IpNetwork.parse(text);
+      if (!network.contains(address)) return best;
+      return best === undefined || network.prefix >= IpNetwork.parse(
+        networks[best]
+      ).prefix ? index : best;
+    }, undefined);
+    for (const { of } of FAMILIES) {
+      const addresses = HOSTS.filter((host) => host % 5 === round % 5).map(of);
+      const wanted = addresses.map(longest);
+      assert.deepEqual(addresses.map((address) => table.lookup(address)?.value), wanted);
+      assert.deepEqual(table.lookupColumn(addresses), wanted);
+      addresses.forEach((address, row) => {
+        if (wanted[row] === undefined) return;
+        assert.ok(
+          table.lookup(address).network.equals(IpNetwork.parse(networks[wanted[row]]).block)
+        );
+      });
+    }
+    const blocks = new Map(
+      networks.map((text, index) => [`${IpNetwork.parse(text).block}`, index])
+    );
+    assert.equal(table.size, blocks.size);
+    blocks.forEach((index, text) => assert.equal(table.get(text), index));
+    assert.deepEqual(new Map([...table].map(([network, value]) => [`${network}`, value])),
+      new Map(
+        [...blocks].sort(([one], [other]) => IpNetwork.parse(one).compare(IpNetwork.parse(other)))
+      ));
+    assert.ok(!table.has('192.0.2.0/23') && table.get('::/0') === undefined);
+  }
+});
+
+test('values of a table are kept as they are', () => {
+  const value = { name: 'x' };
+  const table = new PrefixTable(new Map([['10.0.0.0/8', value], ['10.0.0.0/9', undefined]]));
+  assert.equal(table.lookup('10.200.0.1').value, value);
+  assert.deepEqual(table.lookup('10.1.0.1').value, undefined);
+  assert.ok(table.has('10.0.0.0/9'));
+  assert.equal(table.lookup('11.0.0.0'), undefined);
+});
+
+test('columns', () => {
+  const texts = [
+    '10.1.9.32/16', 'x', '2001:DB8::1/064', '10.0.0.0/33', '1/2/3', '', 'é/8', '\ud800', '8.8.8.8',
+  ];
+  const column = NetworkColumn.read(texts);
+  assert.deepEqual([column.length, column.refused], [9, 6]);
+  assert.deepEqual(texts.map((_, row) => column.codeAt(row)),
+    [
+      undefined, 'address', undefined, 'prefix', 'format', 'address', 'address', 'address',
+      undefined,
+    ]);
+  assert.deepEqual(
+    column.toStrings(), ['10.1.9.32/16', undefined, '2001:db8::1/64', ...Array(5), '8.8.8.8/32'],
+  );
+  assert.deepEqual([...column].map(String), column.toStrings().map(String));
+  assert.equal(column.at(9), undefined);
+  assert.equal(column.at(-1), undefined);
+  assert.throws(
+    () => new AddressSet(column), { name: 'IpNetworkError', code: 'address', index: 1 },
+  );
+  const set = new AddressSet(NetworkColumn.read(['10.0.0.0/9', '10.128.0.0/9', '::1']));
+  assert.deepEqual(set.toJSON(), ['10.0.0.0/8', '::1/128']);
+  assert.deepEqual(
+    [...set.containsColumn(['10.9.9.9', 'x', '::1', '::2', '10.0.0.0/8'])], [1, 0, 1, 0, 0],
+  );
+  /* More rows than go through the memory at once, and rows that are long. */
+  const many = Array.from({ length: 10000 }, (_, row) => (
+    row % 1000 === 999 ? `10.0.0.0/${'0'.repeat(50000)}8` : `10.0.${row % 256}.0/24`
+  ));
+  const read = NetworkColumn.read(many);
+  assert.equal(read.refused, 0);
+  assert.deepEqual(read.toStrings(), many.map((text) => (text.length > 99 ? '10.0.0.0/8' : text)));
+  assert.equal(
+    AddressColumn.read(many.map((text) => text.split('/')[0])).at(5).toString(), '10.0.5.0',
+  );
+});
+
+test('ranges', () => {
+  /* The blocks of Python's ipaddress.summarize_address_range. */
+  assert.deepEqual(
+    summarizeRange('192.0.2.0', '192.0.2.130').map(String),
+    ['192.0.2.0/25', '192.0.2.128/31', '192.0.2.130/32'],
+  );
+  assert.deepEqual(
+    summarizeRange('::', 'ffff:ffff:ffff:ffff:ffff:ffff:ffff:ffff').map(String), ['::/0'],
+  );
+  assert.equal(summarizeRange('0.0.0.1', '255.255.255.254').length, 62);
+  assert.equal(summarizeRange('::1', 'ffff:ffff:ffff:ffff:ffff:ffff:ffff:fffe').length, 254);
+  assert.throws(() => summarizeRange('10.0.0.1', '10.0.0.0'), { code: 'range' });
+  assert.throws(() => summarizeRange('10.0.0.1', '::'), { code: 'range' });
+});

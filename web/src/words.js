@@ -1,0 +1,57 @@
+// Numbers, counts and causes in words.
+
+const CAUSES = {
+  format: "more than one slash",
+  address: "no IPv4 or IPv6 address before the slash",
+  prefix: "no prefix length of the address's family after the slash",
+};
+
+const SHORT_CAUSES = {
+  format: "more than one slash",
+  address: "no address",
+  prefix: "no prefix length",
+};
+
+/** Why a text is refused. */
+export function cause(code) {
+  return CAUSES[code];
+}
+
+/** The same in a few words. */
+export function shortCause(code) {
+  return SHORT_CAUSES[code];
+}
+
+/** A number with commas between groups of three digits. */
+export function grouped(number) {
+  return String(number).replace(/\B(?=(\d{3})+$)/g, ",");
+}
+
+/** A number and what it counts, as `1 block` and `2 blocks`. */
+export function counted(number, one, many = `${one}s`) {
+  return `${grouped(number)} ${number == 1 ? one : many}`;
+}
+
+/** A number of addresses, in words. */
+export function addresses(number) {
+  return counted(number, "address", "addresses");
+}
+
+/** The number of addresses as a power of two, if it is one, and in decimal. */
+export function sizeText(size) {
+  const bits = size.toString(2).length - 1;
+  const isPower = size > 0n && size === 1n << BigInt(bits);
+  return isPower && bits >= 10 ? `${grouped(size)} (2^${bits})` : grouped(size);
+}
+
+/** A share of the whole in percent, which says so where it is less than what is shown. */
+export function percent(part, whole) {
+  const millionths = Number((part * 100000000n) / whole) / 1000000;
+  if (part === 0n) {
+    return "0 %";
+  }
+  if (millionths < 0.01) {
+    return "less than 0.01 %";
+  }
+  return `${millionths < 10 ? millionths.toFixed(2) : millionths.toFixed(1)} %`;
+}
