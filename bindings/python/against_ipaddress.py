@@ -56,8 +56,8 @@ def texts(rows, seed):
             differ("reading in the other family", text, read(other_kind, text), crossed)
         if isinstance(own, type):
             seen[None] += 1
-            if read(ip_network, text) is not AddressError:
-                differ("reading in either family", text, read(ip_network, text), AddressError)
+            if read(ip_network, text) is not own:
+                differ("reading in either family", text, read(ip_network, text), own)
         else:
             seen[kind.version] += 1
             network = ip_network(text)

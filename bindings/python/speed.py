@@ -1,8 +1,8 @@
 """Nanoseconds a call of this package and of ``ipaddress``, side by side, and of a row of the columns.
 
-    speed.py
+    speed.py [networks|columns|sets ...]
 
-Each figure is the least of 15 runs, which take turns, so that what else the machine does meets both. Which core of the
+With no argument all three parts are measured. Each figure is the least of 15 runs, which take turns, so that what else the machine does meets both. Which core of the
 package is measured stands in the first line: see ``ipnetwork.CORE``. The columns need NumPy.
 """
 
@@ -14,7 +14,7 @@ import time
 from ipaddress import IPv4Address, IPv6Address
 
 import ipnetwork
-from ipnetwork import AddressSet, IPv4Network, IPv6Network
+from ipnetwork import AddressSet, AddressSetBuilder, IPv4Network, IPv6Network, PrefixTable, Table
 
 TURNS, COUNT, ROWS, MANY = 15, 2000, 200_000, 10_000
 
@@ -112,9 +112,52 @@ def columns(rng):
         yield (f"{name}: columns.read_addresses of a list", *least(lambda: over_numpy.read_addresses(texts), count=ROWS))
 
 
-def main():
-    rng = random.Random(30)
-    print(f"Python {sys.version.split()[0]}, {ipnetwork.CORE}: here, ipaddress, ratio")
+def sets_and_tables(kind, address, width, rng):
+    """Of sets and tables of MANY networks each: a call, or a network or a row of a call on all."""
+    networks = [kind.of(address(rng.getrandbits(width)), width * 3 // 4) for _ in range(MANY * 2)]
+    one, other = AddressSet(networks[:MANY]), AddressSet(networks[MANY // 2 :])
+    asked = [network.ip for network in networks[:COUNT // 2]] + [address(rng.getrandbits(width)) for _ in range(COUNT // 2)]
+    routes = PrefixTable(zip(networks[:MANY], range(MANY)))
+    table, texts = Table(networks[:MANY], range(MANY)), [str(each) for each in asked] * (ROWS // COUNT)
+    fresh = networks[MANY : MANY + COUNT]
+
+    def build(steps):
+        builder = AddressSetBuilder(one)
+        for network in fresh:
+            for step in steps:
+                getattr(builder, step)(network)
+        return builder.build()
+
+    def change():
+        for network in fresh:
+            routes[network] = 1
+            routes.get(network.ip)
+        for network in fresh:
+            del routes[network]
+
+    both, all_of = len(one) + len(other), len(one) + len(one.complement(kind.version))
+    yield "address in set", *least(lambda: [each in one for each in asked])
+    yield "network in set", *least(lambda: [each in one for each in networks[:COUNT]])
+    yield "|, a network of both", *least(lambda: one | other, count=both)
+    yield "^, a network of both", *least(lambda: one ^ other, count=both)
+    yield "complement, a network of both", *least(lambda: one.complement(kind.version), count=all_of)
+    yield "<= of a set and itself, a network", *least(lambda: one <= one, count=len(one))
+    yield "isdisjoint, a network of both", *least(lambda: one.isdisjoint(other), count=both)
+    yield "iteration, a network", *least(lambda: list(one), count=len(one))
+    yield "builder: add, and a build at the end", *least(lambda: build(["add"]))
+    in_turn = ["add", "discard"]
+    yield "builder: add and discard in turn", *least(lambda: build(in_turn), count=COUNT * 2)
+    yield "table[network] = value, a new one", *least(lambda: PrefixTable(zip(fresh, fresh)))
+    yield "table[network]", *least(lambda: [routes[each] for each in networks[:COUNT]])
+    yield "table.get(address)", *least(lambda: [routes.get(each) for each in asked])
+    yield "longest(address)", *least(lambda: [routes.longest(each) for each in asked])
+    yield "table[network] = 1, get(address), del", *least(change)
+    for name, joined in (("PrefixTable", routes), ("Table", table)):
+        times = least(lambda: joined.join(texts), count=len(texts))
+        yield f"{name}.join of a list of str, a row", *times
+
+
+def print_networks(rng):
     slower = 0
     for rows in (
         calls_of(IPv4Network, ipaddress.IPv4Network, ipaddress.IPv4Interface, IPv4Address, 32, rng),
@@ -123,12 +166,32 @@ def main():
         for name, own, other in rows:
             slower += own > other
             print(f"{name:36} {own:9.0f} {other:9.0f} {own / other:6.2f}{'  slower' if own > other else ''}")
-    print("a row, ns")
-    for name, own in columns(rng):
-        print(f"{name:44} {own:9.1f}")
     if slower:
         print(f"{slower} calls are slower than those of ipaddress")
 
+
+def print_columns(rng):
+    print("a row, ns")
+    for name, own in columns(rng):
+        print(f"{name:44} {own:9.1f}")
+
+
+def print_sets(rng):
+    print(f"sets and tables of {MANY} networks, ns: IPv4, IPv6")
+    fours = sets_and_tables(IPv4Network, IPv4Address, 32, rng)
+    sixes = sets_and_tables(IPv6Network, IPv6Address, 128, rng)
+    for (name, four), (_, six) in zip(fours, sixes):
+        print(f"{name:44} {four:9.1f} {six:9.1f}")
+
+
+def main():
+    rng = random.Random(30)
+    print(f"Python {sys.version.split()[0]}, {ipnetwork.CORE}: here, ipaddress, ratio")
+    for part in sys.argv[1:] or PARTS:
+        PARTS[part](rng)
+
+
+PARTS = {"networks": print_networks, "columns": print_columns, "sets": print_sets}
 
 if __name__ == "__main__":
     main()

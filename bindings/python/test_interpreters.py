@@ -50,6 +50,13 @@ for turn in range({turns}):
     rows, faults = ipnetwork.read_address_column(b"10.1.2.38.8.8.8::1x", offsets)
     assert (list(allowed.contains_column(rows)), list(faults)) == ([1, 0, 0, 0], [0, 0, 0, 2])
     assert memoryview(table.find_column(rows)).cast("q").tolist() == [1, -1, -1, -1]
+    routes = ipnetwork.PrefixTable({{four: "lab", six: "office"}})
+    assert routes[ipaddress.ip_address("10.1.2.3")] == "lab" and four in routes and four in allowed
+    assert routes.join(rows) == ["lab", None, None, None]
+    assert allowed - ~allowed == allowed > ipnetwork.AddressSet([four]) and len(allowed) == 2
+    builder = ipnetwork.AddressSetBuilder(allowed)
+    builder.discard(six)
+    assert builder.build() == ipnetwork.AddressSet([four])
     halves = list(map(str, ipnetwork.IPv4Network("10.0.0.0/8").subnets()))
     assert halves == ["10.0.0.0/9", "10.128.0.0/9"]
 for wrong, name in (("x", "AddressError"), ("a/b/c", "FormatError"), ("0.0.0.0/99", "PrefixError")):
@@ -125,6 +132,14 @@ class Interpreters(unittest.TestCase):
         for number in numbers:
             interpreters.destroy(number)
         exec(asked(1), {})
+
+    @unittest.skipIf(sys.version_info >= (3, 12), "importlib imports it")
+    def test_without_threading(self):
+        # With it the end of an interpreter that another thread has run may wait for good.
+        number = interpreters.create()
+        run(number, 'import sys\nbefore = "threading" in sys.modules')
+        run(number, asked(1) + 'assert ("threading" in sys.modules) == before')
+        interpreters.destroy(number)
 
     def test_many_in_a_row(self):
         for _ in range(10):

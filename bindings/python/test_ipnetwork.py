@@ -57,7 +57,7 @@ DIFFERENCES = [
 def ours(text):
     try:
         return str(ip_network(text))
-    except AddressError:
+    except ipnetwork.NetworkError:
         return None
 
 
@@ -83,6 +83,9 @@ class Texts(unittest.TestCase):
                 self.assertEqual(self.answer(IPv6Network, text), six)
                 wanted = next((it for it in (four, six) if isinstance(it, str)), None)
                 self.assertEqual(ours(text), wanted)
+                # Of either family it is the cause of the one whose address stands before the slash.
+                cause = four if six is AddressError else six
+                self.assertEqual(self.answer(ip_network, text), wanted or cause)
 
     def test_bytes(self):
         # Packed addresses, as in ipaddress.
@@ -176,7 +179,7 @@ class Questions(unittest.TestCase):
         self.assertIn(IPv4Address("74.125.227.4"), net)
         self.assertNotIn(IPv4Address("74.125.228.4"), net)
         self.assertNotIn(IPv6Address("::ffff:74.125.227.4"), net)
-        # A network is no member, as in ipaddress, and an interface is its address.
+        # A network is no member of a network, as in ipaddress, and an interface is its address.
         self.assertNotIn(net, net)
         self.assertNotIn(ipaddress.ip_network("74.125.227.4/32"), net)
         self.assertIn(ipaddress.ip_interface("74.125.227.4/8"), net)
@@ -264,9 +267,13 @@ class Questions(unittest.TestCase):
                 self.assertEqual((faults[row], held), (2, bytes(17)), text)
         self.assertEqual(IPv4Network.read_column(b"", array.array("I")), (b"", b""))
         self.assertEqual(IPv4Network.read_column(b"", array.array("i", [0])), (b"", b""))
-        for wrong in (array.array("I", [0, 3]), array.array("I", [2, 1]), array.array("Q", [0, 1])):
-            with self.assertRaises(ValueError):
-                ipnetwork.read_address_column(b"::", wrong)
+        for kind in "IiQq":
+            for wrong in ([0, 3], [2, 1], [3], [0, 2, 1, 2]):
+                with self.assertRaisesRegex(ValueError, "fall, or pass"):
+                    ipnetwork.read_address_column(b"::", array.array(kind, wrong))
+        for kind in "bBhH":
+            with self.assertRaisesRegex(ValueError, "32 or of 64 bits, not of (8|16)"):
+                ipnetwork.read_address_column(b"::", array.array(kind, [0, 1]))
 
     def test_sets_of_addresses(self):
         texts = ["10.0.0.7/8", "2001:db8::/33", "192.0.2.0/25", "2001:db8:8000::/33"]
@@ -462,14 +469,21 @@ class Questions(unittest.TestCase):
             masked = type(network).from_ipaddress(interface.network)
             self.assertEqual((masked.ip, masked.prefixlen), (network.network_address, network.prefixlen))
             self.assertNotEqual(network, interface.network)
+            for given in (interface, interface.network):
+                made = ipnetwork.from_ipaddress(given)
+                self.assertEqual((made, type(made)), (type(network).from_ipaddress(given), type(network)))
             for wrong in (text, network, ipaddress.ip_network("10.0.0.0/8" if network.version == 6 else "::/0")):
                 with self.assertRaises(TypeError):
                     type(network).from_ipaddress(wrong)
         zoned = ipaddress.ip_interface("fe80::1%eth0/64")
         for given in (zoned, zoned.network):
             if getattr(given, "scope_id", None) or given.network_address.scope_id:
-                with self.assertRaises(AddressError):
-                    IPv6Network.from_ipaddress(given)
+                for call in (IPv6Network.from_ipaddress, ipnetwork.from_ipaddress):
+                    with self.assertRaises(AddressError):
+                        call(given)
+        for wrong in ("::/0", IPv4Address("10.0.0.1"), IPv6Network("::/0"), 7, None):
+            with self.assertRaises(TypeError):
+                ipnetwork.from_ipaddress(wrong)
 
     def test_index(self):
         class Seven:

@@ -9,7 +9,15 @@ import unittest
 from ipaddress import IPv4Address, IPv6Address
 
 import ipnetwork
-from ipnetwork import AddressSet, IPv4Network, IPv6Network, Table, ip_network
+from ipnetwork import (
+    AddressSet,
+    AddressSetBuilder,
+    IPv4Network,
+    IPv6Network,
+    PrefixTable,
+    Table,
+    ip_network,
+)
 
 TEXTS, OFFSETS = b"10.1.2.38.8.8.8::1x", array.array("I", [0, 8, 15, 18, 19])
 NETWORKS = [ip_network("10.0.0.0/8"), ip_network("2001:db8::/32"), ip_network("10.1.9.32/16")]
@@ -17,7 +25,28 @@ SET, OTHER, TABLE = AddressSet(NETWORKS), AddressSet([ip_network("10.64.0.0/10")
 ROWS, _ = ipnetwork.read_address_column(TEXTS, OFFSETS)
 ASKED = [IPv4Address("10.1.2.3"), IPv6Address("::"), IPv6Address("fe80::1%eth0"), NETWORKS[0]]
 LEAST = 4000  # an object that is lost in each of 500 calls takes at least 8000 bytes
+ROUTES, CHANGED = PrefixTable(zip(NETWORKS, "abc")), PrefixTable(zip(NETWORKS, "abc"))
+JOINED, WIDE = Table(NETWORKS, "abc"), array.array("Q", OFFSETS)
+TEXT_ROWS = ["10.1.2.3", None, "x", IPv6Address("::1")]
 LAID = [["10.1.2.3", b"::1", None, float("nan")], ["10.1.2.3", "\udcff"], ["10.1.2.3", 7]]
+
+
+def changed():
+    """A table that changes, and is asked before and after its search is ready."""
+    for network in (ip_network("192.0.2.0/24"), ip_network("2001:db8:1::/48")):
+        CHANGED[network] = 1
+        found = [CHANGED.get(address, 0) for address in ASKED[:3] for _ in range(5)]
+        del CHANGED[network]
+    return found, CHANGED.join(TEXT_ROWS), list(CHANGED.items())
+
+
+def built():
+    """A builder that is changed in turn."""
+    builder = AddressSetBuilder(SET)
+    for network in NETWORKS:
+        builder.add(network)
+        builder.discard(ip_network("10.64.0.0/10"))
+    return builder.build(), repr(builder)
 
 
 def parts(network):
@@ -38,10 +67,20 @@ CALLS = {
     "subnets": lambda: list(NETWORKS[2].subnets(2)),
     "collapse": lambda: list(ipnetwork.collapse_addresses([NETWORKS[0], NETWORKS[2]])),
     "sets": lambda: (AddressSet(NETWORKS), SET | OTHER, SET & OTHER, SET - OTHER, list(SET)),
-    "asked of a set": lambda: [address in SET for address in ASKED],
+    "asked of a set": lambda: [address in SET for address in ASKED + NETWORKS],
+    "questions of sets": lambda: (SET <= OTHER, SET < SET, SET.isdisjoint(OTHER), SET ^ OTHER, ~SET),
+    "ranges": lambda: AddressSet.of_ranges(SET.ranges()),
+    "builders": built,
+    "prefix tables": lambda: PrefixTable(zip(NETWORKS, "abc")),
+    "asked of a prefix table": lambda: [ROUTES.get(asked, 0) for asked in ASKED + NETWORKS],
+    "longest": lambda: [ROUTES.longest(asked) for asked in ASKED + NETWORKS],
+    "changed": changed,
+    "joined": lambda: (JOINED.join(TEXT_ROWS), ROUTES.join(TEXT_ROWS), ROUTES.join(ROWS)),
     "tables": lambda: (Table(NETWORKS), TABLE.find_column(ROWS), list(map(TABLE.find, ASKED))),
     "addresses read": lambda: ipnetwork.read_address_column(TEXTS, OFFSETS),
     "networks read": lambda: IPv4Network.read_column(TEXTS, OFFSETS),
+    "read, 64 bits": lambda: ipnetwork.read_address_column(TEXTS, WIDE),
+    "printed, 64 bits": lambda: ipnetwork.print_address_column(ROWS[:51], 64),
     "columns": lambda: (SET.contains_column(ROWS), NETWORKS[0].contains_column(bytes(8))),
     "addresses printed": lambda: ipnetwork.print_address_column(ROWS[:51]),
     "networks printed": lambda: IPv4Network.print_column(bytes(10)),
@@ -67,7 +106,19 @@ REFUSED = {
     "words": lambda: SET.contains_column(array.array("I", [1])),
     "words of a network": lambda: NETWORKS[0].contains_column(array.array("I", [1])),
     "offsets": lambda: ipnetwork.read_address_column(TEXTS, array.array("I", [9, 1])),
-    "no offsets": lambda: ipnetwork.read_address_column(TEXTS, array.array("Q", [0])),
+    "no offsets": lambda: ipnetwork.read_address_column(TEXTS, array.array("H", [0])),
+    "offsets of 64 bits": lambda: ipnetwork.read_address_column(TEXTS, array.array("Q", [9, 1])),
+    "no whole numbers": lambda: ipnetwork.read_address_column(TEXTS, array.array("d", [0, 1])),
+    "covered": lambda: SET.covers("10.0.0.0/8"),
+    "a range": lambda: AddressSet.of_ranges([(ASKED[0], ASKED[0] - 1)]),
+    "a range of two": lambda: ipnetwork.summarize_address_range(ASKED[0], ASKED[1]),
+    "built": lambda: AddressSetBuilder().add("10.0.0.0/8"),
+    "key": lambda: ROUTES.__setitem__(ASKED[0], 1),
+    "no key": lambda: ROUTES[ip_network("8.0.0.0/8")],
+    "no key for an address": lambda: ROUTES[IPv4Address("8.8.8.8")],
+    "asked of a prefix table": lambda: ROUTES.longest("10.0.0.1"),
+    "joined": lambda: JOINED.join([7]),
+    "rows joined": lambda: ROUTES.join(bytes(16) + b"\5"),
     "printed": lambda: IPv4Network.print_column(bytes(4) + b"\x63"),
 }
 
@@ -104,7 +155,7 @@ class Memory(unittest.TestCase):
         for name, call in REFUSED.items():
 
             def refused():
-                with self.assertRaises((ValueError, TypeError, IndexError)):
+                with self.assertRaises((ValueError, TypeError, LookupError)):
                     call()
 
             with self.subTest(name):

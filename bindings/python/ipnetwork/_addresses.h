@@ -15,8 +15,8 @@ typedef struct {
     PyTypeObject *network_type, *v4_type, *v6_type;    /* the types of this module */
     PyObject *v4_class, *v6_class;                     /* the classes that `register` is given */
     PyObject *v4_address, *v6_address, *base_network;  /* those of ipaddress */
-    PyObject *make_error, *map_of, *range_of, *int_from_bytes;
-    PyObject *name_ip, *name_scope, *big, *sixty_four, *zero, *one;
+    PyObject *make_error, *map_of, *range_of;
+    PyObject *name_ip, *name_scope, *sixty_four, *zero, *one;
     PyObject *masks[2][129];  /* those asked for already, by prefix length */
     int plain;                /* whether an address of ipaddress is only its number: see `is_plain` */
 } State;
@@ -80,15 +80,30 @@ static int octets_of_number(State *state, PyObject *number, uint8_t octets[16]) 
     return 1;
 }
 
+static uint64_t word_at(const uint8_t *octets) {
+    uint64_t word = 0;
+    for (int place = 0; place < 8; place++) word = word << 8 | octets[place];
+    return word;
+}
+
+/* A number times 2^64, and another added; the first one is let go of. */
+static PyObject *number_on(State *state, PyObject *upper, uint64_t low) {
+    PyObject *lower = upper == NULL ? NULL : PyLong_FromUnsignedLongLong(low), *number = NULL;
+    PyObject *shifted = lower == NULL ? NULL : PyNumber_Lshift(upper, state->sixty_four);
+    if (shifted != NULL) number = PyNumber_Or(shifted, lower);
+    Py_XDECREF(upper), Py_XDECREF(lower), Py_XDECREF(shifted);
+    return number;
+}
+
+/* The number of 4, 16 or 17 octets, the highest first. */
 static PyObject *number_of_octets(State *state, const uint8_t *octets, Py_ssize_t count) {
     if (count == 4)
         return PyLong_FromUnsignedLong((unsigned long)octets[0] << 24 | (unsigned long)octets[1] << 16 | (unsigned long)octets[2] << 8 | octets[3]);
-    PyObject *bytes = PyBytes_FromStringAndSize((const char *)octets, count), *number = NULL;
-    if (bytes != NULL) {
-        number = PyObject_CallFunctionObjArgs(state->int_from_bytes, bytes, state->big, NULL);
-        Py_DECREF(bytes);
-    }
-    return number;
+    uint64_t high = word_at(octets + count - 16), low = word_at(octets + count - 8);
+    if (count == 17 && octets[0] != 0)
+        return number_on(state, number_on(state, PyLong_FromLong(octets[0]), high), low);
+    if (high == 0) return PyLong_FromUnsignedLongLong(low);
+    return number_on(state, PyLong_FromUnsignedLongLong(high), low);
 }
 
 /* Whether the slots of an address are its number, and of IPv6 its zone, and nothing else: then one is made by setting

@@ -14,8 +14,8 @@ class FormatError(NetworkError):
 
 
 class AddressError(NetworkError):
-    """What stands before the slash, or the whole text where there is none, is no address of the family. Of
-    ``ip_network``: the text names no network of either family, whatever is wrong with it."""
+    """What stands before the slash, or the whole text where there is none, is no address of the
+    family; of ``ip_network``, of neither family."""
 
 
 class PrefixError(NetworkError):
@@ -29,13 +29,13 @@ class MaskError(NetworkError):
 for _kind in (NetworkError, FormatError, AddressError, PrefixError, MaskError):
     _kind.__module__ = "ipnetwork"
 
-# By the number of the fault in `bindings/c/ipnetwork.h`; 0 is that of `ip_network`.
+# By the number of the fault in `bindings/c/ipnetwork.h`.
 _FAULTS: dict[int, tuple[type[NetworkError], str]] = {
-    0: (AddressError, "no network of either family"),
     1: (FormatError, "more than one slash"),
     2: (AddressError, "no address before the slash"),
     3: (PrefixError, "no prefix length of the family"),
     5: (MaskError, "no mask"),
+    9: (NetworkError, "the first address of a range comes after its last"),
 }
 
 

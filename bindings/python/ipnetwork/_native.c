@@ -7,9 +7,8 @@
  *
  * From Python 3.11 on it is compiled for the stable ABI, so that one file serves all later versions. `_by_ctypes.py` has
  * the same names without a compiler. */
-#include "_addresses.h"
 #include "_columns.h"
-#include "_networks.h"
+#include "_layout.h"
 #include "_tables.h"
 
 /* ip_network(text), of the classes that `register` was given. */
@@ -23,9 +22,9 @@ static PyObject *either_network(PyObject *module, PyObject *text) {
     PyObject *encoded = bytes_of_text(text);
     if (encoded == NULL || PyBytes_AsStringAndSize(encoded, &bytes, &length) < 0) return Py_XDECREF(encoded), NULL;
     ipnetwork_ip held;
-    ipnetwork_fault fault = ipnetwork_read(bytes, (size_t)length, &held);
+    ipnetwork_fault fault = ipnetwork_read_with_cause(bytes, (size_t)length, &held);
     Py_DECREF(encoded);
-    if (fault != IPNETWORK_OK) return raise_fault(state, 0, text), NULL;
+    if (fault != IPNETWORK_OK) return raise_fault(state, fault, text), NULL;
     PyObject *type = held.family == 4 ? state->v4_class : state->v6_class;
     PyObject *made = allocated(state, (PyTypeObject *)type);
     if (made == NULL) return NULL;
@@ -119,31 +118,95 @@ static PyObject *register_classes(PyObject *module, PyObject *arguments) {
     return again(Py_None);
 }
 
+/* The line by which Python tells a signature, and what comes after it. */
+#define TEXT(signature, text) signature "\n--\n\n" text
+#define OF_MODULE(name, arguments, text) TEXT(name "($module, " arguments ", /)", text)
+#define OF_NETWORK(name, arguments, text) TEXT(name "($self, " arguments ", /)", text)
+
 static PyMethodDef calls[] = {
-    {"ip_network", either_network, METH_O, NULL},
-    {"of_packed", of_packed, METH_VARARGS, NULL},
-    {"of_rows", of_rows, METH_VARARGS, NULL},
-    {"prefix_of_mask", prefix_of_mask, METH_O, NULL},
-    {"read_rows", read_rows, METH_VARARGS, NULL},
-    {"print_rows", print_rows, METH_VARARGS, NULL},
-    {"layout", layout, METH_VARARGS, NULL},
-    {"aggregate", aggregate, METH_VARARGS, NULL},
-    {"operate", operate, METH_VARARGS, NULL},
-    {"set_contains", set_contains, METH_VARARGS, NULL},
-    {"set_contains_column", set_contains_column, METH_VARARGS, NULL},
-    {"table_make", table_make, METH_VARARGS, NULL},
-    {"table_find", table_find, METH_VARARGS, NULL},
-    {"table_find_column", table_find_column, METH_VARARGS, NULL},
-    {"subnet_at", subnet_at, METH_VARARGS, NULL},
-    {"register", register_classes, METH_VARARGS, NULL},
+    {"ip_network", either_network, METH_O,
+     OF_MODULE("ip_network", "text",
+               "The network of either family that a text names, or that of one address, given as its\n"
+               "4 or 16 packed bytes. FormatError of a text with two or more slashes; else\n"
+               "AddressError if what stands before the slash is an address of neither family; else\n"
+               "PrefixError.")},
+    {"of_packed", of_packed, METH_VARARGS,
+     OF_MODULE("of_packed", "kind, packed, prefixlen",
+               "The network of a packed address and a prefix length, in a class of networks.")},
+    {"of_rows", of_rows, METH_VARARGS,
+     OF_MODULE("of_rows", "kind, rows",
+               "The networks whose structs these bytes are, in a class of networks.")},
+    {"prefix_of_mask", prefix_of_mask, METH_O,
+     OF_MODULE("prefix_of_mask", "packed",
+               "The prefix length of a packed mask; MaskError if it is none.")},
+    {"block_row", block_row, METH_O,
+     OF_MODULE("block_row", "network",
+               "The bytes of a network's struct, without host bits; None if it has a zone.")},
+    {"read_rows", read_rows, METH_VARARGS,
+     OF_MODULE("read_rows", "kind, texts, offsets",
+               "A column of texts read: networks of the family 4 or 6, or addresses, for the kind 0.")},
+    {"print_rows", print_rows, METH_VARARGS,
+     OF_MODULE("print_rows", "kind, rows, bits",
+               "The texts of such a column, and their offsets, of 32 or 64 bits.")},
+    {"layout", layout, METH_VARARGS,
+     OF_MODULE("layout", "rows, missing",
+               "The rows of a list in Arrow's layout; None if one is neither a text nor missing.")},
+    {"aggregate", aggregate, METH_VARARGS,
+     OF_MODULE("aggregate", "version, rows",
+               "The fewest blocks that have the addresses of these networks.")},
+    {"operate", operate, METH_VARARGS,
+     OF_MODULE("operate", "operation, version, first, second",
+               "The blocks of |, & or - of two sets.")},
+    {"is_empty", is_empty, METH_VARARGS,
+     OF_MODULE("is_empty", "operation, version, first, second",
+               "Whether there are no such blocks.")},
+    {"range_rows", range_rows, METH_VARARGS,
+     OF_MODULE("range_rows", "first, last",
+               "The blocks from one packed address to another; None if it comes after.")},
+    {"set_contains", set_contains, METH_VARARGS,
+     OF_MODULE("set_contains", "fours, sixes, asked",
+               "Whether a set has an address, or each address of a network.")},
+    {"set_contains_column", set_contains_column, METH_VARARGS,
+     OF_MODULE("set_contains_column", "fours, sixes, addresses",
+               "For each address of a column a byte: 1 if a set has it, else 0.")},
+    {"table_make", table_make, METH_VARARGS,
+     OF_MODULE("table_make", "version, rows",
+               "The blocks of these networks in the order of a table, and the place of each.")},
+    {"table_find", table_find, METH_VARARGS,
+     OF_MODULE("table_find", "fours, four_numbers, sixes, six_numbers, address",
+               "The number beside the longest block that has an address, or -1.")},
+    {"table_find_column", table_find_column, METH_VARARGS,
+     OF_MODULE("table_find_column", "fours, four_numbers, sixes, six_numbers, addresses",
+               "The same of each address of a column.")},
+    {"longest_key", longest_key, METH_VARARGS,
+     OF_MODULE("longest_key", "keys, fours, sixes, asked",
+               "Of the keys of a dict that of the longest network with all of what is asked about.")},
+    {"subnet_at", subnet_at, METH_VARARGS,
+     OF_MODULE("subnet_at", "network, prefixlen, number",
+               "The block of this number within a network; None if there is none.")},
+    {"register", register_classes, METH_VARARGS,
+     OF_MODULE("register", "four, six",
+               "Tells which classes networks of either family are made in.")},
     {NULL, NULL, 0, NULL},
 };
 
 static PyMethodDef methods[] = {
-    {"subnet_of", network_subnet_of, METH_O, "Whether each member of this network is a member of another of its family."},
-    {"supernet_of", network_supernet_of, METH_O, "Whether each member of another network of the family is one of this network."},
-    {"overlaps", network_overlaps, METH_O, "Whether some address is a member of both; False if the families differ."},
-    {"contains_column", network_column, METH_O, "For each packed address of a column a byte: 1 for a member, else 0."},
+    {"subnet_of", network_subnet_of, METH_O,
+     OF_NETWORK("subnet_of", "other",
+                "Whether each member of this network is a member of ``other``, another of its family.\n"
+                "Host bits change nothing. TypeError of a network of the other family.")},
+    {"supernet_of", network_supernet_of, METH_O,
+     OF_NETWORK("supernet_of", "other",
+                "Whether each member of ``other``, another network of the family, is a member of this\n"
+                "one. Host bits change nothing. TypeError of a network of the other family.")},
+    {"overlaps", network_overlaps, METH_O,
+     OF_NETWORK("overlaps", "other",
+                "Whether some address is a member of both; False if the families differ.")},
+    {"contains_column", network_column, METH_O,
+     OF_NETWORK("contains_column", "packed",
+                "For each packed address of a column of the family a byte: 1 if it is a member, else 0.\n"
+                "A column is such addresses one after the other, in any contiguous buffer of bytes.\n"
+                "ValueError if it has a part of an address at its end.")},
     {NULL, NULL, 0, NULL},
 };
 
@@ -166,14 +229,21 @@ static PyType_Slot network_slots[] = {
     {Py_tp_new, network_new},          {Py_tp_init, network_init},  {Py_tp_dealloc, network_dealloc},
     {Py_tp_richcompare, network_compare}, {Py_tp_hash, network_hash}, {Py_tp_str, network_text},
     {Py_tp_iter, network_iter},        {Py_tp_methods, methods},    {Py_tp_getset, parts}, {Py_tp_members, at_hand},
-    {Py_sq_contains, network_contains}, {Py_mp_subscript, network_nth}, {0, NULL},
+    {Py_sq_contains, network_contains}, {Py_mp_subscript, network_nth},
+    {Py_tp_doc, "What the networks of both families have."}, {0, NULL},
 };
 /* `state_of` tells the types of a module from classes of Python by their deallocator. */
-static PyType_Slot family_slots[] = {{Py_tp_dealloc, network_dealloc}, {0, NULL}};
+#define OF_TEXT \
+    "The network that a text names, or that of one address, given as its packed bytes.\n" \
+    "FormatError, AddressError or PrefixError of any other, the first that holds."
+static PyType_Slot v4_slots[] = {
+    {Py_tp_dealloc, network_dealloc}, {Py_tp_doc, TEXT("V4(text)", OF_TEXT)}, {0, NULL}};
+static PyType_Slot v6_slots[] = {
+    {Py_tp_dealloc, network_dealloc}, {Py_tp_doc, TEXT("V6(text)", OF_TEXT)}, {0, NULL}};
 #define FLAGS (Py_TPFLAGS_DEFAULT | Py_TPFLAGS_BASETYPE)
 static PyType_Spec network_spec = {"ipnetwork._native.Network", sizeof(Network), 0, FLAGS, network_slots};
-static PyType_Spec v4_spec = {"ipnetwork._native.V4", sizeof(Network), 0, FLAGS, family_slots};
-static PyType_Spec v6_spec = {"ipnetwork._native.V6", sizeof(Network), 0, FLAGS, family_slots};
+static PyType_Spec v4_spec = {"ipnetwork._native.V4", sizeof(Network), 0, FLAGS, v4_slots};
+static PyType_Spec v6_spec = {"ipnetwork._native.V6", sizeof(Network), 0, FLAGS, v6_slots};
 
 /* The attribute of a module, as a new reference. */
 static PyObject *imported(const char *module, const char *name) {
@@ -202,11 +272,8 @@ static int import_into(State *state) {
            && (state->make_error = imported("ipnetwork._errors", "error")) != NULL
            && (state->map_of = imported("builtins", "map")) != NULL
            && (state->range_of = imported("builtins", "range")) != NULL
-           && (state->int_from_bytes = PyObject_GetAttrString((PyObject *)&PyLong_Type, "from_bytes"))
-                  != NULL
            && (state->name_ip = PyUnicode_InternFromString("_ip")) != NULL
            && (state->name_scope = PyUnicode_InternFromString("_scope_id")) != NULL
-           && (state->big = PyUnicode_InternFromString("big")) != NULL
            && (state->sixty_four = PyLong_FromLong(64)) != NULL
            && (state->zero = PyLong_FromLong(0)) != NULL
            && (state->one = PyLong_FromLong(1)) != NULL;
@@ -236,8 +303,8 @@ static int execute(PyObject *module) {
 /* What a module's state keeps, beside the masks. */
 #define EACH_KEPT(DO)                                                                         \
     DO(network_type) DO(v4_type) DO(v6_type) DO(v4_class) DO(v6_class) DO(v4_address)         \
-    DO(v6_address) DO(base_network) DO(make_error) DO(map_of) DO(range_of) DO(int_from_bytes) \
-    DO(name_ip) DO(name_scope) DO(big) DO(sixty_four) DO(zero) DO(one)
+    DO(v6_address) DO(base_network) DO(make_error) DO(map_of) DO(range_of)                    \
+    DO(name_ip) DO(name_scope) DO(sixty_four) DO(zero) DO(one)
 
 static int traverse(PyObject *module, visitproc visit, void *arg) {
     State *state = PyModule_GetState(module);

@@ -109,6 +109,11 @@ static PyObject *network_of_row(State *state, PyObject *type, const uint8_t *row
     return made;
 }
 
+/* The bytes of the struct that a network holds. */
+static PyObject *row_of(const ipnetwork_ip *held) {
+    return held->family == 4 ? PyBytes_FromStringAndSize((const char *)&held->v4, sizeof held->v4)
+                             : PyBytes_FromStringAndSize((const char *)&held->v6, sizeof held->v6);
+}
 
 static PyObject *get_ip(PyObject *object, void *none) {
     (void)none;
@@ -146,9 +151,7 @@ static PyObject *get_size(PyObject *object, void *none) {
 
 static PyObject *get_row(PyObject *object, void *none) {
     (void)none;
-    ipnetwork_ip *held = &((Network *)object)->held;
-    return held->family == 4 ? PyBytes_FromStringAndSize((const char *)&held->v4, sizeof held->v4)
-                             : PyBytes_FromStringAndSize((const char *)&held->v6, sizeof held->v6);
+    return row_of(&((Network *)object)->held);
 }
 
 static PyObject *network_text(PyObject *object) {

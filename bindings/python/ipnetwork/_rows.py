@@ -8,9 +8,11 @@ from ipaddress import IPv4Address, IPv4Network, IPv6Address, IPv6Network
 from numbers import Real
 from typing import TYPE_CHECKING, Any, Protocol, TypeVar, Union
 
+from ._chosen import core
+
 if TYPE_CHECKING:
-    from . import IPv4Network as _OwnV4
-    from . import IPv6Network as _OwnV6
+    from ._networks import IPv4Network as _OwnV4
+    from ._networks import IPv6Network as _OwnV6
 
     _Address = Union[IPv4Address, IPv6Address]
     _Network = Union[_OwnV4, _OwnV6, IPv4Network, IPv6Network]
@@ -23,11 +25,19 @@ if TYPE_CHECKING:
         """A list, a tuple or an array of rows. A single str or bytes is none: whether it contains
         something may not be asked of every object."""
 
-        def __contains__(self, value: object, /) -> bool: ...
-        def __iter__(self) -> Iterator[_Row]: ...
+        def __contains__(self, value: object, /) -> bool:
+            ...
+
+        def __iter__(self) -> Iterator[_Row]:
+            ...
 
     #: What a column may be.
     Column = Union[Rows[Row], Iterator[Row]]
+    #: The same, or addresses as ``read_address_column`` gives them.
+    Given = Union[Column, bytes, bytearray, memoryview]
+
+
+_NETWORKS = (core.V4, core.V6, IPv4Network, IPv6Network)
 
 
 def rows_of(given: object) -> list[object]:
@@ -56,7 +66,7 @@ def _text(number: int, row: object, missing: tuple[object, ...]) -> Union[str, b
         return IPv4Address.__str__(row)
     if isinstance(row, IPv6Address):
         return IPv6Address.__str__(row)
-    if isinstance(row, _networks()):
+    if isinstance(row, _NETWORKS):
         network: Any = row
         if network.num_addresses == 1:
             return str(network.network_address)
@@ -67,15 +77,29 @@ def _text(number: int, row: object, missing: tuple[object, ...]) -> Union[str, b
     )
 
 
-def _networks() -> tuple[type, ...]:
-    from . import _core
-
-    return (_core.V4, _core.V6, IPv4Network, IPv6Network)
-
-
 def texts_of(rows: list[object]) -> list[Union[str, bytes, None]]:
     """Each row as a text, or as None where there is none. TypeError, with the number of the row
     and its type, of a row that is not one of ``Row``."""
     pandas = sys.modules.get("pandas")
     missing = (None, getattr(pandas, "NA", None), getattr(pandas, "NaT", None))
     return [_text(number, row, missing) for number, row in enumerate(rows)]
+
+
+def laid_out(column: Column) -> tuple[bytearray, bytearray]:
+    """The rows of a column as texts in Arrow's layout, with offsets of 32 bits. ValueError if they
+    have 2147483648 bytes or more; TypeError if a row is none of a column."""
+    rows = rows_of(column)
+    missing = getattr(sys.modules.get("pandas"), "NA", None)
+    laid = core.layout(rows, missing) or core.layout(list[object](texts_of(rows)), missing)
+    if laid is None:
+        raise RuntimeError("a text has no bytes")
+    return laid
+
+
+def addresses_of(column: Given) -> Union[bytes, bytearray, memoryview]:
+    """The addresses of a column, each of 17 bytes, as ``read_address_column`` gives them. A buffer
+    of bytes has them already."""
+    if isinstance(column, (bytes, bytearray, memoryview)):
+        return column
+    texts, offsets = laid_out(column)
+    return core.read_rows(0, texts, memoryview(offsets).cast("I"))[0]

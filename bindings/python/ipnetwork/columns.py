@@ -27,13 +27,12 @@ layout needs none of this: its buffers go to ``ipnetwork.read_address_column`` a
 
 from __future__ import annotations
 
-import sys
-from typing import TYPE_CHECKING, Literal, Union
+from typing import TYPE_CHECKING, Any, Literal, Union
 
 import numpy
 
-from . import AddressSet, IPv4Network, IPv6Network, Table, _core, read_address_column
-from ._rows import rows_of, texts_of
+from . import AddressSet, IPv4Network, IPv6Network, Table, read_address_column
+from ._rows import laid_out
 
 if TYPE_CHECKING:
     from numpy.typing import NDArray
@@ -55,12 +54,8 @@ def layout(texts: Column) -> tuple[bytearray, NDArray[numpy.uint32]]:
     >>> bytes(texts), offsets.tolist()
     (b'::18.8.8.8', [0, 3, 3, 10])
     """
-    rows = rows_of(texts)
-    missing = getattr(sys.modules.get("pandas"), "NA", None)
-    laid = _core.layout(rows, missing) or _core.layout(list[object](texts_of(rows)), missing)
-    if laid is None:
-        raise RuntimeError("a text has no bytes")
-    return laid[0], numpy.frombuffer(laid[1], numpy.uint32)
+    whole, offsets = laid_out(texts)
+    return whole, numpy.frombuffer(offsets, numpy.uint32)
 
 
 def _of_numbers(given: object, numbers: int) -> NDArray[numpy.uint8]:
@@ -125,7 +120,7 @@ def is_member(
     return numpy.frombuffer(chosen.contains_column(_addresses(given, numbers).data), numpy.bool_)
 
 
-def find(given: Column, table: Table, *, numbers: Numbers = None) -> NDArray[numpy.int64]:
+def find(given: Column, table: Table[Any], *, numbers: Numbers = None) -> NDArray[numpy.int64]:
     """Of each row of a column the number of the longest network of a table that has the address,
     or -1. The column is as for ``is_member``.
 

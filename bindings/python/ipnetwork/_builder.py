@@ -1,0 +1,130 @@
+"""A set of addresses that changes."""
+
+from __future__ import annotations
+
+from collections.abc import Iterable
+from itertools import groupby
+from operator import attrgetter
+from typing import TYPE_CHECKING, NamedTuple
+
+from ._chosen import core
+from ._lock import new_lock
+from ._networks import Either, IPv4Network, IPv6Network, no_network
+from ._sets import AddressSet
+
+if TYPE_CHECKING:
+    from typing_extensions import Self
+
+_LEAST = 1024  # so many changes are collected at least before they are made
+
+
+class _Change(NamedTuple):
+    """What is taken from a set, and what is then added to it."""
+
+    removed: AddressSet
+    added: AddressSet
+
+    def of(self, given: AddressSet) -> AddressSet:
+        """The set after the change."""
+        return given - self.removed | self.added
+
+    def then(self, later: _Change) -> _Change:
+        """Both changes, one after the other."""
+        return _Change(self.removed | later.removed, later.of(self.added))
+
+
+class _Step(NamedTuple):
+    """A network that is added, or taken away: the bytes of its struct."""
+
+    adds: bool
+    row: bytes
+
+
+def _of_run(adds: bool, rows: list[bytes]) -> _Change:
+    """The change of steps that all add, or all take away."""
+    fours = core.aggregate(4, b"".join([row for row in rows if len(row) == 5]))
+    sixes = core.aggregate(6, b"".join([row for row in rows if len(row) == 17]))
+    run, none = AddressSet._of(fours, sixes), AddressSet()
+    return _Change(none, run) if adds else _Change(run, none)
+
+
+def _in_one(steps: list[_Step]) -> _Change:
+    """The change of steps, one after the other: of neighbours first, so that each step takes part
+    in few operations."""
+    runs = groupby(steps, key=attrgetter("adds"))
+    changes = [_of_run(adds, [step.row for step in run]) for adds, run in runs]
+    while len(changes) > 1:
+        pairs = [one.then(other) for one, other in zip(changes[::2], changes[1::2])]
+        changes = pairs + changes[len(pairs) * 2 :]
+    return changes[0] if changes else _of_run(True, [])
+
+
+class AddressSetBuilder:
+    """A set of addresses that networks are added to and taken from, one by one.
+
+    ``build`` gives the addresses so far as an ``AddressSet``, and the builder goes on from there. A
+    change takes a few microseconds, whatever the size of the set; ``build`` takes time in
+    proportion to it. Several threads may change one builder.
+
+    >>> builder = AddressSetBuilder([ip_network("10.0.0.0/8")])
+    >>> builder.discard(ip_network("10.0.0.0/9"))
+    >>> builder.add(ip_network("2001:db8::/32"))
+    >>> builder.build()
+    AddressSet([IPv4Network('10.128.0.0/9'), IPv6Network('2001:db8::/32')])
+    """
+
+    __slots__ = ("__weakref__", "_lock", "_made", "_steps")
+
+    def __init__(self, networks: Iterable[Either] = ()) -> None:
+        self._made = networks if isinstance(networks, AddressSet) else AddressSet(networks)
+        self._steps: list[_Step] = []
+        self._lock = new_lock()
+
+    def _take(self, adds: bool, network: Either) -> None:
+        if not isinstance(network, (IPv4Network, IPv6Network)):
+            raise no_network(network)
+        step = _Step(adds, network._row)
+        self._lock.acquire()
+        try:
+            if len(self._steps) >= _LEAST + len(self._made) // 2:
+                self.build()
+            self._steps.append(step)
+        finally:
+            self._lock.release()
+
+    def add(self, network: Either) -> None:
+        """Adds the addresses of a network. Those that are there already change nothing."""
+        self._take(True, network)
+
+    def discard(self, network: Either) -> None:
+        """Takes away the addresses of a network. Those that are not there change nothing."""
+        self._take(False, network)
+
+    def update(self, networks: Iterable[Either]) -> None:
+        """Adds the addresses of networks, or of a set."""
+        for network in networks:
+            self._take(True, network)
+
+    def difference_update(self, networks: Iterable[Either]) -> None:
+        """Takes away the addresses of networks, or of a set."""
+        for network in networks:
+            self._take(False, network)
+
+    def build(self) -> AddressSet:
+        """The addresses so far."""
+        self._lock.acquire()
+        try:
+            count = len(self._steps)
+            if count:
+                # To make these changes a second time would change nothing.
+                self._made = _in_one(self._steps).of(self._made)
+                del self._steps[:count]
+            return self._made
+        finally:
+            self._lock.release()
+
+    def __repr__(self) -> str:
+        return f"{type(self).__name__}({list(self.build())!r})"
+
+    def __reduce__(self) -> tuple[type[Self], tuple[AddressSet]]:
+        return type(self), (self.build(),)

@@ -1,0 +1,117 @@
+# mypy: ignore-errors
+"""The shared library, loaded by ``ctypes``, and the structs of its header.
+
+It is looked for beside this file, as ``libipnetwork_c.so``, or at IPNETWORK_LIBRARY.
+"""
+
+from __future__ import annotations
+
+import ctypes
+import os
+from typing import TYPE_CHECKING
+
+if TYPE_CHECKING:
+    from _typeshed import ReadableBuffer
+
+ADDRESS = 17  # the bytes of a struct ipnetwork_address
+
+
+class V4(ctypes.Structure):
+    _fields_ = [("address", ctypes.c_ubyte * 4), ("prefix", ctypes.c_uint8)]
+
+
+class V6(ctypes.Structure):
+    _fields_ = [("address", ctypes.c_ubyte * 16), ("prefix", ctypes.c_uint8)]
+
+
+class Either(ctypes.Structure):
+    _fields_ = [("family", ctypes.c_uint8), ("v4", V4), ("v6", V6)]
+
+
+def _declare(library: ctypes.CDLL, name: str, arguments: list[type]) -> None:
+    call = getattr(library, f"ipnetwork_{name}")
+    call.argtypes, call.restype = arguments, ctypes.c_uint32
+
+
+def _load() -> ctypes.CDLL:
+    beside = os.path.join(os.path.dirname(os.path.abspath(__file__)), "libipnetwork_c.so")
+    path = os.environ.get("IPNETWORK_LIBRARY", beside)
+    if not os.path.exists(path):
+        raise ImportError(
+            f"the library is not there, neither as _native beside {__file__} nor as {path}: "
+            "install the package by `pip install ./bindings/python`, after `rt lib` in "
+            "crates/ipnetwork_c, or set IPNETWORK_LIBRARY to the path of libipnetwork_c.so, as "
+            "bindings/README.md says"
+        )
+    library = ctypes.CDLL(path)
+    pointer, octets, size, word = ctypes.c_void_p, ctypes.c_char_p, ctypes.c_size_t, ctypes.c_uint32
+    for name in ("abi_version", "abi_minor_version"):
+        _declare(library, name, [])
+    if library.ipnetwork_abi_version() != 2 or library.ipnetwork_abi_minor_version() < 4:
+        raise ImportError(
+            f"{path} is of another version than this module: build it again, as "
+            "bindings/README.md says"
+        )
+    number = {"v4": word, "v6": octets}
+    read = [octets, size, pointer, size, pointer, size, pointer, size]
+    printed = [octets, size, pointer, size, pointer, size, pointer]
+    operation = [octets, size, octets, size, pointer, size, pointer]
+    for name, arguments in (
+        ("read_with_cause", [octets, size, pointer]),
+        ("address_read", [octets, size, pointer]),
+        ("address_read_column", read),
+        ("address_print_column", printed),
+    ):
+        _declare(library, name, arguments)
+    for family in ("v4", "v6"):
+        for name, arguments in (
+            ("read", [octets, size, pointer]),
+            ("new", [octets, ctypes.c_uint8, pointer]),
+            ("canonical", [octets, pointer, size, pointer]),
+            ("contains_column", [octets, pointer, size, pointer, size]),
+            ("set_contains", [octets, size, octets, pointer]),
+            ("table_make", [octets, size, pointer, size, pointer, size]),
+            ("table_find", [octets, size, octets, pointer]),
+            ("table_find_column", [octets, size, octets, size, pointer, size, pointer, size]),
+            ("union", operation),
+            ("intersection", operation),
+            ("difference", operation),
+            ("range_to_blocks", [octets, octets, pointer, size, pointer]),
+            ("contains", [octets, octets, pointer]),
+            ("is_subnet_of", [octets, octets, pointer]),
+            ("overlaps", [octets, octets, pointer]),
+            ("compare", [octets, octets, pointer]),
+            ("nth", [octets, number[family], pointer]),
+            ("size", [octets, pointer]),
+            ("subnet_at", [octets, ctypes.c_uint8, number[family], pointer]),
+            ("aggregate", [pointer, size, pointer]),
+            ("read_column", read),
+            ("print_column", printed),
+            ("network", [octets, pointer]),
+            ("broadcast", [octets, pointer]),
+            ("mask", [octets, pointer]),
+            ("prefix_of_mask", [octets, pointer]),
+        ):
+            _declare(library, f"{family}_{name}", arguments)
+    return library
+
+
+library = _load()
+
+
+def answered(fault: int) -> None:
+    """A question about a network has no fault, since its prefix length is one of its family."""
+    if fault:
+        raise RuntimeError(f"the library returned fault {fault} for a question about a network")
+
+
+def flat(given: ReadableBuffer) -> memoryview:
+    """The bytes of a buffer; TypeError where its items are more than a byte long, since the bytes
+    of such numbers are in the order of the machine, and not in that of addresses."""
+    view = memoryview(given)
+    if view.itemsize != 1:
+        raise TypeError(
+            f"a column is a buffer of bytes, and the items of this {type(given)!r} have "
+            f"{view.itemsize} bytes each"
+        )
+    return view.cast("B") if view.nbytes else memoryview(b"")

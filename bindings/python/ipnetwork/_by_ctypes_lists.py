@@ -1,0 +1,284 @@
+# mypy: ignore-errors
+"""Lists and columns of the core over ``ctypes``, each the bytes of structs, one after the other."""
+
+from __future__ import annotations
+
+import array
+import ctypes
+import itertools
+import operator
+from collections.abc import Iterator
+from typing import TYPE_CHECKING, Union
+
+from ._by_ctypes_library import ADDRESS, answered, flat, library
+from ._errors import error
+
+if TYPE_CHECKING:
+    from _typeshed import ReadableBuffer
+
+_OPERATIONS = {"|": "union", "&": "intersection", "-": "difference"}
+_PART = 65536  # so many texts with offsets of 64 bits are handed to the library at once
+
+
+def _step(version: int) -> int:
+    return 5 if version == 4 else 17
+
+
+def aggregate(version: int, rows: bytes) -> bytes:
+    """The aggregate of the networks whose structs these bytes are."""
+    room, count = ctypes.create_string_buffer(rows, len(rows)), ctypes.c_size_t()
+    call, step = getattr(library, f"ipnetwork_v{version}_aggregate"), _step(version)
+    answered(call(room, len(rows) // step, ctypes.byref(count)))
+    return room.raw[: count.value * step]
+
+
+def _operated(
+    operation: str, version: int, first: bytes, second: bytes, room: int
+) -> tuple[int, ctypes.Array, int]:
+    """The fault of an operation on two sets, the blocks in room for so many, and how many they
+    are."""
+    step, count = _step(version), ctypes.c_size_t()
+    call = getattr(library, f"ipnetwork_v{version}_{_OPERATIONS[operation]}")
+    place = ctypes.create_string_buffer(room * step)
+    one, other = len(first) // step, len(second) // step
+    fault = call(first, one, second, other, place, room, ctypes.byref(count))
+    return fault, place, count.value
+
+
+def operate(operation: str, version: int, first: bytes, second: bytes) -> bytes:
+    """Of two sets, given by the bytes of their blocks, those of an operation."""
+    room = (len(first) + len(second)) // _step(version)
+    fault, place, count = _operated(operation, version, first, second, room)
+    if fault == 4:  # a union has no more blocks than both sets; a difference may have more
+        fault, place, count = _operated(operation, version, first, second, count)
+    answered(fault)
+    return place.raw[: count * _step(version)]
+
+
+def is_empty(operation: str, version: int, first: bytes, second: bytes) -> bool:
+    """Whether there are no such blocks."""
+    fault, _, count = _operated(operation, version, first, second, 0)
+    if fault != 4:
+        answered(fault)
+    return count == 0
+
+
+def range_rows(first: bytes, last: bytes) -> Union[bytes, None]:
+    """The blocks from one packed address to another; None if it comes after."""
+    version, step = (4, 5) if len(first) == 4 else (6, 17)
+    room, count = ctypes.create_string_buffer(254 * step), ctypes.c_size_t()
+    call = getattr(library, f"ipnetwork_v{version}_range_to_blocks")
+    fault = call(first, last, room, 254, ctypes.byref(count))
+    if fault == 9:
+        return None
+    answered(fault)
+    return room.raw[: count.value * step]
+
+
+def _column(addresses: ReadableBuffer) -> bytes:
+    """The bytes of a column of addresses, as ``read_rows`` leaves them; ValueError of what is
+    none."""
+    column = bytes(flat(addresses))
+    if len(column) % ADDRESS:
+        raise ValueError(f"{len(column)} bytes are no column of addresses of {ADDRESS} bytes")
+    for row, length in enumerate(column[16::ADDRESS]):
+        if length not in (0, 4, 16):
+            raise ValueError(
+                f"row {row} is no address of 17 bytes as read_address_column gives it: its last "
+                f"byte is {length}"
+            )
+    return column
+
+
+def set_contains_column(fours: bytes, sixes: bytes, addresses: ReadableBuffer) -> bytearray:
+    """For each address of a column a byte: 1 if it is one of the set, else 0."""
+    column, answers = _column(addresses), bytearray()
+    for at in range(0, len(column), ADDRESS):
+        packed, answer = column[at : at + column[at + 16]], ctypes.c_uint8()
+        if len(packed) == 4:
+            call, blocks = library.ipnetwork_v4_set_contains, fours
+        else:
+            call, blocks = library.ipnetwork_v6_set_contains, sixes
+        if packed:
+            count = len(blocks) // (len(packed) + 1)
+            answered(call(blocks, count, packed, ctypes.byref(answer)))
+        answers.append(answer.value)
+    return answers
+
+
+def table_make(version: int, rows: bytes) -> tuple[bytes, bytes]:
+    """The blocks of the networks whose structs these bytes are, in the order of a table, and beside
+    each the place of its network, as a number of the size of a pointer."""
+    step = _step(version)
+    count = len(rows) // step
+    blocks, places = ctypes.create_string_buffer(count * step), (ctypes.c_size_t * count)()
+    call = getattr(library, f"ipnetwork_v{version}_table_make")
+    answered(call(rows, count, blocks, count, places, count))
+    return blocks.raw, bytes(places)
+
+
+def _found(version: int, blocks: bytes, numbers: bytes, packed: list[bytes]) -> list[int]:
+    """Of each packed address the number beside the longest block that has it, or -1."""
+    step, count = _step(version), len(packed)
+    indexes, faults = (ctypes.c_size_t * count)(), (ctypes.c_ubyte * count)()
+    call = getattr(library, f"ipnetwork_v{version}_table_find_column")
+    answered(
+        call(blocks, len(blocks) // step, b"".join(packed), count, indexes, count, faults, count)
+    )
+    told = memoryview(numbers).cast("q")
+    return [-1 if fault else told[index] for index, fault in zip(indexes, faults)]
+
+
+def table_find_column(
+    fours: bytes,
+    four_numbers: bytes,
+    sixes: bytes,
+    six_numbers: bytes,
+    addresses: ReadableBuffer,
+) -> bytearray:
+    """For each address of a column the number beside the longest block that has it, or -1, as
+    numbers of 64 bits."""
+    column = _column(addresses)
+    told = array.array("q", [-1]) * (len(column) // ADDRESS)
+    for width, blocks, numbers in ((4, fours, four_numbers), (16, sixes, six_numbers)):
+        rows = [row for row in range(len(told)) if column[row * ADDRESS + 16] == width]
+        packed = [column[row * ADDRESS : row * ADDRESS + width] for row in rows]
+        for row, number in zip(rows, _found(4 if width == 4 else 6, blocks, numbers, packed)):
+            told[row] = number
+    return bytearray(told.tobytes())
+
+
+class _OtherRow(Exception):
+    """A row that ``layout`` does not take."""
+
+
+def _no_text(row: object, missing: object) -> bytes:
+    if row is None or row is missing or (isinstance(row, float) and row != row):
+        return b""
+    raise _OtherRow
+
+
+def _bytes_of(row: object, missing: object) -> bytes:
+    if isinstance(row, str):
+        return row.encode("utf-8")
+    return row if isinstance(row, bytes) else _no_text(row, missing)
+
+
+def layout(rows: list[object], missing: object) -> Union[tuple[bytearray, bytearray], None]:
+    """The rows of a list in Arrow's layout, the bytes and the offsets; None where a row is neither
+    str, bytes, None, NaN nor ``missing``, or is a str that has no UTF-8."""
+    try:
+        each = [_bytes_of(row, missing) for row in rows]
+    except (UnicodeEncodeError, _OtherRow):
+        return None
+    if sum(map(len, each)) > 0x7FFFFFFF:
+        raise ValueError(
+            "the texts have more than 2147483647 bytes, which is past the offsets: give them in "
+            "parts"
+        )
+    offsets = array.array("I", itertools.accumulate(map(len, each), initial=0))
+    return bytearray(b"".join(each)), bytearray(offsets.tobytes())
+
+
+def _offsets_of(given: ReadableBuffer) -> memoryview:
+    """Offsets as numbers of 32 or 64 bits."""
+    view = memoryview(given)
+    if view.itemsize not in (4, 8):
+        raise ValueError(f"offsets are numbers of 32 or of 64 bits, not of {view.itemsize * 8}")
+    order = "@=<" if array.array("I", [1]).tobytes()[0] else "@="
+    kind = view.format[view.format[0] in order :]
+    if len(kind) != 1 or kind not in "iIlLqQnN":
+        raise TypeError(
+            "offsets are whole numbers in the order of the machine, not of the format "
+            f"{view.format}"
+        )
+    if not view.nbytes:
+        return memoryview(b"").cast("I")
+    return view.cast("B").cast("I" if view.itemsize == 4 else "Q")
+
+
+def _parts(offsets: memoryview) -> Iterator[tuple[int, int]]:
+    """Where each part begins and ends: texts whose offsets, from the first on, have 32 bits, or one
+    text."""
+    count, row = max(len(offsets) - 1, 0), 0
+    while row < count:
+        end = min(row + _PART, count)
+        while end > row + 1 and offsets[end] - offsets[row] > 0x7FFFFFFF:
+            end -= 1
+        yield row, end
+        row = end
+
+
+def _read_part(
+    kind: int, texts: memoryview, offsets: list[int], rows: memoryview, faults: memoryview
+) -> int:
+    """Reads texts into rows and faults, of which there are as many; the fault of it all."""
+    starts, count = len(offsets), max(len(offsets) - 1, 0)
+    text, step = bytes(texts), {4: 5, 6: 17, 0: ADDRESS}[kind]
+    room, told = (ctypes.c_ubyte * (count * step))(), (ctypes.c_ubyte * count)()
+    if len(text) > 0x7FFFFFFF:
+        name = f"v{kind}_read" if kind else "address_read"
+        told[0] = getattr(library, f"ipnetwork_{name}")(text, len(text), room)
+        fault = 0
+    else:
+        name = f"v{kind}_read_column" if kind else "address_read_column"
+        where = (ctypes.c_uint32 * starts)(*offsets)
+        call = getattr(library, f"ipnetwork_{name}")
+        fault = call(text, len(text), where, starts, room, count, told, count)
+    rows[:], faults[:] = memoryview(room).cast("B"), memoryview(told).cast("B")
+    return fault
+
+
+def read_rows(
+    kind: int, texts: ReadableBuffer, offsets: ReadableBuffer
+) -> tuple[bytearray, bytearray]:
+    """A column of texts read: networks of the family 4 or 6, or addresses, if the kind is 0; and
+    the faults."""
+    given, places = flat(texts), _offsets_of(offsets)
+    step, count = {4: 5, 6: 17, 0: ADDRESS}[kind], max(len(places) - 1, 0)
+    ends = zip(places, itertools.islice(places, 1, None))
+    if (places and places[-1] > given.nbytes) or any(one > other for one, other in ends):
+        raise ValueError("the offsets fall, or pass the end of the texts")
+    rows, faults = bytearray(count * step), bytearray(count)
+    for row, end in _parts(places):
+        first = places[row]
+        part = [place - first for place in places[row : end + 1]]
+        text = given[first : places[end]]
+        into = memoryview(rows)[row * step : end * step], memoryview(faults)[row:end]
+        answered(_read_part(kind, text, part, *into))
+    return rows, faults
+
+
+def print_rows(kind: int, rows: ReadableBuffer, bits: int) -> tuple[bytearray, bytearray]:
+    """The texts of the networks of the family 4 or 6, or of the addresses, if the kind is 0, whose
+    structs these bytes are, and their offsets, of 32 or of 64 bits."""
+    bits = operator.index(bits)
+    if bits not in (32, 64):
+        raise ValueError(f"offset_bits is 32 or 64, not {bits}")
+    given = bytes(flat(rows))
+    step, longest = {4: (5, 18), 6: (17, 43), 0: (ADDRESS, 39)}[kind]
+    count, part = divmod(len(given), step)
+    if part:
+        what = "networks" if kind else "addresses"
+        raise ValueError(f"{len(given)} bytes are no column of {what} of {step} bytes")
+    texts, offsets = bytearray(), array.array("Q", [0])
+    name = f"v{kind}_print_column" if kind else "address_print_column"
+    call = getattr(library, f"ipnetwork_{name}")
+    for row in range(0, count, _PART):
+        many = min(_PART, count - row)
+        room, length = ctypes.create_string_buffer(many * longest), ctypes.c_size_t()
+        starts = (ctypes.c_uint32 * (many + 1))()
+        each = given[row * step : (row + many) * step]
+        fault = call(each, many, room, many * longest, starts, many + 1, ctypes.byref(length))
+        if fault:
+            raise error(fault if kind else 2, rows)
+        offsets.extend(len(texts) + start for start in starts[1:])
+        texts += room.raw[: length.value]
+    if bits == 64:
+        return texts, bytearray(offsets.tobytes())
+    if len(texts) > 0x7FFFFFFF:
+        raise ValueError(
+            "the texts have more than 2147483647 bytes, which is past offsets of 32 bits: ask for "
+            "those of 64"
+        )
+    return texts, bytearray(array.array("I", offsets).tobytes())

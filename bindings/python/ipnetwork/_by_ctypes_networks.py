@@ -1,0 +1,357 @@
+# mypy: ignore-errors
+"""The networks of the core over ``ctypes``.
+
+What a network has told once is kept. The bytes of a network are its address and its prefix length,
+so that networks are equal if these are.
+"""
+
+from __future__ import annotations
+
+import ctypes
+import operator
+from collections.abc import Iterator
+from functools import cached_property
+from ipaddress import IPv4Address, IPv4Network, IPv6Address, IPv6Network
+from typing import TYPE_CHECKING, ClassVar, Generic, SupportsIndex, TypeVar, Union
+
+from ._by_ctypes_library import V4 as StructV4
+from ._by_ctypes_library import V6 as StructV6
+from ._by_ctypes_library import Either, answered, flat, library
+from ._errors import error
+
+if TYPE_CHECKING:
+    from _typeshed import ReadableBuffer
+
+_Room = ctypes.c_char * 44
+
+Address = TypeVar("Address", IPv4Address, IPv6Address)
+_Kind = TypeVar("_Kind", bound="Network[IPv4Address] | Network[IPv6Address]")
+
+
+def _bytes(given: str) -> bytes:
+    if isinstance(given, str):
+        return given.encode("utf-8", "surrogatepass")
+    raise TypeError(
+        f"a network is given as str, or as bytes of a packed address, not as {type(given)!r}"
+    )
+
+
+def no_member(address: object) -> bool:
+    """The answer of ``in`` about what is no address of the family: an address of the other one and
+    a network are no members; else TypeError."""
+    if isinstance(address, (IPv4Address, IPv6Address, Network, IPv4Network, IPv6Network)):
+        return False
+    raise TypeError(f"an address is IPv4Address or IPv6Address, not {type(address)!r}")
+
+
+class Network(Generic[Address]):
+    """What the networks of both families have. Each is the bytes of its struct: the address, and
+    the prefix length."""
+
+    _width: ClassVar[int]
+    _family: ClassVar[str]
+    _struct: ClassVar[type[ctypes.Structure]]
+    _octets: ClassVar[type[ctypes.Array[ctypes.c_ubyte]]]
+    _address: type[Address]
+
+    _row: bytes
+    prefixlen: int
+
+    def __init__(self, text: Union[str, bytes]) -> None:
+        """The network that a text names, or that of one address, given as its packed bytes.
+        FormatError, AddressError or PrefixError, the first that holds."""
+        if "_row" in self.__dict__:
+            raise TypeError("a network is made once, and does not change")
+        if isinstance(text, bytes):
+            if len(text) != self._width:
+                raise error(2, text)
+            self._keep(text + bytes([self._width * 8]))
+            return
+        given = _bytes(text)
+        held = self._struct()
+        fault = self._read(given, len(given), ctypes.byref(held))
+        if fault:
+            raise error(fault, text)
+        self._keep(bytes(held))
+
+    def _keep(self, row: bytes) -> None:
+        self._row = row
+        self.prefixlen = row[-1]
+
+    def _asked(self, call: ctypes._NamedFuncPointer) -> Address:
+        """The address that a call of the library about this network gives."""
+        octets = self._octets()
+        answered(call(self._row, ctypes.byref(octets)))
+        return self._address(bytes(octets))
+
+    @cached_property
+    def ip(self) -> Address:
+        """The address, host bits included."""
+        return self._address(self._row[:-1])
+
+    @cached_property
+    def network_address(self) -> Address:
+        """The least member: the address with its host bits cleared."""
+        return self._asked(self._least)
+
+    @cached_property
+    def broadcast_address(self) -> Address:
+        """The greatest member: the address with its host bits set."""
+        return self._asked(self._greatest)
+
+    @cached_property
+    def netmask(self) -> Address:
+        """The mask of the prefix length."""
+        return self._asked(self._mask)
+
+    @cached_property
+    def num_addresses(self) -> int:
+        """The number of members."""
+        size = self._size_type()
+        answered(self._size(self._row, ctypes.byref(size)))
+        return size.value if self._width == 4 else int.from_bytes(size, "big")
+
+    @cached_property
+    def _text(self) -> str:
+        room, length = _Room(), ctypes.c_size_t()
+        answered(self._print(self._row, ctypes.byref(room), 44, ctypes.byref(length)))
+        return room.value.decode("ascii")
+
+    def __str__(self) -> str:
+        """The canonical text."""
+        return self._text
+
+    def __getitem__(self, index: SupportsIndex) -> Address:
+        """The member of this number in order, counted from 0, or from the end where it is
+        negative."""
+        place = operator.index(index)
+        if place < 0:
+            place += self.num_addresses
+        fault, octets = 6, self._octets()
+        if 0 <= place < 1 << 8 * self._width:
+            number = place if self._width == 4 else place.to_bytes(16, "big")
+            fault = self._nth(self._row, number, ctypes.byref(octets))
+        if fault == 6:
+            raise IndexError("no member of this number")
+        answered(fault)
+        return self._address(bytes(octets))
+
+    def __iter__(self) -> Iterator[Address]:
+        """The members, each once, in ascending order."""
+        return map(self._address, range(int(self.network_address), int(self.broadcast_address) + 1))
+
+    def __contains__(self, address: object) -> bool:
+        """Whether an address is a member. None of the other family is, none with a zone, and no
+        network."""
+        if isinstance(address, self._address):
+            if getattr(address, "_scope_id", None) is not None:
+                return False
+            answer = ctypes.c_uint8()
+            answered(self._has(self._row, address.packed, ctypes.byref(answer)))
+            return answer.value == 1
+        return no_member(address)
+
+    def contains_column(self, packed: ReadableBuffer) -> bytearray:
+        """For each address of a column a byte: 1 if it is a member of the network, and 0 if it is
+        not.
+
+        A column is packed addresses of the network's family, one after the other, in any contiguous
+        buffer: ``bytes``, ``bytearray``, ``memoryview``, an array of NumPy. ValueError if it has a
+        part of an address at its end."""
+        view = flat(packed)
+        count, part = divmod(view.nbytes, self._width)
+        if part:
+            raise ValueError(
+                f"{view.nbytes} bytes are no column of addresses of {self._width} bytes"
+            )
+        answers = bytearray(count)
+        if count:
+            shared = ctypes.c_ubyte * view.nbytes
+            given = bytes(view) if view.readonly else shared.from_buffer(view)
+            room = (ctypes.c_ubyte * count).from_buffer(answers)
+            answered(self._column(self._row, given, count, room, count))
+        return answers
+
+    def _of_this(self, other: Network[Address]) -> None:
+        if not isinstance(other, Network) or other._width != self._width:
+            raise TypeError(
+                f"{self!r} and {other!r} are not networks of this package and of one family"
+            )
+
+    def subnet_of(self, other: Network[Address]) -> bool:
+        """Whether each member of this network is a member of ``other``. Host bits change
+        nothing."""
+        if other.__class__ is not self.__class__:
+            self._of_this(other)
+        answer = ctypes.c_uint8()
+        answered(self._within(self._row, other._row, ctypes.byref(answer)))
+        return answer.value == 1
+
+    def supernet_of(self, other: Network[Address]) -> bool:
+        """Whether each member of ``other`` is a member of this network. Host bits change
+        nothing."""
+        if other.__class__ is not self.__class__:
+            self._of_this(other)
+        return other.subnet_of(self)
+
+    def overlaps(self, other: Union[Network[IPv4Address], Network[IPv6Address]]) -> bool:
+        """Whether some address is a member of both; ``False`` if the families differ."""
+        if not isinstance(other, Network):
+            self._of_this(other)
+        if self._width != other._width:
+            return False
+        answer = ctypes.c_uint8()
+        answered(self._shares(self._row, other._row, ctypes.byref(answer)))
+        return answer.value == 1
+
+    def _order(self, other: object) -> Union[int, None]:
+        """Negative, 0 or positive, as this network comes before another, is equal or comes after;
+        None if it is none of its family."""
+        if not isinstance(other, Network) or other._width != self._width:
+            return None
+        order = ctypes.c_int32()
+        answered(self._compare(self._row, other._row, ctypes.byref(order)))
+        return order.value
+
+    # The bytes of networks of different families differ in length, so that these are not equal.
+    def __eq__(self, other: object) -> bool:
+        return self._row == other._row if isinstance(other, Network) else NotImplemented
+
+    def __hash__(self) -> int:
+        return hash(self._row)
+
+    def __lt__(self, other: Network[Address]) -> bool:
+        order = self._order(other)
+        return NotImplemented if order is None else order < 0
+
+    def __le__(self, other: Network[Address]) -> bool:
+        order = self._order(other)
+        return NotImplemented if order is None else order <= 0
+
+    def __gt__(self, other: Network[Address]) -> bool:
+        order = self._order(other)
+        return NotImplemented if order is None else order > 0
+
+    def __ge__(self, other: Network[Address]) -> bool:
+        order = self._order(other)
+        return NotImplemented if order is None else order >= 0
+
+
+class V4(Network[IPv4Address]):
+    """The IPv4 networks."""
+
+    _width = 4
+    _family = "v4"
+    _struct = StructV4
+    _address = IPv4Address
+    _octets = ctypes.c_ubyte * 4
+    _read = library.ipnetwork_v4_read
+    _print = library.ipnetwork_v4_canonical
+    _column = library.ipnetwork_v4_contains_column
+    _least = library.ipnetwork_v4_network
+    _greatest = library.ipnetwork_v4_broadcast
+    _mask = library.ipnetwork_v4_mask
+    _size = library.ipnetwork_v4_size
+    _size_type = ctypes.c_uint64
+    _nth = library.ipnetwork_v4_nth
+    _has = library.ipnetwork_v4_contains
+    _within = library.ipnetwork_v4_is_subnet_of
+    _shares = library.ipnetwork_v4_overlaps
+    _compare = library.ipnetwork_v4_compare
+
+
+class V6(Network[IPv6Address]):
+    """The IPv6 networks."""
+
+    _width = 16
+    _family = "v6"
+    _struct = StructV6
+    _address = IPv6Address
+    _octets = ctypes.c_ubyte * 16
+    _read = library.ipnetwork_v6_read
+    _print = library.ipnetwork_v6_canonical
+    _column = library.ipnetwork_v6_contains_column
+    _least = library.ipnetwork_v6_network
+    _greatest = library.ipnetwork_v6_broadcast
+    _mask = library.ipnetwork_v6_mask
+    _size = library.ipnetwork_v6_size
+    _size_type = ctypes.c_ubyte * 17
+    _nth = library.ipnetwork_v6_nth
+    _has = library.ipnetwork_v6_contains
+    _within = library.ipnetwork_v6_is_subnet_of
+    _shares = library.ipnetwork_v6_overlaps
+    _compare = library.ipnetwork_v6_compare
+
+
+_classes: tuple[type[V4], type[V6]] = (V4, V6)
+
+
+def register(four: type[V4], six: type[V6]) -> None:
+    """Says of which classes ``ip_network`` makes networks."""
+    global _classes
+    _classes = four, six
+
+
+def ip_network(text: Union[str, bytes]) -> Union[V4, V6]:
+    """The network of either family that a text names, or that of a packed address."""
+    if isinstance(text, bytes):
+        return _classes[len(text) == 16](text)
+    given = _bytes(text)
+    either = Either()
+    fault = library.ipnetwork_read_with_cause(given, len(given), ctypes.byref(either))
+    if fault:
+        raise error(fault, text)
+    kind, held = (_classes[0], either.v4) if either.family == 4 else (_classes[1], either.v6)
+    network = kind.__new__(kind)
+    network._keep(bytes(held))
+    return network
+
+
+def of_packed(kind: type[_Kind], packed: bytes, prefixlen: SupportsIndex) -> _Kind:
+    """The network of a packed address and a prefix length."""
+    given = operator.index(prefixlen)
+    held = kind._struct()
+    make = getattr(library, f"ipnetwork_{kind._family}_new")
+    fault = make(packed, given, ctypes.byref(held)) if 0 <= given <= 255 else 3
+    if fault:
+        raise error(fault, given)
+    network = kind.__new__(kind)
+    network._keep(bytes(held))
+    return network
+
+
+def of_rows(kind: type[_Kind], rows: bytes) -> list[_Kind]:
+    """The networks whose structs these bytes are."""
+    step = kind._width + 1
+    networks = []
+    for at in range(0, len(rows), step):
+        network = kind.__new__(kind)
+        network._keep(rows[at : at + step])
+        networks.append(network)
+    return networks
+
+
+def prefix_of_mask(packed: bytes) -> int:
+    """The prefix length of a packed mask; MaskError if it is none."""
+    prefix = ctypes.c_uint8()
+    call = getattr(library, f"ipnetwork_v{4 if len(packed) == 4 else 6}_prefix_of_mask")
+    fault = call(packed, ctypes.byref(prefix))
+    if fault:
+        raise error(fault, packed)
+    return prefix.value
+
+
+def subnet_at(network: _Kind, prefixlen: int, number: int) -> Union[_Kind, None]:
+    """The block of this number, as a network of the class; None if there is none."""
+    held = network._struct()
+    if number >= 2 ** (8 * network._width):
+        return None
+    given = number if network._width == 4 else number.to_bytes(16, "big")
+    call = getattr(library, f"ipnetwork_{network._family}_subnet_at")
+    fault = call(network._row, prefixlen, given, ctypes.byref(held))
+    if fault == 6:
+        return None
+    answered(fault)
+    subnet = type(network).__new__(type(network))
+    subnet._keep(bytes(held))
+    return subnet

@@ -1,0 +1,95 @@
+/* The rows of a list of Python in Arrow's layout. */
+#ifndef IPNETWORK_LAYOUT_H
+#define IPNETWORK_LAYOUT_H
+
+#include "_addresses.h"
+
+/* The bytes of a row that is no str: of bytes their own, and none of None, of NaN and of what stands
+ * for a missing row; NULL of any other. */
+static const char *other_bytes(PyObject *row, PyObject *missing, Py_ssize_t *length) {
+    char *bytes;
+    *length = 0;
+    if (row == Py_None || row == missing) return "";
+    if (PyBytes_Check(row)) return PyBytes_AsStringAndSize(row, &bytes, length) < 0 ? NULL : bytes;
+    if (!PyFloat_Check(row)) return NULL;
+    double number = PyFloat_AsDouble(row);
+    return number != number ? "" : NULL;
+}
+
+/* Takes back the exception of a str that has no UTF-8, since such a row is not refused. */
+static const char *no_utf_8(void) {
+    if (PyErr_ExceptionMatches(PyExc_UnicodeEncodeError)) PyErr_Clear();
+    return NULL;
+}
+
+/* The bytes of a row, of a str those of UTF-8; NULL of one that has none, and of a row that is neither
+ * a str nor what `other_bytes` takes; with an exception only where memory is short. */
+static inline const char *row_bytes(PyObject *row, PyObject *missing, Py_ssize_t *length) {
+    if (!PyUnicode_Check(row)) return other_bytes(row, missing, length);
+    const char *text = PyUnicode_AsUTF8AndSize(row, length);
+    return text != NULL ? text : no_utf_8();
+}
+
+/* The offsets of the rows of a list, and how many bytes they have; NULL where a row is none that
+ * `row_bytes` takes. */
+static PyObject *row_offsets(PyObject *rows, PyObject *missing, size_t *whole) {
+    Py_ssize_t count = PyList_Size(rows), length;
+    Py_ssize_t size = (count + 1) * (Py_ssize_t)sizeof(uint32_t);
+    PyObject *offsets = PyByteArray_FromStringAndSize(NULL, size);
+    if (offsets == NULL) return NULL;
+    char *offset = PyByteArray_AsString(offsets);
+    size_t end = 0;
+    for (Py_ssize_t row = 0; row <= count; row++) {
+        uint32_t start = (uint32_t)end;
+        if (end > INT32_MAX) {
+            PyErr_SetString(PyExc_ValueError, "the texts have more than 2147483647 bytes, which is "
+                                              "past the offsets: give them in parts");
+            return Py_DECREF(offsets), NULL;
+        }
+        memcpy(offset + (size_t)row * sizeof start, &start, sizeof start);
+        if (row == count) break;
+        if (row_bytes(PyList_GetItem(rows, row), missing, &length) == NULL)
+            return Py_DECREF(offsets), NULL;
+        end += (size_t)length;
+    }
+    *whole = end;
+    return offsets;
+}
+
+/* The bytes of the rows and their offsets; None where a row is none that `row_bytes` takes. */
+static PyObject *laid_out(PyObject *rows, PyObject *missing) {
+    size_t whole;
+    Py_ssize_t count = PyList_Size(rows), length;
+    PyObject *offsets = row_offsets(rows, missing, &whole), *both = NULL;
+    if (offsets == NULL) return PyErr_Occurred() ? NULL : again(Py_None);
+    PyObject *texts = PyByteArray_FromStringAndSize(NULL, (Py_ssize_t)whole);
+    if (texts != NULL) {
+        char *text = PyByteArray_AsString(texts);
+        for (Py_ssize_t row = 0; row < count; row++) {
+            const char *bytes = row_bytes(PyList_GetItem(rows, row), missing, &length);
+            memcpy(text, bytes, (size_t)length);
+            text += length;
+        }
+        both = PyTuple_Pack(2, texts, offsets);
+    }
+    Py_XDECREF(texts), Py_DECREF(offsets);
+    return both;
+}
+
+/* layout(rows, missing): the rows of a list in Arrow's layout, the bytes and the offsets; None
+ * where a row is neither str, bytes, None, NaN nor `missing`, or is a str that has no UTF-8. */
+static PyObject *layout(PyObject *module, PyObject *arguments) {
+    (void)module;
+    PyObject *rows, *missing, *both;
+    if (!PyArg_ParseTuple(arguments, "O!O", &PyList_Type, &rows, &missing)) return NULL;
+#ifdef Py_GIL_DISABLED
+    Py_BEGIN_CRITICAL_SECTION(rows);
+    both = laid_out(rows, missing);
+    Py_END_CRITICAL_SECTION();
+#else
+    both = laid_out(rows, missing);
+#endif
+    return both;
+}
+
+#endif

@@ -1,0 +1,321 @@
+"""The networks of both families, and what makes them of others."""
+
+from __future__ import annotations
+
+from collections.abc import Iterable, Iterator
+from ipaddress import IPv4Address, IPv4Interface, IPv6Address, IPv6Interface
+from ipaddress import IPv4Network as TheirV4
+from ipaddress import IPv6Network as TheirV6
+from operator import index
+from typing import TYPE_CHECKING, ClassVar, Generic, SupportsIndex, TypeVar, Union, overload
+
+from ._chosen import core
+from ._errors import error
+
+if TYPE_CHECKING:
+    from _typeshed import ReadableBuffer
+    from typing_extensions import Self
+
+Address = TypeVar("Address", IPv4Address, IPv6Address)
+EitherAddress = Union[IPv4Address, IPv6Address]
+_Kind = TypeVar("_Kind")
+
+
+def packed(kind: Union[type[EitherAddress], tuple[type, ...]], address: EitherAddress) -> bytes:
+    """The packed bytes of an address of a kind; AddressError if it has a zone."""
+    if not isinstance(address, kind):
+        names = getattr(kind, "__name__", "IPv4Address or IPv6Address")
+        raise TypeError(f"an address is {names}, not {type(address).__name__}")
+    if getattr(address, "scope_id", None) is not None:
+        raise error(2, address)
+    return address.packed
+
+
+def _subnets(network: _Kind, prefix: int, count: int) -> Iterator[_Kind]:
+    for number in range(count):
+        subnet = core.subnet_at(network, prefix, number)
+        if subnet is not None:
+            yield subnet
+
+
+class _Network(Generic[Address]):
+    """What the networks of both families have besides what the core gives them."""
+
+    __slots__ = ()
+
+    version: ClassVar[int]
+    max_prefixlen: ClassVar[int]
+    _address: type[Address]
+
+    if TYPE_CHECKING:
+
+        @property
+        def prefixlen(self) -> int:
+            ...
+
+    @classmethod
+    def of(cls, address: Address, prefixlen: SupportsIndex) -> Self:
+        """The network of this address, host bits kept, and this prefix length; PrefixError past the
+        width, and AddressError if the address has a zone."""
+        return core.of_packed(cls, packed(cls._address, address), prefixlen)
+
+    @classmethod
+    def prefix_of_mask(cls, mask: Address) -> int:
+        """The prefix length of a mask; MaskError if the address is none."""
+        return core.prefix_of_mask(packed(cls._address, mask))
+
+    def subnets(
+        self, prefixlen_diff: SupportsIndex = 1, new_prefix: Union[SupportsIndex, None] = None
+    ) -> Iterator[Self]:
+        """The blocks of one prefix length within the network, in ascending order: of a prefix
+        length that is ``prefixlen_diff`` longer, or of ``new_prefix``, if it is given. ValueError
+        if that is less than the network's, or past the width.
+
+        >>> list(IPv4Network("10.0.0.0/8").subnets(new_prefix=9))
+        [IPv4Network('10.0.0.0/9'), IPv4Network('10.128.0.0/9')]
+        """
+        difference = index(prefixlen_diff)
+        if new_prefix is not None:
+            if difference != 1:
+                raise ValueError("cannot set prefixlen_diff and new_prefix")
+            difference = index(new_prefix) - self.prefixlen
+        elif self.prefixlen == self.max_prefixlen:
+            difference = 0
+        prefix = self.prefixlen + difference
+        if not self.prefixlen <= prefix <= self.max_prefixlen:
+            raise ValueError(f"{prefix} is no prefix length of subnets of {self!r}")
+        return _subnets(self, prefix, 2**difference)
+
+    @classmethod
+    def read_column(
+        cls, texts: ReadableBuffer, offsets: ReadableBuffer
+    ) -> tuple[bytearray, bytearray]:
+        """The networks of a column of texts in Arrow's layout, and for each a byte that is 0 if its
+        text names one.
+
+        ``texts`` has the bytes of all texts, one after the other, and ``offsets`` numbers of 32 or
+        of 64 bits: text i goes from offset i to the next. Each network is its packed address and
+        its prefix length; if there is none, zeros. A byte other than 0 is 1, 2 or 3, for
+        FormatError, AddressError or PrefixError. A text that names none stops nothing. ValueError
+        if the offsets fall, or pass the end.
+
+        >>> import array
+        >>> offsets = array.array("I", [0, 10, 17])
+        >>> networks, faults = IPv4Network.read_column(b"10.0.0.0/8nothing", offsets)
+        >>> list(networks[:5]), list(faults)
+        ([10, 0, 0, 0, 8], [0, 2])
+        """
+        return core.read_rows(cls.version, texts, offsets)
+
+    @classmethod
+    def print_column(
+        cls, networks: ReadableBuffer, offset_bits: int = 32
+    ) -> tuple[bytearray, bytearray]:
+        """The texts of a column of networks in Arrow's layout: their bytes, one after the other,
+        and the offsets at which each begins and the last ends, of 32 or of 64 bits. The column is
+        as ``read_column`` gives it. PrefixError if the prefix length of one is past the width;
+        ValueError if the texts have 2147483648 bytes or more and the offsets 32 bits.
+
+        >>> column = bytes([10, 1, 9, 32, 16, 0, 0, 0, 0, 0])
+        >>> texts, offsets = IPv4Network.print_column(column)
+        >>> bytes(texts), memoryview(offsets).cast("I").tolist()
+        (b'10.1.9.32/160.0.0.0/0', [0, 12, 21])
+        """
+        return core.print_rows(cls.version, networks, offset_bits)
+
+    def __format__(self, spec: str) -> str:
+        """The canonical text, laid out as ``str`` is."""
+        return format(str(self), spec)
+
+    def __repr__(self) -> str:
+        return f"{type(self).__name__}({str(self)!r})"
+
+    def __reduce__(self) -> tuple[type, tuple[str]]:
+        return type(self), (str(self),)
+
+
+class IPv4Network(_Network[IPv4Address], core.V4):
+    """An IPv4 network: an address, host bits included, and a prefix length of 0 to 32.
+
+    ``address in network`` tells whether an address is a member, ``network[i]`` is the member of a
+    number, and to go through a network gives its members, in ascending order.
+
+    >>> column = b"".join(IPv4Address(text).packed for text in ("10.1.9.32", "8.8.8.8"))
+    >>> list(IPv4Network("10.0.0.0/8").contains_column(column))
+    [1, 0]
+    """
+
+    __slots__ = ()
+    version = 4
+    max_prefixlen = 32
+    _address = IPv4Address
+
+    def to_ipaddress(self) -> IPv4Interface:
+        """The same address and prefix length in ``ipaddress``, where a network with host bits is an
+        interface."""
+        return IPv4Interface((self.ip, self.prefixlen))
+
+    @classmethod
+    def from_ipaddress(cls, given: Union[TheirV4, IPv4Interface]) -> Self:
+        """The same address and prefix length as a network or an interface of ``ipaddress``."""
+        if isinstance(given, IPv4Interface):
+            return cls.of(given.ip, given.network.prefixlen)
+        if isinstance(given, TheirV4):
+            return cls.of(given.network_address, given.prefixlen)
+        raise TypeError(f"{given!r} is no IPv4 network or interface of ipaddress")
+
+
+class IPv6Network(_Network[IPv6Address], core.V6):
+    """An IPv6 network: an address, host bits included, and a prefix length of 0 to 128.
+
+    ``address in network`` tells whether an address is a member, ``network[i]`` is the member of a
+    number, and to go through a network gives its members, in ascending order.
+
+    >>> IPv6Address("2001:db8::1") in IPv6Network("2001:db8::/32")
+    True
+    """
+
+    __slots__ = ()
+    version = 6
+    max_prefixlen = 128
+    _address = IPv6Address
+
+    def to_ipaddress(self) -> IPv6Interface:
+        """The same address and prefix length in ``ipaddress``, where a network with host bits is an
+        interface."""
+        return IPv6Interface((self.ip, self.prefixlen))
+
+    @classmethod
+    def from_ipaddress(cls, given: Union[TheirV6, IPv6Interface]) -> Self:
+        """The same address and prefix length as a network or an interface of ``ipaddress``;
+        AddressError if it has a zone."""
+        if isinstance(given, IPv6Interface):
+            if given.scope_id is not None:
+                raise error(2, given)
+            return cls.of(given.ip, given.network.prefixlen)
+        if isinstance(given, TheirV6):
+            return cls.of(given.network_address, given.prefixlen)
+        raise TypeError(f"{given!r} is no IPv6 network or interface of ipaddress")
+
+
+core.register(IPv4Network, IPv6Network)
+Either = Union[IPv4Network, IPv6Network]
+_Net = TypeVar("_Net", IPv4Network, IPv6Network)
+
+if TYPE_CHECKING:
+
+    def ip_network(text: Union[str, bytes]) -> Either:
+        """The network of either family that a text names, or that of one address, given as its 4 or
+        16 packed bytes. FormatError of a text with two or more slashes; else AddressError if what
+        stands before the slash is an address of neither family; else PrefixError."""
+
+else:
+    ip_network = core.ip_network
+
+
+def no_network(given: object) -> TypeError:
+    """The error of what is no network of this package."""
+    kind = type(given)
+    name = kind.__name__ if kind.__module__ == "builtins" else f"{kind.__module__}.{kind.__name__}"
+    return TypeError(f"a network is IPv4Network or IPv6Network of ipnetwork, not {name}")
+
+
+def family(network: _Net) -> type[_Net]:
+    """The class of the family of a network."""
+    if isinstance(network, IPv4Network):
+        return IPv4Network
+    if isinstance(network, IPv6Network):
+        return IPv6Network
+    raise no_network(network)
+
+
+def of_rows(rows: bytes, version: int) -> Iterator[Either]:
+    """The networks of a family whose structs these bytes are, one after the other."""
+    if version == 4:
+        yield from _each(IPv4Network, rows, 5)
+    else:
+        yield from _each(IPv6Network, rows, 17)
+
+
+def _each(kind: type[_Net], rows: bytes, step: int) -> Iterator[_Net]:
+    many = 256 * step  # as many are made at once, and no more are kept
+    for at in range(0, len(rows), many):
+        yield from core.of_rows(kind, rows[at : at + many])
+
+
+@overload
+def from_ipaddress(given: Union[TheirV4, IPv4Interface]) -> IPv4Network:
+    ...
+
+
+@overload
+def from_ipaddress(given: Union[TheirV6, IPv6Interface]) -> IPv6Network:
+    ...
+
+
+def from_ipaddress(given: Union[TheirV4, TheirV6, IPv4Interface, IPv6Interface]) -> Either:
+    """The same address and prefix length as a network or an interface of ``ipaddress``, of either
+    family; AddressError if it has a zone.
+
+    >>> from ipaddress import ip_interface
+    >>> from_ipaddress(ip_interface("2001:db8::7/64"))
+    IPv6Network('2001:db8::7/64')
+    """
+    if isinstance(given, (TheirV4, IPv4Interface)):
+        return IPv4Network.from_ipaddress(given)
+    if isinstance(given, (TheirV6, IPv6Interface)):
+        return IPv6Network.from_ipaddress(given)
+    raise TypeError(f"{given!r} is no network or interface of ipaddress")
+
+
+def collapse_addresses(networks: Iterable[_Net]) -> Iterator[_Net]:
+    """The fewest networks with the same addresses, in ascending order: the aggregate of networks of
+    one family, host bits or not. TypeError if they are of both.
+
+    >>> parts = map(IPv4Network, ("10.128.0.0/9", "10.0.0.0/9", "10.1.9.32/16"))
+    >>> list(collapse_addresses(parts))
+    [IPv4Network('10.0.0.0/8')]
+    """
+    each = list(networks)
+    if not each:
+        return iter(())
+    kind: type[_Net] = family(each[0])
+    for network in each:
+        if family(network) is not kind:
+            raise TypeError(f"{each[0]!r} and {network!r} are not of one family")
+    rows = core.aggregate(kind.version, b"".join([network._row for network in each]))
+    return _each(kind, rows, kind.max_prefixlen // 8 + 1)
+
+
+def range_rows(first: EitherAddress, last: EitherAddress) -> bytes:
+    """The structs of the fewest networks with the addresses of a range; NetworkError if the first
+    comes after the last, and TypeError if they are of two families."""
+    both = IPv4Address, IPv6Address
+    ends = packed(both, first), packed(both, last)
+    if len(ends[0]) != len(ends[1]):
+        raise TypeError(f"{first!r} and {last!r} are not of one family")
+    rows = core.range_rows(*ends)
+    if rows is None:
+        raise error(9, (first, last))
+    return rows
+
+
+@overload
+def summarize_address_range(first: IPv4Address, last: IPv4Address) -> Iterator[IPv4Network]:
+    ...
+
+
+@overload
+def summarize_address_range(first: IPv6Address, last: IPv6Address) -> Iterator[IPv6Network]:
+    ...
+
+
+def summarize_address_range(first: EitherAddress, last: EitherAddress) -> Iterator[Either]:
+    """The fewest networks with the addresses from first to last, both included, in ascending order.
+    NetworkError, which is a ValueError, if the first comes after the last; TypeError if they are of
+    two families.
+
+    >>> list(summarize_address_range(IPv4Address("10.0.0.0"), IPv4Address("10.0.0.4")))
+    [IPv4Network('10.0.0.0/30'), IPv4Network('10.0.0.4/32')]
+    """
+    return of_rows(range_rows(first, last), 4 if isinstance(first, IPv4Address) else 6)

@@ -1,0 +1,348 @@
+"""A mapping from networks to values, asked for the longest network that has an address."""
+
+from __future__ import annotations
+
+from collections.abc import ItemsView, Iterable, Iterator, Mapping, MutableMapping, ValuesView
+from ipaddress import IPv4Address, IPv6Address, ip_address
+from ipaddress import IPv4Network as TheirV4
+from ipaddress import IPv6Network as TheirV6
+from typing import TYPE_CHECKING, Any, NamedTuple, TypeVar, Union, overload
+
+from ._chosen import core
+from ._lock import new_lock
+from ._networks import Either, EitherAddress, IPv4Network, IPv6Network, no_network
+from ._rows import addresses_of
+from ._tables import Search, search_of
+
+if TYPE_CHECKING:
+    from _typeshed import ReadableBuffer
+
+    from ._rows import Given
+
+Value = TypeVar("Value")
+_Default = TypeVar("_Default")
+#: What a table can be asked about.
+Asked = Union[Either, TheirV4, TheirV6, EitherAddress]
+
+_NO_KEY: Any = object()
+_ADDRESSES = (IPv4Address, IPv6Address)
+_NETWORKS = (IPv4Network, IPv6Network)
+_ALL_NETWORKS = (IPv4Network, IPv6Network, TheirV4, TheirV6)
+
+
+def _network(row: bytes) -> Either:
+    """The network whose struct these bytes are."""
+    if len(row) == 5:
+        return core.of_rows(IPv4Network, row)[0]
+    return core.of_rows(IPv6Network, row)[0]
+
+
+class _Ready(NamedTuple):
+    """The search among the networks of a table that has not changed since, and its keys in
+    order."""
+
+    search: Search
+    keys: list[bytes]
+
+
+class PrefixTable(MutableMapping[Either, Value]):
+    """A value for each of some networks of either family, asked for the longest that has an
+    address.
+
+    It is a mapping whose keys are networks without host bits: ``table[network]`` is the value of
+    that network, with or without its host bits, and ``table[address]`` that of the longest network
+    that has the address. To go through it gives the networks in the order in which they were put
+    in, as of a ``dict``. An address cannot be put in, nor taken out.
+
+    >>> table = PrefixTable({ip_network("10.0.0.0/8"): "lab"})
+    >>> table[ip_network("10.1.9.32/16")] = "cellar"
+    >>> table[IPv4Address("10.1.2.3")], table[IPv4Address("10.2.0.0")]
+    ('cellar', 'lab')
+    >>> IPv4Address("8.8.8.8") in table, table.get(IPv4Address("8.8.8.8"), "none")
+    (False, 'none')
+    >>> list(table)
+    [IPv4Network('10.0.0.0/8'), IPv4Network('10.1.0.0/16')]
+    """
+
+    __slots__ = ("__weakref__", "_asked", "_fours", "_lock", "_ready", "_sixes", "_values")
+
+    def __init__(
+        self, items: Union[Mapping[Either, Value], Iterable[tuple[Either, Value]]] = ()
+    ) -> None:
+        # The keys are the bytes of the structs of the networks.
+        self._values: dict[bytes, Value] = {}
+        # The prefix lengths of the keys of each family, and maybe others, in descending order.
+        self._fours, self._sixes = b"", b""
+        self._ready: Union[_Ready, None] = None
+        self._asked = 0  # how often it was asked since a search was ready
+        self._lock = new_lock()  # of what changes the keys, or makes a search ready
+        self.update(items)
+
+    # Keys.
+
+    def _key(self, network: object) -> bytes:
+        if isinstance(network, _NETWORKS):
+            key = core.block_row(network)
+            if key is not None:
+                return key
+        raise no_network(network)
+
+    def _know(self, prefix: int, version: int) -> None:
+        """Sees to it that a prefix length is among those of the keys of a family."""
+        known = self._fours if version == 4 else self._sixes
+        if prefix in known:
+            return
+        lengths = bytes(sorted({*known, prefix}, reverse=True))
+        if version == 4:
+            self._fours = lengths
+        else:
+            self._sixes = lengths
+
+    def _search_for(self, count: int) -> Union[_Ready, None]:
+        """The search, made ready if that is worth it: if there were an eighth as many questions,
+        with so many more, as there are keys, since one was made. None if it is not. The lock is
+        held."""
+        self._asked += count
+        if self._ready is None and self._asked * 8 >= len(self._values):
+            keys = list(self._values)
+            self._ready, self._asked = _Ready(search_of(keys), keys), 0
+        return self._ready
+
+    def _found(self, asked: object) -> Union[tuple[bytes, Value], None]:
+        """The key of the longest network that has all of what is asked about, and its value."""
+        ready = self._ready
+        if ready is not None and isinstance(asked, _ADDRESSES):
+            number = core.table_find(*ready.search, asked)
+            if number < 0:
+                return None
+            key = ready.keys[number]
+            value = self._values.get(key, _NO_KEY)
+            if value is not _NO_KEY:  # else another thread has taken it out meanwhile
+                return key, value
+        self._lock.acquire()
+        try:
+            if isinstance(asked, _ADDRESSES) and self._ready is None and self._search_for(1):
+                return self._found(asked)
+            longest = core.longest_key(self._values, self._fours, self._sixes, asked)
+            return None if longest is None else (longest, self._values[longest])
+        finally:
+            self._lock.release()
+
+    def _value_of(self, asked: object) -> Any:
+        """The value of a network, or of the longest network that has an address, or ``_NO_KEY``."""
+        if isinstance(asked, _ADDRESSES):
+            found = self._found(asked)
+            return _NO_KEY if found is None else found[1]
+        if isinstance(asked, _ALL_NETWORKS):
+            key = core.block_row(asked)
+            return _NO_KEY if key is None else self._values.get(key, _NO_KEY)
+        raise TypeError(
+            "a table is asked about a network, or an address of ipaddress, not "
+            f"{type(asked).__name__}"
+        )
+
+    # What a mapping has.
+
+    def __getitem__(self, asked: Asked) -> Value:
+        """The value of a network, or of the longest network that has an address; KeyError if there
+        is none."""
+        value = self._value_of(asked)
+        if value is _NO_KEY:
+            raise KeyError(asked)
+        return value  # type: ignore[no-any-return]
+
+    def __setitem__(self, network: Either, value: Value) -> None:
+        """Puts a value in for a network, in the place of the one that it had. TypeError of what is
+        no network of this package."""
+        key = self._key(network)
+        self._lock.acquire()
+        try:
+            if key not in self._values:
+                self._know(key[-1], network.version)
+                self._ready = None
+            self._values[key] = value
+        finally:
+            self._lock.release()
+
+    def __delitem__(self, network: Either) -> None:
+        """Takes a network out; KeyError if it is not there."""
+        self.pop(network)
+
+    @overload
+    def pop(self, network: Either, /) -> Value:
+        ...
+
+    @overload
+    def pop(self, network: Either, default: Union[Value, _Default], /) -> Union[Value, _Default]:
+        ...
+
+    def pop(self, network: Either, *default: object) -> Any:
+        """Takes a network out, and gives its value, or else the default; KeyError if there is
+        neither."""
+        if len(default) > 1:
+            raise TypeError("pop takes a network, and one default")
+        key = self._key(network)
+        self._lock.acquire()
+        try:
+            value = self._values.pop(key, _NO_KEY)
+            if value is not _NO_KEY:
+                self._ready = None
+                return value
+        finally:
+            self._lock.release()
+        if default:
+            return default[0]
+        raise KeyError(network)
+
+    def popitem(self) -> tuple[Either, Value]:
+        """Takes the network out that was put in last, and gives it with its value; KeyError if
+        there is none."""
+        self._lock.acquire()
+        try:
+            if not self._values:
+                raise KeyError("the table is empty")
+            last = next(reversed(self._values))
+            network = _network(last)
+            return network, self.pop(network)
+        finally:
+            self._lock.release()
+
+    def setdefault(self, network: Either, default: Any = None) -> Any:
+        """The value of a network, which is the default from here on if it had none."""
+        key = self._key(network)
+        self._lock.acquire()
+        try:
+            if key not in self._values:
+                self[network] = default
+            return self._values[key]
+        finally:
+            self._lock.release()
+
+    def clear(self) -> None:
+        """Takes all networks out."""
+        self._lock.acquire()
+        try:
+            self._ready, self._fours, self._sixes = None, b"", b""
+            self._values.clear()
+        finally:
+            self._lock.release()
+
+    @overload
+    def get(self, asked: Asked, /) -> Union[Value, None]:
+        ...
+
+    @overload
+    def get(self, asked: Asked, default: Union[Value, _Default], /) -> Union[Value, _Default]:
+        ...
+
+    def get(self, asked: Asked, default: object = None, /) -> Any:
+        """The value of a network, or of the longest network that has an address, or else the
+        default."""
+        value = self._value_of(asked)
+        return default if value is _NO_KEY else value
+
+    def __contains__(self, asked: object) -> bool:
+        """Whether a network is there, or one that has an address."""
+        return self._value_of(asked) is not _NO_KEY
+
+    def longest(self, asked: Asked) -> Union[tuple[Either, Value], None]:
+        """The longest network that has an address, or all addresses of a network, and its value;
+        None if there is none.
+
+        >>> table = PrefixTable({ip_network("10.0.0.0/8"): "lab"})
+        >>> table[ip_network("10.1.0.0/16")] = "cellar"
+        >>> table.longest(IPv4Address("10.1.2.3"))
+        (IPv4Network('10.1.0.0/16'), 'cellar')
+        >>> table.longest(ip_network("10.0.0.0/15"))
+        (IPv4Network('10.0.0.0/8'), 'lab')
+        """
+        found = self._found(asked)
+        return None if found is None else (_network(found[0]), found[1])
+
+    @overload
+    def join(self, column: Given) -> list[Union[Value, None]]:
+        ...
+
+    @overload
+    def join(self, column: Given, default: _Default) -> list[Union[Value, _Default]]:
+        ...
+
+    def join(self, column: Given, default: object = None) -> list[Any]:
+        """For each row of a column the value of the longest network that has its address, or the
+        default, if none has it or the row has no address. The column is a list, an array or a
+        Series of rows, as ``ipnetwork.columns`` takes it, or of the bytes that
+        ``read_address_column`` gives.
+
+        >>> table = PrefixTable({ip_network("10.0.0.0/8"): "lab", ip_network("::/0"): "office"})
+        >>> table.join(["10.1.2.3", "8.8.8.8", "no address", "2001:db8::1"])
+        ['lab', None, None, 'office']
+        """
+        addresses = addresses_of(column)
+        self._lock.acquire()
+        try:
+            ready = self._search_for(memoryview(addresses).nbytes // 17)
+            if ready is None:
+                return [default if found is None else found[1] for found in self._each(addresses)]
+            values, keys = self._values, ready.keys
+            numbers = memoryview(ready.search.find_column(addresses)).cast("q")
+            return [default if number < 0 else values[keys[number]] for number in numbers]
+        finally:
+            self._lock.release()
+
+    def _each(self, addresses: ReadableBuffer) -> Iterator[Union[tuple[bytes, Value], None]]:
+        """What is found for each row of a column, as ``read_address_column`` gives it."""
+        search_of(()).find_column(addresses)  # ValueError of rows that are no addresses
+        rows = bytes(addresses)
+        for at in range(0, len(rows), 17):
+            packed = rows[at : at + rows[at + 16]]
+            yield self._found(ip_address(packed)) if packed else None
+
+    def __len__(self) -> int:
+        """How many networks there are."""
+        return len(self._values)
+
+    def __iter__(self) -> Iterator[Either]:
+        """The networks, in the order in which they were put in. RuntimeError if one is put in or
+        taken out meanwhile."""
+        return map(_network, self._values)
+
+    def items(self) -> ItemsView[Either, Value]:
+        """The networks, each with its value."""
+        return _Items(self)
+
+    def values(self) -> ValuesView[Value]:
+        """The values of the networks."""
+        return _Values(self)
+
+    def copy(self) -> PrefixTable[Value]:
+        """Another table with the same networks and values."""
+        return type(self)(self)
+
+    def __eq__(self, other: object) -> bool:
+        if isinstance(other, PrefixTable):
+            return self._values == other._values
+        return super().__eq__(other)
+
+    __hash__ = None  # type: ignore[assignment]
+
+    def __repr__(self) -> str:
+        each = ", ".join(f"{network!r}: {value!r}" for network, value in self.items())
+        return f"{type(self).__name__}({{{each}}})"
+
+    def __reduce__(self) -> tuple[Any, ...]:
+        return type(self), (), getattr(self, "__dict__", None), None, iter(self.items())
+
+
+class _Items(ItemsView[Either, Value]):
+    _mapping: PrefixTable[Value]
+
+    def __iter__(self) -> Iterator[tuple[Either, Value]]:
+        for key, value in self._mapping._values.items():
+            yield _network(key), value
+
+
+class _Values(ValuesView[Value]):
+    _mapping: PrefixTable[Value]
+
+    def __iter__(self) -> Iterator[Value]:
+        return iter(self._mapping._values.values())

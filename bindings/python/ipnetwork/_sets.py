@@ -1,0 +1,290 @@
+"""Sets of addresses of both families."""
+
+from __future__ import annotations
+
+from collections.abc import Iterable, Iterator
+from ipaddress import IPv4Network as TheirV4
+from ipaddress import IPv6Network as TheirV6
+from typing import TYPE_CHECKING, Literal, Union
+
+from ._chosen import core
+from ._networks import (
+    Either,
+    EitherAddress,
+    IPv4Network,
+    IPv6Network,
+    no_network,
+    of_rows,
+    range_rows,
+)
+
+if TYPE_CHECKING:
+    from typing import Any
+
+    from _typeshed import ReadableBuffer
+
+_ALL_FOURS, _ALL_SIXES = bytes(5), bytes(17)  # 0.0.0.0/0 and ::/0
+
+
+class AddressSet:
+    """The addresses of networks of either family, in any order, host bits or not. It does not
+    change.
+
+    It holds the fewest networks that have them, so that sets of the same addresses are equal,
+    whatever networks they were made of. To go through a set gives these networks, and ``len`` is
+    how many they are. ``in`` takes an address, or a network of this package or of ``ipaddress``,
+    which is in the set if all of its addresses are. ``<=`` and ``<`` tell whether one set is part
+    of another. ``AddressSetBuilder`` makes a set by and by.
+
+    >>> one = AddressSet([ip_network("10.0.0.0/9")])
+    >>> other = AddressSet([ip_network("10.128.0.0/9")])
+    >>> allowed = one | other | AddressSet([ip_network("2001:db8::/32")])
+    >>> allowed
+    AddressSet([IPv4Network('10.0.0.0/8'), IPv6Network('2001:db8::/32')])
+    >>> IPv4Address("10.1.9.32") in allowed, IPv6Address("2001:db9::") in allowed
+    (True, False)
+    >>> ip_network("10.0.0.0/8") in allowed, ip_network("10.0.0.0/7") in allowed
+    (True, False)
+    >>> one < allowed, one.isdisjoint(other), len(allowed)
+    (True, True, 2)
+    >>> allowed - AddressSet([ip_network("10.0.0.0/10"), ip_network("::/0")])
+    AddressSet([IPv4Network('10.64.0.0/10'), IPv4Network('10.128.0.0/9')])
+    """
+
+    __slots__ = ("__weakref__", "_fours", "_sixes")
+
+    _fours: bytes
+    _sixes: bytes
+
+    def __init__(self, networks: Iterable[Either] = ()) -> None:
+        if hasattr(self, "_fours"):
+            raise TypeError("a set is made once, and does not change")
+        fours: list[bytes] = []
+        sixes: list[bytes] = []
+        for network in networks:
+            if isinstance(network, IPv4Network):
+                fours.append(network._row)
+            elif isinstance(network, IPv6Network):
+                sixes.append(network._row)
+            else:
+                raise no_network(network)
+        self._fours = core.aggregate(4, b"".join(fours))
+        self._sixes = core.aggregate(6, b"".join(sixes))
+
+    @staticmethod
+    def _of(fours: bytes, sixes: bytes) -> AddressSet:
+        """The set of these blocks, which are the fewest with their addresses."""
+        made = AddressSet.__new__(AddressSet)
+        made._fours, made._sixes = fours, sixes
+        return made
+
+    @staticmethod
+    def of_ranges(ranges: Iterable[tuple[EitherAddress, EitherAddress]]) -> AddressSet:
+        """The addresses of ranges, each given as its first and its last address. NetworkError,
+        which is a ValueError, if the first of one comes after its last; TypeError if they are of
+        two families.
+
+        >>> AddressSet.of_ranges([(IPv4Address("10.0.0.1"), IPv4Address("10.0.0.3"))])
+        AddressSet([IPv4Network('10.0.0.1/32'), IPv4Network('10.0.0.2/31')])
+        """
+        rows: dict[int, list[bytes]] = {4: [], 6: []}
+        for first, last in ranges:
+            blocks = range_rows(first, last)
+            rows[first.version].append(blocks)
+        return AddressSet._of(*(core.aggregate(each, b"".join(rows[each])) for each in (4, 6)))
+
+    def _operated(self, operation: str, other: AddressSet) -> AddressSet:
+        return AddressSet._of(
+            core.operate(operation, 4, self._fours, other._fours),
+            core.operate(operation, 6, self._sixes, other._sixes),
+        )
+
+    def _has_none(self, operation: str, other: AddressSet) -> bool:
+        """Whether an operation gives a set without addresses."""
+        return core.is_empty(operation, 4, self._fours, other._fours) and core.is_empty(
+            operation, 6, self._sixes, other._sixes
+        )
+
+    def __contains__(self, asked: object) -> bool:
+        """Whether an address is one of the set, or each address of a network. None with a zone
+        is."""
+        return core.set_contains(self._fours, self._sixes, asked)
+
+    def covers(self, network: Union[Either, TheirV4, TheirV6]) -> bool:
+        """Whether each address of a network is one of the set; TypeError of what is no network.
+
+        >>> AddressSet([ip_network("10.0.0.0/9")]).covers(ip_network("10.0.0.0/8"))
+        False
+        """
+        if not isinstance(network, (IPv4Network, IPv6Network, TheirV4, TheirV6)):
+            raise TypeError(f"a network is asked about, not {type(network).__name__}")
+        return core.set_contains(self._fours, self._sixes, network)
+
+    def contains_column(self, addresses: ReadableBuffer) -> bytearray:
+        """For each address of a column a byte: 1 if it is one of the set, else 0. The column has 17
+        bytes for each address, as ``read_address_column`` gives it; a row without an address is
+        none of the set. ValueError of other rows.
+
+        >>> import array
+        >>> offsets = array.array("I", [0, 7, 10, 11])
+        >>> addresses, faults = read_address_column(b"8.8.8.8::1x", offsets)
+        >>> list(AddressSet([ip_network("8.0.0.0/8")]).contains_column(addresses))
+        [1, 0, 0]
+        """
+        return core.set_contains_column(self._fours, self._sixes, addresses)
+
+    def __or__(self, other: AddressSet) -> AddressSet:
+        """The addresses that one of the two has, or both."""
+        return self._operated("|", other) if isinstance(other, AddressSet) else NotImplemented
+
+    def __and__(self, other: AddressSet) -> AddressSet:
+        """The addresses that both have."""
+        return self._operated("&", other) if isinstance(other, AddressSet) else NotImplemented
+
+    def __sub__(self, other: AddressSet) -> AddressSet:
+        """The addresses that this set has and the other has not."""
+        return self._operated("-", other) if isinstance(other, AddressSet) else NotImplemented
+
+    def __xor__(self, other: AddressSet) -> AddressSet:
+        """The addresses that one of the two has, and not both."""
+        if not isinstance(other, AddressSet):
+            return NotImplemented
+        return (self - other) | (other - self)
+
+    def complement(self, version: Union[Literal[4, 6], None] = None) -> AddressSet:
+        """The addresses that the set has not: those of one family, if ``version`` is 4 or 6, else
+        of both, which is ``~``.
+
+        >>> AddressSet([ip_network("128.0.0.0/1")]).complement(4)
+        AddressSet([IPv4Network('0.0.0.0/1')])
+        """
+        if version not in (None, 4, 6):
+            raise ValueError(f"version is 4 or 6, for a family, or None, not {version!r}")
+        fours = b"" if version == 6 else core.operate("-", 4, _ALL_FOURS, self._fours)
+        sixes = b"" if version == 4 else core.operate("-", 6, _ALL_SIXES, self._sixes)
+        return AddressSet._of(fours, sixes)
+
+    def __invert__(self) -> AddressSet:
+        """The addresses of both families that the set has not."""
+        return self.complement()
+
+    def _is_in(self, other: AddressSet, proper: bool) -> bool:
+        """Whether another set has each address of this one; and more, if that is asked."""
+        return self._has_none("-", other) and not (
+            proper and (self._fours, self._sixes) == (other._fours, other._sixes)
+        )
+
+    def __le__(self, other: AddressSet) -> bool:
+        """Whether the other set has each address of this one."""
+        return self._is_in(other, False) if isinstance(other, AddressSet) else NotImplemented
+
+    def __lt__(self, other: AddressSet) -> bool:
+        """Whether the other set has each address of this one, and more."""
+        return self._is_in(other, True) if isinstance(other, AddressSet) else NotImplemented
+
+    def __ge__(self, other: AddressSet) -> bool:
+        """Whether this set has each address of the other."""
+        return other._is_in(self, False) if isinstance(other, AddressSet) else NotImplemented
+
+    def __gt__(self, other: AddressSet) -> bool:
+        """Whether this set has each address of the other, and more."""
+        return other._is_in(self, True) if isinstance(other, AddressSet) else NotImplemented
+
+    def isdisjoint(self, other: Iterable[Either]) -> bool:
+        """Whether no address is one of this set and of another, or of networks."""
+        return self._has_none("&", _as_set(other))
+
+    def issubset(self, other: Iterable[Either]) -> bool:
+        """Whether another set, or networks, have each address of this one."""
+        return self._has_none("-", _as_set(other))
+
+    def issuperset(self, other: Iterable[Either]) -> bool:
+        """Whether this set has each address of another, or of networks."""
+        return _as_set(other)._has_none("-", self)
+
+    def union(self, *others: Iterable[Either]) -> AddressSet:
+        """The addresses of this set and of others, or of networks."""
+        each = [self, *map(_as_set, others)]
+        return AddressSet._of(
+            core.aggregate(4, b"".join([one._fours for one in each])),
+            core.aggregate(6, b"".join([one._sixes for one in each])),
+        )
+
+    def intersection(self, *others: Iterable[Either]) -> AddressSet:
+        """The addresses that this set and each of the others have."""
+        common = self
+        for other in others:
+            common = common._operated("&", _as_set(other))
+        return common._operated("|", _NONE)
+
+    def difference(self, *others: Iterable[Either]) -> AddressSet:
+        """The addresses that this set has and none of the others."""
+        return self._operated("-", _NONE.union(*others))
+
+    def symmetric_difference(self, other: Iterable[Either]) -> AddressSet:
+        """The addresses that this set has or another, and not both."""
+        return self ^ _as_set(other)
+
+    def __iter__(self) -> Iterator[Either]:
+        """The fewest networks that have these addresses: those of IPv4 first, in ascending
+        order."""
+        yield from of_rows(self._fours, 4)
+        yield from of_rows(self._sixes, 6)
+
+    def __len__(self) -> int:
+        """How many these networks are."""
+        return len(self._fours) // len(_ALL_FOURS) + len(self._sixes) // len(_ALL_SIXES)
+
+    def ranges(self) -> Iterator[tuple[EitherAddress, EitherAddress]]:
+        """The addresses as the fewest ranges, each its first and its last address: those of IPv4
+        first, in ascending order.
+
+        >>> list(AddressSet([ip_network("10.0.0.4/30"), ip_network("10.0.0.8/31")]).ranges())
+        [(IPv4Address('10.0.0.4'), IPv4Address('10.0.0.9'))]
+        """
+        first: Union[EitherAddress, None] = None
+        last: Union[EitherAddress, None] = None
+        for block in self:
+            least = block.network_address
+            if first is None or last is None or not _follows(least, last):
+                if first is not None and last is not None:
+                    yield first, last
+                first = least
+            last = block.broadcast_address
+        if first is not None and last is not None:
+            yield first, last
+
+    @property
+    def num_addresses(self) -> int:
+        """How many addresses there are."""
+        return sum(network.num_addresses for network in self)
+
+    def __bool__(self) -> bool:
+        """Whether there is an address."""
+        return bool(self._fours or self._sixes)
+
+    def __eq__(self, other: object) -> bool:
+        if not isinstance(other, AddressSet):
+            return NotImplemented
+        return (self._fours, self._sixes) == (other._fours, other._sixes)
+
+    def __hash__(self) -> int:
+        return hash((self._fours, self._sixes))
+
+    def __repr__(self) -> str:
+        return f"{type(self).__name__}({list(self)!r})"
+
+    def __reduce__(self) -> tuple[Any, ...]:
+        return type(self), (list(self),), getattr(self, "__dict__", None)
+
+
+def _follows(address: EitherAddress, last: EitherAddress) -> bool:
+    """Whether an address is the next one after another of its family."""
+    return address.version == last.version and int(address) == int(last) + 1
+
+
+def _as_set(networks: Iterable[Either]) -> AddressSet:
+    return networks if isinstance(networks, AddressSet) else AddressSet(networks)
+
+
+_NONE = AddressSet()

@@ -1,0 +1,323 @@
+"""Sets of addresses beside Python's own ``set`` of the same addresses."""
+
+import copy
+import ipaddress
+import operator
+import pickle
+import random
+import unittest
+from ipaddress import IPv4Address, IPv6Address
+
+import ipnetwork
+from ipnetwork import (
+    AddressError,
+    AddressSet,
+    AddressSetBuilder,
+    IPv4Network,
+    IPv6Network,
+    ip_network,
+)
+
+EVERYTHING = AddressSet(map(ip_network, ("0.0.0.0/0", "::/0")))
+#: Windows of 256 addresses: at both ends of each family, and in it.
+WINDOWS = [
+    (IPv4Network, IPv4Address, base) for base in (0, int(IPv4Address("192.0.2.0")), 2**32 - 256)
+] + [
+    (IPv6Network, IPv6Address, base)
+    for base in (0, int(IPv6Address("2001:db8::")), 2**64 - 128, 2**128 - 256)
+]
+
+
+def networks_of(texts):
+    return list(map(ip_network, texts.split()))
+
+
+def drawn(rng, window, count):
+    """Networks of a window, host bits and all."""
+    kind, address, base = window
+    width = kind.max_prefixlen
+    hosts = [base + rng.randrange(256) for _ in range(count)]
+    return [kind.of(address(host), width - rng.randrange(8)) for host in hosts]
+
+
+def addresses(networks):
+    """The addresses of networks, by ``ipaddress``."""
+    each = (ipaddress.ip_network(str(network), strict=False) for network in networks)
+    return {address for network in each for address in network}
+
+
+def least(each):
+    """The fewest networks with these addresses, by ``ipaddress``, as texts."""
+    fours = [ipaddress.ip_network(address) for address in each if address.version == 4]
+    sixes = [ipaddress.ip_network(address) for address in each if address.version == 6]
+    both = [*ipaddress.collapse_addresses(fours), *ipaddress.collapse_addresses(sixes)]
+    return [str(network) for network in both]
+
+
+def sets(rng, window, sizes):
+    for size in sizes:
+        networks = drawn(rng, window, size)
+        yield AddressSet(networks), addresses(networks)
+
+
+class Operations(unittest.TestCase):
+    def test_beside_set(self):
+        rng = random.Random(53)
+        signs = [operator.or_, operator.and_, operator.sub, operator.xor]
+        names = ["union", "intersection", "difference", "symmetric_difference"]
+        questions = [operator.le, operator.lt, operator.ge, operator.gt, operator.eq, operator.ne]
+        for window in WINDOWS:
+            for count in range(18):
+                (one, has), (other, others) = sets(rng, window, (count % 9, count % 5))
+                for sign, name in zip(signs, names):
+                    wanted = least(sign(has, others))
+                    made = sign(one, other)
+                    self.assertEqual([str(network) for network in made], wanted)
+                    self.assertEqual(len(made), len(wanted))
+                    self.assertEqual(made.num_addresses, len(sign(has, others)))
+                    self.assertEqual(getattr(one, name)(other), made)
+                    self.assertEqual(getattr(one, name)(list(other)), made)
+                for part in (other, one & other, one):
+                    held = others if part is other else has & others if part is not one else has
+                    for ask in questions:
+                        self.assertIs(ask(part, one), ask(held, has), (ask, part, one))
+                        self.assertIs(ask(one, part), ask(has, held), (ask, one, part))
+                    self.assertIs(part.issubset(one), held <= has)
+                    self.assertIs(one.issuperset(part), has >= held)
+                    self.assertIs(one.isdisjoint(part), has.isdisjoint(held))
+                    self.assertIs(one.isdisjoint(list(part)), has.isdisjoint(held))
+
+    def test_what_is_in(self):
+        rng = random.Random(54)
+        for window in WINDOWS:
+            kind, address, base = window
+            for count in range(6):
+                ((one, has),) = sets(rng, window, (count,))
+                for host in range(256):
+                    each = address(base + host)
+                    self.assertIs(each in one, each in has)
+                for network in drawn(rng, window, 20) + list(one):
+                    wanted = addresses([network]) <= has
+                    theirs = ipaddress.ip_network(str(network), strict=False)
+                    for asked in (network, theirs):
+                        self.assertIs(asked in one, wanted, (asked, one))
+                        self.assertIs(one.covers(asked), wanted)
+                    self.assertIs(one >= AddressSet([network]), wanted)
+
+    def test_complements(self):
+        rng = random.Random(55)
+        for window in WINDOWS:
+            kind, address, base = window
+            whole = AddressSet([ip_network("0.0.0.0/0" if kind.version == 4 else "::/0")])
+            for count in range(8):
+                ((one, has),) = sets(rng, window, (count,))
+                own = one.complement(kind.version)
+                self.assertEqual(~one, own | one.complement(10 - kind.version))
+                self.assertEqual(own.num_addresses, 2**kind.max_prefixlen - len(has))
+                self.assertEqual((own | one, own & one), (whole, AddressSet()))
+                self.assertEqual((whole - one, whole ^ one), (own, own))
+                self.assertEqual(list(own), list(ipnetwork.collapse_addresses(own)))
+                for host in range(256):
+                    each = address(base + host)
+                    self.assertIs(each in ~one, each not in has)
+                self.assertEqual(~~one, one)
+                ((other, _),) = sets(rng, window, (count,))
+                self.assertEqual(~(one | other), ~one & ~other)
+        self.assertEqual((~AddressSet(), ~EVERYTHING), (EVERYTHING, AddressSet()))
+        self.assertEqual(AddressSet().complement(4), AddressSet(networks_of("0.0.0.0/0")))
+        for version in (0, 5, 32, "4", True):
+            with self.assertRaisesRegex(ValueError, "version is 4 or 6.*" + repr(version)):
+                EVERYTHING.complement(version)
+
+    def test_several(self):
+        parts = [
+            AddressSet(networks_of(text))
+            for text in ("10.0.0.0/9", "::/1 10.128.0.0/9", "8000::/1")
+        ]
+        self.assertEqual(parts[0].union(*parts[1:]), AddressSet(networks_of("10.0.0.0/8 ::/0")))
+        self.assertEqual(EVERYTHING.difference(*parts), ~parts[0].union(*parts))
+        for others in ([parts[1], networks_of("::/2")], [networks_of("::/2"), parts[1]]):
+            self.assertEqual(EVERYTHING.intersection(*others), AddressSet(networks_of("::/2")))
+        for name in ("union", "intersection", "difference"):
+            self.assertEqual(getattr(parts[1], name)(), parts[1])
+        self.assertEqual(
+            parts[0].union(networks_of("10.128.0.0/9")), AddressSet(networks_of("10.0.0.0/8"))
+        )
+
+    def test_ends(self):
+        for family, last in (("0.0.0.0/0", "255.255.255.255"), ("::/0", "ffff:" * 7 + "ffff")):
+            whole = AddressSet(networks_of(family))
+            end = ipaddress.ip_address(last)
+            self.assertTrue(
+                end in whole and ip_network(last) in whole and ip_network(family) in whole
+            )
+            without = whole - AddressSet(networks_of(last))
+            self.assertEqual(len(without), end.max_prefixlen)
+            self.assertTrue(
+                end not in without and ip_network(family) not in without and without < whole
+            )
+            self.assertTrue(whole.isdisjoint(~whole) and not whole.isdisjoint(networks_of(last)))
+            self.assertEqual(list(whole.ranges()), [(type(end)(0), end)])
+            self.assertEqual(list(without.ranges()), [(type(end)(0), end - 1)])
+            self.assertEqual(AddressSet.of_ranges([(type(end)(0), end)]), whole)
+        self.assertEqual(len(list(EVERYTHING.ranges())), 2)
+        # The number of the first IPv6 address is the next one after that of the last IPv4 address.
+        self.assertEqual(len(list(AddressSet(networks_of("255.255.255.255 ::1:0:0")).ranges())), 2)
+
+
+class Ranges(unittest.TestCase):
+    def test_of_a_set(self):
+        rng = random.Random(56)
+        for window in WINDOWS:
+            for count in range(20):
+                ((one, has),) = sets(rng, window, (count,))
+                told = list(one.ranges())
+                numbers = [
+                    number for low, high in told for number in range(int(low), int(high) + 1)
+                ]
+                self.assertEqual(numbers, sorted(map(int, has)))
+                for (_, high), (low, _) in zip(told, told[1:]):
+                    self.assertGreater(int(low), int(high) + 1)
+                rng.shuffle(told)
+                self.assertEqual(AddressSet.of_ranges(told), one)
+
+    def test_as_networks(self):
+        rng = random.Random(57)
+        for kind, address, base in WINDOWS:
+            for _ in range(100):
+                low, high = sorted(address(base + rng.randrange(256)) for _ in range(2))
+                wanted = list(map(str, ipaddress.summarize_address_range(low, high)))
+                made = list(ipnetwork.summarize_address_range(low, high))
+                self.assertEqual(
+                    (list(map(str, made)), {type(each) for each in made}), (wanted, {kind})
+                )
+            greatest = address(2**kind.max_prefixlen - 2)
+            made = ipnetwork.summarize_address_range(address(1), greatest)
+            self.assertEqual(len(list(made)), 2 * kind.max_prefixlen - 2)
+
+    def test_refused(self):
+        four, six, zoned = IPv4Address("10.0.0.1"), IPv6Address("::1"), IPv6Address("fe80::1%eth0")
+        for call in (
+            ipnetwork.summarize_address_range,
+            lambda first, last: AddressSet.of_ranges([(four, four), (first, last)]),
+        ):
+            with self.assertRaisesRegex(ipnetwork.NetworkError, "10.0.0.1.*10.0.0.0"):
+                call(four, four - 1)
+            with self.assertRaises(AddressError):
+                call(six, zoned)
+            for first, last in (
+                (four, six),
+                ("10.0.0.1", four),
+                (four, 7),
+                (ip_network("::1"), six),
+            ):
+                with self.assertRaises(TypeError):
+                    call(first, last)
+
+
+class AsPython(unittest.TestCase):
+    def test_foreign_types(self):
+        one = AddressSet(networks_of("10.0.0.0/8"))
+        binary = [operator.or_, operator.and_, operator.sub, operator.xor]
+        order = [operator.le, operator.lt, operator.ge, operator.gt]
+        for other in (set(), [], "10.0.0.0/8", 7, None, ip_network("10.0.0.0/8")):
+            for sign in binary + order:
+                for pair in ((one, other), (other, one)):
+                    with self.assertRaises(TypeError):
+                        sign(*pair)
+            self.assertFalse(one == other)
+            self.assertTrue(one != other)
+
+        class Answers:
+            def __ror__(self, other):
+                return "ror"
+
+            def __ge__(self, other):
+                return "ge"
+
+        self.assertEqual((one | Answers(), one <= Answers()), ("ror", "ge"))
+        for call in (one.isdisjoint, one.issubset, one.issuperset, one.union, one.difference):
+            for other in (
+                ["10.0.0.0/8"],
+                [ipaddress.ip_network("10.0.0.0/8")],
+                7,
+                [IPv4Address("10.0.0.1")],
+            ):
+                with self.assertRaises(TypeError):
+                    call(other)
+        for asked in ("10.0.0.1", 7, None, b"\x0a\0\0\1", one):
+            with self.assertRaisesRegex(TypeError, type(asked).__name__):
+                asked in one
+            with self.assertRaisesRegex(TypeError, type(asked).__name__):
+                one.covers(asked)
+        with self.assertRaises(TypeError):
+            one.covers(IPv4Address("10.0.0.1"))
+        for given in (ipaddress.ip_network("10.0.0.0/8"), "10.0.0.0/8", IPv4Address("10.0.0.1")):
+            with self.assertRaisesRegex(TypeError, type(given).__name__):
+                AddressSet([given])
+
+    def test_zones_are_in_no_set(self):
+        for text in ("fe80::1%eth0", "::%1"):
+            self.assertNotIn(IPv6Address(text), EVERYTHING)
+        for theirs in (
+            ipaddress.ip_interface("fe80::1%eth0/64"),
+            ipaddress.ip_network("fe80::%eth0/64"),
+        ):
+            if getattr(theirs, "scope_id", None) or theirs.network_address.scope_id:
+                self.assertNotIn(theirs, EVERYTHING)
+        # An interface is its address, as elsewhere.
+        self.assertIn(ipaddress.ip_interface("10.1.2.3/0"), AddressSet(networks_of("10.0.0.0/8")))
+
+    def test_values(self):
+        one, same = AddressSet(networks_of("10.0.0.0/9 10.128.0.0/9 ::/0")), AddressSet(
+            networks_of("::/0 10.0.0.0/8")
+        )
+        self.assertEqual((hash(one), len({one, same}), {one: 1}[same]), (hash(same), 1, 1))
+        for again in (
+            pickle.loads(pickle.dumps(one)),
+            copy.copy(one),
+            copy.deepcopy(one),
+            AddressSet(one),
+        ):
+            self.assertEqual(again, one)
+        self.assertEqual(eval(repr(one), vars(ipnetwork)), one)
+        self.assertEqual(repr(AddressSet()), "AddressSet([])")
+        self.assertEqual(
+            (len(one), len(AddressSet()), bool(AddressSet()), bool(one)), (2, 0, False, True)
+        )
+        self.assertTrue(all(network in one for network in one))
+        with self.assertRaises(TypeError):
+            one.__init__(networks_of("::/0"))
+        with self.assertRaises(AttributeError):
+            one.other = 1
+        self.assertEqual((one, len(one)), (same, 2))
+
+    def test_subclasses(self):
+        class Named(AddressSet):
+            pass
+
+        globals()["Named"], Named.__qualname__ = Named, "Named"
+        named = Named(networks_of("10.0.0.0/8"))
+        named.name = "tens"
+        self.assertEqual(named, AddressSet(named))
+        self.assertIs(type(named | named), AddressSet)
+        for again in (pickle.loads(pickle.dumps(named)), copy.copy(named), copy.deepcopy(named)):
+            self.assertEqual((type(again), again, again.name), (Named, named, "tens"))
+        self.assertTrue(repr(named).startswith("Named(["))
+        self.assertTrue(AddressSet() < named <= AddressSet(named) and named in {named})
+
+    def test_iterables(self):
+        def refuses():
+            yield ip_network("10.0.0.0/8")
+            raise KeyError("of the caller")
+
+        for call in (AddressSet, EVERYTHING.union, EVERYTHING.isdisjoint, AddressSetBuilder):
+            with self.assertRaisesRegex(KeyError, "of the caller"):
+                call(refuses())
+        many = AddressSet(IPv4Network.of(IPv4Address(host * 2), 32) for host in range(3000))
+        self.assertEqual((len(many), len(list(many))), (3000, 3000))
+        self.assertEqual(next(iter(many)), ip_network("0.0.0.0"))
+
+
+if __name__ == "__main__":
+    unittest.main()
