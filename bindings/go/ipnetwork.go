@@ -1,9 +1,18 @@
+//go:build linux && amd64
+
 // Package ipnetwork reads, prints and asks IP networks in CIDR notation, by a library whose functions are proved.
 // Addresses are those of net/netip.
 //
 // A network keeps the host bits of its address. Its members are the addresses that share the first bits of its address,
-// as many as the prefix length says, and the questions are about the members. A call into the library takes some 50 to
-// 100 ns whatever it does; the calls over columns and lists make one for all rows.
+// as many as the prefix length says, and the questions are about the members.
+//
+// The library is called by cgo. A question about one network, address or text of at most 64 bytes allocates nothing unless
+// its result is a string or a number of package big. The functions whose names end in Each or Column, and those that make
+// or combine sets and tables, share a call among many rows.
+//
+// With the build tag ipnetwork_direct (go build -tags ipnetwork_direct) such a question runs on the stack of the goroutine
+// that asks it, which saves most of the time that a call by cgo takes. That rests on what Go's runtime does and does not
+// promise, and on the stack that the functions of C need as they are compiled: bindings/README.md says what it is.
 package ipnetwork
 
 /*
@@ -11,14 +20,25 @@ package ipnetwork
 #cgo LDFLAGS: ${SRCDIR}/../../crates/ipnetwork_c/out/libipnetwork_c.a
 #include "calls.h"
 
-static network_or_fault read_string(_GoString_ text) { return read_network(_GoStringPtr(text), _GoStringLen(text)); }
-static address_or_fault read_address_string(_GoString_ text) { return read_address(_GoStringPtr(text), _GoStringLen(text)); }
+// A text of any length, which is a network or an address.
+
+static text_call read_long(_GoString_ text) {
+    text_call call = {{0}};
+    call.fault = ipnetwork_read_with_cause(_GoStringPtr(text), _GoStringLen(text), &call.network);
+    return call;
+}
+
+static text_call read_long_address(_GoString_ text) {
+    text_call call = {{0}};
+    call.fault = ipnetwork_address_read(_GoStringPtr(text), _GoStringLen(text), &call.address);
+    return call;
+}
 */
 import "C"
 
 import (
-	"math/big"
 	"net/netip"
+	"strings"
 	"unsafe"
 )
 
@@ -28,16 +48,24 @@ func init() {
 	}
 }
 
-// A Fault says why there is no network, or no result. Its text is what the library says of it.
+// The functions of C, which callAddress, callNetwork, callText and search call.
+var (
+	toRead         = (*[0]byte)(C.ipnetwork_go_read)
+	toReadAddress  = (*[0]byte)(C.ipnetwork_go_read_address)
+	toNew          = (*[0]byte)(C.ipnetwork_go_new)
+	toPrefixOfMask = (*[0]byte)(C.ipnetwork_go_prefix_of_mask)
+)
+
+// A Fault says why there is no network, or no result.
 type Fault uint32
 
 // The faults that a caller can meet.
 const (
 	// Format: the text holds two or more slashes.
 	Format Fault = C.IPNETWORK_FORMAT
-	// Address: no address before the slash; of Parse, no network of either family, whatever is wrong with the text.
+	// Address: what stands before the slash, or the whole text if it has none, is no address.
 	Address Fault = C.IPNETWORK_ADDRESS
-	// Prefix: the prefix length is none of the family.
+	// Prefix: the prefix length, or what stands for it after the slash, is none of the family.
 	Prefix Fault = C.IPNETWORK_PREFIX
 	// NoRoom: there is room for fewer answers than there are rows.
 	NoRoom Fault = C.IPNETWORK_SHORT_BUFFER
@@ -56,7 +84,7 @@ func (fault Fault) Error() string {
 	case Format:
 		return "more than one slash"
 	case Address:
-		return "no address before the slash, or no network of either family"
+		return "no address"
 	case Prefix:
 		return "no prefix length of the family"
 	case NoRoom:
@@ -73,10 +101,6 @@ func (fault Fault) Error() string {
 	return "fault of a later library"
 }
 
-// A Network of either family. Networks are equal by == if address and prefix length are. The zero Network is no network:
-// it has no members, and its text is empty.
-type Network struct{ held C.ipnetwork_ip }
-
 func faultOf(number C.ipnetwork_fault) error {
 	if number == C.IPNETWORK_OK {
 		return nil
@@ -84,48 +108,66 @@ func faultOf(number C.ipnetwork_fault) error {
 	return Fault(number)
 }
 
-func networkOf(told C.network_or_fault) (Network, error) {
-	if told.fault != C.IPNETWORK_OK {
-		return Network{}, Fault(told.fault)
+// A Network of either family. Networks are equal by == if address and prefix length are. The zero Network is no network:
+// it has no members, and its text is empty.
+type Network struct{ held C.ipnetwork_ip }
+
+func networkOf(held C.ipnetwork_ip, fault C.ipnetwork_fault) (Network, error) {
+	if fault != C.IPNETWORK_OK {
+		return Network{}, Fault(fault)
 	}
-	return Network{told.network}, nil
+	return Network{held}, nil
 }
 
-// given is the address as the library takes it; one with a zone, or none, is of neither family.
-func given(address netip.Addr) (C.ipnetwork_address, bool) {
-	var held C.ipnetwork_address
-	switch {
-	case !address.IsValid() || address.Zone() != "":
-		return held, false
-	case address.Is4():
-		octets := address.As4()
-		copy((*[16]byte)(unsafe.Pointer(&held.octets))[:], octets[:])
+// give writes an address as the library takes it. One with a zone, or none, is of neither family, and is not written.
+func give(address netip.Addr, held *C.ipnetwork_address) bool {
+	if address.Is4() {
+		*(*[4]byte)(unsafe.Pointer(&held.octets)) = address.As4()
 		held.length = 4
-	default:
-		*(*[16]byte)(unsafe.Pointer(&held.octets)) = address.As16()
-		held.length = 16
+		return true
 	}
-	return held, true
+	if !address.IsValid() || address.Zone() != "" {
+		return false
+	}
+	*(*[16]byte)(unsafe.Pointer(&held.octets)) = address.As16()
+	held.length = 16
+	return true
 }
 
-func taken(held C.ipnetwork_address) netip.Addr {
-	octets := *(*[16]byte)(unsafe.Pointer(&held.octets))
+func taken(held *C.ipnetwork_address) netip.Addr {
 	if held.length == 4 {
-		return netip.AddrFrom4([4]byte{octets[0], octets[1], octets[2], octets[3]})
+		return netip.AddrFrom4(*(*[4]byte)(unsafe.Pointer(&held.octets)))
 	}
-	return netip.AddrFrom16(octets)
+	return netip.AddrFrom16(*(*[16]byte)(unsafe.Pointer(&held.octets)))
 }
 
 // addressOf is the zero netip.Addr if there is a fault.
-func addressOf(told C.address_or_fault) netip.Addr {
-	if told.fault != C.IPNETWORK_OK {
+func addressOf(held *C.ipnetwork_address, fault C.ipnetwork_fault) netip.Addr {
+	if fault != C.IPNETWORK_OK {
 		return netip.Addr{}
 	}
-	return taken(told.address)
+	return taken(held)
 }
 
-// Parse gives the network that a text names, of the family that the text has; any other text is Address.
-func Parse(text string) (Network, error) { return networkOf(C.read_string(text)) }
+// giveText writes a text of at most 64 bytes.
+func giveText(text string, call *C.text_call) {
+	copy((*[C.LONGEST_TEXT]byte)(unsafe.Pointer(&call.text))[:], text)
+	call.length = C.size_t(len(text))
+}
+
+// Parse gives the network that a text names, of the family that the text has. Of any other text the error is the cause:
+// Format if it has two slashes or more, else Address if what stands before the slash, or the whole text if it has none, is
+// an address of neither family, else Prefix.
+func Parse(text string) (Network, error) {
+	if len(text) > C.LONGEST_TEXT {
+		call := C.read_long(strings.Clone(text)) // of which cgo lets the copy alone escape
+		return networkOf(call.network, call.fault)
+	}
+	var call C.text_call
+	giveText(text, &call)
+	callText(toRead, &call)
+	return networkOf(call.network, call.fault)
+}
 
 // MustParse is Parse, and panics if the text names no network.
 func MustParse(text string) Network {
@@ -138,21 +180,29 @@ func MustParse(text string) Network {
 
 // ParseAddr gives the address that a text names; any other text, with a slash or a zone, is Address.
 func ParseAddr(text string) (netip.Addr, error) {
-	told := C.read_address_string(text)
-	return addressOf(told), faultOf(told.fault)
+	if len(text) > C.LONGEST_TEXT {
+		call := C.read_long_address(strings.Clone(text))
+		return addressOf(&call.address, call.fault), faultOf(call.fault)
+	}
+	var call C.text_call
+	giveText(text, &call)
+	callText(toReadAddress, &call)
+	return addressOf(&call.address, call.fault), faultOf(call.fault)
 }
 
 // New gives the network of this address, host bits kept, and this prefix length; Prefix past the width, and NoFamily if
 // the address has a zone.
 func New(address netip.Addr, prefix int) (Network, error) {
-	held, ok := given(address)
-	if !ok {
+	var call C.address_call
+	if !give(address, &call.address) {
 		return Network{}, NoFamily
 	}
 	if prefix < 0 || prefix > 255 {
 		return Network{}, Prefix
 	}
-	return networkOf(C.new_network(held, C.uint8_t(prefix)))
+	call.prefix = C.uint8_t(prefix)
+	callAddress(toNew, &call)
+	return networkOf(call.network, call.fault)
 }
 
 // FromPrefix gives the network of a netip.Prefix, host bits kept.
@@ -160,12 +210,12 @@ func FromPrefix(prefix netip.Prefix) (Network, error) { return New(prefix.Addr()
 
 // PrefixOfMask gives the prefix length of a mask; NoMask if the address is none.
 func PrefixOfMask(mask netip.Addr) (int, error) {
-	held, ok := given(mask)
-	if !ok {
+	var call C.address_call
+	if !give(mask, &call.address) {
 		return 0, NoFamily
 	}
-	told := C.prefix_of_mask(held)
-	return int(told.value), faultOf(told.fault)
+	callAddress(toPrefixOfMask, &call)
+	return int(call.prefix), faultOf(call.fault)
 }
 
 // Prefix gives the network as a netip.Prefix, host bits kept.
@@ -195,91 +245,3 @@ func (network Network) Bits() int {
 
 // Is4 reports whether it is an IPv4 network.
 func (network Network) Is4() bool { return network.held.family == 4 }
-
-// String gives the canonical text.
-func (network Network) String() string {
-	told := C.network_text(network.held)
-	if told.fault != C.IPNETWORK_OK {
-		return ""
-	}
-	return string((*[C.IPNETWORK_V6_TEXT]byte)(unsafe.Pointer(&told.bytes))[:told.length])
-}
-
-// MarshalText gives the canonical text, as encoding.TextMarshaler has it; NoFamily of the zero Network.
-func (network Network) MarshalText() ([]byte, error) {
-	if network.Bits() < 0 {
-		return nil, NoFamily
-	}
-	return []byte(network.String()), nil
-}
-
-// UnmarshalText reads a text, as encoding.TextUnmarshaler has it.
-func (network *Network) UnmarshalText(text []byte) error {
-	read, err := Parse(string(text))
-	if err == nil {
-		*network = read
-	}
-	return err
-}
-
-// Contains reports whether an address is a member of the network. No address of the other family is, and none with a zone.
-func (network Network) Contains(address netip.Addr) bool {
-	held, ok := given(address)
-	return ok && C.network_contains(network.held, held).value == 1
-}
-
-// Network gives the least member: the address with its host bits cleared.
-func (network Network) Network() netip.Addr { return addressOf(C.network_least(network.held)) }
-
-// Broadcast gives the greatest member: the address with its host bits set.
-func (network Network) Broadcast() netip.Addr { return addressOf(C.network_greatest(network.held)) }
-
-// Mask gives the mask of the prefix length.
-func (network Network) Mask() netip.Addr { return addressOf(C.network_mask(network.held)) }
-
-// Size gives the number of members, 0 of the zero Network.
-func (network Network) Size() *big.Int {
-	told := C.network_size(network.held)
-	return new(big.Int).SetBytes((*[17]byte)(unsafe.Pointer(&told.octets))[:])
-}
-
-// Nth gives the member number n in order, counted from 0; NoMember if there is none.
-func (network Network) Nth(n *big.Int) (netip.Addr, error) {
-	if n.Sign() < 0 || n.BitLen() > 128 {
-		return netip.Addr{}, NoMember
-	}
-	var number C.ipnetwork_address
-	n.FillBytes((*[16]byte)(unsafe.Pointer(&number.octets))[:])
-	told := C.network_nth(network.held, number)
-	return addressOf(told), faultOf(told.fault)
-}
-
-// SubnetAt gives the block number n of this prefix length within the network, counted from 0 in ascending order; Prefix if
-// the prefix length is less than the network's, or past the width, and NoMember if there is no such block.
-func (network Network) SubnetAt(prefix int, n *big.Int) (Network, error) {
-	if prefix < 0 || prefix > 255 {
-		return Network{}, Prefix
-	}
-	if n.Sign() < 0 || n.BitLen() > 128 {
-		return Network{}, NoMember
-	}
-	var number C.ipnetwork_address
-	n.FillBytes((*[16]byte)(unsafe.Pointer(&number.octets))[:])
-	return networkOf(C.network_subnet_at(network.held, C.uint8_t(prefix), number))
-}
-
-// IsSubnetOf reports whether each member of this network is a member of the other; false if the families differ.
-func (network Network) IsSubnetOf(other Network) bool {
-	return C.network_is_subnet_of(network.held, other.held).value == 1
-}
-
-// Overlaps reports whether some address is a member of both.
-func (network Network) Overlaps(other Network) bool {
-	return C.network_overlaps(network.held, other.held).value == 1
-}
-
-// Compare is -1 if this network comes first, by family, address and prefix length, 1 if the other does, and 0 if they are
-// equal, or one of them is the zero Network.
-func (network Network) Compare(other Network) int {
-	return int(C.network_compare(network.held, other.held).value)
-}

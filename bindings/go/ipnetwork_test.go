@@ -48,9 +48,11 @@ func TestRows(t *testing.T) {
 	equal(t, "no member past 32 bits", err, NoMember)
 	last, err := MustParse("::/0").Nth(new(big.Int).Sub(new(big.Int).Lsh(big.NewInt(1), 128), big.NewInt(1)))
 	equal(t, "last", fmt.Sprint(last, err), "ffff:ffff:ffff:ffff:ffff:ffff:ffff:ffff <nil>")
-	for _, text := range []string{"", "x/y/z", "10.0.0.0/33", "::1/129", "fe80::1%eth0/64", "1.2.3.4\x00", "10/8"} {
+	for text, cause := range map[string]Fault{"": Address, "10/8": Address, "/8": Address, "fe80::1%eth0/64": Address,
+		"1.2.3.4\x00": Address, "x/y/z": Format, "10.0.0.0/8/8": Format, "10.0.0.0/33": Prefix, "10.0.0.0/": Prefix,
+		"::1/129": Prefix, "::1/255.0.0.0": Prefix, "10.0.0.0/ffff::": Prefix} {
 		_, err := Parse(text)
-		equal(t, text, err, Address)
+		equal(t, text, err, cause)
 	}
 	address, err := ParseAddr("2001:DB8::1")
 	equal(t, "an address", fmt.Sprint(address, err), "2001:db8::1 <nil>")
@@ -96,6 +98,23 @@ func TestJSON(t *testing.T) {
 	equal(t, "read", json.Unmarshal(text, &read), nil)
 	equal(t, "read", read["net"], MustParse("10.1.9.32/16"))
 	equal(t, "refused", json.Unmarshal([]byte(`{"net":"10.1"}`), &read) != nil, true)
+}
+
+// The zero Network in JSON, as a value and as a key, beside the zero netip.Prefix.
+func TestZeroJSON(t *testing.T) {
+	text, err := json.Marshal(map[Network][]Network{{}: {{}, MustParse("::/0")}})
+	peer, _ := json.Marshal(map[netip.Prefix][]netip.Prefix{{}: {{}, netip.MustParsePrefix("::/0")}})
+	equal(t, "written", fmt.Sprintf("%s %v", text, err), fmt.Sprintf("%s %v", peer, nil))
+	equal(t, "written", string(text), `{"":["","::/0"]}`)
+	read := map[Network][]Network{}
+	equal(t, "read", json.Unmarshal(text, &read), nil)
+	equal(t, "read", fmt.Sprint(len(read), read[Network{}]), fmt.Sprint(1, []Network{{}, MustParse("::/0")}))
+	network := MustParse("10.0.0.0/8")
+	equal(t, "read over another", fmt.Sprint(network.UnmarshalText(nil), network == Network{}), "<nil> true")
+	network = MustParse("10.0.0.0/8")
+	equal(t, "refused", network.UnmarshalText([]byte("10/8")), Address)
+	equal(t, "left as it was", network, MustParse("10.0.0.0/8"))
+	equal(t, "appended", string(Network{}.AppendTo(network.AppendTo([]byte("in ")))), "in 10.0.0.0/8")
 }
 
 func number(random *rand.Rand) (octets [16]byte) {
@@ -179,175 +198,6 @@ func sign(order int) int {
 	return 0
 }
 
-// texts is a column of random texts, some of them of no address, and each by itself.
-func texts(random *rand.Rand, count int) (whole []byte, offsets []uint32, each []string) {
-	offsets = append(offsets, 0)
-	for row := 0; row < count; row++ {
-		a, _ := pair(random, row%2 == 0)
-		text := a.String()
-		if row%5 == 0 {
-			text = text[:random.Intn(len(text)+1)]
-		}
-		each, whole = append(each, text), append(whole, text...)
-		offsets = append(offsets, uint32(len(whole)))
-	}
-	return whole, offsets, each
-}
-
-func TestColumns(t *testing.T) {
-	random := rand.New(rand.NewSource(31))
-	whole, offsets, each := texts(random, 1000)
-	addresses, err := ParseAddrColumn(whole, offsets)
-	equal(t, "read", err, nil)
-	networks, faults, err := ParseColumn(whole, offsets)
-	equal(t, "read", err, nil)
-	for row, text := range each {
-		one, err := netip.ParseAddr(text)
-		equal(t, text, addresses[row], one)
-		equal(t, text, faults[row] == 0, err == nil)
-		if err == nil {
-			equal(t, text, networks[row].Prefix(), netip.PrefixFrom(one, one.BitLen()))
-		} else {
-			equal(t, text, networks[row], Network{})
-		}
-	}
-	for _, text := range []string{"0.0.0.0/1", "128.0.0.0/2", "::/1", "8000::/2"} {
-		network := MustParse(text)
-		for row, answer := range network.ContainsEach(addresses) {
-			equal(t, text, answer, network.Contains(addresses[row]))
-		}
-	}
-	for _, wrong := range [][]uint32{{2, 1}, {0, uint32(len(whole)) + 1}} {
-		_, _, err = ParseColumn(whole, wrong)
-		equal(t, "offsets", err, NoOffsets)
-	}
-	none, err := ParseAddrColumn(nil, nil)
-	equal(t, "no offsets", fmt.Sprint(none, err), "[] <nil>")
-	answers := make([]byte, 1)
-	equal(t, "no room", MustParse("::/0").ContainsColumn(make([]byte, 32), answers), NoRoom)
-	equal(t, "a part of an address", MustParse("::/0").ContainsColumn(make([]byte, 17), answers), NoFamily)
-}
-
-func TestSets(t *testing.T) {
-	halves := []Network{MustParse("10.128.0.0/9"), MustParse("2001:db8::/32"), MustParse("10.0.0.0/9"), MustParse("10.1.9.32/16")}
-	blocks, err := Aggregate(halves)
-	equal(t, "aggregate", fmt.Sprint(blocks, err), "[10.0.0.0/8 2001:db8::/32] <nil>")
-	one, _ := NewSet(halves[:1])
-	other, _ := NewSet(halves[1:])
-	both, err := one.Union(other)
-	equal(t, "union", fmt.Sprint(both.Networks(), err), "[10.0.0.0/8 2001:db8::/32] <nil>")
-	for text, wanted := range map[string]bool{"10.255.0.0": true, "11.0.0.0": false, "2001:db8::1": true, "2001:db9::": false} {
-		equal(t, text, both.Contains(netip.MustParseAddr(text)), wanted)
-	}
-}
-
-// blocksWithin256 gives random networks of both families within 256 addresses, and which of these they have.
-func blocksWithin256(random *rand.Rand, count int) ([]Network, [256]bool) {
-	var networks []Network
-	var has [256]bool
-	for i := 0; i < count; i++ {
-		host, bits := byte(random.Intn(256)), random.Intn(7)
-		four, _ := New(netip.AddrFrom4([4]byte{192, 0, 2, host}), 32-bits)
-		six, _ := New(netip.AddrFrom16([16]byte{0x20, 1, 15: host}), 128-bits)
-		networks = append(networks, four, six)
-		low := int(host) >> bits << bits
-		for address := low; address < low+1<<bits; address++ {
-			has[address] = true
-		}
-	}
-	return networks, has
-}
-
-func TestOperationsOnSets(t *testing.T) {
-	random := rand.New(rand.NewSource(7))
-	for round := 0; round < 300; round++ {
-		first, inFirst := blocksWithin256(random, round%9)
-		second, inSecond := blocksWithin256(random, round/9%9)
-		one, _ := NewSet(first)
-		other, _ := NewSet(second)
-		union, err := one.Union(other)
-		equal(t, "union", err, nil)
-		common, err := one.Intersection(other)
-		equal(t, "intersection", err, nil)
-		left, err := one.Difference(other)
-		equal(t, "difference", err, nil)
-		for host := 0; host < 256; host++ {
-			for _, address := range []netip.Addr{netip.AddrFrom4([4]byte{192, 0, 2, byte(host)}), netip.AddrFrom16([16]byte{0x20, 1, 15: byte(host)})} {
-				equal(t, "union", union.Contains(address), inFirst[host] || inSecond[host])
-				equal(t, "intersection", common.Contains(address), inFirst[host] && inSecond[host])
-				equal(t, "difference", left.Contains(address), inFirst[host] && !inSecond[host])
-			}
-		}
-		for _, set := range []Set{union, common, left} {
-			again, err := Aggregate(set.Networks())
-			equal(t, "fewest", fmt.Sprint(again, err), fmt.Sprint(set.Networks(), nil))
-		}
-	}
-	var none Set
-	empty, err := none.Union(none)
-	equal(t, "none", fmt.Sprint(empty.Networks(), err), "[] <nil>")
-}
-
-// Tables of random networks: of each address the last network of the greatest prefix length that has it.
-func TestTables(t *testing.T) {
-	random := rand.New(rand.NewSource(31))
-	for round := 0; round < 100; round++ {
-		networks, _ := blocksWithin256(random, round%20)
-		table, err := NewTable(networks)
-		equal(t, "table", err, nil)
-		var addresses []netip.Addr
-		for host := 0; host < 256; host++ {
-			addresses = append(addresses, netip.AddrFrom4([4]byte{192, 0, 2, byte(host)}), netip.AddrFrom16([16]byte{0x20, 1, 15: byte(host)}))
-		}
-		addresses = append(addresses, netip.Addr{}, netip.MustParseAddr("2001::1%eth0"))
-		found := table.FindEach(addresses)
-		for row, address := range addresses {
-			wanted := -1
-			for number, network := range networks {
-				if network.Contains(address) && (wanted < 0 || network.Bits() >= networks[wanted].Bits()) {
-					wanted = number
-				}
-			}
-			equal(t, "found", found[row], wanted)
-			equal(t, "found", table.Find(address), wanted)
-		}
-	}
-	_, err := NewTable([]Network{MustParse("::/0"), {}})
-	equal(t, "zero", err, NoFamily)
-	var none Table
-	equal(t, "none", none.Find(netip.MustParseAddr("10.0.0.1")), -1)
-}
-
-func TestPrintColumn(t *testing.T) {
-	for _, each := range [][]string{{}, {"10.1.9.32/16", "0.0.0.0/0"}, {"2001:db8::1/32", "::/0", "::ffff:1.2.3.4/128"}, {"::/0", "0.0.0.0/0", "10.1.9.32/16"}} {
-		var networks []Network
-		for _, text := range each {
-			networks = append(networks, MustParse(text))
-		}
-		texts, offsets, err := PrintColumn(networks)
-		equal(t, "printed", err, nil)
-		equal(t, "printed", len(offsets), len(each)+1)
-		for row, text := range each {
-			equal(t, text, string(texts[offsets[row]:offsets[row+1]]), text)
-		}
-		again, _, err := ParseColumn(texts, offsets)
-		equal(t, "read", fmt.Sprint(again, err), fmt.Sprint(networks, nil))
-	}
-	for _, wrong := range [][]Network{{MustParse("::/0"), {}}, {{}}} {
-		_, _, err := PrintColumn(wrong)
-		equal(t, "families", err, NoFamily)
-	}
-	addresses := []netip.Addr{netip.MustParseAddr("10.1.9.32"), netip.MustParseAddr("::1"), netip.MustParseAddr("2001:db8::1:0:0:1")}
-	whole, offsets, err := PrintAddrColumn(addresses)
-	equal(t, "printed", fmt.Sprint(string(whole), offsets, err), "10.1.9.32::12001:db8::1:0:0:1[0 9 12 29] <nil>")
-	none, offsets, err := PrintAddrColumn(nil)
-	equal(t, "printed", fmt.Sprint(none, offsets, err), "[] [0] <nil>")
-	for _, wrong := range []netip.Addr{{}, netip.MustParseAddr("fe80::1%eth0")} {
-		_, _, err := PrintAddrColumn([]netip.Addr{wrong})
-		equal(t, "no address", err, NoFamily)
-	}
-}
-
 func TestSubnets(t *testing.T) {
 	network, err := MustParse("10.0.0.9/8").SubnetAt(16, big.NewInt(255))
 	equal(t, "subnet", fmt.Sprint(network, err), "10.255.0.0/16 <nil>")
@@ -361,59 +211,4 @@ func TestSubnets(t *testing.T) {
 	}
 	_, err = Network{}.SubnetAt(8, big.NewInt(0))
 	equal(t, "no network", err, NoFamily)
-}
-
-var sink bool
-
-func BenchmarkContains(b *testing.B) {
-	network, address := MustParse("10.1.9.32/16"), netip.MustParseAddr("10.1.255.255")
-	b.ReportAllocs()
-	for i := 0; i < b.N; i++ {
-		sink = network.Contains(address)
-	}
-}
-
-func BenchmarkContainsOfNetip(b *testing.B) {
-	prefix, address := netip.MustParsePrefix("10.1.9.32/16"), netip.MustParseAddr("10.1.255.255")
-	for i := 0; i < b.N; i++ {
-		sink = prefix.Contains(address)
-	}
-}
-
-func BenchmarkParse(b *testing.B) {
-	b.ReportAllocs()
-	for i := 0; i < b.N; i++ {
-		network, _ := Parse("2001:db8:47::1/64")
-		sink = network.Is4()
-	}
-}
-
-func BenchmarkParseOfNetip(b *testing.B) {
-	for i := 0; i < b.N; i++ {
-		prefix, _ := netip.ParsePrefix("2001:db8:47::1/64")
-		sink = prefix.Addr().Is4()
-	}
-}
-
-// A row of each of these is one address.
-func BenchmarkContainsColumn(b *testing.B) {
-	network, column, answers := MustParse("10.1.9.32/16"), make([]byte, 4*b.N), make([]byte, b.N)
-	b.ResetTimer()
-	_ = network.ContainsColumn(column, answers)
-}
-
-func BenchmarkParseAddrColumn(b *testing.B) {
-	whole, offsets, _ := texts(rand.New(rand.NewSource(1)), b.N)
-	b.ResetTimer()
-	addresses, _ := ParseAddrColumn(whole, offsets)
-	sink = len(addresses) == 0
-}
-
-func BenchmarkParseAddrsOfNetip(b *testing.B) {
-	_, _, each := texts(rand.New(rand.NewSource(1)), b.N)
-	b.ResetTimer()
-	for _, text := range each {
-		address, _ := netip.ParseAddr(text)
-		sink = address.Is4()
-	}
 }

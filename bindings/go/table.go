@@ -1,14 +1,20 @@
+//go:build linux && amd64
+
 package ipnetwork
 
 // #include "calls.h"
 import "C"
 
-import "net/netip"
+import (
+	"net/netip"
+	"unsafe"
+)
+
+var toFind = (*[0]byte)(C.ipnetwork_go_find)
 
 // A Table is networks of either family in the order in which they are searched. It finds the longest one that has an address.
 type Table struct {
-	fours       []C.ipnetwork_v4
-	sixes       []C.ipnetwork_v6
+	lists
 	fourNumbers []int
 	sixNumbers  []int
 }
@@ -45,7 +51,7 @@ func NewTable(networks []Network) (Table, error) {
 			return Table{}, NoFamily
 		}
 	}
-	table := Table{fours: make([]C.ipnetwork_v4, len(fours)), sixes: make([]C.ipnetwork_v6, len(sixes))}
+	table := Table{lists: lists{fours: make([]C.ipnetwork_v4, len(fours)), sixes: make([]C.ipnetwork_v6, len(sixes))}}
 	places, count := make([]C.size_t, len(fours)), C.size_t(len(fours))
 	if number := C.ipnetwork_v4_table_make(fourth(fours), count, fourth(table.fours), count, sizes(places), count); number != C.IPNETWORK_OK {
 		return Table{}, Fault(number)
@@ -61,41 +67,62 @@ func NewTable(networks []Network) (Table, error) {
 
 // Find returns which of the networks, counted from 0, is the longest one that has an address: the last one, if some have the
 // same block. The number is -1 if none has it, as none has an address with a zone.
-func (table Table) Find(address netip.Addr) int { return table.FindEach([]netip.Addr{address})[0] }
+func (table Table) Find(address netip.Addr) int {
+	told := table.search(toFind, address)
+	switch {
+	case told.fault != C.IPNETWORK_OK:
+		return -1
+	case address.Is4():
+		return table.fourNumbers[told.place]
+	}
+	return table.sixNumbers[told.place]
+}
 
-// FindEach returns the same for each address, by one call for each family.
-func (table Table) FindEach(addresses []netip.Addr) []int {
-	numbers := make([]int, len(addresses))
-	var fours, sixes []byte
-	var fourRows, sixRows []int
-	for row, address := range addresses {
-		numbers[row] = -1
-		if address.Zone() != "" {
-			continue
-		}
-		if address.Is4() {
-			octets := address.As4()
-			fours, fourRows = append(fours, octets[:]...), append(fourRows, row)
-		} else if address.Is6() {
-			octets := address.As16()
-			sixes, sixRows = append(sixes, octets[:]...), append(sixRows, row)
+// FindColumn writes to numbers what Find returns for each address of a column, by one call for each 4,096 of them. The
+// column has packed addresses of one family, one after the other, of length octets each: 4 or 16. NoFamily for another
+// length, and if the column ends within an address; NoRoom if there are fewer numbers than addresses: then nothing is
+// written.
+func (table Table) FindColumn(packed []byte, length int, numbers []int) error {
+	if length != 4 && length != 16 || len(packed)%length != 0 {
+		return NoFamily
+	}
+	rows := len(packed) / length
+	if len(numbers) < rows {
+		return NoRoom
+	}
+	faults := make([]byte, least(rows, 4096))
+	for from := 0; from < rows; {
+		count := least(rows-from, len(faults))
+		table.findRows(packed[from*length:(from+count)*length], length, numbers[from:from+count], faults[:count])
+		from += count
+	}
+	return nil
+}
+
+func least(one, other int) int {
+	if one < other {
+		return one
+	}
+	return other
+}
+
+// findRows is FindColumn of as many addresses as there are numbers and faults.
+func (table *Table) findRows(packed []byte, length int, numbers []int, faults []byte) {
+	places, told, count := (*C.size_t)(unsafe.Pointer(&numbers[0])), (*C.uint8_t)(first(faults)), C.size_t(len(numbers))
+	among := table.fourNumbers
+	if length == 4 {
+		C.ipnetwork_v4_table_find_column(fourth(table.fours), C.size_t(len(table.fours)), (*C.uint8_t)(first(packed)), count,
+			places, count, told, count)
+	} else {
+		among = table.sixNumbers
+		C.ipnetwork_v6_table_find_column(sixth(table.sixes), C.size_t(len(table.sixes)), (*C.uint8_t)(first(packed)), count,
+			places, count, told, count)
+	}
+	for row, fault := range faults {
+		if fault == C.IPNETWORK_OK {
+			numbers[row] = among[numbers[row]]
+		} else {
+			numbers[row] = -1
 		}
 	}
-	indexes, told, count := make([]C.size_t, len(fourRows)), make([]byte, len(fourRows)), C.size_t(len(fourRows))
-	C.ipnetwork_v4_table_find_column(fourth(table.fours), C.size_t(len(table.fours)), (*C.uint8_t)(first(fours)), count,
-		sizes(indexes), count, (*C.uint8_t)(first(told)), count)
-	for place, row := range fourRows {
-		if told[place] == C.IPNETWORK_OK {
-			numbers[row] = table.fourNumbers[indexes[place]]
-		}
-	}
-	indexes, told, count = make([]C.size_t, len(sixRows)), make([]byte, len(sixRows)), C.size_t(len(sixRows))
-	C.ipnetwork_v6_table_find_column(sixth(table.sixes), C.size_t(len(table.sixes)), (*C.uint8_t)(first(sixes)), count,
-		sizes(indexes), count, (*C.uint8_t)(first(told)), count)
-	for place, row := range sixRows {
-		if told[place] == C.IPNETWORK_OK {
-			numbers[row] = table.sixNumbers[indexes[place]]
-		}
-	}
-	return numbers
 }

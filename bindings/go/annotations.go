@@ -1,0 +1,44 @@
+//go:build linux && amd64 && go1.24
+
+package ipnetwork
+
+// From Go 1.24 on cgo is told that these functions keep no pointer and call nothing of Go, so that what their callers pass
+// may lie on the stack.
+
+/*
+#cgo noescape ipnetwork_v4_contains_column
+#cgo nocallback ipnetwork_v4_contains_column
+#cgo noescape ipnetwork_v6_contains_column
+#cgo nocallback ipnetwork_v6_contains_column
+#cgo noescape ipnetwork_read_with_cause_column
+#cgo nocallback ipnetwork_read_with_cause_column
+#cgo noescape ipnetwork_address_read_column
+#cgo nocallback ipnetwork_address_read_column
+#cgo noescape ipnetwork_print_column
+#cgo nocallback ipnetwork_print_column
+#cgo noescape ipnetwork_address_print_column
+#cgo nocallback ipnetwork_address_print_column
+#cgo noescape ipnetwork_v4_table_make
+#cgo nocallback ipnetwork_v4_table_make
+#cgo noescape ipnetwork_v6_table_make
+#cgo nocallback ipnetwork_v6_table_make
+#cgo noescape ipnetwork_v4_table_find_column
+#cgo nocallback ipnetwork_v4_table_find_column
+#cgo noescape ipnetwork_v6_table_find_column
+#cgo nocallback ipnetwork_v6_table_find_column
+#cgo noescape ipnetwork_v4_index_make
+#cgo nocallback ipnetwork_v4_index_make
+#cgo noescape ipnetwork_v6_index_make
+#cgo nocallback ipnetwork_v6_index_make
+#cgo noescape ipnetwork_v4_aggregate
+#cgo nocallback ipnetwork_v4_aggregate
+#cgo noescape ipnetwork_v6_aggregate
+#cgo nocallback ipnetwork_v6_aggregate
+#cgo noescape ipnetwork_go_search_each
+#cgo nocallback ipnetwork_go_search_each
+#cgo noescape ipnetwork_go_operate_v4
+#cgo nocallback ipnetwork_go_operate_v4
+#cgo noescape ipnetwork_go_operate_v6
+#cgo nocallback ipnetwork_go_operate_v6
+*/
+import "C"

@@ -1,0 +1,17 @@
+//go:build linux && amd64 && go1.24 && !ipnetwork_direct
+
+package ipnetwork
+
+// The same of the functions that are called by cgo unless the tag ipnetwork_direct is given.
+
+/*
+#cgo noescape ipnetwork_go_of_address
+#cgo nocallback ipnetwork_go_of_address
+#cgo noescape ipnetwork_go_of_network
+#cgo nocallback ipnetwork_go_of_network
+#cgo noescape ipnetwork_go_of_text
+#cgo nocallback ipnetwork_go_of_text
+#cgo noescape ipnetwork_go_search
+#cgo nocallback ipnetwork_go_search
+*/
+import "C"

@@ -1,0 +1,179 @@
+//go:build linux && amd64
+
+#include "calls.h"
+
+void ipnetwork_go_read(text_call *call) {
+    call->fault = ipnetwork_read_with_cause(call->text, call->length, &call->network);
+}
+
+void ipnetwork_go_read_address(text_call *call) {
+    call->fault = ipnetwork_address_read(call->text, call->length, &call->address);
+}
+
+void ipnetwork_go_text(text_call *call) {
+    call->fault = ipnetwork_canonical(&call->network, call->text, sizeof call->text, &call->length);
+}
+
+void ipnetwork_go_new(address_call *call) {
+    ipnetwork_ip *network = &call->network;
+    call->fault = call->address.length == 4 ? ipnetwork_v4_new(call->address.octets, call->prefix, &network->v4)
+                                            : ipnetwork_v6_new(call->address.octets, call->prefix, &network->v6);
+    if (call->fault == IPNETWORK_OK) network->family = call->address.length == 4 ? 4 : 6;
+}
+
+void ipnetwork_go_prefix_of_mask(address_call *call) {
+    call->fault = call->address.length == 4 ? ipnetwork_v4_prefix_of_mask(call->address.octets, &call->prefix)
+                                            : ipnetwork_v6_prefix_of_mask(call->address.octets, &call->prefix);
+}
+
+void ipnetwork_go_contains(address_call *call) {
+    call->fault = ipnetwork_contains(&call->network, call->address.octets, call->address.length, &call->answer);
+}
+
+void ipnetwork_go_is_subnet_of(network_call *call) {
+    call->fault = ipnetwork_is_subnet_of(&call->network, &call->other, &call->answer);
+}
+
+void ipnetwork_go_overlaps(network_call *call) {
+    call->fault = ipnetwork_overlaps(&call->network, &call->other, &call->answer);
+}
+
+void ipnetwork_go_compare(network_call *call) {
+    call->fault = ipnetwork_compare(&call->network, &call->other, &call->order);
+}
+
+void ipnetwork_go_least(address_call *call) { call->fault = ipnetwork_network(&call->network, &call->address); }
+
+void ipnetwork_go_greatest(address_call *call) { call->fault = ipnetwork_broadcast(&call->network, &call->address); }
+
+void ipnetwork_go_mask(address_call *call) { call->fault = ipnetwork_mask(&call->network, &call->address); }
+
+void ipnetwork_go_size(network_call *call) {
+    if (call->network.family == 4) {
+        uint64_t size = 0;
+        call->fault = ipnetwork_v4_size(&call->network.v4, &size);
+        for (int place = 16; place > 8; place--, size >>= 8) call->number[place] = (uint8_t)size;
+    } else if (call->network.family == 6) {
+        call->fault = ipnetwork_v6_size(&call->network.v6, call->number);
+    } else {
+        call->fault = IPNETWORK_NO_FAMILY;
+    }
+}
+
+/* Whether a number of 17 octets is below 2 to the power of 32, and then which it is. */
+static int is_short(const uint8_t number[17], uint32_t *told) {
+    const uint8_t *low = number + 13;
+    uint8_t high = 0;
+    for (int place = 0; place < 13; place++) high |= number[place];
+    *told = (uint32_t)low[0] << 24 | (uint32_t)low[1] << 16 | (uint32_t)low[2] << 8 | low[3];
+    return high == 0;
+}
+
+void ipnetwork_go_nth(network_call *call) {
+    uint32_t number;
+    if (call->network.family == 4) {
+        call->address.length = 4;
+        call->fault = is_short(call->number, &number) ? ipnetwork_v4_nth(&call->network.v4, number, call->address.octets)
+                                                      : IPNETWORK_NO_MEMBER;
+    } else if (call->network.family == 6) {
+        call->address.length = 16;
+        call->fault = ipnetwork_v6_nth(&call->network.v6, call->number + 1, call->address.octets);
+    } else {
+        call->fault = IPNETWORK_NO_FAMILY;
+    }
+}
+
+void ipnetwork_go_subnet_at(network_call *call) {
+    uint32_t number;
+    call->other.family = call->network.family;
+    if (call->network.family == 4) {
+        call->fault = is_short(call->number, &number)
+                          ? ipnetwork_v4_subnet_at(&call->network.v4, call->prefix, number, &call->other.v4)
+                          : IPNETWORK_NO_MEMBER;
+    } else if (call->network.family == 6) {
+        call->fault = ipnetwork_v6_subnet_at(&call->network.v6, call->prefix, call->number + 1, &call->other.v6);
+    } else {
+        call->fault = IPNETWORK_NO_FAMILY;
+    }
+}
+
+/* Of an address without octets the answer is left as it is. */
+static ipnetwork_fault contains(const both_lists *lists, const ipnetwork_address *address, uint8_t *answer) {
+    if (address->length == 4)
+        return ipnetwork_v4_index_contains(lists->fours, lists->four_count, lists->four_index, lists->four_index_length,
+                                           address->octets, answer);
+    if (address->length == 16)
+        return ipnetwork_v6_index_contains(lists->sixes, lists->six_count, lists->six_index, lists->six_index_length,
+                                           address->octets, answer);
+    return IPNETWORK_NO_FAMILY;
+}
+
+static ipnetwork_fault find(const both_lists *lists, const ipnetwork_address *address, size_t *place) {
+    if (address->length == 4)
+        return ipnetwork_v4_table_find(lists->fours, lists->four_count, address->octets, place);
+    if (address->length == 16)
+        return ipnetwork_v6_table_find(lists->sixes, lists->six_count, address->octets, place);
+    return IPNETWORK_NO_FAMILY;
+}
+
+void ipnetwork_go_set_contains(search_call *call) {
+    call->told.fault = contains(&call->lists, &call->address, &call->told.answer);
+}
+
+void ipnetwork_go_find(search_call *call) { call->told.fault = find(&call->lists, &call->address, &call->told.place); }
+
+address_call ipnetwork_go_of_address(void (*function)(address_call *call), address_call call) {
+    function(&call);
+    return call;
+}
+
+network_call ipnetwork_go_of_network(void (*function)(network_call *call), network_call call) {
+    function(&call);
+    return call;
+}
+
+text_call ipnetwork_go_of_text(void (*function)(text_call *call), text_call call) {
+    function(&call);
+    return call;
+}
+
+search_answer ipnetwork_go_search(void (*function)(search_call *call), const ipnetwork_v4 *fours, size_t four_count,
+                                  const uint32_t *four_index, size_t four_index_length, const ipnetwork_v6 *sixes,
+                                  size_t six_count, const uint32_t *six_index, size_t six_index_length,
+                                  ipnetwork_address address) {
+    search_call call = {
+        {fours, four_count, four_index, four_index_length, sixes, six_count, six_index, six_index_length}, address, {0, 0, 0}};
+    function(&call);
+    return call.told;
+}
+
+void ipnetwork_go_search_each(const ipnetwork_v4 *fours, size_t four_count, const uint32_t *four_index,
+                              size_t four_index_length, const ipnetwork_v6 *sixes, size_t six_count,
+                              const uint32_t *six_index, size_t six_index_length, const ipnetwork_address *addresses,
+                              size_t count, uint8_t *answers, int64_t *places) {
+    both_lists lists = {fours, four_count, four_index, four_index_length, sixes, six_count, six_index, six_index_length};
+    for (size_t row = 0; row < count; row++) {
+        uint8_t answer = 0;
+        size_t place = 0;
+        if (answers) {
+            (void)!contains(&lists, &addresses[row], &answer);
+            answers[row] = answer;
+        } else {
+            places[row] = find(&lists, &addresses[row], &place) == IPNETWORK_OK ? (int64_t)place : -1;
+        }
+    }
+}
+
+ipnetwork_fault ipnetwork_go_operate_v4(int operation, const ipnetwork_v4 *first, size_t first_count, const ipnetwork_v4 *second,
+                                        size_t second_count, ipnetwork_v4 *blocks, size_t room, size_t *count) {
+    if (operation == SET_UNION) return ipnetwork_v4_union(first, first_count, second, second_count, blocks, room, count);
+    if (operation == SET_INTERSECTION) return ipnetwork_v4_intersection(first, first_count, second, second_count, blocks, room, count);
+    return ipnetwork_v4_difference(first, first_count, second, second_count, blocks, room, count);
+}
+
+ipnetwork_fault ipnetwork_go_operate_v6(int operation, const ipnetwork_v6 *first, size_t first_count, const ipnetwork_v6 *second,
+                                        size_t second_count, ipnetwork_v6 *blocks, size_t room, size_t *count) {
+    if (operation == SET_UNION) return ipnetwork_v6_union(first, first_count, second, second_count, blocks, room, count);
+    if (operation == SET_INTERSECTION) return ipnetwork_v6_intersection(first, first_count, second, second_count, blocks, room, count);
+    return ipnetwork_v6_difference(first, first_count, second, second_count, blocks, room, count);
+}

@@ -1,0 +1,50 @@
+package ipnetwork_test
+
+import (
+	"encoding/json"
+	"fmt"
+	"ipnetwork"
+	"net/netip"
+)
+
+func ExampleParse() {
+	network, err := ipnetwork.Parse("10.1.9.32/255.255.0.0")
+	fmt.Println(network, err)
+	fmt.Println(network.Network(), network.Broadcast(), network.Contains(netip.MustParseAddr("10.1.255.255")))
+	_, err = ipnetwork.Parse("10/8")
+	fmt.Println(err == ipnetwork.Address)
+	// Output:
+	// 10.1.9.32/16 <nil>
+	// 10.1.0.0 10.1.255.255 true
+	// true
+}
+
+func ExampleNetwork_MarshalText() {
+	text, _ := json.Marshal([]ipnetwork.Network{ipnetwork.MustParse("2001:DB8::/32"), {}})
+	fmt.Println(string(text))
+	// Output: ["2001:db8::/32",""]
+}
+
+func ExampleSet() {
+	allowed, _ := ipnetwork.NewSet([]ipnetwork.Network{ipnetwork.MustParse("10.0.0.0/9"), ipnetwork.MustParse("10.128.0.0/9")})
+	denied, _ := ipnetwork.NewSet([]ipnetwork.Network{ipnetwork.MustParse("10.1.0.0/16")})
+	left, _ := allowed.Difference(denied)
+	fmt.Println(allowed.Networks(), left.Networks()[:2], left.Contains(netip.MustParseAddr("10.1.9.32")))
+	// Output: [10.0.0.0/8] [10.0.0.0/16 10.2.0.0/15] false
+}
+
+func ExampleTable() {
+	table, _ := ipnetwork.NewTable([]ipnetwork.Network{ipnetwork.MustParse("10.0.0.0/8"), ipnetwork.MustParse("10.1.0.0/16")})
+	fmt.Println(table.Find(netip.MustParseAddr("10.1.9.32")), table.Find(netip.MustParseAddr("10.2.0.1")))
+	fmt.Println(table.FindEach([]netip.Addr{netip.MustParseAddr("10.1.0.1"), netip.MustParseAddr("::1")}))
+	// Output:
+	// 1 0
+	// [1 -1]
+}
+
+func ExampleReadColumn() {
+	networks, faults := make([]ipnetwork.Network, 2), make([]byte, 2)
+	err := ipnetwork.ReadColumn([]byte("10.0.0.0/8no"), []uint32{0, 10, 12}, networks, faults)
+	fmt.Println(networks[0], faults, err)
+	// Output: 10.0.0.0/8 [0 2] <nil>
+}

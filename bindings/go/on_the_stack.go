@@ -1,0 +1,43 @@
+//go:build linux && amd64 && ipnetwork_direct
+
+package ipnetwork
+
+/*
+#cgo CFLAGS: -fno-builtin-memcpy -fno-builtin-memmove -fno-builtin-memset -fno-builtin-memcmp -fno-builtin-bcmp
+#include "calls.h"
+*/
+import "C"
+
+import (
+	"ipnetwork/internal/direct"
+	"net/netip"
+	"unsafe"
+)
+
+// A function of C is called on the stack of the goroutine that asks: package direct says what that rests on.
+
+func init() { C.ipnetwork_go_link() }
+
+func callAddress(function *[0]byte, call *C.address_call) {
+	direct.Call(unsafe.Pointer(function), unsafe.Pointer(call))
+}
+
+func callNetwork(function *[0]byte, call *C.network_call) {
+	direct.Call(unsafe.Pointer(function), unsafe.Pointer(call))
+}
+
+func callText(function *[0]byte, call *C.text_call) {
+	direct.Call(unsafe.Pointer(function), unsafe.Pointer(call))
+}
+
+// search is without an answer, and has a fault, if the address has a zone or is none.
+func (held *lists) search(function *[0]byte, address netip.Addr) C.search_answer {
+	call := C.search_call{lists: C.both_lists{fourth(held.fours), C.size_t(len(held.fours)), starts(held.fourIndex),
+		C.size_t(len(held.fourIndex)), sixth(held.sixes), C.size_t(len(held.sixes)), starts(held.sixIndex),
+		C.size_t(len(held.sixIndex))}}
+	if !give(address, &call.address) {
+		return C.search_answer{fault: C.IPNETWORK_NO_FAMILY}
+	}
+	direct.Call(unsafe.Pointer(function), unsafe.Pointer(&call))
+	return call.told
+}

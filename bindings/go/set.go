@@ -1,0 +1,108 @@
+//go:build linux && amd64
+
+package ipnetwork
+
+// #include "calls.h"
+import "C"
+
+import "net/netip"
+
+var toSearchSet = (*[0]byte)(C.ipnetwork_go_set_contains)
+
+// A Set is the addresses of networks of either family. It holds the fewest networks that have them, and an index of these.
+// The zero Set has none.
+type Set struct{ lists }
+
+// NewSet gives the addresses of networks, in any order, host bits or not; NoFamily if one is the zero Network.
+func NewSet(networks []Network) (Set, error) {
+	var set Set
+	for _, network := range networks {
+		switch network.held.family {
+		case 4:
+			set.fours = append(set.fours, network.held.v4)
+		case 6:
+			set.sixes = append(set.sixes, network.held.v6)
+		default:
+			return Set{}, NoFamily
+		}
+	}
+	err := set.aggregate()
+	return set, err
+}
+
+func (set *Set) aggregate() error {
+	var fours, sixes C.size_t
+	if number := C.ipnetwork_v4_aggregate(fourth(set.fours), C.size_t(len(set.fours)), &fours); number != C.IPNETWORK_OK {
+		return Fault(number)
+	}
+	if number := C.ipnetwork_v6_aggregate(sixth(set.sixes), C.size_t(len(set.sixes)), &sixes); number != C.IPNETWORK_OK {
+		return Fault(number)
+	}
+	set.fours, set.sixes = set.fours[:fours], set.sixes[:sixes]
+	return set.index()
+}
+
+// Union gives the addresses that one of the sets has, or both.
+func (set Set) Union(other Set) (Set, error) { return set.operate(C.SET_UNION, other) }
+
+// Intersection gives the addresses that both sets have.
+func (set Set) Intersection(other Set) (Set, error) { return set.operate(C.SET_INTERSECTION, other) }
+
+// Difference gives the addresses that this set has and the other has not.
+func (set Set) Difference(other Set) (Set, error) { return set.operate(C.SET_DIFFERENCE, other) }
+
+// operate asks once more if a difference has more blocks than both sets; no other operation does.
+func (set Set) operate(operation C.int, other Set) (Set, error) {
+	var made Set
+	for room := len(set.fours) + len(other.fours); ; {
+		var count C.size_t
+		made.fours = make([]C.ipnetwork_v4, room)
+		number := C.ipnetwork_go_operate_v4(operation, fourth(set.fours), C.size_t(len(set.fours)), fourth(other.fours),
+			C.size_t(len(other.fours)), fourth(made.fours), C.size_t(room), &count)
+		if number == C.IPNETWORK_OK {
+			made.fours = made.fours[:count]
+			break
+		} else if number != C.IPNETWORK_SHORT_BUFFER {
+			return Set{}, Fault(number)
+		}
+		room = int(count)
+	}
+	for room := len(set.sixes) + len(other.sixes); ; {
+		var count C.size_t
+		made.sixes = make([]C.ipnetwork_v6, room)
+		number := C.ipnetwork_go_operate_v6(operation, sixth(set.sixes), C.size_t(len(set.sixes)), sixth(other.sixes),
+			C.size_t(len(other.sixes)), sixth(made.sixes), C.size_t(room), &count)
+		if number == C.IPNETWORK_OK {
+			made.sixes = made.sixes[:count]
+			break
+		} else if number != C.IPNETWORK_SHORT_BUFFER {
+			return Set{}, Fault(number)
+		}
+		room = int(count)
+	}
+	err := made.index()
+	return made, err
+}
+
+// Networks gives the fewest networks that have these addresses: those of IPv4 first, in ascending order.
+func (set Set) Networks() []Network {
+	networks := make([]Network, 0, len(set.fours)+len(set.sixes))
+	for _, held := range set.fours {
+		networks = append(networks, Network{C.ipnetwork_ip{family: 4, v4: held}})
+	}
+	for _, held := range set.sixes {
+		networks = append(networks, Network{C.ipnetwork_ip{family: 6, v6: held}})
+	}
+	return networks
+}
+
+// Aggregate gives the fewest networks with the same addresses: those of IPv4 first, in ascending order.
+func Aggregate(networks []Network) ([]Network, error) {
+	set, err := NewSet(networks)
+	return set.Networks(), err
+}
+
+// Contains reports whether an address is one of the set, by a search in a few steps. No address with a zone is.
+func (set Set) Contains(address netip.Addr) bool {
+	return set.search(toSearchSet, address).answer == 1
+}

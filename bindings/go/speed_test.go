@@ -1,0 +1,198 @@
+package ipnetwork
+
+import (
+	"math/rand"
+	"net/netip"
+	"testing"
+)
+
+// Each measurement is of one question, or of one row of a column; those of net/netip stand beside them.
+
+var (
+	sink     bool
+	four     = netip.MustParsePrefix("10.1.9.32/16")
+	six      = netip.MustParsePrefix("2001:db8:47::1/48")
+	oneFour  = netip.MustParseAddr("10.1.255.255")
+	oneSix   = netip.MustParseAddr("2001:db8:47::9")
+	fourText = four.String()
+	sixText  = six.String()
+)
+
+func benchContains(b *testing.B, prefix netip.Prefix, address netip.Addr) {
+	network, _ := FromPrefix(prefix)
+	b.ReportAllocs()
+	for i := 0; i < b.N; i++ {
+		sink = network.Contains(address)
+	}
+}
+
+func benchContainsOfNetip(b *testing.B, prefix netip.Prefix, address netip.Addr) {
+	for i := 0; i < b.N; i++ {
+		sink = prefix.Contains(address)
+	}
+}
+
+func BenchmarkContains4(b *testing.B)        { benchContains(b, four, oneFour) }
+func BenchmarkContains4OfNetip(b *testing.B) { benchContainsOfNetip(b, four, oneFour) }
+func BenchmarkContains6(b *testing.B)        { benchContains(b, six, oneSix) }
+func BenchmarkContains6OfNetip(b *testing.B) { benchContainsOfNetip(b, six, oneSix) }
+
+func benchParse(b *testing.B, text string) {
+	b.ReportAllocs()
+	for i := 0; i < b.N; i++ {
+		network, _ := Parse(text)
+		sink = network.Is4()
+	}
+}
+
+func benchParseOfNetip(b *testing.B, text string) {
+	b.ReportAllocs()
+	for i := 0; i < b.N; i++ {
+		prefix, _ := netip.ParsePrefix(text)
+		sink = prefix.Addr().Is4()
+	}
+}
+
+func BenchmarkParse4(b *testing.B)        { benchParse(b, fourText) }
+func BenchmarkParse4OfNetip(b *testing.B) { benchParseOfNetip(b, fourText) }
+func BenchmarkParse6(b *testing.B)        { benchParse(b, sixText) }
+func BenchmarkParse6OfNetip(b *testing.B) { benchParseOfNetip(b, sixText) }
+
+func BenchmarkAppendTo6(b *testing.B) {
+	network, _ := FromPrefix(six)
+	var room [64]byte
+	b.ReportAllocs()
+	for i := 0; i < b.N; i++ {
+		sink = len(network.AppendTo(room[:0])) == 0
+	}
+}
+
+func BenchmarkAppendTo6OfNetip(b *testing.B) {
+	var room [64]byte
+	b.ReportAllocs()
+	for i := 0; i < b.N; i++ {
+		sink = len(six.AppendTo(room[:0])) == 0
+	}
+}
+
+func BenchmarkMasked6(b *testing.B) {
+	network, _ := FromPrefix(six)
+	for i := 0; i < b.N; i++ {
+		sink = network.Network().Is4()
+	}
+}
+
+func BenchmarkMasked6OfNetip(b *testing.B) {
+	for i := 0; i < b.N; i++ {
+		sink = six.Masked().Addr().Is4()
+	}
+}
+
+// many is how many rows a column or a slice has below.
+const many = 4096
+
+// benchRows asks about as many rows as there are measurements, many at a time.
+func benchRows(b *testing.B, ask func()) {
+	b.ReportAllocs()
+	b.ResetTimer()
+	for done := 0; done < b.N; done += many {
+		ask()
+	}
+}
+
+func benchContainsColumn(b *testing.B, prefix netip.Prefix) {
+	network, _ := FromPrefix(prefix)
+	column, answers := make([]byte, prefix.Addr().BitLen()/8*many), make([]byte, many)
+	benchRows(b, func() { _ = network.ContainsColumn(column, answers) })
+}
+
+func BenchmarkContainsColumn4(b *testing.B) { benchContainsColumn(b, four) }
+func BenchmarkContainsColumn6(b *testing.B) { benchContainsColumn(b, six) }
+
+func BenchmarkContainsEach(b *testing.B) {
+	network, addresses := MustParse("10.1.9.32/16"), make([]netip.Addr, many)
+	for row := range addresses {
+		addresses[row] = oneFour
+	}
+	benchRows(b, func() { sink = network.ContainsEach(addresses)[0] })
+}
+
+func BenchmarkReadColumn(b *testing.B) {
+	whole, offsets, _ := texts(rand.New(rand.NewSource(1)), many)
+	networks, faults := make([]Network, many), make([]byte, many)
+	benchRows(b, func() { _ = ReadColumn(whole, offsets, networks, faults) })
+}
+
+func BenchmarkParseAddrColumn(b *testing.B) {
+	whole, offsets, _ := texts(rand.New(rand.NewSource(1)), many)
+	benchRows(b, func() {
+		addresses, _ := ParseAddrColumn(whole, offsets)
+		sink = addresses[0].Is4()
+	})
+}
+
+func BenchmarkParseEach(b *testing.B) {
+	_, _, each := texts(rand.New(rand.NewSource(1)), many)
+	benchRows(b, func() {
+		networks, _ := ParseEach(each)
+		sink = networks[0].Is4()
+	})
+}
+
+func BenchmarkParseAddrsOfNetip(b *testing.B) {
+	_, _, each := texts(rand.New(rand.NewSource(1)), many)
+	benchRows(b, func() {
+		for _, text := range each {
+			address, _ := netip.ParseAddr(text)
+			sink = address.Is4()
+		}
+	})
+}
+
+// networks10000 are 10,000 random IPv4 networks of 20 to 28 bits, and as many addresses, of which half lie in one.
+func networks10000() (networks []Network, addresses []netip.Addr) {
+	random := rand.New(rand.NewSource(1))
+	for len(networks) < 10000 {
+		one, other := pair(random, true)
+		network, _ := New(one, 20+random.Intn(9))
+		if len(networks)%2 == 0 {
+			other = network.Broadcast()
+		}
+		networks, addresses = append(networks, network), append(addresses, other)
+	}
+	return networks, addresses
+}
+
+func tableOf10000() (Table, []netip.Addr) {
+	networks, addresses := networks10000()
+	table, _ := NewTable(networks)
+	return table, addresses
+}
+
+func BenchmarkFind(b *testing.B) {
+	table, addresses := tableOf10000()
+	b.ReportAllocs()
+	b.ResetTimer()
+	for i := 0; i < b.N; i++ {
+		sink = table.Find(addresses[i%len(addresses)]) < 0
+	}
+}
+
+func BenchmarkContainsOfSet(b *testing.B) {
+	networks, addresses := networks10000()
+	set, _ := NewSet(networks)
+	b.ReportAllocs()
+	b.ResetTimer()
+	for i := 0; i < b.N; i++ {
+		sink = set.Contains(addresses[i%len(addresses)])
+	}
+}
+
+func BenchmarkFindColumn(b *testing.B) {
+	table, addresses := tableOf10000()
+	packed, numbers := make([]byte, 0, 4*many), make([]int, many)
+	for row := range numbers {
+		packed = append(packed, addresses[row].AsSlice()...)
+	}
+	benchRows(b, func() { _ = table.FindColumn(packed, 4, numbers) })
+}
