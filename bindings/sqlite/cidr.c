@@ -103,24 +103,12 @@ static int take_text(sqlite3_context *context, sqlite3_value **values, int argum
     return 1;
 }
 
-/* The network of either family that a text names, or why it names none: what the reader of the family says whose
- * address stands before the '/', and that there is no address if it is one of neither. */
-static ipnetwork_fault read_network(struct text text, ipnetwork_ip *network) {
-    ipnetwork_v4 v4;
-    ipnetwork_v6 v6;
-    if (ipnetwork_read(text.bytes, text.length, network) == IPNETWORK_OK)
-        return IPNETWORK_OK;
-    ipnetwork_fault of_v4 = ipnetwork_v4_read(text.bytes, text.length, &v4);
-    ipnetwork_fault of_v6 = ipnetwork_v6_read(text.bytes, text.length, &v6);
-    return of_v4 == IPNETWORK_ADDRESS ? of_v6 : of_v4;
-}
-
 /* Whether an argument is the text of a network; if not, the call ends in an error. */
 static int take_network(sqlite3_context *context, sqlite3_value **values, int argument, ipnetwork_ip *network) {
     struct text text;
     if (!take_text(context, values, argument, &text))
         return 0;
-    ipnetwork_fault fault = read_network(text, network);
+    ipnetwork_fault fault = ipnetwork_read_with_cause(text.bytes, text.length, network);
     if (fault != IPNETWORK_OK)
         refuse(context, argument, fault, text);
     return fault == IPNETWORK_OK;
@@ -222,7 +210,7 @@ static void answer_cause(sqlite3_context *context, sqlite3_value **values) {
     char words[IPNETWORK_FAULT_TEXT];
     if (!take_text(context, values, 0, &text))
         return;
-    ipnetwork_fault fault = read_network(text, &network);
+    ipnetwork_fault fault = ipnetwork_read_with_cause(text.bytes, text.length, &network);
     if (fault == IPNETWORK_OK)
         return;
     tell(fault, words);

@@ -38,8 +38,8 @@ const PART: usize = 64;
 pub enum Fault {
     /// The text holds two or more `/`.
     Format,
-    /// What stands before the `/`, or the whole text if there is none, is no address of the family. Of
-    /// `IpNetwork`: the text names no network of either family, whatever is wrong with it.
+    /// What stands before the `/`, or the whole text if there is none, is no address of the family, or, of
+    /// `IpNetwork`, of either.
     Address,
     /// The prefix length is none of the family.
     Prefix,
@@ -67,7 +67,7 @@ impl fmt::Display for Fault {
     fn fmt(&self, f: &mut fmt::Formatter<'_>) -> fmt::Result {
         f.write_str(match self {
             Fault::Format => "more than one slash",
-            Fault::Address => "no address before the slash, or no network of either family",
+            Fault::Address => "no address",
             Fault::Prefix => "no prefix length of the family",
             Fault::NoMask => "no mask",
             Fault::Family => "a network of the other family",
@@ -137,7 +137,11 @@ mod c {
     unsafe extern "C" {
         pub safe fn ipnetwork_abi_version() -> u32;
         pub safe fn ipnetwork_abi_minor_version() -> u32;
-        pub unsafe fn ipnetwork_read(text: *const u8, length: usize, network: &mut Either) -> u32;
+        pub unsafe fn ipnetwork_read_with_cause(
+            text: *const u8,
+            length: usize,
+            network: &mut Either,
+        ) -> u32;
         pub unsafe fn ipnetwork_contains(
             n: &Either,
             address: *const u8,
@@ -345,7 +349,7 @@ mod c {
             faults: *mut u8,
             fault_rows: usize,
         ) -> u32;
-        pub unsafe fn ipnetwork_read_column(
+        pub unsafe fn ipnetwork_read_with_cause_column(
             texts: *const u8,
             length: usize,
             offsets: *const u32,
@@ -986,11 +990,23 @@ pub enum IpNetwork {
 }
 
 impl IpNetwork {
-    /// The network that a text names, of the family that the text has; any other text is `Fault::Address`.
+    /// The network that a text names, of the family that the text has. Of any other text the fault is the cause:
+    /// `Fault::Format` if it has two or more `/`, else `Fault::Address` if what stands before the `/`, or the whole text
+    /// if there is none, is an address of neither family, else `Fault::Prefix`.
+    ///
+    /// # Examples
+    ///
+    /// ```
+    /// use ipnetwork_c::{Fault, IpNetwork};
+    ///
+    /// assert_eq!(IpNetwork::read_bytes(b"10.0.0.0/33"), Err(Fault::Prefix));
+    /// assert_eq!(IpNetwork::read_bytes(b"fe80::1%eth0/64"), Err(Fault::Address));
+    /// assert_eq!(IpNetwork::read_bytes(b"10.0.0.0/8/8"), Err(Fault::Format));
+    /// ```
     pub fn read_bytes(text: &[u8]) -> Result<Self, Fault> {
         let mut either = c::Either::BLANK;
         // SAFETY: a slice is never null, and has this many bytes.
-        result(unsafe { c::ipnetwork_read(text.as_ptr(), text.len(), &mut either) })?;
+        result(unsafe { c::ipnetwork_read_with_cause(text.as_ptr(), text.len(), &mut either) })?;
         Ok(IpNetwork::from(either))
     }
 

@@ -24,9 +24,9 @@ impl IpNetwork {
     ///
     /// let before: IpNetwork = "::/0".parse()?;
     /// let (mut networks, mut faults) = ([before; 3], [0; 3]);
-    /// IpNetwork::read_column(b"10.0.0.0/8no2001:DB8::/32", &[0, 10, 12, 25], &mut networks, &mut faults)?;
+    /// IpNetwork::read_column(b"10.0.0.0/8::/2001:DB8::/32", &[0, 10, 13, 26], &mut networks, &mut faults)?;
     /// assert_eq!(networks, ["10.0.0.0/8".parse()?, before, "2001:db8::/32".parse()?]);
-    /// assert_eq!(faults.map(Fault::of_row), [Ok(()), Err(Fault::Address), Ok(())]);
+    /// assert_eq!(faults.map(Fault::of_row), [Ok(()), Err(Fault::Prefix), Ok(())]);
     /// # Ok::<(), ipnetwork_c::Fault>(())
     /// ```
     pub fn read_column(
@@ -38,7 +38,7 @@ impl IpNetwork {
         read_rows(
             texts,
             offsets,
-            c::ipnetwork_read_column,
+            c::ipnetwork_read_with_cause_column,
             c::Either::BLANK,
             networks,
             faults,

@@ -63,9 +63,14 @@ fn same_texts(text: &[u8], seen: &mut [usize; 3]) {
                 "{shown}"
             );
         }
-        _ => {
+        (Err(four), Err(six)) => {
             seen[2] += 1;
-            assert_eq!(either, Err(Fault::Address), "{shown}");
+            let cause = match (four, six) {
+                (Fault::Format, _) => Fault::Format,
+                (Fault::Prefix, _) | (_, Fault::Prefix) => Fault::Prefix,
+                _ => Fault::Address,
+            };
+            assert_eq!(either, Err(cause), "{shown}");
         }
     }
 }
