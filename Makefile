@@ -5,10 +5,14 @@
 #   make test                             the same, and then every test by its script
 #   make try                              the answers of the example from a program that is not proved, and not kept
 #   make sqlite                           builds the extension of SQLite, of the library for C that is built
+#   make wasm                             proves the library for C for WebAssembly, and builds its modules
+#   make js                               builds the package for JavaScript, of the module that make wasm makes
+#   make calculator                       does both, and writes the page web/out/subnets.html over the package
 #   make install PREFIX=/usr DESTDIR=/tmp/package
 #                                         installs what is built: the programs, their manual pages and completions, the
 #                                         library for C with its header, and the extension of SQLite
 #   make uninstall PREFIX=/usr DESTDIR=/tmp/package
+#   make deb                              Debian packages of what is built, in bindings/out/deb
 #   make check-install                    installs into a new folder, compiles the example of C there and removes it again
 #
 # PREFIX is where the files are looked for when they are used, DESTDIR what stands before it while they are copied.
@@ -36,7 +40,8 @@ SONAME = libipnetwork_c.so.$(MAJOR)
 EXTENSION = $(OUT)/cidr.so
 PROGRAMS = cidr cidr_merge cidr_filter
 
-.PHONY: all example test try library shared sqlite install install-library uninstall check-install
+.PHONY: all example test try library shared sqlite wasm js calculator install install-library uninstall deb \
+    check-install
 
 # Says by name what is not here, before anything is proved.
 tools = @missing=; for tool in $(1); do command -v $$tool > /dev/null || missing="$$missing $$tool"; done; \
@@ -76,6 +81,26 @@ sqlite:
 	mkdir -p $(OUT)
 	cc -std=c11 -O2 -Wall -Wextra -fPIC -fvisibility=hidden -shared -I bindings/c bindings/sqlite/cidr.c $(ARCHIVE) \
 	    -Wl,--exclude-libs,ALL -o $(EXTENSION)
+
+# The library for C as WebAssembly. It needs wasm-opt and wasm-metadce (Debian: binaryen). What is proved here first is
+# taken over, so that a later run proves only what changed.
+wasm:
+	$(call tools,rt python3 wasm-opt wasm-metadce)
+	scripts/prove ipnetwork_c
+	bindings/wasm/build
+
+# The package for JavaScript, of the library as WebAssembly that is there.
+js:
+	$(call tools,node)
+	rm -rf $(OUT)/js
+	node bindings/js/build.mjs $(OUT)/ipnetwork_js.wasm $(OUT)/js
+
+# A subnet calculator in one page that works from a disk.
+calculator:
+	$(call tools,rt python3 wasm-opt wasm-metadce node)
+	$(MAKE) wasm
+	$(MAKE) js
+	web/build
 
 # Copies what is built, and builds nothing.
 install:
@@ -127,6 +152,11 @@ uninstall:
 	    rm -f "$(DESTDIR)$(BINDIR)/$$program" "$(DESTDIR)$(MANDIR)/man1/$$program.1" "$(DESTDIR)$(BASHDIR)/$$program"; \
 	    rm -f "$(DESTDIR)$(ZSHDIR)/_$$program" "$(DESTDIR)$(FISHDIR)/$$program.fish"; \
 	done
+
+.PHONY: deb
+deb:
+	$(call tools,python3 cc objdump dpkg-deb)
+	scripts/deb $(OUT)/deb
 
 check-install:
 	bindings/check_install
