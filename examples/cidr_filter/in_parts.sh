@@ -32,10 +32,10 @@ check_options() {
         --bad=*) check_bad "${1#--bad=}" ;;
         esac
         case $1 in
-        -f | -e | -k | -d | --bad) [ $# -eq 1 ] || shift ;;
+        -f | -e | -k | -d | --bad | --after) [ $# -eq 1 ] || shift ;;
         --) [ $# -eq 1 ] || refuse "$2: the log is standard input" ;;
         - | [!-]* | "") refuse "$1: the log is standard input" ;;
-        -[vc]*) [[ ! $1 =~ ^-[vc]*c[vc]*$ ]] || counts=1 ;;
+        -[vcawo]*) [[ ! $1 =~ ^-[vcawo]*c[vcawo]*$ ]] || counts=1 ;;
         esac
         shift
     done
