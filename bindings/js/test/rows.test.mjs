@@ -1,5 +1,5 @@
 /**
- * Rows with known answers: those of the test in C, and those of the crate vectors that have a call
+ * Rows with known answers: those of the test in C, and those of tests/rows that have a call
  * here.
  */
 import assert from 'node:assert/strict';
@@ -42,7 +42,7 @@ test('the rows of c/rows.h', () => {
   }
 });
 
-/* The causes as the crate vectors writes them, and the codes of this package. */
+/* The causes as tests/rows writes them, and the codes of this package. */
 const CAUSES = { Format: 'format', Addr: 'address', Prefix: 'prefix' };
 const list = (words) => new AddressSet(words);
 const blocks = (set) => ([...set.blocks()].join(' ') || 'nothing');
@@ -52,7 +52,7 @@ const halves = (words) => {
 };
 
 /**
- * For a call of the crate vectors what the package gives, of the rest of the line as a text and as
+ * For a call of tests/rows what the package gives, of the rest of the line as a text and as
  * words.
  */
 const CALLS = {
@@ -90,8 +90,8 @@ function made(address, prefix, refusal) {
   return text === 'prefix' ? refusal : text;
 }
 
-test('the rows of the crate vectors', () => {
-  const folder = join(bindings, '../crates/vectors');
+test('the rows of tests/rows', () => {
+  const folder = join(bindings, '../tests/rows');
   const questions = readFileSync(join(folder, 'stdin'), 'utf8').split('\n');
   const answers = readFileSync(join(folder, 'stdout'), 'utf8').split('\n');
   let asked = 0;
@@ -107,7 +107,7 @@ test('the rows of the crate vectors', () => {
   assert.ok(asked > 200, `${asked} rows`);
 });
 
-test('the tables of the crate vectors', () => {
+test('the tables of tests/rows', () => {
   /* The longest network with an address: routes of RFC 1918's blocks in one another. */
   const table = new PrefixTable(
     [['10.0.0.0/8', 1], ['10.1.0.0/16', 2], ['10.1.2.0/24', 3], ['::/0', 4]]

@@ -14,26 +14,27 @@ BeginsOutput read written = (output : List ℕ) × IsOutput read output × IsBeg
 abbrev pub AnswersPart : ℕ → List ℕ → List ℕ → Type 0
 AnswersPart limit read written = (front : List ℕ) × IsBeginning front read × (length front ≤ limit) × IsOutput (complete_part front) written
 
--- what a run may have read and written, by how it ended. `rest` is what the reader has left
+-- what a run may have read and written, by how it ended. `unread_after` is what the reader has left
 abbrev pub EndsAs : ℕ → Option (List ℕ) → Result (Unit {0}) RunFault → List ℕ → List ℕ → Type 0
 -- the whole input, and an output of it
-EndsAs limit rest (Ok done) read written = IsAtEnd rest × (length read ≤ limit) × IsOutput read written
+EndsAs limit unread_after (Ok done) read written = IsAtEnd unread_after × (length read ≤ limit) × IsOutput read written
 -- an output of the lines whose line feed was read, and of no others
-EndsAs limit rest (Err Read) read written = (length read ≤ limit) × IsOutput (complete_part read) written
+EndsAs limit unread_after (Err Read) read written = (length read ≤ limit) × IsOutput (complete_part read) written
 -- the same for some first bytes, at most as many as the limit
-EndsAs limit rest (Err InputTooLong) read written = (limit < length read) × AnswersPart limit read written
+EndsAs limit unread_after (Err InputTooLong) read written = (limit < length read) × AnswersPart limit read written
 -- no more than an output of what was read
-EndsAs limit rest (Err Write) read written = (length read ≤ limit) × BeginsOutput read written
+EndsAs limit unread_after (Err Write) read written = (length read ≤ limit) × BeginsOutput read written
 
 -- how a run went, if the reader and the writer tell their bytes
-pub record Ran (limit : ℕ) (left rest held holds : Option (List ℕ)) (result : Result (Unit {0}) RunFault) : Type 0 where
+pub record Ran (limit : ℕ) (unread_before unread_after written_before written_after : Option (List ℕ))
+    (result : Result (Unit {0}) RunFault) : Type 0 where
   -- the bytes that were read
   pub read : List ℕ
   -- the bytes that were written
   pub written : List ℕ
   -- the reader returned the former
-  pub reads : Consumes left rest read
+  pub reads : Consumes unread_before unread_after read
   -- the writer took the latter
-  pub writes : Appends held holds written
+  pub writes : Appends written_before written_after written
   -- how much of the input they are, and of an output of it
-  pub ends : EndsAs limit rest result read written
+  pub ends : EndsAs limit unread_after result read written

@@ -5,30 +5,31 @@ use Rattle.lines.specs.declared.fault.RunFault.TheVariants.{Read, Write, InputTo
 use Rattle.cidr.specs.Output.{IsOutput}
 use Rattle.cidr.specs.Run.{Ran, BeginsOutput}
 
--- The reader had `read` and then `rest`, and the writer held `held` and holds `holds`.
+-- The reader had `read` and then `unread_after`, and what was written is `written_before` before and
+-- `written_after` after the run.
 
 -- after Ok the input was within the limit, and an output of it was written
 abbrev pub AfterOk : Type 0
-AfterOk = (limit : ℕ) (input held holds : List ℕ) (left : Option (List ℕ)) (done : Unit {0})
-    → Ran limit (Some input) left (Some held) (Some holds) (Ok done)
-    → (length input ≤ limit) × (output : List ℕ) × IsOutput input output × (holds ≡ held ++ output)
+AfterOk = (limit : ℕ) (input written_before written_after : List ℕ) (unread_after : Option (List ℕ)) (done : Unit {0})
+    → Ran limit (Some input) unread_after (Some written_before) (Some written_after) (Ok done)
+    → (length input ≤ limit) × (output : List ℕ) × IsOutput input output × (written_after ≡ written_before ++ output)
 
 -- after a read fault what was read is within the limit, and exactly the lines that it completes were answered
 abbrev pub AfterReadFault : Type 0
-AfterReadFault = (limit : ℕ) (read rest held holds : List ℕ)
-    → Ran limit (Some (read ++ rest)) (Some rest) (Some held) (Some holds) (Err Read)
-    → (length read ≤ limit) × (output : List ℕ) × IsOutput (complete_part read) output × (holds ≡ held ++ output)
+AfterReadFault = (limit : ℕ) (read unread_after written_before written_after : List ℕ)
+    → Ran limit (Some (read ++ unread_after)) (Some unread_after) (Some written_before) (Some written_after) (Err Read)
+    → (length read ≤ limit) × (output : List ℕ) × IsOutput (complete_part read) output × (written_after ≡ written_before ++ output)
 
 -- after a write fault what was read is within the limit, and what was written is a beginning of an output of it
 abbrev pub AfterWriteFault : Type 0
-AfterWriteFault = (limit : ℕ) (read rest held holds : List ℕ)
-    → Ran limit (Some (read ++ rest)) (Some rest) (Some held) (Some holds) (Err Write)
-    → (length read ≤ limit) × (written : List ℕ) × BeginsOutput read written × (holds ≡ held ++ written)
+AfterWriteFault = (limit : ℕ) (read unread_after written_before written_after : List ℕ)
+    → Ran limit (Some (read ++ unread_after)) (Some unread_after) (Some written_before) (Some written_after) (Err Write)
+    → (length read ≤ limit) × (written : List ℕ) × BeginsOutput read written × (written_after ≡ written_before ++ written)
 
 -- if the input is too long, more than the limit was read, and exactly the lines were answered that some first bytes of
 -- it complete, at most as many as the limit
 abbrev pub AfterTooLong : Type 0
-AfterTooLong = (limit : ℕ) (read rest held holds : List ℕ)
-    → Ran limit (Some (read ++ rest)) (Some rest) (Some held) (Some holds) (Err InputTooLong)
+AfterTooLong = (limit : ℕ) (read unread_after written_before written_after : List ℕ)
+    → Ran limit (Some (read ++ unread_after)) (Some unread_after) (Some written_before) (Some written_after) (Err InputTooLong)
     → (limit < length read) × (count : ℕ) × (count ≤ limit) × (output : List ℕ) × IsOutput (complete_part (take count read)) output
-    × (holds ≡ held ++ output)
+    × (written_after ≡ written_before ++ output)
