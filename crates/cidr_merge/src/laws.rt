@@ -3,17 +3,17 @@
 ghost use Rattle.cidr_merge.specs.Laws.{NoOtherOperation, NoOtherOption};
 ghost use Rattle.cidr_merge.specs.Parts.{UnionsOfPartsPrintTheSame};
 
-use ipnetwork_blocks::laws::same_union;
-use lists::laws::{lines_add_what_they_name, printed_lists_name_their_networks};
+use ipnetwork_blocks::laws as block_laws;
+use lists::laws as list_laws;
 
 /// A list may be merged in parts, of any number and in any order: the union of what the unions of the parts print
 /// prints what the union of the list does.
 pub fn unions_of_parts_print_the_same()
     ensures { UnionsOfPartsPrintTheSame }
 {
-    lines_add_what_they_name();
-    printed_lists_name_their_networks();
-    same_union();
+    list_laws::lines_add_what_they_name();
+    list_laws::printed_lists_name_their_networks();
+    block_laws::same_union();
 }
 
 /// No word but `union`, `common`, `minus` and `differ` names an operation.

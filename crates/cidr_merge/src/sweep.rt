@@ -6,8 +6,7 @@ ghost use Rattle.cidr_merge.specs.Private.Totals.{AddUp};
 
 use crate::command_line::Operation;
 use ipnetwork_blocks::AddressSpace;
-use ipnetwork_sets::laws::{fewer_blocks, shortest, sums};
-use ipnetwork_sets::{AddressSet, Blocks, Difference, Intersection, SetBlocks};
+use ipnetwork_sets::{AddressSet, Blocks, Difference, Intersection, SetBlocks, laws};
 
 /// The blocks that are still to come, in ascending order.
 #[derive(Drop)]
@@ -29,9 +28,9 @@ impl<'a, N: AddressSpace> Sweep<'a, N> {
         ensures counted { AddUp N.WIDTH (IsLeft operation N.WIDTH first.now second.now)
             (blocks_left result) }
     {
-        shortest();
-        sums();
-        fewer_blocks();
+        laws::shortest();
+        laws::sums();
+        laws::fewer_blocks();
         match operation {
             Operation::Union => {
                 // The clause `set` of this call says that they are the blocks of a set.

@@ -98,7 +98,7 @@ impl<A: Address> AddressSpace for Network<A> {
     }
 
     fn next_address(addr: A) -> Option<A> {
-        addr.is_of_width();
+        addr.law_of_width();
         if addr != A::mask(A::WIDTH) {
             return Some(addr.next());
         }

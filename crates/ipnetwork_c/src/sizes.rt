@@ -46,7 +46,7 @@ fn ends<A: Numbered>(network: &Network<A>) -> (u128, u128)
     ensures width { result.1 < 2 ^ A.WIDTH }
 {
     let greatest = network.broadcast();
-    greatest.is_of_width();
+    greatest.law_of_width();
     (network.network().to_number(), greatest.to_number())
 }
 

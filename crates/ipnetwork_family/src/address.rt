@@ -82,12 +82,12 @@ pub trait Address: Copy + Ord + Hash + Debug {
 
     /// Does nothing. A proof learns from it what is true of the texts of addresses and of suffixes.
     #[doc(hidden)]
-    fn texts_are_clear()
+    fn law_texts()
         ensures { HasClearTexts WIDTH family };
 
     /// Does nothing. A proof learns from it that the number has `WIDTH` bits.
     #[doc(hidden)]
-    fn is_of_width(self)
+    fn law_of_width(self)
         ensures { number self < 2 ^ WIDTH };
 
     /// The mask of a prefix length, which must be at most `WIDTH`: as many ones in front, and zeros

@@ -53,13 +53,13 @@ impl Address for Ipv4Addr {
         Ipv4Addr::canonical(self)
     }
 
-    fn texts_are_clear() {
+    fn law_texts() {
         laws::v4_text_is_computed();
         laws::v4_text_bytes();
         laws::canonical_v4_names_its_address();
     }
 
-    fn is_of_width(self) {
+    fn law_of_width(self) {
         let _ = self.octets();
     }
 

@@ -47,14 +47,14 @@ impl Address for Ipv6Addr {
         Ipv6Addr::canonical(self)
     }
 
-    fn texts_are_clear() {
+    fn law_texts() {
         laws::v6_text_is_computed();
         laws::v6_text_bytes();
         laws::canonical_v6_names_its_address();
         laws::canonical_v6_is_one_text();
     }
 
-    fn is_of_width(self) {
+    fn law_of_width(self) {
         let _ = self.segments();
     }
 

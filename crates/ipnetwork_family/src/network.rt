@@ -75,7 +75,7 @@ impl<A: Address> Network<A> {
         if prefix > A::WIDTH {
             return None;
         }
-        addr.is_of_width();
+        addr.law_of_width();
         Some(Network {
             address: addr,
             prefix,
@@ -95,7 +95,7 @@ impl<A: Address> Network<A> {
             (λ n. (prefix ≤ A.WIDTH)
             × (n ≡ block_of A.WIDTH (record { address = A.number addr; prefix = prefix }))) }
     {
-        addr.is_of_width();
+        addr.law_of_width();
         let network = Network::new_checked(addr, prefix)?;
         Network::new_checked(network.network(), prefix)
     }
@@ -212,7 +212,7 @@ impl<A: Address> Network<A> {
     pub fn contains(&self, ip: A) -> bool
         ensures { IsTrue result ↔ Member A.WIDTH self.now (A.number ip) }
     {
-        ip.is_of_width();
+        ip.law_of_width();
         ip.agrees(self.address, self.prefix)
     }
 
@@ -280,7 +280,7 @@ impl<A: Address> Network<A> {
         ensures { ReadsNetworkOf A.family text.now result }
     {
         // Does nothing. The proof needs the law: no address text and no suffix contains a `/`.
-        A::texts_are_clear();
+        A::law_texts();
         let (address, suffix) = split(text)?;
         let Ok(address) = A::read_bytes(address) else {
             return Err(CidrFault::Addr);
@@ -288,7 +288,7 @@ impl<A: Address> Network<A> {
         let Some(prefix) = prefix_length::<A>(suffix) else {
             return Err(CidrFault::Prefix);
         };
-        address.is_of_width();
+        address.law_of_width();
         Ok(Network { address, prefix })
     }
 
@@ -371,7 +371,7 @@ impl<A: Address> From<A> for Network<A> {
 
     /// The network that has only this address, of prefix length `A::WIDTH`.
     fn from(addr: A) -> Self {
-        addr.is_of_width();
+        addr.law_of_width();
         Network {
             address: addr,
             prefix: A::WIDTH,

@@ -6,7 +6,7 @@ use Rattle.std.proofs.lemmas.Bool.{cases_lt, cases_eq}
 use Rattle.std.proofs.lemmas.List.{get_or_default, get_or_append_left, get_or_push}
 use Rattle.ipnetwork_family.specs.Network.{Network, IsNetwork, Member, low, high, network_cmp}
 use Rattle.ipnetwork_family.proofs.Blocks.{size_pos, within_member, member_within}
-use Rattle.ipnetwork_table.specs.Table.{HasBlocksAlone, Finds}
+use Rattle.ipnetwork_table.specs.Table.{HasOnlyBlocks, Finds}
 use Rattle.ipnetwork_index.specs.Private.Partitions.{IsPartition, LiesAt}
 use Rattle.ipnetwork_index.specs.Private.Edges.{IsCutOut, CutsOut}
 use Rattle.ipnetwork_index.specs.Private.Answers.{AreAnswersUpTo, AreAnswers, IsAnswered}
@@ -93,7 +93,7 @@ answer_moves pair w t x y (Some f) same h = record {
 
 pub answered : {N V : Type 0} (pair : N → Network) (w : ℕ) (t : FinMap network_cmp V)
     (lasts : List ℕ) (answers : List (Option (N × V)))
-    → HasBlocksAlone w t → CutsOut w t lasts → AreAnswers pair w t lasts answers
+    → HasOnlyBlocks w t → CutsOut w t lasts → AreAnswers pair w t lasts answers
     → IsAnswered pair w t lasts answers
 answered pair w t lasts answers blocks c a = record {
   blocks = blocks;

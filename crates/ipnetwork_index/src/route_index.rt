@@ -1,6 +1,6 @@
 //! The index over a table.
 ghost use Rattle.std.specs.Prelude.{◌≡◌, IfOk, length, map};
-ghost use Rattle.ipnetwork_table.specs.Table.{HasBlocksAlone, Finds};
+ghost use Rattle.ipnetwork_table.specs.Table.{HasOnlyBlocks, Finds};
 ghost use Rattle.ipnetwork_index.specs.Columns.{AreFound};
 ghost use Rattle.ipnetwork_index.specs.Turns.{CutByBlocks};
 ghost use Rattle.ipnetwork_index.specs.Private.Answers.{AreAnswers};
@@ -86,7 +86,7 @@ impl<N: IndexedNetwork, V: Copy> RouteIndex<N, V> {
     /// ```
     pub fn lookup(&self, addr: N::Addr) -> Option<(N, V)>
         ensures answer { Finds N.pair N.WIDTH self.now (N.number addr) result }
-        ensures blocks { HasBlocksAlone N.WIDTH self.now }
+        ensures blocks { HasOnlyBlocks N.WIDTH self.now }
     {
         let answers = self.answers.as_slice();
         answers[self.partition.place_of(N::number_of(addr))]

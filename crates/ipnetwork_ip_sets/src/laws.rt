@@ -3,8 +3,8 @@
 ghost use Rattle.ipnetwork_ip_sets.specs.Laws.{EachFamilyKeepsItsAddresses, IpAggregateIsLeastList, IpCommonPartIsShortest, IpDifferenceIsShortest, IpComplementIsShortest, IpUnionIsShortest, SameIpAddressesAreOneSet, SameIpBlocksAreEqual, IpCommonPartCommutes, IpUnionCommutes, IpCommonPartOfOne, IpUnionOfOne, IpDifferenceIsDisjoint, IpPartsMakeTheWhole};
 ghost use Rattle.ipnetwork_ip_sets.specs.QuestionLaws.{IpNetworkMeetsUnion, IpWithinIfNothingIsLeft, IpDisjointIfNothingIsCommon, IpComplementIsDisjoint, IpComplementMakesTheWhole};
 
-use ipnetwork_blocks::laws as blocks;
-use ipnetwork_sets::laws as sets;
+use ipnetwork_blocks::laws as block_laws;
+use ipnetwork_sets::laws as set_laws;
 
 /// Each family keeps its addresses, and the aggregate of networks is the least list of the addresses of their union.
 pub fn each_family()
@@ -20,9 +20,9 @@ pub fn shortest()
     ensures complement { IpComplementIsShortest }
     ensures union { IpUnionIsShortest }
 {
-    sets::shortest();
-    blocks::ip_one_block();
-    blocks::ip_least();
+    set_laws::shortest();
+    block_laws::ip_one_block();
+    block_laws::ip_least();
 }
 
 /// Two sets are equal exactly if they have the same addresses, and `==` says so.
@@ -30,7 +30,7 @@ pub fn equality()
     ensures test { SameIpBlocksAreEqual }
     ensures addresses { SameIpAddressesAreOneSet }
 {
-    sets::equality();
+    set_laws::equality();
 }
 
 /// The common part and the union are those of the two in either order, and of a set with itself they are the set.
@@ -40,7 +40,7 @@ pub fn order_and_repetition()
     ensures common_of_one { IpCommonPartOfOne }
     ensures union_of_one { IpUnionOfOne }
 {
-    sets::order_and_repetition();
+    set_laws::order_and_repetition();
 }
 
 /// A difference has no address of the set that was taken off, and together with the common part it is the first set.
@@ -48,7 +48,7 @@ pub fn parts()
     ensures disjoint { IpDifferenceIsDisjoint }
     ensures whole { IpPartsMakeTheWhole }
 {
-    sets::parts();
+    set_laws::parts();
 }
 
 /// A network meets a set exactly if it overlaps one of its blocks; a set is within another exactly if nothing is left
@@ -58,7 +58,7 @@ pub fn questions()
     ensures within { IpWithinIfNothingIsLeft }
     ensures disjoint { IpDisjointIfNothingIsCommon }
 {
-    sets::questions();
+    set_laws::questions();
 }
 
 /// The complement of a set has no address of the set, and together they have all addresses of both families.
@@ -66,5 +66,5 @@ pub fn complements()
     ensures disjoint { IpComplementIsDisjoint }
     ensures whole { IpComplementMakesTheWhole }
 {
-    sets::complements();
+    set_laws::complements();
 }

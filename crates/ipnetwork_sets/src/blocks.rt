@@ -124,7 +124,7 @@ impl<'a, N: AddressSpace> SetBlocks<N> for Intersection<'a, N> {
     ghost left = { λ left. left };
 
     fn next_block(&mut self) -> Option<N> {
-        self.are_set();
+        self.law_are_sets();
         self.next()
     }
 }
@@ -133,7 +133,7 @@ impl<'a, N: AddressSpace> SetBlocks<N> for Difference<'a, N> {
     ghost left = { λ left. left };
 
     fn next_block(&mut self) -> Option<N> {
-        self.are_set();
+        self.law_are_sets();
         self.next()
     }
 }
@@ -142,7 +142,7 @@ impl<'a, N: AddressSpace> SetBlocks<N> for Union<'a, N> {
     ghost left = { λ left. left };
 
     fn next_block(&mut self) -> Option<N> {
-        self.are_set();
+        self.law_are_sets();
         self.next()
     }
 }

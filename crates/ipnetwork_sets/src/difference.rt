@@ -94,7 +94,7 @@ impl<'a, N: AddressSpace, H: HoldsNetwork<N>> Difference<'a, N, H> {
     }
 
     // The blocks that are still to come are those of a set.
-    pub(crate) fn are_set(&self)
+    pub(crate) fn law_are_sets(&self)
         ensures { IsAddressSet N.WIDTH self.now }
     {
         let _ = &self.rest;

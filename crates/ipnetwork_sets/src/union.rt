@@ -73,7 +73,7 @@ impl<'a, N: AddressSpace, H: HoldsNetwork<N>> Union<'a, N, H> {
     }
 
     // The blocks that are still to come are those of a set.
-    pub(crate) fn are_set(&self)
+    pub(crate) fn law_are_sets(&self)
         ensures { IsAddressSet N.WIDTH self.now }
     {
         let _ = &self.run;

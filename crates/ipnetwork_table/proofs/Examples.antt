@@ -2,7 +2,7 @@
 use Rattle.std.proofs.Common.{◌≡◌, ℕ, ◌+◌, ◌/◌, ◌≤◌, Some, None, [], ◌∷◌, refl, arith, lit<}
 use Rattle.std.specs.Prelude.{IsSome}
 use Rattle.std.specs.FinMap.{get}
-use Rattle.ipnetwork_table.specs.Table.{by_pair, found_by_pair, HasBlocksAlone, HasNoHostBits, Answers}
+use Rattle.ipnetwork_table.specs.Table.{by_pair, found_by_pair, HasOnlyBlocks, HasNoHostBits, Answers}
 use Rattle.ipnetwork_table.specs.Computed.Longest.{longest_of}
 use Rattle.ipnetwork_table.proofs.LawExamples.{net, Table, routes}
 
@@ -19,13 +19,13 @@ nothing_as_pair = refl
 
 -- ---- which keys a table cannot have: one with host bits, a prefix length or an address past the width
 
-pub host_bits_are_no_key : (t : Table) → HasBlocksAlone 3 t → ¬ (IsSome (get t (net 5 1)))
+pub host_bits_are_no_key : (t : Table) → HasOnlyBlocks 3 t → ¬ (IsSome (get t (net 5 1)))
 host_bits_are_no_key t only stored = let clear : 5 ≡ 4 = (only (net 5 1) stored).block in omega (arith, clear)
 
-pub prefix_of_four_is_no_key : (t : Table) → HasBlocksAlone 3 t → ¬ (IsSome (get t (net 0 4)))
+pub prefix_of_four_is_no_key : (t : Table) → HasOnlyBlocks 3 t → ¬ (IsSome (get t (net 0 4)))
 prefix_of_four_is_no_key t only stored = let fits : 4 ≤ 3 = (only (net 0 4) stored).network.prefix_fits in omega (arith, fits)
 
-pub eight_is_no_key : (t : Table) → HasBlocksAlone 3 t → ¬ (IsSome (get t (net 8 3)))
+pub eight_is_no_key : (t : Table) → HasOnlyBlocks 3 t → ¬ (IsSome (get t (net 8 3)))
 eight_is_no_key t only stored = omega (arith, (only (net 8 3) stored).network.address_fits)
 
 pub no_key_has_host_bits : (t : Table) → HasNoHostBits 3 t → ¬ (IsSome (get t (net 5 2)))

@@ -4,7 +4,7 @@ use Rattle.std.specs.Prelude.{IsSome}
 use Rattle.std.specs.FinMap.{FinMap, get, insert, remove, empty, entries, from_entries}
 use Rattle.ipnetwork_family.specs.Network.{Network, IsCidrBlock, HostBitsAreZero, Member, Subnet, network_cmp}
 use Rattle.ipnetwork_table.specs.Laws.{BlocksOfAnyWidthThatMeet, AnswerIsComputed, AnswerExists, AnswerIsOne, EmptyHasNoHostBits, InsertAddsNoHostBits, RemoveAddsNoHostBits, InsertSetsOne, RemoveTakesOne, ListedIsStored, StoredIsListed, EntriesAscend, WiderBlocksFirst}
-use Rattle.ipnetwork_table.specs.Table.{HasBlocksAlone, HasNoHostBits, Answers}
+use Rattle.ipnetwork_table.specs.Table.{HasOnlyBlocks, HasNoHostBits, Answers}
 use Rattle.ipnetwork_table.specs.Computed.Longest.{longest_of}
 use Rattle.ipnetwork_table.proofs.Longest.{new_table, with_block}
 use Rattle.ipnetwork_table.proofs.Pairs.{entries_of_sorted}
@@ -24,7 +24,7 @@ table = from_entries routes
 listed : entries table ≡ routes
 listed = entries_of_sorted routes tt
 
-pub blocks : HasBlocksAlone 3 table
+pub blocks : HasOnlyBlocks 3 table
 blocks =
     with_block 3 _ (net 0 0) 5 (record { network = record { address_fits = lit< tt; prefix_fits = lit≤ tt }; block = refl })
     (with_block 3 _ (net 4 1) 7 (record { network = record { address_fits = lit< tt; prefix_fits = lit≤ tt }; block = refl })
@@ -117,7 +117,7 @@ smaller_after_wider law t small wide = ⊎_elim
     (law t 1 3 (net 4 3, 9) (net 4 1, 7) small wide (lit< tt))
 
 -- nor are those of a table of blocks such that a block lies in one that stands later, at another address
-pub none_in_a_later_one : WiderBlocksFirst ℕ → (t : Table) → HasBlocksAlone 3 t → slice_get (entries t) 1 ≡ Some (net 6 3, 9) → slice_get (entries t) 3 ≡ Some (net 4 1, 7) → ⊥
+pub none_in_a_later_one : WiderBlocksFirst ℕ → (t : Table) → HasOnlyBlocks 3 t → slice_get (entries t) 1 ≡ Some (net 6 3, 9) → slice_get (entries t) 3 ≡ Some (net 4 1, 7) → ⊥
 none_in_a_later_one law t only small wide = law 3 t 1 3 (net 6 3, 9) (net 4 1, 7) only small wide (lit< tt) (λ x holds. (holds.0, in_the_half x holds.1)) where
   in_the_half : (x : ℕ) → x / 1 ≡ 6 → x / 4 ≡ 1
   in_the_half x is = omega (arith, is)

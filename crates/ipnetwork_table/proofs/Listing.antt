@@ -9,7 +9,7 @@ use Rattle.std.specs.FinMap.Entries.{below_all}
 use Rattle.std.proofs.lemmas.Bool.{cases_lt}
 use Rattle.ipnetwork_family.specs.Network.{Network, IsNetworkBefore, Subnet, network_cmp}
 use Rattle.ipnetwork_family.proofs.Blocks.{subnet_after}
-use Rattle.ipnetwork_table.specs.Table.{HasBlocksAlone}
+use Rattle.ipnetwork_table.specs.Table.{HasOnlyBlocks}
 use Rattle.ipnetwork_table.proofs.Pairs.{total, one_network, tie_of, before, first_holds, second_holds}
 
 nothing : {A : Type 0} (a : A) → None ≡ Some a → ⊥
@@ -82,7 +82,7 @@ module _ {V : Type 0} where
   pub entries_ascend : (t : FinMap network_cmp V) (i j : ℕ) (d e : Network × V) → slice_get (entries t) i ≡ Some d → slice_get (entries t) j ≡ Some e → i < j → IsNetworkBefore d.0 e.0
   entries_ascend t i j d e at_i at_j less = ascend (entries t) (entries_sorted t) i j d e at_i at_j less
 
-  pub wider_first : (w : ℕ) (t : FinMap network_cmp V) (i j : ℕ) (d e : Network × V) → HasBlocksAlone w t → slice_get (entries t) i ≡ Some d → slice_get (entries t) j ≡ Some e → i < j
+  pub wider_first : (w : ℕ) (t : FinMap network_cmp V) (i j : ℕ) (d e : Network × V) → HasOnlyBlocks w t → slice_get (entries t) i ≡ Some d → slice_get (entries t) j ≡ Some e → i < j
       → ¬ (Subnet w d.0 e.0)
   wider_first w t i j d e blocks at_i at_j less inside =
       let block_d = blocks d.0 (ap is_some (listed_is_stored t i d.0 d.1 at_i)) in

@@ -6,7 +6,7 @@ use Rattle.std.specs.FinMap.{FinMap, get, insert, remove, empty, get-empty, get-
 use Rattle.std.proofs.lemmas.Bool.{cases_lt}
 use Rattle.ipnetwork_family.specs.Network.{Network, Member, network_cmp, block_at, IsCidrBlock}
 use Rattle.ipnetwork_family.proofs.BlocksAt.{block_at_holds, block_at_is}
-use Rattle.ipnetwork_table.specs.Table.{HasBlocksAlone, IsLongest, NoneHolds}
+use Rattle.ipnetwork_table.specs.Table.{HasOnlyBlocks, IsLongest, NoneHolds}
 use Rattle.ipnetwork_table.specs.Private.Nearest.{NoneAbove}
 use Rattle.ipnetwork_table.proofs.Pairs.{total, one_network, tie_of}
 
@@ -18,18 +18,18 @@ nothing e = cc
 
 -- ---- the tables that calls make
 
-pub new_table : (w : ℕ) (V : Type 0) → HasBlocksAlone w (empty {X = V} {R = network_cmp})
+pub new_table : (w : ℕ) (V : Type 0) → HasOnlyBlocks w (empty {X = V} {R = network_cmp})
 new_table w V n stored = absurd (nothing (subst IsSome (get-empty network_cmp n) stored))
 
 module _ {V : Type 0} (w : ℕ) where
-  pub with_block : (t : Table V) (n : Network) (v : V) → IsCidrBlock w n → HasBlocksAlone w t → HasBlocksAlone w (insert t n v)
+  pub with_block : (t : Table V) (n : Network) (v : V) → IsCidrBlock w n → HasOnlyBlocks w t → HasOnlyBlocks w (insert t n v)
   with_block t n v key blocks m =
       elim (eq_by_cmp network_cmp m n) as (λ b. eq_by_cmp network_cmp m n ≡ b → get (insert t n v) m ≡ cond b (Some v) (get t m) → IsSome (get (insert t n v) m) → IsCidrBlock w m) [
         | true ↦ λ at is stored. subst (IsCidrBlock w) (sym (one_network m n (tie_of _ at))) key
         | false ↦ λ apart is stored. blocks m (subst IsSome is stored)
       ] refl (get-insert total t n v m)
 
-  pub without : (t : Table V) (n : Network) → HasBlocksAlone w t → HasBlocksAlone w (remove t n)
+  pub without : (t : Table V) (n : Network) → HasOnlyBlocks w t → HasOnlyBlocks w (remove t n)
   without t n blocks m =
       elim (eq_by_cmp network_cmp m n) as (λ b. get (remove t n) m ≡ cond b None (get t m) → IsSome (get (remove t n) m) → IsCidrBlock w m) [
         | true ↦ λ is stored. absurd (nothing (subst IsSome is stored))
@@ -39,21 +39,21 @@ module _ {V : Type 0} (w : ℕ) where
 -- ---- the search
 
 module _ {V : Type 0} (w : ℕ) where
-  pub none_above_width : (t : Table V) (x : ℕ) → HasBlocksAlone w t → NoneAbove w t x w
+  pub none_above_width : (t : Table V) (x : ℕ) → HasOnlyBlocks w t → NoneAbove w t x w
   none_above_width t x blocks n stored above holds = let fits = (blocks n stored).network in omega (arith, fits.prefix_fits, above)
 
   -- after a look-up at p that found nothing
-  none_from : (t : Table V) (x p : ℕ) → HasBlocksAlone w t → NoneAbove w t x p → get t (block_at w x p) ≡ None
+  none_from : (t : Table V) (x p : ℕ) → HasOnlyBlocks w t → NoneAbove w t x p → get t (block_at w x p) ≡ None
       → (n : Network) → IsSome (get t n) → p ≤ n.prefix → ¬ (Member w n x)
   none_from t x p blocks above none n stored from holds = ⊎_elim
       (λ (more : p < n.prefix). above n stored more holds)
       (λ (same : n.prefix ≤ p). nothing (subst IsSome (ap (get t) (block_at_is w n x p (blocks n stored).block holds (omega arith)) ∙ none) stored))
       (cases_lt p n.prefix)
 
-  pub none_above_next : (t : Table V) (x p : ℕ) → HasBlocksAlone w t → NoneAbove w t x p → get t (block_at w x p) ≡ None → 0 < p → NoneAbove w t x (p - 1)
+  pub none_above_next : (t : Table V) (x p : ℕ) → HasOnlyBlocks w t → NoneAbove w t x p → get t (block_at w x p) ≡ None → 0 < p → NoneAbove w t x (p - 1)
   none_above_next t x p blocks above none more n stored beyond = none_from t x p blocks above none n stored (omega arith)
 
-  pub none_at_all : (t : Table V) (x p : ℕ) → HasBlocksAlone w t → NoneAbove w t x p → get t (block_at w x p) ≡ None → p ≡ 0 → NoneHolds w t x
+  pub none_at_all : (t : Table V) (x p : ℕ) → HasOnlyBlocks w t → NoneAbove w t x p → get t (block_at w x p) ≡ None → p ≡ 0 → NoneHolds w t x
   none_at_all t x p blocks above none last n stored = none_from t x p blocks above none n stored (omega arith)
 
   pub longest_here : (t : Table V) (x p : ℕ) (n : Network) (v : V) → NoneAbove w t x p → x < 2 ^ w → n ≡ block_at w x p → get t n ≡ Some v → IsLongest w t x n v

@@ -4,7 +4,7 @@ use Rattle.std.specs.FinMap.{FinMap}
 use Rattle.std.proofs.lemmas.Bool.{cases_lt}
 use Rattle.ipnetwork_family.specs.Network.{Network, IsNetwork, Member, Subnet, IsNetworkAtMost, HostBitsAreZero, network_cmp, block_at}
 use Rattle.ipnetwork_family.proofs.Blocks.{block_same_set, coarser_size, member_within, within_member, subnet_from, shares_address, subnet_after}
-use Rattle.ipnetwork_table.specs.Table.{HasBlocksAlone, NoneHolds}
+use Rattle.ipnetwork_table.specs.Table.{HasOnlyBlocks, NoneHolds}
 use Rattle.ipnetwork_table.specs.Private.Nearest.{NoneUpTo, IsLastUpTo, NoneAbove, ShareAtMost}
 
 -- ---- how many bits are shared
@@ -33,13 +33,13 @@ address_up_to m n most = ⊎_elim (λ (less : m.address < n.address). omega (ari
 
 -- ---- the last block up to an address
 
-pub none_near : {V : Type 0} (w x : ℕ) (t : FinMap network_cmp V) → HasBlocksAlone w t → NoneUpTo t (block_at w x w) → NoneHolds w t x
+pub none_near : {V : Type 0} (w x : ℕ) (t : FinMap network_cmp V) → HasOnlyBlocks w t → NoneUpTo t (block_at w x w) → NoneHolds w t x
 none_near w x t blocks none n stored holds =
     let key = blocks n stored in
     none n stored (up_to_address w x n key.network key.block holds)
 
 -- no stored block that holds x has a longer prefix than x shares with the last one
-pub none_above_shared : {V : Type 0} (w x c : ℕ) (k : Network) (t : FinMap network_cmp V) → HasBlocksAlone w t
+pub none_above_shared : {V : Type 0} (w x c : ℕ) (k : Network) (t : FinMap network_cmp V) → HasOnlyBlocks w t
     → IsLastUpTo t (block_at w x w) k → ShareAtMost w x k.address c → NoneAbove w t x c
 none_above_shared w x c k t blocks last shared n stored beyond holds =
     let key = blocks n stored in
@@ -51,7 +51,7 @@ none_above_shared w x c k t blocks last shared n stored beyond holds =
     shared n.prefix beyond key.network.prefix_fits (inside.0, inside.1 ∙ sym holds.1)
 
 -- nor than that of the last one, where that holds x too
-pub none_above_near : {V : Type 0} (w x : ℕ) (k : Network) (t : FinMap network_cmp V) → HasBlocksAlone w t
+pub none_above_near : {V : Type 0} (w x : ℕ) (k : Network) (t : FinMap network_cmp V) → HasOnlyBlocks w t
     → IsLastUpTo t (block_at w x w) k → Member w k x → NoneAbove w t x k.prefix
 none_above_near w x k t blocks last here n stored beyond holds =
     let key = blocks n stored in

@@ -6,7 +6,7 @@ use Rattle.std.proofs.lemmas.Bool.{cases_lt}
 use Rattle.ipnetwork_family.specs.Network.{Network, network_cmp, block_at}
 use Rattle.ipnetwork_family.proofs.BlocksAt.{same_block}
 use Rattle.ipnetwork_table.specs.Laws.{BlocksOfAnyWidthThatMeet}
-use Rattle.ipnetwork_table.specs.Table.{HasBlocksAlone, HasNoHostBits, IsLongest, found_by_pair, Finds, Answers}
+use Rattle.ipnetwork_table.specs.Table.{HasOnlyBlocks, HasNoHostBits, IsLongest, found_by_pair, Finds, Answers}
 use Rattle.ipnetwork_table.specs.Private.Nearest.{NoneAbove}
 use Rattle.ipnetwork_table.proofs.Listing.{same_value}
 use Rattle.ipnetwork_table.proofs.Longest.{none_above_width, none_above_next, none_at_all, longest_here}
@@ -14,7 +14,7 @@ use Rattle.ipnetwork_table.proofs.Longest.{none_above_width, none_above_next, no
 pub blocks_meet : BlocksOfAnyWidthThatMeet
 blocks_meet w m n x block_m block_n same in_m in_n = same_block w m n block_m block_n same x in_m in_n
 
-module _ {V : Type 0} (w : ℕ) (t : FinMap network_cmp V) (x : ℕ) (blocks : HasBlocksAlone w t) where
+module _ {V : Type 0} (w : ℕ) (t : FinMap network_cmp V) (x : ℕ) (blocks : HasOnlyBlocks w t) where
   abbrev Found : Type 0
   Found = (answer : Option (Network × V)) × Answers w t x answer
 

@@ -2,7 +2,7 @@
 use Rattle.std.specs.Prelude.{◌≡◌, ◌≢◌, ℕ, ◌<◌, Option, None, Some, slice_get}
 use Rattle.std.specs.FinMap.{FinMap, empty, get, insert, remove, entries}
 use Rattle.ipnetwork_family.specs.Network.{Network, HostBitsAreZero, Member, Subnet, IsNetworkBefore, block_of, network_cmp}
-use Rattle.ipnetwork_table.specs.Table.{HasBlocksAlone, HasNoHostBits, Answers}
+use Rattle.ipnetwork_table.specs.Table.{HasOnlyBlocks, HasNoHostBits, Answers}
 use Rattle.ipnetwork_table.specs.Computed.Longest.{longest_of}
 
 -- two blocks of one prefix length that share an address are the same, for any number of bits
@@ -16,7 +16,7 @@ module _ (V : Type 0) where
 
   -- each content has a result for each address,
   abbrev pub AnswerExists : Type 0
-  AnswerExists = (w : ℕ) (t : FinMap network_cmp V) (x : ℕ) → HasBlocksAlone w t → (answer : Option (Network × V)) × Answers w t x answer
+  AnswerExists = (w : ℕ) (t : FinMap network_cmp V) (x : ℕ) → HasOnlyBlocks w t → (answer : Option (Network × V)) × Answers w t x answer
 
   -- and only one
   abbrev pub AnswerIsOne : Type 0
@@ -57,5 +57,5 @@ module _ (V : Type 0) where
 
   -- and no block lies in one that stands after it
   abbrev pub WiderBlocksFirst : Type 0
-  WiderBlocksFirst = (w : ℕ) (t : FinMap network_cmp V) (i j : ℕ) (d e : Network × V) → HasBlocksAlone w t
+  WiderBlocksFirst = (w : ℕ) (t : FinMap network_cmp V) (i j : ℕ) (d e : Network × V) → HasOnlyBlocks w t
       → slice_get (entries t) i ≡ Some d → slice_get (entries t) j ≡ Some e → i < j → ¬ (Subnet w d.0 e.0)

@@ -19,8 +19,8 @@ found_by_pair pair None = None
 found_by_pair pair (Some found) = Some (pair found.0, found.1)
 
 -- each key is a network without host bits
-abbrev pub HasBlocksAlone : {V : Type 0} → ℕ → FinMap network_cmp V → Type 0
-HasBlocksAlone w t = (n : Network) → IsSome (get t n) → IsCidrBlock w n
+abbrev pub HasOnlyBlocks : {V : Type 0} → ℕ → FinMap network_cmp V → Type 0
+HasOnlyBlocks w t = (n : Network) → IsSome (get t n) → IsCidrBlock w n
 
 -- no key has host bits
 abbrev pub HasNoHostBits : {V : Type 0} → ℕ → FinMap network_cmp V → Type 0

@@ -2,7 +2,7 @@
 ghost use Rattle.std.specs.Prelude.{◌≡◌, ℕ, ◌+◌, ◌≤◌, OnOk, OnErr, IfOk, None, MatchOption, ◌↔◌, IsTrue, IsSome, MatchBool};
 ghost use Rattle.std.specs.FinMap as map;
 ghost use Rattle.ipnetwork_family.specs.Network.{HostBitsAreZero, block_of};
-ghost use Rattle.ipnetwork_table.specs.Table.{HasBlocksAlone, NoneHolds, Finds, by_pair};
+ghost use Rattle.ipnetwork_table.specs.Table.{HasOnlyBlocks, NoneHolds, Finds, by_pair};
 ghost use Rattle.ipnetwork_table.specs.Private.Lengths.{SomeHasLength, NoneHasLength};
 ghost use Rattle.ipnetwork_table.specs.Private.Nearest.{NoneAbove};
 
@@ -38,7 +38,7 @@ pub struct PrefixTable<N: CidrNetwork, V: Copy> {
 impl<N: CidrNetwork, V: Copy> Model for PrefixTable<N, V> {
     ghost use Rattle.std.specs.FinMap as map;
     ghost use Rattle.ipnetwork_family.specs.Network.{network_cmp};
-    ghost use Rattle.ipnetwork_table.specs.Table.{network_code, HasBlocksAlone};
+    ghost use Rattle.ipnetwork_table.specs.Table.{network_code, HasOnlyBlocks};
     ghost use Rattle.ipnetwork_table.specs.Private.Lengths.{CountsLengths};
 
     ghost Value = { map.FinMap network_cmp V };
@@ -47,7 +47,7 @@ impl<N: CidrNetwork, V: Copy> Model for PrefixTable<N, V> {
 
     ghost view = { λ t. t.values };
 
-    ghost invariant = { λ t. HasBlocksAlone N.WIDTH t.values × CountsLengths t.values t.used };
+    ghost invariant = { λ t. HasOnlyBlocks N.WIDTH t.values × CountsLengths t.values t.used };
 }
 
 // The block of a network.
@@ -89,7 +89,7 @@ impl<N: CidrNetwork, V: Copy> PrefixTable<N, V> {
     /// ```
     pub fn len(&self) -> usize
         ensures count { result ≡ map.len self.now }
-        ensures blocks { HasBlocksAlone N.WIDTH self.now }
+        ensures blocks { HasOnlyBlocks N.WIDTH self.now }
     {
         self.values.len()
     }
@@ -117,7 +117,7 @@ impl<N: CidrNetwork, V: Copy> PrefixTable<N, V> {
     /// ```
     pub fn get(&self, net: N) -> Option<V>
         ensures value { result ≡ map.get self.now (block_of N.WIDTH (N.pair net)) }
-        ensures blocks { HasBlocksAlone N.WIDTH self.now }
+        ensures blocks { HasOnlyBlocks N.WIDTH self.now }
     {
         let mut steps = 0;
         self.values.probe(&mut steps, key_of(net))
@@ -146,7 +146,7 @@ impl<N: CidrNetwork, V: Copy> PrefixTable<N, V> {
     /// ```
     pub fn iter(&self) -> Entries<'_, N, V>
         ensures entries { by_pair N.pair result ≡ map.entries self.now }
-        ensures blocks { HasBlocksAlone N.WIDTH self.now }
+        ensures blocks { HasOnlyBlocks N.WIDTH self.now }
     {
         self.values.entries()
     }
@@ -234,7 +234,7 @@ impl<N: CidrNetwork, V: Copy> PrefixTable<N, V> {
     fn greatest_length(&self, addr: N::Addr) -> Option<u8>
         ensures bound { MatchOption result (NoneHolds N.WIDTH self.now (N.number addr))
             (λ length. (length ≤ N.WIDTH) × NoneAbove N.WIDTH self.now (N.number addr) length) }
-        ensures blocks { HasBlocksAlone N.WIDTH self.now }
+        ensures blocks { HasOnlyBlocks N.WIDTH self.now }
     {
         let Some(end) = N::block(addr, N::WIDTH) else {
             unreachable!()
@@ -264,7 +264,7 @@ impl<N: CidrNetwork, V: Copy> PrefixTable<N, V> {
     /// ```
     pub fn lookup(&self, addr: N::Addr) -> Option<(N, V)>
         ensures answer { Finds N.pair N.WIDTH self.now (N.number addr) result }
-        ensures blocks { HasBlocksAlone N.WIDTH self.now }
+        ensures blocks { HasOnlyBlocks N.WIDTH self.now }
     {
         let mut steps = 0;
         let mut length = self.greatest_length(addr)?;
@@ -287,6 +287,8 @@ impl<N: CidrNetwork, V: Copy> PrefixTable<N, V> {
     /// What `lookup` returns, and the number of look-ups in the map that it takes to ask for the block of each prefix
     /// length in turn, from `WIDTH` down: `WIDTH + 1` less the prefix length of the block that is found, `WIDTH + 1`
     /// if none is.
+    ///
+    /// This is a call for tests and proofs: `lookup` finds the same in fewer steps.
     ///
     /// ```
     /// let mut table = PrefixTable::new(rt.alloc());

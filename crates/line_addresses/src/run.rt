@@ -4,7 +4,7 @@ ghost use Rattle.line_addresses.specs.Addresses.{address_of, ends_with_mark, add
 ghost use Rattle.line_addresses.specs.Private.Runs.{IsRunEnd, Shows};
 
 use crate::byte_kind::{is_address_byte, is_run_byte};
-use crate::laws::{begins_no_address, named_address};
+use crate::laws;
 use crate::port::is_port;
 use byte_search::find_from;
 use ipnetwork_addr::IpAddr;
@@ -28,7 +28,7 @@ pub(crate) fn address_in(run: &[u8]) -> Option<(IpAddr, usize)>
     ensures { MatchOption result (address_in run.now ≡ None)
         (λ shown. Shows (address_in run.now) run.now shown.0 shown.1) }
 {
-    begins_no_address();
+    laws::begins_no_address();
     if run.is_empty() {
         return None;
     }
@@ -56,7 +56,7 @@ pub(crate) fn address_in(run: &[u8]) -> Option<(IpAddr, usize)>
 pub fn address_of(text: &[u8]) -> Option<IpAddr>
     ensures { result ≡ address_of text.now }
 {
-    named_address();
+    laws::named_address();
     match IpAddr::read_bytes(text) {
         Ok(address) => Some(address),
         Err(_) => None,

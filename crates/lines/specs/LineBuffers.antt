@@ -85,12 +85,12 @@ IsLess old new Ask = Unit {0}
 IsLess old new End = Unit {0}
 
 -- a read gave this many bytes, which are pending behind those that were; none only at the end of the input
-pub record Receives (left rest : Option (List ℕ)) (old new : Buffered) (count : ℕ) : Type 0 where
+pub record Receives (unread_before unread_after : Option (List ℕ)) (old new : Buffered) (count : ℕ) : Type 0 where
   pub chunk : List ℕ
   pub counted : length chunk ≡ count
-  pub consumed : Consumes left rest chunk
+  pub consumed : Consumes unread_before unread_after chunk
   pub holds : (pending : List ℕ) → IsPending old pending → IsPending new (pending ++ chunk)
-  pub at_end : count ≡ 0 → IsAtEnd rest
+  pub at_end : count ≡ 0 → IsAtEnd unread_after
 
 -- the bytes that wait stay where they are
 abbrev pub Stays : Buffered → Buffered → Type 0

@@ -16,11 +16,13 @@ pub record Written (W : Type 0) : Type 0 where
 
 -- a writer held the first bytes while the second waited; it holds the third, and the fourth wait: these were added
 abbrev pub Puts : Option (List ℕ) → List ℕ → Option (List ℕ) → List ℕ → List ℕ → Type 0
-Puts held waited holds waits added = (written : List ℕ) × Appends held holds written × (waited ++ added ≡ written ++ waits)
+Puts written_before waiting_before written_after waiting_after added = (written : List ℕ)
+    × Appends written_before written_after written × (waiting_before ++ added ≡ written ++ waiting_after)
 
 -- the writer, which held the first bytes and holds the second, took a beginning of the third
 abbrev pub AppendsBeginning : Option (List ℕ) → Option (List ℕ) → List ℕ → Type 0
-AppendsBeginning held holds bytes = (written : List ℕ) × Appends held holds written × IsBeginning written bytes
+AppendsBeginning written_before written_after bytes = (written : List ℕ)
+    × Appends written_before written_after written × IsBeginning written bytes
 
 -- the text was added to an output
 abbrev pub Prints : {W : Type 0} → Written W → Written W → List ℕ → Type 0

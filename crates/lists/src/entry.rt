@@ -3,7 +3,7 @@ ghost use Rattle.lists.specs.Entries.{ReadsEntry, ReadsText};
 ghost use Rattle.lists.specs.Private.Parts.{ReadsNetworkText};
 
 use crate::comment::{trim, without_comment};
-use crate::laws::network_texts_are_entries;
+use crate::laws as list_laws;
 use crate::range::read_range;
 use byte_search::find_from;
 use ipnetwork::{CidrFault, IpAddr, IpNetwork, cause};
@@ -63,7 +63,7 @@ pub fn read_entry(line: &[u8]) -> Result<Option<Entry>, EntryFault>
     ensures { ReadsEntry line.now result }
 {
     // Does nothing. The proof needs the law: a network text contains no mark of a comment, no blank and no `-`.
-    network_texts_are_entries();
+    list_laws::network_texts_are_entries();
     if let Ok(network) = IpNetwork::read_bytes(line) {
         return Ok(Some(Entry::Network(network)));
     }

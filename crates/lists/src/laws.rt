@@ -5,17 +5,16 @@ ghost use Rattle.lists.specs.Merges.{MergesOfPartsMerge};
 ghost use Rattle.lists.specs.Printed.{PrintedListsNameTheirNetworks};
 ghost use Rattle.lists.specs.Laws.{OneReading, NetworkTextsAreEntries, AddressTextsAreRanges};
 
-use ipnetwork::laws as networks;
-use ipnetwork::laws::{canonical_ip_network_bytes, canonical_ip_network_names_it};
-use ipnetwork_addr::laws as addresses;
-use ipnetwork_blocks::laws::{of_the_union, same_union};
+use ipnetwork::laws as network_laws;
+use ipnetwork_addr::laws as address_laws;
+use ipnetwork_blocks::laws as block_laws;
 
 /// A line has one reading: it is empty, it names one entry, or it is refused for one cause.
 pub fn line_says_one_thing()
     ensures { OneReading }
 {
-    networks::ip_network_text_names_one();
-    addresses::ip_text_names_one();
+    network_laws::ip_network_text_names_one();
+    address_laws::ip_text_names_one();
 }
 
 /// A line that is the text of a network, and nothing else, names that network: no text of a network contains a `-`, a
@@ -23,10 +22,10 @@ pub fn line_says_one_thing()
 pub fn network_texts_are_entries()
     ensures { NetworkTextsAreEntries }
 {
-    addresses::v4_text_bytes();
-    addresses::v6_text_bytes();
-    addresses::v4_text_is_computed();
-    addresses::v6_text_is_computed();
+    address_laws::v4_text_bytes();
+    address_laws::v6_text_bytes();
+    address_laws::v4_text_is_computed();
+    address_laws::v6_text_is_computed();
 }
 
 /// A line of two address texts with a `-` between them names the addresses from the first to the last, if they are of
@@ -34,10 +33,10 @@ pub fn network_texts_are_entries()
 pub fn address_texts_are_ranges()
     ensures { AddressTextsAreRanges }
 {
-    addresses::v4_text_bytes();
-    addresses::v6_text_bytes();
-    addresses::v4_text_is_computed();
-    addresses::v6_text_is_computed();
+    address_laws::v4_text_bytes();
+    address_laws::v6_text_bytes();
+    address_laws::v4_text_is_computed();
+    address_laws::v6_text_is_computed();
 }
 
 /// Lines that are taken add the addresses that they name, and no others, unless memory runs out for them.
@@ -52,8 +51,8 @@ pub fn lines_add_what_they_name()
 pub fn merges_of_parts_merge()
     ensures { MergesOfPartsMerge }
 {
-    same_union();
-    of_the_union();
+    block_laws::same_union();
+    block_laws::of_the_union();
 }
 
 /// A list that was printed, each network in its canonical text with a line feed, names the addresses of its networks
@@ -64,6 +63,6 @@ pub fn printed_lists_name_their_networks()
 {
     line_says_one_thing();
     network_texts_are_entries();
-    canonical_ip_network_names_it();
-    canonical_ip_network_bytes();
+    network_laws::canonical_ip_network_names_it();
+    network_laws::canonical_ip_network_bytes();
 }

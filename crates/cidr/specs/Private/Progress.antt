@@ -43,11 +43,11 @@ pub record FailsWithin (from : Standing) (holds : Option (List ℕ)) (asks : Lis
 
 -- what was read, within a limit of which there is room for so many more bytes: its first lines got answers, and what
 -- follows them is pending
-pub record RunSoFar (limit room : ℕ) (held : Buffered) (left rest : Option (List ℕ)) (start now : Standing) : Type 0 where
+pub record RunSoFar (limit room : ℕ) (held : Buffered) (unread_before unread_after : Option (List ℕ)) (start now : Standing) : Type 0 where
   pub read : List ℕ
-  pub consumed : Consumes left rest read
+  pub consumed : Consumes unread_before unread_after read
   pub counted : length read + room ≡ limit
-  pub at_end : held.ended ≡ true → IsAtEnd rest
+  pub at_end : held.ended ≡ true → IsAtEnd unread_after
   pub pending : List ℕ
   pub holds : IsPending held pending
   pub asks : List (List ℕ)

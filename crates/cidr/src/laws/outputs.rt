@@ -1,7 +1,7 @@
 //! The laws of outputs.
 ghost use Rattle.cidr.specs.Laws.Outputs.{FullIsComputed, ComputedIsAllowed, UnrefusedIsComputed, UnrefusedLinesAreComputed, OthersAreRouting, PlainLinesAskNothing, PlainInputsHaveOneOutput, SplitsAtLineEnds, PlainPartsRunAlone, AskingPartsRunAfterRoutes};
 
-use ipnetwork_table::laws as tables;
+use ipnetwork_table::laws as table_laws;
 
 /// If no `add` is out of memory, an input has one output, `output_of` of it; and each output that may be written is
 /// that one, unless one of its answers, and so one of its lines, is `out of memory`.
@@ -11,9 +11,9 @@ pub fn output_without_refusals()
     ensures only { UnrefusedIsComputed }
     ensures lines { UnrefusedLinesAreComputed }
 {
-    tables::answer_is_computed::<u32>();
-    tables::one_answer::<u32>();
-    tables::keys_without_host_bits::<u32>();
+    table_laws::answer_is_computed::<u32>();
+    table_laws::one_answer::<u32>();
+    table_laws::keys_without_host_bits::<u32>();
 }
 
 /// A line of any command but `add`, `drop` and `find` has one answer, whatever the routes are, and leaves them; each

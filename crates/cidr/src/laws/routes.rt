@@ -3,7 +3,7 @@ ghost use Rattle.cidr.specs.Laws.Routes.{AddsGet, DropsGet, FindsGet, FirstFinds
 
 use crate::laws::commands::lines_about_routes;
 use ipnetwork::laws;
-use ipnetwork_table::laws as tables;
+use ipnetwork_table::laws as table_laws;
 
 /// `add` and `drop` answer by the number that the block had, and change the number of the networks with the same set
 /// and of no other. `find` answers with the longest block that holds the address. Only an `add` of a block without a
@@ -16,8 +16,8 @@ pub fn routes_by_sets()
     laws::subnets();
     laws::blocks();
     laws::families_are_apart();
-    tables::one_key_changes::<u32>();
-    tables::keys_without_host_bits::<u32>();
+    table_laws::one_key_changes::<u32>();
+    table_laws::keys_without_host_bits::<u32>();
 }
 
 /// A run begins with no routes: a `find` in the first line of an input finds nothing, a `drop` there drops nothing, and

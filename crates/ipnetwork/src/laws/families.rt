@@ -14,7 +14,7 @@ ghost use Rattle.ipnetwork_family.specs.Parsing.{ParsesAsItReads};
 ghost use Rattle.ipnetwork.specs.declared.ip_network.IpNetwork.TheVariants as networks;
 
 use crate::{IpNetwork, IpNetworkError, ip_mask_to_prefix};
-use ipnetwork_family::laws as families;
+use ipnetwork_family::laws as family_laws;
 
 /// Each call that asks about a network of either family returns what that of its own family does.
 pub fn each_asks_its_family()
@@ -34,7 +34,7 @@ pub fn each_is_made_in_its_family()
     ensures takes_v4 { TakesItsFamily networks.V4 networks.V6 IsV4 TakesV4 }
     ensures takes_v6 { TakesItsFamily networks.V6 networks.V4 IsV6 TakesV6 }
 {
-    families::masks();
+    family_laws::masks();
 }
 
 /// The texts of a network of either family are those of its own family. Parsing returns what
@@ -50,7 +50,7 @@ pub fn each_is_read_in_its_family()
 pub fn ip_mask_converts_back(network: IpNetwork) -> Result<u8, IpNetworkError>
     ensures { result ≡ Ok (prefix_of network) }
 {
-    families::mask_conversion();
+    family_laws::mask_conversion();
     let _ = network.prefix();
     ip_mask_to_prefix(network.mask())
 }

@@ -10,7 +10,7 @@ ghost use Rattle.ipnetwork.specs.IpNetworkText.{ParsesIpNetwork, ip_network_text
 
 use super::{canonical_ip_network_names_it, ip_network_text_names_one};
 use crate::{IpNetwork, Ipv4Addr, Ipv6Addr, JsonFault};
-use ipnetwork_family::laws as families;
+use ipnetwork_family::laws as family_laws;
 use serde_json::{Error, Value};
 use std::alloc::Global;
 
@@ -20,8 +20,8 @@ pub fn ip_network_stands_in_quotes()
     ensures { (n : IpNetwork) → IsIpNetwork n
         → compact_text (string (ip_network_text n)) ≡ in_quotes (ip_network_text n) }
 {
-    families::network_stands_in_quotes::<Ipv4Addr>();
-    families::network_stands_in_quotes::<Ipv6Addr>();
+    family_laws::network_stands_in_quotes::<Ipv4Addr>();
+    family_laws::network_stands_in_quotes::<Ipv6Addr>();
 }
 
 /// Reading the value of a network returns that network and nothing else.

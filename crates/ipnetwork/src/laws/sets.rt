@@ -7,7 +7,7 @@ ghost use Rattle.ipnetwork_family.specs.Network.{Network, IsNetwork};
 ghost use Rattle.ipnetwork.specs.declared.ip_network.IpNetwork.TheVariants as networks;
 
 use crate::{IpAddr, IpNetwork};
-use ipnetwork_family::laws as families;
+use ipnetwork_family::laws as family_laws;
 
 /// Networks of two families have no address in common, and neither is part of the other.
 pub fn families_are_apart()
@@ -19,7 +19,7 @@ pub fn families_are_apart()
 pub fn ip_membership_is_computed()
     ensures { (n : IpNetwork) (x : IpAddr) → IsTrue (is_ip_member n x) ↔ IpMember n x }
 {
-    families::membership_is_computed();
+    family_laws::membership_is_computed();
 }
 
 /// A network is a subnet of another exactly if the computing test says so.
@@ -27,7 +27,7 @@ pub fn ip_subnet_is_computed()
     ensures { (a b : IpNetwork) → IsIpNetwork a → IsIpNetwork b
         → IsTrue (is_ip_subnet a b) ↔ IpSubnet a b }
 {
-    families::subnet_is_computed();
+    family_laws::subnet_is_computed();
 }
 
 /// The list of the members has each address of the set and no other, in ascending order, each once.
@@ -35,5 +35,5 @@ pub fn ip_listing()
     ensures members { IpMembersAreListed }
     ensures ascending { IpMembersAscend }
 {
-    families::listing();
+    family_laws::listing();
 }

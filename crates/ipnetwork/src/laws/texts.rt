@@ -9,19 +9,19 @@ ghost use Rattle.ipnetwork.specs.IpNetworkText.{NamesIpNetwork, ReadsIpNetwork, 
 ghost use Rattle.ipnetwork.specs.Computed.IpNetworkText.{ip_network_of};
 
 use crate::{IpNetwork, Ipv4Addr, Ipv6Addr};
-use ipnetwork_addr::laws as addresses;
-use ipnetwork_family::laws as families;
+use ipnetwork_addr::laws as address_laws;
+use ipnetwork_family::laws as family_laws;
 
 /// A text names at most one network, across both families.
 pub fn ip_network_text_names_one()
     ensures { (text : List ℕ) (a b : IpNetwork)
         → NamesIpNetwork text a → NamesIpNetwork text b → a ≡ b }
 {
-    addresses::v4_text_is_computed();
-    addresses::v6_text_is_computed();
-    addresses::no_text_names_both();
-    families::v4_network_reading_is_computed();
-    families::v6_network_reading_is_computed();
+    address_laws::v4_text_is_computed();
+    address_laws::v6_text_is_computed();
+    address_laws::no_text_names_both();
+    family_laws::v4_network_reading_is_computed();
+    family_laws::v6_network_reading_is_computed();
 }
 
 /// What reading a network of either family returns can be computed from the text, and the text
@@ -31,16 +31,16 @@ pub fn ip_network_reading_is_computed()
         → ReadsIpNetwork text result ↔ (result ≡ ip_network_of text) }
 {
     ip_network_text_names_one();
-    families::v4_network_reading_is_computed();
-    families::v6_network_reading_is_computed();
+    family_laws::v4_network_reading_is_computed();
+    family_laws::v6_network_reading_is_computed();
 }
 
 /// The canonical text of a network names it, host bits included.
 pub fn canonical_ip_network_names_it()
     ensures { (n : IpNetwork) → IsIpNetwork n → NamesIpNetwork (ip_network_text n) n }
 {
-    families::canonical_network_names_it::<Ipv4Addr>();
-    families::canonical_network_names_it::<Ipv6Addr>();
+    family_laws::canonical_network_names_it::<Ipv4Addr>();
+    family_laws::canonical_network_names_it::<Ipv6Addr>();
 }
 
 /// Reading the canonical text of a network returns that network and nothing else, so printing it
@@ -66,6 +66,6 @@ pub fn canonical_ip_network_is_one_to_one()
 pub fn canonical_ip_network_bytes()
     ensures { (n : IpNetwork) → IsIpNetwork n → AllByRecursion IsNetworkByte (ip_network_text n) }
 {
-    families::canonical_network_bytes::<Ipv4Addr>();
-    families::canonical_network_bytes::<Ipv6Addr>();
+    family_laws::canonical_network_bytes::<Ipv4Addr>();
+    family_laws::canonical_network_bytes::<Ipv6Addr>();
 }

@@ -7,7 +7,7 @@ ghost use Rattle.ipnetwork.specs.IpNetworks.{IsIpBefore, IsIpAtMost, ip_network_
 ghost use Rattle.ipnetwork.specs.Sizes.{size_number};
 
 use crate::{IpNetwork, NetworkSize, WrongFamily};
-use ipnetwork_addr::laws as addresses;
+use ipnetwork_addr::laws as address_laws;
 use std::alloc::AllocError;
 use std::cmp::Ordering;
 use std::hash::{Hash, Hasher};

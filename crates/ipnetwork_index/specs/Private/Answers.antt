@@ -3,7 +3,7 @@ use Rattle.std.specs.Prelude.{◌≡◌, ℕ, ◌^◌, ◌<◌, List, length, Op
 use Rattle.std.proofs.Common.{get_or}
 use Rattle.std.specs.FinMap.{FinMap}
 use Rattle.ipnetwork_family.specs.Network.{Network, network_cmp}
-use Rattle.ipnetwork_table.specs.Table.{HasBlocksAlone, Finds}
+use Rattle.ipnetwork_table.specs.Table.{HasOnlyBlocks, Finds}
 use Rattle.ipnetwork_index.specs.Turns.{CutByBlocks}
 use Rattle.ipnetwork_index.specs.Private.Partitions.{LiesAt}
 
@@ -21,7 +21,7 @@ AreAnswers pair w t lasts answers = AreAnswersUpTo pair w t lasts answers (lengt
 -- and each is what a look-up of any number of its range finds
 pub record IsAnswered {N V : Type 0} (pair : N → Network) (w : ℕ) (t : FinMap network_cmp V)
     (lasts : List ℕ) (answers : List (Option (N × V))) : Type 0 where
-  pub blocks : HasBlocksAlone w t
+  pub blocks : HasOnlyBlocks w t
   pub size : length answers ≡ length lasts
   pub all : (x at : ℕ) → x < 2 ^ w → LiesAt lasts x at → Finds pair w t x (get_or answers at None)
   pub cut : CutByBlocks w t (length lasts)

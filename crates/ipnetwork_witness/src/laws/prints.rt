@@ -11,7 +11,7 @@ ghost use Rattle.ipnetwork_addr.specs.Ipv4Text.{canonical_v4};
 ghost use Rattle.ipnetwork_addr.specs.Computed.Ipv6Canonical.{canonical_v6};
 ghost use Rattle.ipnetwork_witness.specs.Agreement.{SameV4, SameV6, SameIp};
 
-use ipnetwork_addr::laws as addresses;
+use ipnetwork_addr::laws as address_laws;
 
 /// The canonical text of an IPv4 address is what std prints of the address of the same bits.
 pub fn v4_prints_agree()
@@ -24,7 +24,7 @@ pub fn v6_prints_agree()
     ensures { (ours : ℕ) (theirs : std_v6.Ipv6Addr) → SameV6 ours theirs
         → canonical_v6 ours ≡ ipv6_text (ipv6_segments theirs) }
 {
-    addresses::canonical_v6_is_one_text();
+    address_laws::canonical_v6_is_one_text();
 }
 
 /// The canonical text of an address of either family is what std prints of the address of that family

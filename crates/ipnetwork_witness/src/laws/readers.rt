@@ -12,7 +12,7 @@ ghost use Rattle.ipnetwork_addr.specs.Reading.{Reads};
 ghost use Rattle.ipnetwork_witness.specs.Agreement.{Agree, SameV4, SameV6};
 
 use super::{v4_texts_are_shared, v6_texts_are_shared};
-use ipnetwork_addr::laws as addresses;
+use ipnetwork_addr::laws as address_laws;
 
 /// What reading a text as an IPv4 address returns here, and what std returns for it, are addresses of
 /// the same bits or two errors.
@@ -24,7 +24,7 @@ pub fn v4_readers_agree()
         → Agree SameV4 ours theirs }
 {
     v4_texts_are_shared();
-    addresses::v4_text_names_one();
+    address_laws::v4_text_names_one();
 }
 
 /// What reading a text as an IPv6 address returns here, and what std returns for it, are addresses of
@@ -37,5 +37,5 @@ pub fn v6_readers_agree()
         → Agree SameV6 ours theirs }
 {
     v6_texts_are_shared();
-    addresses::v6_text_names_one();
+    address_laws::v6_text_names_one();
 }

@@ -4,6 +4,6 @@ use Rattle.ipnetwork_family.proofs.laws.json_texts.network_stands_in_quotes.Goal
 
 pub returns : goal.returns
 returns g c n h =
-    let clear = c.texts_are_clear.ensures in
+    let clear = c.law_texts.ensures in
     let bytes = canonical_bytes g.A.Address.family clear g.met.A.Address.few_bits n h in
     stands_in_quotes _ bytes

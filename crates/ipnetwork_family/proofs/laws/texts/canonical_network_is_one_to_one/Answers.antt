@@ -2,4 +2,4 @@ use Rattle.ipnetwork_family.proofs.CanonicalNetworks.{canonical_differs}
 use Rattle.ipnetwork_family.proofs.laws.texts.canonical_network_is_one_to_one.Goals as goal
 
 pub returns : goal.returns
-returns g c = canonical_differs g.A.Address.family c.texts_are_clear.ensures
+returns g c = canonical_differs g.A.Address.family c.law_texts.ensures

@@ -9,7 +9,7 @@ returns-in_err-address g c =
     let p = err_from_is_err_and c.from_residual.result c.from_residual.ensures.1 in
     let fault = c.in_err-address.ensures in
     let A = g.A.Address in
-    let clear = c.texts_are_clear.ensures in
+    let clear = c.law_texts.ensures in
     let clean = address_no_slash A.family.NamesAddress clear.address_bytes in
     rw (p.1, p.2, fault.0) (
       fault.1,
@@ -20,7 +20,7 @@ returns-in_err-address g c =
 pub returns-in_default : goal.returns-in_default
 returns-in_default g c =
     let A = g.A.Address in
-    let clean = address_no_slash A.family.NamesAddress c.texts_are_clear.ensures.address_bytes in
+    let clean = address_no_slash A.family.NamesAddress c.law_texts.ensures.address_bytes in
     no_address A.WIDTH A.family.NamesAddress A.family.IsSuffix clean c.args.text.now _ _
     c.in_ok-address.ensures
     (λ x h. c.in_default.ensures.1 (A.of_number x)
@@ -29,7 +29,7 @@ returns-in_default g c =
 pub returns-in_default-prefix_length : goal.returns-in_default-prefix_length
 returns-in_default-prefix_length g c =
     let A = g.A.Address in
-    let clean = address_no_slash A.family.NamesAddress c.texts_are_clear.ensures.address_bytes in
+    let clean = address_no_slash A.family.NamesAddress c.law_texts.ensures.address_bytes in
     no_prefix A.WIDTH A.family.NamesAddress A.family.IsSuffix clean c.args.text.now _ _
     c.in_ok-address.ensures _ c.in-Ok.ensures c.in_default-prefix_length.ensures
 

@@ -1,5 +1,5 @@
 use Rattle.ipnetwork_family.proofs.CanonicalNetworks.{v4_clear}
-use Rattle.ipnetwork_family.proofs.ipv4.Ipv4AddrAddress.texts_are_clear.Goals as goal
+use Rattle.ipnetwork_family.proofs.ipv4.Ipv4AddrAddress.law_texts.Goals as goal
 
 pub returns : goal.returns
 returns c =
