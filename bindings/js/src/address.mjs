@@ -1,5 +1,5 @@
 import { addressCanonical, addressRead, v4Compare, v6Compare } from './library.mjs';
-import { ADDRESS, NUMBER, OTHER, bytes, view } from './memory.mjs';
+import { ADDRESS, LITTLE, NUMBER, OTHER, bytes, view, words } from './memory.mjs';
 import { addressError, textOf, wrongType } from './errors.mjs';
 import { askText, printed } from './texts.mjs';
 
@@ -21,12 +21,13 @@ let isIn;
 
 /** An address of either family. It does not change. */
 export class IpAddress {
-  #family;
+  /* Numbers from the beginning, so that an engine need not ask what they are. */
+  #family = 0;
   /* The octets, four in a number, as they stand in the memory. */
-  #a;
-  #b;
-  #c;
-  #d;
+  #a = 0;
+  #b = 0;
+  #c = 0;
+  #d = 0;
 
   static {
     familyIn = (address) => address.#family;
@@ -34,16 +35,17 @@ export class IpAddress {
     /* One for each family, so that an engine sees objects of one shape in it. */
     putFourIn = (address, place) => {
       if (address.#family !== 4) return false;
-      view.setInt32(place, address.#a, true);
+      words[place >>> 2] = address.#a;
       return true;
     };
     putSixIn = (address, place) => {
       if (address.#family !== 6) return false;
-      const target = view;
-      target.setInt32(place, address.#a, true);
-      target.setInt32(place + 4, address.#b, true);
-      target.setInt32(place + 8, address.#c, true);
-      target.setInt32(place + 12, address.#d, true);
+      const target = words;
+      const at = place >>> 2;
+      target[at] = address.#a;
+      target[at + 1] = address.#b;
+      target[at + 2] = address.#c;
+      target[at + 3] = address.#d;
       return true;
     };
     putIn = (address, place) => {
@@ -144,7 +146,7 @@ export class Ipv4Address extends IpAddress {
       throw new RangeError(`number is ${number}, not a whole number from 0 to 4294967295`);
     }
     view.setUint32(NUMBER, number, false);
-    super(MADE, 4, view.getInt32(NUMBER, true), 0, 0, 0);
+    super(MADE, 4, view.getInt32(NUMBER, LITTLE), 0, 0, 0);
   }
 
   static parse(text) {
@@ -183,8 +185,8 @@ export class Ipv6Address extends IpAddress {
     view.setBigUint64(NUMBER + 8, BigInt.asUintN(64, number), false);
     const from = view;
     super(
-      MADE, 6, from.getInt32(NUMBER, true), from.getInt32(NUMBER + 4, true),
-      from.getInt32(NUMBER + 8, true), from.getInt32(NUMBER + 12, true),
+      MADE, 6, from.getInt32(NUMBER, LITTLE), from.getInt32(NUMBER + 4, LITTLE),
+      from.getInt32(NUMBER + 8, LITTLE), from.getInt32(NUMBER + 12, LITTLE),
     );
   }
 
@@ -212,11 +214,11 @@ export class Ipv6Address extends IpAddress {
 /** The family of an address, 4 or 6. */
 export const familyOf = (address) => familyIn(address);
 
-/** Writes the octets of an address to the memory. */
+/** Writes the octets of an address to the memory, at a multiple of 4. */
 export const putAddress = (address, place) => putIn(address, place);
 
-/* Each writes the octets of a value to the memory, if it is an address of the family, and returns
- * whether it is; or throws a TypeError if it is no address. */
+/* Each writes the octets of a value to the memory, at a multiple of 4, if it is an address of the
+ * family, and returns whether it is; or throws a TypeError if it is no address. */
 export function putFour(value, place) {
   try {
     return putFourIn(value, place);
@@ -238,11 +240,11 @@ export const isAddress = (value) => isIn(value);
 /** The address whose octets, 4 or 16, stand at this place. */
 export function addressAt(place, length) {
   const from = view;
-  const first = from.getInt32(place, true);
+  const first = from.getInt32(place, LITTLE);
   if (length === 4) return new Ipv4Address(MADE, first);
   return new Ipv6Address(
-    MADE, first, from.getInt32(place + 4, true), from.getInt32(place + 8, true),
-    from.getInt32(place + 12, true),
+    MADE, first, from.getInt32(place + 4, LITTLE), from.getInt32(place + 8, LITTLE),
+    from.getInt32(place + 12, LITTLE),
   );
 }
 

@@ -1,4 +1,4 @@
-import { ADDRESS, NUMBER, view } from './memory.mjs';
+import { ADDRESS, LITTLE, NUMBER, view } from './memory.mjs';
 import { prefixError, wrongType } from './errors.mjs';
 import { addressOf, familyOf, putAddress } from './address.mjs';
 
@@ -46,5 +46,5 @@ export function requireParts(address, prefix, family, width) {
     throw prefixError(prefix, 0, width);
   }
   putAddress(member, ADDRESS);
-  return view.getInt32(ADDRESS, true);
+  return view.getInt32(ADDRESS, LITTLE);
 }

@@ -14,11 +14,16 @@ const LEAST_ORDER = 6;
 const LARGEST_ORDER = 31;
 const PAGE = 65536;
 
+/** Whether the engine has the low octets of such a number first, as the memory always has. */
+export const LITTLE = new Uint8Array(Uint32Array.of(1).buffer)[0] === 1;
+
 /**
- * The memory as bytes, and as numbers of 32 and 64 bits. Both are made anew where the memory grows.
+ * The memory as bytes, as numbers of 32 and 64 bits at any place, and as signed numbers of 32 bits
+ * one after the other, which are written faster. All are made anew where the memory grows.
  */
 export let bytes = new Uint8Array(library.memory.buffer);
 export let view = new DataView(library.memory.buffer);
+export let words = new Int32Array(library.memory.buffer);
 
 /* Free blocks by order: one of order k has 2^k bytes, and its place is a multiple of that. */
 const free = Array.from({ length: LARGEST_ORDER + 1 }, () => new Set());
@@ -71,6 +76,7 @@ function grow(order) {
   }
   bytes = new Uint8Array(library.memory.buffer);
   view = new DataView(library.memory.buffer);
+  words = new Int32Array(library.memory.buffer);
   addUpTo(bytes.length);
 }
 

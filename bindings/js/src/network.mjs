@@ -3,15 +3,13 @@ import {
   v4Nth, v4Overlaps, v4Read, v4Size, v4SubnetAt, v6Broadcast, v6Canonical, v6Compare, v6Contains,
   v6IsSubnetOf, v6Mask, v6Network, v6Nth, v6Overlaps, v6Read, v6Size, v6SubnetAt,
 } from './library.mjs';
-import { ADDRESS, ANSWER, NETWORK, NUMBER, OTHER, bytes, view } from './memory.mjs';
+import {
+  ADDRESS, ANSWER, LITTLE, NETWORK, NUMBER, OTHER, bytes, view, words,
+} from './memory.mjs';
 import { networkError, never, prefixError, textOf, wrongType } from './errors.mjs';
 import { putNumber, requireParts, wholeNumber } from './arguments.mjs';
 import { askText, printed } from './texts.mjs';
 import { INSPECT, IpAddress, MADE, addressAt, putFour, putSix } from './address.mjs';
-
-/* The network whose struct stands at NETWORK, so that asking one network again writes nothing
- * anew. */
-let held = null;
 
 /* Friends of the class: they reach its fields. */
 let holdFour;
@@ -24,45 +22,43 @@ let familyField;
  * A network of either family: an address, host bits kept, and a prefix length. It does not change.
  */
 export class IpNetwork {
-  #family;
+  /* Numbers from the beginning, so that an engine need not ask what they are. */
+  #family = 0;
   /* The octets of the address, four in a number, as they stand in the memory. */
-  #a;
-  #b;
-  #c;
-  #d;
-  #prefix;
+  #a = 0;
+  #b = 0;
+  #c = 0;
+  #d = 0;
+  #prefix = 0;
 
   static {
     familyField = (network) => network.#family;
     isField = (value) => typeof value === 'object' && value !== null && #family in value;
-    /* Each writes the struct to NETWORK, if it is not there: one for each family, so that an engine
-     * sees objects of one shape in it. */
+    /* Each writes the struct to NETWORK: one for each family, so that an engine sees objects of one
+     * shape in it. */
     holdFour = (network) => {
-      if (held === network) return;
-      view.setInt32(NETWORK, network.#a, true);
+      words[NETWORK >>> 2] = network.#a;
       bytes[NETWORK + 4] = network.#prefix;
-      held = network;
     };
     holdSix = (network) => {
-      if (held === network) return;
-      const target = view;
-      target.setInt32(NETWORK, network.#a, true);
-      target.setInt32(NETWORK + 4, network.#b, true);
-      target.setInt32(NETWORK + 8, network.#c, true);
-      target.setInt32(NETWORK + 12, network.#d, true);
+      const target = words;
+      const at = NETWORK >>> 2;
+      target[at] = network.#a;
+      target[at + 1] = network.#b;
+      target[at + 2] = network.#c;
+      target[at + 3] = network.#d;
       bytes[NETWORK + 16] = network.#prefix;
-      held = network;
     };
     putField = (network, place) => {
       const target = view;
-      target.setInt32(place, network.#a, true);
+      target.setInt32(place, network.#a, LITTLE);
       if (network.#family === 4) {
         bytes[place + 4] = network.#prefix;
         return;
       }
-      target.setInt32(place + 4, network.#b, true);
-      target.setInt32(place + 8, network.#c, true);
-      target.setInt32(place + 12, network.#d, true);
+      target.setInt32(place + 4, network.#b, LITTLE);
+      target.setInt32(place + 8, network.#c, LITTLE);
+      target.setInt32(place + 12, network.#d, LITTLE);
       bytes[place + 16] = network.#prefix;
     };
   }
@@ -320,8 +316,8 @@ export class Ipv6Network extends IpNetwork {
     }
     const first = requireParts(address, prefix, 6, 128);
     super(
-      MADE, 6, prefix, first, view.getInt32(ADDRESS + 4, true), view.getInt32(ADDRESS + 8, true),
-      view.getInt32(ADDRESS + 12, true),
+      MADE, 6, prefix, first, view.getInt32(ADDRESS + 4, LITTLE),
+      view.getInt32(ADDRESS + 8, LITTLE), view.getInt32(ADDRESS + 12, LITTLE),
     );
   }
 
@@ -363,10 +359,10 @@ export const putNetwork = (network, place) => putField(network, place);
 /** The network of this family whose struct stands at this place. */
 export function networkAt(place, family) {
   const from = view;
-  const first = from.getInt32(place, true);
+  const first = from.getInt32(place, LITTLE);
   if (family === 4) return new Ipv4Network(MADE, bytes[place + 4], first);
-  return new Ipv6Network(MADE, bytes[place + 16], first, from.getInt32(place + 4, true),
-    from.getInt32(place + 8, true), from.getInt32(place + 12, true));
+  return new Ipv6Network(MADE, bytes[place + 16], first, from.getInt32(place + 4, LITTLE),
+    from.getInt32(place + 8, LITTLE), from.getInt32(place + 12, LITTLE));
 }
 
 /** The network that an argument is or names, or a TypeError that names the argument. */

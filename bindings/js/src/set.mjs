@@ -152,7 +152,10 @@ function answersOf(list, rows) {
       place, 0, count, 0, index, 0, indexCount, 0, addresses, 0, length, 0,
       room, 0, length, 0, room + length, 0, length, 0,
     ));
-    for (let i = 0; i < length; i += 1) never(bytes[room + length + i]);
+    const written = bytes;
+    let faults = 0;
+    for (let i = length; i < 2 * length; i += 1) faults |= written[room + i];
+    never(faults);
     answers.set(bytes.subarray(room, room + length), first);
   }));
   return answers;
