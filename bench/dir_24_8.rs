@@ -20,7 +20,7 @@ fn main() {
             best = best.min(start.elapsed().as_nanos());
         }
         let bytes = 4 * (table.first.len() + table.rest.len());
-        println!("{count} routes: {} ps a look-up, {} MB, sum {sum}", best * 1000 / ASKED as u128, bytes >> 20);
+        println!("{count} routes: {} ps a look-up, {bytes} bytes, sum {sum}", best * 1000 / ASKED as u128);
     }
 }
 
