@@ -8,7 +8,7 @@ import "C"
 import "net/netip"
 
 // A function of C is called by cgo, which is given a copy of what is asked and gives one of what is answered. So nothing
-// escapes to the heap, and no memory of Go is passed but the blocks of a set or a table, which hold no pointers.
+// escapes to the heap, and no memory of Go is passed but the lists of a set or a table, which hold no pointers.
 
 func callAddress(function *[0]byte, call *C.address_call) {
 	*call = C.ipnetwork_go_of_address(function, *call)
@@ -28,7 +28,6 @@ func (held *lists) search(function *[0]byte, address netip.Addr) C.search_answer
 	if !give(address, &asked) {
 		return C.search_answer{fault: C.IPNETWORK_NO_FAMILY}
 	}
-	return C.ipnetwork_go_search(function, fourth(held.fours), C.size_t(len(held.fours)), starts(held.fourIndex),
-		C.size_t(len(held.fourIndex)), sixth(held.sixes), C.size_t(len(held.sixes)), starts(held.sixIndex),
-		C.size_t(len(held.sixIndex)), asked)
+	return C.ipnetwork_go_search(function, start(held.fours), size(held.fours), start(held.fourIndex), size(held.fourIndex),
+		start(held.sixes), size(held.sixes), start(held.sixIndex), size(held.sixIndex), asked)
 }

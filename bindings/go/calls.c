@@ -1,6 +1,7 @@
 //go:build linux && amd64
 
 #include "calls.h"
+#include "ranges.h"
 
 void ipnetwork_go_read(text_call *call) {
     call->fault = ipnetwork_read_with_cause(call->text, call->length, &call->network);
@@ -97,23 +98,25 @@ void ipnetwork_go_subnet_at(network_call *call) {
     }
 }
 
+static searched_list fours_of(const both_lists *lists) {
+    return (searched_list){4, (const uint8_t *)lists->fours, lists->four_count, lists->four_index, lists->four_index_length};
+}
+
+static searched_list sixes_of(const both_lists *lists) {
+    return (searched_list){16, (const uint8_t *)lists->sixes, lists->six_count, lists->six_index, lists->six_index_length};
+}
+
 /* Of an address without octets the answer is left as it is. */
 static ipnetwork_fault contains(const both_lists *lists, const ipnetwork_address *address, uint8_t *answer) {
-    if (address->length == 4)
-        return ipnetwork_v4_index_contains(lists->fours, lists->four_count, lists->four_index, lists->four_index_length,
-                                           address->octets, answer);
-    if (address->length == 16)
-        return ipnetwork_v6_index_contains(lists->sixes, lists->six_count, lists->six_index, lists->six_index_length,
-                                           address->octets, answer);
-    return IPNETWORK_NO_FAMILY;
+    if (address->length != 4 && address->length != 16) return IPNETWORK_NO_FAMILY;
+    searched_list list = address->length == 4 ? fours_of(lists) : sixes_of(lists);
+    return list_contains(&list, address->octets, answer);
 }
 
 static ipnetwork_fault find(const both_lists *lists, const ipnetwork_address *address, size_t *place) {
-    if (address->length == 4)
-        return ipnetwork_v4_table_find(lists->fours, lists->four_count, address->octets, place);
-    if (address->length == 16)
-        return ipnetwork_v6_table_find(lists->sixes, lists->six_count, address->octets, place);
-    return IPNETWORK_NO_FAMILY;
+    if (address->length != 4 && address->length != 16) return IPNETWORK_NO_FAMILY;
+    searched_list list = address->length == 4 ? fours_of(lists) : sixes_of(lists);
+    return list_find(&list, address->octets, place);
 }
 
 void ipnetwork_go_set_contains(search_call *call) {
@@ -147,21 +150,68 @@ search_answer ipnetwork_go_search(void (*function)(search_call *call), const ipn
     return call.told;
 }
 
-void ipnetwork_go_search_each(const ipnetwork_v4 *fours, size_t four_count, const uint32_t *four_index,
-                              size_t four_index_length, const ipnetwork_v6 *sixes, size_t six_count,
-                              const uint32_t *six_index, size_t six_index_length, const ipnetwork_address *addresses,
-                              size_t count, uint8_t *answers, int64_t *places) {
+void ipnetwork_go_contains_each(const ipnetwork_v4 *fours, size_t four_count, const uint32_t *four_index,
+                                size_t four_index_length, const ipnetwork_v6 *sixes, size_t six_count,
+                                const uint32_t *six_index, size_t six_index_length, const ipnetwork_address *addresses,
+                                size_t count, uint8_t *answers) {
     both_lists lists = {fours, four_count, four_index, four_index_length, sixes, six_count, six_index, six_index_length};
     for (size_t row = 0; row < count; row++) {
         uint8_t answer = 0;
-        size_t place = 0;
-        if (answers) {
-            (void)!contains(&lists, &addresses[row], &answer);
-            answers[row] = answer;
-        } else {
-            places[row] = find(&lists, &addresses[row], &place) == IPNETWORK_OK ? (int64_t)place : -1;
-        }
+        (void)!contains(&lists, &addresses[row], &answer);
+        answers[row] = answer;
     }
+}
+
+void ipnetwork_go_find_each(const ipnetwork_v4 *fours, size_t four_count, const uint32_t *four_index,
+                            size_t four_index_length, const int64_t *four_numbers, const ipnetwork_v6 *sixes,
+                            size_t six_count, const uint32_t *six_index, size_t six_index_length,
+                            const int64_t *six_numbers, const ipnetwork_address *addresses, size_t count, int64_t *told) {
+    both_lists lists = {fours, four_count, four_index, four_index_length, sixes, six_count, six_index, six_index_length};
+    for (size_t row = 0; row < count; row++) {
+        size_t place = 0;
+        if (find(&lists, &addresses[row], &place) != IPNETWORK_OK) told[row] = -1;
+        else told[row] = addresses[row].length == 4 ? four_numbers[place] : six_numbers[place];
+    }
+}
+
+void ipnetwork_go_contains_column(size_t width, const uint8_t *structs, size_t struct_count, const uint32_t *index,
+                                  size_t index_length, const uint8_t *addresses, size_t count, uint8_t *answers) {
+    searched_list list = {width, structs, struct_count, index, index_length};
+    for (size_t row = 0; row < count; row++) {
+        uint8_t answer = 0;
+        (void)!list_contains(&list, addresses + row * width, &answer);
+        answers[row] = answer;
+    }
+}
+
+void ipnetwork_go_find_column(size_t width, const uint8_t *structs, size_t struct_count, const uint32_t *index,
+                              size_t index_length, const int64_t *numbers, const uint8_t *addresses, size_t count,
+                              int64_t *told) {
+    searched_list list = {width, structs, struct_count, index, index_length};
+    for (size_t row = 0; row < count; row++) (void)!number_of(&list, numbers, addresses + row * width, &told[row]);
+}
+
+ipnetwork_fault ipnetwork_go_table(size_t width, const uint8_t *networks, size_t count, uint8_t *blocks, size_t *places) {
+    if (width == 4)
+        return ipnetwork_v4_table_make((const ipnetwork_v4 *)networks, count, (ipnetwork_v4 *)blocks, count, places, count);
+    return ipnetwork_v6_table_make((const ipnetwork_v6 *)networks, count, (ipnetwork_v6 *)blocks, count, places, count);
+}
+
+ipnetwork_fault ipnetwork_go_ranges(size_t width, const uint8_t *blocks, size_t count, uint8_t *ranges, size_t *range_count) {
+    return ranges_of(blocks, count, width, ranges, range_count);
+}
+
+size_t ipnetwork_go_index_size(size_t count) { return list_index_size(count); }
+
+ipnetwork_fault ipnetwork_go_index(size_t width, const uint8_t *structs, size_t count, uint32_t *index, size_t length) {
+    return list_index(width, structs, count, index, length);
+}
+
+ipnetwork_fault ipnetwork_go_range_numbers(size_t width, const uint8_t *blocks, size_t count, const uint32_t *index,
+                                           size_t index_length, const int64_t *numbers, const uint8_t *ranges,
+                                           size_t range_count, int64_t *told) {
+    searched_list table = {width, blocks, count, index, index_length};
+    return range_numbers(&table, numbers, ranges, range_count, told);
 }
 
 ipnetwork_fault ipnetwork_go_operate_v4(int operation, const ipnetwork_v4 *first, size_t first_count, const ipnetwork_v4 *second,

@@ -20,25 +20,35 @@ func TestNoAllocations(t *testing.T) {
 	table, _ := NewTable(networks)
 	set, _ := NewSet(networks)
 	room := make([]byte, 0, 64)
+	packed, numbers, answers := make([]byte, 4096), make([]int, 1024), make([]byte, 1024)
 	text := []byte("2001:db8::1:2:3/64")
 	var read Network
 	for name, ask := range map[string]func(){
-		"Parse":       func() { read, _ = Parse("2001:db8::1/64") },
-		"ParseAddr":   func() { _, _ = ParseAddr("2001:db8::1") },
-		"of bytes":    func() { _ = read.UnmarshalText(text) },
-		"of a part":   func() { read, _ = Parse(string(text[:11])) },
-		"New":         func() { read, _ = New(one, 8) },
-		"Contains":    func() { sink = inFour.Contains(one) != inSix.Contains(other) },
-		"relations":   func() { sink = inFour.IsSubnetOf(inSix) || inFour.Overlaps(inSix) || inFour.Compare(inSix) == 0 },
-		"ends":        func() { sink = inFour.Network() == inSix.Broadcast() || inFour.Mask() == inSix.Mask() },
-		"AppendTo":    func() { room = inSix.AppendTo(room[:0]) },
-		"Find":        func() { sink = table.Find(one) != table.Find(other) },
-		"in a Set":    func() { sink = set.Contains(one) != set.Contains(other) },
+		"Parse":     func() { read, _ = Parse("2001:db8::1/64") },
+		"ParseAddr": func() { _, _ = ParseAddr("2001:db8::1") },
+		"of bytes":  func() { _ = read.UnmarshalText(text) },
+		"of a part": func() { read, _ = Parse(string(text[:11])) },
+		"New":       func() { read, _ = New(one, 8) },
+		"Contains":  func() { sink = inFour.Contains(one) != inSix.Contains(other) },
+		"relations": func() { sink = inFour.IsSubnetOf(inSix) || inFour.Overlaps(inSix) || inFour.Compare(inSix) == 0 },
+		"ends":      func() { sink = inFour.Network() == inSix.Broadcast() || inFour.Mask() == inSix.Mask() },
+		"AppendTo":  func() { room = inSix.AppendTo(room[:0]) },
+		"Find":      func() { sink = table.Find(one) != table.Find(other) },
+		"in a Set":  func() { sink = set.Contains(one) != set.Contains(other) },
+		"columns": func() {
+			sink = table.FindColumn(packed, 4, numbers) != set.ContainsColumn(packed, 16, answers)
+		},
 		"no address":  func() { sink = table.Find(netip.Addr{}) == 0 || set.Contains(netip.Addr{}) },
 		"no network":  func() { _, _ = Parse("10.1.9.32/33") },
 		"of a prefix": func() { read, _ = FromPrefix(netip.PrefixFrom(other, 64)) },
 	} {
 		equal(t, "allocations of "+name, testing.AllocsPerRun(100, ask), 0.0)
+	}
+	for name, ask := range map[string]func(){
+		"FindEach":     func() { sink = table.FindEach([]netip.Addr{one, other})[0] == 0 },
+		"ContainsEach": func() { sink = set.ContainsEach([]netip.Addr{one, other})[0] },
+	} {
+		equal(t, "allocations of "+name, testing.AllocsPerRun(100, ask), 1.0)
 	}
 	var line string
 	equal(t, "allocations of String", testing.AllocsPerRun(100, func() { line = inSix.String() }), 1.0)

@@ -21,8 +21,8 @@ func (network Network) ContainsColumn(packed []byte, answers []byte) error {
 	if network.Bits() < 0 || len(packed)%width != 0 {
 		return NoFamily
 	}
-	rows, addresses := C.size_t(len(packed)/width), (*C.uint8_t)(first(packed))
-	told, room := (*C.uint8_t)(first(answers)), C.size_t(len(answers))
+	rows, addresses := C.size_t(len(packed)/width), bytesOf(packed)
+	told, room := bytesOf(answers), C.size_t(len(answers))
 	if network.held.family == 4 {
 		return faultOf(C.ipnetwork_v4_contains_column(&network.held.v4, addresses, rows, told, room))
 	}
@@ -30,12 +30,7 @@ func (network Network) ContainsColumn(packed []byte, answers []byte) error {
 }
 
 // offsetsOf is the first of some offsets, or none.
-func offsetsOf(offsets []uint32) *C.uint32_t {
-	if len(offsets) == 0 {
-		return nil
-	}
-	return (*C.uint32_t)(unsafe.Pointer(&offsets[0]))
-}
+func offsetsOf(offsets []uint32) *C.uint32_t { return (*C.uint32_t)(unsafe.Pointer(start(offsets))) }
 
 func rowsOf(offsets []uint32) int {
 	if len(offsets) == 0 {
@@ -49,14 +44,8 @@ func rowsOf(offsets []uint32) int {
 // Network, and faults[i] is the cause, as Parse has it. The error is NoOffsets if the offsets fall, or pass the end, and
 // NoRoom if there are fewer networks, or faults, than texts: then nothing is written.
 func ReadColumn(texts []byte, offsets []uint32, networks []Network, faults []byte) error {
-	var place *C.ipnetwork_ip
-	if len(networks) > 0 {
-		place = &networks[0].held
-	}
-	number := C.ipnetwork_read_with_cause_column((*C.char)(first(texts)), C.size_t(len(texts)), offsetsOf(offsets),
-		C.size_t(len(offsets)), place, C.size_t(len(networks)), (*C.uint8_t)(first(faults)), C.size_t(len(faults)))
-	if number != C.IPNETWORK_OK {
-		return Fault(number)
+	if err := readInto(texts, offsets, networks, faults); err != nil {
+		return err
 	}
 	for row, fault := range faults[:rowsOf(offsets)] {
 		if fault != C.IPNETWORK_OK {
@@ -66,17 +55,26 @@ func ReadColumn(texts []byte, offsets []uint32, networks []Network, faults []byt
 	return nil
 }
 
+// readInto is ReadColumn, but leaves networks[i] as it was if text i names no network.
+func readInto(texts []byte, offsets []uint32, networks []Network, faults []byte) error {
+	return faultOf(C.ipnetwork_read_with_cause_column((*C.char)(unsafe.Pointer(start(texts))), size(texts), offsetsOf(offsets),
+		size(offsets), held(networks), size(networks), bytesOf(faults), size(faults)))
+}
+
+// held is the first of some networks as the library holds it, or none.
+func held(networks []Network) *C.ipnetwork_ip {
+	return (*C.ipnetwork_ip)(unsafe.Pointer(start(networks)))
+}
+
 // ParseColumn is ReadColumn into memory of its own.
 func ParseColumn(texts []byte, offsets []uint32) ([]Network, []Fault, error) {
 	rows := rowsOf(offsets)
 	networks, told := make([]Network, rows), make([]byte, rows)
-	if err := ReadColumn(texts, offsets, networks, told); err != nil {
+	if err := readInto(texts, offsets, networks, told); err != nil {
 		return nil, nil, err
 	}
 	faults := make([]Fault, rows)
-	for row, fault := range told {
-		faults[row] = Fault(fault)
-	}
+	widen(told, faults)
 	return networks, faults, nil
 }
 
@@ -85,12 +83,8 @@ func ParseColumn(texts []byte, offsets []uint32) ([]Network, []Fault, error) {
 func ParseAddrColumn(texts []byte, offsets []uint32) ([]netip.Addr, error) {
 	rows := rowsOf(offsets)
 	held, told := make([]C.ipnetwork_address, rows), make([]byte, rows)
-	var place *C.ipnetwork_address
-	if rows > 0 {
-		place = &held[0]
-	}
-	number := C.ipnetwork_address_read_column((*C.char)(first(texts)), C.size_t(len(texts)), offsetsOf(offsets),
-		C.size_t(len(offsets)), place, C.size_t(rows), (*C.uint8_t)(first(told)), C.size_t(rows))
+	number := C.ipnetwork_address_read_column((*C.char)(unsafe.Pointer(start(texts))), size(texts), offsetsOf(offsets), size(offsets),
+		start(held), size(held), bytesOf(told), size(told))
 	if number != C.IPNETWORK_OK {
 		return nil, Fault(number)
 	}
@@ -107,13 +101,9 @@ func ParseAddrColumn(texts []byte, offsets []uint32) ([]netip.Addr, error) {
 // begins and the last ends. NoFamily if one is the zero Network; NoRoom if the texts have more than 2147483647 bytes.
 func PrintColumn(networks []Network) ([]byte, []uint32, error) {
 	texts, offsets := make([]byte, len(networks)*(C.IPNETWORK_V6_TEXT-1)), make([]uint32, len(networks)+1)
-	var place *C.ipnetwork_ip
-	if len(networks) > 0 {
-		place = &networks[0].held
-	}
 	var length C.size_t
-	number := C.ipnetwork_print_column(place, C.size_t(len(networks)), (*C.char)(first(texts)), C.size_t(len(texts)),
-		offsetsOf(offsets), C.size_t(len(offsets)), &length)
+	number := C.ipnetwork_print_column(held(networks), size(networks), (*C.char)(unsafe.Pointer(start(texts))), size(texts),
+		offsetsOf(offsets), size(offsets), &length)
 	if number != C.IPNETWORK_OK {
 		return nil, nil, Fault(number)
 	}
@@ -129,13 +119,9 @@ func PrintAddrColumn(addresses []netip.Addr) ([]byte, []uint32, error) {
 			return nil, nil, NoFamily
 		}
 	}
-	var place *C.ipnetwork_address
-	if len(rows) > 0 {
-		place = &rows[0]
-	}
 	var length C.size_t
-	number := C.ipnetwork_address_print_column(place, C.size_t(len(rows)), (*C.char)(first(texts)), C.size_t(len(texts)),
-		offsetsOf(offsets), C.size_t(len(offsets)), &length)
+	number := C.ipnetwork_address_print_column(start(rows), size(rows), (*C.char)(unsafe.Pointer(start(texts))), size(texts),
+		offsetsOf(offsets), size(offsets), &length)
 	if number != C.IPNETWORK_OK {
 		return nil, nil, Fault(number)
 	}

@@ -7,48 +7,69 @@ import "C"
 
 import (
 	"net/netip"
-	"unsafe"
+	"sync"
 )
 
-// portion is how many rows of a slice one call takes at most, and longest is how many bytes a text has at most that is
-// copied to stand among others.
-const portion, longest = 1024, 4096
+// longest is how many bytes a text has at most that is copied to stand among others, and kept how many bytes of texts are
+// kept at most for the next call.
+const longest, kept = 4096, 1 << 17
+
+// A textRoom has texts one after the other, their offsets, and what is told of each.
+type textRoom struct {
+	bytes   []byte
+	offsets [portion + 1]uint32
+	told    [portion]byte
+}
+
+// textRooms are used again.
+var textRooms = sync.Pool{New: func() any { return new(textRoom) }}
+
+// take puts the texts that come before one that is too long into the room, at most 1,024, and tells how many they are.
+func (room *textRoom) take(texts []string) int {
+	room.bytes = room.bytes[:0]
+	for row, text := range texts[:least(len(texts), portion)] {
+		if len(text) > longest {
+			return row
+		}
+		room.bytes = append(room.bytes, text...)
+		room.offsets[row+1] = uint32(len(room.bytes))
+	}
+	return least(len(texts), portion)
+}
 
 // ParseEach reads each text as Parse does, by one call for each 1,024 of them. If a text names no network, the network is
 // the zero Network, and the fault is the cause; the other faults are 0.
 func ParseEach(texts []string) ([]Network, []Fault) {
 	networks, faults := make([]Network, len(texts)), make([]Fault, len(texts))
-	var bytes []byte
-	offsets, told := make([]uint32, 1, least(len(texts), portion)+1), make([]byte, least(len(texts), portion))
-	from := 0
-	read := func() {
-		rows := len(offsets) - 1
-		if err := ReadColumn(bytes, offsets, networks[from:from+rows], told[:rows]); err != nil {
+	room := textRooms.Get().(*textRoom)
+	for from := 0; from < len(texts); {
+		rows := room.take(texts[from:])
+		if err := readInto(room.bytes, room.offsets[:rows+1], networks[from:from+rows], room.told[:rows]); err != nil {
 			panic(err)
 		}
-		for row, fault := range told[:rows] {
-			faults[from+row] = Fault(fault)
-		}
-		bytes, offsets, from = bytes[:0], offsets[:1], from+rows
-	}
-	for row, text := range texts {
-		if len(text) > longest {
-			read()
-			network, err := Parse(text)
+		widen(room.told[:rows], faults[from:])
+		from += rows
+		if from < len(texts) && len(texts[from]) > longest {
+			network, err := Parse(texts[from])
 			if err != nil {
-				faults[row] = err.(Fault)
+				faults[from] = err.(Fault)
 			}
-			networks[row], from = network, row+1
-			continue
-		}
-		bytes = append(bytes, text...)
-		offsets = append(offsets, uint32(len(bytes)))
-		if len(offsets) > portion {
-			read()
+			networks[from] = network
+			from++
 		}
 	}
-	read()
+	if cap(room.bytes) <= kept {
+		textRooms.Put(room)
+	}
 	return networks, faults
+}
+
+// widen gives what is told of each row as faults.
+func widen(told []byte, faults []Fault) {
+	faults = faults[:len(told)]
+	for row, fault := range told {
+		faults[row] = Fault(fault)
+	}
 }
 
 // ContainsEach reports for each address whether it is a member of the network, as Contains does, by one call for each 1,024
@@ -90,46 +111,4 @@ func pack(address netip.Addr, octets []byte) bool {
 	}
 	*(*[16]byte)(octets) = address.As16()
 	return true
-}
-
-// inPortions gives the addresses to a call as the library takes them, at most 1,024 at a time, with the number of the first.
-func inPortions(addresses []netip.Addr, call func(from int, held []C.ipnetwork_address)) {
-	held := make([]C.ipnetwork_address, least(len(addresses), portion))
-	for from := 0; from < len(addresses); from += portion {
-		some := addresses[from:least(from+portion, len(addresses))]
-		for row, address := range some {
-			if !give(address, &held[row]) {
-				held[row].length = 0
-			}
-		}
-		call(from, held[:len(some)])
-	}
-}
-
-// ContainsEach reports for each address whether it is one of the set, as Contains does, by one call for each 1,024 of them.
-func (set Set) ContainsEach(addresses []netip.Addr) []bool {
-	answers := make([]bool, len(addresses))
-	inPortions(addresses, func(from int, held []C.ipnetwork_address) {
-		// A bool of Go is a byte, 0 or 1.
-		set.searchEach(held, (*C.uint8_t)(unsafe.Pointer(&answers[from])), nil)
-	})
-	return answers
-}
-
-// FindEach returns for each address what Find does, by one call for each 1,024 of them.
-func (table Table) FindEach(addresses []netip.Addr) []int {
-	numbers := make([]int, len(addresses))
-	inPortions(addresses, func(from int, held []C.ipnetwork_address) {
-		table.searchEach(held, nil, (*C.int64_t)(unsafe.Pointer(&numbers[from])))
-		for row := range held {
-			switch place := numbers[from+row]; {
-			case place < 0:
-			case held[row].length == 4:
-				numbers[from+row] = table.fourNumbers[place]
-			default:
-				numbers[from+row] = table.sixNumbers[place]
-			}
-		}
-	})
-	return numbers
 }

@@ -5,73 +5,86 @@ package ipnetwork
 // #include "calls.h"
 import "C"
 
-import "unsafe"
+import (
+	"net/netip"
+	"sync"
+	"unsafe"
+)
 
-// lists are the blocks of a set or a table, those of each family by themselves, and the index by which those of a set are
-// searched. A table has none: where an address is in no block, or in one that lies around others, it is searched again and
-// again, which takes most of the time.
+// lists are the blocks of a set, or the ranges of a table, those of each family by themselves, with the index by which they
+// are searched. They do not change, so that any goroutines may ask them at the same time.
 type lists struct {
 	fours               []C.ipnetwork_v4
 	sixes               []C.ipnetwork_v6
 	fourIndex, sixIndex []C.uint32_t
 }
 
-func fourth(networks []C.ipnetwork_v4) *C.ipnetwork_v4 {
-	if len(networks) == 0 {
+// start is the first element of a slice, or nil.
+func start[Element any](elements []Element) *Element {
+	if len(elements) == 0 {
 		return nil
 	}
-	return &networks[0]
+	return &elements[0]
 }
 
-func sixth(networks []C.ipnetwork_v6) *C.ipnetwork_v6 {
-	if len(networks) == 0 {
-		return nil
-	}
-	return &networks[0]
+func size[Element any](elements []Element) C.size_t { return C.size_t(len(elements)) }
+
+// trimmed is a copy of a list in memory of its length.
+func trimmed[Struct any](structs []Struct) []Struct { return append([]Struct(nil), structs...) }
+
+// bytesOf is the first byte of some elements, or nil.
+func bytesOf[Element any](elements []Element) *C.uint8_t {
+	return (*C.uint8_t)(unsafe.Pointer(start(elements)))
 }
 
-// first is the first of some bytes, or none.
-func first(bytes []byte) unsafe.Pointer {
-	if len(bytes) == 0 {
-		return nil
-	}
-	return unsafe.Pointer(&bytes[0])
-}
-
-// starts is the first number of an index, or none.
-func starts(index []C.uint32_t) *C.uint32_t {
-	if len(index) == 0 {
-		return nil
-	}
-	return &index[0]
+// indexed gives the index of a list of structs, whose addresses have so many octets: four numbers of 32 bits for each struct,
+// 2^20 at most, and none if they are fewer than eight.
+func indexed[Struct any](width C.size_t, structs []Struct) ([]C.uint32_t, error) {
+	index := make([]C.uint32_t, C.ipnetwork_go_index_size(size(structs)))
+	number := C.ipnetwork_go_index(width, bytesOf(structs), size(structs), start(index), size(index))
+	return index, faultOf(number)
 }
 
 // index makes the index of each list.
-func (held *lists) index() error {
-	held.fourIndex, held.sixIndex = room(len(held.fours)), room(len(held.sixes))
-	number := C.ipnetwork_v4_index_make(fourth(held.fours), C.size_t(len(held.fours)), starts(held.fourIndex), C.size_t(len(held.fourIndex)))
-	if number == C.IPNETWORK_OK {
-		number = C.ipnetwork_v6_index_make(sixth(held.sixes), C.size_t(len(held.sixes)), starts(held.sixIndex), C.size_t(len(held.sixIndex)))
+func (held *lists) index() (err error) {
+	if held.fourIndex, err = indexed(4, held.fours); err == nil {
+		held.sixIndex, err = indexed(16, held.sixes)
 	}
-	return faultOf(number)
+	return err
 }
 
-// room is that of the index of a list. The library says how long it should be, and one of a few blocks is searched as fast
-// without one.
-func room(blocks int) []C.uint32_t {
-	if blocks < 8 {
-		return nil
+// packedRows is how many addresses of 4 or 16 octets a column has; NoFamily of another length, and if it ends within one.
+func packedRows(packed []byte, length int) (int, error) {
+	if length != 4 && length != 16 || len(packed)%length != 0 {
+		return 0, NoFamily
 	}
-	var length C.size_t
-	if C.ipnetwork_index_size(C.size_t(blocks), &length) != C.IPNETWORK_OK {
-		return nil
-	}
-	return make([]C.uint32_t, length)
+	return len(packed) / length, nil
 }
 
-// searchEach asks by one call for each address whether it is in the set, if there are answers, or else where in the table.
-func (held *lists) searchEach(addresses []C.ipnetwork_address, answers *C.uint8_t, places *C.int64_t) {
-	C.ipnetwork_go_search_each(fourth(held.fours), C.size_t(len(held.fours)), starts(held.fourIndex),
-		C.size_t(len(held.fourIndex)), sixth(held.sixes), C.size_t(len(held.sixes)), starts(held.sixIndex),
-		C.size_t(len(held.sixIndex)), &addresses[0], C.size_t(len(addresses)), answers, places)
+// portion is how many rows of a slice one call takes at most.
+const portion = 1024
+
+// addressRooms are those of addresses as the library takes them, which are used again.
+var addressRooms = sync.Pool{New: func() any { return new([portion]C.ipnetwork_address) }}
+
+// inPortions gives the addresses to a call as the library takes them, at most 1,024 at a time, with the number of the first.
+func inPortions(addresses []netip.Addr, call func(from int, held []C.ipnetwork_address)) {
+	room := addressRooms.Get().(*[portion]C.ipnetwork_address)
+	for from := 0; from < len(addresses); from += portion {
+		some := addresses[from:least(from+portion, len(addresses))]
+		for row, address := range some {
+			if !give(address, &room[row]) {
+				room[row].length = 0
+			}
+		}
+		call(from, room[:len(some)])
+	}
+	addressRooms.Put(room)
+}
+
+func least(one, other int) int {
+	if one < other {
+		return one
+	}
+	return other
 }

@@ -32,9 +32,8 @@ func callText(function *[0]byte, call *C.text_call) {
 
 // search is without an answer, and has a fault, if the address has a zone or is none.
 func (held *lists) search(function *[0]byte, address netip.Addr) C.search_answer {
-	call := C.search_call{lists: C.both_lists{fourth(held.fours), C.size_t(len(held.fours)), starts(held.fourIndex),
-		C.size_t(len(held.fourIndex)), sixth(held.sixes), C.size_t(len(held.sixes)), starts(held.sixIndex),
-		C.size_t(len(held.sixIndex))}}
+	call := C.search_call{lists: C.both_lists{start(held.fours), size(held.fours), start(held.fourIndex), size(held.fourIndex),
+		start(held.sixes), size(held.sixes), start(held.sixIndex), size(held.sixIndex)}}
 	if !give(address, &call.address) {
 		return C.search_answer{fault: C.IPNETWORK_NO_FAMILY}
 	}

@@ -5,12 +5,18 @@ package ipnetwork
 // #include "calls.h"
 import "C"
 
-import "net/netip"
+import (
+	"net/netip"
+	"unsafe"
+)
 
 var toSearchSet = (*[0]byte)(C.ipnetwork_go_set_contains)
 
-// A Set is the addresses of networks of either family. It holds the fewest networks that have them, and an index of these.
+// A Set is the addresses of networks of either family. It does not change, and any goroutines may ask it at the same time.
 // The zero Set has none.
+//
+// It holds the fewest networks that have these addresses, and an index of them: 21 bytes for each IPv4 network, and 33 for
+// each IPv6.
 type Set struct{ lists }
 
 // NewSet gives the addresses of networks, in any order, host bits or not; NoFamily if one is the zero Network.
@@ -32,13 +38,13 @@ func NewSet(networks []Network) (Set, error) {
 
 func (set *Set) aggregate() error {
 	var fours, sixes C.size_t
-	if number := C.ipnetwork_v4_aggregate(fourth(set.fours), C.size_t(len(set.fours)), &fours); number != C.IPNETWORK_OK {
+	if number := C.ipnetwork_v4_aggregate(start(set.fours), size(set.fours), &fours); number != C.IPNETWORK_OK {
 		return Fault(number)
 	}
-	if number := C.ipnetwork_v6_aggregate(sixth(set.sixes), C.size_t(len(set.sixes)), &sixes); number != C.IPNETWORK_OK {
+	if number := C.ipnetwork_v6_aggregate(start(set.sixes), size(set.sixes), &sixes); number != C.IPNETWORK_OK {
 		return Fault(number)
 	}
-	set.fours, set.sixes = set.fours[:fours], set.sixes[:sixes]
+	set.fours, set.sixes = trimmed(set.fours[:fours]), trimmed(set.sixes[:sixes])
 	return set.index()
 }
 
@@ -57,10 +63,10 @@ func (set Set) operate(operation C.int, other Set) (Set, error) {
 	for room := len(set.fours) + len(other.fours); ; {
 		var count C.size_t
 		made.fours = make([]C.ipnetwork_v4, room)
-		number := C.ipnetwork_go_operate_v4(operation, fourth(set.fours), C.size_t(len(set.fours)), fourth(other.fours),
-			C.size_t(len(other.fours)), fourth(made.fours), C.size_t(room), &count)
+		number := C.ipnetwork_go_operate_v4(operation, start(set.fours), size(set.fours), start(other.fours),
+			size(other.fours), start(made.fours), C.size_t(room), &count)
 		if number == C.IPNETWORK_OK {
-			made.fours = made.fours[:count]
+			made.fours = trimmed(made.fours[:count])
 			break
 		} else if number != C.IPNETWORK_SHORT_BUFFER {
 			return Set{}, Fault(number)
@@ -70,10 +76,10 @@ func (set Set) operate(operation C.int, other Set) (Set, error) {
 	for room := len(set.sixes) + len(other.sixes); ; {
 		var count C.size_t
 		made.sixes = make([]C.ipnetwork_v6, room)
-		number := C.ipnetwork_go_operate_v6(operation, sixth(set.sixes), C.size_t(len(set.sixes)), sixth(other.sixes),
-			C.size_t(len(other.sixes)), sixth(made.sixes), C.size_t(room), &count)
+		number := C.ipnetwork_go_operate_v6(operation, start(set.sixes), size(set.sixes), start(other.sixes),
+			size(other.sixes), start(made.sixes), C.size_t(room), &count)
 		if number == C.IPNETWORK_OK {
-			made.sixes = made.sixes[:count]
+			made.sixes = trimmed(made.sixes[:count])
 			break
 		} else if number != C.IPNETWORK_SHORT_BUFFER {
 			return Set{}, Fault(number)
@@ -105,4 +111,39 @@ func Aggregate(networks []Network) ([]Network, error) {
 // Contains reports whether an address is one of the set, by a search in a few steps. No address with a zone is.
 func (set Set) Contains(address netip.Addr) bool {
 	return set.search(toSearchSet, address).answer == 1
+}
+
+// ContainsColumn writes 1 or 0 to answers for each address of a column: whether it is one of the set, as Contains reports.
+// The column has packed addresses of one family, one after the other, of length octets each: 4 or 16. NoFamily for another
+// length, and if the column ends within an address; NoRoom if there are fewer answers than addresses: then nothing is
+// written.
+func (set Set) ContainsColumn(packed []byte, length int, answers []byte) error {
+	rows, err := packedRows(packed, length)
+	if err != nil {
+		return err
+	}
+	if len(answers) < rows {
+		return NoRoom
+	}
+	addresses, told := bytesOf(packed), bytesOf(answers)
+	if length == 4 {
+		C.ipnetwork_go_contains_column(4, bytesOf(set.fours), size(set.fours), start(set.fourIndex),
+			size(set.fourIndex), addresses, C.size_t(rows), told)
+	} else {
+		C.ipnetwork_go_contains_column(16, bytesOf(set.sixes), size(set.sixes), start(set.sixIndex),
+			size(set.sixIndex), addresses, C.size_t(rows), told)
+	}
+	return nil
+}
+
+// ContainsEach reports for each address whether it is one of the set, as Contains does, by one call for each 1,024 of them.
+func (set Set) ContainsEach(addresses []netip.Addr) []bool {
+	answers := make([]bool, len(addresses))
+	inPortions(addresses, func(from int, held []C.ipnetwork_address) {
+		// A bool of Go is a byte, 0 or 1.
+		C.ipnetwork_go_contains_each(start(set.fours), size(set.fours), start(set.fourIndex), size(set.fourIndex),
+			start(set.sixes), size(set.sixes), start(set.sixIndex), size(set.sixIndex), &held[0], size(held),
+			(*C.uint8_t)(unsafe.Pointer(&answers[from])))
+	})
+	return answers
 }

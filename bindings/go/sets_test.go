@@ -4,6 +4,7 @@ import (
 	"fmt"
 	"math/rand"
 	"net/netip"
+	"sync"
 	"testing"
 )
 
@@ -67,16 +68,22 @@ func TestOperationsOnSets(t *testing.T) {
 	equal(t, "none", fmt.Sprint(empty.Networks(), err), "[] <nil>")
 }
 
-// asColumns compares the numbers of a column of each family with those of single addresses.
-func asColumns(t *testing.T, table Table, addresses []netip.Addr) {
+// asColumns compares what a column of each family is answered with what single addresses are.
+func asColumns(t *testing.T, table Table, set Set, addresses []netip.Addr) {
 	for _, length := range []int{4, 16} {
-		var packed []byte
+		var packed, has []byte
 		var wanted []int
 		for _, address := range addresses {
 			if address.IsValid() && address.BitLen() == 8*length && address.Zone() == "" {
 				packed, wanted = append(packed, address.AsSlice()...), append(wanted, table.Find(address))
+				has = append(has, map[bool]byte{false: 0, true: 1}[set.Contains(address)])
 			}
 		}
+		answers := append(make([]byte, len(has)), 99)
+		equal(t, "column", set.ContainsColumn(packed, length, answers), nil)
+		equal(t, "column", string(answers), string(append(has, 99)))
+		equal(t, "no room", set.ContainsColumn(packed, length, answers[:len(has)-1]), NoRoom)
+		equal(t, "a part of an address", set.ContainsColumn(packed[1:], length, answers), NoFamily)
 		numbers := make([]int, len(wanted)+1)
 		numbers[len(wanted)] = 99
 		equal(t, "column", table.FindColumn(packed, length, numbers), nil)
@@ -85,7 +92,9 @@ func asColumns(t *testing.T, table Table, addresses []netip.Addr) {
 		equal(t, "a part of an address", table.FindColumn(packed[1:], length, numbers), NoFamily)
 	}
 	equal(t, "another length", table.FindColumn(nil, 8, nil), NoFamily)
+	equal(t, "another length", set.ContainsColumn(nil, 0, nil), NoFamily)
 	equal(t, "no rows", table.FindColumn(nil, 16, nil), nil)
+	equal(t, "no rows", set.ContainsColumn(nil, 4, nil), nil)
 }
 
 // More addresses than one call takes, in a table of one network of each family, and in a set.
@@ -113,7 +122,7 @@ func TestManyRows(t *testing.T) {
 			fmt.Sprint(wanted, wanted >= 0, wanted == 0, wanted == 1))
 		equal(t, address.String(), fmt.Sprint(table.Find(address), set.Contains(address)), fmt.Sprint(wanted, wanted >= 0))
 	}
-	asColumns(t, table, addresses)
+	asColumns(t, table, set, addresses)
 }
 
 // Tables of random networks: of each address the last network of the greatest prefix length that has it.
@@ -123,6 +132,8 @@ func TestTables(t *testing.T) {
 		networks, _ := blocksWithin256(random, round%20)
 		table, err := NewTable(networks)
 		equal(t, "table", err, nil)
+		set, err := NewSet(networks)
+		equal(t, "set", err, nil)
 		var addresses []netip.Addr
 		for host := 0; host < 256; host++ {
 			addresses = append(addresses, netip.AddrFrom4([4]byte{192, 0, 2, byte(host)}), netip.AddrFrom16([16]byte{0x20, 1, 15: byte(host)}))
@@ -139,12 +150,62 @@ func TestTables(t *testing.T) {
 			equal(t, "found", found[row], wanted)
 			equal(t, "found", table.Find(address), wanted)
 		}
-		asColumns(t, table, addresses)
+		asColumns(t, table, set, addresses)
 	}
 	_, err := NewTable([]Network{MustParse("::/0"), {}})
 	equal(t, "zero", err, NoFamily)
 	var none Table
 	equal(t, "none", none.Find(netip.MustParseAddr("10.0.0.1")), -1)
+	asColumns(t, none, Set{}, []netip.Addr{netip.MustParseAddr("10.0.0.1"), netip.MustParseAddr("::1")})
+}
+
+// Networks that lie in each other, down to one address, at both ends of the address space: where one ends there is another.
+func TestNested(t *testing.T) {
+	for _, corner := range []string{"0.0.0.0", "255.255.255.255", "192.0.2.77", "::", "ffff:ffff:ffff:ffff:ffff:ffff:ffff:ffff", "2001:db8::77"} {
+		address := netip.MustParseAddr(corner)
+		var networks []Network
+		for bits := 0; bits <= address.BitLen(); bits++ {
+			network, _ := New(address, bits)
+			networks = append(networks, network, network)
+		}
+		table, err := NewTable(networks)
+		equal(t, corner, err, nil)
+		for bits := 0; bits <= address.BitLen(); bits++ {
+			for _, asked := range []netip.Addr{networks[2*bits].Network(), networks[2*bits].Broadcast()} {
+				wanted := 0
+				for wanted < address.BitLen() && networks[2*wanted+2].Contains(asked) {
+					wanted++
+				}
+				equal(t, asked.String(), table.Find(asked), 2*wanted+1)
+			}
+		}
+	}
+}
+
+// Goroutines that ask one table and one set at the same time, while others are made of the same networks.
+func TestAskedAtOnce(t *testing.T) {
+	networks, addresses := networks10000()
+	table, _ := NewTable(networks)
+	set, _ := NewSet(networks)
+	found, has := table.FindEach(addresses), set.ContainsEach(addresses)
+	var wait sync.WaitGroup
+	for worker := 0; worker < 8; worker++ {
+		wait.Add(1)
+		go func(worker int) {
+			defer wait.Done()
+			for row := worker; row < len(addresses); row += 3 {
+				if table.Find(addresses[row]) != found[row] || set.Contains(addresses[row]) != has[row] {
+					t.Errorf("%v: another answer", addresses[row])
+				}
+			}
+			if worker%2 == 0 {
+				other, _ := NewTable(networks)
+				equal(t, "the same", fmt.Sprint(other.FindEach(addresses)), fmt.Sprint(found))
+			}
+			equal(t, "the same", fmt.Sprint(set.ContainsEach(addresses), table.FindEach(addresses)), fmt.Sprint(has, found))
+		}(worker)
+	}
+	wait.Wait()
 }
 
 // A table and a set of many networks of each family, beside a search of all of them.
@@ -166,6 +227,10 @@ func TestManyNetworks(t *testing.T) {
 	equal(t, "table", err, nil)
 	set, err := NewSet(networks)
 	equal(t, "set", err, nil)
+	// The memory that the comments of Table and Set state.
+	equal(t, "ranges", len(table.fours) <= 3000 && len(table.sixes) <= 3000, true)
+	equal(t, "the index of a table", len(table.fourIndex) <= 4*len(table.fours) && len(table.sixIndex) <= 4*len(table.sixes), true)
+	equal(t, "the index of a set", len(set.fourIndex) <= 4*len(set.fours) && len(set.sixIndex) <= 4*len(set.sixes), true)
 	found, has := table.FindEach(addresses), set.ContainsEach(addresses)
 	for row, address := range addresses {
 		wanted := -1
@@ -177,5 +242,5 @@ func TestManyNetworks(t *testing.T) {
 		equal(t, address.String(), fmt.Sprint(table.Find(address), found[row]), fmt.Sprint(wanted, wanted))
 		equal(t, address.String(), fmt.Sprint(set.Contains(address), has[row]), fmt.Sprint(wanted >= 0, wanted >= 0))
 	}
-	asColumns(t, table, addresses)
+	asColumns(t, table, set, addresses)
 }

@@ -3,6 +3,7 @@ package ipnetwork
 import (
 	"math/rand"
 	"net/netip"
+	"strings"
 	"testing"
 )
 
@@ -117,10 +118,32 @@ func BenchmarkContainsEach(b *testing.B) {
 	benchRows(b, func() { sink = network.ContainsEach(addresses)[0] })
 }
 
-func BenchmarkReadColumn(b *testing.B) {
-	whole, offsets, _ := texts(rand.New(rand.NewSource(1)), many)
+// benchReadColumn is of the texts that benchParse reads, and of random texts of both families, of which some name nothing.
+func benchReadColumn(b *testing.B, whole []byte, offsets []uint32) {
 	networks, faults := make([]Network, many), make([]byte, many)
 	benchRows(b, func() { _ = ReadColumn(whole, offsets, networks, faults) })
+}
+
+func sameTexts(text string) (whole []byte, offsets []uint32) {
+	for row := 0; row <= many; row++ {
+		offsets = append(offsets, uint32(row*len(text)))
+	}
+	return []byte(strings.Repeat(text, many)), offsets
+}
+
+func BenchmarkReadColumn4(b *testing.B) {
+	whole, offsets := sameTexts(fourText)
+	benchReadColumn(b, whole, offsets)
+}
+
+func BenchmarkReadColumn6(b *testing.B) {
+	whole, offsets := sameTexts(sixText)
+	benchReadColumn(b, whole, offsets)
+}
+
+func BenchmarkReadColumn(b *testing.B) {
+	whole, offsets, _ := texts(rand.New(rand.NewSource(1)), many)
+	benchReadColumn(b, whole, offsets)
 }
 
 func BenchmarkParseAddrColumn(b *testing.B) {
@@ -188,11 +211,38 @@ func BenchmarkContainsOfSet(b *testing.B) {
 	}
 }
 
+// packed10000 are many of the addresses of networks10000, one after the other.
+func packed10000(addresses []netip.Addr) (packed []byte) {
+	for _, address := range addresses[:many] {
+		packed = append(packed, address.AsSlice()...)
+	}
+	return packed
+}
+
 func BenchmarkFindColumn(b *testing.B) {
 	table, addresses := tableOf10000()
-	packed, numbers := make([]byte, 0, 4*many), make([]int, many)
-	for row := range numbers {
-		packed = append(packed, addresses[row].AsSlice()...)
-	}
+	packed, numbers := packed10000(addresses), make([]int, many)
 	benchRows(b, func() { _ = table.FindColumn(packed, 4, numbers) })
+}
+
+func BenchmarkFindEach(b *testing.B) {
+	table, addresses := tableOf10000()
+	benchRows(b, func() { sink = table.FindEach(addresses[:many])[0] < 0 })
+}
+
+func BenchmarkContainsColumnOfSet(b *testing.B) {
+	networks, addresses := networks10000()
+	set, _ := NewSet(networks)
+	packed, answers := packed10000(addresses), make([]byte, many)
+	benchRows(b, func() { _ = set.ContainsColumn(packed, 4, answers) })
+}
+
+// A whole table.
+func BenchmarkNewTableOf10000(b *testing.B) {
+	networks, _ := networks10000()
+	b.ReportAllocs()
+	b.ResetTimer()
+	for i := 0; i < b.N; i++ {
+		_, _ = NewTable(networks)
+	}
 }

@@ -1,5 +1,5 @@
 """Makes the wheel of the package ipnetwork and of the library that it calls, for `pip install ./bindings/python`, and the
-source distribution, which has the static library and its header, so that it builds where it is unpacked.
+source distribution, which has the static library and the headers, so that it builds where it is unpacked.
 
 It needs no other package, and so no network: only cc with its objdump, and the static library, as `rt lib` in
 crates/ipnetwork_c makes it. The environment variable IPNETWORK_C_LIB names another folder that has libipnetwork_c.a.
@@ -133,7 +133,7 @@ def build_sdist(sdist_directory, config_settings=None):
         **{name: (HERE / name).read_bytes() for name in ("pyproject.toml", "build_wheel.py")},
         **{name: (TOP / name).read_bytes() for name in ("VERSION", *LICENSES)},
         **{f"ipnetwork/{file.name}": file.read_bytes() for file in sources},
-        "c/ipnetwork.h": (HEADERS / "ipnetwork.h").read_bytes(),
+        **{f"c/{name}": (HEADERS / name).read_bytes() for name in ("ipnetwork.h", "ranges.h")},
         "c/libipnetwork_c.a": _archive().read_bytes(),
     }
     with tarfile.open(pathlib.Path(sdist_directory) / f"{base}.tar.gz", "w:gz", format=tarfile.PAX_FORMAT) as archive:

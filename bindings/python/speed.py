@@ -1,8 +1,8 @@
 """Nanoseconds a call of this package and of ``ipaddress``, side by side, and of a row of the columns.
 
-    speed.py [networks|columns|sets ...]
+    speed.py [networks|columns|sets|routes ...]
 
-With no argument all three parts are measured. Each figure is the least of 15 runs, which take turns, so that what else the machine does meets both. Which core of the
+With no argument all four parts are measured. Each figure is the least of 15 runs, which take turns, so that what else the machine does meets both. Which core of the
 package is measured stands in the first line: see ``ipnetwork.CORE``. The columns need NumPy.
 """
 
@@ -81,10 +81,7 @@ def columns(rng):
     fours = [str(IPv4Address(rng.getrandbits(32))) for _ in range(ROWS)]
     sixes = [str(IPv6Address(rng.getrandbits(128) & ~(0xFFFFFFFF << rng.randrange(96)))) for _ in range(ROWS)]
     for name, texts, net in (("IPv4", fours, "10.0.0.0/8"), ("IPv6", sixes, "2001:db8::/32")):
-        offsets = array.array("I", [0])
-        for text in texts:
-            offsets.append(offsets[-1] + len(text))
-        whole = "".join(texts).encode()
+        whole, offsets = laid(texts)
         kind = type(ipnetwork.ip_network(net))
         addresses, _ = ipnetwork.read_address_column(whole, offsets)
         width = 4 if name == "IPv4" else 16
@@ -157,6 +154,44 @@ def sets_and_tables(kind, address, width, rng):
         yield f"{name}.join of a list of str, a row", *times
 
 
+def routes(kind, address, width, rng):
+    """Addresses, of which half lie in one of MANY routes, asked for the longest: a row, beside py-radix if it is here."""
+    shortest = 20 if width == 32 else 32
+    longest = 29 if width == 32 else 65
+    networks = [kind.of(address(rng.getrandbits(width)), rng.randrange(shortest, longest)) for _ in range(MANY)]
+    asked = [address(rng.getrandbits(width)) for _ in range(ROWS // 2)] + [rng.choice(networks).broadcast_address for _ in range(ROWS // 2)]
+    rng.shuffle(asked)
+    texts = list(map(str, asked))
+    table, column = Table(networks), ipnetwork.read_address_column(*laid(texts))[0]
+    calls = {"Table.find_column of addresses that are read": lambda: table.find_column(column), "Table.find_column of a list of str": lambda: table.find_column(texts)}
+    try:
+        from radix import Radix
+    except ImportError:
+        pass
+    else:
+        tree = Radix()
+        for number, network in enumerate(networks):
+            tree.add(str(network)).data["number"] = number
+        search = tree.search_best
+        calls["py-radix: search_best of each str"] = lambda: [search(text) for text in texts]
+    return list(zip(calls, least(*calls.values(), count=ROWS)))
+
+
+def laid(texts):
+    offsets = array.array("I", [0])
+    for text in texts:
+        offsets.append(offsets[-1] + len(text))
+    return "".join(texts).encode(), offsets
+
+
+def print_routes(rng):
+    print(f"a table of {MANY} routes, ns a row: IPv4, IPv6")
+    fours = routes(IPv4Network, IPv4Address, 32, rng)
+    sixes = routes(IPv6Network, IPv6Address, 128, rng)
+    for (name, four), (_, six) in zip(fours, sixes):
+        print(f"{name:44} {four:9.1f} {six:9.1f}")
+
+
 def print_networks(rng):
     slower = 0
     for rows in (
@@ -191,7 +226,7 @@ def main():
         PARTS[part](rng)
 
 
-PARTS = {"networks": print_networks, "columns": print_columns, "sets": print_sets}
+PARTS = {"networks": print_networks, "columns": print_columns, "sets": print_sets, "routes": print_routes}
 
 if __name__ == "__main__":
     main()

@@ -7,6 +7,7 @@ import faulthandler
 import functools
 import io
 import ipaddress
+import pickle
 import sys
 import unittest
 from ipaddress import IPv4Address, IPv6Address
@@ -35,7 +36,8 @@ FRAMES = sys.version_info >= (3, 12)
 def core_calls():
     """Calls of the extension itself, without a frame of Python."""
     core, four, six = ipnetwork._core, ip_network("10.1.9.32/16"), ip_network("2001:db8::1/32")
-    fours, sixes = test_memory.SET._fours, test_memory.SET._sixes
+    fours, sixes = test_memory.MANY._fours, test_memory.MANY._sixes
+    asked_set, asked_table = test_memory.MANY._indexed(), test_memory.MANY_ROUTES._made()
     for kind, text in ((IPv4Network, "10.1.9.32/16"), (IPv6Network, "2001:db8::1/32")):
         yield functools.partial(kind, text)
         yield functools.partial(core.ip_network, text)
@@ -52,15 +54,17 @@ def core_calls():
         yield functools.partial(network.__getitem__, -1)
         yield functools.partial(network.contains_column, bytes(32))
     for asked in (*test_memory.ASKED, four, six, ipaddress.ip_network("10.1.0.0/16")):
-        yield functools.partial(core.set_contains, fours, sixes, asked)
+        yield functools.partial(core.set_contains, asked_set, asked)
         yield functools.partial(
             core.longest_key, test_memory.ROUTES._values, b"\x10\x08", b"\x20", asked
         )
     for asked in test_memory.ASKED:
-        yield functools.partial(core.table_find, *test_memory.TABLE._search, asked)
+        yield functools.partial(core.table_find, asked_table, asked)
     for version, rows in ((4, fours), (6, sixes)):
         yield functools.partial(core.aggregate, version, rows * 3)
         yield functools.partial(core.table_make, version, rows * 3)
+        yield functools.partial(core.index, version, rows)
+        yield functools.partial(core.ranges, version, rows, bytes(8 * len(rows)))
         for sign in "|&-":
             yield functools.partial(core.operate, sign, version, rows, rows)
             yield functools.partial(core.is_empty, sign, version, rows, rows)
@@ -73,8 +77,8 @@ def core_calls():
     for offsets in (test_memory.OFFSETS, test_memory.WIDE):
         for kind in (0, 4, 6):
             yield functools.partial(core.read_rows, kind, test_memory.TEXTS, offsets)
-    yield functools.partial(core.set_contains_column, fours, sixes, test_memory.ROWS)
-    yield functools.partial(core.table_find_column, *test_memory.TABLE._search, test_memory.ROWS)
+    yield functools.partial(core.set_contains_column, asked_set, test_memory.ROWS)
+    yield functools.partial(core.table_find_column, asked_table, test_memory.ROWS)
     yield functools.partial(core.layout, ["10.1.2.3", None, b"::1"], None)
 
 
@@ -151,6 +155,51 @@ class Refused(unittest.TestCase):
                     break
                 made, _ = refused(builder.build)
                 self.assertEqual(made, wanted)
+
+    @unittest.skipIf(FRAMES, "the interpreter faults")
+    def test_an_index_that_is_refused(self):
+        asked, rows = test_memory.ASKED[:2], test_memory.ROWS
+        for make, calls in (
+            (
+                lambda: AddressSet(test_memory.MANY),
+                (
+                    lambda given: [each in given for each in asked],
+                    lambda given: given.covers(test_memory.NETWORKS[2]),
+                    lambda given: given.contains_column(rows),
+                ),
+            ),
+            (
+                lambda: pickle.loads(pickle.dumps(test_memory.MANY_ROUTES)),
+                (
+                    lambda given: list(map(given.find, asked)),
+                    lambda given: given.find_column(rows),
+                    lambda given: given.join(rows),
+                ),
+            ),
+            (
+                lambda: PrefixTable((network, 7) for network in test_memory.MANY),
+                (
+                    lambda given: [given.get(each) for each in asked * 9],
+                    lambda given: given.join(rows * 9),  # as many rows as make the index
+                ),
+            ),
+        ):
+            wanted = [call(make()) for call in calls]
+            for call, answer in zip(calls, wanted):
+                for turn in range(MOST):
+                    given, raised = make(), False
+                    set_nomemory(turn, turn + 1)
+                    try:
+                        told = call(given)
+                    except MemoryError:
+                        raised = True
+                    finally:
+                        remove_mem_hooks()
+                    self.assertEqual([each(given) for each in calls], wanted)
+                    self.assertEqual(len(given), len(make()))
+                    if not raised:
+                        self.assertEqual(told, answer)
+                        break
 
     @unittest.skipIf(FRAMES, "the interpreter faults")
     def test_a_table_is_as_it_was(self):

@@ -6,7 +6,7 @@ import unittest
 
 import numpy
 
-from ipnetwork import AddressSet, IPv4Network, Table, ip_network
+from ipnetwork import AddressSet, IPv4Network, PrefixTable, Table, ip_network
 from ipnetwork.columns import find, is_member, layout, read_addresses
 
 try:
@@ -88,6 +88,8 @@ class Columns(unittest.TestCase):
         addresses, _ = read_addresses(TEXTS)
         self.assertEqual(find(addresses[::2], table).tolist(), wanted[::2])
         self.assertEqual(find([], table).tolist(), [])
+        with self.assertRaisesRegex(TypeError, "not PrefixTable: .* join"):
+            find(["10.0.0.1"], PrefixTable())
 
     def test_rows_without_a_text(self):
         rows = ["10.0.0.1", None, float("nan"), numpy.float32("nan"), "::1"]

@@ -24,6 +24,13 @@ NETWORKS = [ip_network("10.0.0.0/8"), ip_network("2001:db8::/32"), ip_network("1
 SET, OTHER, TABLE = AddressSet(NETWORKS), AddressSet([ip_network("10.64.0.0/10")]), Table(NETWORKS)
 ROWS, _ = ipnetwork.read_address_column(TEXTS, OFFSETS)
 ASKED = [IPv4Address("10.1.2.3"), IPv6Address("::"), IPv6Address("fe80::1%eth0"), NETWORKS[0]]
+#: Sets and tables of so many networks have an index once they are asked.
+MANY = AddressSet(
+    ip_network(text)
+    for part in range(9)
+    for text in (f"10.{part}.0.0/17", f"2001:db8:{part:x}::/49", f"2001:db9:{part:x}::/64")
+)
+MANY_ROUTES = Table(MANY, range(len(MANY)))
 LEAST = 4000  # an object that is lost in each of 500 calls takes at least 8000 bytes
 ROUTES, CHANGED = PrefixTable(zip(NETWORKS, "abc")), PrefixTable(zip(NETWORKS, "abc"))
 JOINED, WIDE = Table(NETWORKS, "abc"), array.array("Q", OFFSETS)
@@ -69,6 +76,12 @@ CALLS = {
     "sets": lambda: (AddressSet(NETWORKS), SET | OTHER, SET & OTHER, SET - OTHER, list(SET)),
     "asked of a set": lambda: [address in SET for address in ASKED + NETWORKS],
     "questions of sets": lambda: (SET <= OTHER, SET < SET, SET.isdisjoint(OTHER), SET ^ OTHER, ~SET),
+    "sets and tables with an index": lambda: (
+        AddressSet(MANY).contains_column(ROWS),
+        Table(MANY, range(len(MANY))).join(TEXT_ROWS),
+        MANY.contains_column(TEXT_ROWS[:2]),
+        [(each in MANY, MANY_ROUTES.find(each)) for each in ASKED[:3]],
+    ),
     "ranges": lambda: AddressSet.of_ranges(SET.ranges()),
     "builders": built,
     "prefix tables": lambda: PrefixTable(zip(NETWORKS, "abc")),
@@ -139,6 +152,12 @@ def used(call, turns):
     return min(rounds)
 
 
+def memory_in_use():
+    """The bytes of memory that the process has, as Linux tells them."""
+    with open("/proc/self/statm") as told:
+        return int(told.read().split()[1]) * 4096
+
+
 class Memory(unittest.TestCase):
     def setUp(self):
         tracemalloc.start()
@@ -160,6 +179,24 @@ class Memory(unittest.TestCase):
 
             with self.subTest(name):
                 self.assertLess(used(refused, 500), LEAST)
+
+    def test_a_million_questions(self):
+        routes = PrefixTable(zip(MANY, range(len(MANY))))
+        address, row = ASKED[0], bytes(ROWS[:17])
+        turns = 250_000 if ipnetwork.CORE == "native" else 2_500
+        tracemalloc.stop()
+        for call in (
+            lambda: address in MANY,
+            lambda: MANY.contains_column(row),
+            lambda: MANY_ROUTES.find(address),
+            lambda: routes.get(address),
+        ):
+            call()
+            before = memory_in_use()
+            for _ in range(turns):
+                call()
+            self.assertLess(memory_in_use() - before, 2**20)
+        tracemalloc.start()
 
     def test_references(self):
         # From Python 3.12 on those of the first four are not counted, and so do not change.

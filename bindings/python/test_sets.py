@@ -5,6 +5,7 @@ import ipaddress
 import operator
 import pickle
 import random
+import threading
 import unittest
 from ipaddress import IPv4Address, IPv6Address
 
@@ -15,6 +16,7 @@ from ipnetwork import (
     AddressSetBuilder,
     IPv4Network,
     IPv6Network,
+    Table,
     ip_network,
 )
 
@@ -103,6 +105,89 @@ class Operations(unittest.TestCase):
                         self.assertIs(asked in one, wanted, (asked, one))
                         self.assertIs(one.covers(asked), wanted)
                     self.assertIs(one >= AddressSet([network]), wanted)
+
+    def test_many(self):
+        # Sets and tables of many networks, which are asked by an index: beside a look at each of
+        # them, by arithmetic.
+        rng = random.Random(67)
+        for kind, address, base in WINDOWS:
+            width = kind.max_prefixlen
+            for bits, count in ((8, 9), (16, 300), (width, 300)):
+                networks, ends = [], []
+                for _ in range(count):
+                    number = (base + rng.getrandbits(bits)) % 2**width
+                    host_bits = rng.randrange(bits) if bits < width else rng.randrange(width // 2)
+                    networks.append(kind.of(address(number), width - host_bits))
+                    low = number >> host_bits << host_bits
+                    ends.append((low, low + 2**host_bits - 1))
+                near = [end + step for pair in ends for end in pair for step in (-1, 0, 1)]
+                asked = [0, 2**width - 1, *(each for each in near if 0 <= each < 2**width)]
+                column = [address(each) for each in asked]
+                having = [
+                    [place for place, (low, high) in enumerate(ends) if low <= each <= high]
+                    for each in asked
+                ]
+                wanted = [
+                    max(places, key=lambda at: (networks[at].prefixlen, at), default=-1)
+                    for places in having
+                ]
+                some, table = AddressSet(networks), Table(networks, range(count))
+                self.assertEqual(
+                    list(some.contains_column(column)), [int(place >= 0) for place in wanted]
+                )
+                self.assertEqual(memoryview(table.find_column(column)).cast("q").tolist(), wanted)
+                self.assertEqual(table.join(column, -1), wanted)
+                for each, place in list(zip(column, wanted))[:: count // 8]:
+                    self.assertIs(each in some, place >= 0)
+                    self.assertEqual(table.find(each), None if place < 0 else place)
+                    block = IPv4Network if width == 32 else IPv6Network
+                    self.assertIs(some.covers(block.of(each, width)), place >= 0)
+                for again in (copy.copy(some), pickle.loads(pickle.dumps(some))):
+                    self.assertEqual((again, hash(again)), (some, hash(some)))
+                    self.assertEqual(again.contains_column(column), some.contains_column(column))
+
+    def test_nested(self):
+        # Networks that lie in each other, twice each, down to one address.
+        for kind, address, base in WINDOWS:
+            width = kind.max_prefixlen
+            networks = [kind.of(address(base), bits) for bits in range(width + 1) for _ in (0, 1)]
+            table = Table(networks)
+            for bits in range(width + 1):
+                network = networks[bits * 2]
+                for end in (network.network_address, network.broadcast_address):
+                    longest = width - (int(end) ^ base).bit_length()
+                    self.assertEqual(table.find(end), longest * 2 + 1)
+
+    def test_asked_at_once(self):
+        # The threads ask for the first time, so that each may make the index.
+        networks = [ip_network(f"10.{part}.{host}.0/25") for part in range(9) for host in range(99)]
+        column = [ip_network(f"10.{part}.3.128/25")[part % 2 - 1] for part in range(20)] * 20
+        for _ in range(20):
+            asked, table, told = AddressSet(networks), Table(networks), []
+
+            def ask():
+                has = asked.contains_column(column), column[0] in asked
+                told.append((has, table.find_column(column), table.find(column[0])))
+
+            threads = [threading.Thread(target=ask) for _ in range(6)]
+            for thread in threads:
+                thread.start()
+            for thread in threads:
+                thread.join()
+            self.assertEqual((len(told), told.count(told[0])), (6, 6))
+
+    def test_lists_as_columns(self):
+        tens = AddressSet([ip_network("10.0.0.0/8")])
+        rows = ["10.1.2.3", b"10.0.0.1", None, "x", IPv4Address("10.9.9.9"), float("nan"), "::1"]
+        table = Table(tens)
+        for column in (rows, tuple(rows)):
+            self.assertEqual(list(tens.contains_column(column)), [1, 1, 0, 0, 1, 0, 0])
+            numbers = memoryview(table.find_column(column)).cast("q").tolist()
+            self.assertEqual(numbers, [0, 0, -1, -1, 0, -1, -1])
+        for refused in ([7], ["10.1.2.3", ip_network("10.0.0.0/30")], {"10.1.2.3": 1}, "10.1.2.3"):
+            for call in (tens.contains_column, table.find_column):
+                with self.assertRaises(TypeError):
+                    call(refused)
 
     def test_complements(self):
         rng = random.Random(55)

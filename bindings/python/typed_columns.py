@@ -31,6 +31,10 @@ is_member(numpy.array(texts), which)
 is_member(numpy.array([1], numpy.uint32), which, numbers=4)
 find(texts, table)
 find(numpy.array([[0, 1]], numpy.uint64), table, numbers=6)
+which.contains_column(texts)
+which.contains_column(tuple(rows))
+table.find_column(rows)
+table.find_column(bytes(17))
 layout(texts)
 read_addresses(rows)
 
@@ -40,6 +44,8 @@ is_member([object()], which)  # type: ignore[list-item]
 is_member([["10.1.2.3"]], which)  # type: ignore[list-item]
 is_member(texts, texts)  # type: ignore[arg-type]
 is_member(texts, which, numbers=32)  # type: ignore[arg-type]
+which.contains_column("10.1.2.3")  # type: ignore[arg-type]
+table.find_column([object()])  # type: ignore[list-item]
 find("10.1.2.3", table)  # type: ignore[arg-type]
 layout("10.1.2.3")  # type: ignore[arg-type]
 read_addresses("10.1.2.3")  # type: ignore[arg-type]

@@ -14,11 +14,15 @@ from typing import Union
 from ._by_ctypes_library import answered, library
 from ._by_ctypes_lists import (
     aggregate,
+    contains_packed,
+    find_packed,
+    index,
     is_empty,
     layout,
     operate,
     print_rows,
     range_rows,
+    ranges,
     read_rows,
     set_contains_column,
     table_find_column,
@@ -42,6 +46,7 @@ __all__ = [
     "V6",
     "aggregate",
     "block_row",
+    "index",
     "ip_network",
     "is_empty",
     "layout",
@@ -52,6 +57,7 @@ __all__ = [
     "prefix_of_mask",
     "print_rows",
     "range_rows",
+    "ranges",
     "read_rows",
     "register",
     "set_contains",
@@ -113,37 +119,32 @@ def longest_key(
     return None
 
 
-def set_contains(fours: bytes, sixes: bytes, asked: object) -> bool:
+def set_contains(search: tuple[bytes, bytes, bytes, bytes], asked: object) -> bool:
     """Whether a set, given by the bytes of its blocks, has an address, or each of a network."""
     row = _asked(asked)
     if row is None:
         return False
-    family, blocks = ("v4", fours) if len(row) == 5 else ("v6", sixes)
-    answer, place, count = ctypes.c_uint8(), ctypes.c_size_t(), len(blocks) // len(row)
-    if isinstance(asked, (IPv4Address, IPv6Address)):
-        call = getattr(library, f"ipnetwork_{family}_set_contains")
-        answered(call(blocks, count, row[:-1], ctypes.byref(answer)))
-        return answer.value == 1
-    # One block has all of them, since the blocks are the fewest with their addresses.
-    call = getattr(library, f"ipnetwork_{family}_table_find")
-    fault = call(blocks, count, row[:-1], ctypes.byref(place))
-    if fault == 6:
+    blocks, index = search[:2] if len(row) == 5 else search[2:]
+    if not contains_packed(blocks, index, row[:-1], len(row) - 1)[0]:
         return False
-    answered(fault)
-    block = blocks[place.value * len(row) :][: len(row)]
+    if isinstance(asked, (IPv4Address, IPv6Address)):
+        return True
+    # One block has all of them, since the blocks are the fewest with their addresses.
+    place, answer = find_packed(blocks, index, row[:-1], len(row) - 1)[0], ctypes.c_uint8()
+    block = blocks[place * len(row) :][: len(row)]
+    family = "v4" if len(row) == 5 else "v6"
     answered(getattr(library, f"ipnetwork_{family}_is_subnet_of")(row, block, ctypes.byref(answer)))
     return answer.value == 1
 
 
-def table_find(
-    fours: bytes, four_numbers: bytes, sixes: bytes, six_numbers: bytes, address: object
-) -> int:
-    """The number beside the longest block that has an address, or -1."""
+def table_find(search: tuple[bytes, bytes, bytes, bytes, bytes, bytes], address: object) -> int:
+    """The number of the longest network that has an address, or -1."""
     if not isinstance(address, (IPv4Address, IPv6Address)):
         no_member(address)
         return -1
     if getattr(address, "_scope_id", None) is not None:
         return -1
-    row = address.packed.ljust(16, b"\0") + bytes([len(address.packed)])
-    told = table_find_column(fours, four_numbers, sixes, six_numbers, row)
-    return memoryview(told).cast("q")[0]
+    packed = address.packed
+    ranges, numbers, index = search[:3] if len(packed) == 4 else search[3:]
+    place = find_packed(ranges, index, packed, len(packed))[0]
+    return -1 if place < 0 else memoryview(numbers).cast("q")[place]

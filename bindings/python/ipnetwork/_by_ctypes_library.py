@@ -47,7 +47,7 @@ def _load() -> ctypes.CDLL:
     pointer, octets, size, word = ctypes.c_void_p, ctypes.c_char_p, ctypes.c_size_t, ctypes.c_uint32
     for name in ("abi_version", "abi_minor_version"):
         _declare(library, name, [])
-    if library.ipnetwork_abi_version() != 2 or library.ipnetwork_abi_minor_version() < 4:
+    if library.ipnetwork_abi_version() != 2 or library.ipnetwork_abi_minor_version() < 5:
         raise ImportError(
             f"{path} is of another version than this module: build it again, as "
             "bindings/README.md says"
@@ -56,11 +56,13 @@ def _load() -> ctypes.CDLL:
     read = [octets, size, pointer, size, pointer, size, pointer, size]
     printed = [octets, size, pointer, size, pointer, size, pointer]
     operation = [octets, size, octets, size, pointer, size, pointer]
+    searched = [octets, size, octets, size, octets, size, pointer, size, pointer, size]
     for name, arguments in (
         ("read_with_cause", [octets, size, pointer]),
         ("address_read", [octets, size, pointer]),
         ("address_read_column", read),
         ("address_print_column", printed),
+        ("index_size", [size, pointer]),
     ):
         _declare(library, name, arguments)
     for family in ("v4", "v6"):
@@ -69,10 +71,10 @@ def _load() -> ctypes.CDLL:
             ("new", [octets, ctypes.c_uint8, pointer]),
             ("canonical", [octets, pointer, size, pointer]),
             ("contains_column", [octets, pointer, size, pointer, size]),
-            ("set_contains", [octets, size, octets, pointer]),
             ("table_make", [octets, size, pointer, size, pointer, size]),
-            ("table_find", [octets, size, octets, pointer]),
-            ("table_find_column", [octets, size, octets, size, pointer, size, pointer, size]),
+            ("index_make", [octets, size, pointer, size]),
+            ("index_contains_column", searched),
+            ("index_find_column", searched),
             ("union", operation),
             ("intersection", operation),
             ("difference", operation),

@@ -81,28 +81,65 @@ def _column(addresses: ReadableBuffer) -> bytes:
     column = bytes(flat(addresses))
     if len(column) % ADDRESS:
         raise ValueError(f"{len(column)} bytes are no column of addresses of {ADDRESS} bytes")
-    for row, length in enumerate(column[16::ADDRESS]):
-        if length not in (0, 4, 16):
-            raise ValueError(
-                f"row {row} is no address of 17 bytes as read_address_column gives it: its last "
-                f"byte is {length}"
-            )
+    if column[16::ADDRESS].strip(b"\0\4\x10"):
+        for row, length in enumerate(column[16::ADDRESS]):
+            if length not in (0, 4, 16):
+                raise ValueError(
+                    f"row {row} is no address of 17 bytes as read_address_column gives it: its "
+                    f"last byte is {length}"
+                )
     return column
 
 
-def set_contains_column(fours: bytes, sixes: bytes, addresses: ReadableBuffer) -> bytearray:
+def _family(column: bytes, width: int) -> tuple[list[int], bytes]:
+    """The rows of a column that have addresses of so many bytes, and these, packed."""
+    rows = [row for row, length in enumerate(column[16::ADDRESS]) if length == width]
+    return rows, b"".join([column[row * ADDRESS : row * ADDRESS + width] for row in rows])
+
+
+def index(version: int, blocks: bytes) -> bytes:
+    """The index of a list of blocks, by which it is searched: empty, if they are few."""
+    count, length = len(blocks) // _step(version), ctypes.c_size_t()
+    if count < 8:
+        return b""
+    answered(library.ipnetwork_index_size(count, ctypes.byref(length)))
+    room = (ctypes.c_uint32 * length.value)()
+    answered(getattr(library, f"ipnetwork_v{version}_index_make")(blocks, count, room, length))
+    return bytes(room)
+
+
+def contains_packed(blocks: bytes, index: bytes, packed: bytes, width: int) -> bytes:
+    """For each packed address of so many bytes whether it is in the set of these blocks."""
+    count = len(packed) // width
+    answers, faults = (ctypes.c_ubyte * count)(), (ctypes.c_ubyte * count)()
+    call = getattr(library, f"ipnetwork_v{4 if width == 4 else 6}_index_contains_column")
+    of = blocks, len(blocks) // (width + 1), index, len(index) // 4, packed, count
+    answered(call(*of, answers, count, faults, count))
+    answered(any(faults))
+    return bytes(answers)
+
+
+def find_packed(structs: bytes, index: bytes, packed: bytes, width: int) -> list[int]:
+    """For each packed address of so many bytes the place of the longest of these structs that has
+    it, or -1."""
+    count = len(packed) // width
+    places, faults = (ctypes.c_size_t * count)(), (ctypes.c_ubyte * count)()
+    call = getattr(library, f"ipnetwork_v{4 if width == 4 else 6}_index_find_column")
+    of = structs, len(structs) // (width + 1), index, len(index) // 4, packed, count
+    answered(call(*of, places, count, faults, count))
+    return [-1 if fault else place for place, fault in zip(places, faults)]
+
+
+def set_contains_column(
+    search: tuple[bytes, bytes, bytes, bytes], addresses: ReadableBuffer
+) -> bytearray:
     """For each address of a column a byte: 1 if it is one of the set, else 0."""
-    column, answers = _column(addresses), bytearray()
-    for at in range(0, len(column), ADDRESS):
-        packed, answer = column[at : at + column[at + 16]], ctypes.c_uint8()
-        if len(packed) == 4:
-            call, blocks = library.ipnetwork_v4_set_contains, fours
-        else:
-            call, blocks = library.ipnetwork_v6_set_contains, sixes
-        if packed:
-            count = len(blocks) // (len(packed) + 1)
-            answered(call(blocks, count, packed, ctypes.byref(answer)))
-        answers.append(answer.value)
+    column = _column(addresses)
+    answers = bytearray(len(column) // ADDRESS)
+    for width, (blocks, index) in ((4, search[:2]), (16, search[2:])):
+        rows, packed = _family(column, width)
+        for row, answer in zip(rows, contains_packed(blocks, index, packed, width)):
+            answers[row] = answer
     return answers
 
 
@@ -117,34 +154,43 @@ def table_make(version: int, rows: bytes) -> tuple[bytes, bytes]:
     return blocks.raw, bytes(places)
 
 
-def _found(version: int, blocks: bytes, numbers: bytes, packed: list[bytes]) -> list[int]:
-    """Of each packed address the number beside the longest block that has it, or -1."""
-    step, count = _step(version), len(packed)
-    indexes, faults = (ctypes.c_size_t * count)(), (ctypes.c_ubyte * count)()
-    call = getattr(library, f"ipnetwork_v{version}_table_find_column")
-    answered(
-        call(blocks, len(blocks) // step, b"".join(packed), count, indexes, count, faults, count)
-    )
-    told = memoryview(numbers).cast("q")
-    return [-1 if fault else told[index] for index, fault in zip(indexes, faults)]
+def ranges(version: int, blocks: bytes, numbers: bytes) -> tuple[bytes, bytes, bytes]:
+    """The ranges of addresses that have the same longest block of a table, as structs of their
+    first addresses with the prefix length 0, which has each address; the number beside that block,
+    or -1; and an index of the ranges.
+
+    No block begins or ends within a range, so that its number is that of its first address.
+    """
+    width, last = _step(version) - 1, (ctypes.c_ubyte * (_step(version) - 1))()
+    broadcast = getattr(library, f"ipnetwork_v{version}_broadcast")
+    begin = set()
+    for at in range(0, len(blocks), width + 1):
+        row = blocks[at : at + width + 1]
+        answered(broadcast(row, last))
+        after = int.from_bytes(bytes(last), "big") + 1
+        begin.add(row[:width])
+        if after < 1 << 8 * width:
+            begin.add(after.to_bytes(width, "big"))
+    starts, told = sorted(begin), memoryview(numbers).cast("q")
+    places = find_packed(blocks, index(version, blocks), b"".join(starts), width)
+    found = array.array("q", [-1 if place < 0 else told[place] for place in places])
+    structs = b"".join([each + b"\0" for each in starts])
+    return structs, found.tobytes(), index(version, structs)
 
 
 def table_find_column(
-    fours: bytes,
-    four_numbers: bytes,
-    sixes: bytes,
-    six_numbers: bytes,
-    addresses: ReadableBuffer,
+    search: tuple[bytes, bytes, bytes, bytes, bytes, bytes], addresses: ReadableBuffer
 ) -> bytearray:
-    """For each address of a column the number beside the longest block that has it, or -1, as
-    numbers of 64 bits."""
+    """For each address of a column the number of the longest network that has it, or -1, as numbers
+    of 64 bits."""
     column = _column(addresses)
     told = array.array("q", [-1]) * (len(column) // ADDRESS)
-    for width, blocks, numbers in ((4, fours, four_numbers), (16, sixes, six_numbers)):
-        rows = [row for row in range(len(told)) if column[row * ADDRESS + 16] == width]
-        packed = [column[row * ADDRESS : row * ADDRESS + width] for row in rows]
-        for row, number in zip(rows, _found(4 if width == 4 else 6, blocks, numbers, packed)):
-            told[row] = number
+    for width, (structs, numbers, index) in ((4, search[:3]), (16, search[3:])):
+        rows, packed = _family(column, width)
+        beside = memoryview(numbers).cast("q")
+        for row, place in zip(rows, find_packed(structs, index, packed, width)):
+            if place >= 0:
+                told[row] = beside[place]
     return bytearray(told.tobytes())
 
 

@@ -4,6 +4,7 @@
 
 #include "_asked.h"
 #include "_text_columns.h"
+#include "ranges.h"
 
 static PyObject *network_column(PyObject *object, PyObject *given) {
     const ipnetwork_ip *held = &((Network *)object)->held;
@@ -153,17 +154,69 @@ static PyObject *range_rows(PyObject *module, PyObject *arguments) {
     return PyBytes_FromStringAndSize((const char *)room, (Py_ssize_t)count * (length + 1));
 }
 
-/* The blocks of a set of addresses of both families, as `aggregate` and `operate` leave them. */
+/* ---- lists that are searched, each with its index ---- */
+
+/* The bytes at a place of a tuple; 0 with TypeError if there are none. */
+static int bytes_at(PyObject *given, Py_ssize_t place, const char **bytes, Py_ssize_t *length) {
+    PyObject *item = PyTuple_Check(given) ? PyTuple_GetItem(given, place) : NULL;
+    char *found;
+    if (item == NULL || PyBytes_AsStringAndSize(item, &found, length) < 0) {
+        if (!PyErr_Occurred()) PyErr_SetString(PyExc_TypeError, "a search is a tuple of bytes");
+        return 0;
+    }
+    *bytes = found;
+    return 1;
+}
+
+/* The index that bytes are, put beside the list. */
+static void index_of_object(PyObject *index, searched_list *list) {
+    list->index = (const uint32_t *)PyBytes_AsString(index);
+    list->index_length = (size_t)PyBytes_Size(index) / sizeof(uint32_t);
+}
+
+/* The list of one family at two places of a tuple: its structs, and its index. */
+static int list_at(PyObject *given, Py_ssize_t structs, Py_ssize_t index, size_t width, searched_list *list) {
+    const char *bytes, *indexed;
+    Py_ssize_t length, index_length;
+    if (!bytes_at(given, structs, &bytes, &length) || !bytes_at(given, index, &indexed, &index_length)) return 0;
+    *list = (searched_list){width, (const uint8_t *)bytes, (size_t)length / (width + 1), (const uint32_t *)indexed,
+                            (size_t)index_length / sizeof(uint32_t)};
+    return 1;
+}
+
+/* The index of a list, as bytes. */
+static PyObject *list_index_object(size_t width, const char *structs, size_t count) {
+    size_t length = list_index_size(count);
+    PyObject *index = PyBytes_FromStringAndSize(NULL, (Py_ssize_t)(length * sizeof(uint32_t)));
+    if (index == NULL || length == 0) return index;
+    uint32_t *room = (uint32_t *)PyBytes_AsString(index);
+    ipnetwork_fault fault;
+    Py_BEGIN_ALLOW_THREADS
+    fault = list_index(width, (const uint8_t *)structs, count, room, length);
+    Py_END_ALLOW_THREADS
+    if (!answered(fault)) Py_CLEAR(index);
+    return index;
+}
+
+/* index(version, blocks) */
+static PyObject *index_of(PyObject *module, PyObject *arguments) {
+    (void)module;
+    int version;
+    const char *blocks;
+    Py_ssize_t length;
+    if (!PyArg_ParseTuple(arguments, "iy#", &version, &blocks, &length)) return NULL;
+    size_t width = version == 4 ? 4 : 16;
+    return list_index_object(width, blocks, (size_t)length / (width + 1));
+}
+
+/* The blocks of a set of addresses of both families, as `aggregate` and `operate` leave them, with their indexes. */
 typedef struct {
-    const ipnetwork_v4 *fours;
-    const ipnetwork_v6 *sixes;
-    size_t four_count, six_count;
+    searched_list fours, sixes;
 } Set;
 
-static Set set_of(const char *fours, Py_ssize_t four_length, const char *sixes, Py_ssize_t six_length) {
-    Set set = {(const ipnetwork_v4 *)fours, (const ipnetwork_v6 *)sixes, (size_t)four_length / sizeof(ipnetwork_v4),
-                 (size_t)six_length / sizeof(ipnetwork_v6)};
-    return set;
+/* The set that a tuple of bytes is; 0 with TypeError of another object. */
+static int parse_set(PyObject *given, Set *set) {
+    return list_at(given, 0, 1, 4, &set->fours) && list_at(given, 2, 3, 16, &set->sixes);
 }
 
 /* Raises that a row of a column is no address as `read_rows` leaves it; of one without an address
@@ -175,42 +228,37 @@ static void no_such_row(Py_ssize_t row, uint8_t length) {
 
 /* A row without an address is no member. IPNETWORK_NO_FAMILY where there is neither an address of 4
  * or 16 octets nor none. */
-static ipnetwork_fault set_has(const Set *set, const ipnetwork_address *address, uint8_t *answer) {
+static inline ipnetwork_fault set_has(const Set *set, const ipnetwork_address *address, uint8_t *answer) {
     *answer = 0;
-    if (address->length == 4) return ipnetwork_v4_set_contains(set->fours, set->four_count, address->octets, answer);
-    if (address->length == 16) return ipnetwork_v6_set_contains(set->sixes, set->six_count, address->octets, answer);
+    if (address->length == 4) return list_contains(&set->fours, address->octets, answer);
+    if (address->length == 16) return list_contains(&set->sixes, address->octets, answer);
     return address->length == 0 ? IPNETWORK_OK : IPNETWORK_NO_FAMILY;
 }
 
 /* Whether the set has all members of a network: whether one of its blocks has, since they are the
  * fewest with their addresses. */
 static ipnetwork_fault set_covers(const Set *set, const ipnetwork_ip *asked, uint8_t *answer) {
+    const searched_list *list = asked->family == 4 ? &set->fours : &set->sixes;
     size_t at;
-    ipnetwork_fault fault;
     *answer = 0;
-    if (asked->family == 4) {
-        fault = ipnetwork_v4_table_find(set->fours, set->four_count, asked->v4.address, &at);
-        if (fault == IPNETWORK_OK)
-            fault = ipnetwork_v4_is_subnet_of(&asked->v4, &set->fours[at], answer);
-    } else {
-        fault = ipnetwork_v6_table_find(set->sixes, set->six_count, asked->v6.address, &at);
-        if (fault == IPNETWORK_OK)
-            fault = ipnetwork_v6_is_subnet_of(&asked->v6, &set->sixes[at], answer);
-    }
-    return fault == IPNETWORK_NO_MEMBER ? IPNETWORK_OK : fault;
+    ipnetwork_fault fault = list_contains(list, octets_of(asked), answer);
+    if (fault != IPNETWORK_OK || *answer == 0) return fault;
+    *answer = 0;
+    if ((fault = list_find(list, octets_of(asked), &at)) != IPNETWORK_OK) return fault;
+    const uint8_t *block = list->structs + at * (list->width + 1);
+    if (asked->family == 4) return ipnetwork_v4_is_subnet_of(&asked->v4, (const ipnetwork_v4 *)block, answer);
+    return ipnetwork_v6_is_subnet_of(&asked->v6, (const ipnetwork_v6 *)block, answer);
 }
 
-/* set_contains(fours, sixes, asked): an address, or each address of a network. */
+/* set_contains(search, asked): an address, or each address of a network. */
 static PyObject *set_contains(PyObject *module, PyObject *arguments) {
     State *state = PyModule_GetState(module);
-    const char *fours, *sixes;
-    Py_ssize_t four_length, six_length;
-    PyObject *given;
+    PyObject *search, *given;
+    Set set;
     ipnetwork_address address;
     ipnetwork_ip asked;
     uint8_t answer;
-    if (!PyArg_ParseTuple(arguments, "y#y#O", &fours, &four_length, &sixes, &six_length, &given)) return NULL;
-    Set set = set_of(fours, four_length, sixes, six_length);
+    if (!PyArg_UnpackTuple(arguments, "set_contains", 2, 2, &search, &given) || !parse_set(search, &set)) return NULL;
     int kind = address_of(state, given, &address);
     if (kind == IS_ADDRESS)
         return answered(set_has(&set, &address, &answer)) ? PyBool_FromLong(answer) : NULL;
@@ -220,16 +268,15 @@ static PyObject *set_contains(PyObject *module, PyObject *arguments) {
     return PyBool_FromLong(answer);
 }
 
-/* set_contains_column(fours, sixes, addresses): a byte for each of the addresses, which are as `read_rows` leaves them. */
+/* set_contains_column(search, addresses): a byte for each of the addresses, which are as `read_rows` leaves them. */
 static PyObject *set_contains_column(PyObject *module, PyObject *arguments) {
     (void)module;
-    const char *fours, *sixes;
-    Py_ssize_t four_length, six_length;
-    PyObject *given, *answers = NULL;
+    PyObject *search, *given, *answers = NULL;
+    Set set;
     Py_buffer column;
-    if (!PyArg_ParseTuple(arguments, "y#y#O", &fours, &four_length, &sixes, &six_length, &given)) return NULL;
-    Set set = set_of(fours, four_length, sixes, six_length);
-    if (!bytes_of(given, &column)) return NULL;
+    if (!PyArg_UnpackTuple(arguments, "set_contains_column", 2, 2, &search, &given) || !parse_set(search, &set)
+        || !bytes_of(given, &column))
+        return NULL;
     Py_ssize_t count = column.len / (Py_ssize_t)sizeof(ipnetwork_address);
     if (column.len % (Py_ssize_t)sizeof(ipnetwork_address) != 0) {
         PyErr_Format(PyExc_ValueError, "%zd bytes are no column of addresses of 17 bytes", column.len);

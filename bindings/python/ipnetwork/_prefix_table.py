@@ -12,7 +12,7 @@ from ._chosen import core
 from ._lock import new_lock
 from ._networks import Either, EitherAddress, IPv4Network, IPv6Network, no_network
 from ._rows import addresses_of
-from ._tables import Search, search_of
+from ._tables import Search, blocks_of
 
 if TYPE_CHECKING:
     from _typeshed import ReadableBuffer
@@ -25,6 +25,7 @@ _Default = TypeVar("_Default")
 Asked = Union[Either, TheirV4, TheirV6, EitherAddress]
 
 _NO_KEY: Any = object()
+_NONE = blocks_of(()).search()  # among no networks
 _ADDRESSES = (IPv4Address, IPv6Address)
 _NETWORKS = (IPv4Network, IPv6Network)
 _ALL_NETWORKS = (IPv4Network, IPv6Network, TheirV4, TheirV6)
@@ -105,14 +106,14 @@ class PrefixTable(MutableMapping[Either, Value]):
         self._asked += count
         if self._ready is None and self._asked * 8 >= len(self._values):
             keys = list(self._values)
-            self._ready, self._asked = _Ready(search_of(keys), keys), 0
+            self._ready, self._asked = _Ready(blocks_of(keys).search(), keys), 0
         return self._ready
 
     def _found(self, asked: object) -> Union[tuple[bytes, Value], None]:
         """The key of the longest network that has all of what is asked about, and its value."""
         ready = self._ready
         if ready is not None and isinstance(asked, _ADDRESSES):
-            number = core.table_find(*ready.search, asked)
+            number = core.table_find(ready.search, asked)
             if number < 0:
                 return None
             key = ready.keys[number]
@@ -291,7 +292,7 @@ class PrefixTable(MutableMapping[Either, Value]):
 
     def _each(self, addresses: ReadableBuffer) -> Iterator[Union[tuple[bytes, Value], None]]:
         """What is found for each row of a column, as ``read_address_column`` gives it."""
-        search_of(()).find_column(addresses)  # ValueError of rows that are no addresses
+        _NONE.find_column(addresses)  # ValueError of rows that are no addresses
         rows = bytes(addresses)
         for at in range(0, len(rows), 17):
             packed = rows[at : at + rows[at + 16]]

@@ -6,11 +6,13 @@ import sys
 from collections.abc import Iterator, Mapping
 from ipaddress import IPv4Address, IPv4Network, IPv6Address, IPv6Network
 from numbers import Real
-from typing import TYPE_CHECKING, Any, Protocol, TypeVar, Union
+from typing import TYPE_CHECKING, Any, Protocol, TypeVar, Union, cast
 
 from ._chosen import core
 
 if TYPE_CHECKING:
+    from _typeshed import ReadableBuffer
+
     from ._networks import IPv4Network as _OwnV4
     from ._networks import IPv6Network as _OwnV6
 
@@ -35,6 +37,8 @@ if TYPE_CHECKING:
     Column = Union[Rows[Row], Iterator[Row]]
     #: The same, or addresses as ``read_address_column`` gives them.
     Given = Union[Column, bytes, bytearray, memoryview]
+    #: Those addresses in any buffer, or a list or a tuple of rows.
+    Packed = Union[ReadableBuffer, Rows[Row]]
 
 
 _NETWORKS = (core.V4, core.V6, IPv4Network, IPv6Network)
@@ -103,3 +107,10 @@ def addresses_of(column: Given) -> Union[bytes, bytearray, memoryview]:
         return column
     texts, offsets = laid_out(column)
     return core.read_rows(0, texts, memoryview(offsets).cast("I"))[0]
+
+
+def packed(column: Packed) -> ReadableBuffer:
+    """The addresses of a list or a tuple of rows, or the buffer that has them already."""
+    if isinstance(column, (list, tuple)):
+        return addresses_of(column)
+    return cast("ReadableBuffer", column)

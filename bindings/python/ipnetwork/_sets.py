@@ -17,11 +17,12 @@ from ._networks import (
     of_rows,
     range_rows,
 )
+from ._rows import packed
 
 if TYPE_CHECKING:
     from typing import Any
 
-    from _typeshed import ReadableBuffer
+    from ._rows import Packed
 
 _ALL_FOURS, _ALL_SIXES = bytes(5), bytes(17)  # 0.0.0.0/0 and ::/0
 
@@ -35,6 +36,9 @@ class AddressSet:
     how many they are. ``in`` takes an address, or a network of this package or of ``ipaddress``,
     which is in the set if all of its addresses are. ``<=`` and ``<`` tell whether one set is part
     of another. ``AddressSetBuilder`` makes a set by and by.
+
+    The first question about an address or a network makes an index, which the set keeps: 16 bytes
+    for each network, and at most 4 MB for a family.
 
     >>> one = AddressSet([ip_network("10.0.0.0/9")])
     >>> other = AddressSet([ip_network("10.128.0.0/9")])
@@ -51,10 +55,12 @@ class AddressSet:
     AddressSet([IPv4Network('10.64.0.0/10'), IPv4Network('10.128.0.0/9')])
     """
 
-    __slots__ = ("__weakref__", "_fours", "_sixes")
+    __slots__ = ("__weakref__", "_fours", "_search", "_sixes")
 
     _fours: bytes
     _sixes: bytes
+    #: The blocks of both families with their indexes, once they were asked for.
+    _search: Union[tuple[bytes, bytes, bytes, bytes], None]
 
     def __init__(self, networks: Iterable[Either] = ()) -> None:
         if hasattr(self, "_fours"):
@@ -68,15 +74,25 @@ class AddressSet:
                 sixes.append(network._row)
             else:
                 raise no_network(network)
-        self._fours = core.aggregate(4, b"".join(fours))
         self._sixes = core.aggregate(6, b"".join(sixes))
+        self._search = None
+        self._fours = core.aggregate(4, b"".join(fours))
 
     @staticmethod
     def _of(fours: bytes, sixes: bytes) -> AddressSet:
         """The set of these blocks, which are the fewest with their addresses."""
         made = AddressSet.__new__(AddressSet)
-        made._fours, made._sixes = fours, sixes
+        made._fours, made._sixes, made._search = fours, sixes, None
         return made
+
+    def _indexed(self) -> tuple[bytes, bytes, bytes, bytes]:
+        """The blocks with their indexes, which are made for the first question. Several threads may
+        make them, all alike."""
+        search = self._search
+        if search is None:
+            fours, sixes = self._fours, self._sixes
+            search = self._search = (fours, core.index(4, fours), sixes, core.index(6, sixes))
+        return search
 
     @staticmethod
     def of_ranges(ranges: Iterable[tuple[EitherAddress, EitherAddress]]) -> AddressSet:
@@ -108,7 +124,7 @@ class AddressSet:
     def __contains__(self, asked: object) -> bool:
         """Whether an address is one of the set, or each address of a network. None with a zone
         is."""
-        return core.set_contains(self._fours, self._sixes, asked)
+        return core.set_contains(self._search or self._indexed(), asked)
 
     def covers(self, network: Union[Either, TheirV4, TheirV6]) -> bool:
         """Whether each address of a network is one of the set; TypeError of what is no network.
@@ -118,20 +134,18 @@ class AddressSet:
         """
         if not isinstance(network, (IPv4Network, IPv6Network, TheirV4, TheirV6)):
             raise TypeError(f"a network is asked about, not {type(network).__name__}")
-        return core.set_contains(self._fours, self._sixes, network)
+        return core.set_contains(self._search or self._indexed(), network)
 
-    def contains_column(self, addresses: ReadableBuffer) -> bytearray:
-        """For each address of a column a byte: 1 if it is one of the set, else 0. The column has 17
-        bytes for each address, as ``read_address_column`` gives it; a row without an address is
-        none of the set. ValueError of other rows.
+    def contains_column(self, addresses: Packed) -> bytearray:
+        """For each address of a column a byte: 1 if it is one of the set, else 0. The column is a
+        list of rows, as ``ipnetwork.columns`` takes it, or has 17 bytes for each address, as
+        ``read_address_column`` gives it; a row without an address is none of the set. ValueError
+        of bytes that are no addresses.
 
-        >>> import array
-        >>> offsets = array.array("I", [0, 7, 10, 11])
-        >>> addresses, faults = read_address_column(b"8.8.8.8::1x", offsets)
-        >>> list(AddressSet([ip_network("8.0.0.0/8")]).contains_column(addresses))
+        >>> list(AddressSet([ip_network("8.0.0.0/8")]).contains_column(["8.8.8.8", "::1", None]))
         [1, 0, 0]
         """
-        return core.set_contains_column(self._fours, self._sixes, addresses)
+        return core.set_contains_column(self._search or self._indexed(), packed(addresses))
 
     def __or__(self, other: AddressSet) -> AddressSet:
         """The addresses that one of the two has, or both."""

@@ -27,55 +27,113 @@ static PyObject *table_make(PyObject *module, PyObject *arguments) {
     return both;
 }
 
-/* The blocks of a table of both families, as `table_make` leaves them, and the number beside each. */
+/* ---- the ranges of a table, as `ranges.h` has them ---- */
+
+/* The ranges themselves, as bytes. */
+static PyObject *ranges_object(const searched_list *table) {
+    size_t step = table->width + 1, made = 0;
+    PyObject *room = PyByteArray_FromStringAndSize(NULL, (Py_ssize_t)(table->count * 2 * step)), *ranges = NULL;
+    if (room == NULL) return NULL;
+    uint8_t *place = (uint8_t *)PyByteArray_AsString(room);
+    ipnetwork_fault fault;
+    Py_BEGIN_ALLOW_THREADS
+    fault = ranges_of(table->structs, table->count, table->width, place, &made);
+    Py_END_ALLOW_THREADS
+    if (answered(fault)) ranges = PyBytes_FromStringAndSize((const char *)place, (Py_ssize_t)(made * step));
+    Py_DECREF(room);
+    return ranges;
+}
+
+/* The number of the longest block of each range, or -1, of 64 bits each, as bytes. */
+static PyObject *numbers_object(searched_list table, const char *numbers, PyObject *ranges) {
+    size_t count = (size_t)PyBytes_Size(ranges) / (table.width + 1);
+    PyObject *index = list_index_object(table.width, (const char *)table.structs, table.count), *told = NULL;
+    if (index == NULL) return NULL;
+    index_of_object(index, &table);
+    if ((told = PyBytes_FromStringAndSize(NULL, (Py_ssize_t)(count * sizeof(int64_t)))) != NULL) {
+        const uint8_t *each = (const uint8_t *)PyBytes_AsString(ranges);
+        int64_t *place = (int64_t *)PyBytes_AsString(told);
+        ipnetwork_fault fault;
+        Py_BEGIN_ALLOW_THREADS
+        fault = range_numbers(&table, (const int64_t *)numbers, each, count, place);
+        Py_END_ALLOW_THREADS
+        if (!answered(fault)) Py_CLEAR(told);
+    }
+    Py_DECREF(index);
+    return told;
+}
+
+/* ranges(version, blocks, numbers): the ranges of a table, the number of the longest block of each, and their index. The
+ * numbers are those beside the blocks, of 64 bits. */
+static PyObject *ranges(PyObject *module, PyObject *arguments) {
+    (void)module;
+    int version;
+    const char *blocks, *numbers;
+    Py_ssize_t length, numbers_length;
+    if (!PyArg_ParseTuple(arguments, "iy#y#", &version, &blocks, &length, &numbers, &numbers_length)) return NULL;
+    size_t width = version == 4 ? 4 : 16, step = width + 1;
+    searched_list table = {width, (const uint8_t *)blocks, (size_t)length / step, NULL, 0};
+    if ((size_t)numbers_length / sizeof(int64_t) < table.count)
+        return PyErr_SetString(PyExc_ValueError, "there is not a number beside each block"), NULL;
+    PyObject *made = ranges_object(&table), *told = NULL, *index = NULL, *all = NULL;
+    if (made != NULL && (told = numbers_object(table, numbers, made)) != NULL
+        && (index = list_index_object(width, PyBytes_AsString(made), (size_t)PyBytes_Size(made) / step)) != NULL)
+        all = PyTuple_Pack(3, made, told, index);
+    Py_XDECREF(made), Py_XDECREF(told), Py_XDECREF(index);
+    return all;
+}
+
+/* A search of a table: its ranges of both families, the number of each and their indexes, as `ranges` leaves them. */
 typedef struct {
-    const char *fours, *four_numbers, *sixes, *six_numbers;
-    Py_ssize_t four_length, four_numbers_length, six_length, six_numbers_length;
+    searched_list fours, sixes;
+    const int64_t *four_numbers, *six_numbers;
 } Table;
 
-/* The number beside the longest block that has an address, or -1; a row without an address has
+/* The search that a tuple of bytes is; 0 with an exception of another object. */
+static int parse_table(PyObject *given, Table *table) {
+    const char *four_numbers, *six_numbers;
+    Py_ssize_t lengths[2];
+    if (!list_at(given, 0, 2, 4, &table->fours) || !list_at(given, 3, 5, 16, &table->sixes)
+        || !bytes_at(given, 1, &four_numbers, &lengths[0]) || !bytes_at(given, 4, &six_numbers, &lengths[1]))
+        return 0;
+    table->four_numbers = (const int64_t *)four_numbers, table->six_numbers = (const int64_t *)six_numbers;
+    if ((size_t)lengths[0] / sizeof(int64_t) >= table->fours.count && (size_t)lengths[1] / sizeof(int64_t) >= table->sixes.count)
+        return 1;
+    PyErr_SetString(PyExc_ValueError, "there is not a number beside each range");
+    return 0;
+}
+
+/* The number of the longest network that has an address, or -1; a row without an address has
  * none. IPNETWORK_NO_FAMILY where there is neither an address of 4 or 16 octets nor none. */
-static ipnetwork_fault table_has(const Table *table, const ipnetwork_address *address, int64_t *number) {
-    size_t index = 0;
-    const char *numbers = address->length == 4 ? table->four_numbers : table->six_numbers;
-    ipnetwork_fault fault = IPNETWORK_NO_MEMBER;
-    if (address->length == 4)
-        fault = ipnetwork_v4_table_find((const ipnetwork_v4 *)table->fours, (size_t)table->four_length / sizeof(ipnetwork_v4), address->octets, &index);
-    else if (address->length == 16)
-        fault = ipnetwork_v6_table_find((const ipnetwork_v6 *)table->sixes, (size_t)table->six_length / sizeof(ipnetwork_v6), address->octets, &index);
-    else if (address->length != 0)
-        return IPNETWORK_NO_FAMILY;
+static inline ipnetwork_fault table_has(const Table *table, const ipnetwork_address *address, int64_t *number) {
+    if (address->length == 4) return number_of(&table->fours, table->four_numbers, address->octets, number);
+    if (address->length == 16) return number_of(&table->sixes, table->six_numbers, address->octets, number);
     *number = -1;
-    if (fault == IPNETWORK_OK) memcpy(number, numbers + index * sizeof *number, sizeof *number);
-    return fault == IPNETWORK_NO_MEMBER ? IPNETWORK_OK : fault;
+    return address->length == 0 ? IPNETWORK_OK : IPNETWORK_NO_FAMILY;
 }
 
-static int parse_table(PyObject *arguments, Table *table, PyObject **given) {
-    return PyArg_ParseTuple(arguments, "y#y#y#y#O", &table->fours, &table->four_length, &table->four_numbers, &table->four_numbers_length,
-                            &table->sixes, &table->six_length, &table->six_numbers, &table->six_numbers_length, given);
-}
-
-/* table_find(fours, four_numbers, sixes, six_numbers, address) */
+/* table_find(search, address) */
 static PyObject *table_find(PyObject *module, PyObject *arguments) {
     State *state = PyModule_GetState(module);
     Table table;
-    PyObject *given;
+    PyObject *search, *given;
     ipnetwork_address address;
     int64_t number;
-    if (!parse_table(arguments, &table, &given)) return NULL;
+    if (!PyArg_UnpackTuple(arguments, "table_find", 2, 2, &search, &given) || !parse_table(search, &table)) return NULL;
     int kind = address_of(state, given, &address);
     if (kind != IS_ADDRESS) return no_member(state, given, kind) < 0 ? NULL : PyLong_FromLong(-1);
     return answered(table_has(&table, &address, &number)) ? PyLong_FromLongLong(number) : NULL;
 }
 
-/* table_find_column(fours, four_numbers, sixes, six_numbers, addresses): a number for each of the addresses, which are as
- * `read_rows` leaves them. */
+/* table_find_column(search, addresses): a number for each of the addresses, which are as `read_rows` leaves them. */
 static PyObject *table_find_column(PyObject *module, PyObject *arguments) {
     (void)module;
     Table table;
-    PyObject *given, *numbers = NULL;
+    PyObject *search, *given, *numbers = NULL;
     Py_buffer column;
-    if (!parse_table(arguments, &table, &given) || !bytes_of(given, &column)) return NULL;
+    if (!PyArg_UnpackTuple(arguments, "table_find_column", 2, 2, &search, &given) || !parse_table(search, &table)
+        || !bytes_of(given, &column))
+        return NULL;
     Py_ssize_t count = column.len / (Py_ssize_t)sizeof(ipnetwork_address);
     if (column.len % (Py_ssize_t)sizeof(ipnetwork_address) != 0) {
         PyErr_Format(PyExc_ValueError, "%zd bytes are no column of addresses of 17 bytes", column.len);

@@ -129,4 +129,8 @@ def find(given: Column, table: Table[Any], *, numbers: Numbers = None) -> NDArra
     >>> find(["10.1.9.32", "10.2.0.0", "8.8.8.8", None], table).tolist()
     [1, 0, -1, -1]
     """
+    if not isinstance(table, Table):
+        raise TypeError(
+            f"find takes a Table, not {type(table).__name__}: a PrefixTable gives values, by join"
+        )
     return numpy.frombuffer(table.find_column(_addresses(given, numbers).data), numpy.int64)

@@ -18,6 +18,7 @@
 use core::cmp::Ordering;
 use core::error::Error;
 use core::fmt;
+use core::hash::{Hash, Hasher};
 use core::iter::FusedIterator;
 use core::net::{IpAddr, Ipv4Addr, Ipv6Addr};
 use core::ops::RangeInclusive;
@@ -207,17 +208,57 @@ mod c {
             count: usize,
             blocks: &mut usize,
         ) -> u32;
-        pub unsafe fn ipnetwork_v4_set_contains(
+        pub unsafe fn ipnetwork_v4_index_make(
             blocks: *const V4,
             count: usize,
+            index: *mut u32,
+            index_length: usize,
+        ) -> u32;
+        pub unsafe fn ipnetwork_v4_index_contains(
+            blocks: *const V4,
+            count: usize,
+            index: *const u32,
+            index_length: usize,
             address: &[u8; 4],
             answer: &mut u8,
         ) -> u32;
-        pub unsafe fn ipnetwork_v6_set_contains(
+        pub unsafe fn ipnetwork_v4_index_contains_column(
+            blocks: *const V4,
+            count: usize,
+            index: *const u32,
+            index_length: usize,
+            addresses: *const [u8; 4],
+            address_count: usize,
+            answers: *mut u8,
+            answer_count: usize,
+            faults: *mut u8,
+            fault_count: usize,
+        ) -> u32;
+        pub unsafe fn ipnetwork_v6_index_make(
             blocks: *const V6,
             count: usize,
+            index: *mut u32,
+            index_length: usize,
+        ) -> u32;
+        pub unsafe fn ipnetwork_v6_index_contains(
+            blocks: *const V6,
+            count: usize,
+            index: *const u32,
+            index_length: usize,
             address: &[u8; 16],
             answer: &mut u8,
+        ) -> u32;
+        pub unsafe fn ipnetwork_v6_index_contains_column(
+            blocks: *const V6,
+            count: usize,
+            index: *const u32,
+            index_length: usize,
+            addresses: *const [u8; 16],
+            address_count: usize,
+            answers: *mut u8,
+            answer_count: usize,
+            faults: *mut u8,
+            fault_count: usize,
         ) -> u32;
         pub unsafe fn ipnetwork_v4_table_make(
             networks: *const V4,
@@ -235,35 +276,43 @@ mod c {
             places: *mut usize,
             place_count: usize,
         ) -> u32;
-        pub unsafe fn ipnetwork_v4_table_find(
+        pub unsafe fn ipnetwork_v4_index_find(
             blocks: *const V4,
             block_count: usize,
+            index: *const u32,
+            index_length: usize,
             address: &[u8; 4],
-            index: &mut usize,
+            place: &mut usize,
         ) -> u32;
-        pub unsafe fn ipnetwork_v6_table_find(
+        pub unsafe fn ipnetwork_v6_index_find(
             blocks: *const V6,
             block_count: usize,
+            index: *const u32,
+            index_length: usize,
             address: &[u8; 16],
-            index: &mut usize,
+            place: &mut usize,
         ) -> u32;
-        pub unsafe fn ipnetwork_v4_table_find_column(
+        pub unsafe fn ipnetwork_v4_index_find_column(
             blocks: *const V4,
             block_count: usize,
+            index: *const u32,
+            index_length: usize,
             addresses: *const [u8; 4],
             address_count: usize,
-            indexes: *mut usize,
-            index_count: usize,
+            places: *mut usize,
+            place_count: usize,
             faults: *mut u8,
             fault_count: usize,
         ) -> u32;
-        pub unsafe fn ipnetwork_v6_table_find_column(
+        pub unsafe fn ipnetwork_v6_index_find_column(
             blocks: *const V6,
             block_count: usize,
+            index: *const u32,
+            index_length: usize,
             addresses: *const [u8; 16],
             address_count: usize,
-            indexes: *mut usize,
-            index_count: usize,
+            places: *mut usize,
+            place_count: usize,
             faults: *mut u8,
             fault_count: usize,
         ) -> u32;
@@ -321,6 +370,7 @@ mod c {
             room: usize,
             block_count: &mut usize,
         ) -> u32;
+        pub safe fn ipnetwork_index_size(block_count: usize, index_length: &mut usize) -> u32;
         pub safe fn ipnetwork_v4_subnet_at(n: &V4, prefix: u8, number: u32, subnet: &mut V4)
         -> u32;
         pub safe fn ipnetwork_v6_subnet_at(
@@ -462,14 +512,55 @@ fn answered(number: u32) {
     assert_eq!(number, OK, "a question about a network has no fault");
 }
 
+/// How many numbers the index of so many blocks should have: four for each block, and at most 2^20. With fewer a search is
+/// slower, with more hardly faster.
+///
+/// # Examples
+///
+/// ```
+/// use ipnetwork_c::{Ipv4Network, Ipv4Set, index_size};
+/// use std::net::Ipv4Addr;
+///
+/// let mut networks: [Ipv4Network; 2] = ["10.0.0.0/8".parse()?, "192.0.2.0/24".parse()?];
+/// let set = Ipv4Set::new(&mut networks);
+/// let mut index = vec![0; index_size(set.blocks().len())];
+/// let set = set.with_index(&mut index);
+/// assert!(set.contains(Ipv4Addr::new(10, 1, 2, 3)));
+/// # Ok::<(), ipnetwork_c::Fault>(())
+/// ```
+pub fn index_size(blocks: usize) -> usize {
+    let mut length = 0;
+    answered(c::ipnetwork_index_size(blocks, &mut length));
+    length
+}
+
+/// Makes the index of a list, by the call of its family.
+fn make_index<Network, Held>(
+    blocks: &[Network],
+    index: &mut [u32],
+    make: unsafe extern "C" fn(*const Held, usize, *mut u32, usize) -> u32,
+) {
+    // SAFETY: slices are never null, and have as many elements, each of which is the struct that it wraps; the exclusive
+    // one does not overlap the other.
+    answered(unsafe {
+        make(
+            blocks.as_ptr().cast(),
+            blocks.len(),
+            index.as_mut_ptr(),
+            index.len(),
+        )
+    });
+}
+
 macro_rules! family {
     (
         $(#[$doc:meta])* $name:ident, $octets:literal, $address:ident, $text:literal,
         $read:ident, $new:ident, $canonical:ident, $contains:ident, $network:ident, $broadcast:ident, $mask:ident,
         $prefix_of_mask:ident, $is_subnet_of:ident, $overlaps:ident, $compare:ident, $contains_column:ident,
         $list_contains:ident, $aggregate:ident, $read_column:ident, $members:ident, $index:ident, $set:ident,
-        $set_contains:ident, $union:ident, $intersection:ident, $difference:ident, $print_column:ident, $table:ident,
-        $table_make:ident, $table_find:ident, $table_find_column:ident
+        $index_make:ident, $index_contains:ident, $index_contains_column:ident, $union:ident, $intersection:ident,
+        $difference:ident, $print_column:ident, $table:ident, $table_make:ident, $index_find:ident,
+        $index_find_column:ident
     ) => {
         $(#[$doc])*
         #[derive(Clone, Copy, PartialEq, Eq, Hash, Debug)]
@@ -675,19 +766,55 @@ macro_rules! family {
         impl FusedIterator for $members {}
 
         /// The addresses of networks, in the memory of the caller. Sets with the same addresses are equal.
-        #[derive(Clone, Copy, PartialEq, Eq, Hash, Debug)]
-        pub struct $set<'a>(&'a [$name]);
+        #[derive(Clone, Copy)]
+        pub struct $set<'a> {
+            blocks: &'a [$name],
+            index: &'a [u32],
+        }
+
+        impl PartialEq for $set<'_> {
+            fn eq(&self, other: &Self) -> bool {
+                self.blocks == other.blocks
+            }
+        }
+
+        impl Eq for $set<'_> {}
+
+        impl Hash for $set<'_> {
+            fn hash<H: Hasher>(&self, state: &mut H) {
+                self.blocks.hash(state);
+            }
+        }
+
+        impl fmt::Debug for $set<'_> {
+            fn fmt(&self, f: &mut fmt::Formatter<'_>) -> fmt::Result {
+                f.debug_tuple(stringify!($set)).field(&self.blocks).finish()
+            }
+        }
 
         impl<'a> $set<'a> {
             /// The addresses of these networks, in any order, host bits or not, whose memory it takes. The union of sets
             /// is the set of their blocks.
             pub fn new(networks: &'a mut [$name]) -> Self {
-                $set($name::aggregate(networks))
+                Self::of($name::aggregate(networks))
+            }
+
+            /// The set of blocks that are the fewest with their addresses, without an index.
+            fn of(blocks: &'a [$name]) -> Self {
+                $set { blocks, index: &[] }
             }
 
             /// The fewest networks that have these addresses, in ascending order.
             pub fn blocks(&self) -> &'a [$name] {
-                self.0
+                self.blocks
+            }
+
+            /// The same set with an index, which is made in this memory, so that `contains` and `contains_column` take a
+            /// few steps. [`index_size`] tells how many numbers it should have.
+            #[must_use]
+            pub fn with_index(self, index: &'a mut [u32]) -> Self {
+                make_index(self.blocks, index, c::$index_make);
+                $set { blocks: self.blocks, index }
             }
 
             /// The set of which these are the blocks: the fewest that have its addresses, in ascending order and without
@@ -702,17 +829,38 @@ macro_rules! family {
                     return None;
                 }
                 answered(number);
-                Some($set(blocks))
+                Some(Self::of(blocks))
             }
 
-            /// Whether an address is one of the set, by one binary search.
+            /// Whether an address is one of the set, by the index, or else by one binary search.
             pub fn contains(&self, address: $address) -> bool {
                 let mut answer = 0;
-                // SAFETY: a slice is never null, and has as many elements, each of which is the struct that it wraps.
+                // SAFETY: slices are never null, and have as many elements, each of which is the struct that it wraps.
                 answered(unsafe {
-                    c::$set_contains(self.0.as_ptr().cast(), self.0.len(), &address.octets(), &mut answer)
+                    c::$index_contains(
+                        self.blocks.as_ptr().cast(), self.blocks.len(), self.index.as_ptr(), self.index.len(),
+                        &address.octets(), &mut answer,
+                    )
                 });
                 answer == 1
+            }
+
+            /// Whether each of these addresses, as octets, is one of the set: 1 or 0, at the same place in `answers`. Panics
+            /// if there are not as many answers as addresses.
+            pub fn contains_column(&self, addresses: &[[u8; $octets]], answers: &mut [u8]) {
+                assert_eq!(addresses.len(), answers.len(), "an answer for each address");
+                let mut faults = [0; PART];
+                for (addresses, answers) in addresses.chunks(PART).zip(answers.chunks_mut(PART)) {
+                    // SAFETY: slices are never null, and have as many elements, each of which is the struct that it
+                    // wraps; the exclusive ones overlap none of the others.
+                    answered(unsafe {
+                        c::$index_contains_column(
+                            self.blocks.as_ptr().cast(), self.blocks.len(), self.index.as_ptr(), self.index.len(),
+                            addresses.as_ptr(), addresses.len(), answers.as_mut_ptr(), answers.len(),
+                            faults.as_mut_ptr(), faults.len(),
+                        )
+                    });
+                }
             }
 
             /// The addresses that one of the sets has, or both, with their blocks in `room`: at most as many as both sets
@@ -738,7 +886,7 @@ macro_rules! family {
                 room: &'b mut [$name],
                 operation: c::Operation<$octets>,
             ) -> Result<$set<'b>, usize> {
-                let (mut count, own, others) = (0, self.0, other.0);
+                let (mut count, own, others) = (0, self.blocks, other.blocks);
                 // SAFETY: slices are never null, and have as many elements, each of which is the struct that it wraps; the
                 // exclusive one overlaps none of the others.
                 let number = unsafe {
@@ -751,7 +899,7 @@ macro_rules! family {
                     return Err(count);
                 }
                 answered(number);
-                Ok($set(&room[..count]))
+                Ok($set::of(&room[..count]))
             }
         }
 
@@ -761,6 +909,7 @@ macro_rules! family {
         pub struct $table<'a> {
             blocks: &'a [$name],
             places: &'a [usize],
+            index: &'a [u32],
         }
 
         impl<'a> $table<'a> {
@@ -777,7 +926,15 @@ macro_rules! family {
                         places.as_mut_ptr(), places.len(),
                     )
                 });
-                $table { blocks: &blocks[..count], places: &places[..count] }
+                $table { blocks: &blocks[..count], places: &places[..count], index: &[] }
+            }
+
+            /// The same table with an index, which is made in this memory, so that `find` and `find_column` take fewer steps.
+            /// [`index_size`] tells how many numbers it should have.
+            #[must_use]
+            pub fn with_index(self, index: &'a mut [u32]) -> Self {
+                make_index(self.blocks, index, c::$index_make);
+                $table { index, ..self }
             }
 
             /// The blocks of the networks, in ascending order.
@@ -788,16 +945,19 @@ macro_rules! family {
             /// Which of the networks, counted from 0, is the longest one that has an address: the last one, if some have
             /// the same block. `None` if none has it.
             pub fn find(&self, address: $address) -> Option<usize> {
-                let mut index = 0;
-                // SAFETY: a slice is never null, and has as many elements, each of which is the struct that it wraps.
+                let mut place = 0;
+                // SAFETY: slices are never null, and have as many elements, each of which is the struct that it wraps.
                 let number = unsafe {
-                    c::$table_find(self.blocks.as_ptr().cast(), self.blocks.len(), &address.octets(), &mut index)
+                    c::$index_find(
+                        self.blocks.as_ptr().cast(), self.blocks.len(), self.index.as_ptr(), self.index.len(),
+                        &address.octets(), &mut place,
+                    )
                 };
                 if number == NO_MEMBER {
                     return None;
                 }
                 answered(number);
-                Some(self.places[index])
+                Some(self.places[place])
             }
 
             /// The same of each of these addresses, as octets: number i is the network of address i, and fault i is 0; if no
@@ -809,9 +969,9 @@ macro_rules! family {
                 // SAFETY: slices are never null, and have as many elements, each of which is the struct that it wraps; the
                 // exclusive ones overlap none of the others.
                 answered(unsafe {
-                    c::$table_find_column(
-                        self.blocks.as_ptr().cast(), self.blocks.len(), addresses.as_ptr(), count,
-                        numbers.as_mut_ptr(), count, faults.as_mut_ptr(), count,
+                    c::$index_find_column(
+                        self.blocks.as_ptr().cast(), self.blocks.len(), self.index.as_ptr(), self.index.len(),
+                        addresses.as_ptr(), count, numbers.as_mut_ptr(), count, faults.as_mut_ptr(), count,
                     )
                 });
                 for (number, fault) in numbers.iter_mut().zip(faults) {
@@ -880,9 +1040,9 @@ family!(
     ipnetwork_v4_broadcast, ipnetwork_v4_mask, ipnetwork_v4_prefix_of_mask, ipnetwork_v4_is_subnet_of,
     ipnetwork_v4_overlaps, ipnetwork_v4_compare, ipnetwork_v4_contains_column, ipnetwork_v4_list_contains,
     ipnetwork_v4_aggregate, ipnetwork_v4_read_column, Ipv4Members, u32, Ipv4Set,
-    ipnetwork_v4_set_contains, ipnetwork_v4_union, ipnetwork_v4_intersection, ipnetwork_v4_difference,
-    ipnetwork_v4_print_column, Ipv4Table, ipnetwork_v4_table_make, ipnetwork_v4_table_find,
-    ipnetwork_v4_table_find_column
+    ipnetwork_v4_index_make, ipnetwork_v4_index_contains, ipnetwork_v4_index_contains_column,
+    ipnetwork_v4_union, ipnetwork_v4_intersection, ipnetwork_v4_difference, ipnetwork_v4_print_column,
+    Ipv4Table, ipnetwork_v4_table_make, ipnetwork_v4_index_find, ipnetwork_v4_index_find_column
 );
 
 family!(
@@ -893,9 +1053,9 @@ family!(
     ipnetwork_v6_broadcast, ipnetwork_v6_mask, ipnetwork_v6_prefix_of_mask, ipnetwork_v6_is_subnet_of,
     ipnetwork_v6_overlaps, ipnetwork_v6_compare, ipnetwork_v6_contains_column, ipnetwork_v6_list_contains,
     ipnetwork_v6_aggregate, ipnetwork_v6_read_column, Ipv6Members, u128, Ipv6Set,
-    ipnetwork_v6_set_contains, ipnetwork_v6_union, ipnetwork_v6_intersection, ipnetwork_v6_difference,
-    ipnetwork_v6_print_column, Ipv6Table, ipnetwork_v6_table_make, ipnetwork_v6_table_find,
-    ipnetwork_v6_table_find_column
+    ipnetwork_v6_index_make, ipnetwork_v6_index_contains, ipnetwork_v6_index_contains_column,
+    ipnetwork_v6_union, ipnetwork_v6_intersection, ipnetwork_v6_difference, ipnetwork_v6_print_column,
+    Ipv6Table, ipnetwork_v6_table_make, ipnetwork_v6_index_find, ipnetwork_v6_index_find_column
 );
 
 impl Ipv4Network {

@@ -2,7 +2,7 @@
 //! `IPNETWORK_ROWS` is how many of each, a million where it is not set; `IPNETWORK_SEED` chooses others.
 
 use ipnetwork_c::{
-    Fault, IpNetwork, Ipv4Network, Ipv4Set, Ipv4Table, Ipv6Network, Ipv6Set, Ipv6Table,
+    Fault, IpNetwork, Ipv4Network, Ipv4Set, Ipv4Table, Ipv6Network, Ipv6Set, Ipv6Table, index_size,
     print_address_column, read_address, read_address_column,
 };
 use std::net::{IpAddr, Ipv4Addr, Ipv6Addr};
@@ -468,6 +468,31 @@ fn operations_on_sets() {
         }
         assert_eq!(Ipv4Set::from_blocks(made.blocks()), Some(*made));
         assert_eq!(Ipv6Set::from_blocks(made6.blocks()), Some(*made6));
+        let (mut index, mut index6) = (vec![7; index_size(made.blocks().len())], [7; 3]);
+        let (indexed, indexed6) = (made.with_index(&mut index), made6.with_index(&mut index6));
+        assert_eq!((indexed, indexed6), (*made, *made6));
+        for (asked, asked6) in [(*made, *made6), (indexed, indexed6)] {
+            let (mut answers, mut answers6) = ([7; 256], [7; 256]);
+            asked.contains_column(
+                &std::array::from_fn::<_, 256, _>(|host| [192, 0, 2, host as u8]),
+                &mut answers,
+            );
+            asked6.contains_column(
+                &std::array::from_fn::<_, 256, _>(|host| (host as u128).to_be_bytes()),
+                &mut answers6,
+            );
+            for host in 0..=255 {
+                let address = Ipv4Addr::new(192, 0, 2, host);
+                let wanted = made.contains(address);
+                assert_eq!(asked.contains(address), wanted);
+                assert_eq!(asked6.contains(Ipv6Addr::from(u128::from(host))), wanted);
+                let row = usize::from(host);
+                assert_eq!(
+                    (answers[row], answers6[row]),
+                    (wanted.into(), wanted.into())
+                );
+            }
+        }
         let (mut again, mut again6) = (made.blocks().to_vec(), made6.blocks().to_vec());
         assert_eq!(Ipv4Set::new(&mut again), *made);
         assert_eq!(Ipv6Set::new(&mut again6), *made6);
@@ -492,31 +517,42 @@ fn tables() {
         let table = Ipv4Table::new(&fours, &mut blocks, &mut places);
         let table6 = Ipv6Table::new(&sixes, &mut blocks6, &mut places6);
         assert!(table.blocks().is_sorted() && table6.blocks().is_sorted());
-        let asked: Vec<[u8; 4]> = (0..=255).map(|host| [192, 0, 2, host]).collect();
-        let asked6: Vec<[u8; 16]> = (0..256u128).map(u128::to_be_bytes).collect();
-        let (mut numbers, mut numbers6) = ([77; 256], [77; 256]);
-        let (mut faults, mut faults6) = ([77; 256], [77; 256]);
-        table.find_column(&asked, &mut numbers, &mut faults);
-        table6.find_column(&asked6, &mut numbers6, &mut faults6);
-        for host in 0..256 {
-            let address = Ipv4Addr::from(asked[host]);
-            let having = fours
-                .iter()
-                .enumerate()
-                .filter(|(_, network)| network.contains(address));
-            let wanted = having.max_by_key(|(place, network)| (network.prefix(), *place));
-            let wanted = wanted.map(|(place, _)| place);
-            assert_eq!(table.find(address), wanted);
-            assert_eq!(table6.find(Ipv6Addr::from(asked6[host])), wanted);
-            assert_eq!(
-                (faults[host] == 0, faults6[host] == 0),
-                (wanted.is_some(), wanted.is_some())
-            );
-            assert_eq!(
-                (numbers[host], numbers6[host]),
-                (wanted.unwrap_or(77), wanted.unwrap_or(77))
-            );
-        }
+        let (mut index, mut index6) = (vec![7; index_size(count)], vec![7; count % 3]);
+        ask(&fours, table, table6);
+        ask(
+            &fours,
+            table.with_index(&mut index),
+            table6.with_index(&mut index6),
+        );
+    }
+}
+
+/// Asks tables of the same hosts in both families about all 256, one by one and in columns.
+fn ask(fours: &[Ipv4Network], table: Ipv4Table, table6: Ipv6Table) {
+    let asked: Vec<[u8; 4]> = (0..=255).map(|host| [192, 0, 2, host]).collect();
+    let asked6: Vec<[u8; 16]> = (0..256u128).map(u128::to_be_bytes).collect();
+    let (mut numbers, mut numbers6) = ([77; 256], [77; 256]);
+    let (mut faults, mut faults6) = ([77; 256], [77; 256]);
+    table.find_column(&asked, &mut numbers, &mut faults);
+    table6.find_column(&asked6, &mut numbers6, &mut faults6);
+    for host in 0..256 {
+        let address = Ipv4Addr::from(asked[host]);
+        let having = fours
+            .iter()
+            .enumerate()
+            .filter(|(_, network)| network.contains(address));
+        let wanted = having.max_by_key(|(place, network)| (network.prefix(), *place));
+        let wanted = wanted.map(|(place, _)| place);
+        assert_eq!(table.find(address), wanted);
+        assert_eq!(table6.find(Ipv6Addr::from(asked6[host])), wanted);
+        assert_eq!(
+            (faults[host] == 0, faults6[host] == 0),
+            (wanted.is_some(), wanted.is_some())
+        );
+        assert_eq!(
+            (numbers[host], numbers6[host]),
+            (wanted.unwrap_or(77), wanted.unwrap_or(77))
+        );
     }
 }
 
