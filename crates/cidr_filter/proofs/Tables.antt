@@ -45,6 +45,13 @@ module _ {V : Type 0} (w : ℕ) (t : FinMap network_cmp V) (networks : List Netw
         )
       ] refl (get-insert total t key v m)
 
+-- a table by another name, and networks
+pub same_table : {V : Type 0} (w : ℕ) (networks : List Network) (a b : FinMap network_cmp V) → a ≡ b → HasBlocksOf w networks b → HasBlocksOf w networks a
+same_table {V} w networks a b e has = subst (λ (t : FinMap network_cmp V). HasBlocksOf w networks t) (sym e) has
+
+pub same_networks : {V : Type 0} (w : ℕ) (a b : List Network) (table : FinMap network_cmp V) → a ≡ b → HasBlocksOf w a table → HasBlocksOf w b table
+same_networks w a b table e has = subst (λ (l : List Network). HasBlocksOf w l table) e has
+
 -- so is the next of some networks
 module _ {V N : Type 0} (pair : N → Network) (w : ℕ) (networks : List N) where
   pub one_block_more : (t new : FinMap network_cmp V) (i : ℕ) (n : N) (v : V) → take (i + 1) networks ≡ take i networks ++ n ∷ [] → new ≡ insert t (block_of w (pair n)) v

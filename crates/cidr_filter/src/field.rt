@@ -6,6 +6,7 @@ ghost use Rattle.cidr_filter.specs.Fields.{field_of, part_behind};
 use byte_search::find_from;
 
 /// The field of this number, from 1 on, of a line that is cut at each single separator. Does not allocate.
+#[inline(always)]
 pub(crate) fn field_of(line: &[u8], number: u32, separator: u8) -> Option<&[u8]>
     ensures { MatchOption result (field_of number separator line.now ≡ None)
         (λ field. field_of number separator line.now ≡ Some field.now) }
@@ -23,6 +24,7 @@ pub(crate) fn field_of(line: &[u8], number: u32, separator: u8) -> Option<&[u8]>
 }
 
 // The field that begins at a place.
+#[inline(always)]
 fn field_at(line: &[u8], start: usize, separator: u8) -> &[u8]
     requires { start ≤ length line.now }
     ensures { part_behind 0 (slice_split (λ b. b == separator) (drop start line.now))

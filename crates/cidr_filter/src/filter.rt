@@ -102,6 +102,7 @@ pub struct Filter<'a> {
 
 impl Filter<'_> {
     /// What a line is to the list. It is given without its end. Does not allocate.
+    #[inline(always)]
     pub(crate) fn judge(&self, line: &[u8]) -> Verdict
         ensures { Judges self.now line.now result }
     {
@@ -112,6 +113,7 @@ impl Filter<'_> {
     }
 
     // What a line that is not too long is to the list.
+    #[inline(always)]
     fn judge_within(&self, line: &[u8]) -> Verdict
         ensures { JudgesAddresses self.now
             (asked_of self.now (spelled_at self.now.place line.now)) result }
@@ -134,6 +136,7 @@ impl Filter<'_> {
     }
 
     // What a line is to the list of which only this part is looked at.
+    #[inline(always)]
     fn judge_part(&self, part: &[u8]) -> Verdict
         ensures { JudgesAddresses self.now (asked_of self.now (of_part (Some part.now))) result }
     {
@@ -180,6 +183,7 @@ impl Filter<'_> {
     }
 
     // If an address is one of the list, what is told of it.
+    #[inline(always)]
     fn told_of(&self, address: IpAddr) -> Option<Option<IpNetwork>>
         ensures { MatchOption result (¬ (IsListed self.now (asked self.now.mapped address)))
             (λ told. IsListed self.now (asked self.now.mapped address)

@@ -5,7 +5,7 @@ ghost use Rattle.cidr_filter.specs.Listed.{HasAddress, has_address, HasBlocksOf,
 use ipnetwork::{IpAddr, IpNetwork, Ipv4Network, Ipv6Network};
 use ipnetwork_family::CidrNetwork;
 use ipnetwork_family::laws::membership_is_computed;
-use ipnetwork_index::AddressIndex;
+use ipnetwork_index::{AddressIndex, IndexedNetwork, RouteIndex};
 use ipnetwork_sets::AddressSet;
 use ipnetwork_table::PrefixTable;
 use std::alloc::{AllocError, Global};
@@ -27,10 +27,10 @@ pub struct Sets {
 }
 
 /// The blocks of networks, by family.
-#[derive(Debug, Drop)]
+#[derive(Drop)]
 pub struct Tables {
-    pub(crate) v4: PrefixTable<Ipv4Network, ()>,
-    pub(crate) v6: PrefixTable<Ipv6Network, ()>,
+    pub(crate) v4: RouteIndex<Ipv4Network, ()>,
+    pub(crate) v6: RouteIndex<Ipv6Network, ()>,
 }
 
 impl Sets {
@@ -50,6 +50,7 @@ impl Sets {
     }
 
     /// Whether the address is one of them.
+    #[inline(always)]
     pub(crate) fn contains(&self, address: IpAddr) -> bool
         ensures { IsTrue result ↔ HasAddress self.now address }
     {
@@ -81,8 +82,8 @@ impl Tables {
         ensures v6 { IfOk result (λ tables. HasBlocksOf 128 v6.now tables.v6) }
     {
         Ok(Tables {
-            v4: table_of(alloc, v4)?,
-            v6: table_of(alloc, v6)?,
+            v4: index_of(alloc, v4)?,
+            v6: index_of(alloc, v6)?,
         })
     }
 
@@ -102,6 +103,18 @@ impl Tables {
             },
         }
     }
+}
+
+// The index over the blocks of networks of one family.
+fn index_of<N: IndexedNetwork>(
+    alloc: Global,
+    networks: &[N],
+) -> Result<RouteIndex<N, ()>, AllocError>
+    ensures { IfOk result (λ index. HasBlocksOf N.WIDTH (map N.pair networks.now) index) }
+{
+    let table = table_of(alloc, networks)?;
+    let index = RouteIndex::from_table(alloc, table)?;
+    Ok(index)
 }
 
 // The blocks of networks of one family.
