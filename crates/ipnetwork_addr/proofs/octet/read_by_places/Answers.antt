@@ -1,4 +1,4 @@
-use Rattle.std.proofs.Common.{arith, ap, take, drop}
+use Rattle.std.proofs.Common.{arith}
 use Rattle.std.proofs.lemmas.List.{take_rest}
 use Rattle.ipnetwork_addr.proofs.OctetFronts.{no_end, no_octet_before}
 use Rattle.ipnetwork_addr.proofs.FirstDigits.{behind_end, behind_within}
