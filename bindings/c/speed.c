@@ -81,6 +81,28 @@ static uint64_t column_v4(size_t i) {
 static uint64_t column_v6(size_t i) {
     return i != 0 ? 0 : ipnetwork_v6_contains_column(networks_v6, asked_v6[0], COUNT, answers, COUNT) + answers[1];
 }
+/* The same texts one after the other, and where each begins and the last ends. */
+static char joined_v4[sizeof texts_v4], joined_v6[sizeof texts_v6];
+static uint32_t offsets_v4[COUNT + 1], offsets_v6[COUNT + 1];
+static uint8_t read_faults[COUNT];
+static ipnetwork_v4 read_fours[COUNT];
+static ipnetwork_v6 read_sixes[COUNT];
+
+static void join(void) {
+    for (size_t i = 0; i < COUNT; i++) {
+        memcpy(joined_v4 + offsets_v4[i], texts_v4[i], lengths_v4[i]);
+        memcpy(joined_v6 + offsets_v6[i], texts_v6[i], lengths_v6[i]);
+        offsets_v4[i + 1] = offsets_v4[i] + (uint32_t)lengths_v4[i];
+        offsets_v6[i + 1] = offsets_v6[i] + (uint32_t)lengths_v6[i];
+    }
+}
+
+static uint64_t read_column_v4(size_t i) {
+    return i != 0 ? 0 : ipnetwork_v4_read_column(joined_v4, offsets_v4[COUNT], offsets_v4, COUNT + 1, read_fours, COUNT, read_faults, COUNT) + read_fours[1].prefix;
+}
+static uint64_t read_column_v6(size_t i) {
+    return i != 0 ? 0 : ipnetwork_v6_read_column(joined_v6, offsets_v6[COUNT], offsets_v6, COUNT + 1, read_sixes, COUNT, read_faults, COUNT) + read_sixes[1].prefix;
+}
 static uint64_t pton_v4(size_t i) { return (uint64_t)inet_pton(AF_INET, addresses_v4[i], octets) + octets[0]; }
 static uint64_t pton_v6(size_t i) { return (uint64_t)inet_pton(AF_INET6, addresses_v6[i], octets) + octets[0]; }
 
@@ -231,7 +253,8 @@ static void measure(const struct row *rows, size_t count) {
 
 int main(void) {
     static const struct row reads[] = {
-        {"ipnetwork_v4_read", read_v4}, {"inet_pton, IPv4 address", pton_v4}, {"ipnetwork_v6_read", read_v6}, {"inet_pton, IPv6 address", pton_v6}};
+        {"ipnetwork_v4_read", read_v4}, {"inet_pton, IPv4 address", pton_v4}, {"ipnetwork_v6_read", read_v6}, {"inet_pton, IPv6 address", pton_v6},
+        {"ipnetwork_v4_read_column", read_column_v4}, {"ipnetwork_v6_read_column", read_column_v6}};
     static const struct row members[] = {{"ipnetwork_v4_contains", has_v4}, {"ipnetwork_v6_contains", has_v6},
         {"ipnetwork_v4_contains_column", column_v4}, {"ipnetwork_v6_contains_column", column_v6}};
     static const struct row searches[] = {{"ipnetwork_v4_set_contains", set_v4}, {"a plain binary search in C", plain_set_v4},
@@ -240,9 +263,10 @@ int main(void) {
         {"ipnetwork_v4_index_find", table_by}, {"ipnetwork_v4_index_find_column", table_column_by},
         {"ipnetwork_v6_set_contains", set_v6}, {"ipnetwork_v6_index_contains", six_by}, {"ipnetwork_v6_index_contains_column", six_column_by}};
     make();
+    join();
     make_lists();
     make_indexes();
-    measure(reads, 4);
+    measure(reads, 6);
     measure(members, 4);
     measure(searches, 4);
     measure(by_index, 7);

@@ -1,12 +1,14 @@
 //! Reads the octets of an IPv4 text, from left to right.
-ghost use Rattle.std.specs.Prelude.{◌≡◌, ◌+◌, ◌<◌, ◌≤◌, ◌↔◌, [], ◌∷◌, length, take, slice_index, IsTrue, MatchOption};
+ghost use Rattle.std.specs.Prelude.{◌≡◌, ◌+◌, ◌<◌, ◌≤◌, ◌↔◌, [], ◌∷◌, length, take, drop, slice_index, IsTrue, MatchOption};
 ghost use Rattle.std.specs.Int.Digits.{number_from_digits};
 ghost use Rattle.ipnetwork_addr.specs.Ipv4Text.{IsOctet, NamesV4};
 ghost use Rattle.ipnetwork_addr.specs.Private.NoAddress.{NamesNoV4};
-ghost use Rattle.ipnetwork_addr.specs.Private.OctetFront.{IsNoOctet, IsOctetEnd, HasNoOctetEnd, BeginsWithOctet, NoOctetAndDot};
+ghost use Rattle.ipnetwork_addr.specs.Private.OctetFront.{IsNoOctet, IsOctetEnd, HasNoOctetEnd, BeginsWithOctet, NoOctetAndDot, before_dot};
 ghost use Rattle.ipnetwork_addr.specs.Texts.{dot};
 
-use crate::decimal_value::{decimal_value, first_value, is_no_dot};
+use crate::decimal_value::{
+    decimal_value, factor_before, first_value, is_no_dot, value_unless_dot,
+};
 
 /// The greatest octet.
 const OCTET_MAX: u32 = 255;
@@ -16,41 +18,46 @@ pub(crate) fn read_octets(text: &[u8]) -> Option<[u8; 4]>
     ensures { MatchOption result (NamesNoV4 text.now)
         (λ octets. NamesV4 text.now (number_from_digits 256 octets)) }
 {
-    let (first, rest) = read_octet_and_dot(text)?;
-    let (second, rest) = read_octet_and_dot(rest)?;
-    let (third, rest) = read_octet_and_dot(rest)?;
-    let fourth = read_octet(rest)?;
+    let (first, second_at) = read_octet_and_dot(text, 0)?;
+    let (second, third_at) = read_octet_and_dot(text, second_at)?;
+    let (third, fourth_at) = read_octet_and_dot(text, third_at)?;
+    let fourth = read_octet(&text[fourth_at..])?;
     Some([first, second, third, fourth])
 }
 
-/// The octet before the first dot, and the text after that dot.
+/// The octet before the first dot from the place `at` on, and the place after that dot.
 #[inline(always)]
-fn read_octet_and_dot(text: &[u8]) -> Option<(u8, &[u8])>
-    ensures { MatchOption result (NoOctetAndDot text.now)
-        (λ found. BeginsWithOctet text.now found.0 (dot ∷ found.1.now)) }
+fn read_octet_and_dot(text: &[u8], at: usize) -> Option<(u8, usize)>
+    requires { at ≤ length text.now }
+    ensures { MatchOption result (NoOctetAndDot (drop at text.now))
+        (λ found. (found.1 ≤ length text.now)
+        × BeginsWithOctet (drop at text.now) found.0 (dot ∷ drop found.1 text.now)) }
 {
-    if text.len() < 4 || text[1] == b'.' {
-        return read_by_places(text);
+    if text.len() - at < 4 || text[at + 1] == b'.' {
+        return read_by_places(text, at);
     }
     // No branch asks whether there are two digits or three: that would be guessed wrongly too often.
-    let more = is_no_dot(text[2]);
-    let end = 2 + more as usize;
+    let last = text[at + 2];
+    let end = at + 2 + is_no_dot(last) as usize;
     if text[end] != b'.' {
         return None;
     }
-    let octet = octet_of_several(text[0], text[1], text[2], more)?;
-    Some((octet, &text[end + 1..]))
+    let octet = octet_before_dot(text[at], text[at + 1], last)?;
+    Some((octet, end + 1))
 }
 
 /// The same, with one place tried after the other.
 #[inline(always)]
-fn read_by_places(text: &[u8]) -> Option<(u8, &[u8])>
-    ensures { MatchOption result (NoOctetAndDot text.now)
-        (λ found. BeginsWithOctet text.now found.0 (dot ∷ found.1.now)) }
+fn read_by_places(text: &[u8], at: usize) -> Option<(u8, usize)>
+    requires { at ≤ length text.now }
+    ensures { MatchOption result (NoOctetAndDot (drop at text.now))
+        (λ found. (found.1 ≤ length text.now)
+        × BeginsWithOctet (drop at text.now) found.0 (dot ∷ drop found.1 text.now)) }
 {
-    let end = octet_end(text)?;
-    let octet = read_octet(&text[..end])?;
-    Some((octet, &text[end + 1..]))
+    let rest = &text[at..];
+    let end = octet_end(rest)?;
+    let octet = read_octet(&rest[..end])?;
+    Some((octet, at + end + 1))
 }
 
 /// The place of the first dot that stands after one, two or three bytes.
@@ -114,6 +121,18 @@ fn octet_of_several(a: u8, b: u8, c: u8, more: u32) -> Option<u8>
 {
     let two = first_value(a) + decimal_value(b);
     let value = two + (two * 9 + decimal_value(c)) * more;
+    if value > OCTET_MAX {
+        return None;
+    }
+    Some(value as u8)
+}
+
+/// The octet of the digits `a`, `b` and `c`, or of `a` and `b` if `c` is a dot. The first digit is not a zero.
+#[inline(always)]
+fn octet_before_dot(a: u8, b: u8, c: u8) -> Option<u8>
+    ensures { MatchOption result (IsNoOctet (before_dot a b c)) (IsOctet (before_dot a b c)) }
+{
+    let value = (first_value(a) + decimal_value(b)) * factor_before(c) + value_unless_dot(c);
     if value > OCTET_MAX {
         return None;
     }

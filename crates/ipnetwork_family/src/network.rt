@@ -1,12 +1,12 @@
 //! Networks of the addresses of one family.
-ghost use Rattle.std.specs.Prelude.{◌≡◌, ◌↔◌, ℕ, ◌+◌, ◌^◌, ◌<◌, ◌≤◌, IsTrue, Some, MatchOption, MatchResult, IfOk, Ok, string_bytes, length, option_copied};
+ghost use Rattle.std.specs.Prelude.{◌≡◌, ◌↔◌, ℕ, ◌+◌, ◌^◌, ◌<◌, ◌≤◌, IsTrue, Some, MatchOption, MatchResult, IfOk, Ok, string_bytes, length, IfSome, option_copied};
 ghost use Rattle.std.specs.Option.{SomeIff};
-ghost use Rattle.ipnetwork_family.specs.Family.{ReadsNetworkOf, ParsesNetworkOf, text_of, text_length_of};
+ghost use Rattle.ipnetwork_family.specs.Family.{NamesNetworkOf, ReadsNetworkOf, ParsesNetworkOf, text_of, text_length_of};
 ghost use Rattle.ipnetwork_family.specs.Masks.{GivesPrefixOfMask};
 ghost use Rattle.ipnetwork_family.specs.Network.{Network as Pair, IsNetwork, Member, IsNoMask, mask_of, low, high, members, Subnet, Overlap, block_of};
 ghost use Rattle.ipnetwork_family.specs.Private.Suffixes.{GivesPrefix, GivesNoPrefix};
 
-use crate::parse::split;
+use crate::parse::{slash_near_end, split};
 use crate::{Address, CidrFault, IpNetworkError, NETWORK_TEXT_CAPACITY, NetworkIterator};
 use arrayvec::ArrayString;
 use ipnetwork_addr::decimal::push_decimal;
@@ -279,6 +279,9 @@ impl<A: Address> Network<A> {
     pub fn read_bytes(text: &[u8]) -> Result<Self, CidrFault>
         ensures { ReadsNetworkOf A.family text.now result }
     {
+        if let Some(network) = read_suffixed::<A>(text) {
+            return Ok(network);
+        }
         // Does nothing. The proof needs the law: no address text and no suffix contains a `/`.
         A::law_texts();
         let (address, suffix) = split(text)?;
@@ -340,6 +343,20 @@ impl<A: Address> Network<A> {
     {
         String::from_str(alloc, self.canonical().as_str())
     }
+}
+
+/// The network that a text names, if its suffix has one to three bytes. `None` says nothing of the text.
+#[inline(always)]
+fn read_suffixed<A: Address>(text: &[u8]) -> Option<Network<A>>
+    ensures { IfSome result (NamesNetworkOf A.family text.now) }
+{
+    let at = slash_near_end(text)?;
+    let Ok(address) = A::read_bytes(&text[..at]) else {
+        return None;
+    };
+    let prefix = A::read_suffix(&text[at + 1..])?;
+    address.is_of_width();
+    Some(Network { address, prefix })
 }
 
 /// The prefix length that stands after the `/`, or that of an address without one.

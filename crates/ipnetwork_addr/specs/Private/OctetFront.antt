@@ -1,5 +1,5 @@
 -- The octets that a text begins with.
-use Rattle.std.specs.Prelude.{◌≡◌, ◌≢◌, ℕ, ◌*◌, ◌<◌, ◌≤◌, ◌⊎◌, List, ◌∷◌, ◌++◌, length, slice_index, decimal, nat_lt, if◌then◌else◌}
+use Rattle.std.specs.Prelude.{◌≡◌, ◌≢◌, ℕ, ◌*◌, ◌<◌, ◌≤◌, ◌⊎◌, List, [], ◌∷◌, ◌++◌, ◌==◌, length, slice_index, decimal, nat_lt, if◌then◌else◌}
 use Rattle.std.specs.Char.{digit_value}
 use Rattle.ipnetwork_addr.specs.Ipv4Text.{IsOctet}
 use Rattle.ipnetwork_addr.specs.Texts.{dot}
@@ -37,3 +37,7 @@ pub record BeginsWithOctet (text : List ℕ) (octet : ℕ) (rest : List ℕ) : T
 -- the text begins with no octet and dot
 abbrev pub NoOctetAndDot : List ℕ → Type 0
 NoOctetAndDot text = (octet : ℕ) (rest : List ℕ) → ¬ (BeginsWithOctet text octet (dot ∷ rest))
+
+-- the bytes before a dot: two of them if the third is the dot, else three
+abbrev pub before_dot : ℕ → ℕ → ℕ → List ℕ
+before_dot a b c = if c == dot then (a ∷ b ∷ []) else (a ∷ b ∷ c ∷ [])
