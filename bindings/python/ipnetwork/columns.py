@@ -10,7 +10,7 @@ A column is a list, an array of NumPy or a Series of pandas, and each row of it 
 - a text, as ``str``, or as ``bytes`` in ASCII; one that names no address is a row without one;
 - an address or an interface of ``ipaddress``; with a zone it is a row without an address;
 - a network of this package or of ``ipaddress`` that has one address, which is then the row;
-- None, NaN, or pandas.NA: a row without a text, and so without an address.
+- None, NaN, pandas.NA or pandas.NaT: a row without a text, and so without an address.
 
 Any other row is a TypeError that says its number and its type; a ``str`` or a table in place of a
 column is a TypeError too. Numbers are taken only where ``numbers`` is given. With 4 the column is
