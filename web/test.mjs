@@ -136,6 +136,17 @@ async function keyboard(browser) {
   const place = "document.querySelector('.buttons [role=status]').textContent";
   const wanted = "65 to 128 of 65,536";
   assert.equal(await browser.settled(place, wanted), wanted);
+  // Turning to other parts leaves the keyboard at the button, or at the other one at an end.
+  await browser.go(`${PAGE}#split=10.0.0.0/24&into=32`);
+  const held = "document.activeElement.textContent";
+  await browser.value("document.querySelectorAll('.buttons button')[1].focus()");
+  for (const [key, after] of [["Later", "Later"], ["Later", "Later"], ["Later", "Earlier"]]) {
+    assert.equal(await browser.value(held), key);
+    await browser.press("Enter", 13, "\r");
+    assert.equal(await browser.value(held), after);
+  }
+  await browser.press("Enter", 13, "\r");
+  assert.equal(await browser.value(held), "Earlier");
 }
 
 // The pictures: which bits are those of hosts, where bars lie, which squares are coloured.
@@ -233,6 +244,15 @@ async function widths(browser) {
     const width = await browser.value("document.documentElement.scrollWidth");
     assert.ok(width <= 360, `${link} is ${width} pixels wide on a phone`);
   }
+  // Answers are read without a move to the right: why a line is wrong, and which part a row is.
+  await browser.go(`${PAGE}#list=${LONG}%0A010.1.2.0/24%0A${LONG}/129`);
+  const cut = await browser.value(`[...document.querySelectorAll("textarea[readonly]")]
+    .filter((field) => field.scrollWidth > field.clientWidth).length`);
+  assert.equal(cut, 0, `${cut} lists are cut off on a phone`);
+  await browser.go(`${PAGE}#split=ffff:ffff:ffff:ffff:ffff:ffff:ffff:0/112&into=128`);
+  const right = await browser.value(`Math.max(...[...document.querySelectorAll("td:nth-child(2)")]
+    .map((cell) => cell.getBoundingClientRect().right))`);
+  assert.ok(right <= 360, `the networks of the parts end ${right} pixels from the left`);
 }
 
 const PICTURES = {

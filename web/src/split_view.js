@@ -40,20 +40,24 @@ function table(network, prefix, count, place) {
   const heads = names.map((name, at) =>
     element("th", at === 0 ? { scope: "col", class: "number" } : { scope: "col" }, name));
   const head = element("thead", {}, element("tr", {}, ...heads));
-  const turn = (to) => () => {
+  // The button that was pressed is another one then, or off: the keyboard goes on at the new one.
+  const turn = (to, at) => () => {
     begin = to < 0n ? 0n : to;
     table(network, prefix, count, place);
+    const buttons = place.querySelectorAll("button");
+    (buttons[at].disabled ? buttons[1 - at] : buttons[at]).focus();
   };
   const region = { class: "table", tabindex: "0", role: "region", "aria-label": "Parts" };
-  place.replaceChildren(element("div", region, element("table", {}, head, body)));
+  const rows = element("table", { class: network.family === 4 ? "four" : "six" }, head, body);
+  place.replaceChildren(element("div", region, rows));
   if (count > SHOWN) {
     const shown = `${grouped(begin + 1n)} to ${grouped(end)} of ${grouped(count)}`;
     place.append(
       element(
         "div",
         { class: "buttons" },
-        turning("Earlier", begin === 0n, turn(begin - SHOWN)),
-        turning("Later", end === count, turn(begin + SHOWN)),
+        turning("Earlier", begin === 0n, turn(begin - SHOWN, 0)),
+        turning("Later", end === count, turn(begin + SHOWN, 1)),
         element("span", { role: "status" }, shown),
       ),
     );

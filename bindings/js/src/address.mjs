@@ -12,6 +12,11 @@ export const MADE = Symbol('made');
 /** The name of the method by which Node's console shows a value. */
 export const INSPECT = Symbol.for('nodejs.util.inspect.custom');
 
+/* What a typed array is and how long, whatever it has been given as properties. */
+const TYPED = Object.getPrototypeOf(Uint8Array.prototype);
+const tagOf = Object.getOwnPropertyDescriptor(TYPED, Symbol.toStringTag).get;
+const lengthOf = Object.getOwnPropertyDescriptor(TYPED, 'length').get;
+
 /* Friends of the class: they reach its fields. */
 let familyIn;
 let putIn;
@@ -78,8 +83,7 @@ export class IpAddress {
   }
 
   static fromOctets(octets) {
-    if (!(octets instanceof Uint8Array)) throw wrongType('octets', 'a Uint8Array', octets);
-    const { length } = octets;
+    const length = countOf(octets);
     if (length !== 4 && length !== 16) {
       throw new RangeError(`octets are ${length}, and not 4 or 16`);
     }
@@ -260,11 +264,15 @@ function requireAddress(value, name) {
   return value;
 }
 
+/** How many octets a Uint8Array has, or a TypeError. No code of the value is run. */
+function countOf(octets) {
+  if (tagOf.call(octets) !== 'Uint8Array') throw wrongType('octets', 'a Uint8Array', octets);
+  return lengthOf.call(octets);
+}
+
 function ofLength(octets, length) {
-  if (!(octets instanceof Uint8Array)) throw wrongType('octets', 'a Uint8Array', octets);
-  if (octets.length !== length) {
-    throw new RangeError(`octets are ${octets.length}, and not ${length}`);
-  }
+  const count = countOf(octets);
+  if (count !== length) throw new RangeError(`octets are ${count}, and not ${length}`);
   return IpAddress.fromOctets(octets);
 }
 

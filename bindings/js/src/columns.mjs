@@ -51,7 +51,7 @@ export class AddressColumn {
   }
 
   codeAt(row) {
-    return codeOf(this.#rows.faults[row]);
+    return codeOf(this.#rows.faults[rowOf(row)]);
   }
 
   at(row) {
@@ -94,7 +94,7 @@ export class NetworkColumn {
   }
 
   codeAt(row) {
-    return codeOf(this.#rows.faults[row]);
+    return codeOf(this.#rows.faults[rowOf(row)]);
   }
 
   at(row) {
@@ -113,13 +113,18 @@ export class NetworkColumn {
   }
 }
 
+/** The number that an argument is, or a TypeError. */
+function rowOf(row) {
+  if (typeof row !== 'number') throw wrongType('row', 'a number', row);
+  return row;
+}
+
 /**
  * What make gives of the struct of a row, which is written to this place; undefined if the row has
  * none.
  */
 function structAt(rows, row, place, make) {
-  if (typeof row !== 'number') throw wrongType('row', 'a number', row);
-  const family = rows.families[row];
+  const family = rows.families[rowOf(row)];
   if (family !== 4 && family !== 6) return undefined;
   const { bytes: packed, struct } = rows.packed[family === 4 ? 0 : 1];
   const from = rows.places[row] * struct;

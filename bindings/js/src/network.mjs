@@ -292,7 +292,8 @@ export class Ipv4Network extends IpNetwork {
       return;
     }
     const word4 = requireParts(address, prefix, 4, 32);
-    super(MADE, 4, prefix, word4, 0, 0, 0);
+    /* 0 in place of -0. */
+    super(MADE, 4, prefix + 0, word4, 0, 0, 0);
   }
 
   static parse(text) {
@@ -316,7 +317,7 @@ export class Ipv6Network extends IpNetwork {
     }
     const first = requireParts(address, prefix, 6, 128);
     super(
-      MADE, 6, prefix, first, view.getInt32(ADDRESS + 4, LITTLE),
+      MADE, 6, prefix + 0, first, view.getInt32(ADDRESS + 4, LITTLE),
       view.getInt32(ADDRESS + 8, LITTLE), view.getInt32(ADDRESS + 12, LITTLE),
     );
   }

@@ -1,10 +1,12 @@
 /** Arguments that no program should give: each is refused by name, and nothing is changed by it. */
 import assert from 'node:assert/strict';
 import test from 'node:test';
+import { runInNewContext } from 'node:vm';
 import ipnetwork from './package.mjs';
 
 const {
   AddressColumn, AddressSet, IpAddress, IpNetwork, IpNetworkError, Ipv4Address, Ipv4Network,
+  Ipv6Address,
   Ipv6Network, NetworkColumn, PrefixTable, aggregate, summarizeRange,
 } = ipnetwork;
 
@@ -147,6 +149,40 @@ test('buffers', () => {
   assert.equal(
     IpAddress.fromOctets(new Uint8Array(new SharedArrayBuffer(4))).toString(), '0.0.0.0',
   );
+});
+
+test('octets that say of themselves that they are fewer', () => {
+  const set = new AddressSet(['10.0.0.0/8', '2001:db8::/32']);
+  set.contains('10.0.0.1');
+  class Short extends Uint8Array { get length() { return 4; } }
+  const own = new Uint8Array(2000).fill(9);
+  Object.defineProperty(own, 'length', { value: 16 });
+  for (const octets of [new Short(2000).fill(9), own]) {
+    for (const kind of [IpAddress, Ipv4Address, Ipv6Address]) {
+      assert.throws(() => kind.fromOctets(octets), /^RangeError: octets are 2000, and not /);
+    }
+  }
+  /* Nothing was written over what stands in the memory. */
+  assert.deepEqual(
+    [...set.containsColumn(['10.0.0.1', '9.9.9.9', '2001:db8::1', '909:909::'])], [1, 0, 1, 0],
+  );
+  const trapped = new Proxy(new Uint8Array(4), { get: trap, has: trap, getPrototypeOf: trap });
+  assert.throws(() => IpAddress.fromOctets(trapped), TypeError);
+  assert.throws(() => IpAddress.fromOctets(Object.create(Uint8Array.prototype)), TypeError);
+  const elsewhere = runInNewContext('new Uint8Array([1, 2, 3, 4])');
+  assert.equal(String(IpAddress.fromOctets(elsewhere)), '1.2.3.4');
+});
+
+test('a row is a number, and a prefix length 0 has no sign', () => {
+  for (const column of [AddressColumn.read(['x', 'y']), NetworkColumn.read(['x', 'y'])]) {
+    assert.equal(column.codeAt(1), 'address');
+    for (const row of [2, -1, 0.5, NaN]) assert.equal(column.codeAt(row), undefined);
+    for (const row of ['length', '0', '__proto__', undefined, 0n, [1]]) {
+      assert.throws(() => column.codeAt(row), /^TypeError: row must be a number, not /);
+    }
+  }
+  assert.ok(Object.is(new Ipv4Network('10.0.0.0', -0).prefix, 0));
+  assert.ok(Object.is(new Ipv6Network('::1', -0).prefix, 0));
 });
 
 test('constructors that are not for callers', () => {
