@@ -1,7 +1,7 @@
 # What people type. The proofs need rt, the command of the Rattle kit, and python3; the library for C needs cc too.
 #
 #   make example                          proves and builds cidr, and answers examples/cidr/questions.txt
-#   make                                  proves and builds the three programs and the library for C
+#   make                                  proves and builds the four programs and the library for C
 #   make test                             the same, and then every test by its script
 #   make try                              the answers of the example from a program that is not proved, and not kept
 #   make sqlite                           builds the extension of SQLite, of the library for C that is built
@@ -38,7 +38,7 @@ ARCHIVE = crates/ipnetwork_c/out/libipnetwork_c.a
 SHARED = $(OUT)/libipnetwork_c.so.$(VERSION)
 SONAME = libipnetwork_c.so.$(MAJOR)
 EXTENSION = $(OUT)/cidr.so
-PROGRAMS = cidr cidr_merge cidr_filter
+PROGRAMS = cidr cidr_merge cidr_filter cidr_join
 
 .PHONY: all example test try library shared sqlite wasm js calculator install install-library uninstall deb \
     check-install

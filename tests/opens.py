@@ -1,5 +1,5 @@
-"""Which files of a folder a program opens and closes, in turn, as inotify of Linux reports them. `tests/cidr_merge` and
-`tests/cidr_filter` use it."""
+"""Which files of a folder a program opens and closes, in turn, as inotify of Linux reports them. `tests/cidr_merge`,
+`tests/cidr_filter` and `tests/cidr_join` use it."""
 
 import ctypes
 import os

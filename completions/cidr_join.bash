@@ -1,0 +1,14 @@
+# Completion of bash for cidr_join: its options, and files.
+_cidr_join() {
+    local word="${COMP_WORDS[COMP_CWORD]}" before="${COMP_WORDS[COMP_CWORD - 1]}"
+    case "$before" in
+        -k | -d | --after) COMPREPLY=() ;;
+        -f) ;;
+        *)
+            if [[ "$word" == -* ]]; then
+                COMPREPLY=($(compgen -W "-f -k -d -w -a --after --mapped --last --network --last-wins --help --version -- -" -- "$word"))
+            fi
+            ;;
+    esac
+}
+complete -o default -F _cidr_join cidr_join

@@ -1,0 +1,13 @@
+# Completion of fish for cidr_join: its options, and files.
+complete -c cidr_join -s f -r -F -d "The networks of a file with their values"
+complete -c cidr_join -s k -x -d "The address is the Nth field"
+complete -c cidr_join -s d -x -d "Fields are cut at each single character"
+complete -c cidr_join -s w -d "Fields are what stands between runs of blanks"
+complete -c cidr_join -s a -d "The address is the first that stands anywhere in a line"
+complete -c cidr_join -l after -x -d "The address is the first that follows a text"
+complete -c cidr_join -l mapped -d "An IPv4-mapped address counts as its IPv4 one"
+complete -c cidr_join -l last -d "Print the value behind a line"
+complete -c cidr_join -l network -d "Print the network in place of its value"
+complete -c cidr_join -l last-wins -d "A network that stands twice has its last value"
+complete -c cidr_join -l help -d "Print the help"
+complete -c cidr_join -l version -d "Print the version"

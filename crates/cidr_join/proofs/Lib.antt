@@ -1,0 +1,17 @@
+pub mod Failing
+pub mod Faults
+pub mod Handed
+pub mod Joining
+pub mod LawExamples
+pub mod LogLines
+pub mod LogParts
+pub mod LogsInTurn
+pub mod Marks
+pub mod OneOutput
+pub mod OptionValues
+pub mod Parts
+pub mod Requests
+pub mod Runs
+pub mod Stopping
+pub mod Taking
+pub mod Trims

@@ -1,0 +1,13 @@
+use Rattle.std.proofs.Common.{length, ◌≡◌, ◌+◌, ◌≤◌, take}
+use Rattle.std.specs.List.{suffix_len}
+use Rattle.cidr_join.specs.Entries.{is_blank}
+use Rattle.cidr_join.proofs.line.blanks_at_end.Given as goal
+
+abbrev pub invariant-loop-end : goal.invariant-loop-end
+invariant-loop-end l = record {
+  within : l.end ≤ length l.text;
+  counted : l.end + suffix_len is_blank l.text ≡ length l.text + suffix_len is_blank (take l.end l.text);
+}
+
+abbrev pub decreases-loop-end : goal.decreases-loop-end
+decreases-loop-end l = l.end

@@ -1,0 +1,36 @@
+use Rattle.std.proofs.Common.{◌∙◌, ap, refl}
+use Rattle.lines.specs.Watched.{device_of, has_failed}
+use Rattle.program.specs.Endings.{ending}
+use Rattle.cidr_join.specs.Stands.{stand}
+use Rattle.cidr_join.specs.declared.log.LogFault.TheVariants.{Open}
+use Rattle.cidr_join.proofs.LogsInTurn.{stops_by, name_closed, name_joined}
+use Rattle.cidr_join.proofs.Runs.{name_stops}
+use Rattle.cidr_join.proofs.logs.join_one.Goals as goal
+
+pub returns-in_default-clause-stopped : goal.returns-in_default-clause-stopped
+returns-in_default-clause-stopped g c = λ no.
+    let known = g.L.OpenLists.known c.args.lists.now in
+    let output = c.args.output.now in
+    name_stops c.args.join.now known c.args.name.now
+    (ending output c.stop.new.output c.args.errors.now c.stop.new.errors
+    2) refl
+    output Open 0 0
+    (name_closed c.args.join.now known c.args.name.now output.failed
+    (stand output 0) refl c.in_default.ensures.opened) c.stop.ensures
+
+pub returns-in-Err-clause-stopped : goal.returns-in-Err-clause-stopped
+returns-in-Err-clause-stopped g c = λ no.
+    let known = g.L.OpenLists.known c.args.lists.now in
+    let remaining = g.L.List.Read.remaining in
+    let mid = c.join_log-end.new.output in
+    name_stops c.args.join.now known c.args.name.now
+    (ending c.args.output.now c.stop-in-Err.new.output c.args.errors.now
+    c.stop-in-Err.new.errors 2) refl
+    mid c.in-Err.fault 0 c.join_log-end.new.count
+    (stops_by c.args.join.now known c.args.name.now
+    (remaining (device_of c.new-log.result)) (remaining (device_of c.join_log-end.new.reader))
+    (λ input e. ap remaining c.new-log.ensures.device ∙ c.in-Ok.ensures.bytes input e)
+    c.in-Ok.ensures.opened
+    (has_failed c.join_log-end.new.reader) mid.failed
+    (stand c.args.output.now 0) (stand mid c.join_log-end.new.count)
+    c.in-Err.fault c.close.ensures.failed refl c.in-Err.ensures.err) c.stop-in-Err.ensures

@@ -1,0 +1,14 @@
+use Rattle.std.proofs.Common.{ap, decimal}
+use Rattle.program.proofs.Told.{tells_more, tells_same}
+use Rattle.cidr_join.proofs.telling.tell_line.Goals as goal
+
+pub returns : goal.returns
+returns g c =
+    let old = c.args.errors.now in
+    tells_more old c.tell-4.new.errors c.tell-5.new.errors _ _
+    (tells_more old c.tell-3.new.errors c.tell-4.new.errors _ _
+    (tells_more old c.tell_number.new.errors c.tell-3.new.errors _ _
+    (tells_more old c.tell-2.new.errors c.tell_number.new.errors _ _
+    (tells_more old c.tell.new.errors c.tell-2.new.errors _ _ c.tell.ensures c.tell-2.ensures)
+    (tells_same c.tell-2.new.errors c.tell_number.new.errors _ _ (ap decimal c.saturating_add.ensures) c.tell_number.ensures))
+    c.tell-3.ensures) c.tell-4.ensures) c.tell-5.ensures

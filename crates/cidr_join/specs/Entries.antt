@@ -1,0 +1,117 @@
+-- What a line of a list says: a network or a range, and a value behind it.
+use Rattle.std.specs.Prelude.{◌≡◌, ◌≢◌, ◌≤◌, ◌<◌, ◌==◌, ◌||◌, ◌&&◌, ◌+◌, ◌-◌, ◌⊎◌, ℕ, Bool, true, false, not, List, [], ◌∷◌, length, take, drop, Option, None, Some, Result, Ok, Err, if◌then◌else◌, codes}
+use Rattle.std.specs.List.{prefix_len, suffix_len}
+use Rattle.lists.specs.Entries.{ReadsEntry}
+use Rattle.lists.specs.declared.entry.Entry.{Entry}
+use Rattle.lists.specs.declared.entry.EntryFault.{EntryFault}
+use Rattle.lists.specs.declared.entry.EntryFault.TheVariants as faults
+use Rattle.cidr_join.specs.declared.line.Cause.{Cause}
+use Rattle.cidr_join.specs.declared.line.Cause.TheVariants as causes
+use Rattle.cidr_join.specs.declared.line.Said.{Said}
+use Rattle.cidr_join.specs.declared.value.Value.{Value}
+
+-- a space, a tab or a carriage return
+abbrev pub is_blank : ℕ → Bool
+is_blank byte = byte == 32 || byte == 9 || byte == 13
+
+-- a space
+abbrev pub is_space : ℕ → Bool
+is_space byte = byte == 32
+
+-- neither a space nor a tab nor a comma
+abbrev pub is_word : ℕ → Bool
+is_word byte = not (byte == 32) && not (byte == 9) && not (byte == 44)
+
+-- the text without the blanks that it begins with, without those that it ends with, and without both
+abbrev pub without_front : List ℕ → List ℕ
+without_front text = drop (prefix_len is_blank text) text
+
+abbrev pub without_end : List ℕ → List ℕ
+without_end text = take (length text - suffix_len is_blank text) text
+
+abbrev pub trimmed : List ℕ → List ℕ
+trimmed text = without_end (without_front text)
+
+-- the lengths of the word and of the spaces that a text begins with
+abbrev pub word_len : List ℕ → ℕ
+word_len text = prefix_len is_word text
+
+abbrev pub space_len : List ℕ → ℕ
+space_len text = prefix_len is_space text
+
+-- the length of the `-`, the spaces and the word that a text begins with; 0 if it begins with no `-`
+abbrev pub dash_len : List ℕ → ℕ
+dash_len [] = 0
+dash_len (byte ∷ rest) = if byte == 45 then 1 + space_len rest + word_len (drop (space_len rest) rest) else 0
+
+-- the same, with spaces before it
+abbrev pub with_spaces : ℕ → ℕ → ℕ
+with_spaces spaces dash = if dash == 0 then 0 else spaces + dash
+
+abbrev pub tail_len : List ℕ → ℕ
+tail_len text = with_spaces (space_len text) (dash_len (drop (space_len text) text))
+
+-- the length of the network or range that a text begins with: its first word, and, if a `-` follows that, with or
+-- without spaces, what goes up to the end of the word behind the `-`
+abbrev pub entry_len : List ℕ → ℕ
+entry_len text = word_len text + tail_len (drop (word_len text) text)
+
+abbrev pub entry_part : List ℕ → List ℕ
+entry_part text = take (entry_len text) text
+
+-- the text behind a comma that it begins with, or the whole text
+abbrev pub behind_comma : List ℕ → List ℕ
+behind_comma [] = []
+behind_comma (byte ∷ rest) = if byte == 44 then rest else byte ∷ rest
+
+-- what stands behind blanks and one comma, without the blanks around it
+abbrev pub value_part : List ℕ → List ℕ
+value_part text = trimmed (behind_comma (trimmed text))
+
+-- the value of a text that begins with a network or a range
+abbrev pub value_of : List ℕ → List ℕ
+value_of text = value_part (drop (entry_len text) text)
+
+-- a text, without the blanks around it, that is empty or a comment: it begins with `#` or `;`
+abbrev pub is_skipped : List ℕ → Bool
+is_skipped [] = true
+is_skipped (byte ∷ rest) = byte == 35 || byte == 59
+
+-- a line of at most 1,024 bytes that is blank or a comment
+abbrev pub SaysNothing : List ℕ → Type 0
+SaysNothing line = (length line ≤ 1024) × (is_skipped (trimmed line) ≡ true)
+
+-- and one that is not
+abbrev pub SaysSomething : List ℕ → Type 0
+SaysSomething line = (length line ≤ 1024) × (is_skipped (trimmed line) ≡ false)
+
+-- the line begins with this network or range, read as a line of a list of networks, and this value is behind it
+abbrev pub Says : List ℕ → Entry → Value → Type 0
+Says line entry value = SaysSomething line × ReadsEntry (entry_part (trimmed line)) (Ok (Some entry)) × (value.bytes.now ≡ value_of (trimmed line)) × (value.bytes.now ≢ [])
+
+-- why a text is no network and no range; a text with nothing in it is no address
+abbrev pub EntryFails : List ℕ → EntryFault → Type 0
+EntryFails text fault = ReadsEntry text (Err fault) ⊎ (ReadsEntry text (Ok None) × (fault ≡ faults.Address))
+
+-- why a line says nothing that can be taken
+abbrev pub LineFaults : List ℕ → Cause → Type 0
+LineFaults line causes.Length = 1024 < length line
+LineFaults line (causes.Entry fault) = SaysSomething line × EntryFails (entry_part (trimmed line)) fault
+LineFaults line causes.Value = SaysSomething line × ((entry : Entry) × ReadsEntry (entry_part (trimmed line)) (Ok (Some entry))) × (value_of (trimmed line) ≡ [])
+LineFaults line causes.Twice = ⊥
+
+-- what reading a line returns
+abbrev pub ReadsRoute : List ℕ → Result (Option Said) Cause → Type 0
+ReadsRoute line (Ok None) = SaysNothing line
+ReadsRoute line (Ok (Some said)) = Says line said.entry said.value
+ReadsRoute line (Err cause) = LineFaults line cause
+
+-- a cause in a word
+abbrev pub cause_text : Cause → List ℕ
+cause_text (causes.Entry faults.Format) = codes "format"
+cause_text (causes.Entry faults.Address) = codes "address"
+cause_text (causes.Entry faults.Prefix) = codes "prefix"
+cause_text (causes.Entry faults.Range) = codes "range"
+cause_text causes.Value = codes "value"
+cause_text causes.Twice = codes "repetition"
+cause_text causes.Length = codes "length"

@@ -1,0 +1,79 @@
+-- What is printed of the lines of a log.
+use Rattle.std.specs.Prelude.{◌≡◌, ℕ, ◌-◌, ◌≤◌, Bool, List, [], ◌∷◌, ◌++◌, Option, None, Some, length, drop, slice_get, codes, if◌then◌else◌}
+use Rattle.ipnetwork_addr.specs.declared.ip.IpAddr.{IpAddr}
+use Rattle.ipnetwork.specs.IpNetworkText.{ip_network_text}
+use Rattle.ipnetwork.specs.declared.ip_network.IpNetwork.{IpNetwork}
+use Rattle.line_addresses.specs.Addresses.{Spelled, address_of, addresses_of}
+use Rattle.line_addresses.specs.Following.{following}
+use Rattle.line_addresses.specs.Mapped.{unmapped}
+use Rattle.line_addresses.specs.Words.{words_of}
+use Rattle.cidr_join.specs.Fields.{field_of}
+use Rattle.cidr_join.specs.Lines.{LogLine, content, printed}
+use Rattle.cidr_join.specs.Routes.{IsLongestRoute, NoRouteHolds}
+use Rattle.cidr_join.specs.declared.join.Join.{Join}
+use Rattle.cidr_join.specs.declared.join.Place.{Place}
+use Rattle.cidr_join.specs.declared.join.Place.TheVariants as places
+use Rattle.cidr_join.specs.declared.value.Value.{Value}
+
+-- the address that a part of a line is, if there is such a part and it is one
+abbrev pub of_part : Option (List ℕ) → Option IpAddr
+of_part None = None
+of_part (Some part) = address_of part
+
+-- the first of the addresses of a text
+abbrev pub first_of : List Spelled → Option IpAddr
+first_of [] = None
+first_of (found ∷ others) = Some found.address
+
+abbrev pub first_in : List ℕ → Option IpAddr
+first_in text = first_of (addresses_of text)
+
+-- that of a rest of a line, if there is such a rest
+abbrev pub of_rest : Option (List ℕ) → Option IpAddr
+of_rest None = None
+of_rest (Some rest) = first_in rest
+
+-- the address of a line: that of a field or of a word, or the first that stands anywhere in it, or the first of what
+-- follows the first place of a text
+abbrev pub found_in : Place → List ℕ → Option IpAddr
+found_in (places.Field number separator) line = of_part (field_of number separator line)
+found_in (places.Word number) line = of_part (slice_get (words_of line) (number - 1))
+found_in places.Anywhere line = first_in line
+found_in (places.After text) line = of_rest (following text line)
+
+-- the address for which the list is asked: of an IPv4-mapped one its IPv4 one, if the option says so
+abbrev pub asked : Bool → IpAddr → IpAddr
+asked mapped address = if mapped then unmapped address else address
+
+abbrev pub asked_of : Bool → Option IpAddr → Option IpAddr
+asked_of mapped None = None
+asked_of mapped (Some address) = Some (asked mapped address)
+
+-- that of a line
+abbrev pub address_in : Join → List ℕ → Option IpAddr
+address_in join line = asked_of join.mapped (found_in join.place line)
+
+-- what is found for it: the longest network of the list that has it, and its value, or nothing
+abbrev pub Finds : Join → Option IpAddr → Option (IpNetwork × Value) → Type 0
+Finds join None found = found ≡ None
+Finds join (Some address) None = NoRouteHolds join.routes address
+Finds join (Some address) (Some found) = IsLongestRoute join.routes address found.0 found.1
+
+-- what is printed of that: the value, or the network's canonical text, or a minus sign for nothing
+abbrev pub mark_of : Bool → Option (IpNetwork × Value) → List ℕ
+mark_of network None = codes "-"
+mark_of network (Some found) = if network then ip_network_text found.0 else found.1.bytes.now
+
+-- a line with that and a tab before it, or with a tab and that behind it. The line is given without its end too, which
+-- follows all of it
+abbrev pub shown_of : Bool → List ℕ → List ℕ → List ℕ → List ℕ
+shown_of last mark line text = if last then line ++ 9 ∷ (mark ++ drop (length line) text) else mark ++ 9 ∷ text
+
+abbrev pub output_of : Join → Option (IpNetwork × Value) → LogLine → List ℕ
+output_of join found line = shown_of join.last (mark_of join.network found) (content line) (printed line)
+
+-- this is written for these lines, each of which has at most 1,048,576 bytes without its end
+abbrev pub Joins : Join → List LogLine → List ℕ → Type 0
+Joins join [] output = output ≡ []
+Joins join (line ∷ lines) output = (found : Option (IpNetwork × Value)) × (others : List ℕ) × (length (content line) ≤ 1048576)
+    × Finds join (address_in join (content line)) found × Joins join lines others × (output ≡ output_of join found line ++ others)

@@ -1,0 +1,35 @@
+-- The lines of a log.
+use Rattle.std.specs.Prelude.{◌≡◌, ◌<◌, ◌⊎◌, ℕ, Bool, true, false, List, [], ◌∷◌, ◌++◌, length, ◌==◌, if◌then◌else◌, filter}
+use Rattle.std.specs.List.{slice_split}
+use Rattle.std.specs.Str.Lines.{strip_carriage_return}
+
+-- a line: the bytes before its line feed, and whether it has one
+pub record LogLine : Type 0 where
+  pub bytes : List ℕ
+  pub is_ended : Bool
+
+-- the lines in the parts between line feeds: each part but the last is ended, and an empty last part is not a line
+abbrev pub lines_in : List (List ℕ) → List LogLine
+lines_in [] = []
+lines_in (part ∷ []) = if length part == 0 then [] else record { bytes = part; is_ended = false } ∷ []
+lines_in (part ∷ next ∷ parts) = record { bytes = part; is_ended = true } ∷ lines_in (next ∷ parts)
+
+-- the lines of a log
+abbrev pub log_lines : List ℕ → List LogLine
+log_lines log = lines_in (slice_split (λ b. b == 10) log)
+
+-- those that have their line feed
+abbrev pub ended_lines : List ℕ → List LogLine
+ended_lines log = filter (λ line. line.is_ended) (log_lines log)
+
+-- a line without its end, which is a line feed, or one carriage return and a line feed
+abbrev pub content : LogLine → List ℕ
+content line = if line.is_ended then strip_carriage_return line.bytes else line.bytes
+
+-- whatever is read after it, this is a line: it is ended, or the log ends with it, or it is too long without its end
+abbrev pub IsWhole : Type 0 → LogLine → Type 0
+IsWhole ends line = (line.is_ended ≡ true) ⊎ (ends ⊎ (1048577 < length line.bytes))
+
+-- a line as it is printed: as it was, and with a line feed if it had none
+abbrev pub printed : LogLine → List ℕ
+printed line = line.bytes ++ 10 ∷ []

@@ -1,0 +1,149 @@
+-- What an option of the command line says.
+use Rattle.std.specs.Prelude.{ℕ, ◌+◌, ◌-◌, ◌*◌, ◌==◌, ◌||◌, ◌&&◌, Bool, true, false, not, List, [], ◌∷◌, Option, None, Some, take, drop, length, nat_lt, nat_le, if◌then◌else◌, codes, bytes_eq, fold, String}
+use Rattle.std.specs.List.{list_all, list_any}
+use Rattle.std.specs.String.{string_bytes}
+use Rattle.std.specs.Char.{is_ascii_digit}
+use Rattle.program.specs.Words.{is}
+use Rattle.cidr_join.specs.declared.command_line.Request.{Request}
+use Rattle.cidr_join.specs.declared.options.Choice.{Choice}
+use Rattle.cidr_join.specs.declared.options.Choice.TheVariants as choices
+use Rattle.cidr_join.specs.declared.options.Letters.{Letters}
+
+-- the second text begins with the first
+abbrev pub begins : List ℕ → List ℕ → Bool
+begins first text = bytes_eq (take (length first) text) first
+
+-- the number that digits name, in decimal
+abbrev pub number_of : List ℕ → ℕ
+number_of digits = fold (λ number digit. number * 10 + (digit - 48)) 0 digits
+
+-- `-k`: digits, of a number from 1 to 4,294,967,295
+abbrev pub is_field : List ℕ → Bool
+is_field text = nat_lt 0 (length text) && list_all is_ascii_digit text && nat_lt 0 (number_of text) && nat_le (number_of text) 4294967295
+
+abbrev pub field_option : List ℕ → Option Choice
+field_option text = if is_field text then Some (choices.Field (number_of text)) else None
+
+-- `-d`: a byte of ASCII other than LF, CR and NUL
+abbrev pub is_separator : ℕ → Bool
+is_separator byte = nat_lt byte 128 && not (byte == 10) && not (byte == 13) && not (byte == 0)
+
+abbrev pub separator_option : List ℕ → Option Choice
+separator_option [] = None
+separator_option (byte ∷ []) = if is_separator byte then Some (choices.Separator byte) else None
+separator_option (byte ∷ other ∷ bytes) = None
+
+-- `-f`: the name of a list, of which `-` is standard input, and which is not empty
+abbrev pub file_option : List ℕ → Option Choice
+file_option name = if length name == 0 then None else if bytes_eq name (codes "-") then Some choices.Input else Some choices.File
+
+-- `--after`: a text that is not empty
+abbrev pub after_option : List ℕ → Option Choice
+after_option text = if length text == 0 then None else Some choices.After
+
+-- `-a` and `-w`: their letters after one `-`, in any order
+abbrev pub is_letter : ℕ → Bool
+is_letter letter = letter == 97 || letter == 119
+
+abbrev pub letters_in : List ℕ → Letters
+letters_in text = record {
+  anywhere = list_any (λ letter. letter == 97) text;
+  words = list_any (λ letter. letter == 119) text;
+}
+
+abbrev pub letters_option : List ℕ → Option Choice
+letters_option text = if nat_lt 0 (length text) && list_all is_letter text then Some (choices.Letters (letters_in text)) else None
+
+-- the value of such an option is the next word
+abbrev pub takes_next : {Z : Type 0} → String Z → Bool
+takes_next word = is (codes "-f") word || is (codes "-k") word || is (codes "-d") word || is (codes "--after") word
+
+abbrev pub in_two_words : {Z : Type 0} → String Z → List ℕ → Option Choice
+in_two_words name value =
+    if is (codes "-f") name then file_option value
+    else if is (codes "-k") name then field_option value
+    else if is (codes "-d") name then separator_option value
+    else after_option value
+
+-- others are one word, in which the value of `-k` and of `-d` may stand after the letter
+abbrev pub in_one_word : List ℕ → Option Choice
+in_one_word word =
+    if begins (codes "-k") word then field_option (drop 2 word)
+    else if begins (codes "-d") word then separator_option (drop 2 word)
+    else if bytes_eq word (codes "--last") then Some choices.Last
+    else if bytes_eq word (codes "--last-wins") then Some choices.LastWins
+    else if bytes_eq word (codes "--network") then Some choices.Network
+    else if bytes_eq word (codes "--mapped") then Some choices.Mapped
+    else if begins (codes "-") word then letters_option (drop 1 word)
+    else None
+
+-- the option that words begin with, if they begin with one
+abbrev pub with_next : {Z : Type 0} → String Z → List (String Z) → Option Choice
+with_next name [] = None
+with_next name (value ∷ others) = in_two_words name (string_bytes value)
+
+abbrev pub option_of : {Z : Type 0} → List (String Z) → Option Choice
+option_of [] = None
+option_of (word ∷ others) = if takes_next word then with_next word others else in_one_word (string_bytes word)
+
+-- the words after it
+abbrev pub behind_option : {Z : Type 0} → List (String Z) → List (String Z)
+behind_option [] = []
+behind_option (word ∷ others) = if takes_next word then drop 1 others else others
+
+-- the letters that are among the first or the second
+abbrev pub either : Letters → Letters → Letters
+either first second = record {
+  anywhere = first.anywhere || second.anywhere;
+  words = first.words || second.words;
+}
+
+-- the request with an option added: of each option the last is said, and letters stay
+abbrev pub with_option : Request → Choice → Request
+with_option request (choices.Letters letters) = record request { letters = either request.letters letters }
+with_option request (choices.Field number) = record request { field = Some number }
+with_option request (choices.Separator byte) = record request { separator = Some byte }
+with_option request choices.Last = record request { last = true }
+with_option request choices.LastWins = record request { last_wins = true }
+with_option request choices.Network = record request { network = true }
+with_option request choices.Mapped = record request { mapped = true }
+with_option request choices.After = record request { after = true }
+with_option request choices.File = record request { has_list = true; has_lists = request.has_list }
+with_option request choices.Input = record request { has_list = true; has_lists = request.has_list; inputs = request.inputs + 1 }
+
+-- without options no place of the address is said, and values stand before lines
+abbrev pub no_options : Request
+no_options = record {
+  letters = record { anywhere = false; words = false };
+  field = None;
+  separator = None;
+  after = false;
+  mapped = false;
+  last = false;
+  last_wins = false;
+  network = false;
+  has_list = false;
+  has_lists = false;
+  inputs = 0;
+  files = 0;
+}
+
+-- what these options say
+abbrev pub said_by : List Choice → Request
+said_by options = fold with_option no_options options
+
+-- the value of the last option of this name among options, or an empty text; the value of an option is none
+abbrev pub or_last : List ℕ → List ℕ → List ℕ
+or_last first [] = first
+or_last first (byte ∷ last) = byte ∷ last
+
+abbrev pub said_at : {Z : Type 0} → List ℕ → List (String Z) → List ℕ
+said_at name [] = []
+said_at name (word ∷ []) = []
+said_at name (word ∷ value ∷ words) = if is name word then string_bytes value else []
+
+abbrev pub value_of : {Z : Type 0} → List ℕ → List (String Z) → List ℕ
+value_of name [] = []
+value_of name (word ∷ []) = []
+value_of name (word ∷ value ∷ words) =
+    or_last (said_at name (word ∷ value ∷ words)) (if takes_next word then value_of name words else value_of name (value ∷ words))

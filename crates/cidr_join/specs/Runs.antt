@@ -1,0 +1,120 @@
+-- How a run ends: its exit status, what was written, and what was reported.
+use Rattle.std.specs.Prelude.{◌≡◌, ℕ, List, [], ◌∷◌, ◌++◌, true, ◌⊎◌, if◌then◌else◌, length, take, drop, codes, String, ◌==◌}
+use Rattle.std.specs.List.{slice_split}
+use Rattle.std.specs.Option.{unwrap_or}
+use Rattle.lines.specs.Outputs.{FailsIn}
+use Rattle.lists.specs.KnownLists.{KnownLists}
+use Rattle.program.specs.Endings.{Ending, Refuses, HasTold, HasWritten}
+use Rattle.program.specs.Runs.{EndsRun}
+use Rattle.program.specs.Usage.{usage_text}
+use Rattle.cidr_join.specs.CommandLines.{Says, AsksNothing}
+use Rattle.cidr_join.specs.Joins.{Joins}
+use Rattle.cidr_join.specs.Lines.{LogLine}
+use Rattle.cidr_join.specs.Logs.{logs_of, IsAllOf, JoinsLogs, HaltsBy}
+use Rattle.cidr_join.specs.Options.{value_of}
+use Rattle.cidr_join.specs.Routes.{no_networks}
+use Rattle.cidr_join.specs.Takes.{TakesLines, StopsTaking}
+use Rattle.cidr_join.specs.Texts.{TextStops}
+use Rattle.cidr_join.specs.Told.{text_fault_text, take_fault_text, log_fault_text}
+use Rattle.cidr_join.specs.Usage.{problem_text, HasFault}
+use Rattle.cidr_join.specs.declared.command_line.Request.{Request}
+use Rattle.cidr_join.specs.declared.join.Join.{Join}
+use Rattle.cidr_join.specs.declared.join.Place.{Place}
+use Rattle.cidr_join.specs.declared.join.Place.TheVariants as places
+use Rattle.cidr_join.specs.declared.list.TakeFault.{TakeFault}
+use Rattle.cidr_join.specs.declared.log.LogFault.{LogFault}
+use Rattle.cidr_join.specs.declared.log.LogFault.TheVariants as faults
+use Rattle.cidr_join.specs.declared.routes.Networks.{Networks}
+use Rattle.cidr_join.specs.declared.routes.Routes.{Routes}
+use Rattle.cidr_join.specs.declared.text.TextFault.{TextFault}
+use Rattle.cidr_join.specs.declared.usage.UsageFault.{UsageFault}
+
+-- the writer failed, and took a beginning of what waited and the text
+abbrev pub FailsWriting : {W E : Type 0} → Ending W E → List ℕ → Type 0
+FailsWriting end text = (end.output_after.failed ≡ true)
+    × FailsIn end.output end.output_after text
+
+-- the text was written, unless it was a write that ended the run
+abbrev pub Wrote : {W E : Type 0} → LogFault → Ending W E → List ℕ → Type 0
+Wrote faults.Open end text = HasWritten end text
+Wrote faults.Read end text = HasWritten end text
+Wrote faults.Write end text = FailsWriting end text
+Wrote faults.Length end text = HasWritten end text
+Wrote faults.Endless end text = HasWritten end text
+
+-- a log was not joined to its end, and ended the run: those before it were joined, and its first lines; their outputs
+-- were written, the cause was reported, and the status is 2
+pub record StopsAtLog {W E : Type 0} (join : Join) (known : KnownLists) (names : List (List ℕ)) (end : Ending W E) : Type 0 where
+  pub before : List (List ℕ)
+  pub name : List ℕ
+  pub behind : List (List ℕ)
+  pub output : List ℕ
+  pub lines : List LogLine
+  pub added : List ℕ
+  pub fault : LogFault
+  pub logs : names ≡ before ++ name ∷ behind
+  pub joins : JoinsLogs join known before output
+  pub first : Joins join lines added
+  pub halts : HaltsBy known name lines fault
+  pub wrote : Wrote fault end (output ++ added)
+  pub told : HasTold end (log_fault_text name (length lines) fault)
+  pub status : end.status ≡ 2
+
+-- all logs were joined to their ends
+pub record JoinsAll {W E : Type 0} (join : Join) (known : KnownLists) (names : List (List ℕ)) (end : Ending W E) : Type 0 where
+  pub output : List ℕ
+  pub joins : JoinsLogs join known names output
+  -- their output was written and nothing reported, and the status is 0; or the writer failed, and that was reported
+  pub ends : (HasWritten end output × HasTold end [] × (end.status ≡ 0))
+      ⊎ (FailsWriting end output × HasTold end (codes "write error\n") × (end.status ≡ 2))
+
+-- the logs were joined, in turn
+abbrev pub EndsLogs : {W E : Type 0} → Join → KnownLists → List (List ℕ) → Ending W E → Type 0
+EndsLogs join known names end = JoinsAll join known names end ⊎ StopsAtLog join known names end
+
+-- where a request looks for the address of a line: anywhere, after a text, in a word, or in a field. Without `-k` that
+-- is the first, and without `-d` fields are cut at spaces (byte 32)
+abbrev pub place_of : {Z : Type 0} → List (String Z) → Request → Place
+place_of words request =
+    if request.letters.anywhere then places.Anywhere
+    else if request.after then places.After (value_of (codes "--after") (take request.files words))
+    else if request.letters.words then places.Word (unwrap_or request.field 1)
+    else places.Field (unwrap_or request.field 1) (unwrap_or request.separator 32)
+
+-- the name of its list
+abbrev pub list_name : {Z : Type 0} → List (String Z) → Request → List ℕ
+list_name words request = value_of (codes "-f") (take request.files words)
+
+-- what it asks for of these networks
+abbrev pub join_of : {Z : Type 0} → List (String Z) → Request → Networks → Join
+join_of words request networks = record {
+  routes = record { v4 = networks.v4; v6 = networks.v6 };
+  place = place_of words request;
+  mapped = request.mapped;
+  last = request.last;
+  network = request.network;
+}
+
+-- the list of this name has these bytes. A line of it is refused, or memory runs out, and nothing is written. Else the
+-- logs are joined to its networks
+abbrev pub EndsJoining : {Z W E : Type 0} → KnownLists → List (String Z) → Request → List ℕ → List ℕ → Ending W E → Type 0
+EndsJoining known words request name text end =
+    ((fault : TakeFault) × StopsTaking request.last_wins no_networks (slice_split (λ b. b == 10) text) fault × Refuses (take_fault_text name fault) end)
+    ⊎ (Refuses (codes "out of memory\n") end
+    ⊎ ((networks : Networks) × TakesLines request.last_wins no_networks (slice_split (λ b. b == 10) text) networks
+    × EndsLogs (join_of words request networks) known (logs_of (drop request.files words)) end))
+
+-- the list was not read, nothing was written, and the cause was reported; or it was, and the logs were joined to it
+abbrev pub EndsRequest : {Z W E : Type 0} → KnownLists → List (String Z) → Request → Ending W E → Type 0
+EndsRequest known words request end =
+    ((fault : TextFault) × TextStops known (list_name words request) fault × Refuses (text_fault_text (list_name words request) fault) end)
+    ⊎ ((text : List ℕ) × IsAllOf known (list_name words request) text × EndsJoining known words request (list_name words request) text end)
+
+-- how a run ends of a program of this name, help, version and usage: with the help or the version, if the words ask for
+-- it. Else they say a request, which is done, or something is wrong with them, and that and the usage are reported
+abbrev pub EndsAs : {Z W E : Type 0} → List ℕ → List ℕ → List ℕ → List ℕ → KnownLists
+    → List (String Z) → Ending W E → Type 0
+EndsAs program help version usage known words end = EndsRun help version words
+    (((request : Request) × Says words request × EndsRequest known words request end)
+    ⊎ ((fault : UsageFault) × AsksNothing words × HasFault words fault
+    × Refuses (usage_text program usage words fault.subject (problem_text fault.problem)) end)) end

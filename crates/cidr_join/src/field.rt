@@ -1,0 +1,35 @@
+//! The fields of a line.
+ghost use Rattle.std.specs.Prelude.{◌≡◌, ◌==◌, ◌≤◌, length, drop, None, Some, MatchOption};
+ghost use Rattle.std.specs.List.{slice_split};
+ghost use Rattle.cidr_join.specs.Fields.{field_of, part_behind};
+
+use byte_search::find_from;
+
+/// The field of this number, from 1 on, of a line that is cut at each single separator. Does not allocate.
+pub(crate) fn field_of(line: &[u8], number: u32, separator: u8) -> Option<&[u8]>
+    ensures { MatchOption result (field_of number separator line.now ≡ None)
+        (λ field. field_of number separator line.now ≡ Some field.now) }
+{
+    let mut start = 0;
+    let mut more = number.saturating_sub(1);
+    while more > 0 {
+        let Some(end) = find_from(line, start, separator) else {
+            return None;
+        };
+        start = end + 1;
+        more -= 1;
+    }
+    Some(field_at(line, start, separator))
+}
+
+// The field that begins at a place.
+fn field_at(line: &[u8], start: usize, separator: u8) -> &[u8]
+    requires { start ≤ length line.now }
+    ensures { part_behind 0 (slice_split (λ b. b == separator) (drop start line.now))
+        ≡ Some result.now }
+{
+    match find_from(line, start, separator) {
+        Some(end) => &line[start..end],
+        None => &line[start..],
+    }
+}

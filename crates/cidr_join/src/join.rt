@@ -1,0 +1,140 @@
+//! What a line is to the list.
+ghost use Rattle.std.specs.Prelude.{◌≡◌, None, Some};
+ghost use Rattle.cidr_join.specs.Joins.{Finds, asked, first_in, found_in, address_in};
+
+use crate::field::field_of;
+use crate::routes::Routes;
+use crate::value::Value;
+use ipnetwork::{IpAddr, IpNetwork};
+use line_addresses::{address_of, following, next_address, unmapped, word_of};
+use std::marker::Model;
+
+/// The most bytes of a line, not counting its line end.
+pub(crate) const LINE_MAX: usize = 1_048_576;
+
+/// Where the address of a line stands.
+#[derive(Debug, Drop)]
+pub enum Place<'a> {
+    /// The field is it.
+    Field {
+        /// Its number.
+        number: u32,
+        /// The byte at which fields are cut.
+        separator: u8,
+    },
+    /// The word of this number is it.
+    Word(u32),
+    /// It is the first that stands anywhere.
+    Anywhere,
+    /// It is the first that follows a text.
+    After(Text<'a>),
+}
+
+/// A text of a command line.
+#[derive(Debug, Drop)]
+pub struct Text<'a> {
+    bytes: &'a [u8],
+}
+
+// A contract sees its bytes.
+impl<'a> Model for Text<'a> {
+    ghost use Rattle.std.specs.Prelude.{ℕ, List};
+
+    ghost Value = { List ℕ };
+
+    ghost view = { λ text. text.bytes.now };
+}
+
+impl<'a> Text<'a> {
+    /// This text.
+    pub(crate) fn new(bytes: &'a [u8]) -> Text<'a>
+        ensures { result ≡ bytes.now }
+    {
+        Text { bytes }
+    }
+
+    /// Its bytes.
+    pub(crate) fn bytes(&self) -> &[u8]
+        ensures { result.now ≡ self.now }
+    {
+        self.bytes
+    }
+}
+
+/// What decides what is printed of a line.
+#[derive(Drop)]
+pub struct Join<'a> {
+    pub(crate) routes: Routes<'a>,
+    pub(crate) place: Place<'a>,
+    /// Whether an IPv4-mapped address of a line counts as its IPv4 one.
+    pub(crate) mapped: bool,
+    /// Whether the value stands behind the line, and not before it.
+    pub(crate) last: bool,
+    /// Whether the network is printed in place of its value.
+    pub(crate) network: bool,
+}
+
+impl<'a> Join<'a> {
+    /// The longest network of the list that has the address of a line, and its value. The line is given without its
+    /// end. Does not allocate.
+    pub(crate) fn find(&self, line: &[u8]) -> Option<(IpNetwork, Value<'a>)>
+        ensures { Finds self.now (address_in self.now line.now) result }
+    {
+        match self.address_in(line) {
+            Some(address) => self.routes.longest(address),
+            None => None,
+        }
+    }
+
+    // The address for which the list is asked.
+    fn address_in(&self, line: &[u8]) -> Option<IpAddr>
+        ensures { result ≡ address_in self.now line.now }
+    {
+        match self.found_in(line) {
+            Some(address) => Some(self.asked(address)),
+            None => None,
+        }
+    }
+
+    // The address of a line.
+    fn found_in(&self, line: &[u8]) -> Option<IpAddr>
+        ensures { result ≡ found_in self.now.place line.now }
+    {
+        match &self.place {
+            Place::Field { number, separator } => match field_of(line, *number, *separator) {
+                Some(field) => address_of(field),
+                None => None,
+            },
+            Place::Word(number) => match word_of(line, *number) {
+                Some(word) => address_of(word),
+                None => None,
+            },
+            Place::Anywhere => first_in(line),
+            Place::After(text) => match following(line, text.bytes()) {
+                Some(rest) => first_in(rest),
+                None => None,
+            },
+        }
+    }
+
+    // The address for which the list is asked.
+    fn asked(&self, address: IpAddr) -> IpAddr
+        ensures { result ≡ asked self.now.mapped address }
+    {
+        if self.mapped {
+            unmapped(address)
+        } else {
+            address
+        }
+    }
+}
+
+// The first address of a text.
+fn first_in(text: &[u8]) -> Option<IpAddr>
+    ensures { result ≡ first_in text.now }
+{
+    match next_address(text, 0) {
+        Some(found) => Some(found.address),
+        None => None,
+    }
+}

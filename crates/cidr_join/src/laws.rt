@@ -1,0 +1,33 @@
+//! What follows from the clauses of a command line and of a log. Each function's contract is a law: it does nothing, and a proof that calls it
+//! may use the law.
+ghost use Rattle.cidr_join.specs.Laws.{OthersAreNoOptions, OthersAskForNothing, WordsHaveOneFault, LogsHaveOneOutput, OutputsOfPartsFollow};
+
+use ipnetwork_table::laws::blocks_of_any_width_that_meet;
+
+/// A log has at most one output: each line has one longest network of the list, or none.
+pub fn a_log_has_one_output()
+    ensures { LogsHaveOneOutput }
+{
+    blocks_of_any_width_that_meet();
+}
+
+/// If a log is cut directly after a line feed, its output is that of the first part and then that of the second.
+pub fn outputs_of_parts_follow()
+    ensures { OutputsOfPartsFollow }
+{}
+
+/// A word other than those of the options is none of them, whatever follows it. If it begins with a `-`, and is neither
+/// `-` nor `--`, then the words ask for nothing where it stands behind options.
+pub fn other_words_are_no_options(words: &[String])
+    ensures option { OthersAreNoOptions words.now }
+    ensures command { OthersAskForNothing words.now }
+{
+    let _words = words;
+}
+
+/// Of the words of a command line at most one fault is reported.
+pub fn words_have_one_fault(words: &[String])
+    ensures { WordsHaveOneFault words.now }
+{
+    let _words = words;
+}

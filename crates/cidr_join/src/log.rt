@@ -1,0 +1,120 @@
+//! Joins the lines of a log to a list.
+ghost use Rattle.std.specs.Prelude.{◌≡◌, ◌||◌, ◌≤◌, ◌++◌, [], length, OnOk, OnErr, IfErr, IsOkUnless, Err};
+ghost use Rattle.lines.specs.Watched.{device_of, has_failed};
+ghost use Rattle.cidr_join.specs.Stands.{stand};
+ghost use Rattle.cidr_join.specs.Stops.{Ends, Stops, ended_by_read, ended_by_write};
+ghost use Rattle.cidr_join.specs.Private.Progress.{feed_behind, JoinsLine, LineStops};
+
+use crate::join::{Join, LINE_MAX};
+use crate::printing::print_line;
+use lines::line_buffer::{LineBuffer, NextLine};
+use lines::line_end::LineEnd;
+use lines::output::Output;
+use lines::watched::Watched;
+use std::io::{Read, Write};
+
+/// Why a log is not joined to its end.
+#[derive(Clone, Copy, Debug, PartialEq, Eq)]
+pub enum LogFault {
+    /// The log cannot be opened.
+    Open,
+    /// A read failed.
+    Read,
+    /// A write failed.
+    Write,
+    /// A line that is too long ends the run.
+    Length,
+    /// The log has more than 18,446,744,073,709,551,615 bytes.
+    Endless,
+}
+
+/// Writes each line of a log with the value of its address, and adds how many these are to `count`.
+///
+/// What is written for the lines that a read completes is written before the next read. After a failed read nothing is
+/// written. A line that is too long ends the run even if its end was not read.
+pub fn join_log<R: Read, W: Write>(
+    join: &Join<'_>,
+    buffer: &mut [u8],
+    reader: &mut Watched<R>,
+    output: &mut Output<'_, W>,
+    count: &mut u64,
+) -> Result<(), LogFault>
+    requires room { 1048578 ≤ length buffer.old }
+    ensures ok { OnOk result
+        (Ends join.now (R.remaining (device_of reader.old))
+        (R.remaining (device_of reader.new))
+        (stand output.old count.old)
+        (stand output.new count.new)) }
+    ensures err { IfErr result
+        (Stops join.now (R.remaining (device_of reader.old))
+        (R.remaining (device_of reader.new))
+        (has_failed reader.new) output.new.failed
+        (stand output.old count.old)
+        (stand output.new count.new)) }
+    // A device has failed exactly if it had failed before, or its failure ended the log. So nothing is written after a
+    // read that failed.
+    ensures reader_failed { has_failed reader.new ≡ (has_failed reader.old || ended_by_read result) }
+    ensures writer_failed { output.new.failed ≡ (output.old.failed || ended_by_write result) }
+    ensures written { OnOk result (output.new.waits ≡ []) }
+    ensures handed_on { result ≡ Err LogFault.Read → output.old.waits ≡ [] → output.new.waits ≡ [] }
+{
+    let mut lines = LineBuffer::new(buffer, LINE_MAX);
+    let mut room = u64::MAX;
+    'lines: loop {
+        match lines.next() {
+            NextLine::Line(end) => {
+                let line = lines.line();
+                let whole = lines.whole_line();
+                if let Err(fault) = join_line(join, line, whole, end, output, count) {
+                    return Err(fault);
+                }
+            }
+            NextLine::TooLong => return Err(LogFault::Length),
+            NextLine::Ask => {
+                let Ok(_) = output.hand_on() else {
+                    return Err(LogFault::Write);
+                };
+                if lines.is_too_long() {
+                    return Err(LogFault::Length);
+                }
+                let Ok(read) = lines.ask(reader) else {
+                    return Err(LogFault::Read);
+                };
+                if read as u64 > room {
+                    return Err(LogFault::Endless);
+                }
+                room -= read as u64;
+            }
+            NextLine::End => match output.hand_on() {
+                Ok(()) => return Ok(()),
+                Err(_) => return Err(LogFault::Write),
+            },
+        }
+    }
+}
+
+// Writes a line within the limit with the value of its address, and counts it. `whole` is the line as it was read, with
+// its end.
+fn join_line<W: Write>(
+    join: &Join<'_>,
+    line: &[u8],
+    whole: &[u8],
+    end: LineEnd,
+    output: &mut Output<'_, W>,
+    count: &mut u64,
+) -> Result<(), LogFault>
+    requires { length line.now ≤ length whole.now }
+    ensures ok { OnOk result (JoinsLine join.now line.now (whole.now ++ feed_behind end)
+        (stand output.old count.old) (stand output.new count.new)) }
+    ensures err { IfErr result (LineStops join.now line.now (whole.now ++ feed_behind end)
+        output.new.failed
+        (stand output.old count.old) (stand output.new count.new)) }
+    ensures writer_failed { output.new.failed ≡ (output.old.failed || ended_by_write result) }
+{
+    let found = join.find(line);
+    *count = count.saturating_add(1);
+    match print_line(join, &found, line, whole, end, output) {
+        Ok(()) => Ok(()),
+        Err(_) => Err(LogFault::Write),
+    }
+}

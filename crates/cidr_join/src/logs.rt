@@ -1,0 +1,121 @@
+//! Joins the logs of a run in turn.
+ghost use Rattle.std.specs.Prelude.{◌≡◌, ◌≤◌, ◌∷◌, [], true, false, length};
+ghost use Rattle.cidr_join.specs.Logs.{logs_of};
+ghost use Rattle.program.specs.Endings.{ending};
+ghost use Rattle.cidr_join.specs.Runs.{EndsLogs, StopsAtLog};
+ghost use Rattle.cidr_join.specs.Private.Runs.{JoinsNames, StopsBy};
+
+use crate::join::Join;
+use crate::log::{LogFault, join_log};
+use crate::telling::tell_log_fault;
+use lines::output::Output;
+use lines::watched::Watched;
+use lists::OpenLists;
+use program::ending::{FAILED, end};
+use std::io::Write;
+
+/// Joins the logs of these names in their order, or standard input if there is no name, and returns the exit status.
+pub(crate) fn join_logs<L: OpenLists, W: Write, E: Write>(
+    join: &Join<'_>,
+    files: &[String],
+    lists: &L,
+    buffer: &mut [u8],
+    output: &mut Output<'_, W>,
+    errors: &mut Output<'_, E>,
+) -> u8
+    requires { 1048578 ≤ length buffer.old }
+    ensures { EndsLogs join.now (L.known lists.now) (logs_of files.now)
+        (ending output.old output.new errors.old errors.new result) }
+{
+    if !join_each(join, files, lists, buffer, output, errors) {
+        return FAILED;
+    }
+    let written = output.finish();
+    end(written, 0, errors)
+}
+
+// Joins the logs of these names, or standard input, and returns whether all came to their ends. If not, the cause is
+// reported.
+fn join_each<L: OpenLists, W: Write, E: Write>(
+    join: &Join<'_>,
+    files: &[String],
+    lists: &L,
+    buffer: &mut [u8],
+    output: &mut Output<'_, W>,
+    errors: &mut Output<'_, E>,
+) -> bool
+    requires { 1048578 ≤ length buffer.old }
+    ensures all { result ≡ true → (errors.new ≡ errors.old)
+        × JoinsNames join.now (L.known lists.now) (logs_of files.now)
+        output.old output.new }
+    ensures stopped { result ≡ false
+        → StopsAtLog join.now (L.known lists.now) (logs_of files.now)
+        (ending output.old output.new errors.old errors.new 2) }
+{
+    if files.is_empty() {
+        let input = "-";
+        return join_one(join, input, lists, buffer, output, errors);
+    }
+    for file in files {
+        let name = file.as_str();
+        if !join_one(join, name, lists, buffer, output, errors) {
+            return false;
+        }
+    }
+    true
+}
+
+// Opens the log of this name and joins its lines, and returns whether it came to its end. If not, the cause is reported.
+fn join_one<L: OpenLists, W: Write, E: Write>(
+    join: &Join<'_>,
+    name: &str,
+    lists: &L,
+    buffer: &mut [u8],
+    output: &mut Output<'_, W>,
+    errors: &mut Output<'_, E>,
+) -> bool
+    requires { 1048578 ≤ length buffer.old }
+    ensures all { result ≡ true → (errors.new ≡ errors.old)
+        × JoinsNames join.now (L.known lists.now) (name.now ∷ [])
+        output.old output.new }
+    ensures stopped { result ≡ false
+        → StopsAtLog join.now (L.known lists.now) (name.now ∷ [])
+        (ending output.old output.new errors.old errors.new 2) }
+{
+    let mut count = 0;
+    let Ok(log) = lists.open(name) else {
+        stop(name, LogFault::Open, count, output, errors);
+        return false;
+    };
+    let mut log = Watched::new(log);
+    let end = join_log(join, buffer, &mut log, output, &mut count);
+    lists.close(name, log);
+    match end {
+        Ok(()) => true,
+        Err(fault) => {
+            stop(name, fault, count, output, errors);
+            false
+        }
+    }
+}
+
+// Writes what waits, and reports why a log was not joined to its end, after this many of its lines: a failed write,
+// if one fails now.
+fn stop<W: Write, E: Write>(
+    name: &str,
+    fault: LogFault,
+    lines: u64,
+    output: &mut Output<'_, W>,
+    errors: &mut Output<'_, E>,
+)
+    ensures { StopsBy name.now lines fault
+        (ending output.old output.new errors.old errors.new 2) }
+{
+    match fault {
+        LogFault::Write => tell_log_fault(name, LogFault::Write, lines, errors),
+        _ => match output.hand_on() {
+            Ok(()) => tell_log_fault(name, fault, lines, errors),
+            Err(_) => tell_log_fault(name, LogFault::Write, lines, errors),
+        },
+    }
+}

@@ -1,0 +1,31 @@
+//! The lines of logs, each with the value that a list gives its address.
+#![tactic(auto)]
+
+mod command_line;
+mod field;
+mod help;
+mod join;
+mod laws;
+mod line;
+mod list;
+mod log;
+mod logs;
+mod options;
+mod printing;
+mod routes;
+mod run;
+mod telling;
+mod text;
+mod usage;
+mod value;
+
+use crate::help::{PROGRAM, USAGE};
+use crate::run::run;
+use program::start::start;
+use std::process::ExitCode;
+
+fn main(rt: HostRuntime) -> ExitCode {
+    start(&rt, PROGRAM, USAGE, |words, lists, output, errors| {
+        run(rt.alloc(), words, lists, output, errors)
+    })
+}

@@ -1,0 +1,282 @@
+//! The options of a command line, one at a time.
+ghost use Rattle.std.specs.Prelude.{◌≡◌, ◌-◌, ◌^◌, ◌<◌, ◌≤◌, drop, length, min};
+ghost use Rattle.std.specs.List.{list_all};
+ghost use Rattle.std.specs.Char.{is_ascii_digit};
+ghost use Rattle.cidr_join.specs.Options.{is_letter, number_of, takes_next, behind_option, option_of, in_one_word, in_two_words, letters_option, letters_in, file_option, field_option, separator_option, after_option, value_of, said_at, or_last};
+
+use program::words::is;
+
+/// Which letters are among those of options.
+#[derive(Clone, Copy, Debug, PartialEq, Eq)]
+pub struct Letters {
+    /// `a`: the address of a line is the first that stands anywhere in it.
+    pub anywhere: bool,
+    /// `w`: the fields of a line are what stands between runs of blanks.
+    pub words: bool,
+}
+
+/// An option.
+#[derive(Clone, Copy, Debug, PartialEq, Eq)]
+pub enum Choice {
+    /// Options of one letter each, after one `-`.
+    Letters(Letters),
+    /// `-k`.
+    Field(u32),
+    /// `-d`.
+    Separator(u8),
+    /// `--last`.
+    Last,
+    /// `--last-wins`.
+    LastWins,
+    /// `--network`.
+    Network,
+    /// `--mapped`.
+    Mapped,
+    /// `--after`, and a text.
+    After,
+    /// `-f`, and the name of a list.
+    File,
+    /// `-f -`: the list on standard input.
+    Input,
+}
+
+/// The index after the option at an index: an option may take the next word too.
+pub(crate) fn behind(words: &[String], at: usize) -> usize
+    requires { at ≤ length words.now }
+    ensures within { result ≤ length words.now }
+    ensures behind { at < length words.now → at < result }
+    ensures rest { drop result words.now ≡ behind_option (drop at words.now) }
+{
+    if at < words.len() && takes_next(&words[at]) {
+        words.len().min(at + 2)
+    } else {
+        words.len().min(at.saturating_add(1))
+    }
+}
+
+/// The option at an index, if there is one.
+pub(crate) fn choice_at(words: &[String], at: usize) -> Option<Choice>
+    requires { at ≤ length words.now }
+    ensures { result ≡ option_of (drop at words.now) }
+{
+    if at >= words.len() {
+        return None;
+    }
+    let word = &words[at];
+    if !takes_next(word) {
+        return choice_in(word.as_bytes());
+    }
+    if at + 1 >= words.len() {
+        return None;
+    }
+    choice_with(word, words[at + 1].as_bytes())
+}
+
+/// Whether the value of an option is the next word.
+pub(crate) fn takes_next(word: &String) -> bool
+    ensures { result ≡ takes_next word.now }
+{
+    is(word, "-f") || is(word, "-k") || is(word, "-d") || is(word, "--after")
+}
+
+// The option of this name with this value.
+fn choice_with(name: &String, value: &[u8]) -> Option<Choice>
+    ensures { result ≡ in_two_words name.now value.now }
+{
+    if is(name, "-f") {
+        file_choice(value)
+    } else if is(name, "-k") {
+        field_choice(value)
+    } else if is(name, "-d") {
+        separator_choice(value)
+    } else {
+        after_choice(value)
+    }
+}
+
+// The option in one word.
+fn choice_in(word: &[u8]) -> Option<Choice>
+    ensures { result ≡ in_one_word word.now }
+{
+    if let Some(value) = word.strip_prefix(b"-k".as_slice()) {
+        return field_choice(value);
+    }
+    if let Some(value) = word.strip_prefix(b"-d".as_slice()) {
+        return separator_choice(value);
+    }
+    if word == b"--last".as_slice() {
+        return Some(Choice::Last);
+    }
+    if word == b"--last-wins".as_slice() {
+        return Some(Choice::LastWins);
+    }
+    if word == b"--network".as_slice() {
+        return Some(Choice::Network);
+    }
+    if word == b"--mapped".as_slice() {
+        return Some(Choice::Mapped);
+    }
+    match word.strip_prefix(b"-".as_slice()) {
+        Some(letters) => letters_choice(letters),
+        None => None,
+    }
+}
+
+// Options by their letters.
+fn letters_choice(letters: &[u8]) -> Option<Choice>
+    ensures { result ≡ letters_option letters.now }
+{
+    if letters.is_empty() || !are_letters(letters) {
+        return None;
+    }
+    Some(Choice::Letters(letters_in(letters)))
+}
+
+// Which letters are among these.
+fn letters_in(letters: &[u8]) -> Letters
+    ensures { result ≡ letters_in letters.now }
+{
+    Letters {
+        anywhere: letters.contains(&b'a'),
+        words: letters.contains(&b'w'),
+    }
+}
+
+// Whether there are only letters of options.
+fn are_letters(letters: &[u8]) -> bool
+    ensures { result ≡ list_all is_letter letters.now }
+{
+    for letter in letters {
+        if !is_letter(*letter) {
+            return false;
+        }
+    }
+    true
+}
+
+// Whether this is the letter of an option.
+fn is_letter(letter: u8) -> bool
+    ensures { result ≡ is_letter letter }
+{
+    letter == b'a' || letter == b'w'
+}
+
+// `-f` with this value.
+fn file_choice(value: &[u8]) -> Option<Choice>
+    ensures { result ≡ file_option value.now }
+{
+    if value.is_empty() {
+        return None;
+    }
+    if value == b"-".as_slice() {
+        Some(Choice::Input)
+    } else {
+        Some(Choice::File)
+    }
+}
+
+// `-k` with this value.
+fn field_choice(value: &[u8]) -> Option<Choice>
+    ensures { result ≡ field_option value.now }
+{
+    if value.is_empty() || !are_digits(value) {
+        return None;
+    }
+    let number = number_of(value);
+    if number == 0 {
+        return None;
+    }
+    match u32::try_from(number) {
+        Ok(number) => Some(Choice::Field(number)),
+        Err(_) => None,
+    }
+}
+
+// Whether each byte is a digit.
+fn are_digits(text: &[u8]) -> bool
+    ensures { result ≡ list_all is_ascii_digit text.now }
+{
+    for byte in text {
+        if !byte.is_ascii_digit() {
+            return false;
+        }
+    }
+    true
+}
+
+// The number that digits name, or the greatest of 64 bits.
+fn number_of(digits: &[u8]) -> u64
+    ensures { result ≡ min (number_of digits.now) (2 ^ 64 - 1) }
+{
+    let mut number = 0u64;
+    for digit in digits {
+        number = number
+            .saturating_mul(10)
+            .saturating_add(u64::from(digit.saturating_sub(b'0')));
+    }
+    number
+}
+
+// `-d` with this value: a byte of ASCII other than LF, CR and NUL.
+fn separator_choice(value: &[u8]) -> Option<Choice>
+    ensures { result ≡ separator_option value.now }
+{
+    match value {
+        [byte] => {
+            if *byte < 128 && *byte != b'\n' && *byte != b'\r' && *byte != 0 {
+                Some(Choice::Separator(*byte))
+            } else {
+                None
+            }
+        }
+        _ => None,
+    }
+}
+
+// `--after` with this value.
+fn after_choice(value: &[u8]) -> Option<Choice>
+    ensures { result ≡ after_option value.now }
+{
+    if value.is_empty() {
+        return None;
+    }
+    Some(Choice::After)
+}
+
+/// The value of the last option of this name among options, or an empty text if there is none.
+pub(crate) fn value_of<'a>(options: &'a [String], name: &str) -> &'a str
+    ensures { result.now ≡ value_of name.now options.now }
+{
+    let mut text = "";
+    let mut at = 0;
+    'options: while at < options.len() {
+        text = or_last(text, said_at(options, at, name));
+        at = behind(options, at);
+    }
+    text
+}
+
+// The value of the option at an index, if it has this name.
+fn said_at<'a>(options: &'a [String], at: usize, name: &str) -> &'a str
+    requires { at ≤ length options.now }
+    ensures { result.now ≡ said_at name.now (drop at options.now) }
+{
+    let left = options.len() - at;
+    if left < 2 {
+        return "";
+    }
+    if !is(&options[at], name) {
+        return "";
+    }
+    options[at + 1].as_str()
+}
+
+// The last of two texts that is not empty.
+fn or_last<'a>(first: &'a str, last: &'a str) -> &'a str
+    ensures { result.now ≡ or_last first.now last.now }
+{
+    if last.is_empty() {
+        return first;
+    }
+    last
+}

@@ -1,0 +1,138 @@
+//! Prints a line.
+ghost use Rattle.std.specs.Prelude.{◌≡◌, ◌≤◌, ◌||◌, ◌++◌, ◌∷◌, [], length, drop, OnOk, OnErr, is_err};
+ghost use Rattle.lines.specs.Outputs.{Prints, FailsIn};
+ghost use Rattle.cidr_join.specs.Joins.{mark_of, shown_of};
+ghost use Rattle.cidr_join.specs.Private.Progress.{feed_behind};
+
+use crate::join::Join;
+use crate::value::Value;
+use ipnetwork::IpNetwork;
+use lines::fault::RunFault;
+use lines::line_end::LineEnd;
+use lines::output::Output;
+use std::io::Write;
+
+/// Writes a line, and before it or behind it what was found for its address: the value, or the network, or a minus sign
+/// for none. `line` is the line without its end, and `whole` as it was read; if no line feed ends it, one is written.
+pub(crate) fn print_line<W: Write>(
+    join: &Join<'_>,
+    found: &Option<(IpNetwork, Value<'_>)>,
+    line: &[u8],
+    whole: &[u8],
+    end: LineEnd,
+    output: &mut Output<'_, W>,
+) -> Result<(), RunFault>
+    requires { length line.now ≤ length whole.now }
+    ensures ok { OnOk result (Prints output.old output.new
+        (shown_of join.now.last (mark_of join.now.network found.now) line.now
+        (whole.now ++ feed_behind end))) }
+    ensures failed { output.new.failed ≡ (output.old.failed || is_err result) }
+    ensures beginning { OnErr result (FailsIn output.old output.new
+        (shown_of join.now.last (mark_of join.now.network found.now) line.now
+        (whole.now ++ feed_behind end))) }
+{
+    match found {
+        Some((network, value)) => {
+            if join.network {
+                let text = network.canonical();
+                print_with(
+                    join.last,
+                    text.as_str().as_bytes(),
+                    line,
+                    whole,
+                    end,
+                    output,
+                )
+            } else {
+                print_with(join.last, value.bytes(), line, whole, end, output)
+            }
+        }
+        None => print_with(join.last, b"-", line, whole, end, output),
+    }
+}
+
+// Writes a line, and this before it, or behind it if `last`.
+fn print_with<W: Write>(
+    last: bool,
+    mark: &[u8],
+    line: &[u8],
+    whole: &[u8],
+    end: LineEnd,
+    output: &mut Output<'_, W>,
+) -> Result<(), RunFault>
+    requires { length line.now ≤ length whole.now }
+    ensures ok { OnOk result (Prints output.old output.new
+        (shown_of last mark.now line.now (whole.now ++ feed_behind end))) }
+    ensures failed { output.new.failed ≡ (output.old.failed || is_err result) }
+    ensures beginning { OnErr result (FailsIn output.old output.new
+        (shown_of last mark.now line.now (whole.now ++ feed_behind end))) }
+{
+    if !last {
+        return put_parts(mark, whole, b"", end, output);
+    }
+    let tail = &whole[line.len()..];
+    put_parts(line, mark, tail, end, output)
+}
+
+// Writes a text and a tab, two more texts, and a line feed if none ended the line.
+fn put_parts<W: Write>(
+    first: &[u8],
+    second: &[u8],
+    third: &[u8],
+    end: LineEnd,
+    output: &mut Output<'_, W>,
+) -> Result<(), RunFault>
+    ensures ok { OnOk result (Prints output.old output.new
+        ((first.now ++ 9 ∷ []) ++ ((second.now ++ third.now) ++ feed_behind end))) }
+    ensures failed { output.new.failed ≡ (output.old.failed || is_err result) }
+    ensures beginning { OnErr result (FailsIn output.old output.new
+        ((first.now ++ 9 ∷ []) ++ ((second.now ++ third.now) ++ feed_behind end))) }
+{
+    put_both(first, b"\t", output)?;
+    put_rest(second, third, end, output)
+}
+
+// Writes two texts, and a line feed if none ended the line.
+fn put_rest<W: Write>(
+    first: &[u8],
+    second: &[u8],
+    end: LineEnd,
+    output: &mut Output<'_, W>,
+) -> Result<(), RunFault>
+    ensures ok { OnOk result (Prints output.old output.new
+        ((first.now ++ second.now) ++ feed_behind end)) }
+    ensures failed { output.new.failed ≡ (output.old.failed || is_err result) }
+    ensures beginning { OnErr result (FailsIn output.old output.new
+        ((first.now ++ second.now) ++ feed_behind end)) }
+{
+    put_both(first, second, output)?;
+    put_feed(end, output)
+}
+
+// Writes two texts.
+fn put_both<W: Write>(
+    first: &[u8],
+    second: &[u8],
+    output: &mut Output<'_, W>,
+) -> Result<(), RunFault>
+    ensures ok { OnOk result (Prints output.old output.new (first.now ++ second.now)) }
+    ensures failed { output.new.failed ≡ (output.old.failed || is_err result) }
+    ensures beginning { OnErr result
+        (FailsIn output.old output.new (first.now ++ second.now)) }
+{
+    output.put(first)?;
+    output.put(second)
+}
+
+// Writes a line feed behind a line that has none.
+fn put_feed<W: Write>(end: LineEnd, output: &mut Output<'_, W>) -> Result<(), RunFault>
+    ensures ok { OnOk result (Prints output.old output.new (feed_behind end)) }
+    ensures failed { output.new.failed ≡ (output.old.failed || is_err result) }
+    ensures beginning { OnErr result (FailsIn output.old output.new (feed_behind end)) }
+{
+    match end {
+        LineEnd::LineFeed => Ok(()),
+        LineEnd::ReturnAndLineFeed => Ok(()),
+        LineEnd::EndOfInput => output.put(b"\n"),
+    }
+}

@@ -1,0 +1,149 @@
+//! The run that the program makes.
+ghost use Rattle.std.specs.Prelude.{◌≡◌, ◌≤◌, length, codes, take};
+ghost use Rattle.program.specs.Endings.{ending};
+ghost use Rattle.program.specs.Messages.{Tells};
+ghost use Rattle.cidr_join.specs.Runs.{EndsRequest, EndsAs, EndsJoining, place_of, list_name};
+
+use crate::command_line::{Request, request_of};
+use crate::help::{HELP, PROGRAM, USAGE, VERSION};
+use crate::join::{Join, LINE_MAX, Place, Text};
+use crate::list::networks_of;
+use crate::logs::join_logs;
+use crate::options::value_of;
+use crate::routes::Routes;
+use crate::telling::{tell_take_fault, tell_text_fault};
+use crate::text::text_of;
+use lines::output::Output;
+use lists::OpenLists;
+use program::ending::{FAILED, print_text};
+use program::messages::tell;
+use program::start::text_asked;
+use program::usage::refuse_usage;
+use std::alloc::Global;
+use std::io::Write;
+
+/// The bytes of the longest line, and those that are read beside it.
+const BUFFER_LEN: usize = LINE_MAX + 2 + 262_144;
+
+/// Does what the words after the program's name ask for, and returns the exit status.
+pub(crate) fn run<L: OpenLists, W: Write, E: Write>(
+    alloc: Global,
+    words: &[String],
+    lists: &L,
+    output: &mut Output<'_, W>,
+    errors: &mut Output<'_, E>,
+) -> u8
+    ensures { EndsAs PROGRAM.now HELP.now VERSION.now USAGE.now (L.known lists.now) words.now
+        (ending output.old output.new errors.old errors.new result) }
+{
+    if let Some(text) = text_asked(HELP, VERSION, words) {
+        return print_text(text, output, errors);
+    }
+    match request_of(words) {
+        Ok(request) => join(alloc, request, words, lists, output, errors),
+        Err(fault) => {
+            let problem = fault.problem.text();
+            refuse_usage(PROGRAM, USAGE, words, fault.subject, problem, errors)
+        }
+    }
+}
+
+// Reads the list, and then joins the logs to it.
+fn join<L: OpenLists, W: Write, E: Write>(
+    alloc: Global,
+    request: Request,
+    words: &[String],
+    lists: &L,
+    output: &mut Output<'_, W>,
+    errors: &mut Output<'_, E>,
+) -> u8
+    requires { request.files ≤ length words.now }
+    ensures { EndsRequest (L.known lists.now) words.now request
+        (ending output.old output.new errors.old errors.new result) }
+{
+    let name = value_of(&words[..request.files], "-f");
+    match text_of(alloc, lists, name) {
+        Ok(text) => join_to(
+            alloc,
+            request,
+            words,
+            name,
+            text.as_slice(),
+            lists,
+            output,
+            errors,
+        ),
+        Err(fault) => {
+            tell_text_fault(name, fault, errors);
+            FAILED
+        }
+    }
+}
+
+// Joins the logs to the list of this name, which has these bytes.
+fn join_to<L: OpenLists, W: Write, E: Write>(
+    alloc: Global,
+    request: Request,
+    words: &[String],
+    name: &str,
+    text: &[u8],
+    lists: &L,
+    output: &mut Output<'_, W>,
+    errors: &mut Output<'_, E>,
+) -> u8
+    requires { request.files ≤ length words.now }
+    ensures { EndsJoining (L.known lists.now) words.now request name.now text.now
+        (ending output.old output.new errors.old errors.new result) }
+{
+    let networks = match networks_of(alloc, text, request.last_wins) {
+        Ok(networks) => networks,
+        Err(fault) => {
+            tell_take_fault(name, fault, errors);
+            return FAILED;
+        }
+    };
+    let Ok(routes) = Routes::of(alloc, networks) else {
+        return refuse_memory(errors);
+    };
+    let Ok(mut buffer) = vec![in alloc; 0u8; BUFFER_LEN] else {
+        return refuse_memory(errors);
+    };
+    let join = Join {
+        routes,
+        place: place_of(words, request),
+        mapped: request.mapped,
+        last: request.last,
+        network: request.network,
+    };
+    let files = &words[request.files..];
+    join_logs(&join, files, lists, buffer.as_mut_slice(), output, errors)
+}
+
+// Where a request looks for the address of a line.
+fn place_of(words: &[String], request: Request) -> Place<'_>
+    requires { request.files ≤ length words.now }
+    ensures { result ≡ place_of words.now request }
+{
+    if request.letters.anywhere {
+        return Place::Anywhere;
+    }
+    if request.after {
+        let text = value_of(&words[..request.files], "--after");
+        return Place::After(Text::new(text.as_bytes()));
+    }
+    let number = request.field.unwrap_or(1);
+    if request.letters.words {
+        return Place::Word(number);
+    }
+    let separator = request.separator.unwrap_or(b' ');
+    Place::Field { number, separator }
+}
+
+// Reports that memory ran out, and returns the exit status for that.
+fn refuse_memory<E: Write>(errors: &mut Output<'_, E>) -> u8
+    ensures status { result ≡ 2 }
+    ensures told { Tells errors.old errors.new (codes "out of memory\n") }
+{
+    tell("out of memory\n", errors);
+    FAILED
+}
