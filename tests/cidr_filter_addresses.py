@@ -8,6 +8,8 @@ import random
 import re
 import subprocess
 
+from cidr_filter_inputs import lacking
+
 SECONDS = 60
 LIST = ["10.0.0.0/8", "192.0.2.0/24", "2001:db8::/32"]
 
@@ -139,7 +141,8 @@ def after(program, folder):
             output = wanted(lines, networks, first, False, False).encode()
             got = subprocess.run([program, "--after", text, *lists], input=log, capture_output=True, timeout=SECONDS)
             got = (got.stdout, got.stderr, got.returncode)
-            yield f"{name}, after {text}", got == (output, b"", 0 if output else 1), got
+            error = b"" if any(first(line) for line in lines) else lacking(f"after {text}")
+            yield f"{name}, after {text}", got == (output, error, 0 if output else 1), got
 
 
 def words(program, folder):
@@ -157,7 +160,8 @@ def words(program, folder):
             output = wanted(lines, networks, at, False, False).encode()
             got = subprocess.run([program, "-w", f"-k{number}", *lists], input=log, capture_output=True, timeout=SECONDS)
             got = (got.stdout, got.stderr, got.returncode)
-            yield f"{name}, word {number}", got == (output, b"", 0 if output else 1), got
+            error = b"" if any(at(line) for line in lines) else lacking(f"in word {number}")
+            yield f"{name}, word {number}", got == (output, error, 0 if output else 1), got
 
 
 def made_up_runs(program, folder):

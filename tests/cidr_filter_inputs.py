@@ -17,6 +17,11 @@ IN_PARTS = os.path.join(HERE, "examples", "cidr_filter", "in_parts.sh")
 PIPES = {"stdout": subprocess.PIPE, "stderr": subprocess.PIPE}
 
 
+def lacking(place):
+    """What is reported about standard input with lines of which none has an address there."""
+    return f"cidr_filter: -: no line has an address {place}\n".encode()
+
+
 def run(words, given, folder, **others):
     got = subprocess.run(words, input=given, cwd=folder, timeout=SECONDS, **PIPES, **others)
     return got.stdout, got.stderr, got.returncode
@@ -132,7 +137,7 @@ def fields(program, folder):
         log = (b"x " * (number - 1) + b"10.0.0.1" + b" x" * (5000 - number)) + b"\n"
         for asked in (number - 1 or 5001, number, number + 1):
             got = run([program, "-f", "list", "-k", str(asked)], log, folder)
-            wanted = (log, b"", 0) if asked == number else (b"", b"", 1)
+            wanted = (log, b"", 0) if asked == number else (b"", lacking(f"in field {asked}"), 1)
             wrong += [] if got == wanted else [(number, asked)]
     yield "fields", not wrong, wrong
 
@@ -210,13 +215,14 @@ def without_parallel(folder):
 
 
 def in_parts(program, folder):
-    """What `in_parts.sh` prints of a log of several parts, what it reports and its status are those
-    of the whole log. Once it uses GNU parallel, if that is there."""
+    """What `in_parts.sh` prints of a log of several parts, what it reports, once or for each part, and
+    its status are those of the whole log. Once it uses GNU parallel, if that is there."""
     for path in (os.environ["PATH"], without_parallel(folder)):
         others = {"env": {**os.environ, "PATH": path}}
         for options in WHOLE:
             whole = of_made_log([program, *options.split()], folder)
-            parts = of_made_log([IN_PARTS, *options.split()], folder, **others)
+            output, error, status = of_made_log([IN_PARTS, *options.split()], folder, **others)
+            parts = output, b"".join(dict.fromkeys(error.splitlines(True))), status
             yield f"{options}, in parts", parts == whole, parts[1:]
         got = run([IN_PARTS, "-c", "-f", "made"], b"", folder, **others)
         yield "an empty log, in parts", got == (b"0\n", b"", 1), got

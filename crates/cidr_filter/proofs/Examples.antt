@@ -23,7 +23,8 @@ use Rattle.cidr_filter.specs.Logs.{logs_of, IsAllOf, IsFirstOf, FiltersLogs}
 use Rattle.cidr_filter.specs.Reading.{ReadsOptions, HoldsRead}
 use Rattle.program.specs.Endings.{Ending, Refuses, HasTold, HasWritten}
 use Rattle.cidr_filter.specs.Options.{no_options, said_by}
-use Rattle.cidr_filter.specs.Runs.{total_text, EndsLogs, EndsFiltering, place_of, filter_of}
+use Rattle.cidr_filter.specs.Addressed.{closed_text, lacking_by, lacking_text}
+use Rattle.cidr_filter.specs.Runs.{total_text, status_by, EndsLogs, EndsFiltering, place_of, filter_of}
 use Rattle.lists.specs.declared.refusals.Refusal.{Refusal}
 use Rattle.program.specs.Told.{refusals_text}
 use Rattle.cidr_filter.specs.Told.{in_option, log_fault_text}
@@ -38,6 +39,7 @@ use Rattle.cidr_filter.specs.declared.listed.Listed.{Listed}
 use Rattle.cidr_filter.specs.declared.listed.Listed.TheVariants.{Addresses, Blocks}
 use Rattle.cidr_filter.specs.declared.listed.Tables.{Tables}
 use Rattle.cidr_filter.specs.declared.log.LogFault.TheVariants as faults
+use Rattle.cidr_filter.specs.declared.opening.OpenFault.TheVariants as causes
 use Rattle.cidr_filter.specs.declared.options.Choice.TheVariants as choices
 use Rattle.cidr_filter.proofs.OptionExamples.{letters}
 
@@ -260,8 +262,27 @@ pub a_first_line_that_is_too_long : log_fault_text (codes "-") 0 faults.Length �
 unfolding digits
 a_first_line_that_is_too_long = refl
 
-pub a_log_that_is_missing : log_fault_text (codes "log") 0 faults.Open ≡ codes "log: cannot open\n"
+pub a_log_that_is_missing : closed_text (codes "log") causes.Missing ≡ codes "log: cannot open: no such file\n"
 a_log_that_is_missing = refl
+
+pub a_directory : closed_text (codes "log") causes.Directory ≡ codes "log: cannot open: is a directory\n"
+a_directory = refl
+
+pub a_field_without_addresses : lacking_by (places.Field 8 32) (codes "log") 2 false ≡ codes "cidr_filter: log: no line has an address in field 8\n"
+unfolding digits
+a_field_without_addresses = refl
+
+pub a_text_without_addresses : lacking_by (places.After (codes "SRC=")) (codes "log") 1 false ≡ codes "cidr_filter: log: no line has an address after SRC=\n"
+a_text_without_addresses = refl
+
+pub a_log_with_an_address : lacking_by places.Anywhere (codes "log") 2 true ≡ []
+a_log_with_an_address = refl
+
+pub a_log_without_lines : lacking_by places.Anywhere (codes "log") 0 false ≡ []
+a_log_without_lines = refl
+
+pub a_missed_log : status_by true 3 ≡ 2
+a_missed_log = refl
 
 pub a_log_that_fails : log_fault_text (codes "log") 9 faults.Read ≡ codes "log: cannot read\n"
 a_log_that_fails = refl
@@ -310,40 +331,97 @@ pub lists_in_their_order : {Z : Type 0} (known : KnownLists) (file list text val
     → ReadsOptions known (file ∷ list ∷ text ∷ value ∷ []) (file ∷ list ∷ text ∷ value ∷ []) (choices.File ∷ choices.Text ∷ []) before after
 lists_in_their_order known file list text value before mid after l v opened first second f t = rw (f, l, v) (mid, (opened, first), (after, second, refl))
 
-module _ (known : KnownLists) (inside : Judges (by false bads.Stop) (codes "in") (verdicts.Inside None)) (outside : Judges (by false bads.Stop) (codes "out") verdicts.Outside)
+module _ (known : KnownLists) (inside : Judges (by false bads.Stop) (codes "10.0.0.1") (verdicts.Inside None)) (outside : Judges (by false bads.Stop) (codes "11.0.0.1") verdicts.Outside)
     (bad : Judges (by false bads.Stop) (codes "bad") verdicts.Bad) where
   -- two logs, of which the second has no last line feed
-  pub two_logs : IsAllOf known (codes "a") (codes "out\nin\n") → IsAllOf known (codes "b") (codes "in")
-      → FiltersLogs (by false bads.Stop) known (codes "a" ∷ codes "b" ∷ []) (codes "in\nin\n") 2
+  pub two_logs : IsAllOf known (codes "a") (codes "11.0.0.1\n10.0.0.1\n") → IsAllOf known (codes "b") (codes "10.0.0.1")
+      → FiltersLogs (by false bads.Stop) known (codes "a" ∷ codes "b" ∷ []) (codes "10.0.0.1\n10.0.0.1\n") 2 [] false
+  unfolding address_of digits v6_of gap_below
   two_logs a b = (
-    codes "out\nin\n",
-    codes "in\n",
-    codes "in\n",
+    codes "10.0.0.1\n",
+    codes "10.0.0.1\n",
     1,
     1,
-    a,
-    (verdicts.Outside, codes "in\n", 1, outside, refl, (verdicts.Inside None, [], 0, inside, refl, (refl, refl), refl, refl), refl, refl),
-    (codes "in", codes "in\n", [], 1, 0, b, (verdicts.Inside None, [], 0, inside, refl, (refl, refl), refl, refl), (refl, refl), refl, refl),
+    [],
+    [],
+    false,
+    false,
+    inl (
+      (codes "11.0.0.1\n10.0.0.1\n", a, (verdicts.Outside, codes "10.0.0.1\n", 1, outside, refl, (verdicts.Inside None, [], 0, inside, refl, (refl, refl), refl, refl), refl, refl), refl),
+      refl,
+    ),
+    (
+      codes "10.0.0.1\n",
+      [],
+      1,
+      0,
+      [],
+      [],
+      false,
+      false,
+      inl ((codes "10.0.0.1", b, (verdicts.Inside None, [], 0, inside, refl, (refl, refl), refl, refl), refl), refl),
+      (refl, refl, refl, refl),
+      refl,
+      refl,
+      refl,
+      refl,
+    ),
+    refl,
+    refl,
     refl,
     refl,
   )
 
   -- they are counted together
-  pub two_logs_counted : IsAllOf known (codes "a") (codes "in\n") → IsAllOf known (codes "b") (codes "in\n") → {W E : Type 0} (end : Ending W E) → HasWritten end (codes "2\n") → HasTold end [] → end.status ≡ 0
+  pub two_logs_counted : IsAllOf known (codes "a") (codes "10.0.0.1\n") → IsAllOf known (codes "b") (codes "10.0.0.1\n") → {W E : Type 0} (end : Ending W E) → HasWritten end (codes "2\n") → HasTold end [] → end.status ≡ 0
       → EndsLogs (counting bads.Stop) known (codes "a" ∷ codes "b" ∷ []) end
-  unfolding digits
+  unfolding address_of digits v6_of gap_below
   two_logs_counted a b end written told status = inl (record {
     output = [];
     selected = 2;
+    texts = [];
+    missed = false;
     filters = (
-      codes "in\n",
       [],
       [],
       1,
       1,
-      a,
-      (verdicts.Inside None, [], 0, inside, refl, (refl, refl), refl, refl),
-      (codes "in\n", [], [], 1, 0, b, (verdicts.Inside None, [], 0, inside, refl, (refl, refl), refl, refl), (refl, refl), refl, refl),
+      [],
+      [],
+      false,
+      false,
+      inl ((codes "10.0.0.1\n", a, (verdicts.Inside None, [], 0, inside, refl, (refl, refl), refl, refl), refl), refl),
+      ([], [], 1, 0, [], [], false, false, inl ((codes "10.0.0.1\n", b, (verdicts.Inside None, [], 0, inside, refl, (refl, refl), refl, refl), refl), refl), (refl, refl, refl, refl), refl, refl, refl, refl),
+      refl,
+      refl,
+      refl,
+      refl,
+    );
+    ends = inl (written, told, status);
+  })
+
+  -- a log that cannot be opened: the others are filtered, and the status is 2
+  pub first_log_missed : known.may_open (codes "a") false → IsAllOf known (codes "b") (codes "10.0.0.1\n") → {W E : Type 0} (end : Ending W E) → HasWritten end (codes "10.0.0.1\n")
+      → HasTold end (codes "a: cannot open: permission denied\n") → end.status ≡ 2 → EndsLogs (by false bads.Stop) known (codes "a" ∷ codes "b" ∷ []) end
+  unfolding address_of digits v6_of gap_below
+  first_log_missed closed b end written told status = inl (record {
+    output = codes "10.0.0.1\n";
+    selected = 1;
+    texts = codes "a: cannot open: permission denied\n";
+    missed = true;
+    filters = (
+      [],
+      codes "10.0.0.1\n",
+      0,
+      1,
+      codes "a: cannot open: permission denied\n",
+      [],
+      true,
+      false,
+      inr ((causes.Denied, closed, refl, refl, refl), refl),
+      (codes "10.0.0.1\n", [], 1, 0, [], [], false, false, inl ((codes "10.0.0.1\n", b, (verdicts.Inside None, [], 0, inside, refl, (refl, refl), refl, refl), refl), refl), (refl, refl, refl, refl), refl, refl, refl, refl),
+      refl,
+      refl,
       refl,
       refl,
     );
@@ -351,7 +429,7 @@ module _ (known : KnownLists) (inside : Judges (by false bads.Stop) (codes "in")
   })
 
   -- a line that ends the run: what comes before it is written
-  pub stopped_at_the_second_line : known.may_open (codes "a") true → IsFirstOf known (codes "a") (codes "in\nbad\nin\n") → {W E : Type 0} (end : Ending W E) → HasWritten end (codes "in\n") → HasTold end (codes "a:2: refused address\n")
+  pub stopped_at_the_second_line : known.may_open (codes "a") true → IsFirstOf known (codes "a") (codes "10.0.0.1\nbad\n10.0.0.1\n") → {W E : Type 0} (end : Ending W E) → HasWritten end (codes "10.0.0.1\n") → HasTold end (codes "a:2: refused address\n")
       → end.status ≡ 2 → EndsLogs (by false bads.Stop) known (codes "a" ∷ codes "b" ∷ []) end
   unfolding digits
   stopped_at_the_second_line opened a end written told status = inr (record {
@@ -360,18 +438,20 @@ module _ (known : KnownLists) (inside : Judges (by false bads.Stop) (codes "in")
     behind = codes "b" ∷ [];
     output = [];
     selected = 0;
-    lines = ended (codes "in") ∷ [];
-    added = codes "in\n";
+    texts = [];
+    missed = false;
+    lines = ended (codes "10.0.0.1") ∷ [];
+    added = codes "10.0.0.1\n";
     more = 1;
     fault = faults.Address;
     logs = refl;
-    filters = (refl, refl);
+    filters = (refl, refl, refl, refl);
     first = (verdicts.Inside None, [], 0, inside, refl, (refl, refl), refl, refl);
     halts = (
       record {
-        read = codes "in\nbad\nin\n";
+        read = codes "10.0.0.1\nbad\n10.0.0.1\n";
         line = ended (codes "bad");
-        others = ended (codes "in") ∷ [];
+        others = ended (codes "10.0.0.1") ∷ [];
         is_first = a;
         are = refl;
         is_line = inl refl;
@@ -386,7 +466,7 @@ module _ (known : KnownLists) (inside : Judges (by false bads.Stop) (codes "in")
   })
 
   -- a read that fails: the lines before it whose line feed was read were filtered, and what follows them is no line
-  pub stopped_by_a_failed_read : known.may_open (codes "a") true → known.may_fail (codes "a") → IsFirstOf known (codes "a") (codes "in\nin") → {W E : Type 0} (end : Ending W E) → HasWritten end (codes "in\n")
+  pub stopped_by_a_failed_read : known.may_open (codes "a") true → known.may_fail (codes "a") → IsFirstOf known (codes "a") (codes "10.0.0.1\n10.0.0.1") → {W E : Type 0} (end : Ending W E) → HasWritten end (codes "10.0.0.1\n")
       → HasTold end (codes "a: cannot read\n") → end.status ≡ 2 → EndsLogs (by false bads.Stop) known (codes "a" ∷ codes "b" ∷ []) end
   stopped_by_a_failed_read opened fails a end written told status = inr (record {
     before = [];
@@ -394,25 +474,73 @@ module _ (known : KnownLists) (inside : Judges (by false bads.Stop) (codes "in")
     behind = codes "b" ∷ [];
     output = [];
     selected = 0;
-    lines = ended (codes "in") ∷ [];
-    added = codes "in\n";
+    texts = [];
+    missed = false;
+    lines = ended (codes "10.0.0.1") ∷ [];
+    added = codes "10.0.0.1\n";
     more = 1;
     fault = faults.Read;
     logs = refl;
-    filters = (refl, refl);
+    filters = (refl, refl, refl, refl);
     first = (verdicts.Inside None, [], 0, inside, refl, (refl, refl), refl, refl);
-    halts = (codes "in\nin", a, refl, opened, fails);
+    halts = (codes "10.0.0.1\n10.0.0.1", a, refl, opened, fails);
     wrote = written;
     told = told;
     status = status;
   })
 
   -- no line of a log is selected
-  pub nothing_selected : IsAllOf known (codes "-") (codes "out\n") → {W E : Type 0} (end : Ending W E) → HasWritten end [] → HasTold end [] → end.status ≡ 1
+  pub nothing_selected : IsAllOf known (codes "-") (codes "11.0.0.1\n") → {W E : Type 0} (end : Ending W E) → HasWritten end [] → HasTold end [] → end.status ≡ 1
       → EndsLogs (by false bads.Stop) known (codes "-" ∷ []) end
+  unfolding address_of digits v6_of gap_below
   nothing_selected a end written told status = inl (record {
     output = [];
     selected = 0;
-    filters = (codes "out\n", [], [], 0, 0, a, (verdicts.Outside, [], 0, outside, refl, (refl, refl), refl, refl), (refl, refl), refl, refl);
+    texts = [];
+    missed = false;
+    filters = (
+      [],
+      [],
+      0,
+      0,
+      [],
+      [],
+      false,
+      false,
+      inl ((codes "11.0.0.1\n", a, (verdicts.Outside, [], 0, outside, refl, (refl, refl), refl, refl), refl), refl),
+      (refl, refl, refl, refl),
+      refl,
+      refl,
+      refl,
+      refl,
+    );
+    ends = inl (written, told, status);
+  })
+
+  -- no line of a log has an address
+  pub nothing_found : Judges (by false bads.Drop) (codes "x") verdicts.Bad → IsAllOf known (codes "a") (codes "x\n") → {W E : Type 0} (end : Ending W E) → HasWritten end []
+      → HasTold end (codes "cidr_filter: a: no line has an address in field 1\n") → end.status ≡ 1 → EndsLogs (by false bads.Drop) known (codes "a" ∷ []) end
+  unfolding address_of digits v6_of gap_below
+  nothing_found none a end written told status = inl (record {
+    output = [];
+    selected = 0;
+    texts = codes "cidr_filter: a: no line has an address in field 1\n";
+    missed = false;
+    filters = (
+      [],
+      [],
+      0,
+      0,
+      codes "cidr_filter: a: no line has an address in field 1\n",
+      [],
+      false,
+      false,
+      inl ((codes "x\n", a, (verdicts.Bad, [], 0, none, refl, (refl, refl), refl, refl), refl), refl),
+      (refl, refl, refl, refl),
+      refl,
+      refl,
+      refl,
+      refl,
+    );
     ends = inl (written, told, status);
   })

@@ -1,5 +1,5 @@
 -- How a log is filtered, line by line.
-use Rattle.std.proofs.Common.{◌≡◌, ℕ, ◌+◌, ◌-◌, ◌*◌, ◌^◌, ◌<◌, ◌≤◌, ◌==◌, ◌&&◌, ◌⊎◌, Bool, true, false, if◌then◌else◌, List, [], ◌∷◌, ◌++◌, length, inl, inr, take, refl, sym, ap, ◌∙◌, subst, true≢false, arith, append_assoc, append-nil, length-append, length-take, length-drop}
+use Rattle.std.proofs.Common.{◌≡◌, ℕ, ◌+◌, ◌-◌, ◌*◌, ◌^◌, ◌<◌, ◌≤◌, ◌==◌, ◌&&◌, ◌||◌, ◌⊎◌, Bool, true, false, if◌then◌else◌, List, [], ◌∷◌, ◌++◌, length, inl, inr, take, refl, sym, ap, ◌∙◌, subst, true≢false, arith, append_assoc, append-nil, length-append, length-take, length-drop}
 use Rattle.std.specs.Prelude.{Option, Result, Ok, Err, OnOk}
 use Rattle.std.specs.Io.KnownBytes.{Appends}
 use Rattle.std.specs.List.{list_all}
@@ -15,6 +15,7 @@ use Rattle.lines.specs.declared.line_end.LineEnd.{LineEnd}
 use Rattle.lines.proofs.BytesLemmas.{HasNo}
 use Rattle.lines.proofs.HandingOut.{has_no}
 use Rattle.lines.proofs.Putting.{puts_nothing, puts_out, puts_more}
+use Rattle.cidr_filter.specs.Addressed.{any_addressed, is_addressed_by}
 use Rattle.cidr_filter.specs.Filters.{Judges, is_refused, is_selected, one_if, output_of}
 use Rattle.cidr_filter.specs.Lines.{LogLine, log_lines, content, printed}
 use Rattle.cidr_filter.specs.Stands.{Stand, Counts, Goes}
@@ -22,6 +23,8 @@ use Rattle.cidr_filter.specs.Private.Progress.{feed_behind, shown, FiltersLine, 
 use Rattle.cidr_filter.specs.declared.filter.Filter.{Filter}
 use Rattle.cidr_filter.specs.declared.filter.Verdict.{Verdict}
 use Rattle.cidr_filter.specs.declared.filter.Verdict.TheVariants as verdicts
+use Rattle.cidr_filter.proofs.Addressed.{addressed_more}
+use Rattle.cidr_filter.proofs.Failing.{or_none}
 use Rattle.cidr_filter.proofs.Handed.{log_line, printed_is, IsFirstOf, handed_first}
 use Rattle.cidr_filter.proofs.LogParts.{both}
 
@@ -131,6 +134,7 @@ module _ (filter : Filter) where
     count = 0;
     filters = (refl, refl);
     goes = goes_nowhere old;
+    addressed = or_none old.addressed old.addressed refl;
   }
 
   module _ (room : ℕ) (was now : Buffered) (remained remains : Option (List ℕ)) (old mid : Stand)
@@ -145,8 +149,9 @@ module _ (filter : Filter) where
         → is_refused filter verdict ≡ false
         → Goes mid new (output_of filter verdict (log_line line end))
         (one_if (is_selected filter verdict)) 1
+        → new.addressed ≡ (mid.addressed || is_addressed_by verdict)
         → FiltersSoFar filter room now remained remains old new
-    one_more new line end verdict hands judges passes goes =
+    one_more new line end verdict hands judges passes goes seen =
         let next = log_line line end in
         let is = handed_first now s.pending line end hands in
         let added = output_of filter verdict next in
@@ -179,6 +184,8 @@ module _ (filter : Filter) where
           goes = subst (λ (n : ℕ). Goes old new (s.added ++ added) (s.count + count) n)
               (sym (length-append s.first (next ∷ [])))
               (goes_on old mid new s.added added s.count count (length s.first) 1 s.goes goes);
+          addressed = addressed_more filter s.first next verdict old.addressed mid.addressed new.addressed
+              (subst (λ l. Judges filter l verdict) (sym is.is) judges) s.addressed seen;
         }
 
     -- the line that was handed out was filtered
@@ -195,22 +202,22 @@ module _ (filter : Filter) where
         one_more new now.line end f.0 given.0 (subst (λ l. Judges filter l f.0) is f.1) f.2
         (subst (λ t. Goes mid new (shown filter f.0 (content (log_line now.line end)) t) (one_if (is_selected filter f.0)) 1) text
         (subst (λ l. Goes mid new (shown filter f.0 l (whole ++ feed_behind end)) (one_if (is_selected filter f.0)) 1)
-        (is ∙ sym handed.is) f.3))
+        (is ∙ sym handed.is) f.3)) f.4
 
     -- one that is too long was dropped
     pub after_long : (new : Stand) → ((pending : List ℕ) → IsPending was pending
         → Gives now pending TooLong) → now.limit ≡ 1048576
         → is_refused filter verdicts.TooLong ≡ false
-        → Goes mid new [] 0 1 → FiltersSoFar filter room now remained remains old new
-    after_long new gives limit passes goes =
+        → Goes mid new [] 0 1 → new.addressed ≡ mid.addressed → FiltersSoFar filter room now remained remains old new
+    after_long new gives limit passes goes seen =
         let given = gives s.pending s.holds in
         one_more new given.0 given.1 verdicts.TooLong given.2 (omega (arith, given.3, limit)) passes
-        goes
+        goes (or_none mid.addressed new.addressed seen)
 
     -- what waited was written
-    pub handed_on : (new : Stand) → IsPending now s.pending → Goes mid new [] 0 0
+    pub handed_on : (new : Stand) → IsPending now s.pending → new.addressed ≡ mid.addressed → Goes mid new [] 0 0
         → FiltersSoFar filter room now remained remains old new
-    handed_on new holds goes = record {
+    handed_on new holds seen goes = record {
       read = s.read;
       reads = s.reads;
       counted = s.counted;
@@ -224,6 +231,7 @@ module _ (filter : Filter) where
       count = s.count;
       filters = s.filters;
       goes = goes_still old mid new s.added s.count (length s.first) s.goes goes;
+      addressed = seen ∙ s.addressed;
     }
 
   -- what was read before the device is asked: no line of what is pending is whole
@@ -236,12 +244,12 @@ module _ (filter : Filter) where
   pub before_asking : (room : ℕ) (was now : Buffered) (remained remains : Option (List ℕ))
       (old mid new : Stand) → FiltersSoFar filter room was remained remains old mid
       → ((pending : List ℕ) → IsPending was pending → Gives now pending Ask) → now.ended ≡ was.ended
-      → Goes mid new [] 0 0 → Idle room now remained remains old new
+      → new.addressed ≡ mid.addressed → Goes mid new [] 0 0 → Idle room now remained remains old new
   unfolding handed_on
-  before_asking room was now remained remains old mid new s gives same goes =
+  before_asking room was now remained remains old mid new s gives same seen goes =
       let given = gives s.pending s.holds in
       record {
-        sofar = handed_on room was now remained remains old mid s same new given.0 goes;
+        sofar = handed_on room was now remained remains old mid s same new given.0 seen goes;
         going = given.3;
         none = has_no s.pending given.1;
       }
@@ -268,6 +276,7 @@ module _ (filter : Filter) where
         count = s.count;
         filters = s.filters;
         goes = s.goes;
+        addressed = s.addressed;
       }
 
 -- ---- that it ends

@@ -1,3 +1,4 @@
+pub mod Addressed
 pub mod AfterTexts
 pub mod Among
 pub mod Examples
@@ -22,3 +23,4 @@ pub mod Texts
 pub mod Told
 pub mod UsageExamples
 pub mod WholeLines
+pub mod WordOrder

@@ -1,24 +1,30 @@
 -- Logs that are filtered in turn.
-use Rattle.std.proofs.Common.{◌≡◌, ◌+◌, ◌-◌, ◌^◌, ◌++◌, ◌∷◌, ◌∙◌, ◌==◌, [], ℕ, Bool, List, true, false, cond, inl, inr, refl, sym, ap, subst, arith, length, min, append_assoc, append-nil}
+use Rattle.std.proofs.Common.{◌≡◌, ◌+◌, ◌-◌, ◌^◌, ◌++◌, ◌∷◌, ◌∙◌, ◌==◌, ◌||◌, [], ℕ, Bool, List, true, false, cond, inl, inr, refl, sym, ap, subst, arith, length, min, append_assoc, append-nil}
 use Rattle.std.specs.Prelude.{Option, None, Some, IsTrue, filter}
 use Rattle.std.specs.List.{slice_split}
 use Rattle.std.specs.Io.KnownBytes.{Appends, Consumes, IsAtEnd}
 use Rattle.std.proofs.KnownBytes.{Appends-trans}
 use Rattle.std.proofs.lemmas.Option.{none-some}
 use Rattle.lines.specs.Parts.{IsBeginning}
-use Rattle.lines.specs.Outputs.{Puts, AppendsBeginning}
+use Rattle.lines.specs.Outputs.{Written, Puts, AppendsBeginning}
 use Rattle.lines.proofs.Putting.{puts_nothing, puts_more}
 use Rattle.lists.specs.KnownLists.{KnownLists}
+use Rattle.program.specs.Messages.{Tells}
+use Rattle.program.proofs.Told.{tells_more, tells_nothing, tells_same}
+use Rattle.cidr_filter.specs.Addressed.{any_addressed, lacking_by, lacking_text, closed_text}
 use Rattle.cidr_filter.specs.Lines.{LogLine, lines_in, log_lines, ended_lines}
 use Rattle.cidr_filter.specs.Filters.{Filters}
 use Rattle.cidr_filter.specs.Logs.{IsAllOf, IsFirstOf, FiltersLogs, RefusesAfter, HaltsBy}
 use Rattle.cidr_filter.specs.Stands.{Stand, Counts}
-use Rattle.cidr_filter.specs.Stops.{EndsAtLine, Stops}
+use Rattle.cidr_filter.specs.Stops.{Ends, EndsAtLine, Stops}
 use Rattle.cidr_filter.specs.Private.Runs.{FiltersNames}
 use Rattle.cidr_filter.specs.declared.filter.Filter.{Filter}
 use Rattle.cidr_filter.specs.declared.filter.Verdict.{Verdict}
 use Rattle.cidr_filter.specs.declared.log.LogFault.{LogFault}
 use Rattle.cidr_filter.specs.declared.log.LogFault.TheVariants as faults
+use Rattle.cidr_filter.specs.declared.opening.OpenFault.{OpenFault}
+use Rattle.cidr_filter.proofs.Addressed.{lacking_same}
+use Rattle.cidr_filter.proofs.Failing.{or_assoc}
 use Rattle.cidr_filter.proofs.Filtering.{counts_more, counts_none}
 
 -- ---- what was read of a log
@@ -45,7 +51,6 @@ first_part read last input b = (last ++ b.0, b.1 ∙ append_assoc read last b.0)
 -- the output of the first lines was put, of which there were this many, or the writer failed, which took a beginning of
 -- it
 abbrev pub PutsBy : LogFault → Bool → Stand → Stand → List ℕ → ℕ → Type 0
-PutsBy faults.Open failed old new added lines = Puts old.holds old.waits new.holds new.waits added × (new.lines ≡ min lines (2 ^ 64 - 1))
 PutsBy faults.Read failed old new added lines = Puts old.holds old.waits new.holds new.waits added × (new.lines ≡ min lines (2 ^ 64 - 1))
 PutsBy faults.Write failed old new added lines = IsTrue failed × AppendsBeginning old.holds new.holds (old.waits ++ added)
 PutsBy faults.Address failed old new added lines = Puts old.holds old.waits new.holds new.waits added × (new.lines ≡ min lines (2 ^ 64 - 1))
@@ -86,7 +91,6 @@ ended_first read = ended_before (slice_split (λ b. b == 10) read)
 module _ (filter : Filter) (known : KnownLists) where
   -- what the first lines of a log are, whatever ends it
   pub some_first : (name : List ℕ) (lines : List LogLine) (fault : LogFault) → HaltsBy filter known name lines fault → HaltsBy filter known name lines faults.Write
-  some_first name lines faults.Open h = ([], [], (λ input e. (input, refl)), sym (ap (λ ls. ls ++ []) h.0))
   some_first name lines faults.Read h =
       let ended = ended_first h.0 in
       (h.0, ended.0, h.1, ended.1 ∙ ap (λ ls. ls ++ ended.0) (sym h.2))
@@ -103,6 +107,38 @@ module _ (filter : Filter) (known : KnownLists) where
 
     first_of : (read : List ℕ) → Consumes remained remains read → IsFirstOf known name read
     first_of read took = λ input e. known_first remained remains read input (has input e) took
+
+    -- a log that was filtered to its end
+    pub name_ended : {E : Type 0} (old new : Stand) (errors told : Written E) → Ends filter remained remains (record old { lines = 0; addressed = false }) new
+        → Tells errors told (lacking_by filter.place name new.lines new.addressed) → FiltersNames filter known (name ∷ []) false old new errors told
+    name_ended old new errors told ends tells =
+        let lines = log_lines ends.read in
+        let text = lacking_text filter name lines in
+        record {
+          output = ends.added;
+          count = ends.count;
+          text = text;
+          filters = (
+            ends.added,
+            [],
+            ends.count,
+            0,
+            text,
+            [],
+            false,
+            false,
+            inl ((ends.read, all_of ends.read ends.reads ends.end, ends.filters, refl), refl),
+            (refl, refl, refl, refl),
+            sym (append-nil ends.added),
+            omega arith,
+            sym (append-nil text),
+            refl,
+          );
+          tells = tells_same errors told (lacking_by filter.place name new.lines new.addressed) text
+              (lacking_same filter.place name new.lines (length lines) new.addressed (any_addressed filter lines) (lines_told new.lines (length lines) ends.goes.2) ends.addressed) tells;
+          puts = ends.goes.0;
+          counted = ends.goes.1;
+        }
 
     line_halts : (verdict : Verdict) (old new : Stand) (h : EndsAtLine filter remained remains old new verdict) → RefusesAfter filter known name h.first verdict
     line_halts verdict old new h = record {
@@ -123,9 +159,8 @@ module _ (filter : Filter) (known : KnownLists) where
     }
 
     -- a log that was not filtered to its end
-    pub stops_by : (read_failed write_failed : Bool) (old new : Stand) (fault : LogFault) → (IsTrue read_failed → known.may_fail name) → Stops filter remained remains read_failed write_failed (record old { lines = 0 }) new fault
+    pub stops_by : (read_failed write_failed : Bool) (old new : Stand) (fault : LogFault) → (IsTrue read_failed → known.may_fail name) → Stops filter remained remains read_failed write_failed (record old { lines = 0; addressed = false }) new fault
         → NameStops filter known name write_failed old new fault
-    stops_by read_failed write_failed old new faults.Open fails h = absurd h
     stops_by read_failed write_failed old new faults.Read fails h = record {
       lines = ended_lines h.1;
       added = h.3.added;
@@ -168,60 +203,68 @@ module _ (filter : Filter) (known : KnownLists) where
     }
 
   -- a log that was not opened
-  pub name_closed : (name : List ℕ) (failed : Bool) (old : Stand) → known.may_open name false → NameStops filter known name failed old (record old { lines = 0 }) faults.Open
-  name_closed name failed old closed = record {
-    lines = [];
-    added = [];
-    count = 0;
-    filters = (refl, refl);
-    halts = (refl, closed);
-    puts = (puts_nothing old.holds old.waits, omega arith);
-  }
-
-  -- ---- logs in turn
-
-  pub names_none : (old : Stand) → FiltersNames filter known [] old old
-  names_none old = record {
+  pub name_missed : {E : Type 0} (name : List ℕ) (fault : OpenFault) (old : Stand) (errors told : Written E) → known.may_open name false → Tells errors told (closed_text name fault)
+      → FiltersNames filter known (name ∷ []) true old (record old { lines = 0; addressed = false }) errors told
+  name_missed name fault old errors told closed tells = record {
     output = [];
     count = 0;
-    filters = (refl, refl);
+    text = closed_text name fault;
+    filters = ([], [], 0, 0, closed_text name fault, [], true, false, inr ((fault, closed, refl, refl, refl), refl), (refl, refl, refl, refl), refl, refl, sym (append-nil (closed_text name fault)), refl);
+    tells = tells;
     puts = puts_nothing old.holds old.waits;
     counted = counts_none old.selected old.selected refl;
   }
 
-  logs_both : (first second : List (List ℕ)) (a b : List ℕ) (m n : ℕ) → FiltersLogs filter known first a m → FiltersLogs filter known second b n
-      → FiltersLogs filter known (first ++ second) (a ++ b) (m + n)
-  logs_both [] second a b m n f g =
+  -- ---- logs in turn
+
+  pub names_none : {E : Type 0} (old : Stand) (errors : Written E) → FiltersNames filter known [] false old old errors errors
+  names_none old errors = record {
+    output = [];
+    count = 0;
+    text = [];
+    filters = (refl, refl, refl, refl);
+    tells = tells_nothing errors;
+    puts = puts_nothing old.holds old.waits;
+    counted = counts_none old.selected old.selected refl;
+  }
+
+  pub logs_both : (first second : List (List ℕ)) (a b : List ℕ) (m n : ℕ) (s t : List ℕ) (x y : Bool) → FiltersLogs filter known first a m s x → FiltersLogs filter known second b n t y
+      → FiltersLogs filter known (first ++ second) (a ++ b) (m + n) (s ++ t) (x || y)
+  logs_both [] second a b m n s t x y f g =
       let none = f.1 in
       let same : n ≡ m + n = omega (arith, none) in
-      subst (λ (t : List ℕ). FiltersLogs filter known second (t ++ b) (m + n)) (sym f.0)
-      (subst (λ (k : ℕ). FiltersLogs filter known second b k) same g)
-  logs_both (name ∷ first) second a b m n f g = (
+      subst (λ (z : Bool). FiltersLogs filter known second (a ++ b) (m + n) (s ++ t) (z || y)) (sym f.3)
+      (subst (λ (l : List ℕ). FiltersLogs filter known second (a ++ b) (m + n) (l ++ t) y) (sym f.2)
+      (subst (λ (l : List ℕ). FiltersLogs filter known second (l ++ b) (m + n) t y) (sym f.0)
+      (subst (λ (k : ℕ). FiltersLogs filter known second b k t y) same g)))
+  logs_both (name ∷ first) second a b m n s t x y f g = (
     f.0,
-    f.1,
-    f.2 ++ b,
-    f.3,
-    f.4 + n,
-    f.5,
+    f.1 ++ b,
+    f.2,
+    f.3 + n,
+    f.4,
+    f.5 ++ t,
     f.6,
-    logs_both first second f.2 b f.4 n f.7 g,
-    ap (λ t. t ++ b) f.8 ∙ append_assoc f.1 f.2 b,
-    let e = f.9 in omega (arith, e),
+    f.7 || y,
+    f.8,
+    logs_both first second f.1 b f.3 n f.5 t f.7 y f.9 g,
+    ap (λ (l : List ℕ). l ++ b) f.10 ∙ append_assoc f.0 f.1 b,
+    let e = f.11 in omega (arith, e),
+    ap (λ (l : List ℕ). l ++ t) f.12 ∙ append_assoc f.4 f.5 t,
+    ap (λ (l : Bool). l || y) f.13 ∙ or_assoc f.6 f.7 y,
   )
 
-  pub names_both : (first second : List (List ℕ)) (old mid new : Stand) → FiltersNames filter known first old mid → FiltersNames filter known second mid new
-      → FiltersNames filter known (first ++ second) old new
-  names_both first second old mid new f g = record {
+  pub names_both : {E : Type 0} (first second : List (List ℕ)) (x y : Bool) (old mid new : Stand) (errors between told : Written E) → FiltersNames filter known first x old mid errors between
+      → FiltersNames filter known second y mid new between told → FiltersNames filter known (first ++ second) (x || y) old new errors told
+  names_both first second x y old mid new errors between told f g = record {
     output = f.output ++ g.output;
     count = f.count + g.count;
-    filters = logs_both first second f.output g.output f.count g.count f.filters g.filters;
+    text = f.text ++ g.text;
+    filters = logs_both first second f.output g.output f.count g.count f.text g.text x y f.filters g.filters;
+    tells = tells_more errors between told f.text g.text f.tells g.tells;
     puts = puts_more old.holds mid.holds new.holds old.waits mid.waits new.waits f.output g.output f.puts g.puts;
     counted = counts_more old.selected mid.selected new.selected f.count g.count f.counted g.counted;
   }
-
-  pub filters_both : (first second : List (List ℕ)) (a b : List ℕ) (m n : ℕ) → FiltersLogs filter known first a m → FiltersLogs filter known second b n
-      → FiltersLogs filter known (first ++ second) (a ++ b) (m + n)
-  filters_both first second a b m n f g = logs_both first second a b m n f g
 
 -- ---- what was put and then written
 

@@ -1,16 +1,15 @@
 -- How a run ends.
 use Rattle.std.proofs.Common.{◌≡◌, ◌==◌, ◌+◌, ◌-◌, ◌^◌, ◌<◌, ◌≤◌, ◌++◌, ◌∷◌, ◌∙◌, [], ◌||◌, ℕ, zero, suc, List, Bool, true, false, true≢false, not, refl, sym, ap, subst, ◌⊎◌, inl, inr, arith, length, min, map, take, drop, take-append-drop, get_or, append_assoc, append-nil, decimal, codes}
-use Rattle.std.specs.Prelude.{Option, Result, Ok, Err, OnOk, OnErr, IfErr, IfOk, IsTrue, is_err, nat_lt, if◌then◌else◌, String}
+use Rattle.std.specs.Prelude.{Option, MatchOption, Result, Ok, Err, OnOk, OnErr, IfErr, IfOk, IsTrue, is_err, if◌then◌else◌, String}
 use Rattle.std.specs.String.{string_bytes}
 use Rattle.std.specs.Io.KnownBytes.{Appends}
 use Rattle.std.proofs.lemmas.Bool.{ne_eqb}
-use Rattle.std.proofs.lemmas.Bool.Decides.{nat_tests}
 use Rattle.std.proofs.lemmas.List.{take_all, take_more, map_push}
 use Rattle.lists.specs.Lists.{nothing_read}
 use Rattle.lists.specs.Refusals.{Refused, no_refusals}
 use Rattle.lines.specs.Outputs.{Written, Puts, AppendsBeginning, Prints, Writes, FailsIn}
 use Rattle.lines.proofs.Putting.{begins_after_puts}
-use Rattle.program.proofs.Told.{tells_same}
+use Rattle.program.proofs.Told.{tells_same, tells_more}
 use Rattle.program.specs.Endings.{Ending, ending, Refuses, HasTold, HasWritten, status_of, end_text}
 use Rattle.program.specs.Messages.{Tells}
 use Rattle.lists.specs.KnownLists.{KnownLists}
@@ -18,7 +17,7 @@ use Rattle.cidr_filter.specs.Filters.{Filters}
 use Rattle.cidr_filter.specs.Lines.{LogLine}
 use Rattle.cidr_filter.specs.Logs.{logs_of, HaltsBy}
 use Rattle.cidr_filter.specs.Reading.{Stops, HoldsRead}
-use Rattle.cidr_filter.specs.Runs.{FailsWriting, Wrote, StopsAtLog, total_text, FiltersAll, EndsLogs, filter_of, EndsRequest}
+use Rattle.cidr_filter.specs.Runs.{FailsWriting, Wrote, StopsAtLog, total_text, status_by, FiltersAll, EndsLogs, filter_of, EndsRequest, EndsAsked}
 use Rattle.cidr_filter.specs.Stands.{Stand, stand, Counts}
 use Rattle.program.specs.Told.{was_refused, fault_text, refusals_text}
 use Rattle.cidr_filter.specs.Told.{in_option, line_text, log_fault_text}
@@ -31,7 +30,8 @@ use Rattle.cidr_filter.specs.declared.log.LogFault.{LogFault}
 use Rattle.cidr_filter.specs.declared.log.LogFault.TheVariants as faults
 use Rattle.cidr_filter.specs.declared.log.Tally.{Tally}
 use Rattle.lists.specs.declared.named.ReadFault.{ReadFault}
-use Rattle.cidr_filter.proofs.LogsInTurn.{PutsBy, NameStops, names_both, some_first, filters_both, puts_then_all}
+use Rattle.cidr_filter.proofs.LogsInTurn.{PutsBy, NameStops, names_both, some_first, logs_both, puts_then_all}
+use Rattle.cidr_filter.proofs.Addressed.{same_test}
 use Rattle.cidr_filter.proofs.Stopping.{failed_now}
 
 -- ---- a log that stops
@@ -43,7 +43,6 @@ told_line name cause lines count e =
     ap (λ n. name ++ codes ":" ++ decimal n ++ codes ": refused " ++ cause ++ codes "\n") same
 
 told_log : (name : List ℕ) (lines count : ℕ) (fault : LogFault) → lines ≡ min count (2 ^ 64 - 1) → log_fault_text name lines fault ≡ log_fault_text name count fault
-told_log name lines count faults.Open e = refl
 told_log name lines count faults.Read e = refl
 told_log name lines count faults.Write e = refl
 told_log name lines count faults.Address e = told_line name (codes "address") lines count e
@@ -60,12 +59,14 @@ at_log filter known name fault lines added more end two filters halts wrote told
   behind = [];
   output = [];
   selected = 0;
+  texts = [];
+  missed = false;
   lines = lines;
   added = added;
   more = more;
   fault = fault;
   logs = refl;
-  filters = (refl, refl);
+  filters = (refl, refl, refl, refl);
   first = filters;
   halts = halts;
   wrote = wrote;
@@ -113,7 +114,6 @@ module _ {W E : Type 0} (filter : Filter) (known : KnownLists) (name : List ℕ)
   stops_now : (fault : LogFault) (old new : Tally) → new.lines ≡ told → HaltsBy filter known name lines fault
       → PutsBy fault mid.failed (stand end.output old) (stand mid new) added (length lines)
       → StopsBy name told fault (record end { output = mid }) → StopsAtLog filter known (name ∷ []) end
-  stops_now faults.Open old new same halts puts stops = handed faults.Open halts (λ text h. h) (puts.0, sym same ∙ puts.1) stops
   stops_now faults.Read old new same halts puts stops = handed faults.Read halts (λ text h. h) (puts.0, sym same ∙ puts.1) stops
   stops_now faults.Write old new same halts puts stops = had_failed halts puts stops
   stops_now faults.Address old new same halts puts stops = handed faults.Address halts (λ text h. h) (puts.0, sym same ∙ puts.1) stops
@@ -129,40 +129,42 @@ name_stops filter known name end two mid fault old new s stops =
 
 -- ---- logs in turn
 
-wrote_behind : {W E : Type 0} (fault : LogFault) (end : Ending W E) (mid : Written W) (output text : List ℕ)
+wrote_behind : {W E : Type 0} (fault : LogFault) (end : Ending W E) (mid : Written W) (between : Written E) (output text : List ℕ)
     → Prints end.output mid output
-    → Wrote fault (record end { output = mid }) text → Wrote fault end (output ++ text)
-wrote_behind faults.Open end mid output text p h = puts_then_all _ _ _ _ _ output text p h
-wrote_behind faults.Read end mid output text p h = puts_then_all _ _ _ _ _ output text p h
-wrote_behind faults.Write end mid output text p h = (h.0, begins_after_puts _ _ _ _ _ output text p h.1)
-wrote_behind faults.Address end mid output text p h = puts_then_all _ _ _ _ _ output text p h
-wrote_behind faults.Length end mid output text p h = puts_then_all _ _ _ _ _ output text p h
-wrote_behind faults.Endless end mid output text p h = puts_then_all _ _ _ _ _ output text p h
+    → Wrote fault (record end { output = mid; errors = between }) text → Wrote fault end (output ++ text)
+wrote_behind faults.Read end mid between output text p h = puts_then_all _ _ _ _ _ output text p h
+wrote_behind faults.Write end mid between output text p h = (h.0, begins_after_puts _ _ _ _ _ output text p h.1)
+wrote_behind faults.Address end mid between output text p h = puts_then_all _ _ _ _ _ output text p h
+wrote_behind faults.Length end mid between output text p h = puts_then_all _ _ _ _ _ output text p h
+wrote_behind faults.Endless end mid between output text p h = puts_then_all _ _ _ _ _ output text p h
 
 wrote_same : {W E : Type 0} (fault : LogFault) (end : Ending W E) (text other : List ℕ) → text ≡ other → Wrote fault end text → Wrote fault end other
 wrote_same fault end text other e h = subst (λ (t : List ℕ). Wrote fault end t) e h
 
 -- a log that stops behind others that were filtered
-pub stops_behind_names : {W E : Type 0} (filter : Filter) (known : KnownLists) (done more rest names : List (List ℕ)) (end : Ending W E) (mid : Written W) (old now : Tally)
+pub stops_behind_names : {W E : Type 0} (filter : Filter) (known : KnownLists) (done more rest names : List (List ℕ)) (missed : Bool) (end : Ending W E) (mid : Written W) (between : Written E) (old now : Tally)
     → names ≡ done ++ (more ++ rest)
-    → FiltersNames filter known done (stand end.output old) (stand mid now)
-    → StopsAtLog filter known more (record end { output = mid }) → StopsAtLog filter known names end
-stops_behind_names filter known done more rest names end mid old now e f s = record {
+    → FiltersNames filter known done missed (stand end.output old) (stand mid now) end.errors between
+    → StopsAtLog filter known more (record end { output = mid; errors = between }) → StopsAtLog filter known names end
+stops_behind_names filter known done more rest names missed end mid between old now e f s = record {
   before = done ++ s.before;
   name = s.name;
   behind = s.behind ++ rest;
   output = f.output ++ s.output;
   selected = f.count + s.selected;
+  texts = f.text ++ s.texts;
+  missed = missed || s.missed;
   lines = s.lines;
   added = s.added;
   more = s.more;
   fault = s.fault;
   logs = e ∙ ap (λ l. done ++ (l ++ rest)) s.logs ∙ ap (λ l. done ++ l) (append_assoc s.before (s.name ∷ s.behind) rest) ∙ sym (append_assoc done s.before (s.name ∷ (s.behind ++ rest)));
-  filters = filters_both filter known done s.before f.output s.output f.count s.selected f.filters s.filters;
+  filters = logs_both filter known done s.before f.output s.output f.count s.selected f.text s.texts missed s.missed f.filters s.filters;
   first = s.first;
   halts = s.halts;
-  wrote = wrote_same s.fault end _ _ (sym (append_assoc f.output s.output s.added)) (wrote_behind s.fault end mid f.output (s.output ++ s.added) f.puts s.wrote);
-  told = s.told;
+  wrote = wrote_same s.fault end _ _ (sym (append_assoc f.output s.output s.added)) (wrote_behind s.fault end mid between f.output (s.output ++ s.added) f.puts s.wrote);
+  told = tells_same end.errors end.errors_after _ _ (sym (append_assoc f.text s.texts (log_fault_text s.name (length s.lines) s.fault)))
+      (tells_more end.errors between end.errors_after f.text (s.texts ++ log_fault_text s.name (length s.lines) s.fault) f.tells s.told);
   status = s.status;
 }
 
@@ -195,36 +197,37 @@ names_apart files i name e =
 
 module _ {Z : Type 0} (filter : Filter) (known : KnownLists) (files : List (String Z)) where
   -- there is none
-  pub input_named : (old new : Stand) → (length files == 0) ≡ true → FiltersNames filter known (codes "-" ∷ []) old new → FiltersNames filter known (logs_of files) old new
-  input_named old new none h = subst (λ (n : List (List ℕ)). FiltersNames filter known n old new) (sym (logs_none files none)) h
-
-  pub input_stops : {W E : Type 0} (end : Ending W E) → (length files == 0) ≡ true → StopsAtLog filter known (codes "-" ∷ []) end → StopsAtLog filter known (logs_of files) end
-  input_stops end none h = subst (λ (n : List (List ℕ)). StopsAtLog filter known n end) (sym (logs_none files none)) h
+  pub input_filtered : {W E : Type 0} (result : Option Bool) (end : Ending W E) (old new : Stand) → (length files == 0) ≡ true
+      → MatchOption result (StopsAtLog filter known (codes "-" ∷ []) end) (λ missed. FiltersNames filter known (codes "-" ∷ []) missed old new end.errors end.errors_after)
+      → MatchOption result (StopsAtLog filter known (logs_of files) end) (λ missed. FiltersNames filter known (logs_of files) missed old new end.errors end.errors_after)
+  input_filtered result end old new none h =
+      subst (λ (n : List (List ℕ)). MatchOption result (StopsAtLog filter known n end) (λ missed. FiltersNames filter known n missed old new end.errors end.errors_after)) (sym (logs_none files none)) h
 
   -- the one at a place was filtered too
-  pub one_more : (i : ℕ) (name : List ℕ) (old mid new : Stand) → map string_bytes (take (i + 1) files) ≡ map string_bytes (take i files) ++ name ∷ []
-      → FiltersNames filter known (map string_bytes (take i files)) old mid → FiltersNames filter known (name ∷ []) mid new
-      → FiltersNames filter known (map string_bytes (take (i + 1) files)) old new
-  one_more i name old mid new e f g =
-      subst (λ (n : List (List ℕ)). FiltersNames filter known n old new) (sym e) (names_both filter known (map string_bytes (take i files)) (name ∷ []) old mid new f g)
+  pub one_more : {E : Type 0} (i : ℕ) (name : List ℕ) (x y : Bool) (old mid new : Stand) (errors between told : Written E) → map string_bytes (take (i + 1) files) ≡ map string_bytes (take i files) ++ name ∷ []
+      → FiltersNames filter known (map string_bytes (take i files)) x old mid errors between → FiltersNames filter known (name ∷ []) y mid new between told
+      → FiltersNames filter known (map string_bytes (take (i + 1) files)) (x || y) old new errors told
+  one_more i name x y old mid new errors between told e f g =
+      subst (λ (n : List (List ℕ)). FiltersNames filter known n (x || y) old new errors told) (sym e)
+      (names_both filter known (map string_bytes (take i files)) (name ∷ []) x y old mid new errors between told f g)
 
   -- all were
-  pub all_named : (i : ℕ) (old new : Stand) → (length files == 0) ≡ false → length files ≤ i → FiltersNames filter known (map string_bytes (take i files)) old new
-      → FiltersNames filter known (logs_of files) old new
-  all_named i old new some past h =
-      subst (λ (n : List (List ℕ)). FiltersNames filter known n old new) (ap (map string_bytes) (take_all i files past) ∙ sym (logs_some files some)) h
+  pub all_named : {E : Type 0} (i : ℕ) (missed : Bool) (old new : Stand) (errors told : Written E) → (length files == 0) ≡ false → length files ≤ i
+      → FiltersNames filter known (map string_bytes (take i files)) missed old new errors told → FiltersNames filter known (logs_of files) missed old new errors told
+  all_named i missed old new errors told some past h =
+      subst (λ (n : List (List ℕ)). FiltersNames filter known n missed old new errors told) (ap (map string_bytes) (take_all i files past) ∙ sym (logs_some files some)) h
 
   -- the one at a place stopped
-  pub one_stops : {W E : Type 0} (i : ℕ) (name : List ℕ) (output mid after : Written W) (errors silent told : Written E) (old now : Tally)
-      → silent ≡ errors → (length files == 0) ≡ false → map string_bytes (take (i + 1) files) ≡ map string_bytes (take i files) ++ name ∷ []
-      → FiltersNames filter known (map string_bytes (take i files)) (stand output old) (stand mid now)
-      → StopsAtLog filter known (name ∷ []) (ending mid after silent told 2)
+  pub one_stops : {W E : Type 0} (i : ℕ) (name : List ℕ) (missed : Bool) (output mid after : Written W) (errors between told : Written E) (old now : Tally)
+      → (length files == 0) ≡ false → map string_bytes (take (i + 1) files) ≡ map string_bytes (take i files) ++ name ∷ []
+      → FiltersNames filter known (map string_bytes (take i files)) missed (stand output old) (stand mid now) errors between
+      → StopsAtLog filter known (name ∷ []) (ending mid after between told 2)
       → StopsAtLog filter known (logs_of files) (ending output after errors told 2)
-  one_stops {W} {E} i name output mid after errors silent told old now same some more f s =
+  one_stops {W} {E} i name missed output mid after errors between told old now some more f s =
       let end : Ending W E = ending output after errors told 2 in
       subst (λ (n : List (List ℕ)). StopsAtLog filter known n end) (sym (logs_some files some))
-      (stops_behind_names filter known (map string_bytes (take i files)) (name ∷ []) (map string_bytes (drop (i + 1) files)) (map string_bytes files) end mid old now (names_apart files i name more) f
-      (subst (λ (o : Written E). StopsAtLog filter known (name ∷ []) (ending mid after o told 2)) same s))
+      (stops_behind_names filter known (map string_bytes (take i files)) (name ∷ []) (map string_bytes (drop (i + 1) files)) (map string_bytes files) missed end mid between old now
+      (names_apart files i name more) f s)
 
 -- ---- all logs
 
@@ -234,36 +237,29 @@ total_same true told count e =
     ap (λ n. decimal n ++ codes "\n") same
 total_same false told count e = refl
 
-positive : (number : ℕ) → 0 < number → nat_lt 0 number ≡ true
-positive number some = grind (arith, nat_tests)
-
-status_same : (told count : ℕ) → told ≡ min count (2 ^ 64 - 1) → nat_lt 0 told ≡ nat_lt 0 count
-status_same zero zero e = refl
-status_same zero (suc count) e = absurd (omega (arith, e))
-status_same (suc told) zero e = absurd (omega (arith, e))
-status_same (suc told) (suc count) e = positive (suc told) (omega arith) ∙ sym (positive (suc count) (omega arith))
-
 counted_told : (told count : ℕ) → Counts 0 told count → told ≡ min count (2 ^ 64 - 1)
 counted_told told count counted = let e = counted (omega arith) in omega (arith, e)
 
-module _ {W E T F : Type 0} (filter : Filter) (known : KnownLists) (names : List (List ℕ)) (end : Ending W E) (mid : Written W) (told : ℕ) where
-  pub all_ended : (written : Result T F) (status : ℕ) (old now : Tally) → old.selected ≡ 0 → now.selected ≡ told
-      → FiltersNames filter known names (stand end.output old) (stand mid now)
+module _ {W E T F : Type 0} (filter : Filter) (known : KnownLists) (names : List (List ℕ)) (missed : Bool) (end : Ending W E) (mid : Written W) (between : Written E) (told : ℕ) where
+  all_ended : (written : Result T F) (status : ℕ) (old now : Tally) → old.selected ≡ 0 → now.selected ≡ told
+      → FiltersNames filter known names missed (stand end.output old) (stand mid now) end.errors between
       → OnOk written (Writes mid end.output_after (total_text filter.counts told))
       → OnErr written (FailsIn mid end.output_after (total_text filter.counts told))
-      → end.output_after.failed ≡ (mid.failed || is_err written) → status ≡ (if nat_lt 0 told then 0 else 1) → end.status ≡ status_of written status
-      → HasTold end (end_text written) → FiltersAll filter known names end
+      → end.output_after.failed ≡ (mid.failed || is_err written) → status ≡ status_by missed told → end.status ≡ status_of written status
+      → Tells between end.errors_after (end_text written) → FiltersAll filter known names end
   all_ended (Ok done) status old now none same f ok err failed st two tells =
       let counted = counted_told told f.count (subst (λ n. Counts n told f.count) none (subst (λ n. Counts old.selected n f.count) same f.counted)) in
       record {
         output = f.output;
         selected = f.count;
+        texts = f.text;
+        missed = missed;
         filters = f.filters;
         ends = inl (
           puts_then_all _ _ _ _ _ f.output (total_text filter.counts f.count) f.puts
               (subst (λ t. Writes mid end.output_after t) (total_same filter.counts told f.count counted) ok),
-          tells,
-          two ∙ st ∙ ap (λ b. if b then 0 else 1) (status_same told f.count counted),
+          tells_same end.errors end.errors_after (f.text ++ []) f.text (append-nil f.text) (tells_more end.errors between end.errors_after f.text [] f.tells tells),
+          two ∙ st ∙ ap (λ (b : Bool). if missed then 2 else if b then 0 else 1) (same_test told f.count counted),
         );
       }
   all_ended (Err fault) status old now none same f ok err failed st two tells =
@@ -271,6 +267,8 @@ module _ {W E T F : Type 0} (filter : Filter) (known : KnownLists) (names : List
       record {
         output = f.output;
         selected = f.count;
+        texts = f.text;
+        missed = missed;
         filters = f.filters;
         ends = inr (
           (
@@ -278,7 +276,7 @@ module _ {W E T F : Type 0} (filter : Filter) (known : KnownLists) (names : List
             begins_after_puts _ _ _ _ _ f.output (total_text filter.counts f.count) f.puts
                 (subst (λ t. FailsIn mid end.output_after t) (total_same filter.counts told f.count counted) err),
           ),
-          tells,
+          tells_more end.errors between end.errors_after f.text (codes "write error\n") f.tells tells,
           two,
         );
       }
@@ -322,7 +320,6 @@ nothing_told counts number e = ap (λ b. if b then decimal (min number (2 ^ 64 -
 -- ---- what was written when a log stopped
 
 pub stops_else : {W E : Type 0} (name : List ℕ) (lines : ℕ) (fault : LogFault) (end : Ending W E) → ¬ (fault ≡ faults.Write) → HandsOn name lines fault end → StopsBy name lines fault end
-stops_else name lines faults.Open end not h = h
 stops_else name lines faults.Read end not h = h
 stops_else name lines faults.Write end not h = absurd (not refl)
 stops_else name lines faults.Address end not h = h
@@ -385,15 +382,19 @@ module _ {Z W E : Type 0} (known : KnownLists) (words : List (String Z)) (reques
           → EndsRequest known words request end
       logs_filtered held has h = goes_on (inr (held, subst (λ (l : Result Listed X). IfOk l (HoldsRead request.longest was_read.read)) has was_read.holds, h))
 
--- nothing was told before
-pub all_by : {W E T F : Type 0} (filter : Filter) (known : KnownLists) (names : List (List ℕ))
-    (output mid after : Written W) (errors silent told_errors : Written E) (status told : ℕ) → silent ≡ errors → (written : Result T F) (wanted : ℕ) (old now : Tally) → old.selected ≡ 0 → now.selected ≡ told
-    → FiltersNames filter known names (stand output old) (stand mid now)
+-- how all logs ended
+pub all_by : {W E T F : Type 0} (filter : Filter) (known : KnownLists) (names : List (List ℕ)) (missed : Bool)
+    (output mid after : Written W) (errors between told_errors : Written E) (status told : ℕ) (written : Result T F) (wanted : ℕ) (old now : Tally) → old.selected ≡ 0 → now.selected ≡ told
+    → FiltersNames filter known names missed (stand output old) (stand mid now) errors between
     → OnOk written (Writes mid after (total_text filter.counts told))
     → OnErr written (FailsIn mid after (total_text filter.counts told))
-    → after.failed ≡ (mid.failed || is_err written) → wanted ≡ (if nat_lt 0 told then 0 else 1) → status ≡ status_of written wanted
-    → Tells silent told_errors (end_text written)
+    → after.failed ≡ (mid.failed || is_err written) → wanted ≡ status_by missed told → status ≡ status_of written wanted
+    → Tells between told_errors (end_text written)
     → FiltersAll filter known names (ending output after errors told_errors status)
-all_by {W} {E} filter known names output mid after errors silent told_errors status told same written wanted old now none is f ok err failed st two text =
-    all_ended filter known names (ending output after errors told_errors status) mid told
-    written wanted old now none is f ok err failed st two (subst (λ (o : Written E). Tells o told_errors (end_text written)) same text)
+all_by filter known names missed output mid after errors between told_errors status told written wanted old now none is f ok err failed st two text =
+    all_ended filter known names missed (ending output after errors told_errors status) mid between told written wanted old now none is f ok err failed st two text
+
+-- ---- the words with the options in front
+
+pub asked_same : {Z W E : Type 0} (program usage : List ℕ) (known : KnownLists) (a b : List (String Z)) (end : Ending W E) → a ≡ b → EndsAsked program usage known a end → EndsAsked program usage known b end
+asked_same {Z} program usage known a b end e h = subst (λ (ws : List (String Z)). EndsAsked program usage known ws end) e h

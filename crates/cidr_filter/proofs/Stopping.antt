@@ -9,6 +9,7 @@ use Rattle.lines.specs.Outputs.{Puts, AppendsBeginning}
 use Rattle.lines.specs.declared.line_buffer.NextLine.TheVariants.{Line, TooLong, End}
 use Rattle.lines.specs.declared.line_end.LineEnd.{LineEnd}
 use Rattle.lines.proofs.Putting.{begins_after_puts}
+use Rattle.cidr_filter.specs.Addressed.{any_addressed}
 use Rattle.cidr_filter.specs.Filters.{Judges, is_refused, is_selected, one_if, output_of, Filters}
 use Rattle.cidr_filter.specs.Lines.{LogLine, log_lines, ended_lines, content, printed}
 use Rattle.cidr_filter.specs.Stands.{Stand, Goes}
@@ -167,7 +168,6 @@ module _ (filter_by : Filter) where
       pub line_stops : (read_failed write_failed : Bool) (fault : LogFault)
           → LineStops filter_by line (whole ++ feed_behind end) write_failed mid new fault
           → Stops filter_by remained remains read_failed write_failed old new fault
-      line_stops read_failed write_failed faults.Open h = absurd h
       line_stops read_failed write_failed faults.Read h = absurd h
       line_stops read_failed write_failed faults.Write h = (
         h.0,
@@ -193,9 +193,9 @@ module _ (filter_by : Filter) where
     -- ---- at the end of the log
 
     pub log_ends : (new : Stand) → ((pending : List ℕ) → IsPending was pending
-        → Gives now pending End) → Goes mid new [] 0 0
+        → Gives now pending End) → new.addressed ≡ mid.addressed → Goes mid new [] 0 0
         → Ends filter_by remained remains old new
-    log_ends new gives goes =
+    log_ends new gives seen goes =
         let given = gives s.pending s.holds in
         let lines : log_lines s.read ≡ s.first = all_lines was.ended s.read s.first s.pending
         s.lines ∙ ap (λ l. s.first ++ log_lines l) given.0 ∙ append-nil s.first in
@@ -209,6 +209,8 @@ module _ (filter_by : Filter) where
               (sym lines) s.filters;
           goes = subst (λ (ls : List LogLine). Goes old new s.added s.count (length ls)) (sym lines)
               (goes_still old mid new s.added s.count (length s.first) s.goes goes);
+          addressed = seen ∙ s.addressed
+              ∙ ap (λ (ls : List LogLine). old.addressed || any_addressed filter_by ls) (sym lines);
         }
 
   -- ---- a writer that fails to take what waits

@@ -1,4 +1,6 @@
 -- What the contracts of this crate cite.
+pub mod Addressed
+pub mod Arranged
 pub mod CommandLines
 pub mod Fields
 pub mod Filters

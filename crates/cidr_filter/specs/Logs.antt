@@ -1,8 +1,9 @@
 -- Logs that are filtered in turn.
-use Rattle.std.specs.Prelude.{◌≡◌, ℕ, ◌+◌, ◌-◌, ◌^◌, ◌<◌, Bool, true, false, List, [], ◌∷◌, ◌++◌, length, map, codes, Some, String}
+use Rattle.std.specs.Prelude.{◌≡◌, ℕ, ◌+◌, ◌-◌, ◌^◌, ◌<◌, ◌||◌, ◌⊎◌, Bool, true, false, List, [], ◌∷◌, ◌++◌, length, map, codes, Some, String}
 use Rattle.std.specs.String.{string_bytes}
 use Rattle.lines.specs.Parts.{IsBeginning}
 use Rattle.lists.specs.KnownLists.{KnownLists}
+use Rattle.cidr_filter.specs.Addressed.{lacking_text, closed_text}
 use Rattle.cidr_filter.specs.Filters.{Judges, is_refused, Filters}
 use Rattle.cidr_filter.specs.Lines.{LogLine, log_lines, ended_lines, content, IsWhole}
 use Rattle.cidr_filter.specs.declared.filter.Filter.{Filter}
@@ -10,6 +11,7 @@ use Rattle.cidr_filter.specs.declared.filter.Verdict.{Verdict}
 use Rattle.cidr_filter.specs.declared.filter.Verdict.TheVariants as verdicts
 use Rattle.cidr_filter.specs.declared.log.LogFault.{LogFault}
 use Rattle.cidr_filter.specs.declared.log.LogFault.TheVariants as faults
+use Rattle.cidr_filter.specs.declared.opening.OpenFault.{OpenFault}
 
 -- the names of the logs: the FILEs, or `-`, which is standard input, if there is none
 abbrev pub logs_of : {Z : Type 0} → List (String Z) → List (List ℕ)
@@ -24,13 +26,25 @@ IsAllOf known name read = known.may_open name true × ((input : List ℕ) → kn
 abbrev pub IsFirstOf : KnownLists → List ℕ → List ℕ → Type 0
 IsFirstOf known name read = (input : List ℕ) → known.bytes_of name ≡ Some input → IsBeginning read input
 
--- the logs of these names were read to their ends: this is the output of their lines, one log after the other, and this
--- many lines of all of them were selected
-abbrev pub FiltersLogs : Filter → KnownLists → List (List ℕ) → List ℕ → ℕ → Type 0
-FiltersLogs filter known [] output selected = (output ≡ []) × (selected ≡ 0)
-FiltersLogs filter known (name ∷ names) output selected = (read : List ℕ) × (added : List ℕ) × (others : List ℕ) × (one : ℕ) × (more : ℕ)
-    × IsAllOf known name read × Filters filter (log_lines read) added one × FiltersLogs filter known names others more
-    × (output ≡ added ++ others) × (selected ≡ one + more)
+-- the log of this name was read to its end: this is the output of its lines, this many of them were selected, and it is
+-- reported if none of them has an address
+abbrev pub ReadsLog : Filter → KnownLists → List ℕ → List ℕ → ℕ → List ℕ → Type 0
+ReadsLog filter known name output selected told = (read : List ℕ) × IsAllOf known name read × Filters filter (log_lines read) output selected
+    × (told ≡ lacking_text filter name (log_lines read))
+
+-- or it cannot be opened, which is reported with the cause
+abbrev pub MissesLog : KnownLists → List ℕ → List ℕ → ℕ → List ℕ → Type 0
+MissesLog known name output selected told = (fault : OpenFault) × known.may_open name false × (output ≡ []) × (selected ≡ 0) × (told ≡ closed_text name fault)
+
+-- the logs of these names were read to their ends, or could not be opened, one after the other: this is the output of
+-- their lines, this many of them were selected, this is reported, and whether one could not be opened
+abbrev pub FiltersLogs : Filter → KnownLists → List (List ℕ) → List ℕ → ℕ → List ℕ → Bool → Type 0
+FiltersLogs filter known [] output selected told missed = (output ≡ []) × (selected ≡ 0) × (told ≡ []) × (missed ≡ false)
+FiltersLogs filter known (name ∷ names) output selected told missed = (added : List ℕ) × (others : List ℕ) × (one : ℕ) × (more : ℕ) × (text : List ℕ) × (texts : List ℕ)
+    × (is_missed : Bool) × (are_missed : Bool)
+    × ((ReadsLog filter known name added one text × (is_missed ≡ false)) ⊎ (MissesLog known name added one text × (is_missed ≡ true)))
+    × FiltersLogs filter known names others more texts are_missed
+    × (output ≡ added ++ others) × (selected ≡ one + more) × (told ≡ text ++ texts) × (missed ≡ (is_missed || are_missed))
 
 -- of the log of this name some bytes were read; after these first lines of them a line of this verdict ends the run,
 -- which is a line whatever comes after it
@@ -46,8 +60,6 @@ pub record RefusesAfter (filter : Filter) (known : KnownLists) (name : List ℕ)
 
 -- the log of this name is not filtered to its end, by the fault, but these first lines are
 abbrev pub HaltsBy : Filter → KnownLists → List ℕ → List LogLine → LogFault → Type 0
--- it was not opened
-HaltsBy filter known name lines faults.Open = (lines ≡ []) × known.may_open name false
 -- a read failed: the lines of which the line feed was read
 HaltsBy filter known name lines faults.Read =
     (read : List ℕ) × IsFirstOf known name read × (lines ≡ ended_lines read) × known.may_open name true × known.may_fail name

@@ -1,5 +1,6 @@
 -- How a run ends: its exit status, what was written, and what was reported.
-use Rattle.std.specs.Prelude.{◌≡◌, ℕ, ◌-◌, ◌^◌, min, List, [], ◌∷◌, ◌++◌, Bool, true, false, ◌⊎◌, if◌then◌else◌, length, nat_lt, take, drop, codes, decimal, String}
+use Rattle.std.specs.Prelude.{◌≡◌, ℕ, ◌-◌, ◌^◌, min, List, [], ◌∷◌, ◌++◌, Bool, true, false, ◌⊎◌, if◌then◌else◌, length, map, nat_lt, take, drop, codes, decimal, String}
+use Rattle.std.specs.String.{string_bytes}
 use Rattle.std.specs.Option.{unwrap_or}
 use Rattle.lists.specs.Lists.{ReadLists, nothing_read}
 use Rattle.lists.specs.Refusals.{Refused, no_refusals}
@@ -11,6 +12,7 @@ use Rattle.program.specs.Told.{was_refused, fault_text, refusals_text}
 use Rattle.lists.specs.declared.named.ReadFault.{ReadFault}
 use Rattle.lists.specs.KnownLists.{KnownLists}
 use Rattle.program.specs.Usage.{usage_text}
+use Rattle.cidr_filter.specs.Arranged.{arranged}
 use Rattle.cidr_filter.specs.CommandLines.{Says, AsksNothing}
 use Rattle.cidr_filter.specs.Filters.{Filters}
 use Rattle.cidr_filter.specs.Logs.{logs_of, FiltersLogs, HaltsBy}
@@ -35,46 +37,53 @@ FailsWriting end text = (end.output_after.failed ≡ true)
 
 -- the text was written, unless it was a write that ended the run
 abbrev pub Wrote : {W E : Type 0} → LogFault → Ending W E → List ℕ → Type 0
-Wrote faults.Open end text = HasWritten end text
 Wrote faults.Read end text = HasWritten end text
 Wrote faults.Write end text = FailsWriting end text
 Wrote faults.Address end text = HasWritten end text
 Wrote faults.Length end text = HasWritten end text
 Wrote faults.Endless end text = HasWritten end text
 
--- a log was not filtered to its end, and ended the run: those before it were filtered, and its first lines; their
--- outputs were written, the cause was reported, and the status is 2
+-- a log that was opened was not filtered to its end, and ended the run: those before it were filtered, and its first
+-- lines; their outputs were written, the cause was reported after what there is to report of them, and the status is 2
 pub record StopsAtLog {W E : Type 0} (filter : Filter) (known : KnownLists) (names : List (List ℕ)) (end : Ending W E) : Type 0 where
   pub before : List (List ℕ)
   pub name : List ℕ
   pub behind : List (List ℕ)
   pub output : List ℕ
   pub selected : ℕ
+  pub texts : List ℕ
+  pub missed : Bool
   pub lines : List LogLine
   pub added : List ℕ
   pub more : ℕ
   pub fault : LogFault
   pub logs : names ≡ before ++ name ∷ behind
-  pub filters : FiltersLogs filter known before output selected
+  pub filters : FiltersLogs filter known before output selected texts missed
   pub first : Filters filter lines added more
   pub halts : HaltsBy filter known name lines fault
   pub wrote : Wrote fault end (output ++ added)
-  pub told : HasTold end (log_fault_text name (length lines) fault)
+  pub told : HasTold end (texts ++ log_fault_text name (length lines) fault)
   pub status : end.status ≡ 2
 
 -- if lines are counted, one line says how many lines of all logs were selected, up to the greatest number of 64 bits
 abbrev pub total_text : Bool → ℕ → List ℕ
 total_text counts selected = if counts then decimal (min selected (2 ^ 64 - 1)) ++ codes "\n" else []
 
--- all logs were filtered to their ends
+-- the status is 2 if a log could not be opened, and else 0 if a line was selected, and 1 if none was
+abbrev pub status_by : Bool → ℕ → ℕ
+status_by missed selected = if missed then 2 else if nat_lt 0 selected then 0 else 1
+
+-- all logs were filtered to their ends, but those that could not be opened
 pub record FiltersAll {W E : Type 0} (filter : Filter) (known : KnownLists) (names : List (List ℕ)) (end : Ending W E) : Type 0 where
   pub output : List ℕ
   pub selected : ℕ
-  pub filters : FiltersLogs filter known names output selected
-  -- their output was written and nothing reported, and the status is 0 if a line was selected and else 1; or the writer
-  -- failed, and that was reported
-  pub ends : (HasWritten end (output ++ total_text filter.counts selected) × HasTold end [] × (end.status ≡ (if nat_lt 0 selected then 0 else 1)))
-      ⊎ (FailsWriting end (output ++ total_text filter.counts selected) × HasTold end (codes "write error\n") × (end.status ≡ 2))
+  pub texts : List ℕ
+  pub missed : Bool
+  pub filters : FiltersLogs filter known names output selected texts missed
+  -- their output was written, and what there is to report of them was reported; or the writer failed, and that was
+  -- reported after it
+  pub ends : (HasWritten end (output ++ total_text filter.counts selected) × HasTold end texts × (end.status ≡ status_by missed selected))
+      ⊎ (FailsWriting end (output ++ total_text filter.counts selected) × HasTold end (texts ++ codes "write error\n") × (end.status ≡ 2))
 
 -- the logs were filtered, in turn
 abbrev pub EndsLogs : {W E : Type 0} → Filter → KnownLists → List (List ℕ) → Ending W E → Type 0
@@ -122,11 +131,17 @@ EndsRequest {Z} {W} {E} known words request end = (refused : Refused) × (told :
     × (StopsReading known words refused (record end { errors = told })
     ⊎ ((read : ReadLists) × IsReadOf known words read × (read.refused ≡ refused) × EndsFiltering known words request read (record end { errors = told })))
 
+-- the words say a request, which is done, or something is wrong with them, and that and the usage are reported
+abbrev pub EndsAsked : {Z W E : Type 0} → List ℕ → List ℕ → KnownLists → List (String Z) → Ending W E → Type 0
+EndsAsked program usage known words end =
+    ((request : Request) × Says words request × EndsRequest known words request end)
+    ⊎ ((fault : UsageFault) × AsksNothing words × HasFault words fault
+    × Refuses (usage_text program usage words fault.subject (problem_text fault.problem)) end)
+
 -- how a run ends of a program of this name, help, version and usage: with the help or the version, if the words ask for
--- it. Else they say a request, which is done, or something is wrong with them, and that and the usage are reported
+-- it. Else they are read with the options in front, unless there is no memory for that
 abbrev pub EndsAs : {Z W E : Type 0} → List ℕ → List ℕ → List ℕ → List ℕ → KnownLists
     → List (String Z) → Ending W E → Type 0
-EndsAs program help version usage known words end = EndsRun help version words
-    (((request : Request) × Says words request × EndsRequest known words request end)
-    ⊎ ((fault : UsageFault) × AsksNothing words × HasFault words fault
-    × Refuses (usage_text program usage words fault.subject (problem_text fault.problem)) end)) end
+EndsAs {Z} program help version usage known words end = EndsRun help version words
+    (Refuses (codes "out of memory\n") end
+    ⊎ ((asked : List (String Z)) × (map string_bytes asked ≡ arranged words) × EndsAsked program usage known asked end)) end

@@ -1,17 +1,19 @@
 -- Where a run stands.
-use Rattle.std.specs.Prelude.{◌≡◌, ℕ, ◌+◌, ◌-◌, ◌^◌, ◌≤◌, min, List, Option}
+use Rattle.std.specs.Prelude.{◌≡◌, ℕ, ◌+◌, ◌-◌, ◌^◌, ◌≤◌, min, Bool, List, Option}
 use Rattle.lines.specs.Outputs.{Written, Puts}
 use Rattle.cidr_filter.specs.declared.log.Tally.{Tally}
 
--- what the writer holds, what waits, how many lines of all logs were selected, and how many of this log were filtered
+-- what the writer holds, what waits, how many lines of all logs were selected, how many of this log were filtered, and
+-- whether one of these has an address
 pub record Stand : Type 0 where
   pub holds : Option (List ℕ)
   pub waits : List ℕ
   pub selected : ℕ
   pub lines : ℕ
+  pub addressed : Bool
 
 abbrev pub stand : {W : Type 0} → Written W → Tally → Stand
-stand output tally = record { holds = output.holds; waits = output.waits; selected = tally.selected; lines = tally.lines }
+stand output tally = record { holds = output.holds; waits = output.waits; selected = tally.selected; lines = tally.lines; addressed = tally.is_addressed }
 
 -- 64 bits count this many more
 abbrev pub Counts : ℕ → ℕ → ℕ → Type 0

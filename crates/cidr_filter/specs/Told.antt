@@ -31,7 +31,6 @@ line_text name before cause = name ++ codes ":" ++ decimal (min (before + 1) (2 
 
 -- what is reported if a log was not filtered to its end, after this many of its lines
 abbrev pub log_fault_text : List ℕ → ℕ → LogFault → List ℕ
-log_fault_text name before faults.Open = name ++ codes ": cannot open\n"
 log_fault_text name before faults.Read = name ++ codes ": cannot read\n"
 log_fault_text name before faults.Write = codes "write error\n"
 log_fault_text name before faults.Address = line_text name before (codes "address")

@@ -1,6 +1,7 @@
 //! What a line is to the lists, and whether it is selected.
-ghost use Rattle.std.specs.Prelude.{◌≡◌, ◌≤◌, Some, MatchOption};
+ghost use Rattle.std.specs.Prelude.{◌≡◌, ◌≤◌, ◌||◌, Some, MatchOption};
 ghost use Rattle.line_addresses.specs.Addresses.{addresses_of};
+ghost use Rattle.cidr_filter.specs.Addressed.{is_addressed_by};
 ghost use Rattle.cidr_filter.specs.Filters.{is_listed, Judges, JudgesAddresses, IsListed, TellsBlock, asked, asked_of, of_part, of_rest, spelled_at, is_selected, is_refused};
 
 use crate::field::field_of;
@@ -83,6 +84,27 @@ pub enum Verdict {
     Bad,
     /// It has more than 1,048,576 bytes, not counting its line end.
     TooLong,
+}
+
+impl Verdict {
+    /// Whether a line of this verdict has an address where it is looked for, or one before it has.
+    pub(crate) fn is_addressed_or(&self, before: bool) -> bool
+        ensures { result ≡ (before || is_addressed_by self.now) }
+    {
+        before || self.is_addressed()
+    }
+
+    // Whether a line of this verdict has one. A line that is too long has none.
+    fn is_addressed(&self) -> bool
+        ensures { result ≡ is_addressed_by self.now }
+    {
+        match *self {
+            Verdict::Inside(_) => true,
+            Verdict::Outside => true,
+            Verdict::Bad => false,
+            Verdict::TooLong => false,
+        }
+    }
 }
 
 /// What decides which lines are selected.

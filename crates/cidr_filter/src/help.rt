@@ -30,12 +30,13 @@ Prints the lines of logs whose address is in a list of IP networks.
     --help          print this text
     --version       print the version
 
-A FILE is a name, or - for standard input, as is no FILE at all. A line is printed as it was; a last line without a
-line feed gets one. A line has at most 1,048,576 bytes; a longer one has no address, and ends the program unless such lines are
-dropped.
+Options may stand behind FILEs; what follows a -- are FILEs. A FILE is a name, or - for standard input, as is no FILE
+at all. A line is printed as it was; a last line without a line feed gets one. A line has at most 1,048,576 bytes; a
+longer one has no address, and ends the program unless such lines are dropped. A FILE that cannot be opened is reported,
+and the others are read. So is a FILE with lines of which none has an address where it is looked for.
 
 Status: 0 if a line was printed or counted, 1 if none was, 2 on wrong usage, a refused line, a file that cannot be
-read, a failed write or out of memory.
+opened or read, a failed write or out of memory, 141 if standard output is a pipe that nobody reads any more.
 
 Examples:
     cidr_filter -f networks.txt access.log

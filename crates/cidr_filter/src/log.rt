@@ -19,8 +19,6 @@ use std::io::{Read, Write};
 /// Why a log is not filtered to its end.
 #[derive(Clone, Copy, Debug, PartialEq, Eq)]
 pub enum LogFault {
-    /// The log cannot be opened.
-    Open,
     /// A read failed.
     Read,
     /// A write failed.
@@ -40,6 +38,8 @@ pub struct Tally {
     pub selected: u64,
     /// How many lines of this log came before the one that is read.
     pub lines: u64,
+    /// Whether one of these has an address where it is looked for.
+    pub is_addressed: bool,
 }
 
 /// Filters the lines of a log: those that are selected are written, or only counted.
@@ -134,6 +134,7 @@ fn filter_line<W: Write>(
         return Err(refusal_of(&verdict));
     }
     tally.lines = tally.lines.saturating_add(1);
+    tally.is_addressed = verdict.is_addressed_or(tally.is_addressed);
     if !filter.selects(&verdict) {
         return Ok(());
     }
@@ -160,6 +161,7 @@ fn select_line<W: Write>(
         ++ (if filter.now.counts then []
         else shown_of filter.now verdict.now line.now (whole.now ++ feed_behind end)))) }
     ensures fault { IsOkUnless result LogFault.Write }
+    ensures addressed { tally.new.is_addressed ≡ tally.old.is_addressed }
     ensures writer_failed { output.new.failed ≡ (output.old.failed || ended_by_write result) }
 {
     tally.selected = tally.selected.saturating_add(1);

@@ -1,16 +1,17 @@
 //! Filters the logs of a run in turn.
-ghost use Rattle.std.specs.Prelude.{◌≡◌, ◌≤◌, ◌++◌, ◌||◌, ◌∷◌, [], true, false, decimal, length, nat_lt, if◌then◌else◌, is_err, OnOk, OnErr};
+ghost use Rattle.std.specs.Prelude.{◌≡◌, ◌≤◌, ◌++◌, ◌||◌, ◌∷◌, [], decimal, length, is_err, OnOk, OnErr, MatchOption};
 ghost use Rattle.std.specs.Io.KnownBytes.{Appends};
 ghost use Rattle.lines.specs.Outputs.{Prints, Writes, FailsIn};
 ghost use Rattle.cidr_filter.specs.Logs.{logs_of};
 ghost use Rattle.program.specs.Endings.{ending};
-ghost use Rattle.cidr_filter.specs.Runs.{EndsLogs, StopsAtLog, total_text};
+ghost use Rattle.cidr_filter.specs.Runs.{EndsLogs, StopsAtLog, total_text, status_by};
 ghost use Rattle.cidr_filter.specs.Stands.{stand};
 ghost use Rattle.cidr_filter.specs.Private.Runs.{FiltersNames, StopsBy};
 
 use crate::filter::Filter;
 use crate::log::{LogFault, Tally, filter_log};
-use crate::telling::tell_log_fault;
+use crate::opening::open_fault;
+use crate::telling::{tell_closed, tell_lacking, tell_log_fault};
 use lines::fault::RunFault;
 use lines::output::Output;
 use lines::watched::Watched;
@@ -41,16 +42,19 @@ pub(crate) fn filter_logs<L: OpenLists, W: Write, E: Write>(
     let mut tally = Tally {
         selected: 0,
         lines: 0,
+        is_addressed: false,
     };
-    if !filter_each(filter, files, lists, buffer, output, &mut tally, errors) {
-        return FAILED;
+    match filter_each(filter, files, lists, buffer, output, &mut tally, errors) {
+        Some(missed) => {
+            let written = write_end(filter.counts, tally.selected, output);
+            end(written, status(missed, tally.selected), errors)
+        }
+        None => FAILED,
     }
-    let written = write_end(filter.counts, tally.selected, output);
-    end(written, status(tally.selected), errors)
 }
 
-// Filters the logs of these names, or standard input, and returns whether all came to their ends. If not, the cause is
-// reported.
+// Filters the logs of these names, or standard input, and returns whether one of them could not be opened, which is
+// reported. If one that was opened did not come to its end, the cause is reported, and there is no answer.
 fn filter_each<L: OpenLists, W: Write, E: Write>(
     filter: &Filter,
     files: &[String],
@@ -59,29 +63,37 @@ fn filter_each<L: OpenLists, W: Write, E: Write>(
     output: &mut Output<'_, W>,
     tally: &mut Tally,
     errors: &mut Output<'_, E>,
-) -> bool
+) -> Option<bool>
     requires { 1048578 ≤ length buffer.old }
-    ensures all { result ≡ true → (errors.new ≡ errors.old)
-        × FiltersNames filter.now (L.known lists.now) (logs_of files.now)
-        (stand output.old tally.old) (stand output.new tally.new) }
-    ensures stopped { result ≡ false
-        → StopsAtLog filter.now (L.known lists.now) (logs_of files.now)
-        (ending output.old output.new errors.old errors.new 2) }
+    ensures { MatchOption result
+        (StopsAtLog filter.now (L.known lists.now) (logs_of files.now)
+        (ending output.old output.new errors.old errors.new 2))
+        (λ missed. FiltersNames filter.now (L.known lists.now) (logs_of files.now) missed
+        (stand output.old tally.old) (stand output.new tally.new) errors.old errors.new) }
 {
     if files.is_empty() {
         let input = "-";
         return filter_one(filter, input, lists, buffer, output, tally, errors);
     }
+    let mut missed = false;
     for file in files {
         let name = file.as_str();
-        if !filter_one(filter, name, lists, buffer, output, tally, errors) {
-            return false;
-        }
+        let Some(more) = filter_one(filter, name, lists, buffer, output, tally, errors) else {
+            return None;
+        };
+        missed = either(missed, more);
     }
-    true
+    Some(missed)
 }
 
-// Opens the log of this name and filters it, and returns whether it came to its end. If not, the cause is reported.
+// Whether one of two is so.
+fn either(first: bool, second: bool) -> bool
+    ensures { result ≡ (first || second) }
+{
+    first || second
+}
+
+// Opens the log of this name and filters it, and returns whether it could not be opened, as `filter_each` does.
 fn filter_one<L: OpenLists, W: Write, E: Write>(
     filter: &Filter,
     name: &str,
@@ -90,28 +102,34 @@ fn filter_one<L: OpenLists, W: Write, E: Write>(
     output: &mut Output<'_, W>,
     tally: &mut Tally,
     errors: &mut Output<'_, E>,
-) -> bool
+) -> Option<bool>
     requires { 1048578 ≤ length buffer.old }
-    ensures all { result ≡ true → (errors.new ≡ errors.old)
-        × FiltersNames filter.now (L.known lists.now) (name.now ∷ [])
-        (stand output.old tally.old) (stand output.new tally.new) }
-    ensures stopped { result ≡ false
-        → StopsAtLog filter.now (L.known lists.now) (name.now ∷ [])
-        (ending output.old output.new errors.old errors.new 2) }
+    ensures { MatchOption result
+        (StopsAtLog filter.now (L.known lists.now) (name.now ∷ [])
+        (ending output.old output.new errors.old errors.new 2))
+        (λ missed. FiltersNames filter.now (L.known lists.now) (name.now ∷ []) missed
+        (stand output.old tally.old) (stand output.new tally.new) errors.old errors.new) }
 {
     tally.lines = 0;
-    let Ok(log) = lists.open(name) else {
-        stop(name, LogFault::Open, tally.lines, output, errors);
-        return false;
+    tally.is_addressed = false;
+    let log = match lists.open(name) {
+        Ok(log) => log,
+        Err(error) => {
+            tell_closed(name, open_fault(error.kind()), errors);
+            return Some(true);
+        }
     };
     let mut log = Watched::new(log);
     let end = filter_log(filter, buffer, &mut log, output, tally);
     lists.close(name, log);
     match end {
-        Ok(()) => true,
+        Ok(()) => {
+            tell_lacking(&filter.place, name, tally.lines, tally.is_addressed, errors);
+            Some(false)
+        }
         Err(fault) => {
             stop(name, fault, tally.lines, output, errors);
-            false
+            None
         }
     }
 }
@@ -173,11 +191,13 @@ fn put_number<W: Write>(number: u64, output: &mut Output<'_, W>) -> Result<(), R
     output.put(number_text(number).as_str().as_bytes())
 }
 
-// The exit status by how many lines were selected.
-fn status(selected: u64) -> u8
-    ensures { result ≡ (if nat_lt 0 selected then 0 else 1) }
+// The exit status by whether a log could not be opened, and how many lines were selected.
+fn status(missed: bool, selected: u64) -> u8
+    ensures { result ≡ status_by missed selected }
 {
-    if selected > 0 {
+    if missed {
+        FAILED
+    } else if selected > 0 {
         SELECTED
     } else {
         NONE_SELECTED

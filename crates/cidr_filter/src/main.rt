@@ -1,6 +1,7 @@
 //! The lines of logs whose address is in a list of networks.
 #![tactic(auto)]
 
+mod arranging;
 mod command_line;
 mod field;
 mod filter;
@@ -9,6 +10,7 @@ mod laws;
 mod listed;
 mod log;
 mod logs;
+mod opening;
 mod options;
 mod printing;
 mod printing_addresses;

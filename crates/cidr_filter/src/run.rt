@@ -2,8 +2,9 @@
 ghost use Rattle.std.specs.Prelude.{◌≡◌, ◌≤◌, length, codes};
 ghost use Rattle.program.specs.Endings.{ending};
 ghost use Rattle.program.specs.Messages.{Tells};
-ghost use Rattle.cidr_filter.specs.Runs.{EndsRequest, EndsAs, place_of};
+ghost use Rattle.cidr_filter.specs.Runs.{EndsRequest, EndsAsked, EndsAs, place_of};
 
+use crate::arranging::arranged;
 use crate::command_line::{Request, request_of};
 use crate::filter::{Filter, LINE_MAX, Place, Text};
 use crate::help::{HELP, PROGRAM, USAGE, VERSION};
@@ -38,6 +39,23 @@ pub(crate) fn run<L: OpenLists, W: Write, E: Write>(
     if let Some(text) = text_asked(HELP, VERSION, words) {
         return print_text(text, output, errors);
     }
+    let Ok(asked) = arranged(alloc, words) else {
+        return refuse_memory(errors);
+    };
+    obey(alloc, asked.as_slice(), lists, output, errors)
+}
+
+// Does what the words ask for, of which the options come first, and returns the exit status.
+fn obey<L: OpenLists, W: Write, E: Write>(
+    alloc: Global,
+    words: &[String],
+    lists: &L,
+    output: &mut Output<'_, W>,
+    errors: &mut Output<'_, E>,
+) -> u8
+    ensures { EndsAsked PROGRAM.now USAGE.now (L.known lists.now) words.now
+        (ending output.old output.new errors.old errors.new result) }
+{
     match request_of(words) {
         Ok(request) => filter(alloc, request, words, lists, output, errors),
         Err(fault) => {

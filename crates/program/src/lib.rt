@@ -4,6 +4,7 @@
 pub mod arguments;
 pub mod ending;
 pub mod messages;
+pub mod standard_output;
 pub mod start;
 pub mod system;
 pub mod telling;

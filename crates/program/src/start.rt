@@ -3,11 +3,13 @@ ghost use Rattle.std.specs.Prelude.{◌≡◌, None, Some, MatchOption};
 ghost use Rattle.program.specs.Runs.{text_asked};
 
 use crate::arguments::arguments;
+use crate::standard_output::StandardOutput;
 use crate::system::System;
 use crate::usage::refuse_arguments;
 use crate::words::is_only;
 use lines::output::Output;
-use std::io::{Stderr, Stdout};
+use std::cell::Cell;
+use std::io::Stderr;
 use std::process::ExitCode;
 
 /// The most bytes that wait to be written to standard output.
@@ -16,8 +18,12 @@ const WAITING_MAX: usize = 65536;
 /// The most bytes that wait to be written to standard error.
 const TOLD_MAX: usize = 1024;
 
+/// The exit status that a shell shows for a program that the signal of a closed pipe ended.
+const CLOSED: u8 = 141;
+
 /// Runs a program on the words after its name, and returns the exit status. If the arguments cannot be
-/// read, that is reported instead.
+/// read, that is reported instead. If standard output is a pipe that nobody reads any more, what waits to be reported is
+/// dropped, and the exit status is 141, as a shell shows it for a program that ends at such a write.
 ///
 /// ```
 /// let usage = "usage: sum FILE\n";
@@ -25,11 +31,18 @@ const TOLD_MAX: usize = 1024;
 /// ```
 pub fn start<F>(rt: &HostRuntime, program: &str, usage: &str, run: F) -> ExitCode
 where
-    F: FnOnce(&[String], &System<'_>, &mut Output<'_, Stdout>, &mut Output<'_, Stderr>) -> u8,
+    F: FnOnce(
+        &[String],
+        &System<'_>,
+        &mut Output<'_, StandardOutput<'_>>,
+        &mut Output<'_, Stderr>,
+    ) -> u8,
     requires { F.IsAlwaysCallable run }
 {
     let mut waiting = [0u8; WAITING_MAX];
-    let mut output = Output::new(rt.stdout(), &mut waiting);
+    let is_closed = Cell::new(false);
+    let standard_output = StandardOutput::new(rt.stdout(), &is_closed);
+    let mut output = Output::new(standard_output, &mut waiting);
     let mut told = [0u8; TOLD_MAX];
     let mut errors = Output::new(rt.stderr(), &mut told);
     let status = match arguments(rt) {
@@ -39,6 +52,9 @@ where
         }
         Err(fault) => refuse_arguments(fault, program, usage, &mut errors),
     };
+    if is_closed.get() {
+        return ExitCode::from(CLOSED);
+    }
     let _ = errors.finish();
     ExitCode::from(status)
 }

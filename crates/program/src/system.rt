@@ -5,7 +5,7 @@ ghost use Rattle.lines.specs.Watched.{has_failed};
 use lines::watched::Watched;
 use lists::OpenLists;
 use std::fs::File;
-use std::io::{Read, Stdin};
+use std::io::{ErrorKind, Read, Stdin};
 use std::{fs, io};
 
 /// The files of the system, and its standard input under the name `-`.
@@ -58,6 +58,14 @@ impl Read for Device {
     }
 }
 
+// Whether a file that was opened is a directory, which the system opens but does not read.
+fn is_directory(file: &File) -> bool {
+    match file.metadata() {
+        Ok(metadata) => metadata.is_dir(),
+        Err(_) => false,
+    }
+}
+
 impl OpenLists for System<'_> {
     type List = Device;
 
@@ -65,7 +73,11 @@ impl OpenLists for System<'_> {
         if name == "-" {
             return Ok(Device::Input(self.rt.stdin()));
         }
-        Ok(Device::File(fs::open(self.rt, name)?))
+        let file = fs::open(self.rt, name)?;
+        if is_directory(&file) {
+            return Err(io::Error::from(ErrorKind::IsADirectory));
+        }
+        Ok(Device::File(file))
     }
 
     fn close(&self, _name: &str, list: Watched<Device>)

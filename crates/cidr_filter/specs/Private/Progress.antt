@@ -1,11 +1,12 @@
 -- How far a log is filtered.
-use Rattle.std.specs.Prelude.{◌≡◌, ℕ, ◌+◌, ◌-◌, ◌^◌, Bool, true, false, not, ◌&&◌, IsTrue, List, [], ◌∷◌, ◌++◌, length, Option, if◌then◌else◌}
+use Rattle.std.specs.Prelude.{◌≡◌, ℕ, ◌+◌, ◌-◌, ◌^◌, Bool, true, false, not, ◌&&◌, ◌||◌, IsTrue, List, [], ◌∷◌, ◌++◌, length, Option, if◌then◌else◌}
 use Rattle.std.specs.List.{list_all}
 use Rattle.std.specs.Io.KnownBytes.{Consumes, IsAtEnd}
 use Rattle.lines.specs.LineBuffers.{Buffered, IsPending}
 use Rattle.lines.specs.Outputs.{AppendsBeginning}
 use Rattle.lines.specs.declared.line_end.LineEnd.{LineEnd}
 use Rattle.lines.specs.declared.line_end.LineEnd.TheVariants.{LineFeed, ReturnAndLineFeed, EndOfInput}
+use Rattle.cidr_filter.specs.Addressed.{is_addressed_by, any_addressed}
 use Rattle.cidr_filter.specs.Filters.{Judges, is_refused, is_selected, shown_of, one_if, Filters}
 use Rattle.cidr_filter.specs.Lines.{LogLine, log_lines}
 use Rattle.cidr_filter.specs.Stands.{Stand, Goes}
@@ -31,6 +32,7 @@ abbrev pub FiltersLine : Filter → List ℕ → List ℕ → Stand → Stand �
 FiltersLine filter line text old new = (verdict : Verdict) × Judges filter line verdict
     × (is_refused filter verdict ≡ false)
     × Goes old new (shown filter verdict line text) (one_if (is_selected filter verdict)) 1
+    × (new.addressed ≡ (old.addressed || is_addressed_by verdict))
 
 -- a line, given without its end, ends the run
 abbrev pub RefusesLine : Filter → List ℕ → Stand → Stand → Verdict → Type 0
@@ -39,7 +41,6 @@ RefusesLine filter line old new verdict =
 
 -- or the writer failed, which took a beginning of what waited and of the line's output
 abbrev pub LineStops : Filter → List ℕ → List ℕ → Bool → Stand → Stand → LogFault → Type 0
-LineStops filter line text write_failed old new faults.Open = ⊥
 LineStops filter line text write_failed old new faults.Read = ⊥
 LineStops filter line text write_failed old new faults.Write =
     IsTrue write_failed × (verdict : Verdict) × Judges filter line verdict × (is_refused filter verdict ≡ false)
@@ -71,3 +72,4 @@ pub record FiltersSoFar (filter : Filter) (room : ℕ) (held : Buffered)
   pub count : ℕ
   pub filters : Filters filter first added count
   pub goes : Goes old new added count (length first)
+  pub addressed : new.addressed ≡ (old.addressed || any_addressed filter first)

@@ -2,6 +2,7 @@ use Rattle.std.proofs.Common.{◌-◌, ◌∙◌, length, ap, refl, sym, arith}
 use Rattle.lines.specs.Watched.{has_failed}
 use Rattle.lines.proofs.Putting.{puts_nothing}
 use Rattle.lines.proofs.Writes.{still_works}
+use Rattle.cidr_filter.specs.Stands.{stand}
 use Rattle.cidr_filter.proofs.Filtering.{counts_none, goes_out, begins, after_line, after_long, before_asking, after_asking, less_to_hand, less_to_read}
 use Rattle.cidr_filter.proofs.Stopping.{failed_now, line_stops, long_line_stops, log_ends, writing_stops, read_stops, endless_stops, long_stops}
 use Rattle.cidr_filter.proofs.log.filter_log.Goals as goal
@@ -58,7 +59,7 @@ lines-preserved-in-TooLong g c = record {
         counts_none c.lines.tally.selected c.lines.tally.selected refl,
         λ within.
             c.saturating_add-tally.ensures,
-      );
+      ) refl;
   limit = c.next.ensures.limit ∙ c.lines.invariant.limit;
   size = ap length c.next.ensures.unmoved ∙ c.lines.invariant.size;
   reads = c.lines.invariant.reads;
@@ -83,7 +84,8 @@ returns-then-is_too_long-clause-err g c =
     let idle = before_asking c.args.filter.now c.lines.room c.lines.lines
     c.next.new.self _ _ _ _ _ c.lines.invariant.sofar c.in-Ask.ensures.gives
     c.next.ensures.ended
-    (goes_out _ _ refl refl c.in-Ok.ensures.emptied c.in-Ok.ensures.ok) in
+    refl
+    (goes_out (stand c.lines.output c.lines.tally) (stand c.hand_on.new.self c.lines.tally) refl refl c.in-Ok.ensures.emptied c.in-Ok.ensures.ok) in
     let long = (c.is_too_long.ensures idle.sofar.pending idle.sofar.holds).0
     c.if-is_too_long.true in
     long_stops c.args.filter.now c.lines.room c.next.new.self _ _ _ _ idle
@@ -99,7 +101,8 @@ returns-in_default-ask-clause-err g c =
     let idle = before_asking c.args.filter.now c.lines.room c.lines.lines
     c.next.new.self _ _ _ _ _ c.lines.invariant.sofar c.in-Ask.ensures.gives
     c.next.ensures.ended
-    (goes_out _ _ refl refl c.in-Ok.ensures.emptied c.in-Ok.ensures.ok) in
+    refl
+    (goes_out (stand c.lines.output c.lines.tally) (stand c.hand_on.new.self c.lines.tally) refl refl c.in-Ok.ensures.emptied c.in-Ok.ensures.ok) in
     let stops = read_stops c.args.filter.now c.lines.room c.next.new.self _ _ _ _ _
     idle c.in_default-ask.ensures.err in (
       failed_now (has_failed c.ask.new.reader) _ c.in_default-ask.ensures.failed,
@@ -113,7 +116,8 @@ returns-then-count-room-clause-err g c =
     let idle = before_asking c.args.filter.now c.lines.room c.lines.lines
     c.next.new.self _ _ _ _ _ c.lines.invariant.sofar c.in-Ask.ensures.gives
     c.next.ensures.ended
-    (goes_out _ _ refl refl c.in-Ok.ensures.emptied c.in-Ok.ensures.ok) in
+    refl
+    (goes_out (stand c.lines.output c.lines.tally) (stand c.hand_on.new.self c.lines.tally) refl refl c.in-Ok.ensures.emptied c.in-Ok.ensures.ok) in
     endless_stops c.args.filter.now c.lines.room c.next.new.self _ _ _ _ _ idle
     c.ask.new.self c.in-Ok-ask.count c.in-Ok-ask.ensures.read c.if-count-room.true
 
@@ -123,7 +127,8 @@ lines-preserved g c =
     let asked = c.in-Ok-ask.ensures in
     let idle = before_asking c.args.filter.now c.lines.room c.lines.lines
     c.next.new.self _ _ _ _ _ before.sofar c.in-Ask.ensures.gives c.next.ensures.ended
-    (goes_out _ _ refl refl c.in-Ok.ensures.emptied c.in-Ok.ensures.ok) in
+    refl
+    (goes_out (stand c.lines.output c.lines.tally) (stand c.hand_on.new.self c.lines.tally) refl refl c.in-Ok.ensures.emptied c.in-Ok.ensures.ok) in
     record {
       sofar = after_asking c.args.filter.now c.lines.room
           (c.lines.room - c.in-Ok-ask.count) c.in-Ok-ask.count c.next.new.self c.ask.new.self _ _ _
@@ -167,4 +172,5 @@ pub returns-in-Ok-hand_on-clause-ok : goal.returns-in-Ok-hand_on-clause-ok
 returns-in-Ok-hand_on-clause-ok g c =
     log_ends c.args.filter.now c.lines.room c.lines.lines c.next.new.self _ _ _ _
     c.lines.invariant.sofar c.next.ensures.ended _ c.in-End.ensures.gives
-    (goes_out _ _ refl refl c.in-Ok-hand_on.ensures.emptied c.in-Ok-hand_on.ensures.ok)
+    refl
+    (goes_out (stand c.lines.output c.lines.tally) (stand c.hand_on-in-End.new.self c.lines.tally) refl refl c.in-Ok-hand_on.ensures.emptied c.in-Ok-hand_on.ensures.ok)

@@ -1,50 +1,50 @@
-use Rattle.std.proofs.Common.{◌∙◌, refl, sym, arith}
+use Rattle.std.proofs.Common.{◌∙◌, ◌+◌, Bool, map, take, refl, sym, subst, arith}
+use Rattle.std.specs.String.{string_bytes}
+use Rattle.program.specs.Endings.{ending}
+use Rattle.cidr_filter.specs.Stands.{stand}
+use Rattle.cidr_filter.specs.Private.Runs.{FiltersNames}
 use Rattle.cidr_filter.proofs.LogsInTurn.{names_none}
-use Rattle.cidr_filter.proofs.Runs.{names_more, input_named, input_stops, one_more, all_named, one_stops}
+use Rattle.cidr_filter.proofs.Runs.{names_more, input_filtered, one_more, all_named, one_stops}
 use Rattle.cidr_filter.proofs.logs.filter_each.Goals as goal
 
-pub returns-then-is_empty-clause-all : goal.returns-then-is_empty-clause-all
-returns-then-is_empty-clause-all g c = λ yes.
-    let all = c.filter_one.ensures.all yes in
-    (all.0, input_named c.args.filter.now (g.L.OpenLists.known c.args.lists.now) c.args.files.now _ _ (sym c.is_empty.ensures ∙ c.if-is_empty.true) all.1)
-
-pub returns-then-is_empty-clause-stopped : goal.returns-then-is_empty-clause-stopped
-returns-then-is_empty-clause-stopped g c = λ no.
-    input_stops c.args.filter.now (g.L.OpenLists.known c.args.lists.now) c.args.files.now _ (sym c.is_empty.ensures ∙ c.if-is_empty.true) (c.filter_one.ensures.stopped no)
+pub returns-then-is_empty : goal.returns-then-is_empty
+returns-then-is_empty g c =
+    input_filtered c.args.filter.now (g.L.OpenLists.known c.args.lists.now) c.args.files.now c.filter_one.result
+    (ending c.args.output.now c.filter_one.new.output c.args.errors.now c.filter_one.new.errors 2)
+    (stand c.args.output.now c.args.tally.now) (stand c.filter_one.new.output c.filter_one.new.tally)
+    (sym c.is_empty.ensures ∙ c.if-is_empty.true) c.filter_one.ensures
 
 pub loop-file-init : goal.loop-file-init
 loop-file-init g c = record {
   room = c.requires;
-  silent = refl;
-  names = names_none c.args.filter.now (g.L.OpenLists.known c.args.lists.now) _;
+  names = names_none c.args.filter.now (g.L.OpenLists.known c.args.lists.now) _ _;
 }
 
 pub loop-file-preserved : goal.loop-file-preserved
 loop-file-preserved g c =
     let files = c.args.files.now in
     let i = c.loop-file.file-index in
-    let all = c.filter_one-in-loop-file.ensures.all c.if-not-filter_one.false in
     let name = c.as_str-name.result.now in
     record {
       room = omega (arith, c.loop-file.invariant.room, c.filter_one-in-loop-file.auto.buffer);
-      silent = all.0 ∙ c.loop-file.invariant.silent;
-      names = one_more c.args.filter.now (g.L.OpenLists.known c.args.lists.now) files i name _ _ _ (names_more files i c.file-item.result name (omega arith) c.file-item.is c.as_str-name.ensures.value)
-          c.loop-file.invariant.names all.1;
+      names = subst (λ (b : Bool). FiltersNames c.args.filter.now (g.L.OpenLists.known c.args.lists.now) (map string_bytes (take (i + 1) files)) b
+          (stand c.args.output.now c.args.tally.now) (stand c.filter_one-in-loop-file.new.output c.filter_one-in-loop-file.new.tally)
+          c.args.errors.now c.filter_one-in-loop-file.new.errors) (sym c.either-missed.ensures)
+          (one_more c.args.filter.now (g.L.OpenLists.known c.args.lists.now) files i name c.loop-file.missed c.in-Some.more _ _ _ _ _ _
+          (names_more files i c.file-item.result name (omega arith) c.file-item.is c.as_str-name.ensures.value) c.loop-file.invariant.names c.in-Some.ensures);
     }
 
-pub returns-then-not-filter_one-clause-stopped : goal.returns-then-not-filter_one-clause-stopped
-returns-then-not-filter_one-clause-stopped g c = λ no.
+pub returns-in_default : goal.returns-in_default
+returns-in_default g c =
     let files = c.args.files.now in
     let i = c.loop-file.file-index in
     let name = c.as_str-name.result.now in
-    one_stops c.args.filter.now (g.L.OpenLists.known c.args.lists.now) files i name c.args.output.now c.loop-file.output
-    c.filter_one-in-loop-file.new.output c.args.errors.now c.loop-file.errors c.filter_one-in-loop-file.new.errors c.args.tally.now c.loop-file.tally c.loop-file.invariant.silent
+    one_stops c.args.filter.now (g.L.OpenLists.known c.args.lists.now) files i name c.loop-file.missed c.args.output.now c.loop-file.output
+    c.filter_one-in-loop-file.new.output c.args.errors.now c.loop-file.errors c.filter_one-in-loop-file.new.errors c.args.tally.now c.loop-file.tally
     (sym c.is_empty.ensures ∙ c.if-is_empty.false) (names_more files i c.file-item.result name (omega arith) c.file-item.is c.as_str-name.ensures.value) c.loop-file.invariant.names
-    (c.filter_one-in-loop-file.ensures.stopped c.if-not-filter_one.true)
+    c.in_default.ensures
 
-pub returns-clause-all : goal.returns-clause-all
-returns-clause-all g c = λ yes. (
-  c.loop-file.invariant.silent,
-  all_named c.args.filter.now (g.L.OpenLists.known c.args.lists.now) c.args.files.now c.loop-file.file-index _ _ (sym c.is_empty.ensures ∙ c.if-is_empty.false) (omega arith)
-      c.loop-file.invariant.names,
-)
+pub returns : goal.returns
+returns g c =
+    all_named c.args.filter.now (g.L.OpenLists.known c.args.lists.now) c.args.files.now c.loop-file.file-index c.loop-file.missed _ _ _ _
+    (sym c.is_empty.ensures ∙ c.if-is_empty.false) (omega arith) c.loop-file.invariant.names

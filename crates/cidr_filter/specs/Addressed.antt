@@ -1,0 +1,55 @@
+-- Logs in which no line has an address, and logs that cannot be opened, and what is reported of them.
+use Rattle.std.specs.Prelude.{ℕ, ◌&&◌, Bool, true, false, not, List, [], ◌++◌, length, nat_le, nat_lt, codes, decimal, if◌then◌else◌}
+use Rattle.std.specs.List.{list_any}
+use Rattle.cidr_filter.specs.Filters.{addresses_in}
+use Rattle.cidr_filter.specs.Lines.{LogLine, content}
+use Rattle.cidr_filter.specs.declared.filter.Filter.{Filter}
+use Rattle.cidr_filter.specs.declared.filter.Place.{Place}
+use Rattle.cidr_filter.specs.declared.filter.Place.TheVariants as places
+use Rattle.cidr_filter.specs.declared.filter.Verdict.{Verdict}
+use Rattle.cidr_filter.specs.declared.filter.Verdict.TheVariants as verdicts
+use Rattle.cidr_filter.specs.declared.opening.OpenFault.{OpenFault}
+use Rattle.cidr_filter.specs.declared.opening.OpenFault.TheVariants as causes
+
+-- whether a line, given without its end, has an address where it is looked for. One of more than 1,048,576 bytes has none
+abbrev pub is_addressed : Filter → List ℕ → Bool
+is_addressed filter line = nat_le (length line) 1048576 && nat_lt 0 (length (addresses_in filter line))
+
+-- whether one of these lines has one
+abbrev pub any_addressed : Filter → List LogLine → Bool
+any_addressed filter lines = list_any (λ line. is_addressed filter (content line)) lines
+
+-- whether a line of this verdict has one
+abbrev pub is_addressed_by : Verdict → Bool
+is_addressed_by (verdicts.Inside told) = true
+is_addressed_by verdicts.Outside = true
+is_addressed_by verdicts.Bad = false
+is_addressed_by verdicts.TooLong = false
+
+-- where an address is looked for
+abbrev pub place_text : Place → List ℕ
+place_text (places.Field number separator) = codes "in field " ++ decimal number
+place_text (places.Word number) = codes "in word " ++ decimal number
+place_text places.Anywhere = codes "anywhere in it"
+place_text (places.After text) = codes "after " ++ text
+
+-- what is reported of a log of this name in which no line has an address there
+abbrev pub no_address_text : Place → List ℕ → List ℕ
+no_address_text place name = codes "cidr_filter: " ++ name ++ codes ": no line has an address " ++ place_text place ++ codes "\n"
+
+-- that is reported if there are lines, as many as this, and none has one
+abbrev pub lacking_by : Place → List ℕ → ℕ → Bool → List ℕ
+lacking_by place name lines addressed = if nat_lt 0 lines && not addressed then no_address_text place name else []
+
+abbrev pub lacking_text : Filter → List ℕ → List LogLine → List ℕ
+lacking_text filter name lines = lacking_by filter.place name (length lines) (any_addressed filter lines)
+
+-- what is reported of a log that cannot be opened, after its name
+abbrev pub open_fault_text : OpenFault → List ℕ
+open_fault_text causes.Missing = codes ": cannot open: no such file\n"
+open_fault_text causes.Denied = codes ": cannot open: permission denied\n"
+open_fault_text causes.Directory = codes ": cannot open: is a directory\n"
+open_fault_text causes.Other = codes ": cannot open\n"
+
+abbrev pub closed_text : List ℕ → OpenFault → List ℕ
+closed_text name fault = name ++ open_fault_text fault
