@@ -51,7 +51,7 @@ def look_ups(run):
     tools("rt", "rustc")
     for crate in script("look_ups").lines_below("ipnetwork_index"):
         need(f"crates/{crate}/out")
-    measured = script("look_ups").measured(run.new("look_ups"))
+    measured = script("look_ups").measured(run.new("look_ups"), 2 if run.quick else 5)
     for each in measured.left_out:
         run.without(each)
     if not measured.same:
