@@ -7,7 +7,7 @@ import resource
 import shutil
 import subprocess
 
-from parts import LIBRARY, REGISTRY, RUSTC, TOP, Differs, beside, need, said, script, table, tools
+from parts import LIBRARY, REGISTRY, RUSTC, TOP, Differs, Missing, beside, need, said, script, table, tools
 
 
 def sets(run):
@@ -51,7 +51,9 @@ def look_ups(run):
     tools("rt", "rustc")
     for crate in script("look_ups").lines_below("ipnetwork_index"):
         need(f"crates/{crate}/out")
-    measured = script("look_ups").measured(run.new("look_ups"))
+    measured = script("look_ups").measured(run.new("look_ups"), *((2, 90) if run.quick else (5, 240)))
+    if not measured.lines:
+        raise Missing("its program was not proved in time; bench/look_ups proves and keeps it")
     for each in measured.left_out:
         run.without(each)
     if not measured.same:

@@ -146,7 +146,8 @@ def rust_peers(run):
     example = TOP / "bindings/rust/patched/plain/examples/speed.rs"
     said([*RUSTC, "--extern", f"ipnetwork={library}", "-o", speed, example])
     plain, crate = {}, {}
-    for call, family, which, time in re.findall(r"^(\w+), (IPv.), (this crate|plain Rust) +([\d.]+) ns$", said([speed]), re.M):
+    row = re.compile(r"^(\w+), (IPv.), (this crate|plain Rust) +([\d.]+) ns$", re.M)
+    for call, family, which, time in row.findall(said([speed])):
         (plain if which == "plain Rust" else crate)[call, family] = float(time)
     return plain, crate
 

@@ -92,51 +92,60 @@ reaches_past keys x at end up h own less =
 
 -- ---- and then in steps that shrink
 
-pub narrows : (keys : List ℕ) (x at end step below : ℕ) → IsBetween keys x at end
-    → end < at + (5 * step + 5) → IsStep keys x at step below
-    → IsBetween keys x (at + below * (step + 1)) (min end (at + below * (step + 1) + step))
-narrows keys x at end step below h fifth s =
+-- each round leaves the places of one step, or those behind four of them
+pub narrows : (keys : List ℕ) (x at left step below : ℕ) → Ascends keys
+    → IsBetween keys x at (at + left) → 5 * step + 4 ≤ left → IsStep keys x at step below
+    → IsBetween keys x (at + below * (step + 1)) (at + below * (step + 1) + (left - 4 * (step + 1)))
+narrows keys x at left step below up h fifth s =
     let next : ℕ = at + below * (step + 1) in
+    let rest : ℕ = left - 4 * (step + 1) in
     let within = h.within in
     let room = h.room in
     let few = s.few in
-    let after : (k : ℕ) → k < next → get_or keys k 0 < x = λ k l.
-    ⊎_elim (λ (b : k < at). h.after k b) (λ (f : at ≤ k). s.less k f l) (cases_lt k at) in
-    let ordered : next ≤ end = ⊎_elim
-    (λ (over : end < next). let l : get_or keys end 0 < x = after end over in absurd (omega arith))
-    (λ (fits : next ≤ end). fits)
-    (cases_lt end next) in
-    ⊎_elim
-    (λ (less : next + step < end).
-    let e : min end (next + step) ≡ next + step = omega arith in
-    ⊎_elim
-    (λ (part : below < 4). between next (next + step) (min end (next + step)) e after
-    (omega arith) (s.not part) (omega arith))
-    (λ (all : 4 ≤ below).
-    let four : below ≡ 4 = omega arith in
-    let to : next ≡ at + 4 * (step + 1) = ap (λ (n : ℕ). at + n * (step + 1)) four in
-    absurd (omega arith))
-    (cases_lt below 4))
-    (λ (all : end ≤ next + step).
-    let e : min end (next + step) ≡ end = omega arith in
-    between next end (min end (next + step)) e after ordered within room)
-    (cases_lt (next + step) end)
-  where
-    between : (from to other : ℕ) → other ≡ to → ((k : ℕ) → k < from → get_or keys k 0 < x)
-        → from ≤ to → x ≤ get_or keys to 0 → to + 4 ≤ length keys → IsBetween keys x from other
-    between from to other e after ordered within room =
-        subst (λ (j : ℕ). IsBetween keys x from j) (sym e)
-        (record { after = after; ordered = ordered; within = within; room = room })
-
-pub narrowed_to : (keys : List ℕ) (x at end : ℕ) → IsBetween keys x at end → end ≤ at
-    → IsPlaceOf keys x at
-narrowed_to keys x at end h last =
-    let ordered = h.ordered in
-    let e : end ≡ at = omega arith in
-    let room = h.room in
+    let most = s.most in
     record {
-      after = h.after;
-      within = subst (λ (j : ℕ). x ≤ get_or keys j 0) e h.within;
+      after = λ k l.
+          ⊎_elim (λ (b : k < at). h.after k b) (λ (f : at ≤ k). s.less k f l) (cases_lt k at);
+      ordered = omega arith;
+      within = ⊎_elim
+          (λ (part : below < 4).
+          let o : get_or keys (next + step) 0 ≤ get_or keys (next + rest) 0
+          = up.order (next + step) (next + rest) (omega arith) (omega arith) in
+          let n : x ≤ get_or keys (next + step) 0 = s.not part in
+          omega arith)
+          (λ (all : 4 ≤ below).
+          let four : below ≡ 4 = omega arith in
+          let to : next ≡ at + 4 * (step + 1) = ap (λ (n : ℕ). at + n * (step + 1)) four in
+          let e : next + rest ≡ at + left = omega arith in
+          subst (λ (j : ℕ). x ≤ get_or keys j 0) (sym e) within)
+          (cases_lt below 4);
+      room = omega arith;
+    }
+
+-- at the end there are five places at most
+pub narrowed_to : (keys : List ℕ) (x at left below : ℕ) → IsBetween keys x at (at + left)
+    → left ≤ 4 → IsStep keys x at 0 below → IsPlaceOf keys x (at + below)
+narrowed_to keys x at left below h last s =
+    let room = h.room in
+    let few = s.few in
+    let within = h.within in
+    let after : (k : ℕ) → k < at + below → get_or keys k 0 < x = λ k l.
+    ⊎_elim (λ (b : k < at). h.after k b) (λ (f : at ≤ k). s.less k f (omega arith)) (cases_lt k at) in
+    let most : below ≤ left = ⊎_elim
+    (λ (over : left < below).
+    let l : get_or keys (at + left) 0 < x = after (at + left) (omega arith) in absurd (omega arith))
+    (λ (fits : below ≤ left). fits)
+    (cases_lt left below) in
+    record {
+      after = after;
+      within = ⊎_elim
+          (λ (part : below < 4).
+          let e : at + below * (0 + 1) + 0 ≡ at + below = omega arith in
+          subst (λ (j : ℕ). x ≤ get_or keys j 0) e (s.not part))
+          (λ (all : 4 ≤ below).
+          let e : at + left ≡ at + below = omega arith in
+          subst (λ (j : ℕ). x ≤ get_or keys j 0) e within)
+          (cases_lt below 4);
       room = omega arith;
     }
 

@@ -8,7 +8,7 @@ use crate::halves::{all_end, are_worth_it, highs_of, place_by_halves};
 use crate::indexed_network::IndexedNetwork;
 use crate::key::Key;
 use crate::search::place_of;
-use crate::starts::{part_bits, write_starts};
+use crate::starts::{part_bits, span_of, write_starts};
 use std::alloc::{AllocError, Global};
 use std::marker::Model;
 
@@ -69,17 +69,14 @@ impl<N: IndexedNetwork> Partition<N> {
         Self::of_wholes(alloc, lasts)
     }
 
-    // The same, searched by whole numbers. Which parts there are depends on them: a few for each
-    // range, from the first to the last but one, so that the first bits that all of them share are
-    // left out.
+    // The same, searched by whole numbers.
     fn of_wholes(alloc: Global, lasts: Vec<N::Number>) -> Result<Self, AllocError>
         requires { IsPadded N.WIDTH (map N.Number.value lasts.items) }
         ensures { IfOk result (λ partition. partition ≡ unpadded (map N.Number.value lasts.items)) }
     {
         let ranges = lasts.len() - 3;
         let bits = part_bits(ranges);
-        let base = lasts[0];
-        let shift = lasts[ranges.saturating_sub(2)].part_size(base, bits);
+        let (base, shift) = span_of::<N::Number>(lasts.as_slice(), bits);
         let starts = starts_of::<N::Number>(alloc, lasts.as_slice(), base, shift, 1 << bits)?;
         Ok(Partition {
             lasts,
@@ -105,8 +102,7 @@ impl<N: IndexedNetwork> Partition<N> {
     {
         let ranges = highs.len() - 3;
         let bits = part_bits(ranges);
-        let high_base = highs[0];
-        let shift = highs[ranges.saturating_sub(2)].part_size(high_base, bits);
+        let (high_base, shift) = span_of::<N::High>(highs.as_slice(), bits);
         let starts = starts_of::<N::High>(alloc, highs.as_slice(), high_base, shift, 1 << bits)?;
         let highs_tell = all_end::<N>(lasts.as_slice());
         let base = lasts[0];

@@ -1,5 +1,5 @@
 //! The place of a number among ascending ones.
-ghost use Rattle.std.specs.Prelude.{◌<◌, map};
+ghost use Rattle.std.specs.Prelude.{◌<◌, ◌≤◌, length, map};
 ghost use Rattle.ipnetwork_index.specs.Searches.{Ascends, IsSearchable, IsWithin, IsPlaceOf};
 ghost use Rattle.ipnetwork_index.specs.Private.Steps.{HasComeTo, IsBetween};
 
@@ -10,9 +10,8 @@ use crate::key::Key;
 /// them are not less. For each part of the numbers from `base` on `starts` tells a place that the
 /// search may begin at, as `write_starts` writes it.
 ///
-/// The search reads the four keys from there on. Only if all of them are less, it goes on in steps
-/// that grow, and then within the last of them in steps that shrink: where n keys lie in a part, it
-/// reads some 3 log2(n) of them.
+/// The search reads the four keys from there on. Only if all of them are less, it goes on within the
+/// part, in steps that shrink: where n keys lie in a part, it reads some 2 log2(n) of them.
 ///
 /// ```
 /// let keys = [9u32, 20, u32::MAX, u32::MAX, u32::MAX, u32::MAX];
@@ -29,10 +28,56 @@ pub fn place_of<K: Key>(keys: &[K], starts: &[u32], base: K, shift: u32, key: K)
     ensures { IsPlaceOf (map K.value keys.now) (K.value key) result }
 {
     let part = key.part_of(base, shift, starts.len() - 1);
-    place_from::<K>(keys, starts[part] as usize, key)
+    place_from_start::<K>(keys, starts, part, starts[part] as usize, key)
 }
 
-// The same, from a place on that none of the keys is before.
+// The same, from where the search in the part begins.
+#[inline(always)]
+fn place_from_start<K: Key>(keys: &[K], starts: &[u32], part: usize, start: usize, key: K) -> usize
+    requires part { part < length starts.now }
+    requires ascending { Ascends (map K.value keys.now) }
+    requires come { HasComeTo (map K.value keys.now) (K.value key) start }
+    ensures { IsPlaceOf (map K.value keys.now) (K.value key) result }
+{
+    let below = below_of_four::<K>(keys, start, 0, key);
+    if below == 4 {
+        return place_in_part::<K>(keys, starts, part, start + 4, key);
+    }
+    start + below
+}
+
+// The same, from a place on in the part: up to where the next part begins, if the key there is not
+// less, as it is if the starts are those of the keys. Not inlined, so that a search that ends with
+// the first four keys is short.
+#[inline(never)]
+fn place_in_part<K: Key>(keys: &[K], starts: &[u32], part: usize, from: usize, key: K) -> usize
+    requires part { part < length starts.now }
+    requires ascending { Ascends (map K.value keys.now) }
+    requires come { HasComeTo (map K.value keys.now) (K.value key) from }
+    ensures { IsPlaceOf (map K.value keys.now) (K.value key) result }
+{
+    let end = end_of_part(starts, part, from, keys.len() - 4);
+    if keys[end].is_less(key) {
+        return place_beyond::<K>(keys, from, key);
+    }
+    narrowed::<K>(keys, from, end, key)
+}
+
+// Where the next part begins, or the last place if there is no next part; `from` or `last` if it
+// does not lie between these.
+fn end_of_part(starts: &[u32], part: usize, from: usize, last: usize) -> usize
+    requires part { part < length starts.now }
+    requires ordered { from ≤ last }
+    ensures least { from ≤ result }
+    ensures most { result ≤ last }
+{
+    if part + 1 == starts.len() {
+        return last;
+    }
+    (starts[part + 1] as usize).max(from).min(last)
+}
+
+// The place of the key, from a place on that none of the keys is before.
 pub(crate) fn place_from<K: Key>(keys: &[K], from: usize, key: K) -> usize
     requires ascending { Ascends (map K.value keys.now) }
     requires come { HasComeTo (map K.value keys.now) (K.value key) from }
@@ -45,8 +90,7 @@ pub(crate) fn place_from<K: Key>(keys: &[K], from: usize, key: K) -> usize
     place_beyond::<K>(keys, from + 4, key)
 }
 
-// The same, in more than one step. Not inlined, so that a search that ends with the first four keys
-// is short.
+// The same, in more than one step.
 #[inline(never)]
 fn place_beyond<K: Key>(keys: &[K], from: usize, key: K) -> usize
     requires ascending { Ascends (map K.value keys.now) }
@@ -76,18 +120,20 @@ fn reached<K: Key>(keys: &[K], from: usize, key: K) -> (usize, usize)
     }
 }
 
-// The place of the key, which is between these two: each round leaves a fifth of the places.
+// The place of the key, which is between these two: each round leaves a fifth of the places, or up
+// to two more. How many rounds there are does not depend on the keys, so that a processor foresees
+// their end.
 fn narrowed<K: Key>(keys: &[K], from: usize, to: usize, key: K) -> usize
     requires ascending { Ascends (map K.value keys.now) }
     requires between { IsBetween (map K.value keys.now) (K.value key) from to }
     ensures { IsPlaceOf (map K.value keys.now) (K.value key) result }
 {
     let mut at = from;
-    let mut end = to;
-    'narrowing: while at < end {
-        let step = (end - at) / 5;
+    let mut left = to - from;
+    'narrowing: while left > 4 {
+        let step = (left - 4) / 5;
         at += below_of_four::<K>(keys, at, step, key) * (step + 1);
-        end = end.min(at + step);
+        left -= 4 * (step + 1);
     }
-    at
+    at + below_of_four::<K>(keys, at, 0, key)
 }

@@ -17,6 +17,25 @@ pub fn part_bits(ranges: usize) -> u32
     bits.min(20)
 }
 
+// From which of so many parts on, and how large they are: from the first key to the last of a range
+// but one, so that the first bits that all of them share are left out; or, if that makes them much
+// smaller, from the first to the last of those in the middle, without a 64th at either end. The
+// contract leaves both open: others would cost time and change no answer.
+pub(crate) fn span_of<K: Key>(keys: &[K], bits: u32) -> (K, u32)
+    requires { 4 ≤ length keys.now }
+    ensures { result.1 < K.BITS }
+{
+    let last = keys.len() - 4;
+    let end = last.saturating_sub(1);
+    let few = last / 64;
+    let whole = keys[end].part_size(keys[0], bits);
+    let middle = keys[end - few].part_size(keys[few], bits);
+    if middle.saturating_add(2) <= whole {
+        return (keys[few], middle);
+    }
+    (keys[0], whole)
+}
+
 /// Writes for each part of the numbers from `base` on, which has 2^`shift` numbers, the place that
 /// the search for a number of it may begin at: how many of the keys are less than each of them, or
 /// fewer if there are 2^32 or more. There are as many parts as places to write to, at least one;
