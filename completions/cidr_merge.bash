@@ -2,9 +2,11 @@
 _cidr_merge() {
     local word="${COMP_WORDS[COMP_CWORD]}"
     if [ "$COMP_CWORD" -eq 1 ]; then
-        COMPREPLY=($(compgen -W "union common minus differ --help --version" -- "$word"))
+        COMPREPLY=($(compgen -W "union common minus differ list --help --version" -- "$word"))
+    elif [ "${COMP_WORDS[COMP_CWORD-1]}" = --format ]; then
+        COMPREPLY=($(compgen -W "plain range netmask wildcard csv nft ipset json addresses" -- "$word"))
     elif [[ "$word" == -* ]]; then
-        COMPREPLY=($(compgen -W "--ranges --count --skip-bad -- -" -- "$word"))
+        COMPREPLY=($(compgen -W "--ranges --count --format --skip-bad -- -" -- "$word"))
     fi
 }
 complete -o default -F _cidr_merge cidr_merge

@@ -6,8 +6,10 @@ if (( CURRENT == 2 )); then
         'common[the addresses of both sides]' \
         'minus[those of the first side that the second has not]' \
         'differ[those of one side and not of both]' \
+        'list[each address of any list]' \
         '--help[print the help]' '--version[print the version]'
 else
     _arguments '*--ranges[print ranges]' '*--count[print how many addresses]' \
+        '--format[print as another program reads it]:form:(plain range netmask wildcard csv nft ipset json addresses)' \
         '*--skip-bad[pass over refused lines]' '*:list:_files'
 fi

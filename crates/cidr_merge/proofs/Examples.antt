@@ -14,7 +14,8 @@ use Rattle.cidr_merge.specs.Answers.{IsLeft, IsLeftOfSecond, AreBoth, merged, me
 use Rattle.cidr_merge.specs.CommandLines.{begins_dashed, is_dashed, is_name, is_option, operation_called, operation_named, options_of, lists_of, are_options, are_lists, are_sides, before_dashes, behind_dashes, form_of}
 use Rattle.cidr_merge.specs.Runs.{answer_status}
 use Rattle.cidr_merge.specs.declared.command_line.Operation.TheVariants.{Union, Common, Minus, Differ}
-use Rattle.cidr_merge.specs.declared.command_line.Form.TheVariants.{Counts}
+use Rattle.cidr_merge.specs.declared.command_line.Form.TheVariants.{Blocks, Counts, Exported}
+use Rattle.cidr_merge.specs.declared.exports.Export.TheVariants.{Csv}
 use Rattle.cidr_merge.specs.declared.reading.Sets.{Sets}
 use Rattle.cidr_merge.specs.declared.sides.Side.TheVariants.{First, Second}
 
@@ -156,8 +157,8 @@ two_ways_to_print ranges count r c = rw (r, c)
 pub one_way_twice : {Z : Type 0} (count again : String Z) → string_bytes count ≡ codes "--count" → string_bytes again ≡ codes "--count" → are_options (count ∷ again ∷ []) ≡ true
 one_way_twice count again c a = rw (c, a)
 
-pub counts_are_printed : {Z : Type 0} (skip count : String Z) → string_bytes skip ≡ codes "--skip-bad" → string_bytes count ≡ codes "--count" → form_of (skip ∷ count ∷ []) ≡ Counts
-counts_are_printed skip count s c = rw (s, c)
+pub counts_are_printed : {Z : Type 0} (skip count : String Z) → string_bytes skip ≡ codes "--skip-bad" → string_bytes count ≡ codes "--count" → form_of Blocks (skip ∷ count ∷ []) ≡ Counts
+counts_are_printed skip count s c = simp (s, c)
 
 pub standard_input_twice : {Z : Type 0} (input dashes again : String Z) → string_bytes input ≡ codes "-" → string_bytes dashes ≡ codes "--" → string_bytes again ≡ codes "-" → are_lists (input ∷ dashes ∷ again ∷ []) ≡ false
 standard_input_twice input dashes again i d a = rw (i, d, a)
@@ -166,11 +167,22 @@ pub a_list_twice : {Z : Type 0} (list dashes again : String Z) → string_bytes 
 a_list_twice list dashes again l d a = rw (l, d, a)
 
 -- options end at the first word that is `-` or begins with none; what comes after it are lists, whatever it is
-pub options_before_a_list : {Z : Type 0} (minus option list other : String Z) → is_dashed option ≡ true → is_dashed list ≡ false → options_of (minus ∷ option ∷ list ∷ other ∷ []) ≡ option ∷ []
-options_before_a_list minus option list other o l = rw (o, l)
+pub options_before_a_list : {Z : Type 0} (minus option list other : String Z) → is_dashed option ≡ true → is (codes "--format") option ≡ false → is_dashed list ≡ false
+    → options_of (minus ∷ option ∷ list ∷ other ∷ []) ≡ option ∷ []
+options_before_a_list minus option list other o f l = rw (o, f, l)
 
-pub lists_behind_the_options : {Z : Type 0} (minus option list other : String Z) → is_dashed option ≡ true → is_dashed list ≡ false → lists_of (minus ∷ option ∷ list ∷ other ∷ []) ≡ list ∷ other ∷ []
-lists_behind_the_options minus option list other o l = rw (o, l)
+pub lists_behind_the_options : {Z : Type 0} (minus option list other : String Z) → is_dashed option ≡ true → is (codes "--format") option ≡ false → is_dashed list ≡ false
+    → lists_of (minus ∷ option ∷ list ∷ other ∷ []) ≡ list ∷ other ∷ []
+lists_behind_the_options minus option list other o f l = rw (o, f, l)
+
+-- the word after a `--format` is its value, whatever it begins with
+pub a_value_is_no_list : {Z : Type 0} (union format value list : String Z) → string_bytes format ≡ codes "--format" → string_bytes value ≡ codes "csv" → string_bytes list ≡ codes "a"
+    → lists_of (union ∷ format ∷ value ∷ list ∷ []) ≡ list ∷ []
+a_value_is_no_list union format value list f v l = simp (f, v, l)
+
+pub a_form_is_named : {Z : Type 0} (skip format value : String Z) → string_bytes skip ≡ codes "--skip-bad" → string_bytes format ≡ codes "--format" → string_bytes value ≡ codes "csv"
+    → form_of Blocks (skip ∷ format ∷ value ∷ []) ≡ Exported Csv
+a_form_is_named skip format value s f v = simp (s, f, v)
 
 -- the sides are cut at the first `--`, which is of neither
 pub lists_before_the_dashes : {Z : Type 0} (list dashes other : String Z) → is (codes "--") list ≡ false → is (codes "--") dashes ≡ true → before_dashes (list ∷ dashes ∷ other ∷ []) ≡ list ∷ []

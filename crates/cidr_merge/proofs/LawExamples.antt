@@ -4,8 +4,8 @@ use Rattle.std.specs.Prelude.{bytes_eq, codes, None}
 use Rattle.std.proofs.lemmas.Bool.{true≢false}
 use Rattle.std.proofs.lemmas.Slice.Eq.{bytes_eq-Decides}
 use Rattle.std.specs.Str.Lines.{lines}
-use Rattle.cidr_merge.specs.CommandLines.{operation_called, is_option_text}
-use Rattle.cidr_merge.specs.Laws.{NoOtherOperation, NoOtherOption}
+use Rattle.cidr_merge.specs.CommandLines.{operation_called, form_called, is_option_text}
+use Rattle.cidr_merge.specs.Laws.{NoOtherForm, NoOtherOperation, NoOtherOption}
 use Rattle.cidr_merge.specs.Parts.{UnionPrints, HaveLines, AreShort, UnionsOfPartsPrintTheSame}
 
 -- a list may be cut into two parts, and into three
@@ -33,19 +33,23 @@ other text name e same = true≢false (sym ((bytes_eq-Decides text name).1 same)
 
 -- a word that is shorter than a name by a letter or two, and one that differs from it by a letter
 pub diff_is_no_operation : NoOtherOperation → operation_called (codes "diff") ≡ None
-diff_is_no_operation law = law (codes "diff") (other _ _ refl) (other _ _ refl) (other _ _ refl) (other _ _ refl)
+diff_is_no_operation law = law (codes "diff") (other _ _ refl) (other _ _ refl) (other _ _ refl) (other _ _ refl) (other _ _ refl)
 
 pub common_in_capitals_is_no_operation : NoOtherOperation → operation_called (codes "COMMON") ≡ None
-common_in_capitals_is_no_operation law = law (codes "COMMON") (other _ _ refl) (other _ _ refl) (other _ _ refl) (other _ _ refl)
+common_in_capitals_is_no_operation law = law (codes "COMMON") (other _ _ refl) (other _ _ refl) (other _ _ refl) (other _ _ refl) (other _ _ refl)
 
 pub an_empty_word_is_no_operation : NoOtherOperation → operation_called [] ≡ None
-an_empty_word_is_no_operation law = law [] (other _ _ refl) (other _ _ refl) (other _ _ refl) (other _ _ refl)
+an_empty_word_is_no_operation law = law [] (other _ _ refl) (other _ _ refl) (other _ _ refl) (other _ _ refl) (other _ _ refl)
 
 pub skip_is_no_option : NoOtherOption → is_option_text (codes "--skip") ≡ false
-skip_is_no_option law = law (codes "--skip") (other _ _ refl) (other _ _ refl) (other _ _ refl)
+skip_is_no_option law = law (codes "--skip") (other _ _ refl) (other _ _ refl) (other _ _ refl) (other _ _ refl)
 
 pub dashes_are_no_option : NoOtherOption → is_option_text (codes "--") ≡ false
-dashes_are_no_option law = law (codes "--") (other _ _ refl) (other _ _ refl) (other _ _ refl)
+dashes_are_no_option law = law (codes "--") (other _ _ refl) (other _ _ refl) (other _ _ refl) (other _ _ refl)
 
 pub counts_is_no_option : NoOtherOption → is_option_text (codes "--counts") ≡ false
-counts_is_no_option law = law (codes "--counts") (other _ _ refl) (other _ _ refl) (other _ _ refl)
+counts_is_no_option law = law (codes "--counts") (other _ _ refl) (other _ _ refl) (other _ _ refl) (other _ _ refl)
+
+pub ranges_are_no_form : NoOtherForm → form_called (codes "ranges") ≡ None
+ranges_are_no_form law =
+    law (codes "ranges") (other _ _ refl) (other _ _ refl) (other _ _ refl) (other _ _ refl) (other _ _ refl) (other _ _ refl) (other _ _ refl) (other _ _ refl) (other _ _ refl)

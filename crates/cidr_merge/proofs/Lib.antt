@@ -1,8 +1,11 @@
 pub mod Examples
+pub mod ExportExamples
+pub mod ExportTexts
 pub mod Faults
 pub mod LawExamples
 pub mod Merging
 pub mod Names
+pub mod Options
 pub mod PartExamples
 pub mod Parts
 pub mod Putting

@@ -17,7 +17,7 @@ use Rattle.program.specs.Told.{was_refused, fault_text, in_list, refusals_text}
 use Rattle.program.specs.Usage.{usage_text}
 use Rattle.lists.specs.declared.named.ReadFault.{ReadFault}
 use Rattle.cidr_merge.specs.Answers.{IsAnswer}
-use Rattle.cidr_merge.specs.CommandLines.{has, operation_named, options_of, lists_of, before_dashes, behind_dashes, are_options, are_lists, are_sides, form_of, AreFor, Says, AreForNone}
+use Rattle.cidr_merge.specs.CommandLines.{has, operation_named, options_of, lists_of, before_dashes, behind_dashes, are_options, are_lists, are_sides, usual_of, form_of, can_print, AreFor, Says, AreForNone}
 use Rattle.cidr_merge.specs.Parts.{UnionPrints, HaveLines, AreShort}
 use Rattle.cidr_merge.specs.Reading.{ReadsLists, ReadsSide, ReadsSides}
 use Rattle.cidr_merge.specs.Runs.{answer_status, WritesAnswer, FailsToWrite, StopsReading, EndsAnswering, EndsMerging, EndsAs}
@@ -33,11 +33,12 @@ use Rattle.cidr_merge.specs.declared.usage.UsageFault.{UsageFault}
 -- ---- command lines
 
 pub what_an_operation_needs : {Z : Type 0} (name : String Z) (others : List (String Z)) (operation : Operation) → AreFor (name ∷ others) operation
-    → (operation_named name ≡ Some operation) × (are_options (options_of (name ∷ others)) ≡ true) × (are_lists (lists_of (name ∷ others)) ≡ true) × (are_sides operation (lists_of (name ∷ others)) ≡ true)
+    → (operation_named name ≡ Some operation) × (are_options (options_of (name ∷ others)) ≡ true) × (can_print operation (form_of Blocks (options_of (name ∷ others))) ≡ true)
+    × (are_lists (lists_of (name ∷ others)) ≡ true) × (are_sides operation (lists_of (name ∷ others)) ≡ true)
 what_an_operation_needs name others operation h = h
 
 pub what_a_request_says : {Z : Type 0} (words : List (String Z)) (request : Request) → Says words request
-    → (request.form ≡ form_of (options_of words)) × (request.skips_bad ≡ has (codes "--skip-bad") (options_of words))
+    → (request.form ≡ form_of (usual_of words) (options_of words)) × (request.skips_bad ≡ has (codes "--skip-bad") (options_of words))
     × (slice_range words request.first request.middle ≡ before_dashes (lists_of words)) × (drop request.second words ≡ behind_dashes (lists_of words))
 what_a_request_says words request h = (h.form, h.skips, h.firsts, h.seconds)
 

@@ -6,7 +6,7 @@ use Rattle.program.specs.Usage.{usage_text}
 use Rattle.cidr_merge.specs.CommandLines.{operation_named, AreFor}
 use Rattle.cidr_merge.specs.Usage.{problem_text, at_word, fault_in}
 use Rattle.cidr_merge.specs.declared.command_line.Operation.{Operation}
-use Rattle.cidr_merge.specs.declared.usage.Problem.TheVariants.{NotAnOperation, NotAnOption, RangesAndCount, EmptyName, OptionAmongLists, InputTwice, SecondSideOfUnion, ThirdSide, NoList, OneSide, EmptyFirstSide, EmptySecondSide}
+use Rattle.cidr_merge.specs.declared.usage.Problem.TheVariants.{NotAnOperation, NotAnOption, NotAForm, RangesAndCount, AnotherForm, FormOfDiffer, EmptyName, OptionAmongLists, InputTwice, SecondSideOfUnion, ThirdSide, NoList, OneSide, EmptyFirstSide, EmptySecondSide}
 use Rattle.cidr_merge.specs.declared.usage.UsageFault.{UsageFault}
 use Rattle.cidr_merge.proofs.Faults.{for_none, for_some}
 
@@ -33,6 +33,18 @@ module _ {Z : Type 0} (operation first second third fourth : String Z) where
   pub two_ways_before_a_name : string_bytes operation ≡ codes "minus" → string_bytes first ≡ codes "--count" → string_bytes second ≡ codes "--ranges" → string_bytes third ≡ []
       → fault_in (operation ∷ first ∷ second ∷ third ∷ []) ≡ Some (at_word 2 RangesAndCount)
   two_ways_before_a_name o a b c = simp (o, a, b, c)
+
+  pub no_form : string_bytes operation ≡ codes "union" → string_bytes first ≡ codes "--format" → string_bytes second ≡ codes "--format" → string_bytes third ≡ codes "csv"
+      → fault_in (operation ∷ first ∷ second ∷ third ∷ []) ≡ Some (at_word 2 NotAForm)
+  no_form o a b c = simp (o, a, b, c)
+
+  pub a_form_and_ranges : string_bytes operation ≡ codes "union" → string_bytes first ≡ codes "--ranges" → string_bytes second ≡ codes "--format" → string_bytes third ≡ codes "csv"
+      → fault_in (operation ∷ first ∷ second ∷ third ∷ []) ≡ Some (at_word 2 AnotherForm)
+  a_form_and_ranges o a b c = simp (o, a, b, c)
+
+  pub a_form_of_differ : string_bytes operation ≡ codes "differ" → string_bytes first ≡ codes "--format" → string_bytes second ≡ codes "csv"
+      → fault_in (operation ∷ first ∷ second ∷ []) ≡ Some (at_word 1 FormOfDiffer)
+  a_form_of_differ o a b = simp (o, a, b)
 
   pub dashes_among_the_options : string_bytes operation ≡ codes "common" → string_bytes first ≡ codes "--" → string_bytes second ≡ codes "a"
       → fault_in (operation ∷ first ∷ second ∷ []) ≡ Some (at_word 1 EmptyFirstSide)

@@ -11,7 +11,9 @@ use Rattle.ipnetwork_sets.specs.Sets.{InBoth, InFirstAlone}
 use Rattle.cidr_merge.specs.declared.command_line.Operation.{Operation}
 use Rattle.cidr_merge.specs.declared.command_line.Operation.TheVariants.{Union, Common, Minus, Differ}
 use Rattle.cidr_merge.specs.declared.command_line.Form.{Form}
-use Rattle.cidr_merge.specs.declared.command_line.Form.TheVariants.{Blocks, Ranges, Counts}
+use Rattle.cidr_merge.specs.declared.command_line.Form.TheVariants.{Blocks, Ranges, Counts, Exported}
+use Rattle.cidr_merge.specs.declared.exports.Export.{Export}
+use Rattle.cidr_merge.specs.Exports.{export_text}
 use Rattle.cidr_merge.specs.declared.reading.Sets.{Sets}
 use Rattle.cidr_merge.specs.declared.sides.Side.{Side}
 use Rattle.cidr_merge.specs.declared.sides.Side.TheVariants.{First, Second}
@@ -106,8 +108,14 @@ AreCounts Minus first second text = AreCountsLeft Minus [] first second text
 AreCounts Differ first second text = (firsts seconds : List ℕ) × AreCountsLeft Differ (codes "< ") first second firsts
     × AreCountLines (codes "> ") (IsLeftOfSecond Differ 32 first.v4 second.v4) (IsLeftOfSecond Differ 128 first.v6 second.v6) seconds × (text ≡ firsts ++ seconds)
 
+-- the text is an export of the blocks that the operation leaves of the first side
+abbrev pub IsExport : Operation → Export → Sets → Sets → List ℕ → Type 0
+IsExport operation export first second text = (v4 v6 : List Network) × IsLeastList 32 (IsLeft operation 32 first.v4 second.v4) v4
+    × IsLeastList 128 (IsLeft operation 128 first.v6 second.v6) v6 × (text ≡ export_text export v4 v6)
+
 -- the text is the answer in this form
 abbrev pub IsAnswer : Operation → Form → Sets → Sets → List ℕ → Type 0
 IsAnswer operation Blocks first second text = AreBoth (AreBlockLines operation v4_family first.v4 second.v4) (AreBlockLines operation v6_family first.v6 second.v6) text
 IsAnswer operation Ranges first second text = AreBoth (AreRangeLines operation v4_family first.v4 second.v4) (AreRangeLines operation v6_family first.v6 second.v6) text
 IsAnswer operation Counts first second text = AreCounts operation first second text
+IsAnswer operation (Exported export) first second text = IsExport operation export first second text

@@ -1,11 +1,16 @@
 -- What no other text is.
 use Rattle.std.specs.Prelude.{◌≡◌, ◌≢◌, ℕ, List, None, false, codes}
-use Rattle.cidr_merge.specs.CommandLines.{operation_called, is_option_text}
+use Rattle.cidr_merge.specs.CommandLines.{operation_called, form_called, is_option_text}
 
--- no text but these four names an operation
+-- no text but these five names an operation
 abbrev pub NoOtherOperation : Type 0
-NoOtherOperation = (text : List ℕ) → text ≢ codes "union" → text ≢ codes "common" → text ≢ codes "minus" → text ≢ codes "differ" → operation_called text ≡ None
+NoOtherOperation = (text : List ℕ) → text ≢ codes "union" → text ≢ codes "list" → text ≢ codes "common" → text ≢ codes "minus" → text ≢ codes "differ" → operation_called text ≡ None
 
--- no text but these three is an option of an operation
+-- no text but these four is an option of an operation
 abbrev pub NoOtherOption : Type 0
-NoOtherOption = (text : List ℕ) → text ≢ codes "--ranges" → text ≢ codes "--count" → text ≢ codes "--skip-bad" → is_option_text text ≡ false
+NoOtherOption = (text : List ℕ) → text ≢ codes "--ranges" → text ≢ codes "--count" → text ≢ codes "--format" → text ≢ codes "--skip-bad" → is_option_text text ≡ false
+
+-- no text but these nine names a form
+abbrev pub NoOtherForm : Type 0
+NoOtherForm = (text : List ℕ) → text ≢ codes "plain" → text ≢ codes "range" → text ≢ codes "netmask" → text ≢ codes "wildcard"
+    → text ≢ codes "csv" → text ≢ codes "nft" → text ≢ codes "ipset" → text ≢ codes "json" → text ≢ codes "addresses" → form_called text ≡ None

@@ -1,6 +1,7 @@
 -- What the contracts of this crate cite.
 pub mod Answers
 pub mod CommandLines
+pub mod Exports
 pub mod Laws
 pub mod Parts
 pub mod Private

@@ -1,12 +1,14 @@
 -- What is wrong with words that are not a command.
-use Rattle.std.specs.Prelude.{ℕ, ◌+◌, ◌&&◌, Bool, not, List, [], ◌∷◌, Option, None, Some, length, nat_le, nat_lt, if◌then◌else◌, codes, bytes_eq, String}
+use Rattle.std.specs.Prelude.{ℕ, ◌+◌, ◌&&◌, Bool, false, not, List, [], ◌∷◌, Option, None, Some, length, nat_le, nat_lt, if◌then◌else◌, codes, bytes_eq, String}
 use Rattle.std.specs.List.{list_all, position_or_len, prefix_len}
+use Rattle.std.specs.String.{string_bytes}
 use Rattle.program.specs.Told.{name_at}
 use Rattle.program.specs.Words.{is, count}
 use Rattle.program.specs.declared.usage.Subject.TheVariants.{CommandLine, Word}
-use Rattle.cidr_merge.specs.CommandLines.{has, operation_named, options_of, lists_of, before_dashes, behind_dashes, is_option, is_name}
+use Rattle.cidr_merge.specs.CommandLines.{has, names_form, named_twice, can_print, form_of, operation_named, options_of, lists_of, before_dashes, behind_dashes, is_option, is_name}
 use Rattle.cidr_merge.specs.declared.command_line.Operation.{Operation}
 use Rattle.cidr_merge.specs.declared.command_line.Operation.TheVariants.{Union, Common, Minus, Differ}
+use Rattle.cidr_merge.specs.declared.command_line.Form.TheVariants.{Blocks}
 use Rattle.cidr_merge.specs.declared.usage.Problem.{Problem}
 use Rattle.cidr_merge.specs.declared.usage.Problem.TheVariants as problems
 use Rattle.cidr_merge.specs.declared.usage.UsageFault.{UsageFault}
@@ -16,11 +18,14 @@ abbrev pub problem_text : Problem → List ℕ
 problem_text problems.NoOperation = codes "no operation"
 problem_text problems.NotAnOperation = codes "not an operation"
 problem_text problems.NotAnOption = codes "not an option of an operation"
+problem_text problems.NotAForm = codes "not a form"
 problem_text problems.RangesAndCount = codes "not together with --count"
+problem_text problems.AnotherForm = codes "given twice, or together with --ranges or --count"
+problem_text problems.FormOfDiffer = codes "differ can be printed only as plain or range"
 problem_text problems.EmptyName = codes "not the name of a file"
 problem_text problems.OptionAmongLists = codes "not a FILE; options stand before the first one"
 problem_text problems.InputTwice = codes "standard input can be read only once"
-problem_text problems.SecondSideOfUnion = codes "union has no second side"
+problem_text problems.SecondSideOfUnion = codes "only common, minus and differ have a second side"
 problem_text problems.ThirdSide = codes "there are only two sides"
 problem_text problems.NoList = codes "no FILE"
 problem_text problems.OneSide = codes "no second side"
@@ -48,13 +53,40 @@ first_not test words = if list_all test words then None else Some (prefix_len te
 abbrev pub option_problem : List ℕ → Problem
 option_problem text = if bytes_eq text (codes "--") then problems.EmptyFirstSide else problems.NotAnOption
 
--- what is wrong with the options, of which the first is the second word: the first word that is none, or `--ranges`
--- that is given together with `--count`
-abbrev pub options_fault : {Z : Type 0} → List (String Z) → Option UsageFault
-options_fault options =
-    if not (list_all is_option options) then Some (at_word (1 + prefix_len is_option options) (option_problem (name_at options (prefix_len is_option options))))
-    else if has (codes "--ranges") options && has (codes "--count") options then Some (at_word (1 + position_or_len (is (codes "--ranges")) options) problems.RangesAndCount)
+-- what is wrong with a word among the options, which may be the value of one
+abbrev pub word_problem : {Z : Type 0} → Bool → String Z → Option Problem
+word_problem is_value word =
+    if is_value then (if names_form word then None else Some problems.NotAForm)
+    else if is_option word then None
+    else Some (option_problem (string_bytes word))
+
+-- a fault of the word at the index, or else another
+abbrev pub fault_or : ℕ → Option Problem → Option UsageFault → Option UsageFault
+fault_or place (Some problem) other = Some (at_word place problem)
+fault_or place None other = other
+
+-- the fault of the first word that is neither an option nor the value of one, if the first of these words has this index
+-- and is a value or not
+abbrev pub wrong_option : {Z : Type 0} → ℕ → Bool → List (String Z) → Option UsageFault
+wrong_option place is_value [] = None
+wrong_option place is_value (word ∷ words) = fault_or place (word_problem is_value word) (wrong_option (1 + place) (is (codes "--format") word) words)
+
+-- options that say how to print, and exclude each other
+abbrev pub forms_fault : {Z : Type 0} → List (String Z) → Option UsageFault
+forms_fault options =
+    if has (codes "--ranges") options && has (codes "--count") options then Some (at_word (1 + position_or_len (is (codes "--ranges")) options) problems.RangesAndCount)
+    else if named_twice options then Some (at_word (1 + position_or_len (is (codes "--format")) options) problems.AnotherForm)
     else None
+
+-- what is wrong with the options, of which the first is the second word: the first word that is none, or two that
+-- exclude each other
+abbrev pub options_fault : {Z : Type 0} → List (String Z) → Option UsageFault
+options_fault options = first_of (wrong_option 1 false options) (forms_fault options)
+
+-- `differ` has a form that cannot tell its sides
+abbrev pub form_fault : {Z : Type 0} → Operation → List (String Z) → Option UsageFault
+form_fault operation options =
+    if can_print operation (form_of Blocks options) then None else Some (at_word (1 + position_or_len (is (codes "--format")) options) problems.FormOfDiffer)
 
 -- a text that names no list is empty, or begins with a `-`
 abbrev pub name_problem : List ℕ → Problem
@@ -98,7 +130,7 @@ parts_fault Differ first lists = sides_fault first lists
 -- what is wrong with the options of an operation and its lists, which are all words after the first
 abbrev pub fault_among : {Z : Type 0} → Operation → List (String Z) → List (String Z) → Option UsageFault
 fault_among operation options lists =
-    first_of (options_fault options) (first_of (lists_fault (1 + length options) lists) (parts_fault operation (1 + length options) lists))
+    first_of (options_fault options) (first_of (form_fault operation options) (first_of (lists_fault (1 + length options) lists) (parts_fault operation (1 + length options) lists)))
 
 -- what is wrong with words of which the first names this operation, or none
 abbrev pub fault_for : {Z : Type 0} → Option Operation → List (String Z) → Option UsageFault

@@ -1,12 +1,13 @@
 //! What the arguments ask for.
-ghost use Rattle.std.specs.Prelude.{◌≡◌, Some, length, IfOk, MatchResult};
-ghost use Rattle.cidr_merge.specs.CommandLines.{operation_named, form_of, AreFor, AreForNone, Says};
+ghost use Rattle.std.specs.Prelude.{◌≡◌, ◌+◌, ◌^◌, ◌<◌, Some, length, IfOk, MatchResult};
+ghost use Rattle.cidr_merge.specs.CommandLines.{operation_named, usual_form, form_called, form_of, AreFor, AreForNone, Says};
 ghost use Rattle.cidr_merge.specs.Private.Words.{IsWithin};
 ghost use Rattle.cidr_merge.specs.Usage.{fault_in};
 
+use crate::exports::Export;
 use crate::usage::{Problem, UsageFault, fault_of, fault_of_word, nothing_said};
 use crate::words::{has, options_count, place_of};
-use program::words::is;
+use program::words::{is, text_at};
 
 /// What is done with the lists.
 #[derive(Clone, Copy, Debug, PartialEq, Eq)]
@@ -30,6 +31,8 @@ pub enum Form {
     Ranges,
     /// How many blocks and how many addresses there are.
     Counts,
+    /// The blocks of the least list, as another program reads them.
+    Exported(Export),
 }
 
 /// How the lists are merged. The lists of a side are a range of the words.
@@ -72,7 +75,7 @@ pub(crate) fn request_of(words: &[String]) -> Result<Request, UsageFault>
     let middle = first + place_of(lists, "--");
     Ok(Request {
         operation,
-        form: form_of(options),
+        form: form_of(usual_form(name), options),
         skips_bad: has(options, "--skip-bad"),
         first,
         middle,
@@ -84,7 +87,7 @@ pub(crate) fn request_of(words: &[String]) -> Result<Request, UsageFault>
 fn operation_of(word: &String) -> Option<Operation>
     ensures { result ≡ operation_named word.now }
 {
-    if is(word, "union") {
+    if is(word, "union") || is(word, "list") {
         Some(Operation::Union)
     } else if is(word, "common") {
         Some(Operation::Common)
@@ -97,15 +100,58 @@ fn operation_of(word: &String) -> Option<Operation>
     }
 }
 
-// How these options say to print.
-fn form_of(options: &[String]) -> Form
-    ensures { result ≡ form_of options.now }
+// How an operation of this name prints without an option.
+fn usual_form(word: &String) -> Form
+    ensures { result ≡ usual_form word.now }
 {
-    if has(options, "--ranges") {
-        Form::Ranges
-    } else if has(options, "--count") {
-        Form::Counts
+    if is(word, "list") {
+        Form::Exported(Export::Addresses)
     } else {
         Form::Blocks
+    }
+}
+
+/// How these options say to print, or else this form.
+pub(crate) fn form_of(usual: Form, options: &[String]) -> Form
+    requires { 1 + length options.now < 2 ^ 64 }
+    ensures { result ≡ form_of usual options.now }
+{
+    if has(options, "--ranges") {
+        return Form::Ranges;
+    }
+    if has(options, "--count") {
+        return Form::Counts;
+    }
+    let value = text_at(options, 1 + place_of(options, "--format"));
+    match form_called(value) {
+        Some(form) => form,
+        None => usual,
+    }
+}
+
+/// The form of this name.
+pub(crate) fn form_called(text: &str) -> Option<Form>
+    ensures { result ≡ form_called text.now }
+{
+    if text == "plain" {
+        Some(Form::Blocks)
+    } else if text == "range" {
+        Some(Form::Ranges)
+    } else if text == "netmask" {
+        Some(Form::Exported(Export::Netmask))
+    } else if text == "wildcard" {
+        Some(Form::Exported(Export::Wildcard))
+    } else if text == "csv" {
+        Some(Form::Exported(Export::Csv))
+    } else if text == "nft" {
+        Some(Form::Exported(Export::Nft))
+    } else if text == "ipset" {
+        Some(Form::Exported(Export::Ipset))
+    } else if text == "json" {
+        Some(Form::Exported(Export::Json))
+    } else if text == "addresses" {
+        Some(Form::Exported(Export::Addresses))
+    } else {
+        None
     }
 }

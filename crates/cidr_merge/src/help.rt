@@ -8,12 +8,14 @@ Merges lists of IP networks, and prints the shortest list with exactly the addre
     cidr_merge common [OPTION..] FILE.. -- FILE..   of both sides
     cidr_merge minus  [OPTION..] FILE.. -- FILE..   of the first side and not of the second
     cidr_merge differ [OPTION..] FILE.. -- FILE..   what one side has and the other has not
+    cidr_merge list   [OPTION..] FILE..             each address of any of the files
 
-    --ranges     print FIRST - LAST for each run of addresses
-    --count      print v4 BLOCKS ADDRESSES and v6 BLOCKS ADDRESSES
-    --skip-bad   report refused lines, and print the result for the others
-    --help       print this text
-    --version    print the version
+    --ranges       print FIRST - LAST for each run of addresses
+    --count        print v4 BLOCKS ADDRESSES and v6 BLOCKS ADDRESSES
+    --format FORM  print plain, range, netmask, wildcard, csv, nft, ipset, json or addresses
+    --skip-bad     report refused lines, and print the result for the others
+    --help         print this text
+    --version      print the version
 
 A FILE is a name, or - for standard input. A line has a network (10.0.0.0/8, 10.0.0.1, 2001:db8::/32), a range (A - B)
 or nothing; # and ; begin a comment. Host bits are dropped. A line has at most 1,024 bytes.
@@ -37,4 +39,4 @@ pub(crate) const PROGRAM: &str = "cidr_merge";
 
 /// What is reported for arguments that are not a command, after what is wrong with them.
 pub(crate) const USAGE: &str =
-    "usage: cidr_merge union|common|minus|differ [OPTION..] FILE.. [-- FILE..]; try --help\n";
+    "usage: cidr_merge union|common|minus|differ|list [OPTION..] FILE.. [-- FILE..]; try --help\n";

@@ -1,6 +1,6 @@
 //! What follows from the clauses of a run. The contract of each function is a law: it does nothing, and a proof that
 //! calls it may use the law.
-ghost use Rattle.cidr_merge.specs.Laws.{NoOtherOperation, NoOtherOption};
+ghost use Rattle.cidr_merge.specs.Laws.{NoOtherForm, NoOtherOperation, NoOtherOption};
 ghost use Rattle.cidr_merge.specs.Parts.{UnionsOfPartsPrintTheSame};
 
 use ipnetwork_blocks::laws as block_laws;
@@ -16,12 +16,17 @@ pub fn unions_of_parts_print_the_same()
     block_laws::same_union();
 }
 
-/// No word but `union`, `common`, `minus` and `differ` names an operation.
+/// No word but `union`, `list`, `common`, `minus` and `differ` names an operation.
 pub fn no_other_operations()
     ensures { NoOtherOperation }
 {}
 
-/// No word but `--ranges`, `--count` and `--skip-bad` is an option of an operation.
+/// No word but `--ranges`, `--count`, `--format` and `--skip-bad` is an option of an operation.
 pub fn no_other_options()
     ensures { NoOtherOption }
+{}
+
+/// No word but `plain`, `range`, `netmask`, `wildcard`, `csv`, `nft`, `ipset`, `json` and `addresses` names a form.
+pub fn no_other_forms()
+    ensures { NoOtherForm }
 {}

@@ -1,8 +1,12 @@
 //! Merges lists of networks: prints the least list of what an operation leaves of them.
 #![tactic(auto)]
 
+mod addresses;
 mod command_line;
 mod counts;
+mod elements;
+mod exporting;
+mod exports;
 mod help;
 mod laws;
 mod printing;

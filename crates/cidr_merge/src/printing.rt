@@ -7,6 +7,7 @@ ghost use Rattle.lines.specs.Outputs.{Prints};
 
 use crate::command_line::{Form, Operation};
 use crate::counts::Counts;
+use crate::exporting::print_export;
 use crate::reading::Sets;
 use crate::side_parts::{Parts, sign_of};
 use crate::sides::{Side, Sides};
@@ -39,6 +40,7 @@ pub(crate) fn print<W: Write>(
             print_ranges(operation, &first.v6, &second.v6, output)
         }
         Form::Counts => print_counts(operation, first, second, output),
+        Form::Exported(export) => print_export(operation, export, first, second, output),
     }
 }
 

@@ -1,10 +1,10 @@
 //! What is wrong with words that are not a command.
-ghost use Rattle.std.specs.Prelude.{◌≡◌, ◌+◌, ◌^◌, ◌<◌, length, IfSome};
-ghost use Rattle.cidr_merge.specs.CommandLines.{is_option, is_name};
-ghost use Rattle.cidr_merge.specs.Usage.{problem_text, no_operation, at_word, first_not, options_fault, option_problem, lists_fault, name_problem, union_fault, no_second_side, sides_fault, fault_among};
+ghost use Rattle.std.specs.Prelude.{◌≡◌, ◌+◌, ◌^◌, ◌<◌, false, length, IfSome};
+ghost use Rattle.cidr_merge.specs.CommandLines.{is_option, is_name, names_form, is_exported, named_twice};
+ghost use Rattle.cidr_merge.specs.Usage.{problem_text, no_operation, at_word, first_not, word_problem, wrong_option, options_fault, option_problem, form_fault, lists_fault, name_problem, union_fault, no_second_side, sides_fault, fault_among};
 
-use crate::command_line::Operation;
-use crate::words::{has, is_dashed, place_of};
+use crate::command_line::{Form, Operation, form_called, form_of};
+use crate::words::{has, is_dashed, is_repeated, place_of};
 use program::usage::Subject;
 use program::words::{count_of, is, text_at};
 
@@ -17,8 +17,14 @@ pub enum Problem {
     NotAnOperation,
     /// A word before the lists is not an option.
     NotAnOption,
+    /// The word after `--format` is not a form.
+    NotAForm,
     /// `--ranges` is given together with `--count`.
     RangesAndCount,
+    /// `--format` is given twice, or together with `--ranges` or `--count`.
+    AnotherForm,
+    /// `differ` cannot be printed in this form.
+    FormOfDiffer,
     /// The name of a list is empty.
     EmptyName,
     /// A word that begins with a `-` stands among the lists.
@@ -48,11 +54,14 @@ impl Problem {
             Problem::NoOperation => "no operation",
             Problem::NotAnOperation => "not an operation",
             Problem::NotAnOption => "not an option of an operation",
+            Problem::NotAForm => "not a form",
             Problem::RangesAndCount => "not together with --count",
+            Problem::AnotherForm => "given twice, or together with --ranges or --count",
+            Problem::FormOfDiffer => "differ can be printed only as plain or range",
             Problem::EmptyName => "not the name of a file",
             Problem::OptionAmongLists => "not a FILE; options stand before the first one",
             Problem::InputTwice => "standard input can be read only once",
-            Problem::SecondSideOfUnion => "union has no second side",
+            Problem::SecondSideOfUnion => "only common, minus and differ have a second side",
             Problem::ThirdSide => "there are only two sides",
             Problem::NoList => "no FILE",
             Problem::OneSide => "no second side",
@@ -103,6 +112,9 @@ pub(crate) fn fault_of(
     if let Some(fault) = options_fault(options) {
         return Some(fault);
     }
+    if let Some(fault) = form_fault(operation, options) {
+        return Some(fault);
+    }
     let first = 1 + options.len();
     if let Some(fault) = lists_fault(lists, first) {
         return Some(fault);
@@ -118,15 +130,103 @@ fn options_fault(options: &[String]) -> Option<UsageFault>
     requires { 1 + length options.now < 2 ^ 64 }
     ensures { result ≡ options_fault options.now }
 {
-    if let Some(place) = no_option_at(options) {
-        let problem = option_problem(text_at(options, place));
-        return Some(fault_of_word(1 + place, problem));
+    if let Some(fault) = wrong_option(options) {
+        return Some(fault);
     }
     if has(options, "--ranges") && has(options, "--count") {
         let place = place_of(options, "--ranges");
         return Some(fault_of_word(1 + place, Problem::RangesAndCount));
     }
+    if named_twice(options) {
+        let place = place_of(options, "--format");
+        return Some(fault_of_word(1 + place, Problem::AnotherForm));
+    }
     None
+}
+
+// Whether `--format` is given twice, or together with another option that says how to print.
+fn named_twice(options: &[String]) -> bool
+    ensures { result ≡ named_twice options.now }
+{
+    is_repeated(options, "--format")
+        || has(options, "--format") && (has(options, "--ranges") || has(options, "--count"))
+}
+
+// The fault of the first word that is neither an option nor the value of one.
+#[tactic(auto, using(crate::proofs::Options::next_wrong, crate::proofs::Options::found_wrong, crate::proofs::Options::passed_right, crate::proofs::Options::none_wrong_more))]
+fn wrong_option(options: &[String]) -> Option<UsageFault>
+    requires { 1 + length options.now < 2 ^ 64 }
+    ensures { result ≡ wrong_option 1 false options.now }
+{
+    let mut is_value = false;
+    for place in 0..options.len() {
+        if let Some(problem) = word_problem(is_value, &options[place]) {
+            return Some(fault_of_word(1 + place, problem));
+        }
+        is_value = is(&options[place], "--format");
+    }
+    None
+}
+
+// What is wrong with a word among the options, which may be the value of one.
+fn word_problem(is_value: bool, word: &String) -> Option<Problem>
+    ensures { result ≡ word_problem is_value word.now }
+{
+    if is_value {
+        if names_form(word) {
+            return None;
+        }
+        return Some(Problem::NotAForm);
+    }
+    if is_option(word) {
+        return None;
+    }
+    Some(option_problem(word.as_str()))
+}
+
+// Whether a word names a form.
+fn names_form(word: &String) -> bool
+    ensures { result ≡ names_form word.now }
+{
+    match form_called(word.as_str()) {
+        Some(_) => true,
+        None => false,
+    }
+}
+
+// That `differ` has a form that cannot tell its sides.
+fn form_fault(operation: Operation, options: &[String]) -> Option<UsageFault>
+    requires { 1 + length options.now < 2 ^ 64 }
+    ensures { result ≡ form_fault operation options.now }
+{
+    match operation {
+        Operation::Union => None,
+        Operation::Common => None,
+        Operation::Minus => None,
+        Operation::Differ => export_fault(options),
+    }
+}
+
+// That the form is one that other programs read.
+fn export_fault(options: &[String]) -> Option<UsageFault>
+    requires { 1 + length options.now < 2 ^ 64 }
+    ensures { result ≡ form_fault Operation.Differ options.now }
+{
+    if is_exported(form_of(Form::Blocks, options)) {
+        let place = place_of(options, "--format");
+        return Some(fault_of_word(1 + place, Problem::FormOfDiffer));
+    }
+    None
+}
+
+// Whether a form is one that other programs read.
+fn is_exported(form: Form) -> bool
+    ensures { result ≡ is_exported form }
+{
+    match form {
+        Form::Exported(_) => true,
+        _ => false,
+    }
 }
 
 // What is wrong with a text that is no option.
@@ -212,27 +312,11 @@ fn no_second_side(lists: &[String], first: usize) -> UsageFault
     }
 }
 
-// The place of the first word that is not an option, if there is one.
-fn no_option_at(words: &[String]) -> Option<usize>
-    ensures within { IfSome result (λ place. place < length words.now) }
-    ensures place { result ≡ first_not is_option words.now }
-{
-    let mut place = 0;
-    while place < words.len() && is_option(&words[place]) {
-        place += 1;
-    }
-    if place < words.len() {
-        Some(place)
-    } else {
-        None
-    }
-}
-
 // Whether a word is an option.
 fn is_option(word: &String) -> bool
     ensures { result ≡ is_option word.now }
 {
-    is(word, "--ranges") || is(word, "--count") || is(word, "--skip-bad")
+    is(word, "--ranges") || is(word, "--count") || is(word, "--format") || is(word, "--skip-bad")
 }
 
 // The place of the first word that neither names a list nor is `--`, if there is one.

@@ -1,8 +1,8 @@
 //! Words of a command line.
-ghost use Rattle.std.specs.Prelude.{◌≡◌, ◌≤◌, length};
-ghost use Rattle.std.specs.List.{position_or_len, prefix_len};
-ghost use Rattle.program.specs.Words.{is};
-ghost use Rattle.cidr_merge.specs.CommandLines.{has, is_dashed};
+ghost use Rattle.std.specs.Prelude.{◌≡◌, ◌≤◌, false, length, nat_lt};
+ghost use Rattle.std.specs.List.{position_or_len};
+ghost use Rattle.program.specs.Words.{is, count};
+ghost use Rattle.cidr_merge.specs.CommandLines.{has, is_dashed, belongs, options_len};
 
 use program::words::{count_of, is};
 
@@ -11,6 +11,13 @@ pub(crate) fn has(words: &[String], text: &str) -> bool
     ensures { result ≡ has text.now words.now }
 {
     count_of(words, text) > 0
+}
+
+/// Whether more than one of these words is this text.
+pub(crate) fn is_repeated(words: &[String], text: &str) -> bool
+    ensures { result ≡ nat_lt 1 (count text.now words.now) }
+{
+    count_of(words, text) > 1
 }
 
 /// The place of the first word that is this text, or the number of words.
@@ -35,14 +42,25 @@ pub(crate) fn is_dashed(word: &String) -> bool
     }
 }
 
-/// How many words stand before the first that is `-` or does not begin with `-`.
+/// How many of the words are options and their values: those before the first that is `-` or does not begin with `-`.
+/// The word after a `--format` is its value, whatever it is.
+#[tactic(auto, using(crate::proofs::Options::option_more, crate::proofs::Options::no_option_more, crate::proofs::Options::no_word_more))]
 pub(crate) fn options_count(words: &[String]) -> usize
     ensures within { result ≤ length words.now }
-    ensures count { result ≡ prefix_len is_dashed words.now }
+    ensures count { result ≡ options_len false words.now }
 {
     let mut count = 0;
-    while count < words.len() && is_dashed(&words[count]) {
+    let mut is_value = false;
+    while count < words.len() && belongs(is_value, &words[count]) {
+        is_value = is(&words[count], "--format");
         count += 1;
     }
     count
+}
+
+// Whether a word that may be the value of an option stands among the options.
+fn belongs(is_value: bool, word: &String) -> bool
+    ensures { result ≡ belongs is_value word.now }
+{
+    is_value || is_dashed(word)
 }

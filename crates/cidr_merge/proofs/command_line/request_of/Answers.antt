@@ -1,5 +1,6 @@
-use Rattle.std.proofs.Common.{rules, refl, sym, ◌∙◌, ◌-◌, length, take, drop}
+use Rattle.std.proofs.Common.{rules, refl, sym, ap, ◌∙◌, ◌-◌, length, take, drop}
 use Rattle.std.proofs.lemmas.List.{take_rest}
+use Rattle.cidr_merge.specs.CommandLines.{form_of}
 use Rattle.cidr_merge.proofs.Faults.{all_right, said_wrong}
 use Rattle.cidr_merge.proofs.Requests.{said}
 use Rattle.cidr_merge.proofs.command_line.request_of.Goals as goal
@@ -20,4 +21,4 @@ returns-clause-asked c =
     let right = all_right c.in-Some-operation_of.operation options lists (sym c.fault_of.ensures ∙ c.in_default-fault_of.is) in
     said c.args.words.now c.in-Some.name.now others options lists c.in-Some-operation_of.operation c.form_of.result c.has.result n c.place_of.result
     c.min.result (search rules) (search rules) c.options_count-count.ensures.count refl (take_rest others n) c.place_of.ensures.place c.min.ensures
-    right.0 right.1 right.2 c.form_of.ensures c.has.ensures
+    right.0 right.1 right.2 right.3 (c.form_of.ensures ∙ ap (λ usual. form_of usual options) c.usual_form.ensures) c.has.ensures

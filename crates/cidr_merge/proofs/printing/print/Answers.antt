@@ -2,7 +2,7 @@ use Rattle.std.proofs.Common.{ℕ, List}
 use Rattle.ipnetwork_family.specs.Family.{v4_family, v6_family}
 use Rattle.cidr_merge.specs.Answers.{AreBlockLines, AreRangeLines, IsAnswer}
 use Rattle.lines.specs.Outputs.{Prints}
-use Rattle.cidr_merge.specs.declared.command_line.Form.TheVariants.{Blocks, Ranges, Counts}
+use Rattle.cidr_merge.specs.declared.command_line.Form.TheVariants.{Blocks, Ranges, Counts, Exported}
 use Rattle.cidr_merge.proofs.Putting.{both_ok, by_form}
 use Rattle.cidr_merge.proofs.printing.print.Goals as goal
 
@@ -34,3 +34,10 @@ returns-in-Counts-clause-text g c =
     let after = c.print_counts.new.output in
     by_form c.print_counts.result c.args.form Counts (λ form. (text : List ℕ) × IsAnswer c.args.operation form c.args.first.now c.args.second.now text
     × Prints output after text) c.in-Counts.is c.print_counts.ensures.text
+
+pub returns-in-Exported-clause-text : goal.returns-in-Exported-clause-text
+returns-in-Exported-clause-text g c =
+    let output = c.args.output.now in
+    let after = c.print_export.new.output in
+    by_form c.print_export.result c.args.form (Exported c.in-Exported.export) (λ form. (text : List ℕ) × IsAnswer c.args.operation form c.args.first.now c.args.second.now text
+    × Prints output after text) c.in-Exported.is c.print_export.ensures.text

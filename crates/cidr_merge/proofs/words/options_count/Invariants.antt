@@ -1,12 +1,11 @@
-use Rattle.std.proofs.Common.{length, ◌-◌, ◌≡◌, ◌+◌, ◌≤◌, drop}
-use Rattle.std.specs.List.{prefix_len}
-use Rattle.cidr_merge.specs.CommandLines.{is_dashed}
+use Rattle.std.proofs.Common.{length, false, ◌-◌, ◌≡◌, ◌+◌, ◌≤◌, drop}
+use Rattle.cidr_merge.specs.CommandLines.{options_len}
 use Rattle.cidr_merge.proofs.words.options_count.Given as goal
 
 abbrev pub invariant-loop-count : goal.invariant-loop-count
 invariant-loop-count l = record {
   within : l.count ≤ length l.words;
-  counted : prefix_len is_dashed l.words ≡ l.count + prefix_len is_dashed (drop l.count l.words);
+  counted : options_len false l.words ≡ l.count + options_len l.is_value (drop l.count l.words);
 }
 
 abbrev pub decreases-loop-count : goal.decreases-loop-count

@@ -1,0 +1,35 @@
+//! Prints addresses.
+ghost use Rattle.std.specs.Prelude.{◌≡◌, ◌||◌, OnOk, is_err};
+ghost use Rattle.std.specs.List.{flat_map};
+ghost use Rattle.lines.specs.Outputs.{Prints};
+ghost use Rattle.cidr_merge.specs.Exports.{address_line};
+
+use ipnetwork::{Address, NetworkIterator};
+use lines::fault::RunFault;
+use lines::output::Output;
+use std::io::Write;
+
+/// Prints each of the addresses on a line.
+pub(crate) fn print_addresses<A: Address, W: Write>(
+    mut addresses: NetworkIterator<A>,
+    output: &mut Output<'_, W>,
+) -> Result<(), RunFault>
+    ensures text { OnOk result (Prints output.old output.new
+        (flat_map (address_line A.family) addresses)) }
+    ensures failed { output.new.failed ≡ (output.old.failed || is_err result) }
+{
+    while let Some(address) = addresses.next() {
+        put_address(address, output)?;
+    }
+    Ok(())
+}
+
+// Prints an address on a line.
+fn put_address<A: Address, W: Write>(address: A, output: &mut Output<'_, W>) -> Result<(), RunFault>
+    ensures text { OnOk result (Prints output.old output.new
+        (address_line A.family (A.number address))) }
+    ensures failed { output.new.failed ≡ (output.old.failed || is_err result) }
+{
+    output.put(address.canonical().as_str().as_bytes())?;
+    output.put(b"\n")
+}

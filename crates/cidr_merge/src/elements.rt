@@ -1,0 +1,172 @@
+//! How a block is written in an export.
+ghost use Rattle.std.specs.Prelude.{◌≡◌, ◌≢◌, ◌≤◌, ◌+◌, ◌-◌, ◌++◌, ◌∷◌, [], length};
+ghost use Rattle.arrayvec.specs.ArrayString.{array_string_len};
+ghost use Rattle.ipnetwork_family.specs.Family.{text_of};
+ghost use Rattle.ipnetwork_family.specs.Network.{block_size};
+ghost use Rattle.cidr_merge.specs.Exports.{element, with_mask, csv_line, ipset_line, ipset_lines, family_name, set_name, halves};
+
+use crate::exports::{Export, Version};
+use arrayvec::ArrayString;
+use ipnetwork::{Address, Network};
+use ipnetwork_addr::decimal::push_decimal;
+
+/// The most bytes of a block: a line of comma-separated values has 129.
+pub(crate) const ELEMENT_CAPACITY: usize = 160;
+
+/// The text of a block.
+pub(crate) type Element = ArrayString<ELEMENT_CAPACITY>;
+
+/// The text of a block, unless each of its addresses is printed.
+pub(crate) fn element<A: Address>(export: Export, version: Version, block: Network<A>) -> Element
+    requires { export ≢ Export.Addresses }
+    ensures { result.bytes ≡ element export version A.family block }
+{
+    match export {
+        Export::Netmask => with_mask(version, block, block.mask()),
+        Export::Wildcard => with_mask(version, block, wildcard(block)),
+        Export::Csv => csv_line(version, block),
+        Export::Nft => {
+            let mut text = ArrayString::new();
+            push_network(&mut text, block);
+            text
+        }
+        Export::Ipset => ipset_lines(version, block),
+        Export::Json => {
+            let mut text = ArrayString::new();
+            text.push('"');
+            push_network(&mut text, block);
+            text.push('"');
+            text
+        }
+        Export::Addresses => unreachable!(),
+    }
+}
+
+// The mask with each bit turned round.
+fn wildcard<A: Address>(block: Network<A>) -> A
+    ensures { A.number result ≡ block_size A.WIDTH block.prefix - 1 }
+{
+    A::mask(0).greatest(block.prefix())
+}
+
+// A line with the address of an IPv4 block and this mask, or with the text of an IPv6 block.
+fn with_mask<A: Address>(version: Version, block: Network<A>, mask: A) -> Element
+    ensures { result.bytes ≡ with_mask version A.family block (A.number mask) }
+{
+    match version {
+        Version::V4 => address_with_mask(block.ip(), mask),
+        Version::V6 => {
+            let mut text = ArrayString::new();
+            push_network(&mut text, block);
+            text.push('\n');
+            text
+        }
+    }
+}
+
+// A line with an address and a mask.
+fn address_with_mask<A: Address>(address: A, mask: A) -> Element
+    ensures { result.bytes ≡ A.family.canonical (A.number address) ++ 32 ∷ []
+        ++ A.family.canonical (A.number mask) ++ 10 ∷ [] }
+{
+    let mut text = ArrayString::new();
+    push_address(&mut text, address);
+    text.push(' ');
+    push_address(&mut text, mask);
+    text.push('\n');
+    text
+}
+
+// A line of comma-separated values.
+fn csv_line<A: Address>(version: Version, block: Network<A>) -> Element
+    ensures { result.bytes ≡ csv_line version A.family block }
+{
+    let mut text = ArrayString::new();
+    text.push_str(family_name(version));
+    text.push(',');
+    push_network(&mut text, block);
+    text.push(',');
+    push_address(&mut text, block.network());
+    text.push(',');
+    push_address(&mut text, block.broadcast());
+    text.push('\n');
+    text
+}
+
+// What adds a block to a set of ipset: a set cannot have the block of all addresses, but both halves of it.
+fn ipset_lines<A: Address>(version: Version, block: Network<A>) -> Element
+    ensures { result.bytes ≡ ipset_lines version A.family block }
+{
+    if block.prefix() == 0 {
+        let mut text = ArrayString::new();
+        text.push_str(halves(version));
+        return text;
+    }
+    ipset_line(version, block)
+}
+
+// What adds a block to a set of ipset.
+fn ipset_line<A: Address>(version: Version, block: Network<A>) -> Element
+    ensures { result.bytes ≡ ipset_line version A.family block }
+{
+    let mut text = ArrayString::new();
+    text.push_str("add ");
+    text.push_str(set_name(version));
+    text.push(' ');
+    push_network(&mut text, block);
+    text.push('\n');
+    text
+}
+
+// The name of a family.
+fn family_name(version: Version) -> &'static str
+    ensures name { result.now ≡ family_name version }
+    ensures short { length result.now ≤ 4 }
+{
+    match version {
+        Version::V4 => "IPv4",
+        Version::V6 => "IPv6",
+    }
+}
+
+// The name of the set of a family.
+fn set_name(version: Version) -> &'static str
+    ensures name { result.now ≡ set_name version }
+    ensures short { length result.now ≤ 15 }
+{
+    match version {
+        Version::V4 => "cidr_merge_ipv4",
+        Version::V6 => "cidr_merge_ipv6",
+    }
+}
+
+// What adds all addresses of a family to its set.
+fn halves(version: Version) -> &'static str
+    ensures lines { result.now ≡ halves version }
+    ensures short { length result.now ≤ 160 }
+{
+    match version {
+        Version::V4 => "add cidr_merge_ipv4 0.0.0.0/1\nadd cidr_merge_ipv4 128.0.0.0/1\n",
+        Version::V6 => "add cidr_merge_ipv6 ::/1\nadd cidr_merge_ipv6 8000::/1\n",
+    }
+}
+
+// Writes the canonical text of an address at the end of a text.
+fn push_address<A: Address>(text: &mut Element, address: A)
+    requires { array_string_len text.old + 39 ≤ 160 }
+    ensures bytes { text.new.bytes ≡ text.old.bytes ++ A.family.canonical (A.number address) }
+    ensures room { array_string_len text.new ≤ array_string_len text.old + 39 }
+{
+    text.push_str(address.canonical().as_str());
+}
+
+// Writes the canonical text of a block at the end of a text.
+fn push_network<A: Address>(text: &mut Element, block: Network<A>)
+    requires { array_string_len text.old + 43 ≤ 160 }
+    ensures bytes { text.new.bytes ≡ text.old.bytes ++ text_of A.family block }
+    ensures room { array_string_len text.new ≤ array_string_len text.old + 43 }
+{
+    push_address(text, block.ip());
+    text.push('/');
+    push_decimal(text, block.prefix());
+}
