@@ -6,7 +6,7 @@ use Rattle.std.proofs.lemmas.List.Folds.{list_any-append}
 use Rattle.ipnetwork_addr.specs.declared.ip.IpAddr.{IpAddr}
 use Rattle.ipnetwork.specs.declared.ip_network.IpNetwork.{IpNetwork}
 use Rattle.cidr_filter.specs.Addressed.{is_addressed, any_addressed, is_addressed_by, no_address_text, lacking_by}
-use Rattle.cidr_filter.specs.Filters.{FirstListed, Judges, addresses_in}
+use Rattle.cidr_filter.specs.Filters.{FirstListed, IsVerdict, addresses_in}
 use Rattle.cidr_filter.specs.Lines.{LogLine, content}
 use Rattle.cidr_filter.specs.declared.filter.Filter.{Filter}
 use Rattle.cidr_filter.specs.declared.filter.Place.{Place}
@@ -38,20 +38,20 @@ some_listed filter [] told h = absurd h
 some_listed filter (address ∷ all) told h = omega arith
 
 -- whether a line has an address, by its verdict
-pub addressed_by : (filter : Filter) (line : List ℕ) (verdict : Verdict) → Judges filter line verdict → is_addressed_by verdict ≡ is_addressed filter line
+pub addressed_by : (filter : Filter) (line : List ℕ) (verdict : Verdict) → IsVerdict filter line verdict → is_addressed_by verdict ≡ is_addressed filter line
 addressed_by filter line (verdicts.Inside told) judges =
     both_true (nat_le (length line) 1048576) (nat_lt 0 (length (addresses_in filter line))) (at_most (length line) 1048576 judges.0)
     (positive (length (addresses_in filter line)) (some_listed filter (addresses_in filter line) told judges.1))
 addressed_by filter line verdicts.Outside judges =
     both_true (nat_le (length line) 1048576) (nat_lt 0 (length (addresses_in filter line))) (at_most (length line) 1048576 judges.0)
     (positive (length (addresses_in filter line)) (judges.1).0)
-addressed_by filter line verdicts.Bad judges =
+addressed_by filter line verdicts.NoAddress judges =
     and_none (nat_le (length line) 1048576) (nat_lt 0 (length (addresses_in filter line))) (ap (λ (l : List IpAddr). nat_lt 0 (length l)) judges.1)
 addressed_by filter line verdicts.TooLong judges =
     none_and (nat_le (length line) 1048576) (nat_lt 0 (length (addresses_in filter line))) (more_than (length line) 1048576 judges)
 
 -- a line more
-pub addressed_more : (filter : Filter) (first : List LogLine) (next : LogLine) (verdict : Verdict) (old mid new : Bool) → Judges filter (content next) verdict → mid ≡ (old || any_addressed filter first)
+pub addressed_more : (filter : Filter) (first : List LogLine) (next : LogLine) (verdict : Verdict) (old mid new : Bool) → IsVerdict filter (content next) verdict → mid ≡ (old || any_addressed filter first)
     → new ≡ (mid || is_addressed_by verdict) → new ≡ (old || any_addressed filter (first ++ next ∷ []))
 addressed_more filter first next verdict old mid new judges e f =
     f ∙ ap (λ (b : Bool). b || is_addressed_by verdict) e ∙ or_assoc old (any_addressed filter first) (is_addressed_by verdict)

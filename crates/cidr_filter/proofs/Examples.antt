@@ -16,7 +16,7 @@ use Rattle.lists.specs.declared.fault.LineFault.TheVariants.{Entry}
 use Rattle.lists.specs.KnownLists.{KnownLists}
 use Rattle.program.specs.Told.{was_refused}
 use Rattle.cidr_filter.specs.Fields.{field_of}
-use Rattle.cidr_filter.specs.Filters.{IsListed, Judges, addresses_in, is_selected, is_refused, mark_of, output_of}
+use Rattle.cidr_filter.specs.Filters.{IsListed, IsVerdict, addresses_in, is_selected, is_refused, mark_of, output_of}
 use Rattle.cidr_filter.specs.Lines.{LogLine, log_lines, ended_lines, content, printed}
 use Rattle.cidr_filter.specs.Listed.{IsStored, IsLongestBlock}
 use Rattle.cidr_filter.specs.Logs.{logs_of, IsAllOf, IsFirstOf, FiltersLogs}
@@ -28,8 +28,8 @@ use Rattle.cidr_filter.specs.Runs.{total_text, status_by, EndsLogs, EndsFilterin
 use Rattle.lists.specs.declared.refusals.Refusal.{Refusal}
 use Rattle.program.specs.Told.{refusals_text}
 use Rattle.cidr_filter.specs.Told.{in_option, log_fault_text}
-use Rattle.cidr_filter.specs.declared.filter.Bad.{Bad}
-use Rattle.cidr_filter.specs.declared.filter.Bad.TheVariants as bads
+use Rattle.cidr_filter.specs.declared.filter.WithoutAddress.{WithoutAddress}
+use Rattle.cidr_filter.specs.declared.filter.WithoutAddress.TheVariants as without
 use Rattle.cidr_filter.specs.declared.filter.Filter.{Filter}
 use Rattle.cidr_filter.specs.declared.filter.Place.{Place}
 use Rattle.cidr_filter.specs.declared.filter.Place.TheVariants as places
@@ -91,26 +91,26 @@ printed_with_an_end = refl
 
 -- ---- what a line is to a list
 
-abbrev pub by : Bool → Bad → Filter
+abbrev pub by : Bool → WithoutAddress → Filter
 by inverts bad = record { listed = Addresses (record { v4 = []; v6 = [] }); place = places.Field 1 32; mapped = false; inverts = inverts; bad = bad; counts = false; only = false }
 
 -- one that only counts
-abbrev pub counting : Bad → Filter
+abbrev pub counting : WithoutAddress → Filter
 counting bad = record (by false bad) { counts = true }
 
 -- one that looks at this place
 abbrev pub looking : Place → Bool → Filter
-looking place mapped = record (by false bads.Drop) { place = place; mapped = mapped }
+looking place mapped = record (by false without.Drop) { place = place; mapped = mapped }
 
-pub line_inside : IsListed (by false bads.Drop) (addresses.V4 0x0a000001) → Judges (by false bads.Drop) (codes "10.0.0.1 x") (verdicts.Inside None)
+pub line_inside : IsListed (by false without.Drop) (addresses.V4 0x0a000001) → IsVerdict (by false without.Drop) (codes "10.0.0.1 x") (verdicts.Inside None)
 unfolding address_of digits v6_of gap_below
 line_inside listed = (omega arith, inl (listed, refl))
 
-pub line_outside : ¬ (IsListed (by true bads.Drop) (addresses.V4 0x0a000001)) → Judges (by true bads.Drop) (codes "10.0.0.1 x") verdicts.Outside
+pub line_outside : ¬ (IsListed (by true without.Drop) (addresses.V4 0x0a000001)) → IsVerdict (by true without.Drop) (codes "10.0.0.1 x") verdicts.Outside
 unfolding address_of digits v6_of gap_below
 line_outside not = (omega arith, (omega arith, (not, tt)))
 
-pub address_in_another_field : Judges (by false bads.Drop) (codes "x 10.0.0.1") verdicts.Bad
+pub address_in_another_field : IsVerdict (by false without.Drop) (codes "x 10.0.0.1") verdicts.NoAddress
 unfolding address_of digits v6_of gap_below
 address_in_another_field = (omega arith, refl)
 
@@ -142,7 +142,7 @@ address_as_it_is = refl
 
 -- of two addresses the second is in the lists
 pub second_address_inside : ¬ (IsListed (looking places.Anywhere false) (addresses.V4 0x0a000001)) → IsListed (looking places.Anywhere false) (addresses.V4 0x0a000002)
-    → Judges (looking places.Anywhere false) (codes "10.0.0.1 10.0.0.2") (verdicts.Inside None)
+    → IsVerdict (looking places.Anywhere false) (codes "10.0.0.1 10.0.0.2") (verdicts.Inside None)
 unfolding address_in before_port address_of digits v6_of gap_below
 second_address_inside not listed = (omega arith, inr (not, inl (listed, refl)))
 
@@ -164,13 +164,13 @@ pub place_of_both : place_of {Z = Unit {0}} [] (said_by (choices.Field 3 ∷ cho
 place_of_both = refl
 
 -- 1,048,576 bytes are judged, and a byte more is too long
-pub longest_line : (line : List ℕ) → length line ≡ 1048576 → Judges (by false bads.Drop) line verdicts.TooLong → ⊥
+pub longest_line : (line : List ℕ) → length line ≡ 1048576 → IsVerdict (by false without.Drop) line verdicts.TooLong → ⊥
 longest_line line e long = omega (arith, e, long)
 
-pub line_too_long : (line : List ℕ) → length line ≡ 1048577 → Judges (by false bads.Drop) line verdicts.TooLong
+pub line_too_long : (line : List ℕ) → length line ≡ 1048577 → IsVerdict (by false without.Drop) line verdicts.TooLong
 line_too_long line e = omega (arith, e)
 
-pub too_long_whatever_is_in_it : (line : List ℕ) → length line ≡ 1048577 → Judges (by false bads.Drop) line verdicts.Bad → ⊥
+pub too_long_whatever_is_in_it : (line : List ℕ) → length line ≡ 1048577 → IsVerdict (by false without.Drop) line verdicts.NoAddress → ⊥
 too_long_whatever_is_in_it line e bad = omega (arith, e, bad.0)
 
 -- if the block of 8 bits is told, that of 16 does not hold the address
@@ -178,34 +178,34 @@ pub no_longer_block : (tables : Tables) (address : IpAddr) → let wide = V4 (re
     IsLongestBlock tables address wide → IsStored tables narrow → IpMember narrow address → ⊥
 no_longer_block tables address longest stored member = omega (arith, longest.longest (V4 (record { address = 167772160; prefix = 16 })) stored member)
 
-pub inside_is_selected : (bad : Bad) → is_selected (by false bad) (verdicts.Inside None) ≡ true
+pub inside_is_selected : (bad : WithoutAddress) → is_selected (by false bad) (verdicts.Inside None) ≡ true
 inside_is_selected bad = refl
 
-pub outside_is_not : (bad : Bad) → is_selected (by false bad) verdicts.Outside ≡ false
+pub outside_is_not : (bad : WithoutAddress) → is_selected (by false bad) verdicts.Outside ≡ false
 outside_is_not bad = refl
 
-pub outside_of_none : (bad : Bad) → is_selected (by true bad) verdicts.Outside ≡ true
+pub outside_of_none : (bad : WithoutAddress) → is_selected (by true bad) verdicts.Outside ≡ true
 outside_of_none bad = refl
 
-pub bad_dropped_also_inverted : is_selected (by true bads.Drop) verdicts.Bad ≡ false
+pub bad_dropped_also_inverted : is_selected (by true without.Drop) verdicts.NoAddress ≡ false
 bad_dropped_also_inverted = refl
 
-pub bad_kept : is_selected (by false bads.Keep) verdicts.Bad ≡ true
+pub bad_kept : is_selected (by false without.Keep) verdicts.NoAddress ≡ true
 bad_kept = refl
 
-pub bad_stops : is_refused (by true bads.Stop) verdicts.Bad ≡ true
+pub bad_stops : is_refused (by true without.Stop) verdicts.NoAddress ≡ true
 bad_stops = refl
 
-pub kept_is_not_refused : is_refused (by true bads.Keep) verdicts.Bad ≡ false
+pub kept_is_not_refused : is_refused (by true without.Keep) verdicts.NoAddress ≡ false
 kept_is_not_refused = refl
 
-pub too_long_is_not_kept : is_selected (by false bads.Keep) verdicts.TooLong ≡ false
+pub too_long_is_not_kept : is_selected (by false without.Keep) verdicts.TooLong ≡ false
 too_long_is_not_kept = refl
 
-pub too_long_where_bad_is_kept : is_refused (by false bads.Keep) verdicts.TooLong ≡ true
+pub too_long_where_bad_is_kept : is_refused (by false without.Keep) verdicts.TooLong ≡ true
 too_long_where_bad_is_kept = refl
 
-pub too_long_dropped : is_refused (by false bads.Drop) verdicts.TooLong ≡ false
+pub too_long_dropped : is_refused (by false without.Drop) verdicts.TooLong ≡ false
 too_long_dropped = refl
 
 -- the longest network and a tab, or a minus sign
@@ -213,13 +213,13 @@ pub block_before_a_line : (tables : Tables) → mark_of (Blocks tables) (verdict
 unfolding digits
 block_before_a_line tables = refl
 
-pub no_block : (tables : Tables) → mark_of (Blocks tables) verdicts.Bad ≡ codes "-\t"
+pub no_block : (tables : Tables) → mark_of (Blocks tables) verdicts.NoAddress ≡ codes "-\t"
 no_block tables = refl
 
-pub line_selected : output_of (by false bads.Drop) (verdicts.Inside None) (ended (codes "a\r")) ≡ codes "a\r\n"
+pub line_selected : output_of (by false without.Drop) (verdicts.Inside None) (ended (codes "a\r")) ≡ codes "a\r\n"
 line_selected = refl
 
-pub line_counted : output_of (counting bads.Drop) (verdicts.Inside None) (ended (codes "a")) ≡ []
+pub line_counted : output_of (counting without.Drop) (verdicts.Inside None) (ended (codes "a")) ≡ []
 line_counted = refl
 
 -- with `-o` only the addresses that are in the lists, whatever they are beside: 10.0.0.0/8 has the first and the third
@@ -331,11 +331,11 @@ pub lists_in_their_order : {Z : Type 0} (known : KnownLists) (file list text val
     → ReadsOptions known (file ∷ list ∷ text ∷ value ∷ []) (file ∷ list ∷ text ∷ value ∷ []) (choices.File ∷ choices.Text ∷ []) before after
 lists_in_their_order known file list text value before mid after l v opened first second f t = rw (f, l, v) (mid, (opened, first), (after, second, refl))
 
-module _ (known : KnownLists) (inside : Judges (by false bads.Stop) (codes "10.0.0.1") (verdicts.Inside None)) (outside : Judges (by false bads.Stop) (codes "11.0.0.1") verdicts.Outside)
-    (bad : Judges (by false bads.Stop) (codes "bad") verdicts.Bad) where
+module _ (known : KnownLists) (inside : IsVerdict (by false without.Stop) (codes "10.0.0.1") (verdicts.Inside None)) (outside : IsVerdict (by false without.Stop) (codes "11.0.0.1") verdicts.Outside)
+    (bad : IsVerdict (by false without.Stop) (codes "bad") verdicts.NoAddress) where
   -- two logs, of which the second has no last line feed
   pub two_logs : IsAllOf known (codes "a") (codes "11.0.0.1\n10.0.0.1\n") → IsAllOf known (codes "b") (codes "10.0.0.1")
-      → FiltersLogs (by false bads.Stop) known (codes "a" ∷ codes "b" ∷ []) (codes "10.0.0.1\n10.0.0.1\n") 2 [] false
+      → FiltersLogs (by false without.Stop) known (codes "a" ∷ codes "b" ∷ []) (codes "10.0.0.1\n10.0.0.1\n") 2 [] false
   unfolding address_of digits v6_of gap_below
   two_logs a b = (
     codes "10.0.0.1\n",
@@ -374,7 +374,7 @@ module _ (known : KnownLists) (inside : Judges (by false bads.Stop) (codes "10.0
 
   -- they are counted together
   pub two_logs_counted : IsAllOf known (codes "a") (codes "10.0.0.1\n") → IsAllOf known (codes "b") (codes "10.0.0.1\n") → {W E : Type 0} (end : Ending W E) → HasWritten end (codes "2\n") → HasTold end [] → end.status ≡ 0
-      → EndsLogs (counting bads.Stop) known (codes "a" ∷ codes "b" ∷ []) end
+      → EndsLogs (counting without.Stop) known (codes "a" ∷ codes "b" ∷ []) end
   unfolding address_of digits v6_of gap_below
   two_logs_counted a b end written told status = inl (record {
     output = [];
@@ -402,7 +402,7 @@ module _ (known : KnownLists) (inside : Judges (by false bads.Stop) (codes "10.0
 
   -- a log that cannot be opened: the others are filtered, and the status is 2
   pub first_log_missed : known.may_open (codes "a") false → IsAllOf known (codes "b") (codes "10.0.0.1\n") → {W E : Type 0} (end : Ending W E) → HasWritten end (codes "10.0.0.1\n")
-      → HasTold end (codes "a: cannot open: permission denied\n") → end.status ≡ 2 → EndsLogs (by false bads.Stop) known (codes "a" ∷ codes "b" ∷ []) end
+      → HasTold end (codes "a: cannot open: permission denied\n") → end.status ≡ 2 → EndsLogs (by false without.Stop) known (codes "a" ∷ codes "b" ∷ []) end
   unfolding address_of digits v6_of gap_below
   first_log_missed closed b end written told status = inl (record {
     output = codes "10.0.0.1\n";
@@ -430,7 +430,7 @@ module _ (known : KnownLists) (inside : Judges (by false bads.Stop) (codes "10.0
 
   -- a line that ends the run: what comes before it is written
   pub stopped_at_the_second_line : known.may_open (codes "a") true → IsFirstOf known (codes "a") (codes "10.0.0.1\nbad\n10.0.0.1\n") → {W E : Type 0} (end : Ending W E) → HasWritten end (codes "10.0.0.1\n") → HasTold end (codes "a:2: refused address\n")
-      → end.status ≡ 2 → EndsLogs (by false bads.Stop) known (codes "a" ∷ codes "b" ∷ []) end
+      → end.status ≡ 2 → EndsLogs (by false without.Stop) known (codes "a" ∷ codes "b" ∷ []) end
   unfolding digits
   stopped_at_the_second_line opened a end written told status = inr (record {
     before = [];
@@ -467,7 +467,7 @@ module _ (known : KnownLists) (inside : Judges (by false bads.Stop) (codes "10.0
 
   -- a read that fails: the lines before it whose line feed was read were filtered, and what follows them is no line
   pub stopped_by_a_failed_read : known.may_open (codes "a") true → known.may_fail (codes "a") → IsFirstOf known (codes "a") (codes "10.0.0.1\n10.0.0.1") → {W E : Type 0} (end : Ending W E) → HasWritten end (codes "10.0.0.1\n")
-      → HasTold end (codes "a: cannot read\n") → end.status ≡ 2 → EndsLogs (by false bads.Stop) known (codes "a" ∷ codes "b" ∷ []) end
+      → HasTold end (codes "a: cannot read\n") → end.status ≡ 2 → EndsLogs (by false without.Stop) known (codes "a" ∷ codes "b" ∷ []) end
   stopped_by_a_failed_read opened fails a end written told status = inr (record {
     before = [];
     name = codes "a";
@@ -491,7 +491,7 @@ module _ (known : KnownLists) (inside : Judges (by false bads.Stop) (codes "10.0
 
   -- no line of a log is selected
   pub nothing_selected : IsAllOf known (codes "-") (codes "11.0.0.1\n") → {W E : Type 0} (end : Ending W E) → HasWritten end [] → HasTold end [] → end.status ≡ 1
-      → EndsLogs (by false bads.Stop) known (codes "-" ∷ []) end
+      → EndsLogs (by false without.Stop) known (codes "-" ∷ []) end
   unfolding address_of digits v6_of gap_below
   nothing_selected a end written told status = inl (record {
     output = [];
@@ -518,8 +518,8 @@ module _ (known : KnownLists) (inside : Judges (by false bads.Stop) (codes "10.0
   })
 
   -- no line of a log has an address
-  pub nothing_found : Judges (by false bads.Drop) (codes "x") verdicts.Bad → IsAllOf known (codes "a") (codes "x\n") → {W E : Type 0} (end : Ending W E) → HasWritten end []
-      → HasTold end (codes "cidr_filter: a: no line has an address in field 1\n") → end.status ≡ 1 → EndsLogs (by false bads.Drop) known (codes "a" ∷ []) end
+  pub nothing_found : IsVerdict (by false without.Drop) (codes "x") verdicts.NoAddress → IsAllOf known (codes "a") (codes "x\n") → {W E : Type 0} (end : Ending W E) → HasWritten end []
+      → HasTold end (codes "cidr_filter: a: no line has an address in field 1\n") → end.status ≡ 1 → EndsLogs (by false without.Drop) known (codes "a" ∷ []) end
   unfolding address_of digits v6_of gap_below
   nothing_found none a end written told status = inl (record {
     output = [];
@@ -535,7 +535,7 @@ module _ (known : KnownLists) (inside : Judges (by false bads.Stop) (codes "10.0
       [],
       false,
       false,
-      inl ((codes "x\n", a, (verdicts.Bad, [], 0, none, refl, (refl, refl), refl, refl), refl), refl),
+      inl ((codes "x\n", a, (verdicts.NoAddress, [], 0, none, refl, (refl, refl), refl, refl), refl), refl),
       (refl, refl, refl, refl),
       refl,
       refl,

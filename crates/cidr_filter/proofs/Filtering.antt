@@ -16,7 +16,7 @@ use Rattle.lines.proofs.BytesLemmas.{HasNo}
 use Rattle.lines.proofs.HandingOut.{has_no}
 use Rattle.lines.proofs.Putting.{puts_nothing, puts_out, puts_more}
 use Rattle.cidr_filter.specs.Addressed.{any_addressed, is_addressed_by}
-use Rattle.cidr_filter.specs.Filters.{Judges, is_refused, is_selected, one_if, output_of}
+use Rattle.cidr_filter.specs.Filters.{IsVerdict, is_refused, is_selected, one_if, output_of}
 use Rattle.cidr_filter.specs.Lines.{LogLine, log_lines, content, printed}
 use Rattle.cidr_filter.specs.Stands.{Stand, Counts, Goes}
 use Rattle.cidr_filter.specs.Private.Progress.{feed_behind, shown, FiltersLine, AreFirst, FiltersSoFar}
@@ -145,7 +145,7 @@ module _ (filter : Filter) where
 
     -- a line more, whose output was put
     one_more : (new : Stand) (line : List ℕ) (end : LineEnd) (verdict : Verdict)
-        → HandsOut now s.pending line end → Judges filter line verdict
+        → HandsOut now s.pending line end → IsVerdict filter line verdict
         → is_refused filter verdict ≡ false
         → Goes mid new (output_of filter verdict (log_line line end))
         (one_if (is_selected filter verdict)) 1
@@ -175,7 +175,7 @@ module _ (filter : Filter) where
             verdict,
             [],
             0,
-            subst (λ l. Judges filter l verdict) (sym is.is) judges,
+            subst (λ l. IsVerdict filter l verdict) (sym is.is) judges,
             passes,
             (refl, refl),
             sym (append-nil added),
@@ -185,7 +185,7 @@ module _ (filter : Filter) where
               (sym (length-append s.first (next ∷ [])))
               (goes_on old mid new s.added added s.count count (length s.first) 1 s.goes goes);
           addressed = addressed_more filter s.first next verdict old.addressed mid.addressed new.addressed
-              (subst (λ l. Judges filter l verdict) (sym is.is) judges) s.addressed seen;
+              (subst (λ l. IsVerdict filter l verdict) (sym is.is) judges) s.addressed seen;
         }
 
     -- the line that was handed out was filtered
@@ -199,7 +199,7 @@ module _ (filter : Filter) where
         let text : whole ++ feed_behind end ≡ printed (log_line now.line end) = ap
         (λ l. l ++ feed_behind end) (all ∙ given.2) ∙ printed_is now.line end in
         let handed = handed_first now s.pending now.line end given.0 in
-        one_more new now.line end f.0 given.0 (subst (λ l. Judges filter l f.0) is f.1) f.2
+        one_more new now.line end f.0 given.0 (subst (λ l. IsVerdict filter l f.0) is f.1) f.2
         (subst (λ t. Goes mid new (shown filter f.0 (content (log_line now.line end)) t) (one_if (is_selected filter f.0)) 1) text
         (subst (λ l. Goes mid new (shown filter f.0 l (whole ++ feed_behind end)) (one_if (is_selected filter f.0)) 1)
         (is ∙ sym handed.is) f.3)) f.4

@@ -10,7 +10,7 @@ use Rattle.line_addresses.specs.Found.{IsNextAddress, spelled_at as spelled_at_p
 use Rattle.line_addresses.specs.Words.{words_of}
 use Rattle.line_addresses.specs.declared.found.Found.{Found}
 use Rattle.cidr_filter.specs.Fields.{field_of}
-use Rattle.cidr_filter.specs.Filters.{IsListed, TellsBlock, asked, asked_of, of_part, of_rest, spelled_at, addresses_in, FirstListed, NoneListed, JudgesAddresses, Judges}
+use Rattle.cidr_filter.specs.Filters.{IsListed, TellsBlock, asked, asked_of, of_part, of_rest, spelled_at, addresses_in, FirstListed, NoneListed, IsVerdictOfAddresses, IsVerdict}
 use Rattle.cidr_filter.specs.declared.filter.Filter.{Filter}
 use Rattle.cidr_filter.specs.declared.filter.Place.{Place}
 use Rattle.cidr_filter.specs.declared.filter.Place.TheVariants as places
@@ -60,51 +60,51 @@ module _ (filter : Filter) (line : List ℕ) (at : ℕ) (is_seen : Bool) (p : Pa
   last_passes : addresses_of (drop at line) ≡ [] → Passes filter (asked_of filter (addresses_of line)) [] is_seen
   last_passes none = subst (λ (l : List IpAddr). Passes filter (asked_of filter (addresses_of line)) l is_seen) (ap (asked_of filter) none) p
 
-  pub outside : addresses_of (drop at line) ≡ [] → is_seen ≡ true → JudgesAddresses filter (asked_of filter (addresses_of line)) verdicts.Outside
+  pub outside : addresses_of (drop at line) ≡ [] → is_seen ≡ true → IsVerdictOfAddresses filter (asked_of filter (addresses_of line)) verdicts.Outside
   outside none seen = let q = last_passes none in (q.seen seen, q.none tt)
 
-  pub without : addresses_of (drop at line) ≡ [] → is_seen ≡ false → JudgesAddresses filter (asked_of filter (addresses_of line)) verdicts.Bad
+  pub without : addresses_of (drop at line) ≡ [] → is_seen ≡ false → IsVerdictOfAddresses filter (asked_of filter (addresses_of line)) verdicts.NoAddress
   without none unseen = (last_passes none).unseen unseen
 
 -- ---- a part
 
 module _ (filter : Filter) (part : List ℕ) where
   pub part_inside : (address : IpAddr) (told : Option IpNetwork) → address_of part ≡ Some address → IsListed filter (asked filter.mapped address) → TellsBlock filter.listed (asked filter.mapped address) told
-      → JudgesAddresses filter (asked_of filter (of_part (Some part))) (verdicts.Inside told)
+      → IsVerdictOfAddresses filter (asked_of filter (of_part (Some part))) (verdicts.Inside told)
   part_inside address told is listed tells =
       subst (λ (o : Option IpAddr). FirstListed filter (asked_of filter (option_to_list (with_text part o))) told) (sym is) (inl (listed, tells))
 
-  pub part_outside : (address : IpAddr) → address_of part ≡ Some address → ¬ (IsListed filter (asked filter.mapped address)) → JudgesAddresses filter (asked_of filter (of_part (Some part))) verdicts.Outside
+  pub part_outside : (address : IpAddr) → address_of part ≡ Some address → ¬ (IsListed filter (asked filter.mapped address)) → IsVerdictOfAddresses filter (asked_of filter (of_part (Some part))) verdicts.Outside
   part_outside address is not =
-      subst (λ (o : Option IpAddr). JudgesAddresses filter (asked_of filter (option_to_list (with_text part o))) verdicts.Outside) (sym is) (omega arith, (not, tt))
+      subst (λ (o : Option IpAddr). IsVerdictOfAddresses filter (asked_of filter (option_to_list (with_text part o))) verdicts.Outside) (sym is) (omega arith, (not, tt))
 
-  pub part_without : address_of part ≡ None → JudgesAddresses filter (asked_of filter (of_part (Some part))) verdicts.Bad
+  pub part_without : address_of part ≡ None → IsVerdictOfAddresses filter (asked_of filter (of_part (Some part))) verdicts.NoAddress
   part_without is = ap (λ o. asked_of filter (option_to_list (with_text part o))) is
 
 -- ---- a line, by where its addresses are looked for
 
 module _ (filter : Filter) (line : List ℕ) (verdict : Verdict) where
-  pub by_place : (place : Place) → filter.place ≡ place → JudgesAddresses filter (asked_of filter (spelled_at place line)) verdict → JudgesAddresses filter (asked_of filter (spelled_at filter.place line)) verdict
-  by_place place is h = subst (λ (q : Place). JudgesAddresses filter (asked_of filter (spelled_at q line)) verdict) (sym is) h
+  pub by_place : (place : Place) → filter.place ≡ place → IsVerdictOfAddresses filter (asked_of filter (spelled_at place line)) verdict → IsVerdictOfAddresses filter (asked_of filter (spelled_at filter.place line)) verdict
+  by_place place is h = subst (λ (q : Place). IsVerdictOfAddresses filter (asked_of filter (spelled_at q line)) verdict) (sym is) h
 
   pub by_field : (number separator : ℕ) (part : Option (List ℕ)) → filter.place ≡ places.Field number separator → field_of number separator line ≡ part
-      → JudgesAddresses filter (asked_of filter (of_part part)) verdict → JudgesAddresses filter (asked_of filter (spelled_at filter.place line)) verdict
+      → IsVerdictOfAddresses filter (asked_of filter (of_part part)) verdict → IsVerdictOfAddresses filter (asked_of filter (spelled_at filter.place line)) verdict
   by_field number separator part is e h =
-      by_place (places.Field number separator) is (subst (λ (o : Option (List ℕ)). JudgesAddresses filter (asked_of filter (of_part o)) verdict) (sym e) h)
+      by_place (places.Field number separator) is (subst (λ (o : Option (List ℕ)). IsVerdictOfAddresses filter (asked_of filter (of_part o)) verdict) (sym e) h)
 
   pub by_word : (number : ℕ) (part : Option (List ℕ)) → filter.place ≡ places.Word number → slice_get (words_of line) (number - 1) ≡ part
-      → JudgesAddresses filter (asked_of filter (of_part part)) verdict → JudgesAddresses filter (asked_of filter (spelled_at filter.place line)) verdict
+      → IsVerdictOfAddresses filter (asked_of filter (of_part part)) verdict → IsVerdictOfAddresses filter (asked_of filter (spelled_at filter.place line)) verdict
   by_word number part is e h =
-      by_place (places.Word number) is (subst (λ (o : Option (List ℕ)). JudgesAddresses filter (asked_of filter (of_part o)) verdict) (sym e) h)
+      by_place (places.Word number) is (subst (λ (o : Option (List ℕ)). IsVerdictOfAddresses filter (asked_of filter (of_part o)) verdict) (sym e) h)
 
-  pub anywhere : filter.place ≡ places.Anywhere → JudgesAddresses filter (asked_of filter (addresses_of line)) verdict → JudgesAddresses filter (asked_of filter (spelled_at filter.place line)) verdict
+  pub anywhere : filter.place ≡ places.Anywhere → IsVerdictOfAddresses filter (asked_of filter (addresses_of line)) verdict → IsVerdictOfAddresses filter (asked_of filter (spelled_at filter.place line)) verdict
   anywhere is h = by_place places.Anywhere is h
 
 module _ (filter : Filter) (line : List ℕ) (verdict : Verdict) where
   pub by_text : (text : List ℕ) (rest : Option (List ℕ)) → filter.place ≡ places.After text → following text line ≡ rest
-      → JudgesAddresses filter (asked_of filter (of_rest rest)) verdict → JudgesAddresses filter (asked_of filter (spelled_at filter.place line)) verdict
+      → IsVerdictOfAddresses filter (asked_of filter (of_rest rest)) verdict → IsVerdictOfAddresses filter (asked_of filter (spelled_at filter.place line)) verdict
   by_text text rest is e h =
-      by_place filter line verdict (places.After text) is (subst (λ (o : Option (List ℕ)). JudgesAddresses filter (asked_of filter (of_rest o)) verdict) (sym e) h)
+      by_place filter line verdict (places.After text) is (subst (λ (o : Option (List ℕ)). IsVerdictOfAddresses filter (asked_of filter (of_rest o)) verdict) (sym e) h)
 
 -- ---- the first address of a rest
 
@@ -113,18 +113,18 @@ module _ (filter : Filter) (rest : List ℕ) (found : Found) (next : IsNextAddre
   first_is = ap (take 1) next.first
 
   pub first_inside : (told : Option IpNetwork) → IsListed filter (asked filter.mapped found.address) → TellsBlock filter.listed (asked filter.mapped found.address) told
-      → JudgesAddresses filter (asked_of filter (of_rest (Some rest))) (verdicts.Inside told)
+      → IsVerdictOfAddresses filter (asked_of filter (of_rest (Some rest))) (verdicts.Inside told)
   first_inside told listed tells = subst (λ (l : List Spelled). FirstListed filter (asked_of filter l) told) (sym first_is) (inl (listed, tells))
 
-  pub first_outside : ¬ (IsListed filter (asked filter.mapped found.address)) → JudgesAddresses filter (asked_of filter (of_rest (Some rest))) verdicts.Outside
-  first_outside not = subst (λ (l : List Spelled). JudgesAddresses filter (asked_of filter l) verdicts.Outside) (sym first_is) (omega arith, (not, tt))
+  pub first_outside : ¬ (IsListed filter (asked filter.mapped found.address)) → IsVerdictOfAddresses filter (asked_of filter (of_rest (Some rest))) verdicts.Outside
+  first_outside not = subst (λ (l : List Spelled). IsVerdictOfAddresses filter (asked_of filter l) verdicts.Outside) (sym first_is) (omega arith, (not, tt))
 
-pub first_without : (filter : Filter) (rest : List ℕ) → addresses_of rest ≡ [] → JudgesAddresses filter (asked_of filter (of_rest (Some rest))) verdicts.Bad
+pub first_without : (filter : Filter) (rest : List ℕ) → addresses_of rest ≡ [] → IsVerdictOfAddresses filter (asked_of filter (of_rest (Some rest))) verdicts.NoAddress
 first_without filter rest none = ap (λ l. asked_of filter (take 1 l)) none
 
 -- a line that is not too long
-pub judged : (filter : Filter) (line : List ℕ) (verdict : Verdict) → length line ≤ 1048576 → JudgesAddresses filter (addresses_in filter line) verdict → Judges filter line verdict
+pub judged : (filter : Filter) (line : List ℕ) (verdict : Verdict) → length line ≤ 1048576 → IsVerdictOfAddresses filter (addresses_in filter line) verdict → IsVerdict filter line verdict
 judged filter line (verdicts.Inside told) short h = (short, h)
 judged filter line verdicts.Outside short h = (short, h)
-judged filter line verdicts.Bad short h = (short, h)
+judged filter line verdicts.NoAddress short h = (short, h)
 judged filter line verdicts.TooLong short h = absurd h

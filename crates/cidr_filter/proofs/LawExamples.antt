@@ -6,7 +6,7 @@ use Rattle.std.specs.String.{string_bytes}
 use Rattle.ipnetwork.specs.declared.ip_network.IpNetwork.TheVariants.{V4, V6}
 use Rattle.program.specs.declared.usage.Subject.TheVariants as subjects
 use Rattle.cidr_filter.specs.CommandLines.{AsksNothing}
-use Rattle.cidr_filter.specs.Filters.{Judges, Filters}
+use Rattle.cidr_filter.specs.Filters.{IsVerdict, Filters}
 use Rattle.cidr_filter.specs.Laws.{LinesHaveOneVerdict, LogsHaveOneOutput, OutputsOfPartsFollow, LinesThatEndRunsAreWhole, is_one_of, begins_with, is_option_word, OthersAreNoOptions, OthersAskForNothing, WordsHaveOneFault}
 use Rattle.cidr_filter.specs.Lines.{LogLine, log_lines, content}
 use Rattle.cidr_filter.specs.Options.{option_of}
@@ -25,7 +25,7 @@ use Rattle.cidr_filter.proofs.OptionExamples.{letters}
 abbrev kind : Verdict → ℕ
 kind (verdicts.Inside told) = 0
 kind verdicts.Outside = 1
-kind verdicts.Bad = 2
+kind verdicts.NoAddress = 2
 kind verdicts.TooLong = 3
 
 -- the prefix length of the IPv4 block that is told
@@ -34,19 +34,19 @@ told_prefix (verdicts.Inside None) = 0
 told_prefix (verdicts.Inside (Some (V4 block))) = block.prefix
 told_prefix (verdicts.Inside (Some (V6 block))) = 0
 told_prefix verdicts.Outside = 0
-told_prefix verdicts.Bad = 0
+told_prefix verdicts.NoAddress = 0
 told_prefix verdicts.TooLong = 0
 
 -- a line inside is not outside, by any filter
-pub not_inside_and_outside : LinesHaveOneVerdict → (filter : Filter) (line : List ℕ) → Judges filter line (verdicts.Inside None) → Judges filter line verdicts.Outside → ⊥
+pub not_inside_and_outside : LinesHaveOneVerdict → (filter : Filter) (line : List ℕ) → IsVerdict filter line (verdicts.Inside None) → IsVerdict filter line verdicts.Outside → ⊥
 not_inside_and_outside law filter line p q = omega (arith, ap kind (law filter line (verdicts.Inside None) verdicts.Outside p q))
 
-pub not_outside_and_bad : LinesHaveOneVerdict → (filter : Filter) (line : List ℕ) → Judges filter line verdicts.Outside → Judges filter line verdicts.Bad → ⊥
-not_outside_and_bad law filter line p q = omega (arith, ap kind (law filter line verdicts.Outside verdicts.Bad p q))
+pub not_outside_and_bad : LinesHaveOneVerdict → (filter : Filter) (line : List ℕ) → IsVerdict filter line verdicts.Outside → IsVerdict filter line verdicts.NoAddress → ⊥
+not_outside_and_bad law filter line p q = omega (arith, ap kind (law filter line verdicts.Outside verdicts.NoAddress p q))
 
 -- nor are two blocks told of it, 10.0.0.0/8 and 10.0.0.0/16
-pub not_two_blocks : LinesHaveOneVerdict → (filter : Filter) (line : List ℕ) → Judges filter line (verdicts.Inside (Some (V4 (record { address = 167772160; prefix = 8 }))))
-    → Judges filter line (verdicts.Inside (Some (V4 (record { address = 167772160; prefix = 16 })))) → ⊥
+pub not_two_blocks : LinesHaveOneVerdict → (filter : Filter) (line : List ℕ) → IsVerdict filter line (verdicts.Inside (Some (V4 (record { address = 167772160; prefix = 8 }))))
+    → IsVerdict filter line (verdicts.Inside (Some (V4 (record { address = 167772160; prefix = 16 })))) → ⊥
 not_two_blocks law filter line p q =
     let wide = verdicts.Inside (Some (V4 (record { address = 167772160; prefix = 8 }))) in
     let narrow = verdicts.Inside (Some (V4 (record { address = 167772160; prefix = 16 }))) in
@@ -83,9 +83,9 @@ counts_of_parts_are_summed law one filter p q whole = omega (arith, (one filter 
 -- ---- lines that end runs
 
 -- a line behind another, with its line feed, whatever follows
-pub ended_line_is_whole : LinesThatEndRunsAreWhole → (filter : Filter) (rest : List ℕ) → Judges filter (codes "y") verdicts.Bad
-    → (whole : LogLine) × (behind : List LogLine) × (log_lines (codes "x\ny\n" ++ rest) ≡ ended (codes "x") ∷ whole ∷ behind) × Judges filter (content whole) verdicts.Bad
-ended_line_is_whole law filter rest judges = law filter (codes "x\ny\n") rest (ended (codes "x") ∷ []) [] (ended (codes "y")) verdicts.Bad refl (inl refl) judges
+pub ended_line_is_whole : LinesThatEndRunsAreWhole → (filter : Filter) (rest : List ℕ) → IsVerdict filter (codes "y") verdicts.NoAddress
+    → (whole : LogLine) × (behind : List LogLine) × (log_lines (codes "x\ny\n" ++ rest) ≡ ended (codes "x") ∷ whole ∷ behind) × IsVerdict filter (content whole) verdicts.NoAddress
+ended_line_is_whole law filter rest judges = law filter (codes "x\ny\n") rest (ended (codes "x") ∷ []) [] (ended (codes "y")) verdicts.NoAddress refl (inl refl) judges
 
 -- a line that is too long without its end is too long with any
 pub long_line_is_long : LinesThatEndRunsAreWhole → (filter : Filter) (read rest : List ℕ) (line : LogLine) → log_lines read ≡ line ∷ [] → 1048577 < length line.bytes → 1048576 < length (content line)

@@ -51,19 +51,19 @@ none_of_none filter all told p none = subst (λ (l : List IpAddr). FirstListed f
 pub one_verdict : BlocksOfAnyWidthThatMeet → LinesHaveOneVerdict
 one_verdict meet filter line (verdicts.Inside told) (verdicts.Inside other) p q = ap verdicts.Inside (one_first meet filter (addresses_in filter line) told other p.1 q.1)
 one_verdict meet filter line (verdicts.Inside told) verdicts.Outside p q = absurd (apart filter (addresses_in filter line) told p.1 (q.1).1)
-one_verdict meet filter line (verdicts.Inside told) verdicts.Bad p q = absurd (none_of_none filter (addresses_in filter line) told p.1 q.1)
+one_verdict meet filter line (verdicts.Inside told) verdicts.NoAddress p q = absurd (none_of_none filter (addresses_in filter line) told p.1 q.1)
 one_verdict meet filter line (verdicts.Inside told) verdicts.TooLong p q = absurd (omega (arith, p.0, q))
 one_verdict meet filter line verdicts.Outside (verdicts.Inside told) p q = absurd (apart filter (addresses_in filter line) told q.1 (p.1).1)
 one_verdict meet filter line verdicts.Outside verdicts.Outside p q = refl
-one_verdict meet filter line verdicts.Outside verdicts.Bad p q = absurd (omega (arith, (p.1).0, ap length q.1))
+one_verdict meet filter line verdicts.Outside verdicts.NoAddress p q = absurd (omega (arith, (p.1).0, ap length q.1))
 one_verdict meet filter line verdicts.Outside verdicts.TooLong p q = absurd (omega (arith, p.0, q))
-one_verdict meet filter line verdicts.Bad (verdicts.Inside told) p q = absurd (none_of_none filter (addresses_in filter line) told q.1 p.1)
-one_verdict meet filter line verdicts.Bad verdicts.Outside p q = absurd (omega (arith, (q.1).0, ap length p.1))
-one_verdict meet filter line verdicts.Bad verdicts.Bad p q = refl
-one_verdict meet filter line verdicts.Bad verdicts.TooLong p q = absurd (omega (arith, p.0, q))
+one_verdict meet filter line verdicts.NoAddress (verdicts.Inside told) p q = absurd (none_of_none filter (addresses_in filter line) told q.1 p.1)
+one_verdict meet filter line verdicts.NoAddress verdicts.Outside p q = absurd (omega (arith, (q.1).0, ap length p.1))
+one_verdict meet filter line verdicts.NoAddress verdicts.NoAddress p q = refl
+one_verdict meet filter line verdicts.NoAddress verdicts.TooLong p q = absurd (omega (arith, p.0, q))
 one_verdict meet filter line verdicts.TooLong (verdicts.Inside told) p q = absurd (omega (arith, p, q.0))
 one_verdict meet filter line verdicts.TooLong verdicts.Outside p q = absurd (omega (arith, p, q.0))
-one_verdict meet filter line verdicts.TooLong verdicts.Bad p q = absurd (omega (arith, p, q.0))
+one_verdict meet filter line verdicts.TooLong verdicts.NoAddress p q = absurd (omega (arith, p, q.0))
 one_verdict meet filter line verdicts.TooLong verdicts.TooLong p q = refl
 
 one_of_lines : BlocksOfAnyWidthThatMeet → (filter : Filter) (lines : List LogLine) (a b : List ℕ) (m n : ℕ) → Filters filter lines a m → Filters filter lines b n → (a ≡ b) × (m ≡ n)

@@ -7,8 +7,8 @@ use Rattle.std.specs.String.{string_bytes}
 use Rattle.cidr_filter.specs.CommandLines.{files_among, names_in, inputs_among, is_plain, is_name}
 use Rattle.cidr_filter.specs.Options.{number_of, field_option, separator_option, bad_option, letters_option, begins, in_one_word, option_of, with_option, said_by, text_after}
 use Rattle.cidr_filter.specs.declared.command_line.Request.{Request}
-use Rattle.cidr_filter.specs.declared.filter.Bad.{Bad}
-use Rattle.cidr_filter.specs.declared.filter.Bad.TheVariants as bads
+use Rattle.cidr_filter.specs.declared.filter.WithoutAddress.{WithoutAddress}
+use Rattle.cidr_filter.specs.declared.filter.WithoutAddress.TheVariants as without
 use Rattle.cidr_filter.specs.declared.options.Choice.TheVariants as choices
 use Rattle.cidr_filter.specs.declared.options.Letters.{Letters}
 
@@ -67,7 +67,7 @@ no_byte_past_ascii = refl
 pub any_separator : (byte : ℕ) → nat_lt byte 128 ≡ true → (byte == 10) ≡ false → (byte == 13) ≡ false → (byte == 0) ≡ false → separator_option (byte ∷ []) ≡ Some (choices.Separator byte)
 any_separator byte small feed return zero = ap (λ b. if b then Some (choices.Separator byte) else None) (are_all (nat_lt byte 128) (byte == 10) (byte == 13) (byte == 0) small feed return zero)
 
-pub bad_word : bad_option (codes "stop") ≡ Some (choices.Bad bads.Stop)
+pub bad_word : bad_option (codes "stop") ≡ Some (choices.WithoutAddress without.Stop)
 bad_word = refl
 
 pub other_bad_word : bad_option (codes "Stop") ≡ None
@@ -102,7 +102,7 @@ field_in_one_word = refl
 pub separator_in_one_word : in_one_word (codes "-d,") ≡ Some (choices.Separator 44)
 separator_in_one_word = refl
 
-pub bad_in_one_word : in_one_word (codes "--bad=keep") ≡ Some (choices.Bad bads.Keep)
+pub bad_in_one_word : in_one_word (codes "--bad=keep") ≡ Some (choices.WithoutAddress without.Keep)
 bad_in_one_word = refl
 
 pub longest_word : in_one_word (codes "--longest") ≡ Some choices.Longest
@@ -198,13 +198,13 @@ no_file_is_standard_input Z = refl
 
 -- ---- what an option says stays, whatever others say
 
-pub field_stays : (said : Request) (byte : ℕ) (given : Letters) (bad : Bad) → ((with_option said (choices.Letters given)).field ≡ said.field)
-    × ((with_option said (choices.Separator byte)).field ≡ said.field) × ((with_option said (choices.Bad bad)).field ≡ said.field) × ((with_option said choices.Longest).field ≡ said.field) × ((with_option said choices.Mapped).field ≡ said.field) × ((with_option said choices.After).field ≡ said.field)
+pub field_stays : (said : Request) (byte : ℕ) (given : Letters) (bad : WithoutAddress) → ((with_option said (choices.Letters given)).field ≡ said.field)
+    × ((with_option said (choices.Separator byte)).field ≡ said.field) × ((with_option said (choices.WithoutAddress bad)).field ≡ said.field) × ((with_option said choices.Longest).field ≡ said.field) × ((with_option said choices.Mapped).field ≡ said.field) × ((with_option said choices.After).field ≡ said.field)
     × ((with_option said choices.File).field ≡ said.field) × ((with_option said choices.Input).field ≡ said.field) × ((with_option said choices.Text).field ≡ said.field)
 field_stays said byte given bad = (refl, refl, refl, refl, refl, refl, refl, refl, refl)
 
-pub separator_stays : (said : Request) (field : ℕ) (given : Letters) (bad : Bad) → ((with_option said (choices.Letters given)).separator ≡ said.separator)
-    × ((with_option said (choices.Field field)).separator ≡ said.separator) × ((with_option said (choices.Bad bad)).separator ≡ said.separator) × ((with_option said choices.Longest).separator ≡ said.separator) × ((with_option said choices.Mapped).separator ≡ said.separator) × ((with_option said choices.After).separator ≡ said.separator)
+pub separator_stays : (said : Request) (field : ℕ) (given : Letters) (bad : WithoutAddress) → ((with_option said (choices.Letters given)).separator ≡ said.separator)
+    × ((with_option said (choices.Field field)).separator ≡ said.separator) × ((with_option said (choices.WithoutAddress bad)).separator ≡ said.separator) × ((with_option said choices.Longest).separator ≡ said.separator) × ((with_option said choices.Mapped).separator ≡ said.separator) × ((with_option said choices.After).separator ≡ said.separator)
     × ((with_option said choices.File).separator ≡ said.separator) × ((with_option said choices.Input).separator ≡ said.separator) × ((with_option said choices.Text).separator ≡ said.separator)
 separator_stays said field given bad = (refl, refl, refl, refl, refl, refl, refl, refl, refl)
 

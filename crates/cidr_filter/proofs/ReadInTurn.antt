@@ -20,7 +20,7 @@ use Rattle.cidr_filter.specs.Options.{option_of, behind_option, takes_next, in_o
 use Rattle.cidr_filter.specs.Reading.{ReadsOption, next_place, ReadsOptions, ReadsLists, StopsAtOption, Stops, HoldsRead}
 use Rattle.program.specs.Told.{name_at}
 use Rattle.cidr_filter.specs.Private.Reading.{ReadsAll, HasSets, HasBlocks}
-use Rattle.cidr_filter.specs.declared.filter.Bad.TheVariants as bads
+use Rattle.cidr_filter.specs.declared.filter.WithoutAddress.TheVariants as without
 use Rattle.cidr_filter.specs.declared.listed.Listed.{Listed}
 use Rattle.cidr_filter.specs.declared.listed.Listed.TheVariants.{Addresses, Blocks}
 use Rattle.cidr_filter.specs.declared.options.Choice.{Choice}
@@ -69,11 +69,11 @@ letters_other letters =
 
 bad_other : (text : List ℕ) → is_other (bad_option text) ≡ true
 bad_other text =
-    let stop : Option Choice = if bytes_eq text (codes "stop") then Some (choices.Bad bads.Stop) else None in
-    let keep : Option Choice = if bytes_eq text (codes "keep") then Some (choices.Bad bads.Keep) else stop in
-    either (bytes_eq text (codes "drop")) (Some (choices.Bad bads.Drop)) keep refl
-    (either (bytes_eq text (codes "keep")) (Some (choices.Bad bads.Keep)) stop refl
-    (either (bytes_eq text (codes "stop")) (Some (choices.Bad bads.Stop)) None refl refl))
+    let stop : Option Choice = if bytes_eq text (codes "stop") then Some (choices.WithoutAddress without.Stop) else None in
+    let keep : Option Choice = if bytes_eq text (codes "keep") then Some (choices.WithoutAddress without.Keep) else stop in
+    either (bytes_eq text (codes "drop")) (Some (choices.WithoutAddress without.Drop)) keep refl
+    (either (bytes_eq text (codes "keep")) (Some (choices.WithoutAddress without.Keep)) stop refl
+    (either (bytes_eq text (codes "stop")) (Some (choices.WithoutAddress without.Stop)) None refl refl))
 
 one_word_other : (word : List ℕ) → is_other (in_one_word word) ≡ true
 one_word_other word =
@@ -115,7 +115,7 @@ pub reads_nothing : (known : KnownLists) (number : ℕ) (choice : Choice) (value
 reads_nothing known number (choices.Letters letters) value before e = refl
 reads_nothing known number (choices.Field field) value before e = refl
 reads_nothing known number (choices.Separator byte) value before e = refl
-reads_nothing known number (choices.Bad bad) value before e = refl
+reads_nothing known number (choices.WithoutAddress bad) value before e = refl
 reads_nothing known number choices.Longest value before e = refl
 reads_nothing known number choices.Mapped value before e = refl
 reads_nothing known number choices.After value before e = refl
@@ -135,7 +135,7 @@ file_is : {T E : Type 0} (result : Result T E) (known : KnownLists) (number : �
 file_is result known number (choices.Letters letters) value before after list not h = absurd (true≢false (sym list))
 file_is result known number (choices.Field field) value before after list not h = absurd (true≢false (sym list))
 file_is result known number (choices.Separator byte) value before after list not h = absurd (true≢false (sym list))
-file_is result known number (choices.Bad bad) value before after list not h = absurd (true≢false (sym list))
+file_is result known number (choices.WithoutAddress bad) value before after list not h = absurd (true≢false (sym list))
 file_is result known number choices.Longest value before after list not h = absurd (true≢false (sym list))
 file_is result known number choices.Mapped value before after list not h = absurd (true≢false (sym list))
 file_is result known number choices.After value before after list not h = absurd (true≢false (sym list))
@@ -194,7 +194,7 @@ file_stops_at : {T : Type 0} (result : Result T ReadFault) (known : KnownLists) 
 file_stops_at result known number (choices.Letters letters) value before refused list not h = absurd (true≢false (sym list))
 file_stops_at result known number (choices.Field field) value before refused list not h = absurd (true≢false (sym list))
 file_stops_at result known number (choices.Separator byte) value before refused list not h = absurd (true≢false (sym list))
-file_stops_at result known number (choices.Bad bad) value before refused list not h = absurd (true≢false (sym list))
+file_stops_at result known number (choices.WithoutAddress bad) value before refused list not h = absurd (true≢false (sym list))
 file_stops_at result known number choices.Longest value before refused list not h = absurd (true≢false (sym list))
 file_stops_at result known number choices.Mapped value before refused list not h = absurd (true≢false (sym list))
 file_stops_at result known number choices.After value before refused list not h = absurd (true≢false (sym list))

@@ -10,7 +10,7 @@ use Rattle.lines.specs.declared.line_buffer.NextLine.TheVariants.{Line, TooLong,
 use Rattle.lines.specs.declared.line_end.LineEnd.{LineEnd}
 use Rattle.lines.proofs.Putting.{begins_after_puts}
 use Rattle.cidr_filter.specs.Addressed.{any_addressed}
-use Rattle.cidr_filter.specs.Filters.{Judges, is_refused, is_selected, one_if, output_of, Filters}
+use Rattle.cidr_filter.specs.Filters.{IsVerdict, is_refused, is_selected, one_if, output_of, Filters}
 use Rattle.cidr_filter.specs.Lines.{LogLine, log_lines, ended_lines, content, printed}
 use Rattle.cidr_filter.specs.Stands.{Stand, Goes}
 use Rattle.cidr_filter.specs.Stops.{Ends, FiltersEnded, WritesBeginning, EndsAtLine, Stops}
@@ -92,7 +92,7 @@ module _ (filter_by : Filter) where
 
     -- it ends the run
     ends_at : (line : List ℕ) (end : LineEnd) (verdict : Verdict) → HandsOut now s.pending line end
-        → Judges filter_by line verdict → is_refused filter_by verdict ≡ true
+        → IsVerdict filter_by line verdict → is_refused filter_by verdict ≡ true
         → EndsAtLine filter_by remained remains old mid verdict
     ends_at line end verdict hands judges refused =
         let is = handed_first now s.pending line end hands in
@@ -108,13 +108,13 @@ module _ (filter_by : Filter) where
           filters = s.filters;
           goes = s.goes;
           is_line = elim is.whole [ inl e ↦ inl e | inr e ↦ inr (inl (s.at_end (sym same ∙ e))) ];
-          judges = subst (λ l. Judges filter_by l verdict) (sym is.is) judges;
+          judges = subst (λ l. IsVerdict filter_by l verdict) (sym is.is) judges;
           refused = refused;
         }
 
     -- or the writer failed at it
     writes_at : (new : Stand) (line : List ℕ) (end : LineEnd) (verdict : Verdict)
-        → HandsOut now s.pending line end → Judges filter_by line verdict
+        → HandsOut now s.pending line end → IsVerdict filter_by line verdict
         → is_refused filter_by verdict ≡ false
         → AppendsBeginning mid.holds new.holds
         (mid.waits ++ output_of filter_by verdict (log_line line end))
@@ -137,7 +137,7 @@ module _ (filter_by : Filter) where
             verdict,
             [],
             0,
-            subst (λ l. Judges filter_by l verdict) (sym is.is) judges,
+            subst (λ l. IsVerdict filter_by l verdict) (sym is.is) judges,
             passes,
             (refl, refl),
             sym (append-nil added),
@@ -178,7 +178,7 @@ module _ (filter_by : Filter) where
             (mid.waits ++ shown filter_by h.1 l (whole ++ feed_behind end)))
             (sym (handed_first now s.pending line end hands).is) h.4)),
       )
-      line_stops read_failed write_failed faults.Address h = refused_at verdicts.Bad h
+      line_stops read_failed write_failed faults.Address h = refused_at verdicts.NoAddress h
       line_stops read_failed write_failed faults.Length h = refused_at verdicts.TooLong h
       line_stops read_failed write_failed faults.Endless h = absurd h
 

@@ -16,7 +16,7 @@ no_field = refl
 pub no_separator : word_problem (codes "-d--") ≡ problems.Separator
 no_separator = refl
 
-pub no_bad : word_problem (codes "--bad=") ≡ problems.Bad
+pub no_bad : word_problem (codes "--bad=") ≡ problems.WithoutAddress
 no_bad = refl
 
 pub no_bad_by_its_letter : word_problem (codes "--bae=drop") ≡ problems.NoOption
@@ -48,7 +48,7 @@ value_of_a_field name n = rw n
 pub value_of_a_separator : {Z : Type 0} (name : String Z) → string_bytes name ≡ codes "-d" → value_problem name ≡ problems.Separator
 value_of_a_separator name n = rw n
 
-pub value_of_bad : {Z : Type 0} (name : String Z) → string_bytes name ≡ codes "--bad" → value_problem name ≡ problems.Bad
+pub value_of_bad : {Z : Type 0} (name : String Z) → string_bytes name ≡ codes "--bad" → value_problem name ≡ problems.WithoutAddress
 value_of_bad name n = rw n
 
 pub value_of_after : {Z : Type 0} (name : String Z) → string_bytes name ≡ codes "--after" → value_problem name ≡ problems.Empty

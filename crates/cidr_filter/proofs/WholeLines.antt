@@ -4,7 +4,7 @@ use Rattle.std.proofs.lemmas.Bool.{ne_eqb}
 use Rattle.lines.proofs.BytesLemmas.{HasNo, HasNo-push}
 use Rattle.lines.proofs.BytesLemmas.{strip_length}
 use Rattle.lines.proofs.Lines.{newline_cases}
-use Rattle.cidr_filter.specs.Filters.{Judges}
+use Rattle.cidr_filter.specs.Filters.{IsVerdict}
 use Rattle.cidr_filter.specs.Laws.{LinesThatEndRunsAreWhole}
 use Rattle.cidr_filter.specs.Lines.{LogLine, log_lines, content}
 use Rattle.cidr_filter.specs.declared.filter.Filter.{Filter}
@@ -28,18 +28,18 @@ one_line x l line lines others e = no_line lines others line (others_of x l [] (
 
 -- these lines begin with the first ones, and then comes one of this verdict
 abbrev pub Goes : Filter → Verdict → List LogLine → List LogLine → Type 0
-Goes filter verdict all lines = (whole : LogLine) × (behind : List LogLine) × (all ≡ lines ++ whole ∷ behind) × Judges filter (content whole) verdict
+Goes filter verdict all lines = (whole : LogLine) × (behind : List LogLine) × (all ≡ lines ++ whole ∷ behind) × IsVerdict filter (content whole) verdict
 
 -- a line that is too long has one verdict
-long_told : (filter : Filter) (verdict : Verdict) (line other : List ℕ) → 1048576 < length line → 1048576 < length other → Judges filter line verdict → Judges filter other verdict
+long_told : (filter : Filter) (verdict : Verdict) (line other : List ℕ) → 1048576 < length line → 1048576 < length other → IsVerdict filter line verdict → IsVerdict filter other verdict
 long_told filter (verdicts.Inside told) line other long longer judges = absurd (omega (arith, long, judges.0))
 long_told filter verdicts.Outside line other long longer judges = absurd (omega (arith, long, judges.0))
-long_told filter verdicts.Bad line other long longer judges = absurd (omega (arith, long, judges.0))
+long_told filter verdicts.NoAddress line other long longer judges = absurd (omega (arith, long, judges.0))
 long_told filter verdicts.TooLong line other long longer judges = longer
 
 module _ (filter : Filter) (verdict : Verdict) (rest : List ℕ) where
   -- a beginning of a line that is too long
-  long_first : (p after : List ℕ) → HasNo 10 p → 1048577 < length p → Judges filter p verdict → Goes filter verdict (log_lines (p ++ after)) []
+  long_first : (p after : List ℕ) → HasNo 10 p → 1048577 < length p → IsVerdict filter p verdict → Goes filter verdict (log_lines (p ++ after)) []
   long_first p [] none long judges = (unended p, [], ap log_lines (append-nil p) ∙ lines_last p none (some_bytes p long), judges)
   long_first p (c ∷ after) none long judges = elim (newline_cases c) [
     | inl e ↦ (
@@ -55,18 +55,18 @@ module _ (filter : Filter) (verdict : Verdict) (rest : List ℕ) where
   ]
 
   -- the line that no line feed ends, behind none
-  last_goes : (p : List ℕ) (line : LogLine) → HasNo 10 p → unended p ≡ line → (line.is_ended ≡ true) ⊎ (1048577 < length line.bytes) → Judges filter (content line) verdict
+  last_goes : (p : List ℕ) (line : LogLine) → HasNo 10 p → unended p ≡ line → (line.is_ended ≡ true) ⊎ (1048577 < length line.bytes) → IsVerdict filter (content line) verdict
       → Goes filter verdict (log_lines (p ++ rest)) []
   last_goes p line none same (inl ends) judges = absurd (true≢false (sym ends ∙ ap (λ (l : LogLine). l.is_ended) (sym same)))
   last_goes p line none same (inr long) judges =
-      long_first p rest none (omega (arith, long, ap (λ (l : LogLine). length l.bytes) same)) (subst (λ (l : LogLine). Judges filter (content l) verdict) (sym same) judges)
+      long_first p rest none (omega (arith, long, ap (λ (l : LogLine). length l.bytes) same)) (subst (λ (l : LogLine). IsVerdict filter (content l) verdict) (sym same) judges)
 
   only_line : (x : ℕ) (p : List ℕ) (all : List LogLine) → HasNo 10 (x ∷ p) → log_lines ((x ∷ p) ++ []) ≡ all → unended (x ∷ p) ∷ [] ≡ all
   only_line x p all none e = sym (ap log_lines (append-nil (x ∷ p)) ∙ lines_last (x ∷ p) none (ne_eqb (length (x ∷ p)) 0 (λ e. omega (arith, e)))) ∙ e
 
   -- the lines of a text, of which `p` was read before
   goes : (p text : List ℕ) (lines others : List LogLine) (line : LogLine) → HasNo 10 p → log_lines (p ++ text) ≡ lines ++ line ∷ others
-      → (line.is_ended ≡ true) ⊎ (1048577 < length line.bytes) → Judges filter (content line) verdict → Goes filter verdict (log_lines (p ++ (text ++ rest))) lines
+      → (line.is_ended ≡ true) ⊎ (1048577 < length line.bytes) → IsVerdict filter (content line) verdict → Goes filter verdict (log_lines (p ++ (text ++ rest))) lines
   goes [] [] lines others line none e is judges = absurd (no_line lines others line e)
   goes (x ∷ p) [] [] others line none e is judges =
       last_goes (x ∷ p) line none (first_of (unended (x ∷ p)) line [] others (only_line x p (line ∷ others) none e)) is judges
@@ -77,7 +77,7 @@ module _ (filter : Filter) (verdict : Verdict) (rest : List ℕ) where
           ended p,
           log_lines (text ++ rest),
           ap (λ b. log_lines (p ++ b ∷ (text ++ rest))) same ∙ lines_line p (text ++ rest) none,
-          subst (λ (l : LogLine). Judges filter (content l) verdict) (sym (first_of (ended p) line (log_lines text) others cut)) judges,
+          subst (λ (l : LogLine). IsVerdict filter (content l) verdict) (sym (first_of (ended p) line (log_lines text) others cut)) judges,
         )
     | inr other ↦
         let more = goes (p ++ c ∷ []) text [] others line (HasNo-push 10 p c none other) (ap log_lines (append_assoc p (c ∷ []) text) ∙ e) is judges in

@@ -23,7 +23,7 @@ any_addressed filter lines = list_any (λ line. is_addressed filter (content lin
 abbrev pub is_addressed_by : Verdict → Bool
 is_addressed_by (verdicts.Inside told) = true
 is_addressed_by verdicts.Outside = true
-is_addressed_by verdicts.Bad = false
+is_addressed_by verdicts.NoAddress = false
 is_addressed_by verdicts.TooLong = false
 
 -- where an address is looked for

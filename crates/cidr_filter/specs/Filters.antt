@@ -12,8 +12,8 @@ use Rattle.line_addresses.specs.Words.{words_of}
 use Rattle.cidr_filter.specs.Fields.{field_of}
 use Rattle.cidr_filter.specs.Lines.{LogLine, content, printed}
 use Rattle.cidr_filter.specs.Listed.{IsIn, IsLongestBlock, has_address}
-use Rattle.cidr_filter.specs.declared.filter.Bad.{Bad}
-use Rattle.cidr_filter.specs.declared.filter.Bad.TheVariants as bads
+use Rattle.cidr_filter.specs.declared.filter.WithoutAddress.{WithoutAddress}
+use Rattle.cidr_filter.specs.declared.filter.WithoutAddress.TheVariants as without
 use Rattle.cidr_filter.specs.declared.filter.Filter.{Filter}
 use Rattle.cidr_filter.specs.declared.filter.Place.{Place}
 use Rattle.cidr_filter.specs.declared.filter.Place.TheVariants as places
@@ -71,56 +71,56 @@ abbrev pub NoneListed : Filter → List IpAddr → Type 0
 NoneListed filter addresses = AllByRecursion (λ address. ¬ (IsListed filter address)) addresses
 
 -- what a line with these addresses is to the lists
-abbrev pub JudgesAddresses : Filter → List IpAddr → Verdict → Type 0
-JudgesAddresses filter addresses (verdicts.Inside told) = FirstListed filter addresses told
-JudgesAddresses filter addresses verdicts.Outside = (0 < length addresses) × NoneListed filter addresses
-JudgesAddresses filter addresses verdicts.Bad = addresses ≡ []
-JudgesAddresses filter addresses verdicts.TooLong = ⊥
+abbrev pub IsVerdictOfAddresses : Filter → List IpAddr → Verdict → Type 0
+IsVerdictOfAddresses filter addresses (verdicts.Inside told) = FirstListed filter addresses told
+IsVerdictOfAddresses filter addresses verdicts.Outside = (0 < length addresses) × NoneListed filter addresses
+IsVerdictOfAddresses filter addresses verdicts.NoAddress = addresses ≡ []
+IsVerdictOfAddresses filter addresses verdicts.TooLong = ⊥
 
 -- what a line, without its end, is to the list. One of more than 1,048,576 bytes is too long, whatever is in it
-abbrev pub Judges : Filter → List ℕ → Verdict → Type 0
-Judges filter line (verdicts.Inside told) = (length line ≤ 1048576) × JudgesAddresses filter (addresses_in filter line) (verdicts.Inside told)
-Judges filter line verdicts.Outside = (length line ≤ 1048576) × JudgesAddresses filter (addresses_in filter line) verdicts.Outside
-Judges filter line verdicts.Bad = (length line ≤ 1048576) × JudgesAddresses filter (addresses_in filter line) verdicts.Bad
-Judges filter line verdicts.TooLong = 1048576 < length line
+abbrev pub IsVerdict : Filter → List ℕ → Verdict → Type 0
+IsVerdict filter line (verdicts.Inside told) = (length line ≤ 1048576) × IsVerdictOfAddresses filter (addresses_in filter line) (verdicts.Inside told)
+IsVerdict filter line verdicts.Outside = (length line ≤ 1048576) × IsVerdictOfAddresses filter (addresses_in filter line) verdicts.Outside
+IsVerdict filter line verdicts.NoAddress = (length line ≤ 1048576) × IsVerdictOfAddresses filter (addresses_in filter line) verdicts.NoAddress
+IsVerdict filter line verdicts.TooLong = 1048576 < length line
 
 -- lines without an address are not selected
-abbrev pub is_dropped : Bad → Bool
-is_dropped bads.Drop = true
-is_dropped bads.Keep = false
-is_dropped bads.Stop = false
+abbrev pub is_dropped : WithoutAddress → Bool
+is_dropped without.Drop = true
+is_dropped without.Keep = false
+is_dropped without.Stop = false
 
 -- lines without an address are selected
-abbrev pub is_kept : Bad → Bool
-is_kept bads.Drop = false
-is_kept bads.Keep = true
-is_kept bads.Stop = false
+abbrev pub is_kept : WithoutAddress → Bool
+is_kept without.Drop = false
+is_kept without.Keep = true
+is_kept without.Stop = false
 
 -- a line without an address ends the run
-abbrev pub is_stopped : Bad → Bool
-is_stopped bads.Drop = false
-is_stopped bads.Keep = false
-is_stopped bads.Stop = true
+abbrev pub is_stopped : WithoutAddress → Bool
+is_stopped without.Drop = false
+is_stopped without.Keep = false
+is_stopped without.Stop = true
 
 -- the lines inside are selected, or those outside, and of the lines without an address those that are kept
 abbrev pub is_selected : Filter → Verdict → Bool
 is_selected filter (verdicts.Inside told) = not filter.inverts
 is_selected filter verdicts.Outside = filter.inverts
-is_selected filter verdicts.Bad = is_kept filter.bad
+is_selected filter verdicts.NoAddress = is_kept filter.bad
 is_selected filter verdicts.TooLong = false
 
 -- a line without an address ends the run if the option says so, and so does one that is too long and is not dropped
 abbrev pub is_refused : Filter → Verdict → Bool
 is_refused filter (verdicts.Inside told) = false
 is_refused filter verdicts.Outside = false
-is_refused filter verdicts.Bad = is_stopped filter.bad
+is_refused filter verdicts.NoAddress = is_stopped filter.bad
 is_refused filter verdicts.TooLong = not (is_dropped filter.bad)
 
 -- the block that is printed before a line of this verdict
 abbrev pub block_in : Verdict → Option IpNetwork
 block_in (verdicts.Inside told) = told
 block_in verdicts.Outside = None
-block_in verdicts.Bad = None
+block_in verdicts.NoAddress = None
 block_in verdicts.TooLong = None
 
 -- its canonical text, or a minus sign for none
@@ -162,6 +162,6 @@ one_if selected = if selected then 1 else 0
 -- for these lines in turn this is written, this many are selected, and none ends the run
 abbrev pub Filters : Filter → List LogLine → List ℕ → ℕ → Type 0
 Filters filter [] output count = (output ≡ []) × (count ≡ 0)
-Filters filter (line ∷ lines) output count = (verdict : Verdict) × (others : List ℕ) × (more : ℕ) × Judges filter (content line) verdict
+Filters filter (line ∷ lines) output count = (verdict : Verdict) × (others : List ℕ) × (more : ℕ) × IsVerdict filter (content line) verdict
     × (is_refused filter verdict ≡ false) × Filters filter lines others more
     × (output ≡ output_of filter verdict line ++ others) × (count ≡ one_if (is_selected filter verdict) + more)

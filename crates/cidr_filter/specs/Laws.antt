@@ -3,7 +3,7 @@ use Rattle.std.specs.Prelude.{◌≡◌, ℕ, ◌+◌, ◌==◌, ◌||◌, ◌&&
 use Rattle.std.specs.List.{list_all, list_any}
 use Rattle.std.specs.String.{string_bytes}
 use Rattle.cidr_filter.specs.CommandLines.{Begin, AsksNothing}
-use Rattle.cidr_filter.specs.Filters.{Judges, Filters}
+use Rattle.cidr_filter.specs.Filters.{IsVerdict, Filters}
 use Rattle.cidr_filter.specs.Lines.{LogLine, log_lines, content, IsWhole}
 use Rattle.cidr_filter.specs.Options.{option_of}
 use Rattle.cidr_filter.specs.Usage.{HasFault}
@@ -14,7 +14,7 @@ use Rattle.cidr_filter.specs.declared.usage.UsageFault.{UsageFault}
 
 -- a line has at most one verdict
 abbrev pub LinesHaveOneVerdict : Type 0
-LinesHaveOneVerdict = (filter : Filter) (line : List ℕ) (a b : Verdict) → Judges filter line a → Judges filter line b → a ≡ b
+LinesHaveOneVerdict = (filter : Filter) (line : List ℕ) (a b : Verdict) → IsVerdict filter line a → IsVerdict filter line b → a ≡ b
 
 -- for the lines of a log at most one output is written, and as many are selected
 abbrev pub LogsHaveOneOutput : Type 0
@@ -30,8 +30,8 @@ OutputsOfPartsFollow = (filter : Filter) (first second a b : List ℕ) (m n : �
 -- one whose end was not read too, if the log ends with it or it is too long with any end
 abbrev pub LinesThatEndRunsAreWhole : Type 0
 LinesThatEndRunsAreWhole = (filter : Filter) (read rest : List ℕ) (lines others : List LogLine) (line : LogLine) (verdict : Verdict) → log_lines read ≡ lines ++ line ∷ others
-    → IsWhole (rest ≡ []) line → Judges filter (content line) verdict
-    → (whole : LogLine) × (behind : List LogLine) × (log_lines (read ++ rest) ≡ lines ++ whole ∷ behind) × Judges filter (content whole) verdict
+    → IsWhole (rest ≡ []) line → IsVerdict filter (content line) verdict
+    → (whole : LogLine) × (behind : List LogLine) × (log_lines (read ++ rest) ≡ lines ++ whole ∷ behind) × IsVerdict filter (content whole) verdict
 
 -- the word begins with this text
 abbrev pub begins_with : List ℕ → List ℕ → Bool

@@ -4,7 +4,7 @@ use Rattle.std.specs.String.{string_bytes}
 use Rattle.lines.specs.Parts.{IsBeginning}
 use Rattle.lists.specs.KnownLists.{KnownLists}
 use Rattle.cidr_filter.specs.Addressed.{lacking_text, closed_text}
-use Rattle.cidr_filter.specs.Filters.{Judges, is_refused, Filters}
+use Rattle.cidr_filter.specs.Filters.{IsVerdict, is_refused, Filters}
 use Rattle.cidr_filter.specs.Lines.{LogLine, log_lines, ended_lines, content, IsWhole}
 use Rattle.cidr_filter.specs.declared.filter.Filter.{Filter}
 use Rattle.cidr_filter.specs.declared.filter.Verdict.{Verdict}
@@ -55,7 +55,7 @@ pub record RefusesAfter (filter : Filter) (known : KnownLists) (name : List ℕ)
   pub is_first : IsFirstOf known name read
   pub are : log_lines read ≡ lines ++ line ∷ others
   pub is_line : IsWhole (IsAllOf known name read) line
-  pub judges : Judges filter (content line) verdict
+  pub judges : IsVerdict filter (content line) verdict
   pub refused : is_refused filter verdict ≡ true
 
 -- the log of this name is not filtered to its end, by the fault, but these first lines are
@@ -66,7 +66,7 @@ HaltsBy filter known name lines faults.Read =
 -- a write failed
 HaltsBy filter known name lines faults.Write = (read : List ℕ) × (others : List LogLine) × IsFirstOf known name read × (log_lines read ≡ lines ++ others)
 -- the first line without an address ends the run
-HaltsBy filter known name lines faults.Address = RefusesAfter filter known name lines verdicts.Bad × known.may_open name true
+HaltsBy filter known name lines faults.Address = RefusesAfter filter known name lines verdicts.NoAddress × known.may_open name true
 -- the first line that is too long does
 HaltsBy filter known name lines faults.Length = RefusesAfter filter known name lines verdicts.TooLong × known.may_open name true
 -- more bytes were read than 64 bits count: the lines that all but the last of them complete

@@ -5,7 +5,7 @@ use Rattle.std.specs.String.{string_bytes}
 use Rattle.std.specs.Char.{is_ascii_digit}
 use Rattle.program.specs.Words.{is}
 use Rattle.cidr_filter.specs.declared.command_line.Request.{Request}
-use Rattle.cidr_filter.specs.declared.filter.Bad.TheVariants as bads
+use Rattle.cidr_filter.specs.declared.filter.WithoutAddress.TheVariants as without
 use Rattle.cidr_filter.specs.declared.options.Choice.{Choice}
 use Rattle.cidr_filter.specs.declared.options.Choice.TheVariants as choices
 use Rattle.cidr_filter.specs.declared.options.Letters.{Letters}
@@ -37,9 +37,9 @@ separator_option (byte ∷ other ∷ bytes) = None
 -- `--bad`: one of three words
 abbrev pub bad_option : List ℕ → Option Choice
 bad_option text =
-    if bytes_eq text (codes "drop") then Some (choices.Bad bads.Drop)
-    else if bytes_eq text (codes "keep") then Some (choices.Bad bads.Keep)
-    else if bytes_eq text (codes "stop") then Some (choices.Bad bads.Stop)
+    if bytes_eq text (codes "drop") then Some (choices.WithoutAddress without.Drop)
+    else if bytes_eq text (codes "keep") then Some (choices.WithoutAddress without.Keep)
+    else if bytes_eq text (codes "stop") then Some (choices.WithoutAddress without.Stop)
     else None
 
 -- `-f`: the name of a list, of which `-` is standard input, and which is not empty
@@ -125,7 +125,7 @@ abbrev pub with_option : Request → Choice → Request
 with_option request (choices.Letters letters) = record request { letters = either request.letters letters }
 with_option request (choices.Field number) = record request { field = Some number }
 with_option request (choices.Separator byte) = record request { separator = Some byte }
-with_option request (choices.Bad bad) = record request { bad = bad }
+with_option request (choices.WithoutAddress bad) = record request { bad = bad }
 with_option request choices.Longest = record request { longest = true }
 with_option request choices.Mapped = record request { mapped = true }
 with_option request choices.After = record request { after = true }
@@ -142,7 +142,7 @@ no_options = record {
   after = false;
   mapped = false;
   longest = false;
-  bad = bads.Drop;
+  bad = without.Drop;
   has_list = false;
   inputs = 0;
   files = 0;
@@ -173,7 +173,7 @@ abbrev pub is_list : Choice → Bool
 is_list (choices.Letters letters) = false
 is_list (choices.Field number) = false
 is_list (choices.Separator byte) = false
-is_list (choices.Bad bad) = false
+is_list (choices.WithoutAddress bad) = false
 is_list choices.Longest = false
 is_list choices.Mapped = false
 is_list choices.After = false

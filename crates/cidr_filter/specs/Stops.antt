@@ -3,7 +3,7 @@ use Rattle.std.specs.Prelude.{◌≡◌, ℕ, ◌-◌, ◌^◌, ◌<◌, ◌||�
 use Rattle.std.specs.Io.KnownBytes.{Consumes, IsAtEnd}
 use Rattle.lines.specs.Outputs.{AppendsBeginning}
 use Rattle.cidr_filter.specs.Addressed.{any_addressed}
-use Rattle.cidr_filter.specs.Filters.{Judges, is_refused, Filters}
+use Rattle.cidr_filter.specs.Filters.{IsVerdict, is_refused, Filters}
 use Rattle.cidr_filter.specs.Lines.{LogLine, log_lines, ended_lines, content, IsWhole}
 use Rattle.cidr_filter.specs.Stands.{Stand, Goes}
 use Rattle.cidr_filter.specs.declared.filter.Filter.{Filter}
@@ -55,7 +55,7 @@ pub record EndsAtLine (filter : Filter) (remained remains : Option (List ℕ)) (
   pub filters : Filters filter first added count
   pub goes : Goes old new added count (length first)
   pub is_line : IsWhole (IsAtEnd remains) line
-  pub judges : Judges filter (content line) verdict
+  pub judges : IsVerdict filter (content line) verdict
   pub refused : is_refused filter verdict ≡ true
 
 -- what is true if a log is not filtered to its end, by the fault
@@ -65,7 +65,7 @@ Stops filter remained remains read_failed write_failed old new Read = IsTrue rea
 -- a write failed
 Stops filter remained remains read_failed write_failed old new Write = IsTrue write_failed × WritesBeginning filter remained remains old new
 -- the first line without an address ends the run
-Stops filter remained remains read_failed write_failed old new Address = EndsAtLine filter remained remains old new verdicts.Bad
+Stops filter remained remains read_failed write_failed old new Address = EndsAtLine filter remained remains old new verdicts.NoAddress
 -- the first line that is too long does
 Stops filter remained remains read_failed write_failed old new Length = EndsAtLine filter remained remains old new verdicts.TooLong
 -- more bytes were read than 64 bits count; all but the last of them were filtered

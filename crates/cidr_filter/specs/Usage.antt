@@ -17,7 +17,7 @@ abbrev pub problem_text : Problem → List ℕ
 problem_text problems.NoValue = codes "has no value"
 problem_text problems.Field = codes "is no field number"
 problem_text problems.Separator = codes "is not one ASCII byte other than LF, CR and NUL"
-problem_text problems.Bad = codes "is not drop, keep or stop"
+problem_text problems.WithoutAddress = codes "is not drop, keep or stop"
 problem_text problems.Name = codes "is no file name"
 problem_text problems.Text = codes "is no network or range"
 problem_text problems.Empty = codes "is no text"
@@ -43,7 +43,7 @@ value_problem name =
     else if is (codes "-e") name then problems.Text
     else if is (codes "-k") name then problems.Field
     else if is (codes "-d") name then problems.Separator
-    else if is (codes "--bad") name then problems.Bad
+    else if is (codes "--bad") name then problems.WithoutAddress
     else problems.Empty
 
 -- what is wrong with a word that is no option by itself
@@ -51,7 +51,7 @@ abbrev pub word_problem : List ℕ → Problem
 word_problem word =
     if begins (codes "-k") word then problems.Field
     else if begins (codes "-d") word then problems.Separator
-    else if begins (codes "--bad=") word then problems.Bad
+    else if begins (codes "--bad=") word then problems.WithoutAddress
     else if bytes_eq word (codes "--help") || bytes_eq word (codes "--version") then problems.NotAlone
     else problems.NoOption
 

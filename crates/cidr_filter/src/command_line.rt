@@ -5,7 +5,7 @@ ghost use Rattle.cidr_filter.specs.Options.{with_option, either};
 ghost use Rattle.cidr_filter.specs.Private.Requests.{BeginsWith, behind_dashes};
 ghost use Rattle.cidr_filter.specs.Usage.{HasFault, together_by};
 
-use crate::filter::Bad;
+use crate::filter::WithoutAddress;
 use crate::options::{Choice, Letters, behind, choice_at};
 use crate::usage::{Problem, UsageFault, about, rest_fault};
 use program::usage::Subject;
@@ -27,7 +27,7 @@ pub struct Request {
     /// Whether the longest block that holds the address stands before a line.
     pub longest: bool,
     /// What becomes of a line without an address.
-    pub bad: Bad,
+    pub bad: WithoutAddress,
     /// Whether a list is among the options.
     pub has_list: bool,
     /// How often the options name standard input.
@@ -72,7 +72,7 @@ fn options_of(words: &[String]) -> Request
         after: false,
         mapped: false,
         longest: false,
-        bad: Bad::Drop,
+        bad: WithoutAddress::Drop,
         has_list: false,
         inputs: 0,
         files: 0,
@@ -152,7 +152,7 @@ fn with_choice(request: Request, choice: Choice) -> Request
             separator: Some(separator),
             ..request
         },
-        Choice::Bad(bad) => Request { bad, ..request },
+        Choice::WithoutAddress(bad) => Request { bad, ..request },
         Choice::Longest => Request {
             longest: true,
             ..request

@@ -2,7 +2,7 @@
 ghost use Rattle.std.specs.Prelude.{◌≡◌, ◌≤◌, ◌||◌, Some, MatchOption};
 ghost use Rattle.line_addresses.specs.Addresses.{addresses_of};
 ghost use Rattle.cidr_filter.specs.Addressed.{is_addressed_by};
-ghost use Rattle.cidr_filter.specs.Filters.{is_listed, Judges, JudgesAddresses, IsListed, TellsBlock, asked, asked_of, of_part, of_rest, spelled_at, is_selected, is_refused};
+ghost use Rattle.cidr_filter.specs.Filters.{is_listed, IsVerdict, IsVerdictOfAddresses, IsListed, TellsBlock, asked, asked_of, of_part, of_rest, spelled_at, is_selected, is_refused};
 
 use crate::field::field_of;
 use crate::listed::Listed;
@@ -15,7 +15,7 @@ pub(crate) const LINE_MAX: usize = 1_048_576;
 
 /// What becomes of a line without an address.
 #[derive(Clone, Copy, Debug, PartialEq, Eq)]
-pub enum Bad {
+pub enum WithoutAddress {
     /// It is not selected.
     Drop,
     /// It is selected.
@@ -81,7 +81,7 @@ pub enum Verdict {
     /// It has addresses, and none is one of the lists.
     Outside,
     /// It has no address.
-    Bad,
+    NoAddress,
     /// It has more than 1,048,576 bytes, not counting its line end.
     TooLong,
 }
@@ -101,7 +101,7 @@ impl Verdict {
         match *self {
             Verdict::Inside(_) => true,
             Verdict::Outside => true,
-            Verdict::Bad => false,
+            Verdict::NoAddress => false,
             Verdict::TooLong => false,
         }
     }
@@ -115,7 +115,7 @@ pub struct Filter<'a> {
     /// Whether an IPv4-mapped address of a line counts as its IPv4 one.
     pub(crate) mapped: bool,
     pub(crate) inverts: bool,
-    pub(crate) bad: Bad,
+    pub(crate) bad: WithoutAddress,
     /// Whether the selected lines are only counted.
     pub(crate) counts: bool,
     /// Whether their addresses that are in the list are printed in place of them.
@@ -126,7 +126,7 @@ impl Filter<'_> {
     /// What a line is to the list. It is given without its end. Does not allocate.
     #[inline(always)]
     pub(crate) fn judge(&self, line: &[u8]) -> Verdict
-        ensures { Judges self.now line.now result }
+        ensures { IsVerdict self.now line.now result }
     {
         if line.len() > LINE_MAX {
             return Verdict::TooLong;
@@ -137,22 +137,22 @@ impl Filter<'_> {
     // What a line that is not too long is to the list.
     #[inline(always)]
     fn judge_within(&self, line: &[u8]) -> Verdict
-        ensures { JudgesAddresses self.now
+        ensures { IsVerdictOfAddresses self.now
             (asked_of self.now (spelled_at self.now.place line.now)) result }
     {
         match &self.place {
             Place::Field { number, separator } => match field_of(line, *number, *separator) {
                 Some(field) => self.judge_part(field),
-                None => Verdict::Bad,
+                None => Verdict::NoAddress,
             },
             Place::Word(number) => match word_of(line, *number) {
                 Some(word) => self.judge_part(word),
-                None => Verdict::Bad,
+                None => Verdict::NoAddress,
             },
             Place::Anywhere => self.judge_anywhere(line),
             Place::After(text) => match following(line, text.bytes()) {
                 Some(rest) => self.judge_first(rest),
-                None => Verdict::Bad,
+                None => Verdict::NoAddress,
             },
         }
     }
@@ -160,33 +160,33 @@ impl Filter<'_> {
     // What a line is to the list of which only this part is looked at.
     #[inline(always)]
     fn judge_part(&self, part: &[u8]) -> Verdict
-        ensures { JudgesAddresses self.now (asked_of self.now (of_part (Some part.now))) result }
+        ensures { IsVerdictOfAddresses self.now (asked_of self.now (of_part (Some part.now))) result }
     {
         match address_of(part) {
             Some(address) => match self.told_of(address) {
                 Some(told) => Verdict::Inside(told),
                 None => Verdict::Outside,
             },
-            None => Verdict::Bad,
+            None => Verdict::NoAddress,
         }
     }
 
     // What a line is to the list of which the first address of this rest is looked at.
     fn judge_first(&self, rest: &[u8]) -> Verdict
-        ensures { JudgesAddresses self.now (asked_of self.now (of_rest (Some rest.now))) result }
+        ensures { IsVerdictOfAddresses self.now (asked_of self.now (of_rest (Some rest.now))) result }
     {
         match next_address(rest, 0) {
             Some(found) => match self.told_of(found.address) {
                 Some(told) => Verdict::Inside(told),
                 None => Verdict::Outside,
             },
-            None => Verdict::Bad,
+            None => Verdict::NoAddress,
         }
     }
 
     // What a line is to the list whose addresses stand anywhere in it.
     fn judge_anywhere(&self, line: &[u8]) -> Verdict
-        ensures { JudgesAddresses self.now (asked_of self.now (addresses_of line.now)) result }
+        ensures { IsVerdictOfAddresses self.now (asked_of self.now (addresses_of line.now)) result }
     {
         let mut at = 0;
         let mut is_seen = false;
@@ -200,7 +200,7 @@ impl Filter<'_> {
         if is_seen {
             Verdict::Outside
         } else {
-            Verdict::Bad
+            Verdict::NoAddress
         }
     }
 
@@ -256,7 +256,7 @@ impl Filter<'_> {
         match *verdict {
             Verdict::Inside(_) => !self.inverts,
             Verdict::Outside => self.inverts,
-            Verdict::Bad => self.bad == Bad::Keep,
+            Verdict::NoAddress => self.bad == WithoutAddress::Keep,
             Verdict::TooLong => false,
         }
     }
@@ -268,8 +268,8 @@ impl Filter<'_> {
         match *verdict {
             Verdict::Inside(_) => false,
             Verdict::Outside => false,
-            Verdict::Bad => self.bad == Bad::Stop,
-            Verdict::TooLong => self.bad != Bad::Drop,
+            Verdict::NoAddress => self.bad == WithoutAddress::Stop,
+            Verdict::TooLong => self.bad != WithoutAddress::Drop,
         }
     }
 }

@@ -3,8 +3,7 @@ ghost use Rattle.std.specs.Prelude.{◌≡◌, ◌↔◌, IsTrue, map, IfOk, Mat
 ghost use Rattle.cidr_filter.specs.Listed.{HasAddress, has_address, HasBlocksOf, IsLongestBlock, NoBlockHolds};
 
 use ipnetwork::{IpAddr, IpNetwork, Ipv4Network, Ipv6Network};
-use ipnetwork_family::CidrNetwork;
-use ipnetwork_family::laws::membership_is_computed;
+use ipnetwork_family::{CidrNetwork, laws};
 use ipnetwork_index::{AddressIndex, IndexedNetwork, RouteIndex};
 use ipnetwork_sets::AddressSet;
 use ipnetwork_table::PrefixTable;
@@ -66,7 +65,7 @@ impl Sets {
     pub(crate) fn has(&self, address: IpAddr) -> bool
         ensures { result ≡ has_address self.now address }
     {
-        membership_is_computed();
+        laws::membership_is_computed();
         self.contains(address)
     }
 }

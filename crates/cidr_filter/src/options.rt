@@ -4,7 +4,7 @@ ghost use Rattle.std.specs.List.{list_all};
 ghost use Rattle.std.specs.Char.{is_ascii_digit};
 ghost use Rattle.cidr_filter.specs.Options.{is_letter, number_of, takes_next, behind_option, option_of, in_one_word, in_two_words, is_list, letters_option, letters_in, file_option, text_option, field_option, separator_option, bad_option, after_option, text_after, said_after, or_last};
 
-use crate::filter::Bad;
+use crate::filter::WithoutAddress;
 use program::words::is;
 
 /// Which letters are among those of options.
@@ -32,7 +32,7 @@ pub enum Choice {
     /// `-d`.
     Separator(u8),
     /// `--bad`.
-    Bad(Bad),
+    WithoutAddress(WithoutAddress),
     /// `--longest`.
     Longest,
     /// `--mapped`.
@@ -264,11 +264,11 @@ fn bad_choice(value: &[u8]) -> Option<Choice>
     ensures { result ≡ bad_option value.now }
 {
     if value == b"drop".as_slice() {
-        Some(Choice::Bad(Bad::Drop))
+        Some(Choice::WithoutAddress(WithoutAddress::Drop))
     } else if value == b"keep".as_slice() {
-        Some(Choice::Bad(Bad::Keep))
+        Some(Choice::WithoutAddress(WithoutAddress::Keep))
     } else if value == b"stop".as_slice() {
-        Some(Choice::Bad(Bad::Stop))
+        Some(Choice::WithoutAddress(WithoutAddress::Stop))
     } else {
         None
     }

@@ -142,7 +142,7 @@ fn block_in(verdict: &Verdict) -> Option<IpNetwork>
     match *verdict {
         Verdict::Inside(block) => block,
         Verdict::Outside => None,
-        Verdict::Bad => None,
+        Verdict::NoAddress => None,
         Verdict::TooLong => None,
     }
 }

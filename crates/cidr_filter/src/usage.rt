@@ -17,7 +17,7 @@ pub enum Problem {
     /// Not a byte that separates fields.
     Separator,
     /// Not what becomes of a line without an address.
-    Bad,
+    WithoutAddress,
     /// Not the name of a file: empty.
     Name,
     /// Not a network or a range: empty.
@@ -55,7 +55,7 @@ impl Problem {
             Problem::NoValue => "has no value",
             Problem::Field => "is no field number",
             Problem::Separator => "is not one ASCII byte other than LF, CR and NUL",
-            Problem::Bad => "is not drop, keep or stop",
+            Problem::WithoutAddress => "is not drop, keep or stop",
             Problem::Name => "is no file name",
             Problem::Text => "is no network or range",
             Problem::Empty => "is no text",
@@ -140,7 +140,7 @@ fn value_problem(name: &String) -> Problem
     } else if is(name, "-d") {
         Problem::Separator
     } else if is(name, "--bad") {
-        Problem::Bad
+        Problem::WithoutAddress
     } else {
         Problem::Empty
     }
@@ -155,7 +155,7 @@ fn word_problem(word: &[u8]) -> Problem
     } else if word.starts_with(b"-d".as_slice()) {
         Problem::Separator
     } else if word.starts_with(b"--bad=".as_slice()) {
-        Problem::Bad
+        Problem::WithoutAddress
     } else if word == b"--help".as_slice() || word == b"--version".as_slice() {
         Problem::NotAlone
     } else {

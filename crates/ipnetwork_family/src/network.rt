@@ -355,7 +355,7 @@ fn read_suffixed<A: Address>(text: &[u8]) -> Option<Network<A>>
         return None;
     };
     let prefix = A::read_suffix(&text[at + 1..])?;
-    address.is_of_width();
+    address.law_of_width();
     Some(Network { address, prefix })
 }
 

@@ -8,5 +8,5 @@ use Rattle.cidr_filter.specs.declared.log.LogFault.TheVariants as faults
 abbrev pub fault_of : Verdict → LogFault
 fault_of (verdicts.Inside told) = faults.Address
 fault_of verdicts.Outside = faults.Address
-fault_of verdicts.Bad = faults.Address
+fault_of verdicts.NoAddress = faults.Address
 fault_of verdicts.TooLong = faults.Length

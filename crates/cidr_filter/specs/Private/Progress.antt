@@ -7,7 +7,7 @@ use Rattle.lines.specs.Outputs.{AppendsBeginning}
 use Rattle.lines.specs.declared.line_end.LineEnd.{LineEnd}
 use Rattle.lines.specs.declared.line_end.LineEnd.TheVariants.{LineFeed, ReturnAndLineFeed, EndOfInput}
 use Rattle.cidr_filter.specs.Addressed.{is_addressed_by, any_addressed}
-use Rattle.cidr_filter.specs.Filters.{Judges, is_refused, is_selected, shown_of, one_if, Filters}
+use Rattle.cidr_filter.specs.Filters.{IsVerdict, is_refused, is_selected, shown_of, one_if, Filters}
 use Rattle.cidr_filter.specs.Lines.{LogLine, log_lines}
 use Rattle.cidr_filter.specs.Stands.{Stand, Goes}
 use Rattle.cidr_filter.specs.declared.filter.Filter.{Filter}
@@ -29,7 +29,7 @@ shown filter verdict line text =
 
 -- a line, given without its end and as it is written, was filtered
 abbrev pub FiltersLine : Filter → List ℕ → List ℕ → Stand → Stand → Type 0
-FiltersLine filter line text old new = (verdict : Verdict) × Judges filter line verdict
+FiltersLine filter line text old new = (verdict : Verdict) × IsVerdict filter line verdict
     × (is_refused filter verdict ≡ false)
     × Goes old new (shown filter verdict line text) (one_if (is_selected filter verdict)) 1
     × (new.addressed ≡ (old.addressed || is_addressed_by verdict))
@@ -37,16 +37,16 @@ FiltersLine filter line text old new = (verdict : Verdict) × Judges filter line
 -- a line, given without its end, ends the run
 abbrev pub RefusesLine : Filter → List ℕ → Stand → Stand → Verdict → Type 0
 RefusesLine filter line old new verdict =
-    Judges filter line verdict × (is_refused filter verdict ≡ true) × (new ≡ old)
+    IsVerdict filter line verdict × (is_refused filter verdict ≡ true) × (new ≡ old)
 
 -- or the writer failed, which took a beginning of what waited and of the line's output
 abbrev pub LineStops : Filter → List ℕ → List ℕ → Bool → Stand → Stand → LogFault → Type 0
 LineStops filter line text write_failed old new faults.Read = ⊥
 LineStops filter line text write_failed old new faults.Write =
-    IsTrue write_failed × (verdict : Verdict) × Judges filter line verdict × (is_refused filter verdict ≡ false)
+    IsTrue write_failed × (verdict : Verdict) × IsVerdict filter line verdict × (is_refused filter verdict ≡ false)
     × AppendsBeginning old.holds new.holds (old.waits ++ shown filter verdict line text)
 LineStops filter line text write_failed old new faults.Address =
-    RefusesLine filter line old new verdicts.Bad
+    RefusesLine filter line old new verdicts.NoAddress
 LineStops filter line text write_failed old new faults.Length =
     RefusesLine filter line old new verdicts.TooLong
 LineStops filter line text write_failed old new faults.Endless = ⊥
