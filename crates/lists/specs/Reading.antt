@@ -23,8 +23,8 @@ FailsReading known name = known.may_fail name ⊎ ((input : List ℕ) → known.
 
 -- the reading stops at the list of this name and number, and these are the refused lines then
 abbrev pub StopsAt : KnownLists → ℕ → List ℕ → ReadLists → ReadFault → Refused → Type 0
--- the list is not opened
-StopsAt known number name before (Open place) refused = (place ≡ number) × known.may_open name false × (refused ≡ before.refused)
+-- the list is not opened, for this cause
+StopsAt known number name before (Open place cause) refused = (place ≡ number) × known.may_open name false × known.may_miss name cause × (refused ≡ before.refused)
 -- it cannot be read to its end, but some first lines are taken
 StopsAt known number name before (Read place) refused = (place ≡ number) × FailsReading known name
     × (after : ReadLists) × ReadsFirst known number name before after × (after.is_out_of_memory ≡ false) × (refused ≡ after.refused)
@@ -34,7 +34,7 @@ StopsAt known number name before OutOfMemory refused = (after : ReadLists) × Re
 -- the reading of the text, which refused lines name by the number, stops, and these are the refused lines then
 abbrev pub StopsAtText : ℕ → List ℕ → ReadLists → ReadFault → Refused → Type 0
 -- a text is not opened, and no read of it fails
-StopsAtText number text before (Open place) refused = ⊥
+StopsAtText number text before (Open place cause) refused = ⊥
 StopsAtText number text before (Read place) refused = ⊥
 -- memory runs out for an entry of it
 StopsAtText number text before OutOfMemory refused = (after : ReadLists) × TakesLines (at_list before number) (lines text) after × (after.is_out_of_memory ≡ true) × (refused ≡ after.refused)

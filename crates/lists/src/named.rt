@@ -7,6 +7,7 @@ ghost use Rattle.lists.specs.Reading.{ReadsList, StopsAt, StopsAtText};
 
 use crate::list_reader::ListReader;
 use crate::open_lists::OpenLists;
+use crate::opening::OpenFault;
 use crate::read::{read_list, take_text};
 use lines::fault::RunFault;
 use lines::watched::Watched;
@@ -14,13 +15,13 @@ use lines::watched::Watched;
 /// Why lists were not read to the end.
 ///
 /// ```
-/// let fault = lists::ReadFault::Open(1);
+/// let fault = lists::ReadFault::Open(1, lists::OpenFault::Missing);
 /// assert!(rt; fault != lists::ReadFault::Read(1));
 /// ```
 #[derive(Clone, Copy, Debug, PartialEq, Eq)]
 pub enum ReadFault {
-    /// The list that is named by the word at this index cannot be opened.
-    Open(usize),
+    /// The list that is named by the word at this index cannot be opened, for this cause.
+    Open(usize, OpenFault),
     /// The list that is named by the word at this index cannot be read.
     Read(usize),
     /// Out of memory for what the lists name.
@@ -32,11 +33,12 @@ pub enum ReadFault {
 /// The refused lines are added to the earlier ones, even if the reading ends with a fault.
 ///
 /// ```
-/// use lists::{ReadFault, read_named};
+/// use lists::{OpenFault, ReadFault, read_named};
 ///
 /// let system = program::system::System::new(&rt);
 /// let mut reader = lists::ListReader::new(rt.alloc(), lists::Refusals::new());
-/// assert_eq!(rt; read_named(&system, "no such file", 1, &mut reader), Err(ReadFault::Open(1)));
+/// let fault = ReadFault::Open(1, OpenFault::Missing);
+/// assert_eq!(rt; read_named(&system, "no such file", 1, &mut reader), Err(fault));
 /// ```
 pub fn read_named<L: OpenLists>(
     lists: &L,
@@ -50,8 +52,9 @@ pub fn read_named<L: OpenLists>(
     ensures stopped { IfErr result
         (λ fault. StopsAt (L.known lists.now) place name.now reader.old fault reader.new.refused) }
 {
-    let Ok(list) = lists.open(name) else {
-        return Err(ReadFault::Open(place));
+    let list = match lists.open(name) {
+        Ok(list) => list,
+        Err(error) => return Err(ReadFault::Open(place, OpenFault::of(error.kind()))),
     };
     let mut list = Watched::new(list);
     let read = read_list(reader, place, &mut list);

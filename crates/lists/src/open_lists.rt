@@ -1,7 +1,9 @@
 //! Where lists come from.
-ghost use Rattle.std.specs.Prelude.{◌≡◌, ℕ, IsTrue, List as Bytes, Some, IfOk, is_ok};
+ghost use Rattle.std.specs.Prelude.{◌≡◌, ℕ, IsTrue, List as Bytes, Some, IfOk, IfErr, is_ok};
+ghost use Rattle.std.specs.IoError.{error_kind};
 ghost use Rattle.lines.specs.Watched.{has_failed};
 ghost use Rattle.lists.specs.KnownLists.{KnownLists, nothing_known};
+ghost use Rattle.lists.specs.Opening.{cause_of};
 
 use lines::watched::Watched;
 use std::io;
@@ -37,7 +39,9 @@ pub trait OpenLists {
         ensures bytes { IfOk result (λ list. (bytes : Bytes ℕ)
             → (known self.now).bytes_of name.now ≡ Some bytes
             → Self.List.remaining list ≡ Some bytes) }
-        ensures opened { (known self.now).may_open name.now (is_ok result) };
+        ensures opened { (known self.now).may_open name.now (is_ok result) }
+        ensures missed { IfErr result
+            (λ error. (known self.now).may_miss name.now (cause_of (error_kind error))) };
 
     /// Closes the list of this name. The contract records whether a read of it failed.
     ///

@@ -16,6 +16,8 @@ use Rattle.program.specs.Usage.{subject_text, usage_text, arguments_text}
 use Rattle.program.specs.Words.{is, is_only}
 use Rattle.program.specs.declared.arguments.ArgumentsFault.TheVariants as arguments
 use Rattle.lists.specs.declared.named.ReadFault.TheVariants.{Open, Read, OutOfMemory}
+use Rattle.lists.specs.declared.opening.OpenFault.{OpenFault}
+use Rattle.lists.specs.declared.opening.OpenFault.TheVariants as causes
 use Rattle.program.specs.declared.usage.Subject.TheVariants.{CommandLine, Word, Value}
 
 -- ---- what is told
@@ -30,7 +32,7 @@ some_more = refl
 pub a_refused_list : {Z : Type 0} (union list : String Z) → string_bytes list ≡ codes "-" → fault_text (union ∷ list ∷ []) (Read 1) ≡ codes "-: cannot read\n"
 a_refused_list union list e = rw e
 
-pub a_missing_list : {Z : Type 0} (union list : String Z) → string_bytes list ≡ codes "x" → fault_text (union ∷ list ∷ []) (Open 1) ≡ codes "x: cannot open\n"
+pub a_missing_list : {Z : Type 0} (union list : String Z) → string_bytes list ≡ codes "x" → fault_text (union ∷ list ∷ []) (Open 1 causes.Missing) ≡ codes "x: cannot open: no such file\n"
 a_missing_list union list e = rw e
 
 -- ---- where the reading stops
@@ -49,9 +51,9 @@ no_memory = refl
 pub what_is_read_was_opened : (known : KnownLists) (number : ℕ) (name : List ℕ) (before after : ReadLists) → ReadsList known number name before after → known.may_open name true
 what_is_read_was_opened known number name before after h = h.0
 
-pub what_is_not_opened : (known : KnownLists) (number place : ℕ) (name : List ℕ) (before : ReadLists) (refused : Refused) → StopsAt known number name before (Open place) refused
-    → (place ≡ number) × known.may_open name false × (refused ≡ before.refused)
-what_is_not_opened known number place name before refused h = h
+pub what_is_not_opened : (known : KnownLists) (number place : ℕ) (name : List ℕ) (cause : OpenFault) (before : ReadLists) (refused : Refused) → StopsAt known number name before (Open place cause) refused
+    → (place ≡ number) × known.may_open name false × known.may_miss name cause × (refused ≡ before.refused)
+what_is_not_opened known number place name cause before refused h = h
 
 -- a read that fails before any line was read leaves the refused lines of the lists before
 pub a_read_that_fails_at_once : (known : KnownLists) (name : List ℕ) (before : ReadLists) → known.may_open name true → known.may_fail name → before.is_out_of_memory ≡ false
@@ -72,8 +74,8 @@ what_fails known name before refused has sound h = elim h.1 [
 pub a_text_is_read : (number place : ℕ) (text : List ℕ) (before : ReadLists) (refused : Refused) → StopsAtText number text before (Read place) refused → ⊥
 a_text_is_read number place text before refused h = h
 
-pub a_text_is_opened : (number place : ℕ) (text : List ℕ) (before : ReadLists) (refused : Refused) → StopsAtText number text before (Open place) refused → ⊥
-a_text_is_opened number place text before refused h = h
+pub a_text_is_opened : (number place : ℕ) (cause : OpenFault) (text : List ℕ) (before : ReadLists) (refused : Refused) → StopsAtText number text before (Open place cause) refused → ⊥
+a_text_is_opened number place cause text before refused h = h
 
 pub memory_for_a_text : (number : ℕ) (text : List ℕ) (before : ReadLists) (refused : Refused) (stops : StopsAtText number text before OutOfMemory refused)
     → TakesLines (at_list before number) (lines text) stops.0 × (stops.0.is_out_of_memory ≡ true)

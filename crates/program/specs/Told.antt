@@ -3,6 +3,7 @@ use Rattle.std.specs.Prelude.{ℕ, zero, suc, Bool, not, ◌==◌, List, [], ◌
 use Rattle.std.specs.List.{flat_map}
 use Rattle.std.specs.String.{string_bytes}
 use Rattle.lists.specs.Faults.{line_fault_text}
+use Rattle.lists.specs.Opening.{open_fault_text}
 use Rattle.lists.specs.Refusals.{Refused}
 use Rattle.lists.specs.declared.refusals.Refusal.{Refusal}
 use Rattle.lists.specs.declared.named.ReadFault.{ReadFault}
@@ -39,6 +40,6 @@ refusals_text words place refused =
 
 -- what is reported if lists were not read to the end
 abbrev pub fault_text : {Z : Type 0} → List (String Z) → ReadFault → List ℕ
-fault_text words (Open place) = name_at words place ++ codes ": cannot open\n"
+fault_text words (Open place cause) = name_at words place ++ open_fault_text cause
 fault_text words (Read place) = name_at words place ++ codes ": cannot read\n"
 fault_text words OutOfMemory = codes "out of memory\n"

@@ -139,9 +139,9 @@ pub fn tell_fault<E: Write>(words: &[String], fault: ReadFault, errors: &mut Out
     ensures { Tells errors.old errors.new (fault_text words.now fault) }
 {
     match fault {
-        ReadFault::Open(place) => {
+        ReadFault::Open(place, cause) => {
             tell_name(words, place, errors);
-            tell(": cannot open\n", errors);
+            tell(cause.text(), errors);
         }
         ReadFault::Read(place) => {
             tell_name(words, place, errors);

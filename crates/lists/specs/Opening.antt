@@ -1,0 +1,20 @@
+-- Why a file cannot be opened.
+use Rattle.std.specs.Prelude.{ℕ, List, codes}
+use Rattle.std.specs.declared.io.kind.ErrorKind.{ErrorKind}
+use Rattle.std.specs.declared.io.kind.ErrorKind.TheVariants.{NotFound, PermissionDenied, IsADirectory}
+use Rattle.lists.specs.declared.opening.OpenFault.{OpenFault}
+use Rattle.lists.specs.declared.opening.OpenFault.TheVariants.{Missing, Denied, Directory, Other}
+
+-- the cause that the kind of the system's error names
+abbrev pub cause_of : ErrorKind → OpenFault
+cause_of NotFound = Missing
+cause_of PermissionDenied = Denied
+cause_of IsADirectory = Directory
+cause_of kind = Other
+
+-- what is reported of a file that cannot be opened, after its name
+abbrev pub open_fault_text : OpenFault → List ℕ
+open_fault_text Missing = codes ": cannot open: no such file\n"
+open_fault_text Denied = codes ": cannot open: permission denied\n"
+open_fault_text Directory = codes ": cannot open: is a directory\n"
+open_fault_text Other = codes ": cannot open\n"
