@@ -7,6 +7,7 @@ pub mod Laws
 pub mod Lines
 pub mod Lists
 pub mod Merges
+pub mod Opening
 pub mod Printed
 pub mod Private
 pub mod Reading

@@ -1,7 +1,7 @@
 -- Why a file cannot be opened.
 use Rattle.std.specs.Prelude.{ℕ, List, codes}
-use Rattle.std.specs.declared.io.kind.ErrorKind.{ErrorKind}
-use Rattle.std.specs.declared.io.kind.ErrorKind.TheVariants.{NotFound, PermissionDenied, IsADirectory}
+use Rattle.std.specs.declared.io.ErrorKind.{ErrorKind}
+use Rattle.std.specs.declared.io.ErrorKind.TheVariants.{NotFound, PermissionDenied, IsADirectory}
 use Rattle.lists.specs.declared.opening.OpenFault.{OpenFault}
 use Rattle.lists.specs.declared.opening.OpenFault.TheVariants.{Missing, Denied, Directory, Other}
 

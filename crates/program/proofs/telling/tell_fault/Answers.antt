@@ -8,7 +8,7 @@ use Rattle.program.proofs.telling.tell_fault.Goals as goal
 pub returns-in-Open : goal.returns-in-Open
 returns-in-Open g c =
     subst (λ (fault : ReadFault). Tells c.args.errors.now c.tell.new.errors (fault_text c.args.words.now fault)) (sym c.in-Open.is)
-    (tells_more c.args.errors.now c.tell_name.new.errors c.tell.new.errors _ _ c.tell_name.ensures c.tell.ensures)
+    (tells_more c.args.errors.now c.tell_name.new.errors c.tell.new.errors _ _ c.tell_name.ensures (rw c.text.ensures at c.tell.ensures))
 
 pub returns-in-Read : goal.returns-in-Read
 returns-in-Read g c =
