@@ -67,7 +67,7 @@ pub(crate) fn begun_by_halves<N: AddressSpace, H: Numbered<N>>(
     begun_between::<N, H>(list, from, to, number)
 }
 
-// The same, of which is known that the structs before `begin` begin up to the number, and that at `end` after it. Each step
+// The same, of which is known that the structs before `begin` begin up to the number, and that at `end` after it. A step
 // leaves a number of structs and not an end, so that it is compiled to no branch that depends on the list.
 fn begun_between<N: AddressSpace, H: Numbered<N>>(
     list: &[H],

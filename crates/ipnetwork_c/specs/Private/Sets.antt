@@ -1,5 +1,5 @@
 -- Where a search of a list of networks stands, and where it ends.
-use Rattle.std.specs.Prelude.{◌≡◌, ℕ, ◌+◌, ◌-◌, ◌<◌, ◌≤◌, List, slice_get, Some}
+use Rattle.std.specs.Prelude.{◌≡◌, ℕ, ◌-◌, ◌<◌, ◌≤◌, List, slice_get, Some}
 use Rattle.ipnetwork_family.specs.Network.{Network}
 use Rattle.ipnetwork_c.specs.Searches.{StandsAt, LastFits}
 
