@@ -1,15 +1,56 @@
 //! How many structs of a list begin up to a number: by a binary search, or by an index of the list.
-ghost use Rattle.std.specs.Prelude.{◌↔◌, ◌+◌, ◌<◌, ◌≤◌, IfSome, IsTrue, map, length};
+ghost use Rattle.std.specs.Prelude.{◌≡◌, ◌↔◌, ◌+◌, ◌<◌, ◌≤◌, IfSome, IsTrue, get_or, map, length};
 ghost use Rattle.ipnetwork_c.specs.Searches.{StandsAt};
-ghost use Rattle.ipnetwork_c.specs.Private.Sets.{LastUpTo, NextAfter, IsBetween, RunsTo, RunsOn};
+ghost use Rattle.ipnetwork_c.specs.Private.Sets.{LastUpTo, NextAfter, IsBetween};
 
+use crate::guessed::Guessed;
 use crate::numbered::Numbered;
 use ipnetwork_blocks::AddressSpace;
 
 /// How many of a list in ascending order begin at the number or before it. Of any other list, a number of structs of
 /// which the last does, and the next one does not. The index only says where the search begins: one that is not that of
 /// the list costs time, and changes nothing else.
-pub(crate) fn begun<N: AddressSpace, H: Numbered<N>>(
+#[inline(always)]
+pub(crate) fn begun<N: AddressSpace, H: Guessed<N>>(
+    list: &[H],
+    index: &[u32],
+    number: H::Number,
+) -> usize
+    ensures within { result ≤ length list.now }
+    ensures stands { StandsAt (map H.held list.now) (H.value number) result }
+{
+    if let Some(count) = begun_at_once::<N, H>(list, index, number) {
+        return count;
+    }
+    begun_by_halves::<N, H>(list, index, number)
+}
+
+/// The same, if the search ends at one of the last structs of the part of the number, where it mostly does. No branch
+/// depends on how many of them begin up to the number: they are counted, and only then is looked whether it ends there.
+#[inline(always)]
+pub(crate) fn begun_at_once<N: AddressSpace, H: Guessed<N>>(
+    list: &[H],
+    index: &[u32],
+    number: H::Number,
+) -> Option<usize>
+    ensures { IfSome result (StandsAt (map H.held list.now) (H.value number)) }
+{
+    if list.len() < 2 || index.is_empty() {
+        return None;
+    }
+    let part = part_of::<N, H>(list, index, number);
+    let end = part_end(index, part, list.len()).min(list.len());
+    let from = end.max(2) - 2;
+    let place = from + two_up_to::<N, H>(list, from, number);
+    if !next_is_after::<N, H>(list, place, number) || !last_is_up_to::<N, H>(list, place, number) {
+        return None;
+    }
+    Some(place)
+}
+
+/// The same by halves: of the part of the number, and of the whole list if that is not in the index.
+#[inline(never)]
+pub(crate) fn begun_by_halves<N: AddressSpace, H: Numbered<N>>(
     list: &[H],
     index: &[u32],
     number: H::Number,
@@ -21,16 +62,13 @@ pub(crate) fn begun<N: AddressSpace, H: Numbered<N>>(
         return begun_between::<N, H>(list, 0, list.len(), number);
     }
     let part = part_of::<N, H>(list, index, number);
-    let start = start_of::<N, H>(list, index, part);
-    if list.len() - start >= 4 {
-        if let Some(count) = begun_near::<N, H>(list, start, number) {
-            return count;
-        }
-    }
-    begun_around::<N, H>(list, index, part, start, number)
+    let from = from_start::<N, H>(list, start_of(index, part), number);
+    let to = end_of::<N, H>(list, index, part, from, number);
+    begun_between::<N, H>(list, from, to, number)
 }
 
-// The same, of which is known that the structs before `from` begin up to the number, and that at `to` after it.
+// The same, of which is known that the structs before `begin` begin up to the number, and that at `end` after it. A step
+// leaves a number of structs and not an end, so that it is compiled to no branch that depends on the list.
 fn begun_between<N: AddressSpace, H: Numbered<N>>(
     list: &[H],
     begin: usize,
@@ -43,19 +81,21 @@ fn begun_between<N: AddressSpace, H: Numbered<N>>(
     ensures { StandsAt (map H.held list.now) (H.value number) result }
 {
     let mut from = begin;
-    let mut to = end;
-    while from < to {
-        let middle = from + (to - from) / 2;
-        if begins_up_to::<N, H>(list[middle], number) {
-            from = middle + 1;
+    let mut count = end - begin;
+    while count > 0 {
+        let half = count / 2;
+        if begins_up_to::<N, H>(list[from + half], number) {
+            from += half + 1;
+            count -= half + 1;
         } else {
-            to = middle;
+            count = half;
         }
     }
     from
 }
 
 // Whether the struct's own address is that of the number, or comes before it.
+#[inline(always)]
 fn begins_up_to<N: AddressSpace, H: Numbered<N>>(held: H, number: H::Number) -> bool
     ensures { IsTrue result ↔ ((H.held held).address ≤ H.value number) }
 {
@@ -63,6 +103,7 @@ fn begins_up_to<N: AddressSpace, H: Numbered<N>>(held: H, number: H::Number) -> 
 }
 
 // In which part of the index the number lies.
+#[inline(always)]
 fn part_of<N: AddressSpace, H: Numbered<N>>(list: &[H], index: &[u32], number: H::Number) -> usize
     requires list { 1 ≤ length list.now }
     requires index { 1 ≤ length index.now }
@@ -73,67 +114,84 @@ fn part_of<N: AddressSpace, H: Numbered<N>>(list: &[H], index: &[u32], number: H
     part.min(index.len() - 1)
 }
 
-// Where the part of the number begins, as the index says.
-fn start_of<N: AddressSpace, H: Numbered<N>>(list: &[H], index: &[u32], part: usize) -> usize
+// Where the part begins, as the index says.
+#[inline(always)]
+fn start_of(index: &[u32], part: usize) -> usize
     requires { part < length index.now }
-    ensures { result ≤ length list.now }
+    ensures first { part ≡ 0 → result ≡ 0 }
+    ensures other { 0 < part → result ≡ get_or index.now part 0 }
 {
     if part == 0 {
         return 0;
     }
-    (index[part] as usize).min(list.len())
+    index[part] as usize
 }
 
-// The same as `begun`, if the search ends within four structs from `start` on. It need not wait for the one before them:
-// that is asked for only if none of the four begins up to the number.
-fn begun_near<N: AddressSpace, H: Numbered<N>>(
-    list: &[H],
-    start: usize,
-    number: H::Number,
-) -> Option<usize>
-    requires { start + 4 ≤ length list.now }
-    ensures { IfSome result (StandsAt (map H.held list.now) (H.value number)) }
+// Where the part ends, as the index says, and the last one with the list.
+#[inline(always)]
+fn part_end(index: &[u32], part: usize, count: usize) -> usize
+    requires { part < length index.now }
+    ensures last { part + 1 ≡ length index.now → result ≡ count }
+    ensures other { part + 1 < length index.now → result ≡ get_or index.now (part + 1) 0 }
 {
-    let place = start.saturating_sub(1);
-    let run = run_from::<N, H>(list, start, number);
-    let before = run_on::<N, H>(1, list[place], number);
-    if run == 4 {
-        return None;
+    if part + 1 == index.len() {
+        return count;
     }
-    if start.min(1) > before + run {
-        return None;
-    }
-    Some(start + run)
+    index[part + 1] as usize
 }
 
-// The same as `begun`, by halves: from `start` on, if the struct before begins up to the number, and else from the first
-// on.
-fn begun_around<N: AddressSpace, H: Numbered<N>>(
-    list: &[H],
-    index: &[u32],
-    part: usize,
-    start: usize,
-    number: H::Number,
-) -> usize
-    requires part { part < length index.now }
-    requires start { start ≤ length list.now }
-    ensures { StandsAt (map H.held list.now) (H.value number) result }
+// How many of the two structs from `from` on seem to begin up to the number.
+#[inline(always)]
+fn two_up_to<N: AddressSpace, H: Guessed<N>>(list: &[H], from: usize, number: H::Number) -> usize
+    requires { from + 2 ≤ length list.now }
+    ensures { result ≤ 2 }
 {
-    let from = from_start::<N, H>(list, start, number);
-    let to = end_of::<N, H>(list, index, part, from, number);
-    begun_between::<N, H>(list, from, to, number)
+    let first = usize::from(list[from].seems_up_to(number));
+    first + usize::from(list[from + 1].seems_up_to(number))
 }
 
-// The start, unless the struct before begins after the number: then 0.
+// Whether the struct after so many begins after the number, or there is none.
+#[inline(always)]
+fn next_is_after<N: AddressSpace, H: Numbered<N>>(
+    list: &[H],
+    place: usize,
+    number: H::Number,
+) -> bool
+    requires { place ≤ length list.now }
+    ensures { IsTrue result ↔ NextAfter (map H.held list.now) (H.value number) place }
+{
+    if place == list.len() {
+        return true;
+    }
+    !begins_up_to::<N, H>(list[place], number)
+}
+
+// Whether the last of so many structs begins up to the number, or there is none.
+#[inline(always)]
+fn last_is_up_to<N: AddressSpace, H: Numbered<N>>(
+    list: &[H],
+    place: usize,
+    number: H::Number,
+) -> bool
+    requires { place ≤ length list.now }
+    ensures { IsTrue result ↔ LastUpTo (map H.held list.now) (H.value number) place }
+{
+    if place == 0 {
+        return true;
+    }
+    begins_up_to::<N, H>(list[place - 1], number)
+}
+
+// The start, or the end of the list if that comes first, unless the struct before begins after the number: then 0.
 fn from_start<N: AddressSpace, H: Numbered<N>>(list: &[H], start: usize, number: H::Number) -> usize
-    requires { start ≤ length list.now }
     ensures within { result ≤ length list.now }
     ensures last { LastUpTo (map H.held list.now) (H.value number) result }
 {
-    if start == 0 || !begins_up_to::<N, H>(list[start - 1], number) {
-        return 0;
+    let from = start.min(list.len());
+    if last_is_up_to::<N, H>(list, from, number) {
+        return from;
     }
-    start
+    0
 }
 
 // Up to where structs are looked at, from `from` on: to the start of the next part, if the one there begins after the
@@ -152,36 +210,9 @@ fn end_of<N: AddressSpace, H: Numbered<N>>(
     ensures next { NextAfter (map H.held list.now) (H.value number) result }
 {
     let count = list.len();
-    if part + 1 == index.len() {
-        return count;
-    }
-    let end = index[part + 1] as usize;
+    let end = part_end(index, part, count);
     if end < from || end >= count || begins_up_to::<N, H>(list[end], number) {
         return count;
     }
     end
-}
-
-// How many of the four structs from `from` on begin up to the number, before the first one that does not. No branch depends
-// on what they are.
-fn run_from<N: AddressSpace, H: Numbered<N>>(list: &[H], from: usize, number: H::Number) -> usize
-    requires { from + 4 ≤ length list.now }
-    ensures { RunsTo (map H.held list.now) (H.value number) from result }
-{
-    let first = run_on::<N, H>(1, list[from], number);
-    let second = run_on::<N, H>(first, list[from + 1], number);
-    let third = run_on::<N, H>(second, list[from + 2], number);
-    let fourth = run_on::<N, H>(third, list[from + 3], number);
-    first + second + third + fourth
-}
-
-// 1 if the run is 1 so far and the struct begins up to the number, else 0.
-fn run_on<N: AddressSpace, H: Numbered<N>>(so_far: usize, held: H, number: H::Number) -> usize
-    ensures { RunsOn (H.held held) (H.value number) so_far result }
-{
-    if begins_up_to::<N, H>(held, number) {
-        so_far
-    } else {
-        0
-    }
 }

@@ -12,6 +12,7 @@ use ipnetwork::{Ipv4Addr, Ipv4Network, Ipv6Network};
 /// only says where the search begins: whatever it holds, the answer is the same, but another than that of the blocks
 /// makes the search slower.
 #[unsafe(no_mangle)]
+#[inline(always)]
 pub extern "C" fn ipnetwork_v4_index_contains(
     blocks: &[Ipv4InC],
     index: &[u32],
@@ -32,6 +33,7 @@ pub extern "C" fn ipnetwork_v4_index_contains(
 
 /// The same for IPv6, of `ipnetwork_v6_set_contains`.
 #[unsafe(no_mangle)]
+#[inline(always)]
 pub extern "C" fn ipnetwork_v6_index_contains(
     blocks: &[Ipv6InC],
     index: &[u32],
@@ -53,6 +55,7 @@ pub extern "C" fn ipnetwork_v6_index_contains(
 /// What `ipnetwork_v4_table_find` finds, by an index of the blocks, as `ipnetwork_v4_index_make` makes it. Whatever the
 /// index holds, what is found is the same.
 #[unsafe(no_mangle)]
+#[inline(always)]
 pub extern "C" fn ipnetwork_v4_index_find(
     blocks: &[Ipv4InC],
     index: &[u32],
@@ -67,6 +70,7 @@ pub extern "C" fn ipnetwork_v4_index_find(
 
 /// The same for IPv6, of `ipnetwork_v6_table_find`.
 #[unsafe(no_mangle)]
+#[inline(always)]
 pub extern "C" fn ipnetwork_v6_index_find(
     blocks: &[Ipv6InC],
     index: &[u32],

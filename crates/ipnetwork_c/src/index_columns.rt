@@ -35,6 +35,7 @@ pub extern "C" fn ipnetwork_v4_index_contains_column(
 }
 
 // The fault of the call for one address, as a byte.
+#[inline(always)]
 fn v4_contains(blocks: &[Ipv4InC], index: &[u32], address: &[u8; 4], answer: &mut u8) -> u8
     ensures { SetQuery 32 v4_in blocks.now
         (number_of_octets address.now) answer.old answer.new result }
@@ -96,6 +97,7 @@ pub extern "C" fn ipnetwork_v4_index_find_column(
 }
 
 // The fault of the call for one address, as a byte.
+#[inline(always)]
 fn v4_find(blocks: &[Ipv4InC], index: &[u32], address: &[u8; 4], place: &mut usize) -> u8
     ensures { TableQuery 32 v4_in blocks.now
         (number_of_octets address.now) place.old place.new result }
@@ -125,6 +127,7 @@ pub extern "C" fn ipnetwork_v6_index_find_column(
 }
 
 // The fault of the call for one address, as a byte.
+#[inline(always)]
 fn v6_find(blocks: &[Ipv6InC], index: &[u32], address: &[u8; 16], place: &mut usize) -> u8
     ensures { TableQuery 128 v6_in blocks.now
         (number_of_octets address.now) place.old place.new result }

@@ -4,7 +4,7 @@ ghost use Rattle.ipnetwork_c.specs.Tables.{TableQuery};
 
 use crate::begun::begun;
 use crate::fault::{NO_MEMBER, OK, PREFIX};
-use crate::numbered::Numbered;
+use crate::guessed::Guessed;
 use crate::structs::{Ipv4InC, Ipv6InC, address_of};
 use ipnetwork::{Ipv4Addr, Ipv4Network, Ipv6Network};
 use ipnetwork_blocks::AddressSpace;
@@ -12,7 +12,8 @@ use ipnetwork_blocks::AddressSpace;
 /// Puts the place of the longest block with an address in `place`, by an index of the blocks, or by none. If the last block
 /// up to the address does not have it, a block that does lies around both, so that it begins with the bits that both
 /// share: the search goes on up to that address.
-pub(crate) fn find<N: AddressSpace, H: Numbered<N>>(
+#[inline(always)]
+pub(crate) fn find<N: AddressSpace, H: Guessed<N>>(
     blocks: &[H],
     index: &[u32],
     address: N::Addr,

@@ -1,5 +1,5 @@
 -- Where a search of a list of networks stands, and where it ends.
-use Rattle.std.specs.Prelude.{◌≡◌, ℕ, ◌+◌, ◌-◌, ◌<◌, ◌≤◌, List, slice_get, Some}
+use Rattle.std.specs.Prelude.{◌≡◌, ℕ, ◌-◌, ◌<◌, ◌≤◌, List, slice_get, Some}
 use Rattle.ipnetwork_family.specs.Network.{Network}
 use Rattle.ipnetwork_c.specs.Searches.{StandsAt, LastFits}
 
@@ -23,16 +23,3 @@ NextAfter networks x i = (n : Network) → slice_get networks i ≡ Some n → x
 pub record IsBetween (networks : List Network) (x from to : ℕ) : Type 0 where
   pub last : LastUpTo networks x from
   pub next : NextAfter networks x to
-
--- of the networks from `from` on, the first `count`, at most four, begin at x or before it, and the next one does not if
--- there are fewer than four
-pub record RunsTo (networks : List Network) (x from count : ℕ) : Type 0 where
-  pub few : count ≤ 4
-  pub last : 0 < count → LastUpTo networks x (from + count)
-  pub next : count < 4 → NextAfter networks x (from + count)
-
--- a run goes on, with this network, as long as each begins at x or before it: then it is 1, and else 0
-pub record RunsOn (n : Network) (x before after : ℕ) : Type 0 where
-  pub most : after ≤ before
-  pub begins : n.address ≤ x → after ≡ before
-  pub later : x < n.address → after ≡ 0
