@@ -14,6 +14,7 @@ mod block_calls;
 mod columns;
 mod either;
 mod fault;
+mod halves;
 mod holding;
 mod index_calls;
 mod index_columns;
