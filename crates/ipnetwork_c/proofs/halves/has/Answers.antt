@@ -1,4 +1,4 @@
-use Rattle.std.proofs.Common.{◌-◌, ◌/◌, ◌^◌, ◌≡◌, ℕ, sym, subst, arith}
+use Rattle.std.proofs.Common.{sym, arith}
 use Rattle.ipnetwork_c.specs.Held.{v6_in}
 use Rattle.ipnetwork_c.proofs.HighHalves.{member_by_half}
 use Rattle.ipnetwork_c.proofs.halves.has.Goals as goal
