@@ -6,3 +6,4 @@ pub mod Writing
 pub mod Kept
 pub mod Tables
 pub mod Indexes
+pub mod Halves

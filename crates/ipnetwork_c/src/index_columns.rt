@@ -5,6 +5,7 @@ ghost use Rattle.ipnetwork_c.specs.Lists.{SetQuery};
 ghost use Rattle.ipnetwork_c.specs.Tables.{TableQuery, TableRows};
 
 use crate::fault::{OK, SHORT_BUFFER};
+use crate::halves::{self, Parts};
 use crate::index_calls::{
     ipnetwork_v4_index_contains, ipnetwork_v4_index_find, ipnetwork_v6_index_contains,
     ipnetwork_v6_index_find,
@@ -58,17 +59,30 @@ pub extern "C" fn ipnetwork_v6_index_contains_column(
     if answers.len() < addresses.len() || faults.len() < addresses.len() {
         return SHORT_BUFFER;
     }
+    let parts = halves::parts_of(blocks, index);
     for (row, address) in addresses.iter().enumerate() {
-        faults[row] = v6_contains(blocks, index, address, &mut answers[row]);
+        faults[row] = v6_contains(blocks, index, parts, address, &mut answers[row]);
     }
     OK
 }
 
-// The fault of the call for one address, as a byte.
-fn v6_contains(blocks: &[Ipv6InC], index: &[u32], address: &[u8; 16], answer: &mut u8) -> u8
+// The fault of the call for one address, as a byte; its high half is asked first.
+fn v6_contains(
+    blocks: &[Ipv6InC],
+    index: &[u32],
+    parts: Option<Parts>,
+    address: &[u8; 16],
+    answer: &mut u8,
+) -> u8
     ensures { SetQuery 128 v6_in blocks.now
         (number_of_octets address.now) answer.old answer.new result }
 {
+    if let Some(parts) = parts {
+        if let Some(found) = halves::contains(blocks, index, parts, address) {
+            *answer = found;
+            return OK as u8;
+        }
+    }
     ipnetwork_v6_index_contains(blocks, index, address, answer) as u8
 }
 

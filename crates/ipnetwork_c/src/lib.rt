@@ -15,6 +15,7 @@ mod columns;
 mod either;
 mod fault;
 mod guessed;
+mod halves;
 mod holding;
 mod index_calls;
 mod index_columns;
