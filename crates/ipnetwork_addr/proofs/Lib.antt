@@ -9,6 +9,7 @@ pub mod EightSegments
 pub mod EitherFamily
 pub mod Examples
 mod FirstDigits
+mod FirstLanes
 pub mod FirstMarks
 pub mod Gaps
 pub mod Groups
@@ -19,6 +20,7 @@ pub mod Ipv6Names
 pub mod Ipv6Printed
 pub mod MappedGroups
 pub mod OctetFronts
+mod OctetLanes
 pub mod Octets
 pub mod PartSteps
 pub mod Parts

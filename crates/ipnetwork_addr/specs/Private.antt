@@ -4,3 +4,4 @@ pub mod GroupFront
 pub mod LongestRun
 pub mod NoAddress
 pub mod OctetFront
+pub mod OctetLanes

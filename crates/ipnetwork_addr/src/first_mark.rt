@@ -1,15 +1,51 @@
 //! The first dot or colon of a text, which tells the family that the text can be of.
-ghost use Rattle.std.specs.Prelude.{◌≡◌};
+ghost use Rattle.std.specs.Prelude.{◌≡◌, ◌==◌, not};
+ghost use Rattle.std.specs.List.{prefix_len};
 ghost use Rattle.ipnetwork_addr.specs.Texts.{colon_first};
 
-/// Whether the first dot or colon of a text is a colon, as in every IPv6 text; in an IPv4 text a dot comes first. So a
-/// text has to be read in one family only.
+use std::simd::prelude::*;
+
+/// Whether the first dot or colon of a text is a colon, as in every IPv6 text; in an IPv4 text a dot
+/// comes first. So a text has to be read in one family only.
 ///
 /// ```
 /// assert!(rt; first_mark::has_colon_first(b"::ffff:192.0.2.1"));
 /// assert!(rt; !first_mark::has_colon_first(b"192.0.2.1"));
 /// ```
 pub fn has_colon_first(text: &[u8]) -> bool
+    ensures { result ≡ colon_first text.now }
+{
+    if text.len() < 8 {
+        return has_colon_first_by_bytes(text);
+    }
+    // No branch asks where the dot or colon is: that would be guessed wrongly too often.
+    let bytes = u8x8::from_slice(text);
+    let colon = lanes_before(bytes, b':');
+    let dot = lanes_before(bytes, b'.');
+    if colon < dot {
+        return true;
+    }
+    if dot < colon {
+        return false;
+    }
+    has_colon_first_by_bytes(text)
+}
+
+/// How many lanes come before the first that is this byte: all of them if none is.
+#[inline(always)]
+fn lanes_before(bytes: u8x8, byte: u8) -> u32
+    ensures { result ≡ prefix_len (λ other. not (other == byte)) bytes }
+{
+    let lanes = bytes.simd_eq(u8x8::splat(byte)).to_bitmask();
+    if lanes == 0 {
+        8
+    } else {
+        lanes.trailing_zeros()
+    }
+}
+
+/// `has_colon_first`, a byte at a time.
+fn has_colon_first_by_bytes(text: &[u8]) -> bool
     ensures { result ≡ colon_first text.now }
 {
     for byte in text {

@@ -18,6 +18,8 @@ mod ipv6;
 mod ipv6_order;
 pub mod laws;
 mod octet;
+mod octet_lanes;
+mod octet_tables;
 mod segments;
 
 pub use error::AddrParseError;

@@ -9,12 +9,25 @@ ghost use Rattle.ipnetwork_addr.specs.Texts.{dot};
 use crate::decimal_value::{
     decimal_value, factor_before, first_value, is_no_dot, value_unless_dot,
 };
+use crate::octet_lanes::read_at_once;
 
 /// The greatest octet.
 const OCTET_MAX: u32 = 255;
 
 /// The four octets of a text that is an IPv4 address.
 pub(crate) fn read_octets(text: &[u8]) -> Option<[u8; 4]>
+    ensures { MatchOption result (NamesNoV4 text.now)
+        (λ octets. NamesV4 text.now (number_from_digits 256 octets)) }
+{
+    match read_at_once(text) {
+        Some(octets) => Some(octets),
+        None => read_from_left(text),
+    }
+}
+
+/// The same, one octet after the other.
+#[inline(never)]
+fn read_from_left(text: &[u8]) -> Option<[u8; 4]>
     ensures { MatchOption result (NamesNoV4 text.now)
         (λ octets. NamesV4 text.now (number_from_digits 256 octets)) }
 {

@@ -1,6 +1,6 @@
 use Rattle.std.proofs.lemmas.List.{take_rest}
 use Rattle.ipnetwork_addr.proofs.OctetFronts.{four_octets, no_first, no_second, no_third, no_fourth}
-use Rattle.ipnetwork_addr.proofs.octet.read_octets.Goals as goal
+use Rattle.ipnetwork_addr.proofs.octet.read_from_left.Goals as goal
 
 pub returns-in_err-first : goal.returns-in_err-first
 returns-in_err-first c = rw c.from_residual.ensures (no_first _ c.in_err-first.ensures)

@@ -1,6 +1,6 @@
 use Rattle.std.proofs.Common.{◌≡◌, drop}
 use Rattle.ipnetwork_addr.specs.Texts.{colon_first}
-use Rattle.ipnetwork_addr.proofs.first_mark.has_colon_first.Given as goal
+use Rattle.ipnetwork_addr.proofs.first_mark.has_colon_first_by_bytes.Given as goal
 
 -- what was read holds neither, so the rest decides
 abbrev pub invariant-loop-byte : goal.invariant-loop-byte

@@ -1,0 +1,90 @@
+-- The octets of an IPv4 text in the lanes of a vector. A row says how many digits each of the four octets has.
+use Rattle.std.specs.Prelude.{◌≡◌, ℕ, ◌+◌, ◌-◌, ◌/◌, ◌%◌, ◌<◌, ◌≤◌, List, [], ◌∷◌, ◌++◌, length, map, take, drop, slice_index, nat_le, nat_lt, ◌==◌, if◌then◌else◌}
+use Rattle.ipnetwork_addr.specs.Ipv4Text.{IsOctet}
+use Rattle.ipnetwork_addr.specs.Texts.{dot}
+
+-- where the byte of this place stands after the first eight bytes of a text of this length are followed by its last eight
+abbrev pub joined_place : ℕ → ℕ → ℕ
+joined_place count place = if nat_lt place 8 then place else (if nat_lt place count then place + 16 - count else 255)
+
+abbrev pub sixteen : List ℕ
+sixteen = 0 ∷ 1 ∷ 2 ∷ 3 ∷ 4 ∷ 5 ∷ 6 ∷ 7 ∷ 8 ∷ 9 ∷ 10 ∷ 11 ∷ 12 ∷ 13 ∷ 14 ∷ 15 ∷ []
+
+abbrev pub joined_places : ℕ → List ℕ
+joined_places count = map (joined_place count) sixteen
+
+-- how many digits each octet has
+abbrev pub first_count : ℕ → ℕ
+first_count row = row / 27 + 1
+
+abbrev pub second_count : ℕ → ℕ
+second_count row = row / 9 % 3 + 1
+
+abbrev pub third_count : ℕ → ℕ
+third_count row = row / 3 % 3 + 1
+
+abbrev pub fourth_count : ℕ → ℕ
+fourth_count row = row % 3 + 1
+
+-- where each but the first begins, and where the text ends
+abbrev pub second_at : ℕ → ℕ
+second_at row = first_count row + 1
+
+abbrev pub third_at : ℕ → ℕ
+third_at row = second_at row + second_count row + 1
+
+abbrev pub fourth_at : ℕ → ℕ
+fourth_at row = third_at row + third_count row + 1
+
+abbrev pub end_of : ℕ → ℕ
+end_of row = fourth_at row + fourth_count row
+
+-- the places of the digits of an octet of this many digits from here on: hundreds, tens, ones; 128 for none
+abbrev pub digit_places : ℕ → ℕ → List ℕ
+digit_places at count =
+    (if nat_lt count 3 then 128 else at) ∷ (if nat_lt count 2 then 128 else at + count - 2) ∷ (at + count - 1) ∷ []
+
+-- those of a row, with those of the dots
+abbrev pub row_places : ℕ → List ℕ
+row_places row =
+    digit_places 0 (first_count row) ++ (first_count row)
+    ∷ (digit_places (second_at row) (second_count row) ++ (second_at row + second_count row)
+    ∷ (digit_places (third_at row) (third_count row) ++ (third_at row + third_count row)
+    ∷ (digit_places (fourth_at row) (fourth_count row) ++ 128 ∷ [])))
+
+-- a lane, or 0 for none
+abbrev pub lane_at : List ℕ → ℕ → ℕ
+lane_at lanes place = if nat_le 128 place then 0 else slice_index lanes place
+
+-- how far the byte at a place is above `0`, as a byte that wraps
+abbrev pub digit_in : List ℕ → ℕ → ℕ
+digit_in bytes place = lane_at (map (λ byte. (byte + 208) % 256) bytes) place
+
+abbrev pub AreDigitsOf : List ℕ → ℕ → List ℕ → Type 0
+AreDigitsOf bytes row digits = digits ≡ map (digit_in bytes) (row_places row)
+
+-- the least digits of an octet of this many: the first of several is not a zero
+abbrev pub least_digits : ℕ → List ℕ
+least_digits count = (if nat_lt count 3 then 0 else 1) ∷ (if count == 2 then 1 else 0) ∷ 0 ∷ []
+
+-- those of a row, with the dots
+abbrev pub row_least : ℕ → List ℕ
+row_least row =
+    least_digits (first_count row) ++ 254
+    ∷ (least_digits (second_count row) ++ 254
+    ∷ (least_digits (third_count row) ++ 254 ∷ (least_digits (fourth_count row) ++ 0 ∷ [])))
+
+-- each of sixteen lanes is at least this
+abbrev pub AreAtLeast : List ℕ → List ℕ → Type 0
+AreAtLeast lanes least = (k : ℕ) → k < 16 → slice_index least k ≤ slice_index lanes k
+
+-- the bytes begin with four octets of the row's digits, joined by dots
+pub record AreOctetsOf (bytes : List ℕ) (row : ℕ) (octets : List ℕ) : Type 0 where
+  pub first : IsOctet (take (first_count row) bytes) (slice_index octets 0)
+  pub first_dot : slice_index bytes (first_count row) ≡ dot
+  pub second : IsOctet (take (second_count row) (drop (second_at row) bytes)) (slice_index octets 1)
+  pub second_dot : slice_index bytes (second_at row + second_count row) ≡ dot
+  pub third : IsOctet (take (third_count row) (drop (third_at row) bytes)) (slice_index octets 2)
+  pub third_dot : slice_index bytes (third_at row + third_count row) ≡ dot
+  pub fourth : IsOctet (take (fourth_count row) (drop (fourth_at row) bytes)) (slice_index octets 3)
+  pub four : length octets ≡ 4
