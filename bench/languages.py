@@ -6,7 +6,7 @@ import shutil
 import subprocess
 import sys
 
-from parts import LIBRARY, REGISTRY, RUSTC, TOP, Missing, beside, figure, need, said, table, tools
+from parts import LIBRARY, REGISTRY, RUSTC, TOP, Missing, beside, figure, need, paragraph, said, table, tools
 
 # The columns of the table, by the names that the rows below have for them.
 COLUMNS = {
@@ -15,13 +15,13 @@ COLUMNS = {
     "has4": "`contains`, IPv4",
     "has6": "IPv6",
     "print6": "IPv6 network printed",
-    "column4": "IPv4 addresses, a column",
+    "column4": "Column of IPv4 addresses read",
     "column6": "IPv6",
-    "set": "In a set",
-    "set_column4": "a column",
-    "set_column6": "IPv6",
-    "find": "The longest",
-    "find_column": "a column",
+    "set": "IPv4 in a set",
+    "set_column4": "a column of it",
+    "set_column6": "of IPv6",
+    "find": "IPv4 in a table",
+    "find_column": "a column of it",
 }
 
 
@@ -37,8 +37,17 @@ class Rows:
             self.rows.append([f"**{name}**", *(times.get(column) for column in COLUMNS)])
 
     def add_peer(self, name, times):
-        if any(time is not None for time in times.values()):
-            self.rows.append([name, *(beside(self.own.get(column), times.get(column)) for column in COLUMNS)])
+        self.add_peers({name: times})
+
+    def add_peers(self, peers):
+        """Some peers, whose figures stand in one row."""
+        peers = {name: times for name, times in peers.items() if any(time is not None for time in times.values())}
+        cells = []
+        for column in COLUMNS:
+            found = [beside(self.own.get(column), times.get(column)) for times in peers.values()]
+            cells.append("; ".join(found if all(found) else filter(None, found)))
+        if peers:
+            self.rows.append(["; ".join(peers), *cells])
 
 
 def languages(run):
@@ -50,12 +59,11 @@ def languages(run):
             notes.append(f"Not measured from {name}: {why}.")
     if not rows.rows:
         return notes
-    lines = table(["Nanoseconds", *COLUMNS.values()], rows.rows)
-    return [
-        "A call of ours in bold, and below it what its peers take. Sets and tables are of 10,000 networks, half of the",
-        "addresses lie in one, and what is found in a table is the longest network. Of a column the time of a row counts.",
-        "", *lines, *([""] if notes else []), *notes,
-    ]
+    text = paragraph(
+        "A call of ours is in bold, and what its peers take below it. Sets and tables are of 10,000 networks, and what is "
+        "found in a table is the longest one that has the address. Of a column the time of a row counts."
+    )
+    return [*text, "", *table(["Nanoseconds", *COLUMNS.values()], rows.rows), *([""] if notes else []), *paragraph(" ".join(notes))]
 
 
 def from_c(run, rows):
@@ -105,10 +113,13 @@ def from_rust(run, rows):
         run.without("the Rust crate ipnetwork (Debian: librust-ipnetwork-dev)")
         return []
     crate = rust_times(run, "theirs", sources[0])["this crate"]
-    rows.add_peer("the crate `ipnetwork`", {column: crate.get(call) for column, call in calls.items()})
-    parts = [f"`{call}` of {family} {figure(own[call, family])} (the crate {beside(own[call, family], crate[call, family])})"
-             for call in ("network", "broadcast") for family in ("IPv4", "IPv6")]
-    return [f"From Rust too: {', '.join(parts)}."]
+    rows.add_peer(f"the crate `ipnetwork` {sources[0].name.partition('-')[2]}", {column: crate.get(call) for column, call in calls.items()})
+    parts = []
+    for call in ("network", "broadcast"):
+        for family in ("IPv4", "IPv6"):
+            each = own[call, family], crate[call, family]
+            parts.append(f"`{call}` of {family} {figure(each[0])}, the crate {beside(*each)}")
+    return [f"From Rust {'; '.join(parts)}."]
 
 
 def python():
@@ -150,14 +161,14 @@ def from_python(run, rows):
     times = {name: None if time == "-" else float(time) for name, time in re.findall(r"^(\w+) ([\d.]+|-)$", printed, re.M)}
     rows.add_own("Python", own | {"find": times["find"], "find_column": times["find_column"]})
     rows.add_peer("`ipaddress`", {column: pairs[call][1] for column, call in calls.items()})
-    for name, module, package in (("py-radix", "radix", "python3-radix"), ("SubnetTree", "SubnetTree", "python3-subnettree"),
-                                  ("pytricia", "pytricia", "no package of Debian")):
+    tries = {"py-radix": "radix", "SubnetTree": "SubnetTree", "pytricia": "pytricia"}
+    packages = {"py-radix": "Debian: python3-radix", "SubnetTree": "Debian: python3-subnettree", "pytricia": "no package of Debian"}
+    for name, module in tries.items():
         if times[module] is None:
-            run.without(f"{name} ({package})")
-        rows.add_peer(f"{name}, in a loop", {"find_column": times[module]})
-    aggregated = [f"{family} {figure(own)} (`ipaddress` {beside(own, other)})" for family in ("IPv4", "IPv6")
-                  for own, other in [pairs[f"{family}: collapse, of 2000"]]]
-    return [f"`collapse_addresses` of Python, a network: {', '.join(aggregated)}."]
+            run.without(f"{name} ({packages[name]})")
+    rows.add_peers({name: {"find_column": times[module]} for name, module in tries.items()})
+    own, other = pairs["IPv4: collapse, of 2000"]
+    return [f"From Python `collapse_addresses` {figure(own)} a network, `ipaddress` {beside(own, other)}."]
 
 
 def from_go(run, rows):
@@ -177,7 +188,7 @@ def from_go(run, rows):
     for name, tags in (("Go, by cgo", "cgo"), ("Go, `ipnetwork_direct`", "ipnetwork_direct")):
         rows.add_own(name, {column: times.get((tags, call)) for column, call in calls.items()})
     rows.add_peer("`net/netip`", {column: times.get(("ipnetwork_direct", call)) for column, call in peers.items()})
-    return ["A column of addresses in Go is of both families."]
+    return ["Go's column of addresses is of both families."]
 
 
 def from_js(run, rows):
@@ -195,7 +206,11 @@ def from_js(run, rows):
              "set_column4": "a set of 10,000 asked by a column of addresses, a row, IPv4",
              "set_column6": "a set of 10,000 asked by a column of addresses, a row, IPv6",
              "find_column": "a table of 10,000 asked by a column, a row, IPv4"}
-    for at, name in enumerate(["JavaScript", *lines[0][2:]]):
-        cells = {column: times[call][at] for column, call in calls.items() if at < len(times.get(call, []))}
-        (rows.add_peer if at else rows.add_own)(name, cells)
-    return []
+    found = [{column: times[call][at] for column, call in calls.items() if at < len(times.get(call, []))}
+             for at in range(len(lines[0]) - 1)]
+    peers = dict(zip(lines[0][2:], found[1:]))
+    rows.add_own("JavaScript", found[0])
+    for name in list(peers)[:1]:
+        rows.add_peer(name, peers.pop(name))
+    rows.add_peers(peers)
+    return ["Of the packages for JavaScript that share a row, `netmask` reads no IPv6 network."] if "netmask" in peers else []

@@ -7,7 +7,7 @@ import resource
 import shutil
 import subprocess
 
-from parts import LIBRARY, REGISTRY, RUSTC, TOP, Differs, Missing, beside, need, said, script, table, tools
+from parts import LIBRARY, REGISTRY, RUSTC, TOP, Differs, Missing, beside, need, paragraph, said, script, table, tools
 
 
 def sets(run):
@@ -32,8 +32,8 @@ def sets(run):
             cells += [time, beside(time, other[family, call][0]), beside(time, crate)]
         lines.append(cells)
     head = ["Milliseconds", "IPv4", "Numbers", "`ipnet`", "IPv6", "Numbers", "`ipnet`"]
-    return ["By the library for C, whose sets check what they are given; peers: bare numbers in Rust (`bench/sets.rs`), and the",
-            "crate `ipnet`.", "", *table(head, lines)]
+    text = "By the library for C, whose sets check what they are given; peers: numbers in Rust (`bench/sets.rs`), and `ipnet`."
+    return [*paragraph(text), "", *table(head, lines)]
 
 
 def ipnet(run):
@@ -51,16 +51,16 @@ def ipnet(run):
 def look_ups(run):
     tools("rt", "rustc")
     need("crates/ipnetwork_index/out/rlib")
-    measured = script("look_ups").measured(run.new("look_ups"), *((1, 200) if run.quick else (3, 300)))
+    measured = script("look_ups").measured(run.new("look_ups"), *((1, 240) if run.quick else (3, 300)))
     if not measured.lines:
         raise Missing("its program was not proved in time; bench/look_ups proves and keeps it")
     for each in measured.left_out:
         run.without(each)
     if not measured.same:
         raise Differs("look-ups do not find the same")
-    return ["Nanoseconds a look-up by index and, behind the semicolon, by the set or the table itself, of a million random",
-            "addresses of which every other one lies in a network. DIR-24-8 is plain Rust. The megabytes of an index are those",
-            "beside its table.", "", *measured.lines]
+    text = ("Nanoseconds a look-up by index and, behind the semicolon, by the set or the table itself, of a million random "
+            "addresses. DIR-24-8 is plain Rust. The megabytes of the index are those beside its table.")
+    return [*paragraph(text), "", *measured.lines]
 
 
 def seconds(words, output):
@@ -179,5 +179,18 @@ def filter_lines(run):
     megabytes = os.path.getsize(log) >> 20
     head = ["Networks", "Lines printed", "`cidr_filter`", "`grepcidr -x`", "`--longest`", "`-a`", "`grepcidr`", "`cidr_join`"]
     lines = "300,000" if run.quick else "a million"
-    return [f"Seconds of processor time for a log of {lines} lines ({megabytes} MB), a quarter of them with IPv6 addresses, and",
-            "random IPv4 networks of 12 to 32 bits, for `cidr_join` each with a value.", "", *table(head, rows)]
+    text = (f"Seconds of processor time for a log of {lines} lines ({megabytes} MB), a quarter of them with IPv6 addresses, "
+            "and random IPv4 networks of 12 to 32 bits, for `cidr_join` each with a value.")
+    return [*paragraph(text), "", *table(head, rows)]
+
+
+def programs(run):
+    """What the programs for lists take, each if it is built."""
+    lines = []
+    for name, part in (("cidr_merge", merge), ("cidr_filter", filter_lines)):
+        try:
+            found = part(run)
+        except Missing as why:
+            found = [f"`{name}` is not measured: {why}."]
+        lines += [*([""] if lines else []), *found]
+    return lines

@@ -11,6 +11,7 @@ import re
 import shutil
 import subprocess
 import sys
+import textwrap
 
 TOP = pathlib.Path(__file__).resolve().parent.parent
 LIBRARY = TOP / "crates/ipnetwork_c/out/libipnetwork_c.a"
@@ -80,6 +81,11 @@ def beside(own, other):
     return "" if own is None or other is None else f"{figure(other)} ({own / other:.2f})"
 
 
+def paragraph(text):
+    """The lines of a text."""
+    return textwrap.wrap(text, 120, break_long_words=False, break_on_hyphens=False)
+
+
 def table(head, rows):
     cells = [[cell if isinstance(cell, str) else figure(cell) for cell in row] for row in rows]
     return ["|" + "|".join(row) + "|" for row in [head, ["---"] * len(head), *cells]]
@@ -96,7 +102,7 @@ def program(run):
     if not counts:
         run.without("valgrind")
     rows = []
-    for row in ["has4", "read6", "ends", "long", "find4-10000", "find6-10000", "routed4-100000"]:
+    for row in ["has4", "read6", "ends", "find4-10000", "find6-10000", "routed4-100000"]:
         programs = [cidr, [peer], [peer, "hash"]] if "-" in row else [cidr, [peer]]
         taken, alike = measure.measured(programs, row, count, rounds, measure.seconds, run.folder)
         if not alike:
@@ -107,9 +113,8 @@ def program(run):
         if counts and "-" not in row:
             steps = measure.measured([cidr], row, 10_000, 1, measure.instructions, run.folder)[0][0]
         rows.append([f"`{row}`", own, *cells, steps])
-    return ["Nanoseconds a line, and instructions; peers: `bench/peer.rs` over `std::net`, its routes in a `BTreeMap` or a",
-            "`HashMap`. `bench/measure --help` has the lines.", "",
-            *table(["Line", "`cidr`", "`std::net`", "`HashMap`", "Instructions"], rows)]
+    text = "Nanoseconds a line, and instructions; peers: `bench/peer.rs` over `std::net`, its routes in a `BTreeMap` or `HashMap`."
+    return [*paragraph(text), "", *table(["Line", "`cidr`", "`std::net`", "`HashMap`", "Instructions"], rows)]
 
 
 def from_sqlite(run):
