@@ -78,7 +78,10 @@ def figure(value):
 
 def beside(own, other):
     """A peer's figure, and in brackets what part of it our own is."""
-    return "" if own is None or other is None else f"{figure(other)} ({own / other:.2f})"
+    if own is None or other is None:
+        return ""
+    part = own / other
+    return f"{figure(other)} ({part:.2f})" if part >= 0.01 else f"{figure(other)} ({part:.3f})"
 
 
 def paragraph(text):
