@@ -100,7 +100,7 @@ def program(run):
     measure = script("measure")
     cidr, peer = [str(TOP / "crates/cidr/out/cidr")], str(run.folder / "peer")
     said([*RUSTC, "-C", "codegen-units=1", "-o", peer, TOP / "bench/peer.rs"])
-    count, rounds = (30_000, 2) if run.quick else (100_000, 4)
+    count, rounds = (100_000, 2) if run.quick else (300_000, 4)
     counts = shutil.which("valgrind")
     if not counts:
         run.without("valgrind")
