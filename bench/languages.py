@@ -113,7 +113,8 @@ def from_rust(run, rows):
         run.without("the Rust crate ipnetwork (Debian: librust-ipnetwork-dev)")
         return []
     crate = rust_times(run, "theirs", sources[0])["this crate"]
-    rows.add_peer(f"the crate `ipnetwork` {sources[0].name.partition('-')[2]}", {column: crate.get(call) for column, call in calls.items()})
+    version = sources[0].name.partition("-")[2]
+    rows.add_peer(f"the crate `ipnetwork` {version}", {column: crate.get(call) for column, call in calls.items()})
     parts = []
     for call in ("network", "broadcast"):
         for family in ("IPv4", "IPv6"):
