@@ -7,7 +7,7 @@ import resource
 import shutil
 import subprocess
 
-from parts import LIBRARY, REGISTRY, RUSTC, TOP, Differs, Missing, beside, need, said, script, table, tools
+from parts import LIBRARY, REGISTRY, RUSTC, TOP, Differs, Missing, beside, need, paragraph, said, script, table, tools
 
 
 def sets(run):
@@ -32,7 +32,8 @@ def sets(run):
             cells += [time, beside(time, other[family, call][0]), beside(time, crate)]
         lines.append(cells)
     head = ["Milliseconds", "IPv4", "Numbers", "`ipnet`", "IPv6", "Numbers", "`ipnet`"]
-    return ["By the library for C, whose sets check what they are given; numbers: `bench/sets.rs`.", "", *table(head, lines)]
+    text = "By the library for C, whose sets check what they are given; peers: numbers in Rust (`bench/sets.rs`), and `ipnet`."
+    return [*paragraph(text), "", *table(head, lines)]
 
 
 def ipnet(run):
@@ -49,17 +50,17 @@ def ipnet(run):
 
 def look_ups(run):
     tools("rt", "rustc")
-    for crate in script("look_ups").lines_below("ipnetwork_index"):
-        need(f"crates/{crate}/out")
-    measured = script("look_ups").measured(run.new("look_ups"), *((2, 90) if run.quick else (5, 240)))
+    need("crates/ipnetwork_index/out/rlib")
+    measured = script("look_ups").measured(run.new("look_ups"), *((1, 240) if run.quick else (3, 300)))
     if not measured.lines:
         raise Missing("its program was not proved in time; bench/look_ups proves and keeps it")
     for each in measured.left_out:
         run.without(each)
     if not measured.same:
         raise Differs("look-ups do not find the same")
-    return ["Nanoseconds a look-up of a million random addresses, every other one in a network; of 1,000, 10,000 and "
-            "100,000 networks, and of the Internet's routes 900,000 too. DIR-24-8 is plain Rust.", "", *measured.lines]
+    text = ("Nanoseconds a look-up by index and, behind the semicolon, by the set or the table itself, of a million random "
+            "addresses. DIR-24-8 is plain Rust. The megabytes of the index are those beside its table.")
+    return [*paragraph(text), "", *measured.lines]
 
 
 def seconds(words, output):
@@ -145,29 +146,51 @@ def write_log(path, rng, count):
             log.write("".join(lines))
 
 
+def with_values(path, lines):
+    """A list of these networks, each once, with its place as value."""
+    other = path.with_suffix(".values")
+    other.write_text("".join(f"{line.rstrip()}\t{at}\n" for at, line in enumerate(dict.fromkeys(lines))))
+    return other
+
+
 def filter_lines(run):
     need("crates/cidr_filter/out/cidr_filter")
-    program, rng = TOP / "crates/cidr_filter/out/cidr_filter", random.Random(5)
+    program, join = (TOP / "crates" / name / "out" / name for name in ("cidr_filter", "cidr_join"))
+    rng = random.Random(5)
     log = run.folder / "log"
     write_log(log, rng, 300_000 if run.quick else 1_000_000)
     has_grepcidr = here(run, "grepcidr", "grepcidr")
-    every, rows, one = networks(rng, 50_000, 12), [], None
+    every, rows = networks(rng, 50_000, 12), []
     for count in (1, 1_000, 50_000):
         path = run.folder / f"list{count}"
         path.write_text("".join(every[:count]))
         commands = {"own": [program, "-f", path, log], "longest": [program, "--longest", "-f", path, log]}
         commands["any"] = [program, "-a", "-f", path, log]
+        if join.exists():
+            commands["join"] = [join, "-f", with_values(path, every[:count]), log]
         if has_grepcidr:
             commands["grepcidr"] = ["grepcidr", "-x", "-f", path, log]
             commands["grepcidr any"] = ["grepcidr", "-f", path, log]
         times, counts = least(run, commands)
         if has_grepcidr and (counts["own"], counts["any"]) != (counts["grepcidr"], counts["grepcidr any"]):
             raise Differs(f"cidr_filter and grepcidr do not print the same: {counts}")
-        one = one or times
         rows.append([f"{count:,}", f"{counts['own']:,}", times["own"], beside(times["own"], times.get("grepcidr")),
-                     times["longest"], times["any"], beside(times["any"], times.get("grepcidr any"))])
+                     times["longest"], times["any"], beside(times["any"], times.get("grepcidr any")), times.get("join")])
     megabytes = os.path.getsize(log) >> 20
-    head = ["Networks", "Lines printed", "`cidr_filter`", "`grepcidr -x`", "`--longest`", "`-a`", "`grepcidr`"]
+    head = ["Networks", "Lines printed", "`cidr_filter`", "`grepcidr -x`", "`--longest`", "`-a`", "`grepcidr`", "`cidr_join`"]
     lines = "300,000" if run.quick else "a million"
-    return [f"Seconds of processor time for a log of {lines} lines ({megabytes} MB), a quarter of them with IPv6 addresses, "
-            "and random IPv4 networks of 12 to 32 bits.", "", *table(head, rows)]
+    text = (f"Seconds of processor time for a log of {lines} lines ({megabytes} MB), a quarter of them with IPv6 addresses, "
+            "and random IPv4 networks of 12 to 32 bits, for `cidr_join` each with a value.")
+    return [*paragraph(text), "", *table(head, rows)]
+
+
+def programs(run):
+    """What the programs for lists take, each if it is built."""
+    lines = []
+    for name, part in (("cidr_merge", merge), ("cidr_filter", filter_lines)):
+        try:
+            found = part(run)
+        except Missing as why:
+            found = [f"`{name}` is not measured: {why}."]
+        lines += [*([""] if lines else []), *found]
+    return lines
