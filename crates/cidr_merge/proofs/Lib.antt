@@ -1,7 +1,9 @@
+pub mod Checks
 pub mod Examples
 pub mod ExportExamples
 pub mod ExportTexts
 pub mod Faults
+pub mod Inspected
 pub mod LawExamples
 pub mod Merging
 pub mod Names
@@ -13,5 +15,7 @@ pub mod ReadInTurn
 pub mod Requests
 pub mod Runs
 pub mod Stopping
+pub mod TextLines
 pub mod Totals
 pub mod UsageExamples
+pub mod WholeLists

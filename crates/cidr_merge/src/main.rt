@@ -2,12 +2,16 @@
 #![tactic(auto)]
 
 mod addresses;
+mod checking;
 mod command_line;
 mod counts;
 mod elements;
 mod exporting;
 mod exports;
+mod findings;
 mod help;
+mod inspecting;
+mod inspections;
 mod laws;
 mod printing;
 mod reading;
@@ -15,6 +19,8 @@ mod run;
 mod side_parts;
 mod sides;
 mod sweep;
+mod text_lines;
+mod texts;
 mod usage;
 mod words;
 

@@ -11,6 +11,8 @@ ghost use Rattle.program.specs.Endings.{ending};
 
 use crate::command_line::{Operation, Request, request_of};
 use crate::help::{HELP, PROGRAM, USAGE, VERSION};
+use crate::inspecting::inspect;
+use crate::inspections::inspection_of;
 use crate::printing::print;
 use crate::reading::{Sets, read_side};
 use lines::fault::RunFault;
@@ -45,6 +47,9 @@ pub(crate) fn run<L: OpenLists, W: Write, E: Write>(
 {
     if let Some(text) = text_asked(HELP, VERSION, words) {
         return print_text(text, output, errors);
+    }
+    if let Some(inspection) = inspection_of(words) {
+        return inspect(alloc, inspection, words, lists, output, errors);
     }
     match request_of(words) {
         Ok(request) => merge(alloc, request, words, lists, output, errors),

@@ -229,8 +229,8 @@ fn is_exported(form: Form) -> bool
     }
 }
 
-// What is wrong with a text that is no option.
-fn option_problem(text: &str) -> Problem
+/// What is wrong with a text that is no option.
+pub(crate) fn option_problem(text: &str) -> Problem
     ensures { result ≡ option_problem text.now }
 {
     if text == "--" {
@@ -240,8 +240,8 @@ fn option_problem(text: &str) -> Problem
     }
 }
 
-// What is wrong with the names of the lists, of which the first is the word at the index `first`.
-fn lists_fault(lists: &[String], first: usize) -> Option<UsageFault>
+/// What is wrong with the names of the lists, of which the first is the word at the index `first`.
+pub(crate) fn lists_fault(lists: &[String], first: usize) -> Option<UsageFault>
     requires { first + length lists.now < 2 ^ 64 }
     ensures { result ≡ lists_fault first lists.now }
 {
@@ -267,8 +267,8 @@ fn name_problem(text: &str) -> Problem
     }
 }
 
-// What is wrong with the lists of the union, of which the first is the word at the index `first`.
-fn union_fault(lists: &[String], first: usize) -> Option<UsageFault>
+/// What is wrong with the lists of the union, of which the first is the word at the index `first`.
+pub(crate) fn union_fault(lists: &[String], first: usize) -> Option<UsageFault>
     requires { first + length lists.now < 2 ^ 64 }
     ensures { result ≡ union_fault first lists.now }
 {
