@@ -8,6 +8,7 @@ complete -c cidr_join -l after -x -d "The address is the first that follows a te
 complete -c cidr_join -l mapped -d "An IPv4-mapped address counts as its IPv4 one"
 complete -c cidr_join -l last -d "Print the value behind a line"
 complete -c cidr_join -l network -d "Print the network in place of its value"
+complete -c cidr_join -l tally -d "Print how many lines have each value"
 complete -c cidr_join -l last-wins -d "A network that stands twice has its last value"
 complete -c cidr_join -l help -d "Print the help"
 complete -c cidr_join -l version -d "Print the version"

@@ -10,6 +10,7 @@ _arguments \
     '*--mapped[an IPv4-mapped address counts as its IPv4 one]' \
     '*--last[print the value behind a line]' \
     '*--network[print the network in place of its value]' \
+    '*--tally[print how many lines have each value]' \
     '*--last-wins[a network that stands twice has its last value]' \
     '(- *)--help[print the help]' '(- *)--version[print the version]' \
     '*:log:_files'

@@ -155,19 +155,20 @@ module _ {Z : Type 0} (words : List (String Z)) (said : Request) (opens : Begins
 
 -- ---- laws
 
-none_of : (a b c d e f j z g h dash some all : Bool) → ((a || (b || (c || (d || (e || (f || (j || (z || false)))))))) || (g || (h || false)) || (dash && (some && all))) ≡ false
-    → (a ≡ false) × (b ≡ false) × (c ≡ false) × (d ≡ false) × (e ≡ false) × (f ≡ false) × (j ≡ false) × (z ≡ false) × (g ≡ false) × (h ≡ false) × ((dash && (some && all)) ≡ false)
-none_of true b c d e f j z g h dash some all is = absurd (true≢false is)
-none_of false true c d e f j z g h dash some all is = absurd (true≢false is)
-none_of false false true d e f j z g h dash some all is = absurd (true≢false is)
-none_of false false false true e f j z g h dash some all is = absurd (true≢false is)
-none_of false false false false true f j z g h dash some all is = absurd (true≢false is)
-none_of false false false false false true j z g h dash some all is = absurd (true≢false is)
-none_of false false false false false false true z g h dash some all is = absurd (true≢false is)
-none_of false false false false false false false true g h dash some all is = absurd (true≢false is)
-none_of false false false false false false false false true h dash some all is = absurd (true≢false is)
-none_of false false false false false false false false false true dash some all is = absurd (true≢false is)
-none_of false false false false false false false false false false dash some all is = (refl, refl, refl, refl, refl, refl, refl, refl, refl, refl, is)
+none_of : (a b c d e f j t z g h dash some all : Bool) → ((a || (b || (c || (d || (e || (f || (j || (t || (z || false))))))))) || (g || (h || false)) || (dash && (some && all))) ≡ false
+    → (a ≡ false) × (b ≡ false) × (c ≡ false) × (d ≡ false) × (e ≡ false) × (f ≡ false) × (j ≡ false) × (t ≡ false) × (z ≡ false) × (g ≡ false) × (h ≡ false) × ((dash && (some && all)) ≡ false)
+none_of true b c d e f j t z g h dash some all is = absurd (true≢false is)
+none_of false true c d e f j t z g h dash some all is = absurd (true≢false is)
+none_of false false true d e f j t z g h dash some all is = absurd (true≢false is)
+none_of false false false true e f j t z g h dash some all is = absurd (true≢false is)
+none_of false false false false true f j t z g h dash some all is = absurd (true≢false is)
+none_of false false false false false true j t z g h dash some all is = absurd (true≢false is)
+none_of false false false false false false true t z g h dash some all is = absurd (true≢false is)
+none_of false false false false false false false true z g h dash some all is = absurd (true≢false is)
+none_of false false false false false false false false true g h dash some all is = absurd (true≢false is)
+none_of false false false false false false false false false true h dash some all is = absurd (true≢false is)
+none_of false false false false false false false false false false true dash some all is = absurd (true≢false is)
+none_of false false false false false false false false false false false dash some all is = (refl, refl, refl, refl, refl, refl, refl, refl, refl, refl, refl, is)
 
 no_flags : {A : Type 0} (dash some all : Bool) (x none : A) → (dash && (some && all)) ≡ false → cond dash (cond (some && all) x none) none ≡ none
 no_flags false some all x none e = refl
@@ -175,20 +176,20 @@ no_flags true true true x none e = absurd (true≢false e)
 no_flags true true false x none e = refl
 no_flags true false all x none e = refl
 
-none_chosen : {A : Type 0} (a b c d e f j z g h dash some all : Bool) (next k l m n o p x none : A)
-    → ((a || (b || (c || (d || (e || (f || (j || (z || false)))))))) || (g || (h || false)) || (dash && (some && all))) ≡ false
-    → cond (a || b || c || z) next (cond g k (cond h l (cond d m (cond e n (cond f o (cond j p (cond dash (cond (some && all) x none) none))))))) ≡ none
-none_chosen a b c d e f j z g h dash some all next k l m n o p x none is =
-    let others = none_of a b c d e f j z g h dash some all is in
-    rw (others.0, others.1, others.2, others.7, others.8, others.9, others.3, others.4, others.5, others.6) (no_flags dash some all x none others.10)
+none_chosen : {A : Type 0} (a b c d e f j t z g h dash some all : Bool) (next k l m n o p q x none : A)
+    → ((a || (b || (c || (d || (e || (f || (j || (t || (z || false))))))))) || (g || (h || false)) || (dash && (some && all))) ≡ false
+    → cond (a || b || c || z) next (cond g k (cond h l (cond d m (cond e n (cond f o (cond j p (cond t q (cond dash (cond (some && all) x none) none)))))))) ≡ none
+none_chosen a b c d e f j t z g h dash some all next k l m n o p q x none is =
+    let others = none_of a b c d e f j t z g h dash some all is in
+    rw (others.0, others.1, others.2, others.8, others.9, others.10, others.3, others.4, others.5, others.6, others.7) (no_flags dash some all x none others.11)
 
 no_option : {Z : Type 0} (word : String Z) (others : List (String Z)) → is_option_word (string_bytes word) ≡ false → option_of (word ∷ others) ≡ None
 no_option word others is =
     let w = string_bytes word in
     none_chosen (bytes_eq w (codes "-f")) (bytes_eq w (codes "-k")) (bytes_eq w (codes "-d")) (bytes_eq w (codes "--last")) (bytes_eq w (codes "--last-wins")) (bytes_eq w (codes "--network")) (bytes_eq w (codes "--mapped"))
-    (bytes_eq w (codes "--after"))
+    (bytes_eq w (codes "--tally")) (bytes_eq w (codes "--after"))
     (begins (codes "-k") w) (begins (codes "-d") w) (begins (codes "-") w) (nat_lt 0 (length (drop 1 w))) (list_all is_letter (drop 1 w))
-    _ _ _ _ _ _ _ _ _ is
+    _ _ _ _ _ _ _ _ _ _ is
 
 pub others_are_none : {Z : Type 0} (words : List (String Z)) → OthersAreNoOptions words
 others_are_none [] = tt

@@ -83,26 +83,26 @@ all_lines ended read first pending h = ap log_lines (sym (append-nil read)) ∙ 
     ∙ ap (λ l. first ++ log_lines l) (append-nil pending)
 
 -- one line more
-next_first : (ended : Bool) (read : List ℕ) (first : List LogLine) (pending line after : List ℕ)
+pub next_first : (ended : Bool) (read : List ℕ) (first : List LogLine) (pending line after : List ℕ)
     (end : LineEnd) → AreFirst ended read first pending → IsFirstOf ended pending line after end
     → AreFirst ended read (first ++ log_line line end ∷ []) after
 next_first ended read first pending line after end h is more e =
     h more e ∙ ap (λ ls. first ++ ls) (is.lines more e)
     ∙ sym (append_assoc first (log_line line end ∷ []) (log_lines (after ++ more)))
 
-first_still : (ended : Bool) (read : List ℕ) (first : List LogLine) (pending chunk : List ℕ)
+pub first_still : (ended : Bool) (read : List ℕ) (first : List LogLine) (pending chunk : List ℕ)
     → AreFirst false read first pending → AreFirst ended (read ++ chunk) first (pending ++ chunk)
 first_still ended read first pending chunk h more e =
     ap log_lines (append_assoc read chunk more)
     ∙ h (chunk ++ more) (λ f. absurd (true≢false (sym f)))
     ∙ ap (λ l. first ++ log_lines l) (sym (append_assoc pending chunk more))
 
-ended_too : (ended : Bool) (line : LogLine) → ended ≡ false → (line.is_ended ≡ true)
+pub ended_too : (ended : Bool) (line : LogLine) → ended ≡ false → (line.is_ended ≡ true)
     ⊎ (ended ≡ true) → line.is_ended ≡ true
 ended_too ended line going (inl e) = e
 ended_too ended line going (inr e) = absurd (true≢false (sym e ∙ going))
 
-no_bytes : (count : ℕ) → (count == 0) ≡ true → count ≡ 0
+pub no_bytes : (count : ℕ) → (count == 0) ≡ true → count ≡ 0
 no_bytes count e = elim (eqb_tells count 0) [
   | inl same ↦ same.1
   | inr apart ↦ absurd (true≢false (sym e ∙ apart.0))

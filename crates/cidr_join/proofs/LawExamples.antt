@@ -6,9 +6,10 @@ use Rattle.std.specs.String.{string_bytes}
 use Rattle.program.specs.declared.usage.Subject.TheVariants as subjects
 use Rattle.cidr_join.specs.CommandLines.{AsksNothing}
 use Rattle.cidr_join.specs.Joins.{Joins}
-use Rattle.cidr_join.specs.Laws.{LogsHaveOneOutput, OutputsOfPartsFollow, is_one_of, begins_with, is_option_word, OthersAreNoOptions, OthersAskForNothing, WordsHaveOneFault}
+use Rattle.cidr_join.specs.Laws.{LogsHaveOneOutput, OutputsOfPartsFollow, Tallies, TalliesOfPartsAddUp, is_one_of, begins_with, is_option_word, OthersAreNoOptions, OthersAskForNothing, WordsHaveOneFault}
 use Rattle.cidr_join.specs.Lines.{log_lines}
 use Rattle.cidr_join.specs.Options.{option_of}
+use Rattle.cidr_join.specs.Tallies.{Row, counted_by}
 use Rattle.cidr_join.specs.Usage.{about, HasFault}
 use Rattle.cidr_join.specs.declared.join.Join.{Join}
 use Rattle.cidr_join.specs.declared.options.Choice.TheVariants as choices
@@ -35,6 +36,11 @@ pub parts_are_not_left_out : OutputsOfPartsFollow → LogsHaveOneOutput → (joi
 parts_are_not_left_out law one join p q whole =
     omega (arith, ap length (one join (codes "x\ny") (codes "-\tx\n-\ty\n") (codes "-\ty\n") (law join (codes "x") (codes "y") (codes "-\tx\n") (codes "-\ty\n") p q) whole))
 
+-- two lines of one text in the first part, and one in the second, are three in the whole
+pub three_of_two_and_one : TalliesOfPartsAddUp → (join : Join) (a b whole : List Row) → Tallies join (log_lines (codes "x\ny\n")) a → Tallies join (log_lines (codes "z")) b
+    → Tallies join (log_lines (codes "x\ny\nz")) whole → counted_by a (codes "-") ≡ 2 → counted_by b (codes "-") ≡ 1 → counted_by whole (codes "-") ≡ 3
+three_of_two_and_one law join a b whole p q r two one = omega (arith, law join (codes "x\ny") (codes "z") a b whole p q r (codes "-"), two, one)
+
 -- ---- words that are no options
 
 -- a letter beside an option, a letter more, one less, and a letter of none, whatever follows
@@ -60,11 +66,11 @@ not_behind_an_option flag word others law f w =
     law (choices.Letters (letters true false) ∷ []) word others (rw f, rw f) (ap is_option_word w) (ap (begins_with (codes "-")) w) (ap (is_one_of (codes "-" ∷ codes "--" ∷ [])) w)
 
 -- the law leaves out the words of options, and no others
-pub words_of_options : list_all is_option_word (codes "-f" ∷ codes "-k" ∷ codes "-k3" ∷ codes "-d" ∷ codes "-d," ∷ codes "--last" ∷ codes "--last-wins" ∷ codes "--network" ∷ codes "--mapped" ∷ codes "--after" ∷ codes "-a" ∷ codes "-w" ∷ codes "-aw" ∷ []) ≡ true
+pub words_of_options : list_all is_option_word (codes "-f" ∷ codes "-k" ∷ codes "-k3" ∷ codes "-d" ∷ codes "-d," ∷ codes "--last" ∷ codes "--last-wins" ∷ codes "--network" ∷ codes "--mapped" ∷ codes "--tally" ∷ codes "--after" ∷ codes "-a" ∷ codes "-w" ∷ codes "-aw" ∷ []) ≡ true
 words_of_options = refl
 
 pub words_of_none :
-    list_any is_option_word ([] ∷ codes "-" ∷ codes "--" ∷ codes "f" ∷ codes "-fx" ∷ codes "-e" ∷ codes "-K" ∷ codes "--last-win" ∷ codes "--network=" ∷ codes "--map" ∷ codes "--after=x" ∷ codes "--help" ∷ codes "-ax" ∷ codes "-v" ∷ []) ≡ false
+    list_any is_option_word ([] ∷ codes "-" ∷ codes "--" ∷ codes "f" ∷ codes "-fx" ∷ codes "-e" ∷ codes "-K" ∷ codes "--last-win" ∷ codes "--network=" ∷ codes "--map" ∷ codes "--tall" ∷ codes "--after=x" ∷ codes "--help" ∷ codes "-ax" ∷ codes "-v" ∷ []) ≡ false
 words_of_none = refl
 
 -- ---- one fault

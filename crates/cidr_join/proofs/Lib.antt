@@ -10,8 +10,14 @@ pub mod Marks
 pub mod OneOutput
 pub mod OptionValues
 pub mod Parts
+pub mod Reading
 pub mod Requests
 pub mod Runs
 pub mod Stopping
 pub mod Taking
+pub mod TallyLines
+pub mod TallyNames
+pub mod TallyParts
+pub mod TallyRows
+pub mod Tallying
 pub mod Trims

@@ -9,7 +9,7 @@ use Rattle.lines.proofs.Lines.{newline_cases}
 use Rattle.cidr_join.proofs.LogLines.{ended, lines_line}
 
 -- the lines up to a line feed, and those behind it; `p` is what was read of the line
-lines_two : (p first second : List ℕ) → HasNo 10 p → log_lines (p ++ (first ++ 10 ∷ second)) ≡ log_lines (p ++ (first ++ 10 ∷ [])) ++ log_lines second
+pub lines_two : (p first second : List ℕ) → HasNo 10 p → log_lines (p ++ (first ++ 10 ∷ second)) ≡ log_lines (p ++ (first ++ 10 ∷ [])) ++ log_lines second
 lines_two p [] second none = lines_line p second none ∙ sym (ap (λ ls. ls ++ log_lines second) (lines_line p [] none))
 lines_two p (x ∷ first) second none = elim (newline_cases x) [
   | inl e ↦

@@ -57,7 +57,7 @@ pub record NameStops (join : Join) (known : KnownLists) (name : List ℕ) (faile
   pub halts : HaltsBy known name lines fault
   pub puts : PutsBy fault failed old new added (length lines)
 
-lines_told : (old lines count : ℕ) → old ≡ 0 → Counts old lines count → lines ≡ min count (2 ^ 64 - 1)
+pub lines_told : (old lines count : ℕ) → old ≡ 0 → Counts old lines count → lines ≡ min count (2 ^ 64 - 1)
 lines_told old lines count zero counted = let e = counted (omega (arith, zero)) in omega (arith, e, zero)
 
 -- the lines that are ended come first

@@ -56,7 +56,7 @@ apart routes (addresses.V4 a) (networks.V6 n) v p none = p
 apart routes (addresses.V6 a) (networks.V4 n) v p none = p
 apart routes (addresses.V6 a) (networks.V6 n) v p none = not_both 128 routes.v6 a n v p.0 none
 
-one_found : BlocksOfAnyWidthThatMeet → (join : Join) (address : Option IpAddr) (a b : Option (IpNetwork × Value)) → Finds join address a → Finds join address b → a ≡ b
+pub one_found : BlocksOfAnyWidthThatMeet → (join : Join) (address : Option IpAddr) (a b : Option (IpNetwork × Value)) → Finds join address a → Finds join address b → a ≡ b
 one_found meet join None a b p q = p ∙ sym q
 one_found meet join (Some address) None None p q = refl
 one_found meet join (Some address) None (Some (n, u)) p q = absurd (apart join.routes address n u q p)

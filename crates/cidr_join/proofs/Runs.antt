@@ -15,7 +15,8 @@ use Rattle.cidr_join.specs.Joins.{Joins}
 use Rattle.cidr_join.specs.Lines.{LogLine}
 use Rattle.cidr_join.specs.Logs.{logs_of, IsAllOf, HaltsBy}
 use Rattle.cidr_join.specs.Routes.{Values}
-use Rattle.cidr_join.specs.Runs.{FailsWriting, Wrote, StopsAtLog, JoinsAll, list_name, EndsJoining, EndsRequest}
+use Rattle.cidr_join.specs.Runs.{FailsWriting, Wrote, StopsAtLog, JoinsAll, EndsLogs, EndsAsked, list_name, EndsJoining, EndsRequest}
+use Rattle.cidr_join.specs.TallyRuns.{EndsTally}
 use Rattle.cidr_join.specs.Stands.{Stand, stand}
 use Rattle.cidr_join.specs.Texts.{TextStops}
 use Rattle.cidr_join.specs.Told.{line_text, text_fault_text, log_fault_text}
@@ -38,7 +39,7 @@ told_line name cause lines count e =
     let same : min (lines + 1) (2 ^ 64 - 1) ≡ min (count + 1) (2 ^ 64 - 1) = omega (arith, e) in
     ap (λ n. name ++ codes ":" ++ decimal n ++ codes ": refused " ++ cause ++ codes "\n") same
 
-told_log : (name : List ℕ) (lines count : ℕ) (fault : LogFault) → lines ≡ min count (2 ^ 64 - 1) → log_fault_text name lines fault ≡ log_fault_text name count fault
+pub told_log : (name : List ℕ) (lines count : ℕ) (fault : LogFault) → lines ≡ min count (2 ^ 64 - 1) → log_fault_text name lines fault ≡ log_fault_text name count fault
 told_log name lines count faults.Open e = refl
 told_log name lines count faults.Read e = refl
 told_log name lines count faults.Write e = refl
@@ -302,3 +303,14 @@ same_routes routes networks a b =
     ap (λ (t : Values). with_both t routes.v6) a ∙ ap (λ (t : Values). with_both networks.v4 t) b where
       with_both : Values → Values → Routes
       with_both v4 v6 = record { v4 = v4; v6 = v6 }
+
+-- ---- what is asked of the logs
+
+module _ {W E : Type 0} (join : Join) (known : KnownLists) (names : List (List ℕ)) (end : Ending W E) where
+  pub asked_tally : (tally : Bool) → tally ≡ true → EndsTally join known names end → EndsAsked tally join known names end
+  asked_tally true is h = h
+  asked_tally false is h = absurd (true≢false (sym is))
+
+  pub asked_lines : (tally : Bool) → tally ≡ false → EndsLogs join known names end → EndsAsked tally join known names end
+  asked_lines true is h = absurd (true≢false is)
+  asked_lines false is h = h

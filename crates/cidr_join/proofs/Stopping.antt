@@ -56,7 +56,7 @@ none_ended (x ∷ others) none = by (none_ended others) x.is_ended refl where
       (filter (λ line. line.is_ended) others)) e
       ∙ rest (ap (λ b. not b && list_all (λ line. not line.is_ended) others) (sym e) ∙ none)
 
-first_ended : (first others : List LogLine) → list_all (λ line. line.is_ended) first ≡ true
+pub first_ended : (first others : List LogLine) → list_all (λ line. line.is_ended) first ≡ true
     → list_all (λ line. not line.is_ended) others ≡ true
     → filter (λ line. line.is_ended) (first ++ others) ≡ first
 first_ended [] others all none = none_ended others none

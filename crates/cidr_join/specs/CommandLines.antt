@@ -42,12 +42,13 @@ abbrev pub is_placed : Request → Bool
 is_placed request = request.letters.words || is_some request.field || is_some request.separator
 
 -- which options are given that do not go together: `-a` with `-k`, `-d` or `-w`, `--after` with one of these or `-a`,
--- `-w` with `-d`, and a second `-f`
+-- `-w` with `-d`, `--tally` with `--last`, and a second `-f`
 abbrev pub crossed_problem : Request → Option Problem
 crossed_problem request =
     if request.letters.anywhere && is_placed request then Some problems.Anywhere
     else if request.after && (request.letters.anywhere || is_placed request) then Some problems.After
     else if request.letters.words && is_some request.separator then Some problems.Words
+    else if request.tally && request.last then Some problems.Tally
     else if request.has_lists then Some problems.Lists
     else None
 

@@ -1,11 +1,13 @@
 -- What follows from the clauses of a command line and of a log.
-use Rattle.std.specs.Prelude.{◌≡◌, ℕ, ◌+◌, ◌==◌, ◌||◌, ◌&&◌, Bool, true, false, List, [], ◌∷◌, ◌++◌, None, take, drop, length, nat_lt, codes, bytes_eq, String}
+use Rattle.std.specs.Prelude.{◌≡◌, ℕ, ◌+◌, ◌-◌, ◌^◌, min, ◌==◌, ◌||◌, ◌&&◌, Bool, true, false, List, [], ◌∷◌, ◌++◌, None, take, drop, length, nat_lt, codes, bytes_eq, String}
 use Rattle.std.specs.List.{list_all, list_any}
 use Rattle.std.specs.String.{string_bytes}
 use Rattle.cidr_join.specs.CommandLines.{Begin, AsksNothing}
 use Rattle.cidr_join.specs.Joins.{Joins}
 use Rattle.cidr_join.specs.Lines.{LogLine, log_lines, content, IsWhole}
 use Rattle.cidr_join.specs.Options.{option_of}
+use Rattle.cidr_join.specs.Tallies.{Row, counted_by, IsTally}
+use Rattle.cidr_join.specs.TallyRuns.{Marks}
 use Rattle.cidr_join.specs.Usage.{HasFault}
 use Rattle.cidr_join.specs.declared.join.Join.{Join}
 use Rattle.cidr_join.specs.declared.options.Choice.{Choice}
@@ -19,6 +21,15 @@ LogsHaveOneOutput = (join : Join) (log a b : List ℕ) → Joins join (log_lines
 abbrev pub OutputsOfPartsFollow : Type 0
 OutputsOfPartsFollow = (join : Join) (first second a b : List ℕ) → Joins join (log_lines (first ++ 10 ∷ [])) a
     → Joins join (log_lines second) b → Joins join (log_lines (first ++ 10 ∷ second)) (a ++ b)
+
+-- the rows are the tally of these lines
+abbrev pub Tallies : Join → List LogLine → List Row → Type 0
+Tallies join lines rows = (marks : List (List ℕ)) × Marks join lines marks × IsTally marks rows
+
+-- if a log is cut after a line feed, the tally of the whole counts for each text what those of its parts count together
+abbrev pub TalliesOfPartsAddUp : Type 0
+TalliesOfPartsAddUp = (join : Join) (first second : List ℕ) (a b whole : List Row) → Tallies join (log_lines (first ++ 10 ∷ [])) a → Tallies join (log_lines second) b
+    → Tallies join (log_lines (first ++ 10 ∷ second)) whole → (text : List ℕ) → counted_by whole text ≡ min (counted_by a text + counted_by b text) (2 ^ 64 - 1)
 
 -- the word begins with this text
 abbrev pub begins_with : List ℕ → List ℕ → Bool
@@ -38,7 +49,7 @@ are_flags word = begins_with (codes "-") word && (nat_lt 0 (length (drop 1 word)
 -- a word of an option
 abbrev pub is_option_word : List ℕ → Bool
 is_option_word word =
-    is_one_of (codes "-f" ∷ codes "-k" ∷ codes "-d" ∷ codes "--last" ∷ codes "--last-wins" ∷ codes "--network" ∷ codes "--mapped" ∷ codes "--after" ∷ []) word
+    is_one_of (codes "-f" ∷ codes "-k" ∷ codes "-d" ∷ codes "--last" ∷ codes "--last-wins" ∷ codes "--network" ∷ codes "--mapped" ∷ codes "--tally" ∷ codes "--after" ∷ []) word
     || begins_with_one_of (codes "-k" ∷ codes "-d" ∷ []) word || are_flags word
 
 -- every other word is no option, whatever follows it

@@ -13,6 +13,8 @@ pub mod Runs
 pub mod Stands
 pub mod Stops
 pub mod Takes
+pub mod Tallies
+pub mod TallyRuns
 pub mod Texts
 pub mod Told
 pub mod Usage

@@ -74,6 +74,7 @@ in_one_word word =
     else if bytes_eq word (codes "--last-wins") then Some choices.LastWins
     else if bytes_eq word (codes "--network") then Some choices.Network
     else if bytes_eq word (codes "--mapped") then Some choices.Mapped
+    else if bytes_eq word (codes "--tally") then Some choices.Tally
     else if begins (codes "-") word then letters_option (drop 1 word)
     else None
 
@@ -107,6 +108,7 @@ with_option request choices.Last = record request { last = true }
 with_option request choices.LastWins = record request { last_wins = true }
 with_option request choices.Network = record request { network = true }
 with_option request choices.Mapped = record request { mapped = true }
+with_option request choices.Tally = record request { tally = true }
 with_option request choices.After = record request { after = true }
 with_option request choices.File = record request { has_list = true; has_lists = request.has_list }
 with_option request choices.Input = record request { has_list = true; has_lists = request.has_list; inputs = request.inputs + 1 }
@@ -122,6 +124,7 @@ no_options = record {
   last = false;
   last_wins = false;
   network = false;
+  tally = false;
   has_list = false;
   has_lists = false;
   inputs = 0;

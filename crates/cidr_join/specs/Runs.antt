@@ -1,5 +1,5 @@
 -- How a run ends: its exit status, what was written, and what was reported.
-use Rattle.std.specs.Prelude.{◌≡◌, ℕ, List, [], ◌∷◌, ◌++◌, true, ◌⊎◌, if◌then◌else◌, length, take, drop, codes, String, ◌==◌}
+use Rattle.std.specs.Prelude.{◌≡◌, ℕ, Bool, List, [], ◌∷◌, ◌++◌, true, false, ◌⊎◌, if◌then◌else◌, length, take, drop, codes, String, ◌==◌}
 use Rattle.std.specs.List.{slice_split}
 use Rattle.std.specs.Option.{unwrap_or}
 use Rattle.lines.specs.Outputs.{FailsIn}
@@ -13,6 +13,7 @@ use Rattle.cidr_join.specs.Lines.{LogLine}
 use Rattle.cidr_join.specs.Logs.{logs_of, IsAllOf, JoinsLogs, HaltsBy}
 use Rattle.cidr_join.specs.Options.{value_of}
 use Rattle.cidr_join.specs.Routes.{no_networks}
+use Rattle.cidr_join.specs.TallyRuns.{EndsTally}
 use Rattle.cidr_join.specs.Takes.{TakesLines, StopsTaking}
 use Rattle.cidr_join.specs.Texts.{TextStops}
 use Rattle.cidr_join.specs.Told.{text_fault_text, take_fault_text, log_fault_text}
@@ -95,14 +96,19 @@ join_of words request networks = record {
   network = request.network;
 }
 
+-- what it asks for of the logs: that what the list gives their lines is counted, or that they are joined to the list
+abbrev pub EndsAsked : {W E : Type 0} → Bool → Join → KnownLists → List (List ℕ) → Ending W E → Type 0
+EndsAsked true join known names end = EndsTally join known names end
+EndsAsked false join known names end = EndsLogs join known names end
+
 -- the list of this name has these bytes. A line of it is refused, or memory runs out, and nothing is written. Else the
--- logs are joined to its networks
+-- logs are joined to its networks, or counted by them
 abbrev pub EndsJoining : {Z W E : Type 0} → KnownLists → List (String Z) → Request → List ℕ → List ℕ → Ending W E → Type 0
 EndsJoining known words request name text end =
     ((fault : TakeFault) × StopsTaking request.last_wins no_networks (slice_split (λ b. b == 10) text) fault × Refuses (take_fault_text name fault) end)
     ⊎ (Refuses (codes "out of memory\n") end
     ⊎ ((networks : Networks) × TakesLines request.last_wins no_networks (slice_split (λ b. b == 10) text) networks
-    × EndsLogs (join_of words request networks) known (logs_of (drop request.files words)) end))
+    × EndsAsked request.tally (join_of words request networks) known (logs_of (drop request.files words)) end))
 
 -- the list was not read, nothing was written, and the cause was reported; or it was, and the logs were joined to it
 abbrev pub EndsRequest : {Z W E : Type 0} → KnownLists → List (String Z) → Request → Ending W E → Type 0

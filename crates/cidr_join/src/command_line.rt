@@ -29,6 +29,8 @@ pub struct Request {
     pub last_wins: bool,
     /// Whether the network is printed in place of its value.
     pub network: bool,
+    /// Whether the lines are counted, and not printed.
+    pub tally: bool,
     /// Whether a list is among the options.
     pub has_list: bool,
     /// Whether more than one is.
@@ -74,6 +76,7 @@ fn options_of(words: &[String]) -> Request
         last: false,
         last_wins: false,
         network: false,
+        tally: false,
         has_list: false,
         has_lists: false,
         inputs: 0,
@@ -119,6 +122,8 @@ fn crossed_problem(request: Request) -> Option<Problem>
         Some(Problem::After)
     } else if request.letters.words && request.separator.is_some() {
         Some(Problem::Words)
+    } else if request.tally && request.last {
+        Some(Problem::Tally)
     } else if request.has_lists {
         Some(Problem::Lists)
     } else {
@@ -170,6 +175,10 @@ fn with_choice(request: Request, choice: Choice) -> Request
         },
         Choice::Mapped => Request {
             mapped: true,
+            ..request
+        },
+        Choice::Tally => Request {
+            tally: true,
             ..request
         },
         Choice::File => Request {

@@ -20,6 +20,9 @@ Prints each line of logs behind the value that a list gives its address.
     --mapped        an address ::ffff:A.B.C.D of a line counts as A.B.C.D
     --last          print the value behind a line, after a tab, and not before it
     --network       print the network in place of its value; a range counts as the fewest networks that make it up
+    --tally         print no line: print how many lines have each value, and a tab and the value, most first, and those of
+                    one count in the order of their bytes. Lines that would have a minus sign count as one. Not with
+                    --last
     --help          print this text
     --version       print the version
 
@@ -33,6 +36,7 @@ Status: 0, or 2 on wrong usage, a refused line, a file that cannot be read, a fa
 Examples:
     cidr_join -f teams.txt access.log
     cidr_join -a -f countries.csv auth.log
+    cidr_join --tally -f countries.csv access.log
     tail -f access.log | cidr_join --last --network -f networks.txt
 ";
 
@@ -44,4 +48,4 @@ pub(crate) const PROGRAM: &str = "cidr_join";
 
 /// How the program is used: what is reported for arguments that are not a command, after what is wrong with them.
 pub(crate) const USAGE: &str =
-    "usage: cidr_join [-a | --after TEXT | [-k N] [-d CHAR | -w]] [--mapped] [--last] [--network] [--last-wins] -f LIST [FILE..]; try --help\n";
+    "usage: cidr_join [-a | --after TEXT | [-k N] [-d CHAR | -w]] [--mapped] [--last | --tally] [--network] [--last-wins] -f LIST [FILE..]; try --help\n";

@@ -1,6 +1,6 @@
 //! What follows from the clauses of a command line and of a log. Each function's contract is a law: it does nothing, and a proof that calls it
 //! may use the law.
-ghost use Rattle.cidr_join.specs.Laws.{OthersAreNoOptions, OthersAskForNothing, WordsHaveOneFault, LogsHaveOneOutput, OutputsOfPartsFollow};
+ghost use Rattle.cidr_join.specs.Laws.{OthersAreNoOptions, OthersAskForNothing, WordsHaveOneFault, LogsHaveOneOutput, OutputsOfPartsFollow, TalliesOfPartsAddUp};
 
 use ipnetwork_table::laws::blocks_of_any_width_that_meet;
 
@@ -15,6 +15,13 @@ pub fn a_log_has_one_output()
 pub fn outputs_of_parts_follow()
     ensures { OutputsOfPartsFollow }
 {}
+
+/// If a log is cut directly after a line feed, its tally counts for each text what those of its parts count together.
+pub fn tallies_of_parts_add_up()
+    ensures { TalliesOfPartsAddUp }
+{
+    blocks_of_any_width_that_meet();
+}
 
 /// A word other than those of the options is none of them, whatever follows it. If it begins with a `-`, and is neither
 /// `-` nor `--`, then the words ask for nothing where it stands behind options.

@@ -32,6 +32,8 @@ pub enum Choice {
     Network,
     /// `--mapped`.
     Mapped,
+    /// `--tally`.
+    Tally,
     /// `--after`, and a text.
     After,
     /// `-f`, and the name of a list.
@@ -115,6 +117,9 @@ fn choice_in(word: &[u8]) -> Option<Choice>
     }
     if word == b"--mapped".as_slice() {
         return Some(Choice::Mapped);
+    }
+    if word == b"--tally".as_slice() {
+        return Some(Choice::Tally);
     }
     match word.strip_prefix(b"-".as_slice()) {
         Some(letters) => letters_choice(letters),

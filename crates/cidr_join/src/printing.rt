@@ -109,8 +109,8 @@ fn put_rest<W: Write>(
     put_feed(end, output)
 }
 
-// Writes two texts.
-fn put_both<W: Write>(
+/// Writes two texts.
+pub(crate) fn put_both<W: Write>(
     first: &[u8],
     second: &[u8],
     output: &mut Output<'_, W>,

@@ -2,7 +2,8 @@
 ghost use Rattle.std.specs.Prelude.{◌≡◌, ◌≤◌, length, codes, take};
 ghost use Rattle.program.specs.Endings.{ending};
 ghost use Rattle.program.specs.Messages.{Tells};
-ghost use Rattle.cidr_join.specs.Runs.{EndsRequest, EndsAs, EndsJoining, place_of, list_name};
+ghost use Rattle.cidr_join.specs.Logs.{logs_of};
+ghost use Rattle.cidr_join.specs.Runs.{EndsRequest, EndsAs, EndsAsked, EndsJoining, place_of, list_name};
 
 use crate::command_line::{Request, request_of};
 use crate::help::{HELP, PROGRAM, USAGE, VERSION};
@@ -11,6 +12,7 @@ use crate::list::networks_of;
 use crate::logs::join_logs;
 use crate::options::value_of;
 use crate::routes::Routes;
+use crate::tally_logs::tally_logs;
 use crate::telling::{tell_take_fault, tell_text_fault};
 use crate::text::text_of;
 use lines::output::Output;
@@ -80,7 +82,7 @@ fn join<L: OpenLists, W: Write, E: Write>(
     }
 }
 
-// Joins the logs to the list of this name, which has these bytes.
+// Joins the logs to the list of this name, which has these bytes, or counts their lines by it.
 fn join_to<L: OpenLists, W: Write, E: Write>(
     alloc: Global,
     request: Request,
@@ -116,7 +118,38 @@ fn join_to<L: OpenLists, W: Write, E: Write>(
         network: request.network,
     };
     let files = &words[request.files..];
-    join_logs(&join, files, lists, buffer.as_mut_slice(), output, errors)
+    let buffer = buffer.as_mut_slice();
+    run_logs(
+        alloc,
+        request.tally,
+        &join,
+        files,
+        lists,
+        buffer,
+        output,
+        errors,
+    )
+}
+
+// Counts what the list gives the lines of the logs, or joins them to it.
+fn run_logs<L: OpenLists, W: Write, E: Write>(
+    alloc: Global,
+    tally: bool,
+    join: &Join<'_>,
+    files: &[String],
+    lists: &L,
+    buffer: &mut [u8],
+    output: &mut Output<'_, W>,
+    errors: &mut Output<'_, E>,
+) -> u8
+    requires { 1048578 ≤ length buffer.old }
+    ensures { EndsAsked tally join.now (L.known lists.now) (logs_of files.now)
+        (ending output.old output.new errors.old errors.new result) }
+{
+    if tally {
+        return tally_logs(alloc, join, files, lists, buffer, output, errors);
+    }
+    join_logs(join, files, lists, buffer, output, errors)
 }
 
 // Where a request looks for the address of a line.

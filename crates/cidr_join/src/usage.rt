@@ -32,6 +32,8 @@ pub enum Problem {
     After,
     /// `-w` together with `-d`.
     Words,
+    /// `--last` together with `--tally`.
+    Tally,
     /// More than one list.
     Lists,
     /// No list.
@@ -57,6 +59,7 @@ impl Problem {
             Problem::Anywhere => "-a goes with none of -k, -d and -w",
             Problem::After => "--after goes with none of -a, -k, -d and -w",
             Problem::Words => "-w does not go with -d",
+            Problem::Tally => "--last does not go with --tally",
             Problem::Lists => "-f is given more than once",
             Problem::NoList => "-f is not given",
             Problem::InputTwice => "-: standard input can be read only once",

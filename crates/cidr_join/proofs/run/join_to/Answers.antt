@@ -8,4 +8,4 @@ returns-in-Err g c = inl (c.in-Err.fault, c.in-Err.ensures.err, ((refl, refl), c
 
 pub returns : goal.returns
 returns g c =
-    inr (inr (c.in-Ok.networks, c.in-Ok.ensures.ok, rw (take_rest, c.place_of.ensures, same_routes c.in-Ok-of.routes c.in-Ok.networks c.in-Ok-of.ensures.v4 c.in-Ok-of.ensures.v6) at c.join_logs.ensures))
+    inr (inr (c.in-Ok.networks, c.in-Ok.ensures.ok, rw (take_rest, c.place_of.ensures, same_routes c.in-Ok-of.routes c.in-Ok.networks c.in-Ok-of.ensures.v4 c.in-Ok-of.ensures.v6) at c.run_logs.ensures))

@@ -1,0 +1,203 @@
+-- How a tally counts one text more.
+use Rattle.std.proofs.Common.{◌≡◌, ℕ, zero, suc, ◌+◌, ◌-◌, ◌^◌, ◌<◌, ◌≤◌, ◌==◌, Bool, true, false, cond, List, [], ◌∷◌, ◌++◌, inl, inr, refl, sym, ap, subst, ◌∙◌, arith, min}
+use Rattle.std.specs.Prelude.{Option, None, Some, Vec, nat_eq, IfSome, map, length}
+use Rattle.std.specs.Cmp.Lexicographic.{pointwise, bytes_decides, nat_list_eq_equiv}
+use Rattle.std.specs.HashMap.{HashMap, UpdatesBy}
+use Rattle.std.specs.Cmp.{IsEquivalence}
+use Rattle.std.specs.List.{count_by, sum_by, IsDistinct, AllByRecursion, All, slice_index_or}
+use Rattle.std.specs.List.Sorted.{IsPermutation, IsSortedBy}
+use Rattle.std.specs.Option.{unwrap_or}
+use Rattle.std.specs.Ordering.{is_lt}
+use Rattle.std.specs.declared.cmp.Reverse.{Reverse}
+use Rattle.std.specs.Map.{lookup, keys_of, values_of, IsKeyTest, AreApart, KeepsOthers}
+use Rattle.std.specs.Str.{bytes_eq}
+use Rattle.std.proofs.lemmas.Bool.{cases_Bool, cond-true, cond-false}
+use Rattle.std.proofs.lemmas.Bool.{ne_eqb}
+use Rattle.std.proofs.lemmas.List.{get_or-map, length-map}
+use Rattle.std.proofs.lemmas.List.Elements.{All-head, All-tail}
+use Rattle.std.proofs.lemmas.List.Sorted.{IsPermutation-map, sum_by-IsPermutation}
+use Rattle.std.proofs.lemmas.List.Sums.{sum_by_push, sum_by-cons}
+use Rattle.std.proofs.lemmas.Map.Views.{All-values_from_lookup}
+use Rattle.std.proofs.lemmas.Option.{none-some}
+use Rattle.cidr_join.specs.Tallies.{Row, count_of, counted_by, rows_of, row_cmp, IsTally}
+use Rattle.cidr_join.specs.Private.Counting.{found_for, some_count, row_of, Counted, CountsOne}
+
+-- an entry of the map as a row
+abbrev pub entry_row : {Z : Type 0} → Vec ℕ Z × ℕ → Row
+entry_row entry = record { count = entry.1; text = entry.0.items }
+
+-- ---- a text is found by its bytes
+
+abbrev same_items : {Z : Type 0} → Vec ℕ Z → Vec ℕ Z → Bool
+same_items x y = pointwise nat_eq x.items y.items
+
+other_found : {K X : Type 0} (eq : K → K → Bool) (test : K → Bool) (old new : List (K × X)) → KeepsOthers eq test old new
+    → (other : K → Bool) → IsKeyTest eq other → AreApart test other → lookup other new ≡ lookup other old
+unfolding KeepsOthers
+other_found eq test old new h = h
+
+apart : (text other key : List ℕ) → bytes_eq text other ≡ false → bytes_eq text key ≡ true → bytes_eq other key ≡ false
+apart text other key differ same = nat_list_eq_equiv.symm other key ∙ sym (nat_list_eq_equiv.congr text key other same) ∙ differ
+
+module _ {Z S : Type 0} (text : List ℕ) (old new : HashMap (Vec ℕ Z) ℕ S) (count : ℕ)
+    (h : UpdatesBy same_items (λ key. pointwise nat_eq text key.items) old new (Some count)) where
+  found_here : found_for new text ≡ Some count
+  found_here = h.1
+
+  found_else : (other : List ℕ) → bytes_eq text other ≡ false → found_for new other ≡ found_for old other
+  found_else other differ =
+      other_found _ _ _ _ h.3 _ (λ x y. nat_list_eq_equiv.congr other x.items y.items) (λ key. apart text other key.items differ)
+
+-- ---- counts
+
+some_is : (number count : ℕ) → some_count number ≡ Some count → number ≡ count
+some_is zero count e = absurd (none-some count e)
+some_is (suc number) count e = cc
+
+none_is : (number : ℕ) → some_count number ≡ None → number ≡ 0
+none_is zero e = refl
+none_is (suc number) e = absurd (none-some (suc number) (sym e))
+
+some_at : (number : ℕ) → 0 < number → some_count number ≡ Some number
+some_at zero h = absurd (omega (arith, h))
+some_at (suc number) h = refl
+
+one_if : Bool → ℕ
+one_if b = cond b 1 0
+
+count_push : (other text : List ℕ) (texts : List (List ℕ)) → count_by (bytes_eq other) (texts ++ text ∷ []) ≡ count_by (bytes_eq other) texts + cond (bytes_eq other text) 1 0
+count_push other text texts = sum_by_push _ texts text
+
+same_here : (text : List ℕ) (texts : List (List ℕ)) → count_by (bytes_eq text) (texts ++ text ∷ []) ≡ count_by (bytes_eq text) texts + 1
+same_here text texts = count_push text text texts ∙ ap (λ b. count_by (bytes_eq text) texts + cond b 1 0) (nat_list_eq_equiv.refl text)
+
+same_else : (other text : List ℕ) (texts : List (List ℕ)) → bytes_eq text other ≡ false → count_by (bytes_eq other) (texts ++ text ∷ []) ≡ count_by (bytes_eq other) texts
+same_else other text texts differ =
+    let none = count_push other text texts ∙ ap (λ b. count_by (bytes_eq other) texts + cond b 1 0) (nat_list_eq_equiv.symm other text ∙ differ) in
+    omega (arith, none)
+
+module _ {Z S : Type 0} (text : List ℕ) (old new : HashMap (Vec ℕ Z) ℕ S) (count : ℕ)
+    (h : UpdatesBy same_items (λ key. pointwise nat_eq text key.items) old new (Some count)) where
+  counts_one : ((texts : List (List ℕ)) → Counted texts old → some_count (min (count_by (bytes_eq text) texts + 1) (2 ^ 64 - 1)) ≡ Some count) → CountsOne text old new
+  counts_one one texts counted other = elim (cases_Bool (bytes_eq text other)) [
+    | inl same ↦
+        let is : text ≡ other = (bytes_decides text other).0 same in
+        subst (λ (t : List ℕ). found_for new t ≡ some_count (count_of t (texts ++ text ∷ []))) is
+        (found_here text old new count h ∙ sym (one texts counted) ∙ ap (λ n. some_count (min n (2 ^ 64 - 1))) (sym (same_here text texts)))
+    | inr differ ↦
+        found_else text old new count h other differ ∙ counted other
+        ∙ ap (λ n. some_count (min n (2 ^ 64 - 1))) (sym (same_else other text texts differ))
+  ]
+
+-- a text that was counted before
+pub counts_again : {Z S : Type 0} (text : List ℕ) (old new : HashMap (Vec ℕ Z) ℕ S) (was count : ℕ) → found_for old text ≡ Some was
+    → count ≡ min (was + 1) (2 ^ 64 - 1) → UpdatesBy same_items (λ key. pointwise nat_eq text key.items) old new (Some count) → CountsOne text old new
+counts_again text old new was count found one h =
+    counts_one text old new count h (λ texts counted.
+    let is = some_is _ was (sym (counted text) ∙ found) in
+    some_at _ (omega arith) ∙ ap Some (omega (arith, is, one)))
+
+-- one that was not
+pub counts_first : {Z S : Type 0} (text : List ℕ) (key : Vec ℕ Z) (old new : HashMap (Vec ℕ Z) ℕ S) → key.items ≡ text → found_for old text ≡ None
+    → UpdatesBy same_items (same_items key) old new (Some 1) → CountsOne text old new
+counts_first {Z} {S} text key old new same none h =
+    subst (λ (t : List ℕ). CountsOne t old new) same (counts_one key.items old new 1 h (λ texts counted.
+    let is = none_is _ (sym (counted key.items) ∙ ap (found_for old) same ∙ none) in
+    some_at _ (omega arith) ∙ ap Some (omega (arith, is))))
+
+-- ---- the rows of a map
+
+same_laws : {Z : Type 0} → IsEquivalence (same_items {Z = Z})
+same_laws = record {
+  refl = λ x. nat_list_eq_equiv.refl x.items;
+  symm = λ x y. nat_list_eq_equiv.symm x.items y.items;
+  congr = λ x y z. nat_list_eq_equiv.congr x.items y.items z.items;
+}
+
+abbrev weight : List ℕ → Row → ℕ
+weight text row = cond (bytes_eq text row.text) row.count 0
+
+abbrev one_of : List ℕ → Row → ℕ
+one_of text row = cond (bytes_eq text row.text) 1 0
+
+abbrev one_at_zero : Row → ℕ
+one_at_zero row = cond (row.count == 0) 1 0
+
+module _ {Z : Type 0} where
+  -- no other entry has the text of this one
+  no_more : (e : Vec ℕ Z) (es : List (Vec ℕ Z × ℕ)) → AllByRecursion (λ y. same_items e y ≡ false) (keys_of es)
+      → (counted_by (map entry_row es) e.items ≡ 0) × (rows_of (map entry_row es) e.items ≡ 0)
+  no_more e [] h = (refl, refl)
+  no_more e (x ∷ es) h =
+      let more = no_more e es h.1 in
+      let count = sum_by-cons (weight e.items) (entry_row x) (map entry_row es) ∙ ap (λ b. cond b x.1 0 + counted_by (map entry_row es) e.items) h.0 in
+      let rows = sum_by-cons (one_of e.items) (entry_row x) (map entry_row es) ∙ ap (λ b. cond b 1 0 + rows_of (map entry_row es) e.items) h.0 in
+      (omega (arith, count, more.0), omega (arith, rows, more.1))
+
+  abbrev Found : List (Vec ℕ Z × ℕ) → List ℕ → Type 0
+  Found es text = (counted_by (map entry_row es) text ≡ unwrap_or (lookup (λ key. pointwise nat_eq text key.items) es) 0) × (rows_of (map entry_row es) text ≤ 1)
+
+  found_in : (es : List (Vec ℕ Z × ℕ)) → IsDistinct same_items (keys_of es) → (text : List ℕ) → Found es text
+  unfolding IsDistinct
+  found_in [] h text = (refl, omega arith)
+  found_in (x ∷ es) h text = elim (cases_Bool (bytes_eq text x.0.items)) [
+    | inl same ↦
+        let none = no_more x.0 es h.0 in
+        let is : x.0.items ≡ text = sym ((bytes_decides text x.0.items).0 same) in
+        let count = sum_by-cons (weight text) (entry_row x) (map entry_row es) ∙ ap (λ b. cond b x.1 0 + counted_by (map entry_row es) text) same in
+        let rows = sum_by-cons (one_of text) (entry_row x) (map entry_row es) ∙ ap (λ b. cond b 1 0 + rows_of (map entry_row es) text) same in
+        let found = cond-true (bytes_eq text x.0.items) (Some x.1) (lookup (λ key. pointwise nat_eq text key.items) es) same in
+        let zero_count = subst (λ (t : List ℕ). counted_by (map entry_row es) t ≡ 0) is none.0 in
+        let zero_rows = subst (λ (t : List ℕ). rows_of (map entry_row es) t ≡ 0) is none.1 in (
+          omega (arith, count, zero_count) ∙ ap (λ o. unwrap_or o 0) (sym found),
+          omega (arith, rows, zero_rows),
+        )
+    | inr differ ↦
+        let more = found_in es h.1 text in
+        let count = sum_by-cons (weight text) (entry_row x) (map entry_row es) ∙ ap (λ b. cond b x.1 0 + counted_by (map entry_row es) text) differ in
+        let rows = sum_by-cons (one_of text) (entry_row x) (map entry_row es) ∙ ap (λ b. cond b 1 0 + rows_of (map entry_row es) text) differ in
+        let found = cond-false (bytes_eq text x.0.items) (Some x.1) (lookup (λ key. pointwise nat_eq text key.items) es) differ in (
+          omega (arith, count, more.0) ∙ ap (λ o. unwrap_or o 0) (sym found),
+          omega (arith, rows, more.1),
+        )
+  ]
+
+  none_zero : (es : List (Vec ℕ Z × ℕ)) → All (λ v. 0 < v) (values_of es) → count_by (λ row. row.count == 0) (map entry_row es) ≡ 0
+  none_zero [] h = refl
+  none_zero (x ∷ es) h =
+      let more = none_zero es (All-tail (λ v. 0 < v) x.1 (values_of es) h) in
+      let some : 0 < x.1 = All-head (λ v. 0 < v) x.1 (values_of es) h in
+      let zeros = sum_by-cons one_at_zero (entry_row x) (map entry_row es) ∙ ap (λ b. cond b 1 0 + count_by (λ row. row.count == 0) (map entry_row es)) (ne_eqb x.1 0 (λ e. omega (arith, e, some))) in
+      omega (arith, zeros, more)
+
+some_counted : (number : ℕ) → IfSome (some_count number) (λ v. 0 < v)
+some_counted zero = tt
+some_counted (suc number) = omega arith
+
+unwrapped : (number : ℕ) → unwrap_or (some_count number) 0 ≡ number
+unwrapped zero = refl
+unwrapped (suc number) = refl
+
+-- ---- in order
+
+sorted_map : {X Y : Type 0} (f : X → Y) (lt : Y → Y → Bool) (xs : List X) → IsSortedBy (λ a b. lt (f a) (f b)) xs → IsSortedBy lt (map f xs)
+sorted_map f lt [] h k d low less = absurd (omega (arith, less))
+sorted_map f lt (x ∷ xs) h k d low less =
+    let within : k + 1 < length (x ∷ xs) = omega (arith, less, length-map (x ∷ xs) f) in
+    let second = get_or-map f (x ∷ xs) (k + 1) x d within in
+    let first = get_or-map f (x ∷ xs) k x d (omega (arith, within)) in
+    ap (λ y. lt y (slice_index_or (map f (x ∷ xs)) k d)) second ∙ ap (λ y. lt (f (slice_index_or (x ∷ xs) (k + 1) x)) y) first ∙ h k x low within
+
+module _ {Z S : Type 0} (texts : List (List ℕ)) (counts : HashMap (Vec ℕ Z) ℕ S) (counted : Counted texts counts)
+    (distinct : IsDistinct same_items (keys_of counts.entries)) (made sorted : List (Reverse ℕ × Vec ℕ Z)) (is : map row_of made ≡ map entry_row counts.entries)
+    (moved : IsPermutation made sorted) where
+  same_sum : (f : Row → ℕ) → sum_by f (map row_of sorted) ≡ sum_by f (map entry_row counts.entries)
+  same_sum f = sum_by-IsPermutation f _ _ (IsPermutation-map row_of made sorted moved) ∙ ap (λ rows. sum_by f rows) is
+
+  pub tally_of : IsSortedBy (λ a b. is_lt (row_cmp (row_of a) (row_of b))) sorted → IsTally texts (map row_of sorted)
+  tally_of in_order = record {
+    counts = λ text. same_sum _ ∙ (found_in counts.entries distinct text).0 ∙ ap (λ o. unwrap_or o 0) (counted text) ∙ unwrapped _;
+    once = λ text. let rows = same_sum (λ row. cond (bytes_eq text row.text) 1 0) in omega (arith, rows, (found_in counts.entries distinct text).1);
+    none = same_sum _ ∙ none_zero counts.entries (All-values_from_lookup same_laws (λ v. 0 < v) counts.entries distinct (λ key. subst (λ (o : Option ℕ). IfSome o (λ v. 0 < v)) (sym (counted key.items)) (some_counted _)));
+    ordered = sorted_map row_of (λ a b. is_lt (row_cmp a b)) sorted in_order;
+  }

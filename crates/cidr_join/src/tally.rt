@@ -1,0 +1,54 @@
+//! How often texts were counted.
+ghost use Rattle.std.specs.Prelude.{List, ℕ, [], map, IfOk, OnOk};
+ghost use Rattle.cidr_join.specs.Tallies.{IsTally};
+ghost use Rattle.cidr_join.specs.Private.Counting.{row_of, Counted, CountsOne};
+
+use std::alloc::{AllocError, Global};
+use std::cmp::Reverse;
+use std::collections::HashMap;
+
+/// A count, which is greater the earlier it stands, and the text that it is of.
+pub(crate) type Row = (Reverse<u64>, Vec<u8>);
+
+/// How often each text was counted. It keeps a copy of each text that was counted.
+#[derive(Drop)]
+pub struct Tally {
+    counts: HashMap<Vec<u8>, u64>,
+}
+
+impl Tally {
+    /// Nothing was counted.
+    pub(crate) fn new(alloc: Global) -> Tally
+        ensures { Counted [] result.counts }
+    {
+        Tally {
+            counts: HashMap::new(alloc),
+        }
+    }
+
+    /// Counts a text. Allocates only if it was not counted before.
+    pub(crate) fn count(&mut self, alloc: Global, text: &[u8]) -> Result<(), AllocError>
+        ensures { OnOk result (CountsOne text.now self.old.counts self.new.counts) }
+    {
+        if let Some(count) = self.counts.get_mut(text) {
+            *count = count.saturating_add(1);
+            return Ok(());
+        }
+        let text = Vec::from_slice(alloc, text)?;
+        self.counts.insert(text, 1)?;
+        Ok(())
+    }
+
+    /// The counts and their texts, most first, and those of one count by the bytes of the texts.
+    pub(crate) fn into_rows(self, alloc: Global) -> Result<Vec<Row>, AllocError>
+        ensures { IfOk result (λ rows. (texts : List (List ℕ)) → Counted texts self.counts
+            → IsTally texts (map row_of rows.items)) }
+    {
+        let mut rows = Vec::with_capacity(alloc, self.counts.len())?;
+        for (text, count) in self.counts {
+            rows.push((Reverse(count), text))?;
+        }
+        rows.sort_unstable();
+        Ok(rows)
+    }
+}

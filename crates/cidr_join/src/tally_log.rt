@@ -1,0 +1,114 @@
+//! Counts what a list gives the lines of a log.
+ghost use Rattle.std.specs.Prelude.{◌≡◌, ◌||◌, ◌≤◌, length, OnOk, IfErr};
+ghost use Rattle.lines.specs.Watched.{device_of, has_failed};
+ghost use Rattle.cidr_join.specs.Joins.{mark_of};
+ghost use Rattle.cidr_join.specs.Private.Counting.{CountsOne};
+ghost use Rattle.cidr_join.specs.Private.TallyProgress.{CountsLine, CountsLines, ReadsAll, StopsReading, ended_by_read};
+
+use crate::join::{Join, LINE_MAX};
+use crate::log::LogFault;
+use crate::tally::Tally;
+use crate::value::Value;
+use ipnetwork::IpNetwork;
+use lines::line_buffer::{LineBuffer, NextLine};
+use lines::watched::Watched;
+use std::alloc::{AllocError, Global};
+use std::io::Read;
+
+/// Why the lines of a log are not counted to its end.
+#[derive(Clone, Copy, Debug, PartialEq, Eq)]
+pub enum TallyFault {
+    /// A fault of the log.
+    Log(LogFault),
+    /// Out of memory.
+    OutOfMemory,
+}
+
+/// Counts for each line of a log what the list gives its address, and adds how many lines these are to `count`.
+///
+/// A line that is too long ends the run even if its end was not read.
+pub(crate) fn tally_log<R: Read>(
+    alloc: Global,
+    join: &Join<'_>,
+    buffer: &mut [u8],
+    reader: &mut Watched<R>,
+    tally: &mut Tally,
+    count: &mut u64,
+) -> Result<(), TallyFault>
+    requires room { 1048578 ≤ length buffer.old }
+    ensures ok { OnOk result
+        (ReadsAll (CountsLines join.now tally.old.counts tally.new.counts count.old count.new)
+        (R.remaining (device_of reader.old))
+        (R.remaining (device_of reader.new))) }
+    ensures err { IfErr result
+        (StopsReading (CountsLines join.now tally.old.counts tally.new.counts count.old count.new)
+        (R.remaining (device_of reader.old))
+        (R.remaining (device_of reader.new))
+        (has_failed reader.new)) }
+    ensures reader_failed { has_failed reader.new ≡ (has_failed reader.old || ended_by_read result) }
+{
+    let mut lines = LineBuffer::new(buffer, LINE_MAX);
+    let mut room = u64::MAX;
+    'lines: loop {
+        match lines.next() {
+            NextLine::Line(_) => {
+                let line = lines.line();
+                if let Err(_) = count_line(alloc, join, line, tally, count) {
+                    return Err(TallyFault::OutOfMemory);
+                }
+            }
+            NextLine::TooLong => return Err(TallyFault::Log(LogFault::Length)),
+            NextLine::Ask => {
+                if lines.is_too_long() {
+                    return Err(TallyFault::Log(LogFault::Length));
+                }
+                let Ok(read) = lines.ask(reader) else {
+                    return Err(TallyFault::Log(LogFault::Read));
+                };
+                if read as u64 > room {
+                    return Err(TallyFault::Log(LogFault::Endless));
+                }
+                room -= read as u64;
+            }
+            NextLine::End => return Ok(()),
+        }
+    }
+}
+
+// Counts what the list gives the address of a line within the limit, and the line.
+fn count_line(
+    alloc: Global,
+    join: &Join<'_>,
+    line: &[u8],
+    tally: &mut Tally,
+    count: &mut u64,
+) -> Result<(), AllocError>
+    ensures { OnOk result
+        (CountsLine join.now line.now tally.old.counts tally.new.counts count.old count.new) }
+{
+    let found = join.find(line);
+    *count = count.saturating_add(1);
+    count_found(alloc, join.network, &found, tally)
+}
+
+// Counts what was found: the value, or the network, or a minus sign for none.
+fn count_found(
+    alloc: Global,
+    network: bool,
+    found: &Option<(IpNetwork, Value<'_>)>,
+    tally: &mut Tally,
+) -> Result<(), AllocError>
+    ensures { OnOk result
+        (CountsOne (mark_of network found.now) tally.old.counts tally.new.counts) }
+{
+    match found {
+        Some((block, value)) => {
+            if network {
+                tally.count(alloc, block.canonical().as_str().as_bytes())
+            } else {
+                tally.count(alloc, value.bytes())
+            }
+        }
+        None => tally.count(alloc, b"-"),
+    }
+}

@@ -1,0 +1,187 @@
+//! Counts what a list gives the lines of the logs of a run, and prints the counts.
+ghost use Rattle.std.specs.Prelude.{◌≡◌, ◌≤◌, ◌++◌, ◌∷◌, ◌||◌, [], true, false, List, ℕ, length, codes, map, OnOk, OnErr, is_err};
+ghost use Rattle.lines.specs.Outputs.{Prints, FailsIn, Writes};
+ghost use Rattle.program.specs.Endings.{ending};
+ghost use Rattle.program.specs.Messages.{Tells};
+ghost use Rattle.cidr_join.specs.Logs.{logs_of};
+ghost use Rattle.cidr_join.specs.Tallies.{row_text, rows_text};
+ghost use Rattle.cidr_join.specs.TallyRuns.{EndsTally};
+ghost use Rattle.cidr_join.specs.Private.Counting.{row_of};
+ghost use Rattle.cidr_join.specs.Private.TallyProgress.{CountsNames, TellsStop, tally_fault_text};
+
+use crate::join::Join;
+use crate::log::LogFault;
+use crate::printing::put_both;
+use crate::tally::{Row, Tally};
+use crate::tally_log::{TallyFault, tally_log};
+use crate::telling::tell_log_fault;
+use lines::fault::RunFault;
+use lines::output::Output;
+use lines::watched::Watched;
+use lists::OpenLists;
+use program::ending::{FAILED, end};
+use program::messages::{number_text, tell};
+use std::alloc::Global;
+use std::io::Write;
+
+/// Counts what the list gives the lines of the logs of these names, or of standard input if there is no name, prints
+/// the counts, and returns the exit status.
+pub(crate) fn tally_logs<L: OpenLists, W: Write, E: Write>(
+    alloc: Global,
+    join: &Join<'_>,
+    files: &[String],
+    lists: &L,
+    buffer: &mut [u8],
+    output: &mut Output<'_, W>,
+    errors: &mut Output<'_, E>,
+) -> u8
+    requires { 1048578 ≤ length buffer.old }
+    ensures { EndsTally join.now (L.known lists.now) (logs_of files.now)
+        (ending output.old output.new errors.old errors.new result) }
+{
+    let mut tally = Tally::new(alloc);
+    if !tally_each(alloc, join, files, lists, buffer, &mut tally, errors) {
+        return FAILED;
+    }
+    let Ok(rows) = tally.into_rows(alloc) else {
+        tell("out of memory\n", errors);
+        return FAILED;
+    };
+    let written = write_rows(rows.as_slice(), output);
+    end(written, 0, errors)
+}
+
+// Counts the lines of the logs of these names, or of standard input, and returns whether all came to their ends. If
+// not, the cause is reported.
+fn tally_each<L: OpenLists, E: Write>(
+    alloc: Global,
+    join: &Join<'_>,
+    files: &[String],
+    lists: &L,
+    buffer: &mut [u8],
+    tally: &mut Tally,
+    errors: &mut Output<'_, E>,
+) -> bool
+    requires { 1048578 ≤ length buffer.old }
+    ensures all { result ≡ true → (errors.new ≡ errors.old)
+        × CountsNames join.now (L.known lists.now) (logs_of files.now)
+        tally.old.counts tally.new.counts }
+    ensures stopped { result ≡ false
+        → TellsStop join.now (L.known lists.now) (logs_of files.now) errors.old errors.new }
+{
+    if files.is_empty() {
+        let input = "-";
+        return tally_one(alloc, join, input, lists, buffer, tally, errors);
+    }
+    for file in files {
+        let name = file.as_str();
+        if !tally_one(alloc, join, name, lists, buffer, tally, errors) {
+            return false;
+        }
+    }
+    true
+}
+
+// Opens the log of this name and counts its lines, and returns whether it came to its end. If not, the cause is
+// reported.
+fn tally_one<L: OpenLists, E: Write>(
+    alloc: Global,
+    join: &Join<'_>,
+    name: &str,
+    lists: &L,
+    buffer: &mut [u8],
+    tally: &mut Tally,
+    errors: &mut Output<'_, E>,
+) -> bool
+    requires { 1048578 ≤ length buffer.old }
+    ensures all { result ≡ true → (errors.new ≡ errors.old)
+        × CountsNames join.now (L.known lists.now) (name.now ∷ [])
+        tally.old.counts tally.new.counts }
+    ensures stopped { result ≡ false
+        → TellsStop join.now (L.known lists.now) (name.now ∷ []) errors.old errors.new }
+{
+    let mut count = 0;
+    let Ok(log) = lists.open(name) else {
+        tell_stop(name, TallyFault::Log(LogFault::Open), count, errors);
+        return false;
+    };
+    let mut log = Watched::new(log);
+    let end = tally_log(alloc, join, buffer, &mut log, tally, &mut count);
+    lists.close(name, log);
+    match end {
+        Ok(()) => true,
+        Err(fault) => {
+            tell_stop(name, fault, count, errors);
+            false
+        }
+    }
+}
+
+// Reports why the lines of a log were not counted to its end, after this many of them.
+fn tell_stop<E: Write>(name: &str, fault: TallyFault, lines: u64, errors: &mut Output<'_, E>)
+    ensures { Tells errors.old errors.new (tally_fault_text name.now lines fault) }
+{
+    match fault {
+        TallyFault::Log(fault) => tell_log_fault(name, fault, lines, errors),
+        TallyFault::OutOfMemory => tell("out of memory\n", errors),
+    }
+}
+
+// Writes what waits, and then these rows.
+fn write_rows<W: Write>(rows: &[Row], output: &mut Output<'_, W>) -> Result<(), RunFault>
+    ensures ok { OnOk result (Writes output.old output.new (rows_text (map row_of rows.now))) }
+    ensures failed { output.new.failed ≡ (output.old.failed || is_err result) }
+    ensures beginning { OnErr result
+        (FailsIn output.old output.new (rows_text (map row_of rows.now))) }
+{
+    put_rows(rows, output)?;
+    output.finish()
+}
+
+// Writes rows.
+fn put_rows<W: Write>(rows: &[Row], output: &mut Output<'_, W>) -> Result<(), RunFault>
+    ensures ok { OnOk result (Prints output.old output.new (rows_text (map row_of rows.now))) }
+    ensures failed { output.new.failed ≡ (output.old.failed || is_err result) }
+    ensures beginning { OnErr result
+        (FailsIn output.old output.new (rows_text (map row_of rows.now))) }
+{
+    for row in rows {
+        put_row(row, output)?;
+    }
+    Ok(())
+}
+
+// Writes a count, a tab, its text and a line feed.
+fn put_row<W: Write>(row: &Row, output: &mut Output<'_, W>) -> Result<(), RunFault>
+    ensures ok { OnOk result (Prints output.old output.new (row_text (row_of row.now))) }
+    ensures failed { output.new.failed ≡ (output.old.failed || is_err result) }
+    ensures beginning { OnErr result
+        (FailsIn output.old output.new (row_text (row_of row.now))) }
+{
+    let count = number_text(row.0.0);
+    put_four(
+        count.as_str().as_bytes(),
+        b"\t",
+        row.1.as_slice(),
+        b"\n",
+        output,
+    )
+}
+
+// Writes four texts.
+fn put_four<W: Write>(
+    first: &[u8],
+    second: &[u8],
+    third: &[u8],
+    fourth: &[u8],
+    output: &mut Output<'_, W>,
+) -> Result<(), RunFault>
+    ensures ok { OnOk result (Prints output.old output.new
+        ((first.now ++ second.now) ++ (third.now ++ fourth.now))) }
+    ensures failed { output.new.failed ≡ (output.old.failed || is_err result) }
+    ensures beginning { OnErr result (FailsIn output.old output.new
+        ((first.now ++ second.now) ++ (third.now ++ fourth.now))) }
+{
+    put_both(first, second, output)?;
+    put_both(third, fourth, output)
+}
