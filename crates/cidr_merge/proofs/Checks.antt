@@ -1,5 +1,5 @@
 -- What is found in lists, line by line and list by list.
-use Rattle.std.proofs.Common.{◌≡◌, ◌==◌, ◌+◌, ◌||◌, ◌<◌, ◌≤◌, ◌∙◌, ℕ, suc, Bool, true, false, not, List, [], ◌∷◌, ◌++◌, refl, sym, ap, subst, arith, length, map, take, get_or, append_assoc, append-nil, length-append, length-take}
+use Rattle.std.proofs.Common.{◌≡◌, ◌==◌, ◌+◌, ◌||◌, ◌<◌, ◌≤◌, ◌∙◌, ℕ, Bool, true, false, not, List, [], ◌∷◌, ◌++◌, refl, sym, ap, subst, arith, length, map, take, get_or, append_assoc, append-nil, length-append, length-take}
 use Rattle.std.specs.Prelude.{String}
 use Rattle.std.specs.List.{concat}
 use Rattle.std.specs.String.{string_bytes}

@@ -1,4 +1,4 @@
-use Rattle.std.proofs.Common.{◌+◌, arith, ap, length}
+use Rattle.std.proofs.Common.{arith, ap, length}
 use Rattle.cidr_merge.proofs.Checks.{none_told, told_more, all_told, nothing_left}
 use Rattle.cidr_merge.proofs.checking.check_list.Goals as goal
 

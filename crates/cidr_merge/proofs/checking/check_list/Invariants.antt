@@ -1,4 +1,4 @@
-use Rattle.std.proofs.Common.{◌≡◌, ◌≤◌, ◌+◌, ◌++◌, ℕ, List, length}
+use Rattle.std.proofs.Common.{◌≤◌, ◌+◌, length}
 use Rattle.cidr_merge.proofs.Checks.{Told}
 use Rattle.cidr_merge.proofs.checking.check_list.Given as goal
 
