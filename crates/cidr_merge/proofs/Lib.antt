@@ -1,8 +1,10 @@
+pub mod Cuts
 pub mod Examples
 pub mod ExportExamples
 pub mod ExportTexts
 pub mod Faults
 pub mod LawExamples
+pub mod Lengths
 pub mod Merging
 pub mod Names
 pub mod Options
@@ -12,6 +14,8 @@ pub mod Putting
 pub mod ReadInTurn
 pub mod Requests
 pub mod Runs
+pub mod SplitFaults
+pub mod Splitting
 pub mod Stopping
 pub mod Totals
 pub mod UsageExamples

@@ -17,10 +17,12 @@ use Rattle.program.specs.Told.{was_refused, fault_text, in_list, refusals_text}
 use Rattle.program.specs.Usage.{usage_text}
 use Rattle.lists.specs.declared.named.ReadFault.{ReadFault}
 use Rattle.cidr_merge.specs.Answers.{IsAnswer}
-use Rattle.cidr_merge.specs.CommandLines.{has, operation_named, options_of, lists_of, before_dashes, behind_dashes, are_options, are_lists, are_sides, usual_of, form_of, can_print, AreFor, Says, AreForNone}
+use Rattle.cidr_merge.specs.CommandLines.{has, stands, operation_named, options_of, lists_of, before_dashes, behind_dashes, are_options, are_lists, are_sides, usual_of, form_of, can_print, AreFor, Says, AreForNone}
 use Rattle.cidr_merge.specs.Parts.{UnionPrints, HaveLines, AreShort}
 use Rattle.cidr_merge.specs.Reading.{ReadsLists, ReadsSide, ReadsSides}
-use Rattle.cidr_merge.specs.Runs.{answer_status, WritesAnswer, FailsToWrite, StopsReading, EndsAnswering, EndsMerging, EndsAs}
+use Rattle.cidr_merge.specs.Runs.{answer_status, WritesAnswer, FailsToWrite, StopsReading, EndsAnswering, EndsMerging, EndsOperating}
+use Rattle.cidr_merge.specs.Endings.{EndsAs}
+use Rattle.cidr_merge.specs.Splits.{EndsSplit}
 use Rattle.cidr_merge.specs.Stopping.{Stops, StopsInSides}
 use Rattle.cidr_merge.specs.Usage.{problem_text, fault_in}
 use Rattle.cidr_merge.specs.declared.command_line.Form.TheVariants.{Blocks}
@@ -94,10 +96,15 @@ what_a_failed_writer_is end h = h
 
 pub what_a_run_does : {Z W E : Type 0} (program help version usage : List ℕ) (known : KnownLists) (words : List (String Z)) (end : Ending W E)
     → text_asked help version words ≡ None → EndsAs program help version usage known words end
+    → ((stands (codes "split") words 0 ≡ true) × EndsSplit program usage known words end)
+    ⊎ ((stands (codes "split") words 0 ≡ false) × EndsOperating program usage known words end)
+what_a_run_does program help version usage known words end e h = otherwise help version words _ end e h
+
+pub what_an_operation_does : {Z W E : Type 0} (program usage : List ℕ) (known : KnownLists) (words : List (String Z)) (end : Ending W E) → EndsOperating program usage known words end
     → ((request : Request) × AreFor words request.operation × Says words request × EndsMerging known words request end)
     ⊎ ((fault : UsageFault) × AreForNone words × (fault_in words ≡ Some fault) × (((end.output_after ≡ end.output) × (end.status ≡ 2))
     × HasTold end (usage_text program usage words fault.subject (problem_text fault.problem))))
-what_a_run_does program help version usage known words end e h = otherwise help version words _ end e h
+what_an_operation_does program usage known words end h = h
 
 -- ---- what the laws take: no more than this
 

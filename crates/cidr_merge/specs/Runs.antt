@@ -6,7 +6,6 @@ use Rattle.lines.specs.Outputs.{Written}
 use Rattle.program.specs.Endings.{Ending, IsSilent, Refuses, HasTold, HasWritten}
 use Rattle.lists.specs.KnownLists.{KnownLists}
 use Rattle.program.specs.Messages.{Tells}
-use Rattle.program.specs.Runs.{EndsRun}
 use Rattle.program.specs.Told.{was_refused, fault_text, in_list, refusals_text}
 use Rattle.lists.specs.declared.named.ReadFault.{ReadFault}
 use Rattle.cidr_merge.specs.Answers.{IsAnswer}
@@ -59,12 +58,11 @@ EndsMerging {Z} {W} {E} known words request end = (refused : Refused) × (told :
     × (StopsReading known words request refused (record end { errors = told })
     ⊎ ((first second : Sets) × ReadsSides known words request first second refused × EndsAnswering request (was_refused refused) first second (record end { errors = told })))
 
--- how a run ends of a program of this name, help, version and usage: with the help or the version, if the words ask for
--- it. Else they say a request, which is done, or something is wrong with them, and that and the usage are reported
-abbrev pub EndsAs : {Z W E : Type 0} → List ℕ → List ℕ → List ℕ → List ℕ → KnownLists
-    → List (String Z) → Ending W E → Type 0
-EndsAs program help version usage known words end = EndsRun help version words
-    (((request : Request) × AreFor words request.operation × Says words request
+-- an operation: the words say a request, which is done, or something is wrong with them, and that and the usage are
+-- reported
+abbrev pub EndsOperating : {Z W E : Type 0} → List ℕ → List ℕ → KnownLists → List (String Z) → Ending W E → Type 0
+EndsOperating program usage known words end =
+    ((request : Request) × AreFor words request.operation × Says words request
     × EndsMerging known words request end)
     ⊎ ((fault : UsageFault) × AreForNone words × (fault_in words ≡ Some fault)
-    × Refuses (usage_text program usage words fault.subject (problem_text fault.problem)) end)) end
+    × Refuses (usage_text program usage words fault.subject (problem_text fault.problem)) end)

@@ -4,6 +4,7 @@
 mod addresses;
 mod command_line;
 mod counts;
+mod cutting;
 mod elements;
 mod exporting;
 mod exports;
@@ -14,6 +15,8 @@ mod reading;
 mod run;
 mod side_parts;
 mod sides;
+mod split;
+mod split_words;
 mod sweep;
 mod usage;
 mod words;

@@ -43,6 +43,10 @@ pub enum Problem {
     EmptyFirstSide,
     /// No list stands after the `--`.
     EmptySecondSide,
+    /// A `split` has no `--prefix`.
+    NoPrefix,
+    /// The word after `--prefix` is not a prefix length.
+    NotALength,
 }
 
 impl Problem {
@@ -67,6 +71,8 @@ impl Problem {
             Problem::OneSide => "no second side",
             Problem::EmptyFirstSide => "no FILE before it",
             Problem::EmptySecondSide => "no FILE after it",
+            Problem::NoPrefix => "no --prefix",
+            Problem::NotALength => "not a prefix length",
         }
     }
 }
@@ -240,8 +246,8 @@ fn option_problem(text: &str) -> Problem
     }
 }
 
-// What is wrong with the names of the lists, of which the first is the word at the index `first`.
-fn lists_fault(lists: &[String], first: usize) -> Option<UsageFault>
+/// What is wrong with the names of the lists, of which the first is the word at the index `first`.
+pub(crate) fn lists_fault(lists: &[String], first: usize) -> Option<UsageFault>
     requires { first + length lists.now < 2 ^ 64 }
     ensures { result ≡ lists_fault first lists.now }
 {
@@ -267,8 +273,8 @@ fn name_problem(text: &str) -> Problem
     }
 }
 
-// What is wrong with the lists of the union, of which the first is the word at the index `first`.
-fn union_fault(lists: &[String], first: usize) -> Option<UsageFault>
+/// What is wrong with the lists of the union, of which the first is the word at the index `first`.
+pub(crate) fn union_fault(lists: &[String], first: usize) -> Option<UsageFault>
     requires { first + length lists.now < 2 ^ 64 }
     ensures { result ≡ union_fault first lists.now }
 {
