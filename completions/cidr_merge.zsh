@@ -8,9 +8,12 @@ if (( CURRENT == 2 )); then
         'differ[those of one side and not of both]' \
         'list[each address of any list]' \
         'split[the networks of any list, cut to a length]' \
+        'check[the wrong entries of the lists]' \
         '--help[print the help]' '--version[print the version]'
 elif [[ $words[2] == split ]]; then
     _arguments '--prefix[the prefix length]:length:' '*--skip-bad[pass over refused lines]' '*:list:_files'
+elif [[ $words[2] == check ]]; then
+    _files
 else
     _arguments '*--ranges[print ranges]' '*--count[print how many addresses]' \
         '--format[print as another program reads it]:form:(plain range netmask wildcard csv nft ipset json addresses)' \

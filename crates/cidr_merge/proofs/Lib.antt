@@ -1,8 +1,10 @@
+pub mod Checks
 pub mod Cuts
 pub mod Examples
 pub mod ExportExamples
 pub mod ExportTexts
 pub mod Faults
+pub mod Inspected
 pub mod LawExamples
 pub mod Lengths
 pub mod Merging
@@ -17,5 +19,7 @@ pub mod Runs
 pub mod SplitFaults
 pub mod Splitting
 pub mod Stopping
+pub mod TextLines
 pub mod Totals
 pub mod UsageExamples
+pub mod WholeLists

@@ -1,9 +1,9 @@
 -- What no other text is.
-use Rattle.std.proofs.Common.{◌≡◌, ◌≢◌, ℕ, List, false, codes}
+use Rattle.std.proofs.Common.{◌≡◌, ◌≢◌, ℕ, List, false, codes, refl}
 use Rattle.std.specs.Prelude.{bytes_eq}
 use Rattle.std.proofs.lemmas.Bool.{false_from_ne_true}
 use Rattle.std.proofs.lemmas.Slice.Eq.{bytes_eq-Decides}
-use Rattle.cidr_merge.specs.Laws.{NoOtherForm, NoOtherOperation, NoOtherOption}
+use Rattle.cidr_merge.specs.Laws.{NoOtherForm, NoOtherInspection, NoOtherOperation, NoOtherOption}
 
 apart : (text other : List ℕ) → text ≢ other → bytes_eq text other ≡ false
 apart text other ne = false_from_ne_true (bytes_eq text other) (λ e. ne ((bytes_eq-Decides text other).0 e))
@@ -29,3 +29,6 @@ no_other_form text plain range netmask wildcard csv nft ipset json addresses =
       apart text (codes "json") json,
       apart text (codes "addresses") addresses,
     )
+
+pub no_other_inspection : NoOtherInspection
+no_other_inspection text check = rw (apart text (codes "check") check) refl

@@ -1,7 +1,7 @@
 -- How a run ends.
 use Rattle.lines.specs.Outputs.{Written}
-use Rattle.std.proofs.Common.{◌≡◌, ◌==◌, List, Bool, not, sym, subst, inl, inr, length}
-use Rattle.std.specs.Prelude.{Result, Ok, Err, OnOk, IfErr, String, slice_range}
+use Rattle.std.proofs.Common.{◌≡◌, ◌==◌, ◌∙◌, ℕ, List, Bool, not, sym, subst, inl, inr, length}
+use Rattle.std.specs.Prelude.{Option, None, Some, Result, Ok, Err, OnOk, IfErr, String, slice_range}
 use Rattle.lists.specs.Lists.{nothing_read}
 use Rattle.lists.specs.Refusals.{Refused, no_refusals}
 use Rattle.program.specs.Endings.{Ending, IsSilent}
@@ -9,10 +9,13 @@ use Rattle.lists.specs.KnownLists.{KnownLists}
 use Rattle.program.specs.Messages.{Tells}
 use Rattle.program.specs.Told.{fault_text, in_list, refusals_text}
 use Rattle.cidr_merge.specs.Reading.{ReadsSide, ReadsSides}
-use Rattle.cidr_merge.specs.Runs.{EndsAnswering, EndsMerging}
+use Rattle.cidr_merge.specs.InspectionRuns.{EndsInspecting}
+use Rattle.cidr_merge.specs.Inspections.{inspection_of}
+use Rattle.cidr_merge.specs.Runs.{EndsAnswering, EndsMerging, EndsRequest, EndsCommand}
 use Rattle.cidr_merge.specs.Stopping.{Stops, StopsInSides}
 use Rattle.cidr_merge.specs.declared.command_line.Request.{Request}
 use Rattle.lists.specs.declared.named.ReadFault.{ReadFault}
+use Rattle.cidr_merge.specs.declared.inspections.Inspection.{Inspection}
 use Rattle.cidr_merge.specs.declared.reading.Sets.{Sets}
 use Rattle.cidr_merge.proofs.ReadInTurn.{slice_rest}
 
@@ -77,3 +80,13 @@ pub stopped : {Z W E T : Type 0} (read : Result T ReadFault) (known : KnownLists
     → Tells told end.errors_after (fault_text words fault) → EndsMerging known words request end
 stopped {Z} {W} {E} {T} read known words request refused fault end told e stops tells silent why =
     (refused, told, tells, inl (fault, subst (λ (r : Result T ReadFault). IfErr r (λ f. StopsInSides known words request f refused)) e stops, silent, why))
+
+module _ {Z W E : Type 0} (program usage : List ℕ) (known : KnownLists) (words : List (String Z)) (end : Ending W E) (asked : Option Inspection) (is : asked ≡ inspection_of words) where
+  -- the lists were looked over
+  pub inspected : (inspection : Inspection) → asked ≡ Some inspection → EndsInspecting program usage known words inspection end
+      → EndsCommand program usage known words (inspection_of words) end
+  inspected inspection e h = subst (λ i. EndsCommand program usage known words i end) (sym e ∙ is) h
+
+  -- or something else was done
+  pub requested : asked ≡ None → EndsRequest program usage known words end → EndsCommand program usage known words (inspection_of words) end
+  requested e h = subst (λ i. EndsCommand program usage known words i end) (sym e ∙ is) h

@@ -1,6 +1,7 @@
 -- What no other text is.
 use Rattle.std.specs.Prelude.{◌≡◌, ◌≢◌, ℕ, List, None, false, codes}
 use Rattle.cidr_merge.specs.CommandLines.{operation_called, form_called, is_option_text}
+use Rattle.cidr_merge.specs.Inspections.{inspection_called}
 
 -- no text but these five names an operation
 abbrev pub NoOtherOperation : Type 0
@@ -14,3 +15,7 @@ NoOtherOption = (text : List ℕ) → text ≢ codes "--ranges" → text ≢ cod
 abbrev pub NoOtherForm : Type 0
 NoOtherForm = (text : List ℕ) → text ≢ codes "plain" → text ≢ codes "range" → text ≢ codes "netmask" → text ≢ codes "wildcard"
     → text ≢ codes "csv" → text ≢ codes "nft" → text ≢ codes "ipset" → text ≢ codes "json" → text ≢ codes "addresses" → form_called text ≡ None
+
+-- no text but this one says to look lists over
+abbrev pub NoOtherInspection : Type 0
+NoOtherInspection = (text : List ℕ) → text ≢ codes "check" → inspection_called text ≡ None

@@ -3,6 +3,9 @@ pub mod Answers
 pub mod CommandLines
 pub mod Endings
 pub mod Exports
+pub mod Findings
+pub mod InspectionRuns
+pub mod Inspections
 pub mod Laws
 pub mod Parts
 pub mod Pieces
@@ -12,4 +15,6 @@ pub mod Runs
 pub mod SplitWords
 pub mod Splits
 pub mod Stopping
+pub mod Texts
 pub mod Usage
+pub mod Writing

@@ -1,4 +1,5 @@
 -- What the private functions promise each other, and how contracts see private fields.
+pub mod Devices
 pub mod Sweeps
 pub mod Totals
 pub mod Words

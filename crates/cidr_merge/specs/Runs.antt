@@ -1,5 +1,5 @@
 -- How a run ends: its exit status, what was written, and what was reported.
-use Rattle.std.specs.Prelude.{◌≡◌, ℕ, List, [], Bool, true, false, not, ◌&&◌, ◌⊎◌, Some, if◌then◌else◌, codes, String}
+use Rattle.std.specs.Prelude.{◌≡◌, ℕ, List, [], Bool, true, false, not, ◌&&◌, ◌⊎◌, Option, None, Some, if◌then◌else◌, codes, String}
 use Rattle.lists.specs.Refusals.{Refused}
 use Rattle.ipnetwork_sets.specs.Equality.{same_blocks}
 use Rattle.lines.specs.Outputs.{Written}
@@ -10,10 +10,14 @@ use Rattle.program.specs.Told.{was_refused, fault_text, in_list, refusals_text}
 use Rattle.lists.specs.declared.named.ReadFault.{ReadFault}
 use Rattle.cidr_merge.specs.Answers.{IsAnswer}
 use Rattle.cidr_merge.specs.CommandLines.{AreFor, AreForNone, Says}
+use Rattle.cidr_merge.specs.InspectionRuns.{EndsInspecting}
+use Rattle.cidr_merge.specs.Inspections.{inspection_of}
 use Rattle.cidr_merge.specs.Reading.{ReadsSides}
 use Rattle.cidr_merge.specs.Stopping.{StopsInSides}
 use Rattle.program.specs.Usage.{usage_text}
 use Rattle.cidr_merge.specs.Usage.{problem_text, fault_in}
+use Rattle.cidr_merge.specs.Writing.{FailsToWrite}
+use Rattle.cidr_merge.specs.declared.inspections.Inspection.{Inspection}
 use Rattle.cidr_merge.specs.declared.command_line.Operation.{Operation}
 use Rattle.cidr_merge.specs.declared.command_line.Operation.TheVariants.{Union, Common, Minus, Differ}
 use Rattle.cidr_merge.specs.declared.command_line.Request.{Request}
@@ -30,10 +34,6 @@ are_unequal Differ first second = not (same_blocks first.v4 second.v4 && same_bl
 -- the exit status of an answer: 3 if lines were skipped, else 1 if the sides of `differ` are not equal, else 0
 abbrev pub answer_status : Operation → Bool → Sets → Sets → ℕ
 answer_status operation skips first second = if skips then 3 else if are_unequal operation first second then 1 else 0
-
--- the writer failed
-abbrev pub FailsToWrite : {W E : Type 0} → Ending W E → Type 0
-FailsToWrite end = (end.output_after.failed ≡ true) × HasTold end (codes "write error\n") × (end.status ≡ 2)
 
 -- the answer was written, and nothing more was reported
 abbrev pub WritesAnswer : {W E : Type 0} → Request → Bool → Sets → Sets → Ending W E → Type 0
@@ -58,11 +58,15 @@ EndsMerging {Z} {W} {E} known words request end = (refused : Refused) × (told :
     × (StopsReading known words request refused (record end { errors = told })
     ⊎ ((first second : Sets) × ReadsSides known words request first second refused × EndsAnswering request (was_refused refused) first second (record end { errors = told })))
 
--- an operation: the words say a request, which is done, or something is wrong with them, and that and the usage are
--- reported
-abbrev pub EndsOperating : {Z W E : Type 0} → List ℕ → List ℕ → KnownLists → List (String Z) → Ending W E → Type 0
-EndsOperating program usage known words end =
+-- the words say a request, which is done, or something is wrong with them, and that and the usage are reported
+abbrev pub EndsRequest : {Z W E : Type 0} → List ℕ → List ℕ → KnownLists → List (String Z) → Ending W E → Type 0
+EndsRequest program usage known words end =
     ((request : Request) × AreFor words request.operation × Says words request
     × EndsMerging known words request end)
     ⊎ ((fault : UsageFault) × AreForNone words × (fault_in words ≡ Some fault)
     × Refuses (usage_text program usage words fault.subject (problem_text fault.problem)) end)
+
+-- the first word says to look lists over, or what to do with them else
+abbrev pub EndsCommand : {Z W E : Type 0} → List ℕ → List ℕ → KnownLists → List (String Z) → Option Inspection → Ending W E → Type 0
+EndsCommand program usage known words None end = EndsRequest program usage known words end
+EndsCommand program usage known words (Some inspection) end = EndsInspecting program usage known words inspection end

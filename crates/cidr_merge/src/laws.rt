@@ -1,6 +1,6 @@
 //! What follows from the clauses of a run. The contract of each function is a law: it does nothing, and a proof that
 //! calls it may use the law.
-ghost use Rattle.cidr_merge.specs.Laws.{NoOtherForm, NoOtherOperation, NoOtherOption};
+ghost use Rattle.cidr_merge.specs.Laws.{NoOtherForm, NoOtherInspection, NoOtherOperation, NoOtherOption};
 ghost use Rattle.cidr_merge.specs.Parts.{UnionsOfPartsPrintTheSame};
 
 use ipnetwork_blocks::laws as block_laws;
@@ -29,4 +29,9 @@ pub fn no_other_options()
 /// No word but `plain`, `range`, `netmask`, `wildcard`, `csv`, `nft`, `ipset`, `json` and `addresses` names a form.
 pub fn no_other_forms()
     ensures { NoOtherForm }
+{}
+
+/// No word but `check` says to look lists over.
+pub fn no_other_inspections()
+    ensures { NoOtherInspection }
 {}

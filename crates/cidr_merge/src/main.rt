@@ -2,13 +2,17 @@
 #![tactic(auto)]
 
 mod addresses;
+mod checking;
 mod command_line;
 mod counts;
 mod cutting;
 mod elements;
 mod exporting;
 mod exports;
+mod findings;
 mod help;
+mod inspecting;
+mod inspections;
 mod laws;
 mod printing;
 mod reading;
@@ -18,6 +22,8 @@ mod sides;
 mod split;
 mod split_words;
 mod sweep;
+mod text_lines;
+mod texts;
 mod usage;
 mod words;
 

@@ -5,13 +5,16 @@ ghost use Rattle.lines.specs.Outputs.{Writes};
 ghost use Rattle.cidr_merge.specs.Answers.{IsAnswer};
 ghost use Rattle.cidr_merge.specs.Private.Words.{IsWithin};
 ghost use Rattle.cidr_merge.specs.Endings.{EndsAs};
+ghost use Rattle.cidr_merge.specs.Inspections.{inspection_of};
 ghost use Rattle.cidr_merge.specs.Reading.{ReadsSides};
-ghost use Rattle.cidr_merge.specs.Runs.{answer_status, EndsAnswering, EndsMerging, EndsOperating};
+ghost use Rattle.cidr_merge.specs.Runs.{answer_status, EndsAnswering, EndsMerging, EndsCommand};
 ghost use Rattle.cidr_merge.specs.Stopping.{StopsInSides};
 ghost use Rattle.program.specs.Endings.{ending};
 
 use crate::command_line::{Operation, Request, request_of};
 use crate::help::{HELP, PROGRAM, USAGE, VERSION};
+use crate::inspecting::inspect;
+use crate::inspections::inspection_of;
 use crate::printing::print;
 use crate::reading::{Sets, read_side};
 use crate::split::split;
@@ -63,9 +66,12 @@ fn operate<L: OpenLists, W: Write, E: Write>(
     output: &mut Output<'_, W>,
     errors: &mut Output<'_, E>,
 ) -> u8
-    ensures { EndsOperating PROGRAM.now USAGE.now (L.known lists.now) words.now
-        (ending output.old output.new errors.old errors.new result) }
+    ensures { EndsCommand PROGRAM.now USAGE.now (L.known lists.now) words.now
+        (inspection_of words.now) (ending output.old output.new errors.old errors.new result) }
 {
+    if let Some(inspection) = inspection_of(words) {
+        return inspect(alloc, inspection, words, lists, output, errors);
+    }
     match request_of(words) {
         Ok(request) => merge(alloc, request, words, lists, output, errors),
         Err(fault) => {

@@ -235,8 +235,8 @@ fn is_exported(form: Form) -> bool
     }
 }
 
-// What is wrong with a text that is no option.
-fn option_problem(text: &str) -> Problem
+/// What is wrong with a text that is no option.
+pub(crate) fn option_problem(text: &str) -> Problem
     ensures { result ≡ option_problem text.now }
 {
     if text == "--" {

@@ -1,0 +1,48 @@
+-- How a run ends that looks lists over.
+use Rattle.std.specs.Prelude.{◌≡◌, ◌==◌, ◌⊎◌, ℕ, ◌+◌, Option, None, Some, List, [], length, if◌then◌else◌, String}
+use Rattle.std.specs.List.{concat}
+use Rattle.lists.specs.KnownLists.{KnownLists}
+use Rattle.lists.specs.declared.named.ReadFault.{ReadFault}
+use Rattle.program.specs.Endings.{Ending, Refuses, HasTold, HasWritten}
+use Rattle.program.specs.Told.{fault_text}
+use Rattle.program.specs.Usage.{usage_text}
+use Rattle.cidr_merge.specs.CommandLines.{options_of, lists_of}
+use Rattle.cidr_merge.specs.Findings.{ListsFindings}
+use Rattle.cidr_merge.specs.Inspections.{inspection_fault}
+use Rattle.cidr_merge.specs.Texts.{AreTexts, TextsStop}
+use Rattle.cidr_merge.specs.Usage.{problem_text}
+use Rattle.cidr_merge.specs.Writing.{FailsToWrite}
+use Rattle.cidr_merge.specs.declared.inspections.Inspection.{Inspection}
+use Rattle.cidr_merge.specs.declared.inspections.Inspection.TheVariants.{Check}
+use Rattle.cidr_merge.specs.declared.usage.UsageFault.{UsageFault}
+
+-- the exit status: 1 if there is a finding, and 0 if there is none
+abbrev pub findings_status : List (List ℕ) → ℕ
+findings_status findings = if length findings == 0 then 0 else 1
+
+-- the findings were written, and nothing was reported
+abbrev pub WritesFindings : {W E : Type 0} → List (List ℕ) → Ending W E → Type 0
+WritesFindings findings end = HasWritten end (concat findings) × HasTold end [] × (end.status ≡ findings_status findings)
+
+-- the wrong entries of lists of these names and bytes were, or the writer failed
+abbrev pub EndsChecking : {Z W E : Type 0} → List (String Z) → List (List ℕ) → Ending W E → Type 0
+EndsChecking names texts end = FailsToWrite end ⊎ ((findings : List (List ℕ)) × ListsFindings names texts findings × WritesFindings findings end)
+
+-- what there is to say of them was
+abbrev pub EndsFinding : {Z W E : Type 0} → Inspection → List (String Z) → List (List ℕ) → Ending W E → Type 0
+EndsFinding Check names texts end = EndsChecking names texts end
+
+-- a list was not read, nothing was written, and the cause was reported; or all were read
+abbrev pub EndsReading : {Z W E : Type 0} → KnownLists → List (String Z) → Inspection → Ending W E → Type 0
+EndsReading known words inspection end =
+    ((fault : ReadFault) × TextsStop known (1 + length (options_of words)) (lists_of words) fault × Refuses (fault_text words fault) end)
+    ⊎ ((texts : List (List ℕ)) × AreTexts known (lists_of words) texts × EndsFinding inspection (lists_of words) texts end)
+
+-- the lists are looked over, unless something is wrong with the words: that and the usage are reported
+abbrev pub EndsUnless : {Z W E : Type 0} → List ℕ → List ℕ → KnownLists → List (String Z) → Inspection → Option UsageFault → Ending W E → Type 0
+EndsUnless program usage known words inspection None end = EndsReading known words inspection end
+EndsUnless program usage known words inspection (Some fault) end = Refuses (usage_text program usage words fault.subject (problem_text fault.problem)) end
+
+abbrev pub EndsInspecting : {Z W E : Type 0} → List ℕ → List ℕ → KnownLists → List (String Z) → Inspection → Ending W E → Type 0
+EndsInspecting program usage known words inspection end =
+    EndsUnless program usage known words inspection (inspection_fault (options_of words) (lists_of words)) end

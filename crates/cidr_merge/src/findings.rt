@@ -1,0 +1,61 @@
+//! The lines that tell what was found in lists.
+ghost use Rattle.std.specs.Prelude.{◌≡◌};
+ghost use Rattle.program.specs.Messages.{Tells};
+ghost use Rattle.cidr_merge.specs.Findings.{place_text, refusal_text, shown, separator};
+
+use lines::output::Output;
+use lists::LineFault;
+use program::messages::{tell, tell_number};
+use std::io::Write;
+
+/// Tells why a line of the list of this name is refused, and the line.
+pub(crate) fn tell_wrong<W: Write>(
+    name: &str,
+    number: usize,
+    fault: LineFault,
+    line: &[u8],
+    output: &mut Output<'_, W>,
+)
+    ensures { Tells output.old output.new (refusal_text name.now number fault line.now) }
+{
+    let line = shown(fault, line);
+    tell_place(name, number, output);
+    tell(": refused ", output);
+    tell(fault.text(), output);
+    tell(separator(line), output);
+    tell_bytes(line, output);
+    tell("\n", output);
+}
+
+/// Tells where a line stands.
+pub(crate) fn tell_place<W: Write>(name: &str, number: usize, output: &mut Output<'_, W>)
+    ensures { Tells output.old output.new (place_text name.now number) }
+{
+    tell(name, output);
+    tell(":", output);
+    tell_number(number as u64, output);
+}
+
+// Tells these bytes. If that fails, now or earlier, they are lost, and nothing else happens.
+fn tell_bytes<W: Write>(bytes: &[u8], output: &mut Output<'_, W>)
+    ensures { Tells output.old output.new bytes.now }
+{
+    let _ = output.put(bytes);
+}
+
+// What is shown of a refused line: the line, unless it is too long.
+fn shown(fault: LineFault, line: &[u8]) -> &[u8]
+    ensures { result.now ≡ shown fault line.now }
+{
+    match fault {
+        LineFault::Entry(_) => line,
+        LineFault::Length => &line[..0],
+    }
+}
+
+// What stands between a fault and that.
+fn separator(line: &[u8]) -> &'static str
+    ensures { result.now ≡ separator line.now }
+{
+    if line.is_empty() { "" } else { ": " }
+}
