@@ -7,8 +7,11 @@ if (( CURRENT == 2 )); then
         'minus[those of the first side that the second has not]' \
         'differ[those of one side and not of both]' \
         'list[each address of any list]' \
+        'split[the networks of any list, cut to a length]' \
         'check[the wrong entries of the lists]' \
         '--help[print the help]' '--version[print the version]'
+elif [[ $words[2] == split ]]; then
+    _arguments '--prefix[the prefix length]:length:' '*--skip-bad[pass over refused lines]' '*:list:_files'
 elif [[ $words[2] == check ]]; then
     _files
 else

@@ -1,10 +1,12 @@
 pub mod Checks
+pub mod Cuts
 pub mod Examples
 pub mod ExportExamples
 pub mod ExportTexts
 pub mod Faults
 pub mod Inspected
 pub mod LawExamples
+pub mod Lengths
 pub mod Merging
 pub mod Names
 pub mod Options
@@ -14,6 +16,8 @@ pub mod Putting
 pub mod ReadInTurn
 pub mod Requests
 pub mod Runs
+pub mod SplitFaults
+pub mod Splitting
 pub mod Stopping
 pub mod TextLines
 pub mod Totals

@@ -17,13 +17,15 @@ use Rattle.program.specs.Told.{was_refused, fault_text, in_list, refusals_text}
 use Rattle.program.specs.Usage.{usage_text}
 use Rattle.lists.specs.declared.named.ReadFault.{ReadFault}
 use Rattle.cidr_merge.specs.Answers.{IsAnswer}
-use Rattle.cidr_merge.specs.CommandLines.{has, operation_named, options_of, lists_of, before_dashes, behind_dashes, are_options, are_lists, are_sides, usual_of, form_of, can_print, AreFor, Says, AreForNone}
+use Rattle.cidr_merge.specs.CommandLines.{has, stands, operation_named, options_of, lists_of, before_dashes, behind_dashes, are_options, are_lists, are_sides, usual_of, form_of, can_print, AreFor, Says, AreForNone}
+use Rattle.cidr_merge.specs.Endings.{EndsAs}
 use Rattle.cidr_merge.specs.Findings.{ListsFindings}
 use Rattle.cidr_merge.specs.InspectionRuns.{EndsUnless}
 use Rattle.cidr_merge.specs.Inspections.{inspection_of, inspection_fault}
 use Rattle.cidr_merge.specs.Parts.{UnionPrints, HaveLines, AreShort}
 use Rattle.cidr_merge.specs.Reading.{ReadsLists, ReadsSide, ReadsSides}
-use Rattle.cidr_merge.specs.Runs.{answer_status, WritesAnswer, StopsReading, EndsAnswering, EndsMerging, EndsCommand, EndsAs}
+use Rattle.cidr_merge.specs.Runs.{answer_status, WritesAnswer, StopsReading, EndsAnswering, EndsMerging, EndsCommand}
+use Rattle.cidr_merge.specs.Splits.{EndsSplit}
 use Rattle.cidr_merge.specs.Stopping.{Stops, StopsInSides}
 use Rattle.cidr_merge.specs.Texts.{AreTexts, TextsStop}
 use Rattle.cidr_merge.specs.Usage.{problem_text, fault_in}
@@ -99,20 +101,25 @@ pub what_a_failed_writer_is : {W E : Type 0} (end : Ending W E) → FailsToWrite
 what_a_failed_writer_is end h = h
 
 pub what_a_run_does : {Z W E : Type 0} (program help version usage : List ℕ) (known : KnownLists) (words : List (String Z)) (end : Ending W E)
-    → text_asked help version words ≡ None → inspection_of words ≡ None → EndsAs program help version usage known words end
+    → text_asked help version words ≡ None → EndsAs program help version usage known words end
+    → ((stands (codes "split") words 0 ≡ true) × EndsSplit program usage known words end)
+    ⊎ ((stands (codes "split") words 0 ≡ false) × EndsCommand program usage known words (inspection_of words) end)
+what_a_run_does program help version usage known words end e h = otherwise help version words _ end e h
+
+pub what_an_operation_does : {Z W E : Type 0} (program usage : List ℕ) (known : KnownLists) (words : List (String Z)) (end : Ending W E)
+    → inspection_of words ≡ None → EndsCommand program usage known words (inspection_of words) end
     → ((request : Request) × AreFor words request.operation × Says words request × EndsMerging known words request end)
     ⊎ ((fault : UsageFault) × AreForNone words × (fault_in words ≡ Some fault) × (((end.output_after ≡ end.output) × (end.status ≡ 2))
     × HasTold end (usage_text program usage words fault.subject (problem_text fault.problem))))
-what_a_run_does program help version usage known words end e f h =
-    subst (λ i. EndsCommand program usage known words i end) f (otherwise help version words _ end e h)
+what_an_operation_does program usage known words end f h = subst (λ i. EndsCommand program usage known words i end) f h
 
-pub what_a_check_does : {Z W E : Type 0} (program help version usage : List ℕ) (known : KnownLists) (words : List (String Z)) (end : Ending W E)
-    → text_asked help version words ≡ None → inspection_of words ≡ Some Check → inspection_fault (options_of words) (lists_of words) ≡ None → EndsAs program help version usage known words end
+pub what_a_check_does : {Z W E : Type 0} (program usage : List ℕ) (known : KnownLists) (words : List (String Z)) (end : Ending W E)
+    → inspection_of words ≡ Some Check → inspection_fault (options_of words) (lists_of words) ≡ None → EndsCommand program usage known words (inspection_of words) end
     → ((fault : ReadFault) × TextsStop known (1 + length (options_of words)) (lists_of words) fault × (((end.output_after ≡ end.output) × (end.status ≡ 2)) × HasTold end (fault_text words fault)))
     ⊎ ((texts : List (List ℕ)) × AreTexts known (lists_of words) texts × (FailsToWrite end ⊎ ((findings : List (List ℕ)) × ListsFindings (lists_of words) texts findings
     × (HasWritten end (concat findings) × HasTold end [] × (end.status ≡ (if length findings == 0 then 0 else 1))))))
-what_a_check_does program help version usage known words end e f g h =
-    subst (λ r. EndsUnless program usage known words Check r end) g (subst (λ i. EndsCommand program usage known words i end) f (otherwise help version words _ end e h))
+what_a_check_does program usage known words end f g h =
+    subst (λ r. EndsUnless program usage known words Check r end) g (subst (λ i. EndsCommand program usage known words i end) f h)
 
 -- ---- what the laws take: no more than this
 

@@ -6,7 +6,6 @@ use Rattle.lines.specs.Outputs.{Written}
 use Rattle.program.specs.Endings.{Ending, IsSilent, Refuses, HasTold, HasWritten}
 use Rattle.lists.specs.KnownLists.{KnownLists}
 use Rattle.program.specs.Messages.{Tells}
-use Rattle.program.specs.Runs.{EndsRun}
 use Rattle.program.specs.Told.{was_refused, fault_text, in_list, refusals_text}
 use Rattle.lists.specs.declared.named.ReadFault.{ReadFault}
 use Rattle.cidr_merge.specs.Answers.{IsAnswer}
@@ -71,9 +70,3 @@ EndsRequest program usage known words end =
 abbrev pub EndsCommand : {Z W E : Type 0} → List ℕ → List ℕ → KnownLists → List (String Z) → Option Inspection → Ending W E → Type 0
 EndsCommand program usage known words None end = EndsRequest program usage known words end
 EndsCommand program usage known words (Some inspection) end = EndsInspecting program usage known words inspection end
-
--- how a run ends of a program of this name, help, version and usage: with the help or the version, if the words ask for
--- it, and else with what its first word says
-abbrev pub EndsAs : {Z W E : Type 0} → List ℕ → List ℕ → List ℕ → List ℕ → KnownLists
-    → List (String Z) → Ending W E → Type 0
-EndsAs program help version usage known words end = EndsRun help version words (EndsCommand program usage known words (inspection_of words) end) end

@@ -31,6 +31,8 @@ problem_text problems.NoList = codes "no FILE"
 problem_text problems.OneSide = codes "no second side"
 problem_text problems.EmptyFirstSide = codes "no FILE before it"
 problem_text problems.EmptySecondSide = codes "no FILE after it"
+problem_text problems.NoPrefix = codes "no --prefix"
+problem_text problems.NotALength = codes "not a prefix length"
 
 -- there is no word
 abbrev pub no_operation : UsageFault

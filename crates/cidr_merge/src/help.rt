@@ -9,6 +9,7 @@ Merges lists of IP networks, and prints the shortest list with exactly the addre
     cidr_merge minus  [OPTION..] FILE.. -- FILE..   of the first side and not of the second
     cidr_merge differ [OPTION..] FILE.. -- FILE..   what one side has and the other has not
     cidr_merge list   [OPTION..] FILE..             each address of any of the files
+    cidr_merge split --prefix N [--skip-bad] FILE.. the networks of union, cut into those of length N
     cidr_merge check  FILE..                        the wrong entries, each with its file and line
 
     --ranges       print FIRST - LAST for each run of addresses
@@ -22,10 +23,11 @@ A FILE is a name, or - for standard input. A line has a network (10.0.0.0/8, 10.
 or nothing; # and ; begin a comment. Host bits are dropped. A line has at most 1,024 bytes.
 The result is in ascending order, IPv4 first. differ puts < before what only the first side has, and > before what only
 the second has. A refused line is reported as FILE:LINE: refused format, address, prefix, range or length. check prints
-that for each, and the line behind it.
+that for each, and the line behind it. split leaves longer networks whole, and those of IPv4 if N is above 32, and
+prints no more than a million.
 
 Status: 0; 1 if the sides of differ are not equal, or check found something; 2 on wrong usage, a refused line, a file
-that cannot be read, a failed write or out of memory; 3 if lines were skipped.
+that cannot be read, too many networks of split, a failed write or out of memory; 3 if lines were skipped.
 
 Examples:
     cidr_merge union office.txt vpn.txt
@@ -41,4 +43,4 @@ pub(crate) const PROGRAM: &str = "cidr_merge";
 
 /// What is reported for arguments that are not a command, after what is wrong with them.
 pub(crate) const USAGE: &str =
-    "usage: cidr_merge union|common|minus|differ|list|check [OPTION..] FILE.. [-- FILE..]; try --help\n";
+    "usage: cidr_merge union|common|minus|differ|list|split|check [OPTION..] FILE.. [-- FILE..]; try --help\n";

@@ -4,8 +4,10 @@ ghost use Rattle.std.specs.Io.KnownBytes.{Appends};
 ghost use Rattle.lines.specs.Outputs.{Writes};
 ghost use Rattle.cidr_merge.specs.Answers.{IsAnswer};
 ghost use Rattle.cidr_merge.specs.Private.Words.{IsWithin};
+ghost use Rattle.cidr_merge.specs.Endings.{EndsAs};
+ghost use Rattle.cidr_merge.specs.Inspections.{inspection_of};
 ghost use Rattle.cidr_merge.specs.Reading.{ReadsSides};
-ghost use Rattle.cidr_merge.specs.Runs.{answer_status, EndsAnswering, EndsMerging, EndsAs};
+ghost use Rattle.cidr_merge.specs.Runs.{answer_status, EndsAnswering, EndsMerging, EndsCommand};
 ghost use Rattle.cidr_merge.specs.Stopping.{StopsInSides};
 ghost use Rattle.program.specs.Endings.{ending};
 
@@ -15,6 +17,8 @@ use crate::inspecting::inspect;
 use crate::inspections::inspection_of;
 use crate::printing::print;
 use crate::reading::{Sets, read_side};
+use crate::split::split;
+use crate::words::stands;
 use lines::fault::RunFault;
 use lines::output::Output;
 use lists::{OpenLists, ReadFault, Refusals};
@@ -48,6 +52,23 @@ pub(crate) fn run<L: OpenLists, W: Write, E: Write>(
     if let Some(text) = text_asked(HELP, VERSION, words) {
         return print_text(text, output, errors);
     }
+    if stands(words, 0, "split") {
+        return split(alloc, words, lists, output, errors);
+    }
+    operate(alloc, words, lists, output, errors)
+}
+
+// Does the operation that the words ask for, and returns the exit status.
+fn operate<L: OpenLists, W: Write, E: Write>(
+    alloc: Global,
+    words: &[String],
+    lists: &L,
+    output: &mut Output<'_, W>,
+    errors: &mut Output<'_, E>,
+) -> u8
+    ensures { EndsCommand PROGRAM.now USAGE.now (L.known lists.now) words.now
+        (inspection_of words.now) (ending output.old output.new errors.old errors.new result) }
+{
     if let Some(inspection) = inspection_of(words) {
         return inspect(alloc, inspection, words, lists, output, errors);
     }

@@ -43,6 +43,10 @@ pub enum Problem {
     EmptyFirstSide,
     /// No list stands after the `--`.
     EmptySecondSide,
+    /// A `split` has no `--prefix`.
+    NoPrefix,
+    /// The word after `--prefix` is not a prefix length.
+    NotALength,
 }
 
 impl Problem {
@@ -67,6 +71,8 @@ impl Problem {
             Problem::OneSide => "no second side",
             Problem::EmptyFirstSide => "no FILE before it",
             Problem::EmptySecondSide => "no FILE after it",
+            Problem::NoPrefix => "no --prefix",
+            Problem::NotALength => "not a prefix length",
         }
     }
 }

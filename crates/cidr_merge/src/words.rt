@@ -2,15 +2,22 @@
 ghost use Rattle.std.specs.Prelude.{◌≡◌, ◌≤◌, false, length, nat_lt};
 ghost use Rattle.std.specs.List.{position_or_len};
 ghost use Rattle.program.specs.Words.{is, count};
-ghost use Rattle.cidr_merge.specs.CommandLines.{has, is_dashed, belongs, options_len};
+ghost use Rattle.cidr_merge.specs.CommandLines.{has, stands, begins_dashed, is_dashed, belongs, options_len};
 
-use program::words::{count_of, is};
+use program::words::{count_of, is, text_at};
 
 /// Whether a word among these is this text.
 pub(crate) fn has(words: &[String], text: &str) -> bool
     ensures { result ≡ has text.now words.now }
 {
     count_of(words, text) > 0
+}
+
+/// Whether there is a word at this index, and it is this text.
+pub(crate) fn stands(words: &[String], place: usize, text: &str) -> bool
+    ensures { result ≡ stands text.now words.now place }
+{
+    place < words.len() && text_at(words, place) == text
 }
 
 /// Whether more than one of these words is this text.
@@ -36,7 +43,14 @@ pub(crate) fn place_of(words: &[String], text: &str) -> usize
 pub(crate) fn is_dashed(word: &String) -> bool
     ensures { result ≡ is_dashed word.now }
 {
-    match word.as_bytes() {
+    begins_dashed(word.as_str())
+}
+
+/// Whether a text begins with a `-`, and is not only that.
+pub(crate) fn begins_dashed(text: &str) -> bool
+    ensures { result ≡ begins_dashed text.now }
+{
+    match text.as_bytes() {
         [] => false,
         [byte, bytes @ ..] => !bytes.is_empty() && *byte == b'-',
     }

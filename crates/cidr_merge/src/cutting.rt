@@ -1,0 +1,113 @@
+//! Cuts networks into those of one prefix length.
+ghost use Rattle.std.specs.Prelude.{◌≡◌, ◌≤◌, ◌-◌, ◌^◌, ◌||◌, min, OnOk, is_err};
+ghost use Rattle.std.specs.List.{flat_map};
+ghost use Rattle.lines.specs.Outputs.{Prints};
+ghost use Rattle.cidr_merge.specs.Pieces.{network_line, pieces_text, piece_count, all_pieces_count, too_many_text};
+
+use arrayvec::ArrayString;
+use ipnetwork::{Address, CidrNetwork, Network};
+use ipnetwork_addr::decimal::push_number;
+use ipnetwork_blocks::{AddressSpace, SubnetIterator, subnets};
+use ipnetwork_sets::AddressSet;
+use lines::fault::RunFault;
+use lines::output::Output;
+use std::io::Write;
+
+/// Prints the pieces of this prefix length of each block of a set.
+pub(crate) fn print_pieces<A: Address, W: Write>(
+    length: u8,
+    set: &AddressSet<Network<A>>,
+    output: &mut Output<'_, W>,
+) -> Result<(), RunFault>
+    ensures text { OnOk result (Prints output.old output.new
+        (flat_map (pieces_text A.family length) set.now)) }
+    ensures failed { output.new.failed ≡ (output.old.failed || is_err result) }
+{
+    let mut blocks = set.iter();
+    while let Some(block) = blocks.next() {
+        print_block(length, block, output)?;
+    }
+    Ok(())
+}
+
+// Prints the pieces of a block.
+fn print_block<A: Address, W: Write>(
+    length: u8,
+    block: Network<A>,
+    output: &mut Output<'_, W>,
+) -> Result<(), RunFault>
+    ensures text { OnOk result (Prints output.old output.new (pieces_text A.family length block)) }
+    ensures failed { output.new.failed ≡ (output.old.failed || is_err result) }
+{
+    match subnets(block, length) {
+        Some(pieces) => print_networks(pieces, output),
+        None => put_network(block, output),
+    }
+}
+
+// Prints networks, each on a line.
+fn print_networks<A: Address, W: Write>(
+    mut networks: SubnetIterator<Network<A>>,
+    output: &mut Output<'_, W>,
+) -> Result<(), RunFault>
+    ensures text { OnOk result (Prints output.old output.new
+        (flat_map (network_line A.family) networks)) }
+    ensures failed { output.new.failed ≡ (output.old.failed || is_err result) }
+{
+    while let Some(network) = networks.next() {
+        put_network(network, output)?;
+    }
+    Ok(())
+}
+
+// Prints a network on a line.
+fn put_network<A: Address, W: Write>(
+    network: Network<A>,
+    output: &mut Output<'_, W>,
+) -> Result<(), RunFault>
+    ensures text { OnOk result (Prints output.old output.new (network_line A.family network)) }
+    ensures failed { output.new.failed ≡ (output.old.failed || is_err result) }
+{
+    output.put(network.canonical().as_str().as_bytes())?;
+    output.put(b"\n")
+}
+
+/// How many pieces of this prefix length the blocks of a set have, or the greatest number of 128 bits.
+pub(crate) fn count_pieces<N: AddressSpace>(length: u8, set: &AddressSet<N>) -> u128
+    ensures { result ≡ min (all_pieces_count N.WIDTH length set.now) (2 ^ 128 - 1) }
+{
+    let mut count = 0u128;
+    let mut blocks = set.iter();
+    while let Some(block) = blocks.next() {
+        count = count.saturating_add(count_of_block(length, block));
+    }
+    count
+}
+
+// How many pieces a block has, or the greatest number of 128 bits.
+fn count_of_block<N: AddressSpace>(length: u8, block: N) -> u128
+    ensures { result ≡ min (piece_count N.WIDTH length (N.pair block)) (2 ^ 128 - 1) }
+{
+    if length < block.prefix() || N::WIDTH < length {
+        return 1;
+    }
+    let bits = length - block.prefix();
+    if bits >= 128 {
+        return u128::MAX;
+    }
+    1 << bits
+}
+
+/// What is reported of so many networks.
+pub(crate) fn too_many_text(count: u128) -> ArrayString<80>
+    ensures { result.bytes ≡ too_many_text count }
+{
+    let mut text = ArrayString::new();
+    text.push_str("split would print ");
+    push_number(&mut text, count);
+    if count == u128::MAX {
+        text.push_str(" or more");
+    }
+    text.push_str(" networks\n");
+    text
+}

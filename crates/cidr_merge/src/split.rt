@@ -1,0 +1,118 @@
+//! The run of a `split`.
+ghost use Rattle.std.specs.Prelude.{◌≡◌, ◌≤◌, length, min, ◌-◌, ◌^◌, OnOk, is_err};
+ghost use Rattle.lines.specs.Outputs.{Writes};
+ghost use Rattle.cidr_merge.specs.Pieces.{split_text, split_count};
+ghost use Rattle.cidr_merge.specs.Splits.{EndsSplit, EndsSplitting, EndsCutting};
+ghost use Rattle.program.specs.Endings.{ending};
+
+use crate::cutting::{count_pieces, print_pieces, too_many_text};
+use crate::help::{PROGRAM, USAGE};
+use crate::reading::{Sets, read_side};
+use crate::split_words::{SplitRequest, split_request};
+use lines::fault::RunFault;
+use lines::output::Output;
+use lists::{OpenLists, Refusals};
+use program::ending::{FAILED, end};
+use program::messages::tell;
+use program::telling::{InLists, tell_fault, tell_refusals};
+use program::usage::refuse_usage;
+use std::alloc::Global;
+use std::io::Write;
+
+/// The most networks that are printed.
+const PIECES_MAX: u128 = 1_000_000;
+
+/// Does what the words after the program's name ask for, of which the first is `split`, and returns the exit status.
+pub(crate) fn split<L: OpenLists, W: Write, E: Write>(
+    alloc: Global,
+    words: &[String],
+    lists: &L,
+    output: &mut Output<'_, W>,
+    errors: &mut Output<'_, E>,
+) -> u8
+    ensures { EndsSplit PROGRAM.now USAGE.now (L.known lists.now) words.now
+        (ending output.old output.new errors.old errors.new result) }
+{
+    match split_request(words) {
+        Ok(request) => split_lists(alloc, request, words, lists, output, errors),
+        Err(fault) => {
+            let problem = fault.problem.text();
+            refuse_usage(PROGRAM, USAGE, words, fault.subject, problem, errors)
+        }
+    }
+}
+
+// Reads the lists, and prints the pieces of their networks.
+fn split_lists<L: OpenLists, W: Write, E: Write>(
+    alloc: Global,
+    request: SplitRequest,
+    words: &[String],
+    lists: &L,
+    output: &mut Output<'_, W>,
+    errors: &mut Output<'_, E>,
+) -> u8
+    requires { request.first ≤ length words.now }
+    ensures { EndsSplitting (L.known lists.now) words.now request
+        (ending output.old output.new errors.old errors.new result) }
+{
+    let (sets, refusals, read) = read_side(
+        alloc,
+        lists,
+        words,
+        request.first,
+        words.len(),
+        Refusals::new(),
+    );
+    tell_refusals(words, &InLists, &refusals, errors);
+    match read {
+        Ok(()) => print_split(request, !refusals.is_empty(), &sets, output, errors),
+        Err(fault) => {
+            tell_fault(words, fault, errors);
+            FAILED
+        }
+    }
+}
+
+// Prints the pieces of the networks, unless lines were refused that are not to be skipped, or there are too many.
+fn print_split<W: Write, E: Write>(
+    request: SplitRequest,
+    skips: bool,
+    sets: &Sets,
+    output: &mut Output<'_, W>,
+    errors: &mut Output<'_, E>,
+) -> u8
+    ensures { EndsCutting request skips sets.now
+        (ending output.old output.new errors.old errors.new result) }
+{
+    if skips && !request.skips_bad {
+        return FAILED;
+    }
+    let count = count_split(request.length, sets);
+    if count > PIECES_MAX {
+        tell(too_many_text(count).as_str(), errors);
+        return FAILED;
+    }
+    let written = write_split(request.length, sets, output);
+    end(written, if skips { 3 } else { 0 }, errors)
+}
+
+// How many networks there are to print, or the greatest number of 128 bits.
+fn count_split(length: u8, sets: &Sets) -> u128
+    ensures { result ≡ min (split_count length sets.now) (2 ^ 128 - 1) }
+{
+    count_pieces(length, &sets.v4).saturating_add(count_pieces(length, &sets.v6))
+}
+
+// Writes the pieces of the networks of both families.
+fn write_split<W: Write>(
+    length: u8,
+    sets: &Sets,
+    output: &mut Output<'_, W>,
+) -> Result<(), RunFault>
+    ensures written { OnOk result (Writes output.old output.new (split_text length sets.now)) }
+    ensures failed { output.new.failed ≡ is_err result }
+{
+    print_pieces(length, &sets.v4, output)?;
+    print_pieces(length, &sets.v6, output)?;
+    output.finish()
+}

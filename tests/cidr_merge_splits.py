@@ -1,0 +1,90 @@
+"""Rows of `tests/cidr_merge` for `split`, beside Python's `ipaddress`: a name, what a run gave and what is wanted, which is
+the status, standard output and standard error."""
+
+import ipaddress
+import os
+import random
+import subprocess
+
+SECONDS = 60
+LIMIT = 1000000
+
+
+def run(program, words, folder, data=b""):
+    pipes = {"stdout": subprocess.PIPE, "stderr": subprocess.PIPE}
+    done = subprocess.run([program, *words], input=data, cwd=folder, timeout=SECONDS, **pipes)
+    return done.returncode, done.stdout, done.stderr
+
+
+def made_up(rng, shortest=(8, 24), longest=(32, 128)):
+    """Networks of both families, close to each other."""
+    nets = []
+    for _ in range(rng.randrange(1, 30)):
+        version = rng.choice((4, 6))
+        bits = 32 if version == 4 else 128
+        length = rng.randrange(shortest[version == 6], longest[version == 6] + 1)
+        address = rng.randrange(16) << (bits - 8) | rng.randrange(2**8) << (bits - length)
+        kind = ipaddress.IPv4Network if version == 4 else ipaddress.IPv6Network
+        nets.append(kind((address % 2**bits, length), strict=False))
+    return nets
+
+
+def least(nets):
+    """The shortest list with the addresses of these networks, IPv4 first."""
+    return [net for version in (4, 6) for net in ipaddress.collapse_addresses(net for net in nets if net.version == version)]
+
+
+def size(net, length):
+    """How many networks of this prefix length a network is cut into."""
+    return 2 ** (length - net.prefixlen) if net.prefixlen <= length <= net.max_prefixlen else 1
+
+
+def cut(net, length):
+    return net.subnets(new_prefix=length) if net.prefixlen <= length <= net.max_prefixlen else [net]
+
+
+def splits(program, folder):
+    """Lists that are split, and those of which too much would be printed."""
+    for seed in range(120):
+        rng = random.Random(seed)
+        nets = made_up(rng)
+        length = rng.choice((rng.randrange(129), rng.randrange(16, 30)))
+        with open(os.path.join(folder, "made_up"), "w") as file:
+            file.write("".join(f"{net}\n" for net in nets))
+        count = sum(size(net, length) for net in least(nets))
+        wanted = (2, b"", f"split would print {count} networks\n".encode())
+        if count <= LIMIT:
+            parts = (part for net in least(nets) for part in cut(net, length))
+            wanted = (0, "".join(f"{part}\n" for part in parts).encode(), b"")
+        yield f"split --prefix {length}, seed {seed}", run(program, ["split", "--prefix", str(length), "made_up"], folder), wanted
+    for nets, length, count in [
+        ("0.0.0.0/0", 19, 2**19),
+        ("0.0.0.0/0\n::/0\n", 19, 2**20),
+        ("0.0.0.0/0", 20, 2**20),
+        ("0.0.0.0/12\n0.240.0.0/13\n", 32, 2**20 + 2**19),
+        ("::/1\n8000::/2\n", 128, 2**127 + 2**126),
+        ("10.0.0.0-10.15.66.63", 32, LIMIT),
+        ("10.0.0.0-10.15.66.64", 32, LIMIT + 1),
+    ]:
+        with open(os.path.join(folder, "made_up"), "w") as file:
+            file.write(nets)
+        status, output, error = run(program, ["split", "--prefix", str(length), "made_up"], folder)
+        got = status, len(output.splitlines()), error
+        wanted = (0, count, b"") if count <= LIMIT else (2, 0, f"split would print {count} networks\n".encode())
+        yield f"split --prefix {length} of {nets!r}", got, wanted
+    got = run(program, ["split", "--prefix", "128", "-"], folder, b"::/0\n")
+    yield "split of every address", got, (2, b"", b"split would print 340282366920938463463374607431768211455 or more networks\n")
+    with open(os.path.join(folder, "made_up"), "w") as file:
+        file.write("10.0.0.0/8\nx\n")
+    refused = b"made_up:2: refused address\n"
+    for words, wanted in [
+        ("split --prefix 9 made_up", (2, b"", refused)),
+        ("split --prefix 9 --skip-bad made_up", (3, b"10.0.0.0/9\n10.128.0.0/9\n", refused)),
+        ("split --skip-bad --prefix 9 made_up", (3, b"10.0.0.0/9\n10.128.0.0/9\n", refused)),
+        ("split --prefix 9 none", (2, b"", b"none: cannot open\n")),
+        ("split --prefix 9 .", (2, b"", b".: cannot read\n")),
+    ]:
+        yield words, run(program, words.split(), folder), wanted
+    with open("/dev/full", "wb") as full:
+        done = subprocess.run([program, *"split --prefix 9 --skip-bad made_up".split()], cwd=folder, stdout=full, stderr=subprocess.PIPE)
+    yield "split with a full device", (done.returncode, done.stderr), (2, refused + b"write error\n")
