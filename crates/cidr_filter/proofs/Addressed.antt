@@ -9,7 +9,7 @@ use Rattle.cidr_filter.specs.Addressed.{is_addressed, any_addressed, is_addresse
 use Rattle.cidr_filter.specs.Filters.{FirstListed, IsVerdict, addresses_in}
 use Rattle.cidr_filter.specs.Lines.{LogLine, content}
 use Rattle.cidr_filter.specs.declared.filter.Filter.{Filter}
-use Rattle.cidr_filter.specs.declared.filter.Place.{Place}
+use Rattle.line_addresses.specs.declared.place.Place.{Place}
 use Rattle.cidr_filter.specs.declared.filter.Verdict.{Verdict}
 use Rattle.cidr_filter.specs.declared.filter.Verdict.TheVariants as verdicts
 use Rattle.cidr_filter.proofs.Failing.{or_none, or_assoc}

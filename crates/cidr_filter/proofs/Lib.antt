@@ -13,7 +13,6 @@ pub mod LogParts
 pub mod LogsInTurn
 pub mod OneOutput
 pub mod OptionExamples
-pub mod Parts
 pub mod ReadInTurn
 pub mod Requests
 pub mod Runs

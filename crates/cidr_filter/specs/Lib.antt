@@ -2,7 +2,6 @@
 pub mod Addressed
 pub mod Arranged
 pub mod CommandLines
-pub mod Fields
 pub mod Filters
 pub mod Laws
 pub mod Lines

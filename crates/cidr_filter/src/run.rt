@@ -6,12 +6,13 @@ ghost use Rattle.cidr_filter.specs.Runs.{EndsRequest, EndsAsked, EndsAs, place_o
 
 use crate::arranging::arranged;
 use crate::command_line::{Request, request_of};
-use crate::filter::{Filter, LINE_MAX, Place, Text};
+use crate::filter::{Filter, LINE_MAX};
 use crate::help::{HELP, PROGRAM, USAGE, VERSION};
 use crate::logs::filter_logs;
 use crate::options::text_after;
 use crate::reading::read_listed;
 use crate::telling::InOptions;
+use line_addresses::{Place, Text};
 use lines::output::Output;
 use lists::OpenLists;
 use program::ending::{FAILED, print_text};

@@ -9,7 +9,6 @@ pub mod LogsInTurn
 pub mod Marks
 pub mod OneOutput
 pub mod OptionValues
-pub mod Parts
 pub mod Requests
 pub mod Runs
 pub mod Stopping

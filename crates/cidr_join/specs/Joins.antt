@@ -7,12 +7,12 @@ use Rattle.line_addresses.specs.Addresses.{Spelled, address_of, addresses_of}
 use Rattle.line_addresses.specs.Following.{following}
 use Rattle.line_addresses.specs.Mapped.{unmapped}
 use Rattle.line_addresses.specs.Words.{words_of}
-use Rattle.cidr_join.specs.Fields.{field_of}
+use Rattle.line_addresses.specs.Fields.{field_of}
 use Rattle.cidr_join.specs.Lines.{LogLine, content, printed}
 use Rattle.cidr_join.specs.Routes.{IsLongestRoute, NoRouteHolds}
 use Rattle.cidr_join.specs.declared.join.Join.{Join}
-use Rattle.cidr_join.specs.declared.join.Place.{Place}
-use Rattle.cidr_join.specs.declared.join.Place.TheVariants as places
+use Rattle.line_addresses.specs.declared.place.Place.{Place}
+use Rattle.line_addresses.specs.declared.place.Place.TheVariants as places
 use Rattle.cidr_join.specs.declared.value.Value.{Value}
 
 -- the address that a part of a line is, if there is such a part and it is one

@@ -1,7 +1,6 @@
 -- What the contracts of this crate cite.
 pub mod CommandLines
 pub mod Entries
-pub mod Fields
 pub mod Joins
 pub mod Laws
 pub mod Lines

@@ -19,8 +19,8 @@ use Rattle.cidr_join.specs.Told.{text_fault_text, take_fault_text, log_fault_tex
 use Rattle.cidr_join.specs.Usage.{problem_text, HasFault}
 use Rattle.cidr_join.specs.declared.command_line.Request.{Request}
 use Rattle.cidr_join.specs.declared.join.Join.{Join}
-use Rattle.cidr_join.specs.declared.join.Place.{Place}
-use Rattle.cidr_join.specs.declared.join.Place.TheVariants as places
+use Rattle.line_addresses.specs.declared.place.Place.{Place}
+use Rattle.line_addresses.specs.declared.place.Place.TheVariants as places
 use Rattle.cidr_join.specs.declared.list.TakeFault.{TakeFault}
 use Rattle.cidr_join.specs.declared.log.LogFault.{LogFault}
 use Rattle.cidr_join.specs.declared.log.LogFault.TheVariants as faults

@@ -2,7 +2,6 @@
 #![tactic(auto)]
 
 mod command_line;
-mod field;
 mod help;
 mod join;
 mod laws;

@@ -6,13 +6,14 @@ ghost use Rattle.cidr_join.specs.Runs.{EndsRequest, EndsAs, EndsJoining, place_o
 
 use crate::command_line::{Request, request_of};
 use crate::help::{HELP, PROGRAM, USAGE, VERSION};
-use crate::join::{Join, LINE_MAX, Place, Text};
+use crate::join::{Join, LINE_MAX};
 use crate::list::networks_of;
 use crate::logs::join_logs;
 use crate::options::value_of;
 use crate::routes::Routes;
 use crate::telling::{tell_take_fault, tell_text_fault};
 use crate::text::text_of;
+use line_addresses::{Place, Text};
 use lines::output::Output;
 use lists::OpenLists;
 use program::ending::{FAILED, print_text};
