@@ -5,10 +5,8 @@ pub mod Examples
 pub mod Failing
 pub mod Faults
 pub mod Filtering
-pub mod Handed
 pub mod Judging
 pub mod LawExamples
-pub mod LogLines
 pub mod LogParts
 pub mod LogsInTurn
 pub mod OneOutput

@@ -2,7 +2,7 @@
 use Rattle.std.specs.Prelude.{ℕ, ◌&&◌, Bool, true, false, not, List, [], ◌++◌, length, nat_le, nat_lt, codes, decimal, if◌then◌else◌}
 use Rattle.std.specs.List.{list_any}
 use Rattle.cidr_filter.specs.Filters.{addresses_in}
-use Rattle.cidr_filter.specs.Lines.{LogLine, content}
+use Rattle.program.specs.LogLines.{LogLine, content}
 use Rattle.cidr_filter.specs.declared.filter.Filter.{Filter}
 use Rattle.line_addresses.specs.declared.place.Place.{Place}
 use Rattle.line_addresses.specs.declared.place.Place.TheVariants as places

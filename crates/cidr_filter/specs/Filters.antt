@@ -10,7 +10,7 @@ use Rattle.line_addresses.specs.Following.{following}
 use Rattle.line_addresses.specs.Mapped.{unmapped}
 use Rattle.line_addresses.specs.Words.{words_of}
 use Rattle.line_addresses.specs.Fields.{field_of}
-use Rattle.cidr_filter.specs.Lines.{LogLine, content, printed}
+use Rattle.program.specs.LogLines.{LogLine, content, printed}
 use Rattle.cidr_filter.specs.Listed.{IsIn, IsLongestBlock, has_address}
 use Rattle.cidr_filter.specs.declared.filter.WithoutAddress.{WithoutAddress}
 use Rattle.cidr_filter.specs.declared.filter.WithoutAddress.TheVariants as without

@@ -4,7 +4,6 @@ pub mod Arranged
 pub mod CommandLines
 pub mod Filters
 pub mod Laws
-pub mod Lines
 pub mod Listed
 pub mod Logs
 pub mod Options

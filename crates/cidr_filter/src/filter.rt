@@ -7,9 +7,7 @@ ghost use Rattle.cidr_filter.specs.Filters.{is_listed, IsVerdict, IsVerdictOfAdd
 use crate::listed::Listed;
 use ipnetwork::{IpAddr, IpNetwork};
 use line_addresses::{Place, address_of, field_of, following, next_address, unmapped, word_of};
-
-/// The most bytes of a line, not counting its line end.
-pub(crate) const LINE_MAX: usize = 1_048_576;
+use program::log_reader::LINE_MAX;
 
 /// What becomes of a line without an address.
 #[derive(Clone, Copy, Debug, PartialEq, Eq)]

@@ -1,42 +1,21 @@
 -- Logs that are joined in turn.
 use Rattle.std.proofs.Common.{◌≡◌, ◌+◌, ◌-◌, ◌^◌, ◌++◌, ◌∷◌, ◌∙◌, ◌==◌, [], ℕ, Bool, List, true, false, cond, inl, inr, refl, sym, ap, subst, arith, length, min, append_assoc, append-nil}
 use Rattle.std.specs.Prelude.{Option, None, Some, IsTrue, filter}
-use Rattle.std.specs.List.{slice_split}
-use Rattle.std.specs.Io.KnownBytes.{Appends, Consumes, IsAtEnd}
-use Rattle.std.proofs.KnownBytes.{Appends-trans}
-use Rattle.std.proofs.lemmas.Option.{none-some}
-use Rattle.lines.specs.Parts.{IsBeginning}
 use Rattle.lines.specs.Outputs.{Written, Puts, AppendsBeginning, Prints}
 use Rattle.lines.proofs.Putting.{puts_nothing, puts_more}
 use Rattle.lists.specs.KnownLists.{KnownLists}
-use Rattle.cidr_join.specs.Lines.{LogLine, lines_in, log_lines, ended_lines}
+use Rattle.program.proofs.Counts.{counts_from_none}
+use Rattle.program.proofs.LogNames.{all_of, first_of}
+use Rattle.program.specs.LogLines.{LogLine, log_lines, ended_lines, content}
+use Rattle.program.specs.Logs.{StopsAfter, HaltsBy}
 use Rattle.cidr_join.specs.Joins.{Joins}
-use Rattle.cidr_join.specs.Logs.{IsAllOf, IsFirstOf, JoinsLogs, RefusesAfter, HaltsBy}
-use Rattle.cidr_join.specs.Stands.{Stand, stand, Counts}
+use Rattle.cidr_join.specs.Logs.{JoinsLogs, EndsRunBy}
+use Rattle.cidr_join.specs.Stands.{Stand, stand}
 use Rattle.cidr_join.specs.Stops.{Ends, EndsAtLine, Stops}
 use Rattle.cidr_join.specs.Private.Runs.{JoinsNames}
 use Rattle.cidr_join.specs.declared.join.Join.{Join}
-use Rattle.cidr_join.specs.declared.log.LogFault.{LogFault}
-use Rattle.cidr_join.specs.declared.log.LogFault.TheVariants as faults
-
--- ---- what was read of a log
-
-same_some : (a b : List ℕ) (o : Option (List ℕ)) → o ≡ Some a → o ≡ Some b → a ≡ b
-same_some a b o e f = cc
-
-pub known_first : (remained remains : Option (List ℕ)) (read input : List ℕ) → remained ≡ Some input → Consumes remained remains read → IsBeginning read input
-known_first None remains read input e h = absurd (none-some input e)
-known_first (Some xs) None read input e h = absurd h
-known_first (Some xs) (Some ys) read input e h = (ys, same_some input xs (Some xs) e refl ∙ h)
-
-pub known_all : (remained remains : Option (List ℕ)) (read input : List ℕ) → remained ≡ Some input → Consumes remained remains read → IsAtEnd remains → read ≡ input
-known_all None remains read input e h end = absurd (none-some input e)
-known_all (Some xs) None read input e h end = absurd h
-known_all (Some xs) (Some ys) read input e h end =
-    sym (same_some input xs (Some xs) e refl ∙ h ∙ ap (λ t. read ++ t) end ∙ append-nil read)
-
-first_part : (read last input : List ℕ) → IsBeginning (read ++ last) input → IsBeginning read input
-first_part read last input b = (last ++ b.0, b.1 ∙ append_assoc read last b.0)
+use Rattle.program.specs.declared.log_fault.LogFault.{LogFault}
+use Rattle.program.specs.declared.log_fault.LogFault.TheVariants as faults
 
 -- ---- one log
 
@@ -46,6 +25,7 @@ abbrev pub PutsBy : LogFault → Bool → Stand → Stand → List ℕ → ℕ �
 PutsBy faults.Open failed old new added lines = Puts old.holds old.waits new.holds new.waits added × (new.lines ≡ min lines (2 ^ 64 - 1))
 PutsBy faults.Read failed old new added lines = Puts old.holds old.waits new.holds new.waits added × (new.lines ≡ min lines (2 ^ 64 - 1))
 PutsBy faults.Write failed old new added lines = IsTrue failed × AppendsBeginning old.holds new.holds (old.waits ++ added)
+PutsBy faults.Address failed old new added lines = Puts old.holds old.waits new.holds new.waits added × (new.lines ≡ min lines (2 ^ 64 - 1))
 PutsBy faults.Length failed old new added lines = Puts old.holds old.waits new.holds new.waits added × (new.lines ≡ min lines (2 ^ 64 - 1))
 PutsBy faults.Endless failed old new added lines = Puts old.holds old.waits new.holds new.waits added × (new.lines ≡ min lines (2 ^ 64 - 1))
 
@@ -54,66 +34,26 @@ pub record NameStops (join : Join) (known : KnownLists) (name : List ℕ) (faile
   pub lines : List LogLine
   pub added : List ℕ
   pub joins : Joins join lines added
-  pub halts : HaltsBy known name lines fault
+  pub halts : HaltsBy EndsRunBy known name lines fault
   pub puts : PutsBy fault failed old new added (length lines)
 
-lines_told : (old lines count : ℕ) → old ≡ 0 → Counts old lines count → lines ≡ min count (2 ^ 64 - 1)
-lines_told old lines count zero counted = let e = counted (omega (arith, zero)) in omega (arith, e, zero)
-
--- the lines that are ended come first
-module _ where
-  is_ended : LogLine → Bool
-  is_ended line = line.is_ended
-
-  last_apart : (bytes : List ℕ) (none : Bool) → (others : List LogLine) × (cond none [] (record { bytes = bytes; is_ended = false } ∷ []) ≡ filter (λ line. line.is_ended) (cond none [] (record { bytes = bytes; is_ended = false } ∷ [])) ++ others)
-  last_apart bytes true = ([], refl)
-  last_apart bytes false = (record { bytes = bytes; is_ended = false } ∷ [], refl)
-
-  ended_before : (parts : List (List ℕ)) → (others : List LogLine) × (lines_in parts ≡ filter (λ line. line.is_ended) (lines_in parts) ++ others)
-  ended_before [] = ([], refl)
-  ended_before (part ∷ []) = last_apart part (length part == 0)
-  ended_before (part ∷ next ∷ parts) =
-      let more = ended_before (next ∷ parts) in
-      (more.0, ap (λ ls. record { bytes = part; is_ended = true } ∷ ls) more.1)
-
-pub ended_first : (read : List ℕ) → (others : List LogLine) × (log_lines read ≡ ended_lines read ++ others)
-ended_first read = ended_before (slice_split (λ b. b == 10) read)
-
 module _ (join : Join) (known : KnownLists) where
-  -- what the first lines of a log are, whatever ends it
-  pub some_first : (name : List ℕ) (lines : List LogLine) (fault : LogFault) → HaltsBy known name lines fault → HaltsBy known name lines faults.Write
-  some_first name lines faults.Open h = ([], [], (λ input e. (input, refl)), sym (ap (λ ls. ls ++ []) h.0))
-  some_first name lines faults.Read h =
-      let ended = ended_first h.0 in
-      (h.0, ended.0, h.1, ended.1 ∙ ap (λ ls. ls ++ ended.0) (sym h.2))
-  some_first name lines faults.Write h = h
-  some_first name lines faults.Length h = (h.0.read, h.0.line ∷ h.0.others, h.0.is_first, h.0.are)
-  some_first name lines faults.Endless h =
-      let ended = ended_first h.0 in
-      (h.0, ended.0, (λ input e. first_part h.0 h.1 input (h.2 input e)), ended.1 ∙ ap (λ ls. ls ++ ended.0) (sym h.4))
-
   module _ (name : List ℕ) (remained remains : Option (List ℕ)) (has : (input : List ℕ) → known.bytes_of name ≡ Some input → remained ≡ Some input) (opened : known.may_open name true) where
-    all_of : (read : List ℕ) → Consumes remained remains read → IsAtEnd remains → IsAllOf known name read
-    all_of read took end = (opened, λ input e. known_all remained remains read input (has input e) took end)
-
-    first_of : (read : List ℕ) → Consumes remained remains read → IsFirstOf known name read
-    first_of read took = λ input e. known_first remained remains read input (has input e) took
-
-    line_halts : (old new : Stand) (h : EndsAtLine join remained remains old new) → RefusesAfter known name h.first
-    line_halts old new h = record {
+    line_halts : (IsSo : List ℕ → Type 0) (old new : Stand) (h : EndsAtLine join remained remains old new) → IsSo (content h.line) → StopsAfter known name h.first IsSo
+    line_halts IsSo old new h so = record {
       read = h.read;
       line = h.line;
       others = h.others;
-      is_first = first_of h.read h.reads;
+      is_first = first_of known name remained remains has h.read h.reads;
       are = h.lines;
       is_line = elim h.is_line [
         | inl ended ↦ inl ended
         | inr others ↦ elim others [
-          | inl end ↦ inr (inl (all_of h.read h.reads end))
+          | inl end ↦ inr (inl (all_of known name remained remains has opened h.read h.reads end))
           | inr long ↦ inr (inr long)
         ]
       ];
-      long = h.long;
+      is_so = so;
     }
 
     -- a log that was not joined to its end
@@ -124,29 +64,30 @@ module _ (join : Join) (known : KnownLists) where
       lines = ended_lines h.1;
       added = h.3.added;
       joins = h.3.joins;
-      halts = (h.1, first_of h.1 h.2, refl, opened, fails h.0);
-      puts = (h.3.goes.0, lines_told old.lines new.lines _ zero h.3.goes.1);
+      halts = (h.1, first_of known name remained remains has h.1 h.2, refl, opened, fails h.0);
+      puts = (h.3.goes.0, counts_from_none old.lines new.lines _ zero h.3.goes.1);
     }
     stops_by read_failed write_failed old new faults.Write fails zero h = record {
       lines = h.1.first;
       added = h.1.added;
       joins = h.1.joins;
-      halts = (h.1.read, h.1.others, first_of h.1.read h.1.reads, h.1.lines);
+      halts = (h.1.read, h.1.others, first_of known name remained remains has h.1.read h.1.reads, h.1.lines);
       puts = (h.0, h.1.beginning);
     }
+    stops_by read_failed write_failed old new faults.Address fails zero h = absurd h
     stops_by read_failed write_failed old new faults.Length fails zero h = record {
       lines = h.first;
       added = h.added;
       joins = h.joins;
-      halts = (line_halts old new h, opened);
-      puts = (h.goes.0, lines_told old.lines new.lines _ zero h.goes.1);
+      halts = (line_halts (EndsRunBy faults.Length) old new h h.long, opened);
+      puts = (h.goes.0, counts_from_none old.lines new.lines _ zero h.goes.1);
     }
     stops_by read_failed write_failed old new faults.Endless fails zero h = record {
       lines = ended_lines h.0;
       added = h.4.added;
       joins = h.4.joins;
-      halts = (h.0, h.1, first_of (h.0 ++ h.1) h.2, h.3, refl, opened);
-      puts = (h.4.goes.0, lines_told old.lines new.lines _ zero h.4.goes.1);
+      halts = (h.0, h.1, first_of known name remained remains has (h.0 ++ h.1) h.2, h.3, refl, opened);
+      puts = (h.4.goes.0, counts_from_none old.lines new.lines _ zero h.4.goes.1);
     }
 
   -- a log that was not opened
@@ -155,7 +96,7 @@ module _ (join : Join) (known : KnownLists) where
     lines = [];
     added = [];
     joins = refl;
-    halts = (refl, closed);
+    halts = (tt, refl, closed);
     puts = (puts_nothing old.holds old.waits, omega (arith, zero));
   }
 
@@ -186,7 +127,7 @@ module _ (join : Join) (known : KnownLists) where
       → known.may_open name true → (old new : Written W) (m n : ℕ) → Ends join remained remains (stand old m) (stand new n) → JoinsNames join known (name ∷ []) old new
   name_joined name remained remains has opened old new m n h = record {
     output = h.added ++ [];
-    joins = (h.read, h.added, [], all_of name remained remains has opened h.read h.reads h.end, h.joins, refl, refl);
+    joins = (h.read, h.added, [], all_of known name remained remains has opened h.read h.reads h.end, h.joins, refl, refl);
     puts = subst (λ (t : List ℕ). Prints old new t) (sym (append-nil h.added)) h.goes.0;
   }
 
@@ -197,12 +138,3 @@ module _ (join : Join) (known : KnownLists) where
     joins = joins_both first second f.output g.output f.joins g.joins;
     puts = puts_more old.holds mid.holds new.holds old.waits mid.waits new.waits f.output g.output f.puts g.puts;
   }
-
--- ---- what was put and then written
-
--- what waited after some bytes were put was written, and more
-pub puts_then_all : (held mid holds : Option (List ℕ)) (waited between added more : List ℕ) → Puts held waited mid between added → Appends mid holds (between ++ more) → Appends held holds (waited ++ (added ++ more))
-puts_then_all held mid holds waited between added more p h =
-    subst (Appends held holds)
-    (sym (append_assoc p.0 between more) ∙ ap (λ t. t ++ more) (sym p.2) ∙ append_assoc waited added more)
-    (Appends-trans held mid holds p.0 (between ++ more) p.1 h)

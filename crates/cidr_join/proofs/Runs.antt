@@ -12,42 +12,33 @@ use Rattle.program.specs.Endings.{Ending, ending, Refuses, HasTold, HasWritten, 
 use Rattle.program.specs.Messages.{Tells}
 use Rattle.lists.specs.KnownLists.{KnownLists}
 use Rattle.cidr_join.specs.Joins.{Joins}
-use Rattle.cidr_join.specs.Lines.{LogLine}
-use Rattle.cidr_join.specs.Logs.{logs_of, IsAllOf, HaltsBy}
+use Rattle.program.specs.LogLines.{LogLine}
+use Rattle.cidr_join.specs.Logs.{EndsRunBy}
+use Rattle.program.specs.LogFaults.{log_fault_text, FailsWriting, Wrote, HandsOn, StopsBy}
+use Rattle.program.specs.Logs.{logs_of, IsAllOf, HaltsBy}
 use Rattle.cidr_join.specs.Routes.{Values}
-use Rattle.cidr_join.specs.Runs.{FailsWriting, Wrote, StopsAtLog, JoinsAll, list_name, EndsJoining, EndsRequest}
+use Rattle.cidr_join.specs.Runs.{StopsAtLog, JoinsAll, list_name, EndsJoining, EndsRequest}
 use Rattle.cidr_join.specs.Stands.{Stand, stand}
 use Rattle.cidr_join.specs.Texts.{TextStops}
-use Rattle.cidr_join.specs.Told.{line_text, text_fault_text, log_fault_text}
-use Rattle.cidr_join.specs.Private.Runs.{JoinsNames, HandsOn, StopsBy}
+use Rattle.cidr_join.specs.Told.{text_fault_text}
+use Rattle.cidr_join.specs.Private.Runs.{JoinsNames}
 use Rattle.cidr_join.specs.declared.command_line.Request.{Request}
 use Rattle.cidr_join.specs.declared.join.Join.{Join}
-use Rattle.cidr_join.specs.declared.log.LogFault.{LogFault}
-use Rattle.cidr_join.specs.declared.log.LogFault.TheVariants as faults
+use Rattle.program.specs.declared.log_fault.LogFault.{LogFault}
+use Rattle.program.specs.declared.log_fault.LogFault.TheVariants as faults
 use Rattle.cidr_join.specs.declared.routes.Networks.{Networks}
 use Rattle.cidr_join.specs.declared.routes.Routes.{Routes}
 use Rattle.cidr_join.specs.declared.text.TextFault.{TextFault}
-use Rattle.cidr_join.proofs.LogsInTurn.{PutsBy, NameStops, names_both, some_first, joins_both, puts_then_all}
-use Rattle.cidr_join.proofs.Stopping.{failed_now}
+use Rattle.program.proofs.LogNames.{some_first, names_behind, names_apart, logs_some, logs_none}
+use Rattle.program.proofs.LogReading.{failed_now}
+use Rattle.program.proofs.LogStops.{told_log, puts_then_all, written_behind, failed_behind, wrote_behind, wrote_same}
+use Rattle.cidr_join.proofs.LogsInTurn.{PutsBy, NameStops, names_both, joins_both}
 
 -- ---- a log that stops
 
--- the number of the line that is told
-told_line : (name cause : List ℕ) (lines count : ℕ) → lines ≡ min count (2 ^ 64 - 1) → line_text name lines cause ≡ line_text name count cause
-told_line name cause lines count e =
-    let same : min (lines + 1) (2 ^ 64 - 1) ≡ min (count + 1) (2 ^ 64 - 1) = omega (arith, e) in
-    ap (λ n. name ++ codes ":" ++ decimal n ++ codes ": refused " ++ cause ++ codes "\n") same
-
-told_log : (name : List ℕ) (lines count : ℕ) (fault : LogFault) → lines ≡ min count (2 ^ 64 - 1) → log_fault_text name lines fault ≡ log_fault_text name count fault
-told_log name lines count faults.Open e = refl
-told_log name lines count faults.Read e = refl
-told_log name lines count faults.Write e = refl
-told_log name lines count faults.Length e = told_line name (codes "length") lines count e
-told_log name lines count faults.Endless e = refl
-
 -- the first lines of a log were joined, and then it stopped
 at_log : {W E : Type 0} (join : Join) (known : KnownLists) (name : List ℕ) (fault : LogFault) (lines : List LogLine) (added : List ℕ) (end : Ending W E)
-    → end.status ≡ 2 → Joins join lines added → HaltsBy known name lines fault → Wrote fault end ([] ++ added)
+    → end.status ≡ 2 → Joins join lines added → HaltsBy EndsRunBy known name lines fault → Wrote fault end ([] ++ added)
     → HasTold end (log_fault_text name (length lines) fault) → StopsAtLog join known (name ∷ []) end
 at_log join known name fault lines added end two joined halts wrote told = record {
   before = [];
@@ -66,49 +57,33 @@ at_log join known name fault lines added end two joined halts wrote told = recor
   status = two;
 }
 
--- what waited was written behind what was put, or the writer failed at it
-written_behind : {W E : Type 0} (end : Ending W E) (mid : Written W) (added : List ℕ)
-    → Prints end.output mid added
-    → HasWritten (record end { output = mid }) [] → HasWritten end added
-written_behind end mid added p h =
-    subst (λ t. Writes end.output end.output_after t) (append-nil added)
-    (puts_then_all _ _ _ _ _ added [] p h)
-
-failed_behind : {W E : Type 0} (end : Ending W E) (mid : Written W) (added : List ℕ)
-    → Prints end.output mid added
-    → FailsWriting (record end { output = mid }) [] → FailsWriting end added
-failed_behind end mid added p h = (
-  h.0,
-  subst (λ t. FailsIn end.output end.output_after t) (append-nil added)
-      (begins_after_puts _ _ _ _ _ added [] p h.1),
-)
-
 module _ {W E : Type 0} (join : Join) (known : KnownLists) (name : List ℕ) (lines : List LogLine) (added : List ℕ)
     (joined : Joins join lines added) (end : Ending W E) (two : end.status ≡ 2) (mid : Written W) (told : ℕ) where
   -- the output of these lines was put, and then what waited was written or not
-  handed : (fault : LogFault) → HaltsBy known name lines fault → ((text : List ℕ) → HasWritten end text → Wrote fault end text)
+  handed : (fault : LogFault) → HaltsBy EndsRunBy known name lines fault → ((text : List ℕ) → HasWritten end text → Wrote fault end text)
       → Prints end.output mid added × (told ≡ min (length lines) (2 ^ 64 - 1))
       → HandsOn name told fault (record end { output = mid }) → StopsAtLog join known (name ∷ []) end
   handed fault halts wrote p (inl h) =
       at_log join known name fault lines added end two joined halts (wrote ([] ++ added) (written_behind end mid added p.0 h.0))
       (tells_same end.errors end.errors_after _ _ (told_log name told (length lines) fault p.1) h.1)
   handed fault halts wrote p (inr h) =
-      at_log join known name faults.Write lines added end two joined (some_first join known name lines fault halts) (failed_behind end mid added p.0 h.0) h.1
+      at_log join known name faults.Write lines added end two joined (some_first EndsRunBy known name lines fault halts) (failed_behind end mid added p.0 h.0) h.1
 
   -- the writer had failed
-  had_failed : HaltsBy known name lines faults.Write → IsTrue mid.failed
+  had_failed : HaltsBy EndsRunBy known name lines faults.Write → IsTrue mid.failed
       × FailsIn end.output mid added
       → (end.output_after ≡ mid) × HasTold (record end { output = mid }) (codes "write error\n") → StopsAtLog join known (name ∷ []) end
   had_failed halts p stops =
       at_log join known name faults.Write lines added end two joined halts
       (subst (λ (o : Written W). (o.failed ≡ true) × FailsIn end.output o added) (sym stops.0) p) stops.1
 
-  stops_now : (fault : LogFault) (old new : ℕ) → new ≡ told → HaltsBy known name lines fault
+  stops_now : (fault : LogFault) (old new : ℕ) → new ≡ told → HaltsBy EndsRunBy known name lines fault
       → PutsBy fault mid.failed (stand end.output old) (stand mid new) added (length lines)
       → StopsBy name told fault (record end { output = mid }) → StopsAtLog join known (name ∷ []) end
   stops_now faults.Open old new same halts puts stops = handed faults.Open halts (λ text h. h) (puts.0, sym same ∙ puts.1) stops
   stops_now faults.Read old new same halts puts stops = handed faults.Read halts (λ text h. h) (puts.0, sym same ∙ puts.1) stops
   stops_now faults.Write old new same halts puts stops = had_failed halts puts stops
+  stops_now faults.Address old new same halts puts stops = handed faults.Address halts (λ text h. h) (puts.0, sym same ∙ puts.1) stops
   stops_now faults.Length old new same halts puts stops = handed faults.Length halts (λ text h. h) (puts.0, sym same ∙ puts.1) stops
   stops_now faults.Endless old new same halts puts stops = handed faults.Endless halts (λ text h. h) (puts.0, sym same ∙ puts.1) stops
 
@@ -120,18 +95,6 @@ name_stops join known name end two mid fault old new s stops =
     stops_now join known name s.lines s.added s.joins end two mid new fault old new refl s.halts s.puts stops
 
 -- ---- logs in turn
-
-wrote_behind : {W E : Type 0} (fault : LogFault) (end : Ending W E) (mid : Written W) (output text : List ℕ)
-    → Prints end.output mid output
-    → Wrote fault (record end { output = mid }) text → Wrote fault end (output ++ text)
-wrote_behind faults.Open end mid output text p h = puts_then_all _ _ _ _ _ output text p h
-wrote_behind faults.Read end mid output text p h = puts_then_all _ _ _ _ _ output text p h
-wrote_behind faults.Write end mid output text p h = (h.0, begins_after_puts _ _ _ _ _ output text p h.1)
-wrote_behind faults.Length end mid output text p h = puts_then_all _ _ _ _ _ output text p h
-wrote_behind faults.Endless end mid output text p h = puts_then_all _ _ _ _ _ output text p h
-
-wrote_same : {W E : Type 0} (fault : LogFault) (end : Ending W E) (text other : List ℕ) → text ≡ other → Wrote fault end text → Wrote fault end other
-wrote_same fault end text other e h = subst (λ (t : List ℕ). Wrote fault end t) e h
 
 -- a log that stops behind others that were joined
 pub stops_behind_names : {W E : Type 0} (join : Join) (known : KnownLists) (done more rest names : List (List ℕ)) (end : Ending W E) (mid : Written W)
@@ -146,39 +109,14 @@ stops_behind_names join known done more rest names end mid e f s = record {
   lines = s.lines;
   added = s.added;
   fault = s.fault;
-  logs = e ∙ ap (λ l. done ++ (l ++ rest)) s.logs ∙ ap (λ l. done ++ l) (append_assoc s.before (s.name ∷ s.behind) rest) ∙ sym (append_assoc done s.before (s.name ∷ (s.behind ++ rest)));
+  logs = names_behind done more rest names s.before s.behind s.name e s.logs;
   joins = joins_both join known done s.before f.output s.output f.joins s.joins;
   first = s.first;
   halts = s.halts;
-  wrote = wrote_same s.fault end _ _ (sym (append_assoc f.output s.output s.added)) (wrote_behind s.fault end mid f.output (s.output ++ s.added) f.puts s.wrote);
+  wrote = wrote_same s.fault end _ _ (sym (append_assoc f.output s.output s.added)) (wrote_behind s.fault end mid end.errors f.output (s.output ++ s.added) f.puts s.wrote);
   told = s.told;
   status = s.status;
 }
-
--- the names of logs up to a place, the one there, and those behind it
-pub names_more : {Z : Type 0} (files : List (String Z)) (i : ℕ) (file : String Z) (name : List ℕ) → i < length files → file ≡ get_or files i file → name ≡ string_bytes file
-    → map string_bytes (take (i + 1) files) ≡ map string_bytes (take i files) ++ name ∷ []
-names_more files i file name within is same =
-    ap (map string_bytes) (take_more files i file within ∙ ap (λ f. take i files ++ f ∷ []) (sym is)) ∙ map_push string_bytes (take i files) file
-    ∙ ap (λ n. map string_bytes (take i files) ++ n ∷ []) (sym same)
-
-pub logs_some : {Z : Type 0} (files : List (String Z)) → (length files == 0) ≡ false → logs_of files ≡ map string_bytes files
-logs_some [] some = absurd (true≢false some)
-logs_some (file ∷ files) some = refl
-
-pub logs_none : {Z : Type 0} (files : List (String Z)) → (length files == 0) ≡ true → logs_of files ≡ codes "-" ∷ []
-logs_none [] none = refl
-logs_none (file ∷ files) none = absurd (true≢false (sym none ∙ ne_eqb (length (file ∷ files)) 0 (λ e. omega (arith, e))))
-
-map_both : {X : Type 0} (f : X → List ℕ) (xs ys : List X) → map f (xs ++ ys) ≡ map f xs ++ map f ys
-map_both f [] ys = refl
-map_both f (x ∷ xs) ys = ap (λ l. f x ∷ l) (map_both f xs ys)
-
-pub names_apart : {Z : Type 0} (files : List (String Z)) (i : ℕ) (name : List ℕ) → map string_bytes (take (i + 1) files) ≡ map string_bytes (take i files) ++ name ∷ []
-    → map string_bytes files ≡ map string_bytes (take i files) ++ ((name ∷ []) ++ map string_bytes (drop (i + 1) files))
-names_apart files i name e =
-    ap (map string_bytes) (sym (take-append-drop (i + 1) files)) ∙ map_both string_bytes (take (i + 1) files) (drop (i + 1) files)
-    ∙ ap (λ l. l ++ map string_bytes (drop (i + 1) files)) e ∙ append_assoc (map string_bytes (take i files)) (name ∷ []) (map string_bytes (drop (i + 1) files))
 
 -- ---- one file more
 
@@ -259,30 +197,6 @@ pub all_by : {W E T F : Type 0} (join : Join) (known : KnownLists) (names : List
 all_by {W} {E} join known names output mid after errors silent told_errors status same written f ok err failed two text =
     all_ended join known names (ending output after errors told_errors status) mid
     written f ok err failed two (subst (λ (o : Written E). Tells o told_errors (end_text written)) same text)
-
--- ---- what was written when a log stopped
-
-pub stops_else : {W E : Type 0} (name : List ℕ) (lines : ℕ) (fault : LogFault) (end : Ending W E) → ¬ (fault ≡ faults.Write) → HandsOn name lines fault end → StopsBy name lines fault end
-stops_else name lines faults.Open end not h = h
-stops_else name lines faults.Read end not h = h
-stops_else name lines faults.Write end not h = absurd (not refl)
-stops_else name lines faults.Length end not h = h
-stops_else name lines faults.Endless end not h = h
-
-pub stops_failed : {W E : Type 0} (name : List ℕ) (lines : ℕ) (fault : LogFault) (end : Ending W E) → fault ≡ faults.Write → end.output_after ≡ end.output
-    → HasTold end (log_fault_text name lines faults.Write) → StopsBy name lines fault end
-stops_failed name lines fault end is same told = subst (λ (f : LogFault). StopsBy name lines f end) (sym is) (same, told)
-
-pub handed_all : {W E : Type 0} (name : List ℕ) (lines : ℕ) (fault : LogFault) (end : Ending W E)
-    → Appends end.output.holds end.output_after.holds end.output.waits → HasTold end (log_fault_text name lines fault) → HandsOn name lines fault end
-handed_all name lines fault end h told =
-    inl (subst (Appends end.output.holds end.output_after.holds) (sym (append-nil end.output.waits)) h, told)
-
-pub handed_some : {W E : Type 0} (name : List ℕ) (lines : ℕ) (fault : LogFault) (end : Ending W E) → IsTrue end.output_after.failed
-    → AppendsBeginning end.output.holds end.output_after.holds end.output.waits → HasTold end (log_fault_text name lines faults.Write)
-    → HandsOn name lines fault end
-handed_some name lines fault end failed h told =
-    inr ((failed, subst (AppendsBeginning end.output.holds end.output_after.holds) (sym (append-nil end.output.waits)) h), told)
 
 -- ---- the run
 

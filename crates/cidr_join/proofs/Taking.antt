@@ -14,7 +14,7 @@ use Rattle.lists.specs.declared.entry.Entry.{Entry}
 use Rattle.lists.specs.declared.entry.Entry.TheVariants as entries
 use Rattle.lists.specs.declared.entry.EntryFault.{EntryFault}
 use Rattle.cidr_join.specs.Entries.{trimmed, is_skipped, entry_len, entry_part, EntryFails, Says, LineFaults}
-use Rattle.cidr_join.specs.Logs.{IsAllOf}
+use Rattle.program.specs.Logs.{IsAllOf}
 use Rattle.cidr_join.specs.Routes.{Values, no_networks, SetsOne, HasOne, SetsAll, RangeHasOne, IsGoodEntry, SetsEntry, EntryHasOne, IsRefusal}
 use Rattle.cidr_join.specs.Takes.{TakesLine, TakesLines, LineFails, StopsTaking}
 use Rattle.cidr_join.specs.Texts.{ReadsAll, StopsReading, TextStops}
@@ -25,7 +25,7 @@ use Rattle.cidr_join.specs.declared.routes.RouteFault.TheVariants as routes
 use Rattle.cidr_join.specs.declared.text.TextFault.{TextFault}
 use Rattle.cidr_join.specs.declared.text.TextFault.TheVariants as faults
 use Rattle.cidr_join.specs.declared.value.Value.{Value}
-use Rattle.cidr_join.proofs.LogsInTurn.{known_first, known_all}
+use Rattle.program.proofs.LogNames.{known_first, known_all}
 use Rattle.line_addresses.proofs.Parts.{parts_from, part_from}
 
 -- one network more got the value

@@ -3,7 +3,6 @@ pub mod CommandLines
 pub mod Entries
 pub mod Joins
 pub mod Laws
-pub mod Lines
 pub mod Logs
 pub mod Options
 pub mod Private

@@ -1,26 +1,12 @@
 -- Logs that are joined in turn.
-use Rattle.std.specs.Prelude.{◌≡◌, ℕ, ◌-◌, ◌^◌, ◌<◌, Bool, true, false, List, [], ◌∷◌, ◌++◌, length, map, codes, Some, String}
-use Rattle.std.specs.String.{string_bytes}
-use Rattle.lines.specs.Parts.{IsBeginning}
+use Rattle.std.specs.Prelude.{◌≡◌, ℕ, ◌<◌, List, [], ◌∷◌, ◌++◌, length}
 use Rattle.lists.specs.KnownLists.{KnownLists}
 use Rattle.cidr_join.specs.Joins.{Joins}
-use Rattle.cidr_join.specs.Lines.{LogLine, log_lines, ended_lines, content, IsWhole}
+use Rattle.program.specs.LogLines.{log_lines}
+use Rattle.program.specs.Logs.{IsAllOf}
 use Rattle.cidr_join.specs.declared.join.Join.{Join}
-use Rattle.cidr_join.specs.declared.log.LogFault.{LogFault}
-use Rattle.cidr_join.specs.declared.log.LogFault.TheVariants as faults
-
--- the names of the logs: the FILEs, or `-`, which is standard input, if there is none
-abbrev pub logs_of : {Z : Type 0} → List (String Z) → List (List ℕ)
-logs_of [] = codes "-" ∷ []
-logs_of (file ∷ files) = map string_bytes (file ∷ files)
-
--- the file of this name was opened, and these bytes are all of it, if its bytes are known
-abbrev pub IsAllOf : KnownLists → List ℕ → List ℕ → Type 0
-IsAllOf known name read = known.may_open name true × ((input : List ℕ) → known.bytes_of name ≡ Some input → read ≡ input)
-
--- these bytes are the first of it
-abbrev pub IsFirstOf : KnownLists → List ℕ → List ℕ → Type 0
-IsFirstOf known name read = (input : List ℕ) → known.bytes_of name ≡ Some input → IsBeginning read input
+use Rattle.program.specs.declared.log_fault.LogFault.{LogFault}
+use Rattle.program.specs.declared.log_fault.LogFault.TheVariants as faults
 
 -- the logs of these names were read to their ends: this is the output of their lines, one log after the other
 abbrev pub JoinsLogs : Join → KnownLists → List (List ℕ) → List ℕ → Type 0
@@ -28,28 +14,11 @@ JoinsLogs join known [] output = output ≡ []
 JoinsLogs join known (name ∷ names) output = (read : List ℕ) × (added : List ℕ) × (others : List ℕ)
     × IsAllOf known name read × Joins join (log_lines read) added × JoinsLogs join known names others × (output ≡ added ++ others)
 
--- of the log of this name some bytes were read; after these first lines of them comes one that is too long, which is a
--- line whatever comes after it
-pub record RefusesAfter (known : KnownLists) (name : List ℕ) (lines : List LogLine) : Type 0 where
-  pub read : List ℕ
-  pub line : LogLine
-  pub others : List LogLine
-  pub is_first : IsFirstOf known name read
-  pub are : log_lines read ≡ lines ++ line ∷ others
-  pub is_line : IsWhole (IsAllOf known name read) line
-  pub long : 1048576 < length (content line)
-
--- the log of this name is not joined to its end, by the fault, but these first lines are
-abbrev pub HaltsBy : KnownLists → List ℕ → List LogLine → LogFault → Type 0
--- it was not opened
-HaltsBy known name lines faults.Open = (lines ≡ []) × known.may_open name false
--- a read failed: the lines of which the line feed was read
-HaltsBy known name lines faults.Read =
-    (read : List ℕ) × IsFirstOf known name read × (lines ≡ ended_lines read) × known.may_open name true × known.may_fail name
--- a write failed
-HaltsBy known name lines faults.Write = (read : List ℕ) × (others : List LogLine) × IsFirstOf known name read × (log_lines read ≡ lines ++ others)
--- the first line that is too long ends the run
-HaltsBy known name lines faults.Length = RefusesAfter known name lines × known.may_open name true
--- more bytes were read than 64 bits count: the lines that all but the last of them complete
-HaltsBy known name lines faults.Endless =
-    (read : List ℕ) × (last : List ℕ) × IsFirstOf known name (read ++ last) × (2 ^ 64 - 1 < length (read ++ last)) × (lines ≡ ended_lines read) × known.may_open name true
+-- what ends a run, by the fault: a log that cannot be opened, or a line, given without its end, that is too long
+abbrev pub EndsRunBy : LogFault → List ℕ → Type 0
+EndsRunBy faults.Open line = Unit {0}
+EndsRunBy faults.Read line = ⊥
+EndsRunBy faults.Write line = ⊥
+EndsRunBy faults.Address line = ⊥
+EndsRunBy faults.Length line = 1048576 < length line
+EndsRunBy faults.Endless line = ⊥

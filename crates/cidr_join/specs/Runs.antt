@@ -2,45 +2,32 @@
 use Rattle.std.specs.Prelude.{◌≡◌, ℕ, List, [], ◌∷◌, ◌++◌, true, ◌⊎◌, if◌then◌else◌, length, take, drop, codes, String, ◌==◌}
 use Rattle.std.specs.List.{slice_split}
 use Rattle.std.specs.Option.{unwrap_or}
-use Rattle.lines.specs.Outputs.{FailsIn}
 use Rattle.lists.specs.KnownLists.{KnownLists}
 use Rattle.program.specs.Endings.{Ending, Refuses, HasTold, HasWritten}
 use Rattle.program.specs.Runs.{EndsRun}
 use Rattle.program.specs.Usage.{usage_text}
 use Rattle.cidr_join.specs.CommandLines.{Says, AsksNothing}
 use Rattle.cidr_join.specs.Joins.{Joins}
-use Rattle.cidr_join.specs.Lines.{LogLine}
-use Rattle.cidr_join.specs.Logs.{logs_of, IsAllOf, JoinsLogs, HaltsBy}
+use Rattle.program.specs.LogLines.{LogLine}
+use Rattle.program.specs.LogFaults.{log_fault_text, FailsWriting, Wrote}
+use Rattle.program.specs.Logs.{logs_of, IsAllOf, HaltsBy}
+use Rattle.cidr_join.specs.Logs.{JoinsLogs, EndsRunBy}
 use Rattle.cidr_join.specs.Options.{value_of}
 use Rattle.cidr_join.specs.Routes.{no_networks}
 use Rattle.cidr_join.specs.Takes.{TakesLines, StopsTaking}
 use Rattle.cidr_join.specs.Texts.{TextStops}
-use Rattle.cidr_join.specs.Told.{text_fault_text, take_fault_text, log_fault_text}
+use Rattle.cidr_join.specs.Told.{text_fault_text, take_fault_text}
 use Rattle.cidr_join.specs.Usage.{problem_text, HasFault}
 use Rattle.cidr_join.specs.declared.command_line.Request.{Request}
 use Rattle.cidr_join.specs.declared.join.Join.{Join}
 use Rattle.line_addresses.specs.declared.place.Place.{Place}
 use Rattle.line_addresses.specs.declared.place.Place.TheVariants as places
 use Rattle.cidr_join.specs.declared.list.TakeFault.{TakeFault}
-use Rattle.cidr_join.specs.declared.log.LogFault.{LogFault}
-use Rattle.cidr_join.specs.declared.log.LogFault.TheVariants as faults
+use Rattle.program.specs.declared.log_fault.LogFault.{LogFault}
 use Rattle.cidr_join.specs.declared.routes.Networks.{Networks}
 use Rattle.cidr_join.specs.declared.routes.Routes.{Routes}
 use Rattle.cidr_join.specs.declared.text.TextFault.{TextFault}
 use Rattle.cidr_join.specs.declared.usage.UsageFault.{UsageFault}
-
--- the writer failed, and took a beginning of what waited and the text
-abbrev pub FailsWriting : {W E : Type 0} → Ending W E → List ℕ → Type 0
-FailsWriting end text = (end.output_after.failed ≡ true)
-    × FailsIn end.output end.output_after text
-
--- the text was written, unless it was a write that ended the run
-abbrev pub Wrote : {W E : Type 0} → LogFault → Ending W E → List ℕ → Type 0
-Wrote faults.Open end text = HasWritten end text
-Wrote faults.Read end text = HasWritten end text
-Wrote faults.Write end text = FailsWriting end text
-Wrote faults.Length end text = HasWritten end text
-Wrote faults.Endless end text = HasWritten end text
 
 -- a log was not joined to its end, and ended the run: those before it were joined, and its first lines; their outputs
 -- were written, the cause was reported, and the status is 2
@@ -55,7 +42,7 @@ pub record StopsAtLog {W E : Type 0} (join : Join) (known : KnownLists) (names :
   pub logs : names ≡ before ++ name ∷ behind
   pub joins : JoinsLogs join known before output
   pub first : Joins join lines added
-  pub halts : HaltsBy known name lines fault
+  pub halts : HaltsBy EndsRunBy known name lines fault
   pub wrote : Wrote fault end (output ++ added)
   pub told : HasTold end (log_fault_text name (length lines) fault)
   pub status : end.status ≡ 2

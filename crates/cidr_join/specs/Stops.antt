@@ -1,13 +1,13 @@
 -- How the joining of a log ends.
-use Rattle.std.specs.Prelude.{◌≡◌, ℕ, ◌-◌, ◌^◌, ◌<◌, Bool, true, false, IsTrue, List, ◌∷◌, ◌++◌, length, Option, Result, Ok, Err}
+use Rattle.std.specs.Prelude.{◌≡◌, ℕ, ◌-◌, ◌^◌, ◌<◌, Bool, IsTrue, List, ◌∷◌, ◌++◌, length, Option}
 use Rattle.std.specs.Io.KnownBytes.{Consumes, IsAtEnd}
 use Rattle.lines.specs.Outputs.{AppendsBeginning}
 use Rattle.cidr_join.specs.Joins.{Joins}
-use Rattle.cidr_join.specs.Lines.{LogLine, log_lines, ended_lines, content, IsWhole}
+use Rattle.program.specs.LogLines.{LogLine, log_lines, ended_lines, content, IsWhole}
 use Rattle.cidr_join.specs.Stands.{Stand, Goes}
 use Rattle.cidr_join.specs.declared.join.Join.{Join}
-use Rattle.cidr_join.specs.declared.log.LogFault.{LogFault}
-use Rattle.cidr_join.specs.declared.log.LogFault.TheVariants.{Open, Read, Write, Length, Endless}
+use Rattle.program.specs.declared.log_fault.LogFault.{LogFault}
+use Rattle.program.specs.declared.log_fault.LogFault.TheVariants.{Open, Read, Write, Address, Length, Endless}
 
 -- what was read was joined to its end
 pub record Ends (join : Join) (remained remains : Option (List ℕ)) (old new : Stand) : Type 0 where
@@ -57,26 +57,10 @@ Stops join remained remains read_failed write_failed old new Open = ⊥
 Stops join remained remains read_failed write_failed old new Read = IsTrue read_failed × (read : List ℕ) × Consumes remained remains read × JoinsEnded join old new read
 -- a write failed
 Stops join remained remains read_failed write_failed old new Write = IsTrue write_failed × WritesBeginning join remained remains old new
--- the first line that is too long ends the run
+-- no line without an address ends the run
+Stops join remained remains read_failed write_failed old new Address = ⊥
+-- the first line that is too long does
 Stops join remained remains read_failed write_failed old new Length = EndsAtLine join remained remains old new
 -- more bytes were read than 64 bits count; all but the last of them were joined
 Stops join remained remains read_failed write_failed old new Endless =
     (read : List ℕ) × (last : List ℕ) × Consumes remained remains (read ++ last) × (2 ^ 64 - 1 < length (read ++ last)) × JoinsEnded join old new read
-
--- whether a read ended the joining
-abbrev pub ended_by_read : {T : Type 0} → Result T LogFault → Bool
-ended_by_read (Ok done) = false
-ended_by_read (Err Open) = false
-ended_by_read (Err Read) = true
-ended_by_read (Err Write) = false
-ended_by_read (Err Length) = false
-ended_by_read (Err Endless) = false
-
--- whether a write did
-abbrev pub ended_by_write : {T : Type 0} → Result T LogFault → Bool
-ended_by_write (Ok done) = false
-ended_by_write (Err Open) = false
-ended_by_write (Err Read) = false
-ended_by_write (Err Write) = true
-ended_by_write (Err Length) = false
-ended_by_write (Err Endless) = false

@@ -1,17 +1,12 @@
 -- What is reported on standard error.
-use Rattle.std.specs.Prelude.{ℕ, ◌+◌, ◌-◌, ◌^◌, min, List, ◌++◌, codes, decimal}
+use Rattle.std.specs.Prelude.{ℕ, List, ◌++◌, codes}
+use Rattle.program.specs.LogFaults.{line_text}
 use Rattle.cidr_join.specs.Entries.{cause_text}
 use Rattle.cidr_join.specs.declared.list.TakeFault.{TakeFault}
-use Rattle.cidr_join.specs.declared.log.LogFault.{LogFault}
-use Rattle.cidr_join.specs.declared.log.LogFault.TheVariants as faults
 use Rattle.cidr_join.specs.declared.routes.RouteFault.{RouteFault}
 use Rattle.cidr_join.specs.declared.routes.RouteFault.TheVariants as routes
 use Rattle.cidr_join.specs.declared.text.TextFault.{TextFault}
 use Rattle.cidr_join.specs.declared.text.TextFault.TheVariants as texts
-
--- what is reported about a refused line: the file, the number of the line, which comes after this many lines, and why
-abbrev pub line_text : List ℕ → ℕ → List ℕ → List ℕ
-line_text name before cause = name ++ codes ":" ++ decimal (min (before + 1) (2 ^ 64 - 1)) ++ codes ": refused " ++ cause ++ codes "\n"
 
 -- what is reported if a list was not read
 abbrev pub text_fault_text : List ℕ → TextFault → List ℕ
@@ -27,11 +22,3 @@ route_fault_text name before (routes.Refused cause) = line_text name before (cau
 
 abbrev pub take_fault_text : List ℕ → TakeFault → List ℕ
 take_fault_text name fault = route_fault_text name fault.lines fault.fault
-
--- what is reported if a log was not joined to its end, after this many of its lines
-abbrev pub log_fault_text : List ℕ → ℕ → LogFault → List ℕ
-log_fault_text name before faults.Open = name ++ codes ": cannot open\n"
-log_fault_text name before faults.Read = name ++ codes ": cannot read\n"
-log_fault_text name before faults.Write = codes "write error\n"
-log_fault_text name before faults.Length = line_text name before (codes "length")
-log_fault_text name before faults.Endless = name ++ codes ": too long\n"

@@ -7,9 +7,6 @@ use crate::value::Value;
 use ipnetwork::{IpAddr, IpNetwork};
 use line_addresses::{Place, address_of, field_of, following, next_address, unmapped, word_of};
 
-/// The most bytes of a line, not counting its line end.
-pub(crate) const LINE_MAX: usize = 1_048_576;
-
 /// What decides what is printed of a line.
 #[derive(Drop)]
 pub struct Join<'a> {

@@ -2,7 +2,7 @@
 ghost use Rattle.std.specs.Prelude.{◌≡◌, ◌≤◌, ◌||◌, ◌++◌, ◌∷◌, [], length, drop, OnOk, OnErr, is_err};
 ghost use Rattle.lines.specs.Outputs.{Prints, FailsIn};
 ghost use Rattle.cidr_join.specs.Joins.{mark_of, shown_of};
-ghost use Rattle.cidr_join.specs.Private.Progress.{feed_behind};
+ghost use Rattle.program.specs.LogLines.{feed_behind};
 
 use crate::join::Join;
 use crate::value::Value;

@@ -6,7 +6,7 @@ ghost use Rattle.cidr_join.specs.Runs.{EndsRequest, EndsAs, EndsJoining, place_o
 
 use crate::command_line::{Request, request_of};
 use crate::help::{HELP, PROGRAM, USAGE, VERSION};
-use crate::join::{Join, LINE_MAX};
+use crate::join::Join;
 use crate::list::networks_of;
 use crate::logs::join_logs;
 use crate::options::value_of;
@@ -17,14 +17,12 @@ use line_addresses::{Place, Text};
 use lines::output::Output;
 use lists::OpenLists;
 use program::ending::{FAILED, print_text};
+use program::log_reader::BUFFER_LEN;
 use program::messages::tell;
 use program::start::text_asked;
 use program::usage::refuse_usage;
 use std::alloc::Global;
 use std::io::Write;
-
-/// The bytes of the longest line, and those that are read beside it.
-const BUFFER_LEN: usize = LINE_MAX + 2 + 262_144;
 
 /// Does what the words after the program's name ask for, and returns the exit status.
 pub(crate) fn run<L: OpenLists, W: Write, E: Write>(

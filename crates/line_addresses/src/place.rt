@@ -8,7 +8,9 @@ use std::marker::Model;
 /// ```
 /// let place = Place::Word(3);
 /// let line = b"Nov  3 10.1.1.1";
-/// let Place::Word(number) = place else { return };
+/// let Place::Word(number) = place else {
+///     return Ok(());
+/// };
 /// assert_eq!(rt; word_of(line, number), Some(b"10.1.1.1".as_slice()));
 /// ```
 #[derive(Debug, Drop)]

@@ -1,6 +1,7 @@
 use Rattle.std.proofs.Common.{◌∙◌, refl, sym, arith}
 use Rattle.cidr_join.proofs.LogsInTurn.{names_none}
-use Rattle.cidr_join.proofs.Runs.{names_more, input_named, input_stops, one_more, all_named, one_stops}
+use Rattle.program.proofs.LogNames.{names_more}
+use Rattle.cidr_join.proofs.Runs.{input_named, input_stops, one_more, all_named, one_stops}
 use Rattle.cidr_join.proofs.logs.join_each.Goals as goal
 
 pub returns-then-is_empty-clause-all : goal.returns-then-is_empty-clause-all

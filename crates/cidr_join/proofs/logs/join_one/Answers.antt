@@ -2,7 +2,7 @@ use Rattle.std.proofs.Common.{◌∙◌, ap, refl}
 use Rattle.lines.specs.Watched.{device_of, has_failed}
 use Rattle.program.specs.Endings.{ending}
 use Rattle.cidr_join.specs.Stands.{stand}
-use Rattle.cidr_join.specs.declared.log.LogFault.TheVariants.{Open}
+use Rattle.program.specs.declared.log_fault.LogFault.TheVariants.{Open}
 use Rattle.cidr_join.proofs.LogsInTurn.{stops_by, name_closed, name_joined}
 use Rattle.cidr_join.proofs.Runs.{name_stops}
 use Rattle.cidr_join.proofs.logs.join_one.Goals as goal
