@@ -7,9 +7,9 @@ use Rattle.ipnetwork_addr.specs.declared.ip.IpAddr.{IpAddr}
 use Rattle.ipnetwork.specs.declared.ip_network.IpNetwork.{IpNetwork}
 use Rattle.cidr_filter.specs.Addressed.{is_addressed, any_addressed, is_addressed_by, no_address_text, lacking_by}
 use Rattle.cidr_filter.specs.Filters.{FirstListed, IsVerdict, addresses_in}
-use Rattle.cidr_filter.specs.Lines.{LogLine, content}
+use Rattle.program.specs.LogLines.{LogLine, content}
 use Rattle.cidr_filter.specs.declared.filter.Filter.{Filter}
-use Rattle.cidr_filter.specs.declared.filter.Place.{Place}
+use Rattle.line_addresses.specs.declared.place.Place.{Place}
 use Rattle.cidr_filter.specs.declared.filter.Verdict.{Verdict}
 use Rattle.cidr_filter.specs.declared.filter.Verdict.TheVariants as verdicts
 use Rattle.cidr_filter.proofs.Failing.{or_none, or_assoc}

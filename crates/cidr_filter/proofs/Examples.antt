@@ -15,11 +15,13 @@ use Rattle.lists.specs.Lists.{ReadLists, at_list, TakesLines}
 use Rattle.lists.specs.declared.fault.LineFault.TheVariants.{Entry}
 use Rattle.lists.specs.KnownLists.{KnownLists}
 use Rattle.program.specs.Told.{was_refused}
-use Rattle.cidr_filter.specs.Fields.{field_of}
+use Rattle.line_addresses.specs.Fields.{field_of}
 use Rattle.cidr_filter.specs.Filters.{IsListed, IsVerdict, addresses_in, is_selected, is_refused, mark_of, output_of}
-use Rattle.cidr_filter.specs.Lines.{LogLine, log_lines, ended_lines, content, printed}
+use Rattle.program.specs.LogLines.{LogLine, log_lines, ended_lines, content, printed}
 use Rattle.cidr_filter.specs.Listed.{IsStored, IsLongestBlock}
-use Rattle.cidr_filter.specs.Logs.{logs_of, IsAllOf, IsFirstOf, FiltersLogs}
+use Rattle.program.specs.LogFaults.{log_fault_text}
+use Rattle.program.specs.Logs.{logs_of, IsAllOf, IsFirstOf}
+use Rattle.cidr_filter.specs.Logs.{FiltersLogs}
 use Rattle.cidr_filter.specs.Reading.{ReadsOptions, HoldsRead}
 use Rattle.program.specs.Endings.{Ending, Refuses, HasTold, HasWritten}
 use Rattle.cidr_filter.specs.Options.{no_options, said_by}
@@ -27,18 +29,18 @@ use Rattle.cidr_filter.specs.Addressed.{closed_text, lacking_by, lacking_text}
 use Rattle.cidr_filter.specs.Runs.{total_text, status_by, EndsLogs, EndsFiltering, place_of, filter_of}
 use Rattle.lists.specs.declared.refusals.Refusal.{Refusal}
 use Rattle.program.specs.Told.{refusals_text}
-use Rattle.cidr_filter.specs.Told.{in_option, log_fault_text}
+use Rattle.cidr_filter.specs.Told.{in_option}
 use Rattle.cidr_filter.specs.declared.filter.WithoutAddress.{WithoutAddress}
 use Rattle.cidr_filter.specs.declared.filter.WithoutAddress.TheVariants as without
 use Rattle.cidr_filter.specs.declared.filter.Filter.{Filter}
-use Rattle.cidr_filter.specs.declared.filter.Place.{Place}
-use Rattle.cidr_filter.specs.declared.filter.Place.TheVariants as places
+use Rattle.line_addresses.specs.declared.place.Place.{Place}
+use Rattle.line_addresses.specs.declared.place.Place.TheVariants as places
 use Rattle.cidr_filter.specs.declared.filter.Verdict.TheVariants as verdicts
 use Rattle.cidr_filter.specs.declared.command_line.Request.{Request}
 use Rattle.cidr_filter.specs.declared.listed.Listed.{Listed}
 use Rattle.cidr_filter.specs.declared.listed.Listed.TheVariants.{Addresses, Blocks}
 use Rattle.cidr_filter.specs.declared.listed.Tables.{Tables}
-use Rattle.cidr_filter.specs.declared.log.LogFault.TheVariants as faults
+use Rattle.program.specs.declared.log_fault.LogFault.TheVariants as faults
 use Rattle.cidr_filter.specs.declared.opening.OpenFault.TheVariants as causes
 use Rattle.cidr_filter.specs.declared.options.Choice.TheVariants as choices
 use Rattle.cidr_filter.proofs.OptionExamples.{letters}
@@ -455,8 +457,7 @@ module _ (known : KnownLists) (inside : IsVerdict (by false without.Stop) (codes
         is_first = a;
         are = refl;
         is_line = inl refl;
-        judges = bad;
-        refused = refl;
+        is_so = (bad, refl);
       },
       opened,
     );

@@ -1,53 +1,36 @@
 -- How a log is filtered, line by line.
-use Rattle.std.proofs.Common.{◌≡◌, ℕ, ◌+◌, ◌-◌, ◌*◌, ◌^◌, ◌<◌, ◌≤◌, ◌==◌, ◌&&◌, ◌||◌, ◌⊎◌, Bool, true, false, if◌then◌else◌, List, [], ◌∷◌, ◌++◌, length, inl, inr, take, refl, sym, ap, ◌∙◌, subst, true≢false, arith, append_assoc, append-nil, length-append, length-take, length-drop}
-use Rattle.std.specs.Prelude.{Option, Result, Ok, Err, OnOk}
-use Rattle.std.specs.Io.KnownBytes.{Appends}
-use Rattle.std.specs.List.{list_all}
-use Rattle.std.proofs.KnownBytes.{Consumes-nil, Consumes-trans}
-use Rattle.std.proofs.Math.Nat.{mul_comm}
-use Rattle.std.proofs.lemmas.Bool.Decides.{eqb_tells}
-use Rattle.std.proofs.lemmas.List.Folds.{list_all-append}
-use Rattle.std.proofs.lemmas.Nat.{mul-add-lt}
-use Rattle.lines.specs.LineBuffers.{Buffered, IsPending, HandsOut, Gives, Receives, work}
+use Rattle.std.proofs.Common.{◌≡◌, ℕ, ◌+◌, ◌||◌, Bool, false, List, [], ◌∷◌, ◌++◌, length, refl, sym, ap, ◌∙◌, subst, arith, append-nil, length-append}
+use Rattle.std.specs.Prelude.{Option}
 use Rattle.lines.specs.Outputs.{Puts}
-use Rattle.lines.specs.declared.line_buffer.NextLine.TheVariants.{Line, TooLong, Ask}
 use Rattle.lines.specs.declared.line_end.LineEnd.{LineEnd}
-use Rattle.lines.proofs.BytesLemmas.{HasNo}
-use Rattle.lines.proofs.HandingOut.{has_no}
-use Rattle.lines.proofs.Putting.{puts_nothing, puts_out, puts_more}
-use Rattle.cidr_filter.specs.Addressed.{any_addressed, is_addressed_by}
+use Rattle.lines.proofs.Putting.{puts_nothing, puts_more}
+use Rattle.program.proofs.Counts.{counts_more, counts_none}
+use Rattle.program.specs.Counts.{Counts}
+use Rattle.program.specs.LogLines.{LogLine, content, printed, feed_behind, log_line}
+use Rattle.program.specs.LogReaders.{HandsFirst, GivesNext, line_of, whole_of, hurries_of}
+use Rattle.program.specs.declared.log_reader.LogReader.{LogReader}
+use Rattle.program.specs.declared.log_reader.NextLogLine.TheVariants.{Line, TooLong}
+use Rattle.cidr_filter.specs.Addressed.{is_addressed_by}
 use Rattle.cidr_filter.specs.Filters.{IsVerdict, is_refused, is_selected, one_if, output_of}
-use Rattle.cidr_filter.specs.Lines.{LogLine, log_lines, content, printed}
-use Rattle.cidr_filter.specs.Stands.{Stand, Counts, Goes}
-use Rattle.cidr_filter.specs.Private.Progress.{feed_behind, shown, FiltersLine, AreFirst, FiltersSoFar}
+use Rattle.cidr_filter.specs.Stands.{Stand, Goes}
+use Rattle.cidr_filter.specs.Private.Progress.{shown, FiltersLine, FiltersSoFar}
 use Rattle.cidr_filter.specs.declared.filter.Filter.{Filter}
 use Rattle.cidr_filter.specs.declared.filter.Verdict.{Verdict}
 use Rattle.cidr_filter.specs.declared.filter.Verdict.TheVariants as verdicts
 use Rattle.cidr_filter.proofs.Addressed.{addressed_more}
 use Rattle.cidr_filter.proofs.Failing.{or_none}
-use Rattle.cidr_filter.proofs.Handed.{log_line, printed_is, IsFirstOf, handed_first}
 use Rattle.cidr_filter.proofs.LogParts.{both}
 
 -- ---- stands
 
-pub counts_more : (old mid new first second : ℕ) → Counts old mid first → Counts mid new second
-    → Counts old new (first + second)
-counts_more old mid new first second f g within =
-    let one = f within in
-    let two = g (omega (arith, one)) in
-    omega (arith, one, two)
-
-pub counts_none : (old new : ℕ) → new ≡ old → Counts old new 0
-counts_none old new same within = omega (arith, within, same)
-
-pub goes_nowhere : (old : Stand) → Goes old old [] 0 0
+goes_nowhere : (old : Stand) → Goes old old [] 0 0
 goes_nowhere old = (
   puts_nothing old.holds old.waits,
   counts_none old.selected old.selected refl,
   counts_none old.lines old.lines refl,
 )
 
-goes_on : (old mid new : Stand) (first second : List ℕ) (one two m n : ℕ) → Goes old mid first one m
+pub goes_on : (old mid new : Stand) (first second : List ℕ) (one two m n : ℕ) → Goes old mid first one m
     → Goes mid new second two n → Goes old new (first ++ second) (one + two) (m + n)
 goes_on old mid new first second one two m n p q = (
   puts_more old.holds mid.holds new.holds old.waits mid.waits new.waits first second p.0 q.0,
@@ -55,11 +38,11 @@ goes_on old mid new first second one two m n p q = (
   counts_more old.lines mid.lines new.lines m n p.2 q.2,
 )
 
--- what waited is handed on
-pub goes_out : (mid new : Stand) → new.selected ≡ mid.selected → new.lines ≡ mid.lines
-    → new.waits ≡ [] → Appends mid.holds new.holds mid.waits → Goes mid new [] 0 0
-goes_out mid new same lines none h = (
-  puts_out mid.holds new.holds mid.waits new.waits none h,
+-- nothing was put, and no line counted
+pub goes_idle : (mid new : Stand) → new.selected ≡ mid.selected → new.lines ≡ mid.lines
+    → Puts mid.holds mid.waits new.holds new.waits [] → Goes mid new [] 0 0
+goes_idle mid new same lines h = (
+  h,
   counts_none mid.selected new.selected
       same,
   counts_none mid.lines new.lines lines,
@@ -75,61 +58,14 @@ goes_still old mid new added count lines p q =
       subst (Counts old.lines new.lines) (omega arith) more.2,
     )
 
-pub put_two_ok : {T E : Type 0} (result : Result T E) (held mid holds : Option (List ℕ))
-    (waited between waits first second : List ℕ) → Puts held waited mid between first
-    → OnOk result (Puts mid between holds waits second)
-    → OnOk result (Puts held waited holds waits (first ++ second))
-put_two_ok (Ok x) held mid holds waited between waits first second p q = puts_more held mid holds
-    waited between waits first second p q
-put_two_ok (Err e) held mid holds waited between waits first second p q = tt
-
 -- ---- what was read, so far
 
-pub all_lines : (ended : Bool) (read : List ℕ) (first : List LogLine) (pending : List ℕ)
-    → AreFirst ended read first pending → log_lines read ≡ first ++ log_lines pending
-all_lines ended read first pending h = ap log_lines (sym (append-nil read)) ∙ h [] (λ e. refl)
-    ∙ ap (λ l. first ++ log_lines l) (append-nil pending)
-
--- one line more
-next_first : (ended : Bool) (read : List ℕ) (first : List LogLine) (pending line after : List ℕ)
-    (end : LineEnd) → AreFirst ended read first pending → IsFirstOf ended pending line after end
-    → AreFirst ended read (first ++ log_line line end ∷ []) after
-next_first ended read first pending line after end h is more e =
-    h more e ∙ ap (λ ls. first ++ ls) (is.lines more e)
-    ∙ sym (append_assoc first (log_line line end ∷ []) (log_lines (after ++ more)))
-
-first_still : (ended : Bool) (read : List ℕ) (first : List LogLine) (pending chunk : List ℕ)
-    → AreFirst false read first pending → AreFirst ended (read ++ chunk) first (pending ++ chunk)
-first_still ended read first pending chunk h more e =
-    ap log_lines (append_assoc read chunk more)
-    ∙ h (chunk ++ more) (λ f. absurd (true≢false (sym f)))
-    ∙ ap (λ l. first ++ log_lines l) (sym (append_assoc pending chunk more))
-
-ended_too : (ended : Bool) (line : LogLine) → ended ≡ false → (line.is_ended ≡ true)
-    ⊎ (ended ≡ true) → line.is_ended ≡ true
-ended_too ended line going (inl e) = e
-ended_too ended line going (inr e) = absurd (true≢false (sym e ∙ going))
-
-no_bytes : (count : ℕ) → (count == 0) ≡ true → count ≡ 0
-no_bytes count e = elim (eqb_tells count 0) [
-  | inl same ↦ same.1
-  | inr apart ↦ absurd (true≢false (sym e ∙ apart.0))
-]
-
 module _ (filter : Filter) where
-  pub begins : (room : ℕ) (held : Buffered) (remained : Option (List ℕ)) (old : Stand)
-      → room ≡ 2 ^ 64 - 1 → IsPending held [] → held.ended ≡ false
-      → FiltersSoFar filter room held remained remained old old
-  begins room held remained old all h going = record {
-    read = [];
-    reads = Consumes-nil remained;
-    counted = omega (arith, all);
-    at_end = λ e. absurd (true≢false (sym e ∙ going));
-    pending = [];
-    holds = h;
+  pub begins : (reader : LogReader) (remained : Option (List ℕ)) (old : Stand)
+      → HandsFirst reader remained remained [] → FiltersSoFar filter reader remained remained old old
+  begins reader remained old hands = record {
     first = [];
-    lines = λ more e. refl;
-    ended = λ e. refl;
+    hands = hands;
     added = [];
     count = 0;
     filters = (refl, refl);
@@ -137,199 +73,63 @@ module _ (filter : Filter) where
     addressed = or_none old.addressed old.addressed refl;
   }
 
-  module _ (room : ℕ) (was now : Buffered) (remained remains : Option (List ℕ)) (old mid : Stand)
-      (s : FiltersSoFar filter room was remained remains old mid)
-      (same : now.ended ≡ was.ended) where
-    still_first : AreFirst now.ended s.read s.first s.pending
-    still_first = subst (λ (e : Bool). AreFirst e s.read s.first s.pending) (sym same) s.lines
-
+  module _ (was now : LogReader) (remained before after : Option (List ℕ)) (old mid between : Stand)
+      (s : FiltersSoFar filter was remained before old mid) (idle : Goes mid between [] 0 0)
+      (still : between.addressed ≡ mid.addressed) where
     -- a line more, whose output was put
-    one_more : (new : Stand) (line : List ℕ) (end : LineEnd) (verdict : Verdict)
-        → HandsOut now s.pending line end → IsVerdict filter line verdict
+    one_more : (new : Stand) (line : LogLine) (verdict : Verdict)
+        → HandsFirst now remained after (s.first ++ line ∷ [])
+        → IsVerdict filter (content line) verdict
         → is_refused filter verdict ≡ false
-        → Goes mid new (output_of filter verdict (log_line line end))
+        → Goes between new (output_of filter verdict line)
         (one_if (is_selected filter verdict)) 1
-        → new.addressed ≡ (mid.addressed || is_addressed_by verdict)
-        → FiltersSoFar filter room now remained remains old new
-    one_more new line end verdict hands judges passes goes seen =
-        let next = log_line line end in
-        let is = handed_first now s.pending line end hands in
-        let added = output_of filter verdict next in
+        → new.addressed ≡ (between.addressed || is_addressed_by verdict)
+        → FiltersSoFar filter now remained after old new
+    one_more new line verdict hands judges passes goes seen =
+        let added = output_of filter verdict line in
         let count = one_if (is_selected filter verdict) in
         record {
-          read = s.read;
-          reads = s.reads;
-          counted = s.counted;
-          at_end = λ e. s.at_end (sym same ∙ e);
-          pending = hands.after;
-          holds = hands.holds;
-          first = s.first ++ next ∷ [];
-          lines = next_first now.ended s.read s.first s.pending line hands.after end still_first is;
-          ended = λ e.
-              list_all-append (λ line. line.is_ended) s.first (next ∷ [])
-              ∙ ap (λ b. b && list_all (λ line. line.is_ended) (next ∷ [])) (s.ended (sym same ∙ e))
-              ∙ ap (λ b. b && true) (ended_too now.ended next e is.whole);
+          first = s.first ++ line ∷ [];
+          hands = hands;
           added = s.added ++ added;
           count = s.count + count;
-          filters = both filter s.first (next ∷ []) s.added added s.count count s.filters (
+          filters = both filter s.first (line ∷ []) s.added added s.count count s.filters (
             verdict,
             [],
             0,
-            subst (λ l. IsVerdict filter l verdict) (sym is.is) judges,
+            judges,
             passes,
             (refl, refl),
             sym (append-nil added),
             omega arith,
           );
           goes = subst (λ (n : ℕ). Goes old new (s.added ++ added) (s.count + count) n)
-              (sym (length-append s.first (next ∷ [])))
-              (goes_on old mid new s.added added s.count count (length s.first) 1 s.goes goes);
-          addressed = addressed_more filter s.first next verdict old.addressed mid.addressed new.addressed
-              (subst (λ l. IsVerdict filter l verdict) (sym is.is) judges) s.addressed seen;
+              (sym (length-append s.first (line ∷ [])))
+              (goes_on old between new s.added added s.count count (length s.first) 1
+              (goes_still old mid between s.added s.count (length s.first) s.goes idle) goes);
+          addressed = addressed_more filter s.first line verdict old.addressed mid.addressed new.addressed
+              judges s.addressed (seen ∙ ap (λ b. b || is_addressed_by verdict) still);
         }
 
     -- the line that was handed out was filtered
     pub after_line : (new : Stand) (end : LineEnd) (line whole : List ℕ)
-        → ((pending : List ℕ) → IsPending was pending → Gives now pending (Line end))
-        → line ≡ now.line → whole ≡ now.whole
-        → FiltersLine filter line (whole ++ feed_behind end) mid new
-        → FiltersSoFar filter room now remained remains old new
-    after_line new end line whole gives is all f =
-        let given = gives s.pending s.holds in
-        let text : whole ++ feed_behind end ≡ printed (log_line now.line end) = ap
-        (λ l. l ++ feed_behind end) (all ∙ given.2) ∙ printed_is now.line end in
-        let handed = handed_first now s.pending now.line end given.0 in
-        one_more new now.line end f.0 given.0 (subst (λ l. IsVerdict filter l f.0) is f.1) f.2
-        (subst (λ t. Goes mid new (shown filter f.0 (content (log_line now.line end)) t) (one_if (is_selected filter f.0)) 1) text
-        (subst (λ l. Goes mid new (shown filter f.0 l (whole ++ feed_behind end)) (one_if (is_selected filter f.0)) 1)
-        (is ∙ sym handed.is) f.3)) f.4
+        → GivesNext now remained after s.first (Line end)
+        → line ≡ line_of now → whole ≡ whole_of now
+        → FiltersLine filter line (whole ++ feed_behind end) between new
+        → FiltersSoFar filter now remained after old new
+    after_line new end line whole given is all f =
+        let next = log_line (line_of now) end in
+        let text : whole ++ feed_behind end ≡ printed next = ap (λ l. l ++ feed_behind end) all ∙ sym given.is_printed in
+        let same : line ≡ content next = is ∙ sym given.is_content in
+        one_more new next f.0 given.hands (subst (λ l. IsVerdict filter l f.0) same f.1) f.2
+        (subst (λ t. Goes between new (shown filter f.0 (content next) t) (one_if (is_selected filter f.0)) 1) text
+        (subst (λ l. Goes between new (shown filter f.0 l (whole ++ feed_behind end)) (one_if (is_selected filter f.0)) 1)
+        same f.3)) f.4
 
     -- one that is too long was dropped
-    pub after_long : (new : Stand) → ((pending : List ℕ) → IsPending was pending
-        → Gives now pending TooLong) → now.limit ≡ 1048576
+    pub after_long : (new : Stand) → GivesNext now remained after s.first TooLong → hurries_of now ≡ false
         → is_refused filter verdicts.TooLong ≡ false
-        → Goes mid new [] 0 1 → new.addressed ≡ mid.addressed → FiltersSoFar filter room now remained remains old new
-    after_long new gives limit passes goes seen =
-        let given = gives s.pending s.holds in
-        one_more new given.0 given.1 verdicts.TooLong given.2 (omega (arith, given.3, limit)) passes
-        goes (or_none mid.addressed new.addressed seen)
-
-    -- what waited was written
-    pub handed_on : (new : Stand) → IsPending now s.pending → new.addressed ≡ mid.addressed → Goes mid new [] 0 0
-        → FiltersSoFar filter room now remained remains old new
-    handed_on new holds seen goes = record {
-      read = s.read;
-      reads = s.reads;
-      counted = s.counted;
-      at_end = λ e. s.at_end (sym same ∙ e);
-      pending = s.pending;
-      holds = holds;
-      first = s.first;
-      lines = still_first;
-      ended = λ e. s.ended (sym same ∙ e);
-      added = s.added;
-      count = s.count;
-      filters = s.filters;
-      goes = goes_still old mid new s.added s.count (length s.first) s.goes goes;
-      addressed = seen ∙ s.addressed;
-    }
-
-  -- what was read before the device is asked: no line of what is pending is whole
-  pub record Idle (room : ℕ) (held : Buffered) (remained remains : Option (List ℕ))
-      (old now : Stand) : Type 0 where
-    pub sofar : FiltersSoFar filter room held remained remains old now
-    pub going : held.ended ≡ false
-    pub none : HasNo 10 sofar.pending
-
-  pub before_asking : (room : ℕ) (was now : Buffered) (remained remains : Option (List ℕ))
-      (old mid new : Stand) → FiltersSoFar filter room was remained remains old mid
-      → ((pending : List ℕ) → IsPending was pending → Gives now pending Ask) → now.ended ≡ was.ended
-      → new.addressed ≡ mid.addressed → Goes mid new [] 0 0 → Idle room now remained remains old new
-  unfolding handed_on
-  before_asking room was now remained remains old mid new s gives same seen goes =
-      let given = gives s.pending s.holds in
-      record {
-        sofar = handed_on room was now remained remains old mid s same new given.0 seen goes;
-        going = given.3;
-        none = has_no s.pending given.1;
-      }
-
-  pub after_asking : (room left count : ℕ) (was now : Buffered)
-      (remained mid remains : Option (List ℕ)) (old new : Stand)
-      → Idle room was remained mid old new
-      → Receives mid remains was now count → now.ended ≡ (count == 0) → count ≤ room
-      → left ≡ room - count → FiltersSoFar filter left now remained remains old new
-  after_asking room left count was now remained mid remains old new idle r ended fits lefts =
-      let s = idle.sofar in
-      record {
-        read = s.read ++ r.chunk;
-        reads = Consumes-trans remained mid remains s.read r.chunk s.reads r.consumed;
-        counted = omega (arith, length-append s.read r.chunk, s.counted, r.counted, fits, lefts);
-        at_end = λ e. r.at_end (no_bytes count (sym ended ∙ e));
-        pending = s.pending ++ r.chunk;
-        holds = r.holds s.pending s.holds;
-        first = s.first;
-        lines = first_still now.ended s.read s.first s.pending r.chunk
-            (subst (λ (e : Bool). AreFirst e s.read s.first s.pending) idle.going s.lines);
-        ended = λ e. s.ended idle.going;
-        added = s.added;
-        count = s.count;
-        filters = s.filters;
-        goes = s.goes;
-        addressed = s.addressed;
-      }
-
--- ---- that it ends
-
--- what there is to read and to hand out, in a buffer of so many bytes: the bytes that may still be read, and the end of
--- the log, each before all lines that the buffer may have
-abbrev pub to_do : ℕ → ℕ → Buffered → ℕ
-to_do size room held = (room + (if held.ended then 0 else 1)) * (size + 2) + work held
-
-pub less_to_hand : (size room : ℕ) (was now : Buffered) → now.ended ≡ was.ended
-    → work now < work was → to_do size room now < to_do size room was
-less_to_hand size room was now same less = by _ _
-    (ap (λ e. (room + (if e then 0 else 1)) * (size + 2)) same) where
-      by : (a b : ℕ) → a ≡ b → a + work now < b + work was
-      by a b e = omega (arith, e, less)
-
-work_bound : (held : Buffered) → work held ≤ length held.bytes + 1
-work_bound held =
-    let one : (if held.dropped then 1 else 0) ≤ 1 = elim held.dropped as
-    (λ v. (if v then 1 else 0) ≤ 1) [ true ↦ omega arith | false ↦ omega arith ] in
-    omega (
-      arith,
-      one,
-      length-drop held.start (take held.end held.bytes),
-      length-take held.end
-          held.bytes,
-    )
-
--- a read gave some bytes, or came to the end of the log
-fewer : (room count : ℕ) (was now : Bool) → was ≡ false → now ≡ (count == 0) → count ≤ room
-    → room - count + (if now then 0 else 1) < room + (if was then 0 else 1)
-fewer room count was now going ended fits =
-    let one : ◌≡◌ {A = ℕ} (if was then 0 else 1) 1 = ap (λ v. if v then 0 else 1) going in
-    elim (eqb_tells count 0) [
-      | inl none ↦
-          let zero : ◌≡◌ {A = ℕ} (if now then 0 else 1) 0 = ap (λ v. if v then 0 else 1)
-          (ended ∙ none.0) in
-          omega (arith, zero, one, none.1, fits)
-      | inr some ↦
-          let too : ◌≡◌ {A = ℕ} (if now then 0 else 1) 1 = ap (λ v. if v then 0 else 1)
-          (ended ∙ some.0) in
-          omega (arith, too, one, some.1, fits)
-    ]
-
-pub less_to_read : (size room count : ℕ) (was now : Buffered) → was.ended ≡ false
-    → now.ended ≡ (count == 0) → count ≤ room → length now.bytes ≡ size
-    → to_do size (room - count) now < to_do size room was
-less_to_read size room count was now going ended fits same =
-    let left = room - count + (if now.ended then 0 else 1) in
-    let all = room + (if was.ended then 0 else 1) in
-    by (left * (size + 2) + work now) ((size + 2) * all) (all * (size + 2))
-    (mul-add-lt left (size + 2) (work now) all
-    (fewer room count was.ended now.ended going ended fits)
-    (omega (arith, work_bound now, same))) (mul_comm (size + 2) all) where
-      by : (x y z : ℕ) → x < y → y ≡ z → x < z + work was
-      by x y z less e = omega (arith, less, e)
+        → Goes between new [] 0 1 → new.addressed ≡ between.addressed → FiltersSoFar filter now remained after old new
+    after_long new given stays passes goes seen =
+        one_more new given.line verdicts.TooLong (given.hands stays) given.long passes
+        goes (or_none between.addressed new.addressed seen)

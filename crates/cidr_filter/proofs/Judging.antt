@@ -9,11 +9,11 @@ use Rattle.line_addresses.specs.Following.{following}
 use Rattle.line_addresses.specs.Found.{IsNextAddress, spelled_at as spelled_at_place}
 use Rattle.line_addresses.specs.Words.{words_of}
 use Rattle.line_addresses.specs.declared.found.Found.{Found}
-use Rattle.cidr_filter.specs.Fields.{field_of}
+use Rattle.line_addresses.specs.Fields.{field_of}
 use Rattle.cidr_filter.specs.Filters.{IsListed, TellsBlock, asked, asked_of, of_part, of_rest, spelled_at, addresses_in, FirstListed, NoneListed, IsVerdictOfAddresses, IsVerdict}
 use Rattle.cidr_filter.specs.declared.filter.Filter.{Filter}
-use Rattle.cidr_filter.specs.declared.filter.Place.{Place}
-use Rattle.cidr_filter.specs.declared.filter.Place.TheVariants as places
+use Rattle.line_addresses.specs.declared.place.Place.{Place}
+use Rattle.line_addresses.specs.declared.place.Place.TheVariants as places
 use Rattle.cidr_filter.specs.declared.filter.Verdict.{Verdict}
 use Rattle.cidr_filter.specs.declared.filter.Verdict.TheVariants as verdicts
 

@@ -8,7 +8,7 @@ use Rattle.program.specs.declared.usage.Subject.TheVariants as subjects
 use Rattle.cidr_filter.specs.CommandLines.{AsksNothing}
 use Rattle.cidr_filter.specs.Filters.{IsVerdict, Filters}
 use Rattle.cidr_filter.specs.Laws.{LinesHaveOneVerdict, LogsHaveOneOutput, OutputsOfPartsFollow, LinesThatEndRunsAreWhole, is_one_of, begins_with, is_option_word, OthersAreNoOptions, OthersAskForNothing, WordsHaveOneFault}
-use Rattle.cidr_filter.specs.Lines.{LogLine, log_lines, content}
+use Rattle.program.specs.LogLines.{LogLine, log_lines, content}
 use Rattle.cidr_filter.specs.Options.{option_of}
 use Rattle.cidr_filter.specs.Usage.{about, HasFault}
 use Rattle.cidr_filter.specs.declared.filter.Filter.{Filter}
@@ -17,7 +17,7 @@ use Rattle.cidr_filter.specs.declared.filter.Verdict.TheVariants as verdicts
 use Rattle.cidr_filter.specs.declared.options.Choice.TheVariants as choices
 use Rattle.cidr_filter.specs.declared.usage.Problem.TheVariants as problems
 use Rattle.cidr_filter.specs.declared.usage.UsageFault.{UsageFault}
-use Rattle.cidr_filter.proofs.LogLines.{ended}
+use Rattle.program.specs.LogLines.{ended}
 use Rattle.cidr_filter.proofs.OptionExamples.{letters}
 
 -- ---- one verdict

@@ -5,15 +5,12 @@ pub mod Examples
 pub mod Failing
 pub mod Faults
 pub mod Filtering
-pub mod Handed
 pub mod Judging
 pub mod LawExamples
-pub mod LogLines
 pub mod LogParts
 pub mod LogsInTurn
 pub mod OneOutput
 pub mod OptionExamples
-pub mod Parts
 pub mod ReadInTurn
 pub mod Requests
 pub mod Runs

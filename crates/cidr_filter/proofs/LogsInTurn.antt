@@ -1,56 +1,36 @@
 -- Logs that are filtered in turn.
 use Rattle.std.proofs.Common.{◌≡◌, ◌+◌, ◌-◌, ◌^◌, ◌++◌, ◌∷◌, ◌∙◌, ◌==◌, ◌||◌, [], ℕ, Bool, List, true, false, cond, inl, inr, refl, sym, ap, subst, arith, length, min, append_assoc, append-nil}
-use Rattle.std.specs.Prelude.{Option, None, Some, IsTrue, filter}
-use Rattle.std.specs.List.{slice_split}
-use Rattle.std.specs.Io.KnownBytes.{Appends, Consumes, IsAtEnd}
-use Rattle.std.proofs.KnownBytes.{Appends-trans}
-use Rattle.std.proofs.lemmas.Option.{none-some}
-use Rattle.lines.specs.Parts.{IsBeginning}
+use Rattle.std.specs.Prelude.{Option, Some, IsTrue}
 use Rattle.lines.specs.Outputs.{Written, Puts, AppendsBeginning}
 use Rattle.lines.proofs.Putting.{puts_nothing, puts_more}
 use Rattle.lists.specs.KnownLists.{KnownLists}
 use Rattle.program.specs.Messages.{Tells}
 use Rattle.program.proofs.Told.{tells_more, tells_nothing, tells_same}
 use Rattle.cidr_filter.specs.Addressed.{any_addressed, lacking_by, lacking_text, closed_text}
-use Rattle.cidr_filter.specs.Lines.{LogLine, lines_in, log_lines, ended_lines}
+use Rattle.program.proofs.Counts.{counts_more, counts_none, counts_from_none}
+use Rattle.program.proofs.LogNames.{all_of, first_of}
+use Rattle.program.specs.Counts.{Counts}
+use Rattle.program.specs.LogLines.{LogLine, log_lines, ended_lines, content}
+use Rattle.program.specs.Logs.{StopsAfter, HaltsBy}
 use Rattle.cidr_filter.specs.Filters.{Filters}
-use Rattle.cidr_filter.specs.Logs.{IsAllOf, IsFirstOf, FiltersLogs, RefusesAfter, HaltsBy}
-use Rattle.cidr_filter.specs.Stands.{Stand, Counts}
+use Rattle.cidr_filter.specs.Logs.{FiltersLogs, EndsRunBy}
+use Rattle.cidr_filter.specs.Stands.{Stand}
 use Rattle.cidr_filter.specs.Stops.{Ends, EndsAtLine, Stops}
 use Rattle.cidr_filter.specs.Private.Runs.{FiltersNames}
 use Rattle.cidr_filter.specs.declared.filter.Filter.{Filter}
 use Rattle.cidr_filter.specs.declared.filter.Verdict.{Verdict}
-use Rattle.cidr_filter.specs.declared.log.LogFault.{LogFault}
-use Rattle.cidr_filter.specs.declared.log.LogFault.TheVariants as faults
+use Rattle.program.specs.declared.log_fault.LogFault.{LogFault}
+use Rattle.program.specs.declared.log_fault.LogFault.TheVariants as faults
 use Rattle.cidr_filter.specs.declared.opening.OpenFault.{OpenFault}
 use Rattle.cidr_filter.proofs.Addressed.{lacking_same}
 use Rattle.cidr_filter.proofs.Failing.{or_assoc}
-use Rattle.cidr_filter.proofs.Filtering.{counts_more, counts_none}
-
--- ---- what was read of a log
-
-same_some : (a b : List ℕ) (o : Option (List ℕ)) → o ≡ Some a → o ≡ Some b → a ≡ b
-same_some a b o e f = cc
-
-known_first : (remained remains : Option (List ℕ)) (read input : List ℕ) → remained ≡ Some input → Consumes remained remains read → IsBeginning read input
-known_first None remains read input e h = absurd (none-some input e)
-known_first (Some xs) None read input e h = absurd h
-known_first (Some xs) (Some ys) read input e h = (ys, same_some input xs (Some xs) e refl ∙ h)
-
-known_all : (remained remains : Option (List ℕ)) (read input : List ℕ) → remained ≡ Some input → Consumes remained remains read → IsAtEnd remains → read ≡ input
-known_all None remains read input e h end = absurd (none-some input e)
-known_all (Some xs) None read input e h end = absurd h
-known_all (Some xs) (Some ys) read input e h end =
-    sym (same_some input xs (Some xs) e refl ∙ h ∙ ap (λ t. read ++ t) end ∙ append-nil read)
-
-first_part : (read last input : List ℕ) → IsBeginning (read ++ last) input → IsBeginning read input
-first_part read last input b = (last ++ b.0, b.1 ∙ append_assoc read last b.0)
 
 -- ---- one log
 
 -- the output of the first lines was put, of which there were this many, or the writer failed, which took a beginning of
 -- it
 abbrev pub PutsBy : LogFault → Bool → Stand → Stand → List ℕ → ℕ → Type 0
+PutsBy faults.Open failed old new added lines = Puts old.holds old.waits new.holds new.waits added × (new.lines ≡ min lines (2 ^ 64 - 1))
 PutsBy faults.Read failed old new added lines = Puts old.holds old.waits new.holds new.waits added × (new.lines ≡ min lines (2 ^ 64 - 1))
 PutsBy faults.Write failed old new added lines = IsTrue failed × AppendsBeginning old.holds new.holds (old.waits ++ added)
 PutsBy faults.Address failed old new added lines = Puts old.holds old.waits new.holds new.waits added × (new.lines ≡ min lines (2 ^ 64 - 1))
@@ -63,51 +43,11 @@ pub record NameStops (filter : Filter) (known : KnownLists) (name : List ℕ) (f
   pub added : List ℕ
   pub count : ℕ
   pub filters : Filters filter lines added count
-  pub halts : HaltsBy filter known name lines fault
+  pub halts : HaltsBy (EndsRunBy filter) known name lines fault
   pub puts : PutsBy fault failed old new added (length lines)
 
-lines_told : (lines count : ℕ) → Counts 0 lines count → lines ≡ min count (2 ^ 64 - 1)
-lines_told lines count counted = let e = counted (omega arith) in omega (arith, e)
-
--- the lines that are ended come first
-module _ where
-  is_ended : LogLine → Bool
-  is_ended line = line.is_ended
-
-  last_apart : (bytes : List ℕ) (none : Bool) → (others : List LogLine) × (cond none [] (record { bytes = bytes; is_ended = false } ∷ []) ≡ filter (λ line. line.is_ended) (cond none [] (record { bytes = bytes; is_ended = false } ∷ [])) ++ others)
-  last_apart bytes true = ([], refl)
-  last_apart bytes false = (record { bytes = bytes; is_ended = false } ∷ [], refl)
-
-  ended_before : (parts : List (List ℕ)) → (others : List LogLine) × (lines_in parts ≡ filter (λ line. line.is_ended) (lines_in parts) ++ others)
-  ended_before [] = ([], refl)
-  ended_before (part ∷ []) = last_apart part (length part == 0)
-  ended_before (part ∷ next ∷ parts) =
-      let more = ended_before (next ∷ parts) in
-      (more.0, ap (λ ls. record { bytes = part; is_ended = true } ∷ ls) more.1)
-
-pub ended_first : (read : List ℕ) → (others : List LogLine) × (log_lines read ≡ ended_lines read ++ others)
-ended_first read = ended_before (slice_split (λ b. b == 10) read)
-
 module _ (filter : Filter) (known : KnownLists) where
-  -- what the first lines of a log are, whatever ends it
-  pub some_first : (name : List ℕ) (lines : List LogLine) (fault : LogFault) → HaltsBy filter known name lines fault → HaltsBy filter known name lines faults.Write
-  some_first name lines faults.Read h =
-      let ended = ended_first h.0 in
-      (h.0, ended.0, h.1, ended.1 ∙ ap (λ ls. ls ++ ended.0) (sym h.2))
-  some_first name lines faults.Write h = h
-  some_first name lines faults.Address h = (h.0.read, h.0.line ∷ h.0.others, h.0.is_first, h.0.are)
-  some_first name lines faults.Length h = (h.0.read, h.0.line ∷ h.0.others, h.0.is_first, h.0.are)
-  some_first name lines faults.Endless h =
-      let ended = ended_first h.0 in
-      (h.0, ended.0, (λ input e. first_part h.0 h.1 input (h.2 input e)), ended.1 ∙ ap (λ ls. ls ++ ended.0) (sym h.4))
-
   module _ (name : List ℕ) (remained remains : Option (List ℕ)) (has : (input : List ℕ) → known.bytes_of name ≡ Some input → remained ≡ Some input) (opened : known.may_open name true) where
-    all_of : (read : List ℕ) → Consumes remained remains read → IsAtEnd remains → IsAllOf known name read
-    all_of read took end = (opened, λ input e. known_all remained remains read input (has input e) took end)
-
-    first_of : (read : List ℕ) → Consumes remained remains read → IsFirstOf known name read
-    first_of read took = λ input e. known_first remained remains read input (has input e) took
-
     -- a log that was filtered to its end
     pub name_ended : {E : Type 0} (old new : Stand) (errors told : Written E) → Ends filter remained remains (record old { lines = 0; addressed = false }) new
         → Tells errors told (lacking_by filter.place name new.lines new.addressed) → FiltersNames filter known (name ∷ []) false old new errors told
@@ -127,7 +67,7 @@ module _ (filter : Filter) (known : KnownLists) where
             [],
             false,
             false,
-            inl ((ends.read, all_of ends.read ends.reads ends.end, ends.filters, refl), refl),
+            inl ((ends.read, all_of known name remained remains has opened ends.read ends.reads ends.end, ends.filters, refl), refl),
             (refl, refl, refl, refl),
             sym (append-nil ends.added),
             omega arith,
@@ -135,46 +75,47 @@ module _ (filter : Filter) (known : KnownLists) where
             refl,
           );
           tells = tells_same errors told (lacking_by filter.place name new.lines new.addressed) text
-              (lacking_same filter.place name new.lines (length lines) new.addressed (any_addressed filter lines) (lines_told new.lines (length lines) ends.goes.2) ends.addressed) tells;
+              (lacking_same filter.place name new.lines (length lines) new.addressed (any_addressed filter lines) (counts_from_none 0 new.lines (length lines) refl ends.goes.2) ends.addressed) tells;
           puts = ends.goes.0;
           counted = ends.goes.1;
         }
 
-    line_halts : (verdict : Verdict) (old new : Stand) (h : EndsAtLine filter remained remains old new verdict) → RefusesAfter filter known name h.first verdict
-    line_halts verdict old new h = record {
+    line_halts : (IsSo : List ℕ → Type 0) (verdict : Verdict) (old new : Stand) (h : EndsAtLine filter remained remains old new verdict)
+        → IsSo (content h.line) → StopsAfter known name h.first IsSo
+    line_halts IsSo verdict old new h so = record {
       read = h.read;
       line = h.line;
       others = h.others;
-      is_first = first_of h.read h.reads;
+      is_first = first_of known name remained remains has h.read h.reads;
       are = h.lines;
       is_line = elim h.is_line [
         | inl ended ↦ inl ended
         | inr others ↦ elim others [
-          | inl end ↦ inr (inl (all_of h.read h.reads end))
+          | inl end ↦ inr (inl (all_of known name remained remains has opened h.read h.reads end))
           | inr long ↦ inr (inr long)
         ]
       ];
-      judges = h.judges;
-      refused = h.refused;
+      is_so = so;
     }
 
     -- a log that was not filtered to its end
     pub stops_by : (read_failed write_failed : Bool) (old new : Stand) (fault : LogFault) → (IsTrue read_failed → known.may_fail name) → Stops filter remained remains read_failed write_failed (record old { lines = 0; addressed = false }) new fault
         → NameStops filter known name write_failed old new fault
+    stops_by read_failed write_failed old new faults.Open fails h = absurd h
     stops_by read_failed write_failed old new faults.Read fails h = record {
       lines = ended_lines h.1;
       added = h.3.added;
       count = h.3.count;
       filters = h.3.filters;
-      halts = (h.1, first_of h.1 h.2, refl, opened, fails h.0);
-      puts = (h.3.goes.0, lines_told new.lines _ h.3.goes.2);
+      halts = (h.1, first_of known name remained remains has h.1 h.2, refl, opened, fails h.0);
+      puts = (h.3.goes.0, counts_from_none 0 new.lines _ refl h.3.goes.2);
     }
     stops_by read_failed write_failed old new faults.Write fails h = record {
       lines = h.1.first;
       added = h.1.added;
       count = h.1.count;
       filters = h.1.filters;
-      halts = (h.1.read, h.1.others, first_of h.1.read h.1.reads, h.1.lines);
+      halts = (h.1.read, h.1.others, first_of known name remained remains has h.1.read h.1.reads, h.1.lines);
       puts = (h.0, h.1.beginning);
     }
     stops_by read_failed write_failed old new faults.Address fails h = record {
@@ -182,24 +123,24 @@ module _ (filter : Filter) (known : KnownLists) where
       added = h.added;
       count = h.count;
       filters = h.filters;
-      halts = (line_halts _ _ new h, opened);
-      puts = (h.goes.0, lines_told new.lines _ h.goes.2);
+      halts = (line_halts (EndsRunBy filter faults.Address) _ _ new h (h.judges, h.refused), opened);
+      puts = (h.goes.0, counts_from_none 0 new.lines _ refl h.goes.2);
     }
     stops_by read_failed write_failed old new faults.Length fails h = record {
       lines = h.first;
       added = h.added;
       count = h.count;
       filters = h.filters;
-      halts = (line_halts _ _ new h, opened);
-      puts = (h.goes.0, lines_told new.lines _ h.goes.2);
+      halts = (line_halts (EndsRunBy filter faults.Length) _ _ new h (h.judges, h.refused), opened);
+      puts = (h.goes.0, counts_from_none 0 new.lines _ refl h.goes.2);
     }
     stops_by read_failed write_failed old new faults.Endless fails h = record {
       lines = ended_lines h.0;
       added = h.4.added;
       count = h.4.count;
       filters = h.4.filters;
-      halts = (h.0, h.1, first_of (h.0 ++ h.1) h.2, h.3, refl, opened);
-      puts = (h.4.goes.0, lines_told new.lines _ h.4.goes.2);
+      halts = (h.0, h.1, first_of known name remained remains has (h.0 ++ h.1) h.2, h.3, refl, opened);
+      puts = (h.4.goes.0, counts_from_none 0 new.lines _ refl h.4.goes.2);
     }
 
   -- a log that was not opened
@@ -265,12 +206,3 @@ module _ (filter : Filter) (known : KnownLists) where
     puts = puts_more old.holds mid.holds new.holds old.waits mid.waits new.waits f.output g.output f.puts g.puts;
     counted = counts_more old.selected mid.selected new.selected f.count g.count f.counted g.counted;
   }
-
--- ---- what was put and then written
-
--- what waited after some bytes were put was written, and more
-pub puts_then_all : (held mid holds : Option (List ℕ)) (waited between added more : List ℕ) → Puts held waited mid between added → Appends mid holds (between ++ more) → Appends held holds (waited ++ (added ++ more))
-puts_then_all held mid holds waited between added more p h =
-    subst (Appends held holds)
-    (sym (append_assoc p.0 between more) ∙ ap (λ t. t ++ more) (sym p.2) ∙ append_assoc waited added more)
-    (Appends-trans held mid holds p.0 (between ++ more) p.1 h)

@@ -7,7 +7,7 @@ use Rattle.ipnetwork.specs.declared.ip_network.IpNetwork.TheVariants as networks
 use Rattle.ipnetwork_table.specs.Laws.{BlocksOfAnyWidthThatMeet}
 use Rattle.cidr_filter.specs.Filters.{TellsBlock, addresses_in, FirstListed, NoneListed, is_selected, output_of, one_if, Filters}
 use Rattle.cidr_filter.specs.Laws.{LinesHaveOneVerdict, LogsHaveOneOutput}
-use Rattle.cidr_filter.specs.Lines.{LogLine, log_lines}
+use Rattle.program.specs.LogLines.{LogLine, log_lines}
 use Rattle.cidr_filter.specs.declared.filter.Filter.{Filter}
 use Rattle.cidr_filter.specs.Listed.{IsLongestBlock}
 use Rattle.cidr_filter.specs.declared.filter.Verdict.TheVariants as verdicts

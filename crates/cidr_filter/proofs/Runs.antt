@@ -14,44 +14,37 @@ use Rattle.program.specs.Endings.{Ending, ending, Refuses, HasTold, HasWritten, 
 use Rattle.program.specs.Messages.{Tells}
 use Rattle.lists.specs.KnownLists.{KnownLists}
 use Rattle.cidr_filter.specs.Filters.{Filters}
-use Rattle.cidr_filter.specs.Lines.{LogLine}
-use Rattle.cidr_filter.specs.Logs.{logs_of, HaltsBy}
+use Rattle.program.specs.LogLines.{LogLine}
+use Rattle.cidr_filter.specs.Logs.{EndsRunBy}
+use Rattle.program.specs.Counts.{Counts}
+use Rattle.program.specs.LogFaults.{log_fault_text, FailsWriting, Wrote, HandsOn, StopsBy}
+use Rattle.program.specs.Logs.{logs_of, HaltsBy}
 use Rattle.cidr_filter.specs.Reading.{Stops, HoldsRead}
-use Rattle.cidr_filter.specs.Runs.{FailsWriting, Wrote, StopsAtLog, total_text, status_by, FiltersAll, EndsLogs, filter_of, EndsRequest, EndsAsked}
-use Rattle.cidr_filter.specs.Stands.{Stand, stand, Counts}
+use Rattle.cidr_filter.specs.Runs.{StopsAtLog, total_text, status_by, FiltersAll, EndsLogs, filter_of, EndsRequest, EndsAsked}
+use Rattle.cidr_filter.specs.Stands.{Stand, stand}
 use Rattle.program.specs.Told.{was_refused, fault_text, refusals_text}
-use Rattle.cidr_filter.specs.Told.{in_option, line_text, log_fault_text}
+use Rattle.cidr_filter.specs.Told.{in_option}
 use Rattle.cidr_filter.specs.Private.Reading.{ReadsAll}
-use Rattle.cidr_filter.specs.Private.Runs.{FiltersNames, HandsOn, StopsBy}
+use Rattle.cidr_filter.specs.Private.Runs.{FiltersNames}
 use Rattle.cidr_filter.specs.declared.command_line.Request.{Request}
 use Rattle.cidr_filter.specs.declared.filter.Filter.{Filter}
 use Rattle.cidr_filter.specs.declared.listed.Listed.{Listed}
-use Rattle.cidr_filter.specs.declared.log.LogFault.{LogFault}
-use Rattle.cidr_filter.specs.declared.log.LogFault.TheVariants as faults
+use Rattle.program.specs.declared.log_fault.LogFault.{LogFault}
+use Rattle.program.specs.declared.log_fault.LogFault.TheVariants as faults
 use Rattle.cidr_filter.specs.declared.log.Tally.{Tally}
 use Rattle.lists.specs.declared.named.ReadFault.{ReadFault}
-use Rattle.cidr_filter.proofs.LogsInTurn.{PutsBy, NameStops, names_both, some_first, logs_both, puts_then_all}
+use Rattle.program.proofs.Counts.{counts_from_none}
+use Rattle.program.proofs.LogNames.{some_first, names_behind, names_apart, logs_some, logs_none}
+use Rattle.program.proofs.LogReading.{failed_now}
+use Rattle.program.proofs.LogStops.{told_log, puts_then_all, written_behind, failed_behind, wrote_behind, wrote_same}
+use Rattle.cidr_filter.proofs.LogsInTurn.{PutsBy, NameStops, names_both, logs_both}
 use Rattle.cidr_filter.proofs.Addressed.{same_test}
-use Rattle.cidr_filter.proofs.Stopping.{failed_now}
 
 -- ---- a log that stops
 
--- the number of the line that is told
-told_line : (name cause : List ℕ) (lines count : ℕ) → lines ≡ min count (2 ^ 64 - 1) → line_text name lines cause ≡ line_text name count cause
-told_line name cause lines count e =
-    let same : min (lines + 1) (2 ^ 64 - 1) ≡ min (count + 1) (2 ^ 64 - 1) = omega (arith, e) in
-    ap (λ n. name ++ codes ":" ++ decimal n ++ codes ": refused " ++ cause ++ codes "\n") same
-
-told_log : (name : List ℕ) (lines count : ℕ) (fault : LogFault) → lines ≡ min count (2 ^ 64 - 1) → log_fault_text name lines fault ≡ log_fault_text name count fault
-told_log name lines count faults.Read e = refl
-told_log name lines count faults.Write e = refl
-told_log name lines count faults.Address e = told_line name (codes "address") lines count e
-told_log name lines count faults.Length e = told_line name (codes "length") lines count e
-told_log name lines count faults.Endless e = refl
-
 -- the first lines of a log were filtered, and then it stopped
 at_log : {W E : Type 0} (filter : Filter) (known : KnownLists) (name : List ℕ) (fault : LogFault) (lines : List LogLine) (added : List ℕ) (more : ℕ) (end : Ending W E)
-    → end.status ≡ 2 → Filters filter lines added more → HaltsBy filter known name lines fault → Wrote fault end ([] ++ added)
+    → end.status ≡ 2 → Filters filter lines added more → HaltsBy (EndsRunBy filter) known name lines fault → Wrote fault end ([] ++ added)
     → HasTold end (log_fault_text name (length lines) fault) → StopsAtLog filter known (name ∷ []) end
 at_log filter known name fault lines added more end two filters halts wrote told = record {
   before = [];
@@ -74,46 +67,30 @@ at_log filter known name fault lines added more end two filters halts wrote told
   status = two;
 }
 
--- what waited was written behind what was put, or the writer failed at it
-written_behind : {W E : Type 0} (end : Ending W E) (mid : Written W) (added : List ℕ)
-    → Prints end.output mid added
-    → HasWritten (record end { output = mid }) [] → HasWritten end added
-written_behind end mid added p h =
-    subst (λ t. Writes end.output end.output_after t) (append-nil added)
-    (puts_then_all _ _ _ _ _ added [] p h)
-
-failed_behind : {W E : Type 0} (end : Ending W E) (mid : Written W) (added : List ℕ)
-    → Prints end.output mid added
-    → FailsWriting (record end { output = mid }) [] → FailsWriting end added
-failed_behind end mid added p h = (
-  h.0,
-  subst (λ t. FailsIn end.output end.output_after t) (append-nil added)
-      (begins_after_puts _ _ _ _ _ added [] p h.1),
-)
-
 module _ {W E : Type 0} (filter : Filter) (known : KnownLists) (name : List ℕ) (lines : List LogLine) (added : List ℕ) (more : ℕ)
     (filters : Filters filter lines added more) (end : Ending W E) (two : end.status ≡ 2) (mid : Written W) (told : ℕ) where
   -- the output of these lines was put, and then what waited was written or not
-  handed : (fault : LogFault) → HaltsBy filter known name lines fault → ((text : List ℕ) → HasWritten end text → Wrote fault end text)
+  handed : (fault : LogFault) → HaltsBy (EndsRunBy filter) known name lines fault → ((text : List ℕ) → HasWritten end text → Wrote fault end text)
       → Prints end.output mid added × (told ≡ min (length lines) (2 ^ 64 - 1))
       → HandsOn name told fault (record end { output = mid }) → StopsAtLog filter known (name ∷ []) end
   handed fault halts wrote p (inl h) =
       at_log filter known name fault lines added more end two filters halts (wrote ([] ++ added) (written_behind end mid added p.0 h.0))
       (tells_same end.errors end.errors_after _ _ (told_log name told (length lines) fault p.1) h.1)
   handed fault halts wrote p (inr h) =
-      at_log filter known name faults.Write lines added more end two filters (some_first filter known name lines fault halts) (failed_behind end mid added p.0 h.0) h.1
+      at_log filter known name faults.Write lines added more end two filters (some_first (EndsRunBy filter) known name lines fault halts) (failed_behind end mid added p.0 h.0) h.1
 
   -- the writer had failed
-  had_failed : HaltsBy filter known name lines faults.Write → IsTrue mid.failed
+  had_failed : HaltsBy (EndsRunBy filter) known name lines faults.Write → IsTrue mid.failed
       × FailsIn end.output mid added
       → (end.output_after ≡ mid) × HasTold (record end { output = mid }) (codes "write error\n") → StopsAtLog filter known (name ∷ []) end
   had_failed halts p stops =
       at_log filter known name faults.Write lines added more end two filters halts
       (subst (λ (o : Written W). (o.failed ≡ true) × FailsIn end.output o added) (sym stops.0) p) stops.1
 
-  stops_now : (fault : LogFault) (old new : Tally) → new.lines ≡ told → HaltsBy filter known name lines fault
+  stops_now : (fault : LogFault) (old new : Tally) → new.lines ≡ told → HaltsBy (EndsRunBy filter) known name lines fault
       → PutsBy fault mid.failed (stand end.output old) (stand mid new) added (length lines)
       → StopsBy name told fault (record end { output = mid }) → StopsAtLog filter known (name ∷ []) end
+  stops_now faults.Open old new same halts puts stops = handed faults.Open halts (λ text h. h) (puts.0, sym same ∙ puts.1) stops
   stops_now faults.Read old new same halts puts stops = handed faults.Read halts (λ text h. h) (puts.0, sym same ∙ puts.1) stops
   stops_now faults.Write old new same halts puts stops = had_failed halts puts stops
   stops_now faults.Address old new same halts puts stops = handed faults.Address halts (λ text h. h) (puts.0, sym same ∙ puts.1) stops
@@ -128,18 +105,6 @@ name_stops filter known name end two mid fault old new s stops =
     stops_now filter known name s.lines s.added s.count s.filters end two mid new.lines fault old new refl s.halts s.puts stops
 
 -- ---- logs in turn
-
-wrote_behind : {W E : Type 0} (fault : LogFault) (end : Ending W E) (mid : Written W) (between : Written E) (output text : List ℕ)
-    → Prints end.output mid output
-    → Wrote fault (record end { output = mid; errors = between }) text → Wrote fault end (output ++ text)
-wrote_behind faults.Read end mid between output text p h = puts_then_all _ _ _ _ _ output text p h
-wrote_behind faults.Write end mid between output text p h = (h.0, begins_after_puts _ _ _ _ _ output text p h.1)
-wrote_behind faults.Address end mid between output text p h = puts_then_all _ _ _ _ _ output text p h
-wrote_behind faults.Length end mid between output text p h = puts_then_all _ _ _ _ _ output text p h
-wrote_behind faults.Endless end mid between output text p h = puts_then_all _ _ _ _ _ output text p h
-
-wrote_same : {W E : Type 0} (fault : LogFault) (end : Ending W E) (text other : List ℕ) → text ≡ other → Wrote fault end text → Wrote fault end other
-wrote_same fault end text other e h = subst (λ (t : List ℕ). Wrote fault end t) e h
 
 -- a log that stops behind others that were filtered
 pub stops_behind_names : {W E : Type 0} (filter : Filter) (known : KnownLists) (done more rest names : List (List ℕ)) (missed : Bool) (end : Ending W E) (mid : Written W) (between : Written E) (old now : Tally)
@@ -158,7 +123,7 @@ stops_behind_names filter known done more rest names missed end mid between old 
   added = s.added;
   more = s.more;
   fault = s.fault;
-  logs = e ∙ ap (λ l. done ++ (l ++ rest)) s.logs ∙ ap (λ l. done ++ l) (append_assoc s.before (s.name ∷ s.behind) rest) ∙ sym (append_assoc done s.before (s.name ∷ (s.behind ++ rest)));
+  logs = names_behind done more rest names s.before s.behind s.name e s.logs;
   filters = logs_both filter known done s.before f.output s.output f.count s.selected f.text s.texts missed s.missed f.filters s.filters;
   first = s.first;
   halts = s.halts;
@@ -167,31 +132,6 @@ stops_behind_names filter known done more rest names missed end mid between old 
       (tells_more end.errors between end.errors_after f.text (s.texts ++ log_fault_text s.name (length s.lines) s.fault) f.tells s.told);
   status = s.status;
 }
-
--- the names of logs up to a place, the one there, and those behind it
-pub names_more : {Z : Type 0} (files : List (String Z)) (i : ℕ) (file : String Z) (name : List ℕ) → i < length files → file ≡ get_or files i file → name ≡ string_bytes file
-    → map string_bytes (take (i + 1) files) ≡ map string_bytes (take i files) ++ name ∷ []
-names_more files i file name within is same =
-    ap (map string_bytes) (take_more files i file within ∙ ap (λ f. take i files ++ f ∷ []) (sym is)) ∙ map_push string_bytes (take i files) file
-    ∙ ap (λ n. map string_bytes (take i files) ++ n ∷ []) (sym same)
-
-pub logs_some : {Z : Type 0} (files : List (String Z)) → (length files == 0) ≡ false → logs_of files ≡ map string_bytes files
-logs_some [] some = absurd (true≢false some)
-logs_some (file ∷ files) some = refl
-
-pub logs_none : {Z : Type 0} (files : List (String Z)) → (length files == 0) ≡ true → logs_of files ≡ codes "-" ∷ []
-logs_none [] none = refl
-logs_none (file ∷ files) none = absurd (true≢false (sym none ∙ ne_eqb (length (file ∷ files)) 0 (λ e. omega (arith, e))))
-
-map_both : {X : Type 0} (f : X → List ℕ) (xs ys : List X) → map f (xs ++ ys) ≡ map f xs ++ map f ys
-map_both f [] ys = refl
-map_both f (x ∷ xs) ys = ap (λ l. f x ∷ l) (map_both f xs ys)
-
-pub names_apart : {Z : Type 0} (files : List (String Z)) (i : ℕ) (name : List ℕ) → map string_bytes (take (i + 1) files) ≡ map string_bytes (take i files) ++ name ∷ []
-    → map string_bytes files ≡ map string_bytes (take i files) ++ ((name ∷ []) ++ map string_bytes (drop (i + 1) files))
-names_apart files i name e =
-    ap (map string_bytes) (sym (take-append-drop (i + 1) files)) ∙ map_both string_bytes (take (i + 1) files) (drop (i + 1) files)
-    ∙ ap (λ l. l ++ map string_bytes (drop (i + 1) files)) e ∙ append_assoc (map string_bytes (take i files)) (name ∷ []) (map string_bytes (drop (i + 1) files))
 
 -- ---- one file more
 
@@ -237,9 +177,6 @@ total_same true told count e =
     ap (λ n. decimal n ++ codes "\n") same
 total_same false told count e = refl
 
-counted_told : (told count : ℕ) → Counts 0 told count → told ≡ min count (2 ^ 64 - 1)
-counted_told told count counted = let e = counted (omega arith) in omega (arith, e)
-
 module _ {W E T F : Type 0} (filter : Filter) (known : KnownLists) (names : List (List ℕ)) (missed : Bool) (end : Ending W E) (mid : Written W) (between : Written E) (told : ℕ) where
   all_ended : (written : Result T F) (status : ℕ) (old now : Tally) → old.selected ≡ 0 → now.selected ≡ told
       → FiltersNames filter known names missed (stand end.output old) (stand mid now) end.errors between
@@ -248,7 +185,7 @@ module _ {W E T F : Type 0} (filter : Filter) (known : KnownLists) (names : List
       → end.output_after.failed ≡ (mid.failed || is_err written) → status ≡ status_by missed told → end.status ≡ status_of written status
       → Tells between end.errors_after (end_text written) → FiltersAll filter known names end
   all_ended (Ok done) status old now none same f ok err failed st two tells =
-      let counted = counted_told told f.count (subst (λ n. Counts n told f.count) none (subst (λ n. Counts old.selected n f.count) same f.counted)) in
+      let counted = counts_from_none old.selected told f.count none (subst (λ n. Counts old.selected n f.count) same f.counted) in
       record {
         output = f.output;
         selected = f.count;
@@ -263,7 +200,7 @@ module _ {W E T F : Type 0} (filter : Filter) (known : KnownLists) (names : List
         );
       }
   all_ended (Err fault) status old now none same f ok err failed st two tells =
-      let counted = counted_told told f.count (subst (λ n. Counts n told f.count) none (subst (λ n. Counts old.selected n f.count) same f.counted)) in
+      let counted = counts_from_none old.selected told f.count none (subst (λ n. Counts old.selected n f.count) same f.counted) in
       record {
         output = f.output;
         selected = f.count;
@@ -316,30 +253,6 @@ number_told counts number e fits =
 
 pub nothing_told : (counts : Bool) (number : ℕ) → counts ≡ false → total_text counts number ≡ []
 nothing_told counts number e = ap (λ b. if b then decimal (min number (2 ^ 64 - 1)) ++ codes "\n" else []) e
-
--- ---- what was written when a log stopped
-
-pub stops_else : {W E : Type 0} (name : List ℕ) (lines : ℕ) (fault : LogFault) (end : Ending W E) → ¬ (fault ≡ faults.Write) → HandsOn name lines fault end → StopsBy name lines fault end
-stops_else name lines faults.Read end not h = h
-stops_else name lines faults.Write end not h = absurd (not refl)
-stops_else name lines faults.Address end not h = h
-stops_else name lines faults.Length end not h = h
-stops_else name lines faults.Endless end not h = h
-
-pub stops_failed : {W E : Type 0} (name : List ℕ) (lines : ℕ) (fault : LogFault) (end : Ending W E) → fault ≡ faults.Write → end.output_after ≡ end.output
-    → HasTold end (log_fault_text name lines faults.Write) → StopsBy name lines fault end
-stops_failed name lines fault end is same told = subst (λ (f : LogFault). StopsBy name lines f end) (sym is) (same, told)
-
-pub handed_all : {W E : Type 0} (name : List ℕ) (lines : ℕ) (fault : LogFault) (end : Ending W E)
-    → Appends end.output.holds end.output_after.holds end.output.waits → HasTold end (log_fault_text name lines fault) → HandsOn name lines fault end
-handed_all name lines fault end h told =
-    inl (subst (Appends end.output.holds end.output_after.holds) (sym (append-nil end.output.waits)) h, told)
-
-pub handed_some : {W E : Type 0} (name : List ℕ) (lines : ℕ) (fault : LogFault) (end : Ending W E) → IsTrue end.output_after.failed
-    → AppendsBeginning end.output.holds end.output_after.holds end.output.waits → HasTold end (log_fault_text name lines faults.Write)
-    → HandsOn name lines fault end
-handed_some name lines fault end failed h told =
-    inr ((failed, subst (AppendsBeginning end.output.holds end.output_after.holds) (sym (append-nil end.output.waits)) h), told)
 
 -- ---- the run
 

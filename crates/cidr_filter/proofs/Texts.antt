@@ -11,10 +11,10 @@ use Rattle.line_addresses.specs.Following.{following}
 use Rattle.line_addresses.specs.Found.{IsNextAddress}
 use Rattle.line_addresses.specs.Words.{words_of}
 use Rattle.line_addresses.specs.declared.found.Found.{Found}
-use Rattle.cidr_filter.specs.Fields.{field_of}
+use Rattle.line_addresses.specs.Fields.{field_of}
 use Rattle.cidr_filter.specs.Filters.{text_of, texts_of, of_part, of_rest, spelled_at}
 use Rattle.cidr_filter.specs.declared.filter.Filter.{Filter}
-use Rattle.cidr_filter.specs.declared.filter.Place.TheVariants as places
+use Rattle.line_addresses.specs.declared.place.Place.TheVariants as places
 
 -- the text of the next address, and those after it
 pub next_text : (filter : Filter) (line : List ℕ) (at : ℕ) (found : Found) → IsNextAddress line at found

@@ -6,11 +6,11 @@ use Rattle.lines.proofs.BytesLemmas.{strip_length}
 use Rattle.lines.proofs.Lines.{newline_cases}
 use Rattle.cidr_filter.specs.Filters.{IsVerdict}
 use Rattle.cidr_filter.specs.Laws.{LinesThatEndRunsAreWhole}
-use Rattle.cidr_filter.specs.Lines.{LogLine, log_lines, content}
+use Rattle.program.specs.LogLines.{LogLine, log_lines, content, ended, unended}
 use Rattle.cidr_filter.specs.declared.filter.Filter.{Filter}
 use Rattle.cidr_filter.specs.declared.filter.Verdict.{Verdict}
 use Rattle.cidr_filter.specs.declared.filter.Verdict.TheVariants as verdicts
-use Rattle.cidr_filter.proofs.LogLines.{ended, unended, lines_line, lines_last, some_bytes}
+use Rattle.program.proofs.LogLines.{lines_line, lines_last, some_bytes}
 
 -- two lists that are the same
 first_of : (x y : LogLine) (xs ys : List LogLine) → x ∷ xs ≡ y ∷ ys → x ≡ y

@@ -2,10 +2,10 @@
 use Rattle.std.specs.Prelude.{ℕ, ◌&&◌, Bool, true, false, not, List, [], ◌++◌, length, nat_le, nat_lt, codes, decimal, if◌then◌else◌}
 use Rattle.std.specs.List.{list_any}
 use Rattle.cidr_filter.specs.Filters.{addresses_in}
-use Rattle.cidr_filter.specs.Lines.{LogLine, content}
+use Rattle.program.specs.LogLines.{LogLine, content}
 use Rattle.cidr_filter.specs.declared.filter.Filter.{Filter}
-use Rattle.cidr_filter.specs.declared.filter.Place.{Place}
-use Rattle.cidr_filter.specs.declared.filter.Place.TheVariants as places
+use Rattle.line_addresses.specs.declared.place.Place.{Place}
+use Rattle.line_addresses.specs.declared.place.Place.TheVariants as places
 use Rattle.cidr_filter.specs.declared.filter.Verdict.{Verdict}
 use Rattle.cidr_filter.specs.declared.filter.Verdict.TheVariants as verdicts
 use Rattle.cidr_filter.specs.declared.opening.OpenFault.{OpenFault}

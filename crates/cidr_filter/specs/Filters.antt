@@ -9,14 +9,14 @@ use Rattle.line_addresses.specs.Addresses.{Spelled, spelled, addresses_of}
 use Rattle.line_addresses.specs.Following.{following}
 use Rattle.line_addresses.specs.Mapped.{unmapped}
 use Rattle.line_addresses.specs.Words.{words_of}
-use Rattle.cidr_filter.specs.Fields.{field_of}
-use Rattle.cidr_filter.specs.Lines.{LogLine, content, printed}
+use Rattle.line_addresses.specs.Fields.{field_of}
+use Rattle.program.specs.LogLines.{LogLine, content, printed}
 use Rattle.cidr_filter.specs.Listed.{IsIn, IsLongestBlock, has_address}
 use Rattle.cidr_filter.specs.declared.filter.WithoutAddress.{WithoutAddress}
 use Rattle.cidr_filter.specs.declared.filter.WithoutAddress.TheVariants as without
 use Rattle.cidr_filter.specs.declared.filter.Filter.{Filter}
-use Rattle.cidr_filter.specs.declared.filter.Place.{Place}
-use Rattle.cidr_filter.specs.declared.filter.Place.TheVariants as places
+use Rattle.line_addresses.specs.declared.place.Place.{Place}
+use Rattle.line_addresses.specs.declared.place.Place.TheVariants as places
 use Rattle.cidr_filter.specs.declared.filter.Verdict.{Verdict}
 use Rattle.cidr_filter.specs.declared.filter.Verdict.TheVariants as verdicts
 use Rattle.cidr_filter.specs.declared.listed.Listed.{Listed}

@@ -4,7 +4,7 @@ use Rattle.std.specs.List.{list_all, list_any}
 use Rattle.std.specs.String.{string_bytes}
 use Rattle.cidr_filter.specs.CommandLines.{Begin, AsksNothing}
 use Rattle.cidr_filter.specs.Filters.{IsVerdict, Filters}
-use Rattle.cidr_filter.specs.Lines.{LogLine, log_lines, content, IsWhole}
+use Rattle.program.specs.LogLines.{LogLine, log_lines, content, IsWhole}
 use Rattle.cidr_filter.specs.Options.{option_of}
 use Rattle.cidr_filter.specs.Usage.{HasFault}
 use Rattle.cidr_filter.specs.declared.filter.Filter.{Filter}

@@ -2,10 +2,8 @@
 pub mod Addressed
 pub mod Arranged
 pub mod CommandLines
-pub mod Fields
 pub mod Filters
 pub mod Laws
-pub mod Lines
 pub mod Listed
 pub mod Logs
 pub mod Options

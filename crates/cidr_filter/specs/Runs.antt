@@ -4,7 +4,7 @@ use Rattle.std.specs.String.{string_bytes}
 use Rattle.std.specs.Option.{unwrap_or}
 use Rattle.lists.specs.Lists.{ReadLists, nothing_read}
 use Rattle.lists.specs.Refusals.{Refused, no_refusals}
-use Rattle.lines.specs.Outputs.{Written, FailsIn}
+use Rattle.lines.specs.Outputs.{Written}
 use Rattle.program.specs.Endings.{Ending, Refuses, HasTold, HasWritten}
 use Rattle.program.specs.Messages.{Tells}
 use Rattle.program.specs.Runs.{EndsRun}
@@ -15,33 +15,21 @@ use Rattle.program.specs.Usage.{usage_text}
 use Rattle.cidr_filter.specs.Arranged.{arranged}
 use Rattle.cidr_filter.specs.CommandLines.{Says, AsksNothing}
 use Rattle.cidr_filter.specs.Filters.{Filters}
-use Rattle.cidr_filter.specs.Logs.{logs_of, FiltersLogs, HaltsBy}
+use Rattle.program.specs.LogFaults.{log_fault_text, FailsWriting, Wrote}
+use Rattle.program.specs.Logs.{logs_of, HaltsBy}
+use Rattle.cidr_filter.specs.Logs.{FiltersLogs, EndsRunBy}
 use Rattle.cidr_filter.specs.Reading.{IsReadOf, Stops, HoldsRead}
-use Rattle.cidr_filter.specs.Lines.{LogLine}
+use Rattle.program.specs.LogLines.{LogLine}
 use Rattle.cidr_filter.specs.Options.{text_after}
-use Rattle.cidr_filter.specs.Told.{in_option, log_fault_text}
+use Rattle.cidr_filter.specs.Told.{in_option}
 use Rattle.cidr_filter.specs.Usage.{problem_text, HasFault}
 use Rattle.cidr_filter.specs.declared.command_line.Request.{Request}
 use Rattle.cidr_filter.specs.declared.filter.Filter.{Filter}
-use Rattle.cidr_filter.specs.declared.filter.Place.{Place}
-use Rattle.cidr_filter.specs.declared.filter.Place.TheVariants as places
+use Rattle.line_addresses.specs.declared.place.Place.{Place}
+use Rattle.line_addresses.specs.declared.place.Place.TheVariants as places
 use Rattle.cidr_filter.specs.declared.listed.Listed.{Listed}
-use Rattle.cidr_filter.specs.declared.log.LogFault.{LogFault}
-use Rattle.cidr_filter.specs.declared.log.LogFault.TheVariants as faults
+use Rattle.program.specs.declared.log_fault.LogFault.{LogFault}
 use Rattle.cidr_filter.specs.declared.usage.UsageFault.{UsageFault}
-
--- the writer failed, and took a beginning of what waited and the text
-abbrev pub FailsWriting : {W E : Type 0} → Ending W E → List ℕ → Type 0
-FailsWriting end text = (end.output_after.failed ≡ true)
-    × FailsIn end.output end.output_after text
-
--- the text was written, unless it was a write that ended the run
-abbrev pub Wrote : {W E : Type 0} → LogFault → Ending W E → List ℕ → Type 0
-Wrote faults.Read end text = HasWritten end text
-Wrote faults.Write end text = FailsWriting end text
-Wrote faults.Address end text = HasWritten end text
-Wrote faults.Length end text = HasWritten end text
-Wrote faults.Endless end text = HasWritten end text
 
 -- a log that was opened was not filtered to its end, and ended the run: those before it were filtered, and its first
 -- lines; their outputs were written, the cause was reported after what there is to report of them, and the status is 2
@@ -60,7 +48,7 @@ pub record StopsAtLog {W E : Type 0} (filter : Filter) (known : KnownLists) (nam
   pub logs : names ≡ before ++ name ∷ behind
   pub filters : FiltersLogs filter known before output selected texts missed
   pub first : Filters filter lines added more
-  pub halts : HaltsBy filter known name lines fault
+  pub halts : HaltsBy (EndsRunBy filter) known name lines fault
   pub wrote : Wrote fault end (output ++ added)
   pub told : HasTold end (texts ++ log_fault_text name (length lines) fault)
   pub status : end.status ≡ 2

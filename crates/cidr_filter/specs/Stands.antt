@@ -1,6 +1,7 @@
 -- Where a run stands.
-use Rattle.std.specs.Prelude.{◌≡◌, ℕ, ◌+◌, ◌-◌, ◌^◌, ◌≤◌, min, Bool, List, Option}
+use Rattle.std.specs.Prelude.{ℕ, Bool, List, Option}
 use Rattle.lines.specs.Outputs.{Written, Puts}
+use Rattle.program.specs.Counts.{Counts}
 use Rattle.cidr_filter.specs.declared.log.Tally.{Tally}
 
 -- what the writer holds, what waits, how many lines of all logs were selected, how many of this log were filtered, and
@@ -14,10 +15,6 @@ pub record Stand : Type 0 where
 
 abbrev pub stand : {W : Type 0} → Written W → Tally → Stand
 stand output tally = record { holds = output.holds; waits = output.waits; selected = tally.selected; lines = tally.lines; addressed = tally.is_addressed }
-
--- 64 bits count this many more
-abbrev pub Counts : ℕ → ℕ → ℕ → Type 0
-Counts old new more = old ≤ 2 ^ 64 - 1 → new ≡ min (old + more) (2 ^ 64 - 1)
 
 -- from one stand to the next these bytes were added to the output, this many lines were selected, and this many
 -- filtered

@@ -1,16 +1,16 @@
 -- How the filtering of a log ends.
-use Rattle.std.specs.Prelude.{◌≡◌, ℕ, ◌-◌, ◌^◌, ◌<◌, ◌||◌, Bool, true, false, IsTrue, List, ◌∷◌, ◌++◌, length, Option, Result, Ok, Err}
+use Rattle.std.specs.Prelude.{◌≡◌, ℕ, ◌-◌, ◌^◌, ◌<◌, ◌||◌, Bool, true, IsTrue, List, ◌∷◌, ◌++◌, length, Option}
 use Rattle.std.specs.Io.KnownBytes.{Consumes, IsAtEnd}
 use Rattle.lines.specs.Outputs.{AppendsBeginning}
 use Rattle.cidr_filter.specs.Addressed.{any_addressed}
 use Rattle.cidr_filter.specs.Filters.{IsVerdict, is_refused, Filters}
-use Rattle.cidr_filter.specs.Lines.{LogLine, log_lines, ended_lines, content, IsWhole}
+use Rattle.program.specs.LogLines.{LogLine, log_lines, ended_lines, content, IsWhole}
 use Rattle.cidr_filter.specs.Stands.{Stand, Goes}
 use Rattle.cidr_filter.specs.declared.filter.Filter.{Filter}
 use Rattle.cidr_filter.specs.declared.filter.Verdict.{Verdict}
 use Rattle.cidr_filter.specs.declared.filter.Verdict.TheVariants as verdicts
-use Rattle.cidr_filter.specs.declared.log.LogFault.{LogFault}
-use Rattle.cidr_filter.specs.declared.log.LogFault.TheVariants.{Read, Write, Address, Length, Endless}
+use Rattle.program.specs.declared.log_fault.LogFault.{LogFault}
+use Rattle.program.specs.declared.log_fault.LogFault.TheVariants.{Open, Read, Write, Address, Length, Endless}
 
 -- what was read was filtered to its end
 pub record Ends (filter : Filter) (remained remains : Option (List ℕ)) (old new : Stand) : Type 0 where
@@ -60,6 +60,8 @@ pub record EndsAtLine (filter : Filter) (remained remains : Option (List ℕ)) (
 
 -- what is true if a log is not filtered to its end, by the fault
 abbrev pub Stops : Filter → Option (List ℕ) → Option (List ℕ) → Bool → Bool → Stand → Stand → LogFault → Type 0
+-- it was opened
+Stops filter remained remains read_failed write_failed old new Open = ⊥
 -- a read failed, and what was read before was filtered
 Stops filter remained remains read_failed write_failed old new Read = IsTrue read_failed × (read : List ℕ) × Consumes remained remains read × FiltersEnded filter old new read
 -- a write failed
@@ -71,21 +73,3 @@ Stops filter remained remains read_failed write_failed old new Length = EndsAtLi
 -- more bytes were read than 64 bits count; all but the last of them were filtered
 Stops filter remained remains read_failed write_failed old new Endless =
     (read : List ℕ) × (last : List ℕ) × Consumes remained remains (read ++ last) × (2 ^ 64 - 1 < length (read ++ last)) × FiltersEnded filter old new read
-
--- whether a read ended the filtering
-abbrev pub ended_by_read : {T : Type 0} → Result T LogFault → Bool
-ended_by_read (Ok done) = false
-ended_by_read (Err Read) = true
-ended_by_read (Err Write) = false
-ended_by_read (Err Address) = false
-ended_by_read (Err Length) = false
-ended_by_read (Err Endless) = false
-
--- whether a write did
-abbrev pub ended_by_write : {T : Type 0} → Result T LogFault → Bool
-ended_by_write (Ok done) = false
-ended_by_write (Err Read) = false
-ended_by_write (Err Write) = true
-ended_by_write (Err Address) = false
-ended_by_write (Err Length) = false
-ended_by_write (Err Endless) = false

@@ -1,12 +1,10 @@
--- What is reported on standard error.
-use Rattle.std.specs.Prelude.{ℕ, ◌+◌, ◌-◌, ◌^◌, min, ◌&&◌, Bool, List, [], ◌∷◌, ◌++◌, nat_lt, if◌then◌else◌, codes, bytes_eq, decimal, take, String}
+-- Where refused lines stand that are reported on standard error.
+use Rattle.std.specs.Prelude.{ℕ, ◌+◌, ◌-◌, ◌&&◌, Bool, List, [], ◌∷◌, nat_lt, if◌then◌else◌, codes, bytes_eq, take, String}
 use Rattle.lists.specs.declared.refusals.Refusal.{Refusal}
 use Rattle.program.specs.Told.{name_at, in_list}
 use Rattle.program.specs.Words.{is}
 use Rattle.cidr_filter.specs.Filters.{one_if}
 use Rattle.cidr_filter.specs.Options.{takes_next}
-use Rattle.cidr_filter.specs.declared.log.LogFault.{LogFault}
-use Rattle.cidr_filter.specs.declared.log.LogFault.TheVariants as faults
 
 -- whether the word before a place is `-e`
 abbrev pub is_text : {Z : Type 0} → List (String Z) → ℕ → Bool
@@ -23,16 +21,3 @@ abbrev pub in_option : {Z : Type 0} → List (String Z) → Refusal → ℕ × �
 in_option words refusal =
     if is_text words refusal.list then (refusal.list - 1, texts_in (take refusal.list words))
     else in_list refusal
-
--- what is reported about a line of a log that ends the run: the log, the number of the line, which comes after this
--- many lines, and why
-abbrev pub line_text : List ℕ → ℕ → List ℕ → List ℕ
-line_text name before cause = name ++ codes ":" ++ decimal (min (before + 1) (2 ^ 64 - 1)) ++ codes ": refused " ++ cause ++ codes "\n"
-
--- what is reported if a log was not filtered to its end, after this many of its lines
-abbrev pub log_fault_text : List ℕ → ℕ → LogFault → List ℕ
-log_fault_text name before faults.Read = name ++ codes ": cannot read\n"
-log_fault_text name before faults.Write = codes "write error\n"
-log_fault_text name before faults.Address = line_text name before (codes "address")
-log_fault_text name before faults.Length = line_text name before (codes "length")
-log_fault_text name before faults.Endless = name ++ codes ": too long\n"

@@ -4,14 +4,10 @@ ghost use Rattle.line_addresses.specs.Addresses.{addresses_of};
 ghost use Rattle.cidr_filter.specs.Addressed.{is_addressed_by};
 ghost use Rattle.cidr_filter.specs.Filters.{is_listed, IsVerdict, IsVerdictOfAddresses, IsListed, TellsBlock, asked, asked_of, of_part, of_rest, spelled_at, is_selected, is_refused};
 
-use crate::field::field_of;
 use crate::listed::Listed;
 use ipnetwork::{IpAddr, IpNetwork};
-use line_addresses::{address_of, following, next_address, unmapped, word_of};
-use std::marker::Model;
-
-/// The most bytes of a line, not counting its line end.
-pub(crate) const LINE_MAX: usize = 1_048_576;
+use line_addresses::{Place, address_of, field_of, following, next_address, unmapped, word_of};
+use program::log_reader::LINE_MAX;
 
 /// What becomes of a line without an address.
 #[derive(Clone, Copy, Debug, PartialEq, Eq)]
@@ -22,55 +18,6 @@ pub enum WithoutAddress {
     Keep,
     /// It ends the run.
     Stop,
-}
-
-/// Where the addresses of a line stand.
-#[derive(Debug, Drop)]
-pub enum Place<'a> {
-    /// The field is one.
-    Field {
-        /// Its number.
-        number: u32,
-        /// The byte at which fields are cut.
-        separator: u8,
-    },
-    /// The word of this number is one.
-    Word(u32),
-    /// They stand anywhere.
-    Anywhere,
-    /// It is the first that follows a text.
-    After(Text<'a>),
-}
-
-/// A text of a command line.
-#[derive(Debug, Drop)]
-pub struct Text<'a> {
-    bytes: &'a [u8],
-}
-
-// A contract sees its bytes.
-impl<'a> Model for Text<'a> {
-    ghost use Rattle.std.specs.Prelude.{ℕ, List};
-
-    ghost Value = { List ℕ };
-
-    ghost view = { λ text. text.bytes.now };
-}
-
-impl<'a> Text<'a> {
-    /// This text.
-    pub(crate) fn new(bytes: &'a [u8]) -> Text<'a>
-        ensures { result ≡ bytes.now }
-    {
-        Text { bytes }
-    }
-
-    /// Its bytes.
-    pub(crate) fn bytes(&self) -> &[u8]
-        ensures { result.now ≡ self.now }
-    {
-        self.bytes
-    }
 }
 
 /// What a line is to a list.

@@ -2,34 +2,22 @@
 ghost use Rattle.std.specs.Prelude.{◌≡◌, ◌||◌, ◌≤◌, ◌++◌, [], if◌then◌else◌, length, IsTrue, OnOk, OnErr, IfErr, IsOkUnless, Err};
 ghost use Rattle.lines.specs.Outputs.{AppendsBeginning};
 ghost use Rattle.lines.specs.Watched.{device_of, has_failed};
+ghost use Rattle.program.specs.LogFaults.{ended_by_read, ended_by_write};
+ghost use Rattle.program.specs.LogLines.{feed_behind};
 ghost use Rattle.cidr_filter.specs.Filters.{shown_of};
 ghost use Rattle.cidr_filter.specs.Stands.{stand, stand, Goes};
-ghost use Rattle.cidr_filter.specs.Stops.{Ends, Stops, ended_by_read, ended_by_write};
+ghost use Rattle.cidr_filter.specs.Stops.{Ends, Stops};
 ghost use Rattle.cidr_filter.specs.Private.Judging.{fault_of};
-ghost use Rattle.cidr_filter.specs.Private.Progress.{feed_behind, FiltersLine, LineStops};
+ghost use Rattle.cidr_filter.specs.Private.Progress.{FiltersLine, LineStops};
 
-use crate::filter::{Filter, LINE_MAX, Verdict};
+use crate::filter::{Filter, Verdict};
 use crate::printing::print_selected;
-use lines::line_buffer::{LineBuffer, NextLine};
 use lines::line_end::LineEnd;
 use lines::output::Output;
 use lines::watched::Watched;
+use program::log_fault::LogFault;
+use program::log_reader::{LogReader, NextLogLine};
 use std::io::{Read, Write};
-
-/// Why a log is not filtered to its end.
-#[derive(Clone, Copy, Debug, PartialEq, Eq)]
-pub enum LogFault {
-    /// A read failed.
-    Read,
-    /// A write failed.
-    Write,
-    /// A line without an address ends the run.
-    Address,
-    /// A line that is too long ends the run.
-    Length,
-    /// The log has more than 18,446,744,073,709,551,615 bytes.
-    Endless,
-}
 
 /// How many lines were selected.
 #[derive(Clone, Copy, Debug, PartialEq, Eq)]
@@ -73,42 +61,24 @@ pub fn filter_log<R: Read, W: Write>(
     ensures handed_on { result ≡ Err LogFault.Read → output.old.waits ≡ [] → output.new.waits ≡ [] }
 {
     let refuses_long_lines = filter.refuses(&Verdict::TooLong);
-    let mut lines = LineBuffer::new(buffer, LINE_MAX);
-    let mut room = u64::MAX;
+    let mut log = LogReader::new(buffer, refuses_long_lines);
     'lines: loop {
-        match lines.next() {
-            NextLine::Line(end) => {
-                let line = lines.line();
-                let whole = lines.whole_line();
+        match log.next(reader, output) {
+            Ok(NextLogLine::Line(end)) => {
+                let line = log.line();
+                let whole = log.whole_line();
                 if let Err(fault) = filter_line(filter, line, whole, end, output, tally) {
                     return Err(fault);
                 }
             }
-            NextLine::TooLong => {
+            Ok(NextLogLine::TooLong) => {
                 if refuses_long_lines {
                     return Err(LogFault::Length);
                 }
                 tally.lines = tally.lines.saturating_add(1);
             }
-            NextLine::Ask => {
-                let Ok(_) = output.hand_on() else {
-                    return Err(LogFault::Write);
-                };
-                if refuses_long_lines && lines.is_too_long() {
-                    return Err(LogFault::Length);
-                }
-                let Ok(count) = lines.ask(reader) else {
-                    return Err(LogFault::Read);
-                };
-                if count as u64 > room {
-                    return Err(LogFault::Endless);
-                }
-                room -= count as u64;
-            }
-            NextLine::End => match output.hand_on() {
-                Ok(()) => return Ok(()),
-                Err(_) => return Err(LogFault::Write),
-            },
+            Ok(NextLogLine::End) => return Ok(()),
+            Err(fault) => return Err(fault),
         }
     }
 }

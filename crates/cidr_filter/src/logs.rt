@@ -2,21 +2,22 @@
 ghost use Rattle.std.specs.Prelude.{◌≡◌, ◌≤◌, ◌++◌, ◌||◌, ◌∷◌, [], decimal, length, is_err, OnOk, OnErr, MatchOption};
 ghost use Rattle.std.specs.Io.KnownBytes.{Appends};
 ghost use Rattle.lines.specs.Outputs.{Prints, Writes, FailsIn};
-ghost use Rattle.cidr_filter.specs.Logs.{logs_of};
 ghost use Rattle.program.specs.Endings.{ending};
+ghost use Rattle.program.specs.Logs.{logs_of};
 ghost use Rattle.cidr_filter.specs.Runs.{EndsLogs, StopsAtLog, total_text, status_by};
 ghost use Rattle.cidr_filter.specs.Stands.{stand};
-ghost use Rattle.cidr_filter.specs.Private.Runs.{FiltersNames, StopsBy};
+ghost use Rattle.cidr_filter.specs.Private.Runs.{FiltersNames};
 
 use crate::filter::Filter;
-use crate::log::{LogFault, Tally, filter_log};
+use crate::log::{Tally, filter_log};
 use crate::opening::open_fault;
-use crate::telling::{tell_closed, tell_lacking, tell_log_fault};
+use crate::telling::{tell_closed, tell_lacking};
 use lines::fault::RunFault;
 use lines::output::Output;
 use lines::watched::Watched;
 use lists::OpenLists;
 use program::ending::{FAILED, end};
+use program::log_fault::stop;
 use program::messages::number_text;
 use std::io::Write;
 
@@ -131,27 +132,6 @@ fn filter_one<L: OpenLists, W: Write, E: Write>(
             stop(name, fault, tally.lines, output, errors);
             None
         }
-    }
-}
-
-// Writes what waits, and reports why a log was not filtered to its end, after this many of its lines: a failed write,
-// if one fails now.
-fn stop<W: Write, E: Write>(
-    name: &str,
-    fault: LogFault,
-    lines: u64,
-    output: &mut Output<'_, W>,
-    errors: &mut Output<'_, E>,
-)
-    ensures { StopsBy name.now lines fault
-        (ending output.old output.new errors.old errors.new 2) }
-{
-    match fault {
-        LogFault::Write => tell_log_fault(name, LogFault::Write, lines, errors),
-        _ => match output.hand_on() {
-            Ok(()) => tell_log_fault(name, fault, lines, errors),
-            Err(_) => tell_log_fault(name, LogFault::Write, lines, errors),
-        },
     }
 }
 

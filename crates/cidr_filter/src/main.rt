@@ -3,7 +3,6 @@
 
 mod arranging;
 mod command_line;
-mod field;
 mod filter;
 mod help;
 mod laws;

@@ -2,7 +2,7 @@
 ghost use Rattle.std.specs.Prelude.{◌≡◌, ◌||◌, ◌++◌, ◌∷◌, [], OnOk, OnErr, is_err};
 ghost use Rattle.lines.specs.Outputs.{Puts, AppendsBeginning, Prints, FailsIn};
 ghost use Rattle.cidr_filter.specs.Filters.{mark_of, block_text, block_in, shown_of};
-ghost use Rattle.cidr_filter.specs.Private.Progress.{feed_behind};
+ghost use Rattle.program.specs.LogLines.{feed_behind};
 
 use crate::filter::{Filter, Verdict};
 use crate::listed::Listed;
@@ -11,6 +11,7 @@ use ipnetwork::IpNetwork;
 use lines::fault::RunFault;
 use lines::line_end::LineEnd;
 use lines::output::Output;
+use program::log_reader::put_feed;
 use std::io::Write;
 
 /// Writes what is printed of a line of this verdict, which is given without its end too: with `-o` its addresses that are
@@ -76,23 +77,6 @@ fn put_line<W: Write>(
 {
     output.put(whole)?;
     put_feed(end, output)
-}
-
-// Writes a line feed behind a line that has none.
-fn put_feed<W: Write>(end: LineEnd, output: &mut Output<'_, W>) -> Result<(), RunFault>
-    ensures ok { OnOk result (Puts
-        output.old.holds output.old.waits
-        output.new.holds output.new.waits (feed_behind end)) }
-    ensures failed { output.new.failed ≡ (output.old.failed || is_err result) }
-    ensures beginning { OnErr result (AppendsBeginning
-        output.old.holds output.new.holds
-        (output.old.waits ++ feed_behind end)) }
-{
-    match end {
-        LineEnd::LineFeed => Ok(()),
-        LineEnd::ReturnAndLineFeed => Ok(()),
-        LineEnd::EndOfInput => output.put(b"\n"),
-    }
 }
 
 // Writes what stands before a line of this verdict.

@@ -4,10 +4,9 @@ ghost use Rattle.lines.specs.Outputs.{Prints, FailsIn};
 ghost use Rattle.line_addresses.specs.Addresses.{addresses_of};
 ghost use Rattle.cidr_filter.specs.Filters.{of_part, of_rest, spelled_at, text_of, texts_of};
 
-use crate::field::field_of;
-use crate::filter::{Filter, Place};
+use crate::filter::Filter;
 use ipnetwork::IpAddr;
-use line_addresses::{address_of, following, next_address, word_of};
+use line_addresses::{Place, address_of, field_of, following, next_address, word_of};
 use lines::fault::RunFault;
 use lines::output::Output;
 use std::io::Write;

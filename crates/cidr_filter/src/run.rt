@@ -6,24 +6,23 @@ ghost use Rattle.cidr_filter.specs.Runs.{EndsRequest, EndsAsked, EndsAs, place_o
 
 use crate::arranging::arranged;
 use crate::command_line::{Request, request_of};
-use crate::filter::{Filter, LINE_MAX, Place, Text};
+use crate::filter::Filter;
 use crate::help::{HELP, PROGRAM, USAGE, VERSION};
 use crate::logs::filter_logs;
 use crate::options::text_after;
 use crate::reading::read_listed;
 use crate::telling::InOptions;
+use line_addresses::{Place, Text};
 use lines::output::Output;
 use lists::OpenLists;
 use program::ending::{FAILED, print_text};
+use program::log_reader::BUFFER_LEN;
 use program::messages::tell;
 use program::start::text_asked;
 use program::telling::{tell_fault, tell_refusals};
 use program::usage::refuse_usage;
 use std::alloc::Global;
 use std::io::Write;
-
-/// The bytes of the longest line, and those that are read beside it.
-const BUFFER_LEN: usize = LINE_MAX + 2 + 262_144;
 
 /// Does what the words after the program's name ask for, and returns the exit status.
 pub(crate) fn run<L: OpenLists, W: Write, E: Write>(

@@ -4,14 +4,14 @@ ghost use Rattle.program.specs.Messages.{Tells};
 ghost use Rattle.program.specs.Words.{is};
 ghost use Rattle.cidr_filter.specs.Addressed.{closed_text, lacking_by, no_address_text, place_text};
 ghost use Rattle.cidr_filter.specs.Filters.{one_if};
-ghost use Rattle.cidr_filter.specs.Told.{is_text, texts_in, line_text, log_fault_text};
+ghost use Rattle.cidr_filter.specs.Told.{is_text, texts_in};
 
-use crate::filter::{Place, Text};
-use crate::log::LogFault;
 use crate::opening::OpenFault;
 use crate::options::behind;
+use line_addresses::{Place, Text};
 use lines::output::Output;
 use lists::Refusal;
+use program::log_fault::tell_of;
 use program::messages::{tell, tell_number};
 use program::telling::Places;
 use program::words::{is, text_at};
@@ -147,42 +147,4 @@ fn tell_bytes<E: Write>(bytes: &[u8], errors: &mut Output<'_, E>)
     ensures { Tells errors.old errors.new bytes.now }
 {
     let _ = errors.put(bytes);
-}
-
-/// Reports why the log of this name was not filtered to its end, after this many of its lines.
-pub(crate) fn tell_log_fault<E: Write>(
-    name: &str,
-    fault: LogFault,
-    lines: u64,
-    errors: &mut Output<'_, E>,
-)
-    ensures { Tells errors.old errors.new (log_fault_text name.now lines fault) }
-{
-    match fault {
-        LogFault::Read => tell_of(name, ": cannot read\n", errors),
-        LogFault::Write => tell("write error\n", errors),
-        LogFault::Address => tell_line(name, lines, "address", errors),
-        LogFault::Length => tell_line(name, lines, "length", errors),
-        LogFault::Endless => tell_of(name, ": too long\n", errors),
-    }
-}
-
-// Reports a name, and then a text.
-fn tell_of<E: Write>(name: &str, text: &str, errors: &mut Output<'_, E>)
-    ensures { Tells errors.old errors.new (name.now ++ text.now) }
-{
-    tell(name, errors);
-    tell(text, errors);
-}
-
-// Reports which line is refused, and why.
-fn tell_line<E: Write>(name: &str, lines: u64, cause: &str, errors: &mut Output<'_, E>)
-    ensures { Tells errors.old errors.new (line_text name.now lines cause.now) }
-{
-    tell(name, errors);
-    tell(":", errors);
-    tell_number(lines.saturating_add(1), errors);
-    tell(": refused ", errors);
-    tell(cause, errors);
-    tell("\n", errors);
 }

@@ -8,6 +8,7 @@ pub mod LineParts
 pub mod NamedTexts
 pub mod NextRuns
 pub mod NextWords
+pub mod Parts
 pub mod PortTexts
 pub mod Ports
 pub mod Shown

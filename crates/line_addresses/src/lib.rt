@@ -10,16 +10,20 @@
 #![tactic(auto)]
 
 mod byte_kind;
+mod field;
 mod first_place;
 mod found;
 pub mod laws;
 mod mapped;
+mod place;
 mod port;
 mod run;
 mod words;
 
+pub use field::field_of;
 pub use first_place::following;
 pub use found::{Found, next_address};
 pub use mapped::unmapped;
+pub use place::{Place, Text};
 pub use run::address_of;
 pub use words::word_of;

@@ -1,4 +1,11 @@
+pub mod Counts
 pub mod Examples
+pub mod HandedLines
+pub mod LogLines
+pub mod LogNames
+pub mod LogReading
+pub mod LogStops
 pub mod PartExamples
+pub mod Puts
 pub mod Runs
 pub mod Told

@@ -1,5 +1,10 @@
 -- What the contracts of this crate cite.
+pub mod Counts
 pub mod Endings
+pub mod LogFaults
+pub mod LogLines
+pub mod LogReaders
+pub mod Logs
 pub mod Messages
 pub mod Runs
 pub mod Told

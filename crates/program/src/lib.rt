@@ -1,8 +1,11 @@
-//! What programs that read lists share: their arguments, the files they open, and what they report on standard error.
+//! What programs that read lists share: their arguments, the files they open, the lines of logs, and what they report
+//! on standard error.
 #![tactic(auto)]
 
 pub mod arguments;
 pub mod ending;
+pub mod log_fault;
+pub mod log_reader;
 pub mod messages;
 pub mod standard_output;
 pub mod start;

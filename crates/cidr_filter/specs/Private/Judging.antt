@@ -1,8 +1,8 @@
 -- Why a line ends the run.
 use Rattle.cidr_filter.specs.declared.filter.Verdict.{Verdict}
 use Rattle.cidr_filter.specs.declared.filter.Verdict.TheVariants as verdicts
-use Rattle.cidr_filter.specs.declared.log.LogFault.{LogFault}
-use Rattle.cidr_filter.specs.declared.log.LogFault.TheVariants as faults
+use Rattle.program.specs.declared.log_fault.LogFault.{LogFault}
+use Rattle.program.specs.declared.log_fault.LogFault.TheVariants as faults
 
 -- what is said of a line of this verdict that ends the run
 abbrev pub fault_of : Verdict → LogFault

@@ -4,7 +4,8 @@ use Rattle.program.specs.Endings.{ending}
 use Rattle.cidr_filter.specs.Stands.{stand}
 use Rattle.cidr_filter.specs.Private.Runs.{FiltersNames}
 use Rattle.cidr_filter.proofs.LogsInTurn.{names_none}
-use Rattle.cidr_filter.proofs.Runs.{names_more, input_filtered, one_more, all_named, one_stops}
+use Rattle.program.proofs.LogNames.{names_more}
+use Rattle.cidr_filter.proofs.Runs.{input_filtered, one_more, all_named, one_stops}
 use Rattle.cidr_filter.proofs.logs.filter_each.Goals as goal
 
 pub returns-then-is_empty : goal.returns-then-is_empty

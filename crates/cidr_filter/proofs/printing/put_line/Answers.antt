@@ -1,9 +1,9 @@
 use Rattle.std.proofs.Common.{◌++◌, List, ℕ, subst, append_assoc}
 use Rattle.lines.specs.Outputs.{AppendsBeginning}
 use Rattle.lines.proofs.Putting.{begins_within}
-use Rattle.cidr_filter.specs.Private.Progress.{feed_behind}
-use Rattle.cidr_filter.proofs.Filtering.{put_two_ok}
-use Rattle.cidr_filter.proofs.Stopping.{on_err, begins_after_ok}
+use Rattle.program.specs.LogLines.{feed_behind}
+use Rattle.program.proofs.Puts.{put_two_ok}
+use Rattle.program.proofs.Puts.{on_err, begins_after_ok}
 use Rattle.cidr_filter.proofs.printing.put_line.Goals as goal
 
 pub returns-clause-ok : goal.returns-clause-ok

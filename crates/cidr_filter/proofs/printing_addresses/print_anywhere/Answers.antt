@@ -4,7 +4,7 @@ use Rattle.lines.proofs.Putting.{puts_nothing, puts_more}
 use Rattle.lines.proofs.Writes.{still_works}
 use Rattle.line_addresses.specs.Addresses.{addresses_of}
 use Rattle.cidr_filter.specs.Filters.{text_of, texts_of}
-use Rattle.cidr_filter.proofs.Stopping.{on_err}
+use Rattle.program.proofs.Puts.{on_err}
 use Rattle.cidr_filter.proofs.Texts.{next_text, one_more, fails_at, all_put}
 use Rattle.cidr_filter.proofs.printing_addresses.print_anywhere.Goals as goal
 

@@ -2,6 +2,8 @@
 use Rattle.std.specs.Prelude.{◌≡◌, ◌<◌, ◌⊎◌, ℕ, Bool, true, false, List, [], ◌∷◌, ◌++◌, length, ◌==◌, if◌then◌else◌, filter}
 use Rattle.std.specs.List.{slice_split}
 use Rattle.std.specs.Str.Lines.{strip_carriage_return}
+use Rattle.lines.specs.declared.line_end.LineEnd.{LineEnd}
+use Rattle.lines.specs.declared.line_end.LineEnd.TheVariants.{LineFeed, ReturnAndLineFeed, EndOfInput}
 
 -- a line: the bytes before its line feed, and whether it has one
 pub record LogLine : Type 0 where
@@ -33,3 +35,22 @@ IsWhole ends line = (line.is_ended ≡ true) ⊎ (ends ⊎ (1048577 < length lin
 -- a line as it is printed: as it was, and with a line feed if it had none
 abbrev pub printed : LogLine → List ℕ
 printed line = line.bytes ++ 10 ∷ []
+
+-- what is written behind a line as it was read: a line feed, if none ended it
+abbrev pub feed_behind : LineEnd → List ℕ
+feed_behind LineFeed = []
+feed_behind ReturnAndLineFeed = []
+feed_behind EndOfInput = 10 ∷ []
+
+-- a line with its line feed, and one without
+abbrev pub ended : List ℕ → LogLine
+ended bytes = record { bytes = bytes; is_ended = true }
+
+abbrev pub unended : List ℕ → LogLine
+unended bytes = record { bytes = bytes; is_ended = false }
+
+-- the line of a log of which these bytes stand before this end
+abbrev pub log_line : List ℕ → LineEnd → LogLine
+log_line line LineFeed = ended line
+log_line line ReturnAndLineFeed = ended (line ++ 13 ∷ [])
+log_line line EndOfInput = unended line

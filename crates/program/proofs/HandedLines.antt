@@ -10,9 +10,8 @@ use Rattle.lines.specs.declared.line_end.LineEnd.TheVariants.{LineFeed, ReturnAn
 use Rattle.lines.proofs.BytesLemmas.{HasNo, HasNo-push}
 use Rattle.lines.proofs.Lines as engine
 use Rattle.lines.proofs.Lines.{newline_cases}
-use Rattle.cidr_filter.specs.Lines.{LogLine, log_lines, content, printed}
-use Rattle.cidr_filter.specs.Private.Progress.{feed_behind}
-use Rattle.cidr_filter.proofs.LogLines.{ended, unended, lines_line, lines_last}
+use Rattle.program.specs.LogLines.{log_lines, content, printed, feed_behind, ended, unended, log_line}
+use Rattle.program.proofs.LogLines.{lines_line, lines_last}
 
 -- ---- the first line of a text has no line feed
 
@@ -60,12 +59,6 @@ first_has_none text line behind others is e = elim (cut_first line) [
 ]
 
 -- ---- the line of the log
-
--- the line of a log that is handed out as this one
-abbrev pub log_line : List ℕ → LineEnd → LogLine
-log_line line LineFeed = ended line
-log_line line ReturnAndLineFeed = ended (line ++ 13 ∷ [])
-log_line line EndOfInput = unended line
 
 -- it is printed as it was read, with a line feed
 pub printed_is : (line : List ℕ) (end : LineEnd)

@@ -1,7 +1,7 @@
 use Rattle.std.proofs.Common.{◌≡◌, ◌==◌, ◌≤◌, length, drop}
 use Rattle.std.specs.List.{slice_split}
-use Rattle.cidr_filter.specs.Fields.{field_of, part_behind}
-use Rattle.cidr_filter.proofs.field.field_of.Given as goal
+use Rattle.line_addresses.specs.Fields.{field_of, part_behind}
+use Rattle.line_addresses.proofs.field.field_of.Given as goal
 
 abbrev pub invariant-loop-more : goal.invariant-loop-more
 invariant-loop-more l = record {

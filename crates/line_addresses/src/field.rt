@@ -1,13 +1,19 @@
 //! The fields of a line.
 ghost use Rattle.std.specs.Prelude.{◌≡◌, ◌==◌, ◌≤◌, length, drop, None, Some, MatchOption};
 ghost use Rattle.std.specs.List.{slice_split};
-ghost use Rattle.cidr_filter.specs.Fields.{field_of, part_behind};
+ghost use Rattle.line_addresses.specs.Fields.{field_of, part_behind};
 
 use byte_search::find_from;
 
-/// The field of this number, from 1 on, of a line that is cut at each single separator. Does not allocate.
+/// The field of this number, from 1 on, of a line that is cut at each single separator.
+///
+/// ```
+/// assert_eq!(rt; field_of(b"a,,10.1.1.1", 3, b','), Some(b"10.1.1.1".as_slice()));
+/// assert_eq!(rt; field_of(b"a,,10.1.1.1", 2, b','), Some(b"".as_slice()));
+/// assert_eq!(rt; field_of(b"a,,10.1.1.1", 4, b','), None);
+/// ```
 #[inline(always)]
-pub(crate) fn field_of(line: &[u8], number: u32, separator: u8) -> Option<&[u8]>
+pub fn field_of(line: &[u8], number: u32, separator: u8) -> Option<&[u8]>
     ensures { MatchOption result (field_of number separator line.now ≡ None)
         (λ field. field_of number separator line.now ≡ Some field.now) }
 {

@@ -1,8 +1,8 @@
 use Rattle.std.proofs.Common.{refl}
 use Rattle.program.specs.Endings.{ending}
-use Rattle.cidr_filter.proofs.Runs.{stops_else, stops_failed, handed_all, handed_some}
-use Rattle.cidr_filter.proofs.Stopping.{failed_now}
-use Rattle.cidr_filter.proofs.logs.stop.Goals as goal
+use Rattle.program.proofs.LogStops.{stops_else, stops_failed, handed_all, handed_some}
+use Rattle.program.proofs.LogReading.{failed_now}
+use Rattle.program.proofs.log_fault.stop.Goals as goal
 
 pub returns-in-Write : goal.returns-in-Write
 returns-in-Write g c =

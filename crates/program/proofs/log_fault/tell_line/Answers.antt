@@ -1,6 +1,6 @@
 use Rattle.std.proofs.Common.{ap, decimal}
 use Rattle.program.proofs.Told.{tells_more, tells_same}
-use Rattle.cidr_filter.proofs.telling.tell_line.Goals as goal
+use Rattle.program.proofs.log_fault.tell_line.Goals as goal
 
 pub returns : goal.returns
 returns g c =

@@ -5,7 +5,7 @@ use Rattle.std.proofs.lemmas.List.{drop-drop}
 use Rattle.std.specs.List.{slice_split}
 use Rattle.byte_search.specs.Bytes.{IsAbsent, IsNext}
 use Rattle.lines.proofs.BytesLemmas.{split_at, split_none, split_text, none_behind, first_behind}
-use Rattle.cidr_filter.specs.Fields.{part_behind}
+use Rattle.line_addresses.specs.Fields.{part_behind}
 
 -- the rest of a text from a place on: what stands before the next byte of this value, that byte, and what is behind it
 pub rest_from : (byte : ℕ) (text : List ℕ) (from at : ℕ) → IsNext byte text from at

@@ -1,8 +1,8 @@
 use Rattle.std.proofs.Common.{◌==◌, ◌+◌, drop, ap, ◌∙◌, arith}
 use Rattle.std.specs.List.{slice_split}
-use Rattle.cidr_filter.specs.Fields.{part_behind}
-use Rattle.cidr_filter.proofs.Parts.{parts_from, part_from, one_part_less, no_more_parts}
-use Rattle.cidr_filter.proofs.field.field_of.Goals as goal
+use Rattle.line_addresses.specs.Fields.{part_behind}
+use Rattle.line_addresses.proofs.Parts.{parts_from, part_from, one_part_less, no_more_parts}
+use Rattle.line_addresses.proofs.field.field_of.Goals as goal
 
 pub returns-in_default : goal.returns-in_default
 returns-in_default c =

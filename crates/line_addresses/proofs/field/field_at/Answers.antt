@@ -1,8 +1,8 @@
 use Rattle.std.proofs.Common.{Some, ap, sym, ◌∙◌}
 use Rattle.std.proofs.lemmas.List.{take_rest}
-use Rattle.cidr_filter.specs.Fields.{part_behind}
-use Rattle.cidr_filter.proofs.Parts.{parts_from, part_from}
-use Rattle.cidr_filter.proofs.field.field_at.Goals as goal
+use Rattle.line_addresses.specs.Fields.{part_behind}
+use Rattle.line_addresses.proofs.Parts.{parts_from, part_from}
+use Rattle.line_addresses.proofs.field.field_at.Goals as goal
 
 pub returns-in-Some : goal.returns-in-Some
 returns-in-Some c = ap (part_behind 0) (parts_from c.args.separator c.args.line.now c.args.start c.in-Some.end c.in-Some.ensures)

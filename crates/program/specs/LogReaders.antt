@@ -1,0 +1,101 @@
+-- What contracts see of a `LogReader`.
+use Rattle.std.specs.Prelude.{◌≡◌, ℕ, ◌+◌, ◌-◌, ◌*◌, ◌^◌, ◌<◌, ◌≤◌, Bool, true, false, IsTrue, if◌then◌else◌, List, [], ◌∷◌, ◌++◌, length, Option}
+use Rattle.std.specs.List.{list_all}
+use Rattle.std.specs.Io.KnownBytes.{Consumes, IsAtEnd}
+use Rattle.lines.specs.LineBuffers.{Buffered, IsPending, work}
+use Rattle.lines.specs.Outputs.{Written, Prints, FailsIn}
+use Rattle.lines.specs.declared.line_end.LineEnd.{LineEnd}
+use Rattle.program.specs.LogLines.{LogLine, log_lines, ended_lines, content, printed, feed_behind, log_line, IsWhole}
+use Rattle.program.specs.declared.log_fault.LogFault.{LogFault}
+use Rattle.program.specs.declared.log_fault.LogFault.TheVariants as faults
+use Rattle.program.specs.declared.log_reader.LogReader.{LogReader}
+use Rattle.program.specs.declared.log_reader.NextLogLine.{NextLogLine}
+use Rattle.program.specs.declared.log_reader.NextLogLine.TheVariants.{Line, TooLong, End}
+
+-- the bytes that it read
+abbrev pub buffered : LogReader → Buffered
+buffered reader = reader.lines
+
+-- the line that was handed out last, without the bytes that end it, and with them
+abbrev pub line_of : LogReader → List ℕ
+line_of reader = (buffered reader).line
+
+abbrev pub whole_of : LogReader → List ℕ
+whole_of reader = (buffered reader).whole
+
+-- whether a line that is too long is told before its end was read
+abbrev pub hurries_of : LogReader → Bool
+hurries_of reader = reader.hurries
+
+-- these lines, and then those of what is pending, are the lines of what was read, whatever is read after it
+abbrev pub AreFirst : Bool → List ℕ → List LogLine → List ℕ → Type 0
+AreFirst ended read first pending = (more : List ℕ) → (ended ≡ true → more ≡ [])
+    → log_lines (read ++ more) ≡ first ++ log_lines (pending ++ more)
+
+-- what was read: these are its first lines, and what follows them is pending
+pub record HandsFirst (reader : LogReader) (remained remains : Option (List ℕ)) (first : List LogLine) : Type 0 where
+  pub read : List ℕ
+  pub reads : Consumes remained remains read
+  pub counted : length read + reader.room ≡ 2 ^ 64 - 1
+  pub limit : (buffered reader).limit ≡ 1048576
+  pub at_end : (buffered reader).ended ≡ true → IsAtEnd remains
+  pub pending : List ℕ
+  pub holds : IsPending (buffered reader) pending
+  pub lines : AreFirst (buffered reader).ended read first pending
+  pub ended : (buffered reader).ended ≡ false → list_all (λ line. line.is_ended) first ≡ true
+
+-- of what was read the first lines are these, and then this one, which is a line whatever is read after it
+pub record ComesNext (remained remains : Option (List ℕ)) (first : List LogLine) (line : LogLine) : Type 0 where
+  pub read : List ℕ
+  pub others : List LogLine
+  pub reads : Consumes remained remains read
+  pub lines : log_lines read ≡ first ++ line ∷ others
+  pub is_line : IsWhole (IsAtEnd remains) line
+
+-- after these first lines one within the limit was handed out, which the buffer lends as it was read
+pub record GivesLine (new : LogReader) (remained remains : Option (List ℕ)) (first : List LogLine) (end : LineEnd) : Type 0 where
+  pub next : ComesNext remained remains first (log_line (line_of new) end)
+  pub hands : HandsFirst new remained remains (first ++ log_line (line_of new) end ∷ [])
+  pub is_content : content (log_line (line_of new) end) ≡ line_of new
+  pub within : length (line_of new) ≤ 1048576
+  pub is_printed : printed (log_line (line_of new) end) ≡ whole_of new ++ feed_behind end
+
+-- after these first lines comes one that is too long, of which all was read unless the reader hurries
+pub record GivesLong (new : LogReader) (remained remains : Option (List ℕ)) (first : List LogLine) : Type 0 where
+  pub line : LogLine
+  pub next : ComesNext remained remains first line
+  pub long : 1048576 < length (content line)
+  pub hands : hurries_of new ≡ false → HandsFirst new remained remains (first ++ line ∷ [])
+
+-- what `next` hands out after these first lines
+abbrev pub GivesNext : LogReader → Option (List ℕ) → Option (List ℕ) → List LogLine → NextLogLine → Type 0
+GivesNext new remained remains first (Line end) = GivesLine new remained remains first end
+GivesNext new remained remains first TooLong = GivesLong new remained remains first
+-- nothing: these were all lines
+GivesNext new remained remains first End = (read : List ℕ) × Consumes remained remains read × IsAtEnd remains × (log_lines read ≡ first)
+
+-- what was read and written if these first lines were handed out, and the log is not read to its end, by the fault
+abbrev pub Breaks : {W : Type 0} → Option (List ℕ) → Option (List ℕ) → Bool → Written W → Written W → List LogLine → LogFault → Type 0
+Breaks remained remains read_failed old new first faults.Open = ⊥
+-- a read failed: they are the lines that are ended
+Breaks remained remains read_failed old new first faults.Read = IsTrue read_failed × Prints old new []
+    × (read : List ℕ) × Consumes remained remains read × (ended_lines read ≡ first)
+-- a write failed
+Breaks remained remains read_failed old new first faults.Write = IsTrue new.failed × FailsIn old new []
+    × (read : List ℕ) × (others : List LogLine) × Consumes remained remains read × (log_lines read ≡ first ++ others)
+Breaks remained remains read_failed old new first faults.Address = ⊥
+Breaks remained remains read_failed old new first faults.Length = ⊥
+-- more bytes were read than 64 bits count: they are the lines that all but the last of them complete
+Breaks remained remains read_failed old new first faults.Endless = Prints old new []
+    × (read : List ℕ) × (last : List ℕ) × Consumes remained remains (read ++ last) × (2 ^ 64 - 1 < length (read ++ last)) × (ended_lines read ≡ first)
+
+-- a measure of what there is to read and to hand out: the bytes that may still be read, and the end of the log, each
+-- before all lines that the buffer may have
+abbrev pub left : LogReader → ℕ
+left reader = (reader.room + (if (buffered reader).ended then 0 else 1)) * (length (buffered reader).bytes + 2) + work (buffered reader)
+
+-- there is less of it after a line, unless the reader hurries and it is too long
+abbrev pub IsLess : LogReader → LogReader → NextLogLine → Type 0
+IsLess old new (Line end) = left new < left old
+IsLess old new TooLong = hurries_of old ≡ false → left new < left old
+IsLess old new End = Unit {0}

@@ -1,0 +1,108 @@
+//! Why a log is not read to its end, and what is reported then.
+ghost use Rattle.std.specs.Prelude.{◌≡◌, ◌++◌};
+ghost use Rattle.program.specs.Endings.{ending};
+ghost use Rattle.program.specs.LogFaults.{line_text, log_fault_text, StopsBy};
+ghost use Rattle.program.specs.Messages.{Tells};
+
+use crate::messages::{tell, tell_number};
+use lines::output::Output;
+use std::io::Write;
+
+/// Why a log is not read to its end.
+#[derive(Clone, Copy, Debug, PartialEq, Eq)]
+pub enum LogFault {
+    /// The log cannot be opened.
+    Open,
+    /// A read failed.
+    Read,
+    /// A write failed.
+    Write,
+    /// A line without an address ends the run.
+    Address,
+    /// A line that is too long ends the run.
+    Length,
+    /// The log has more than 18,446,744,073,709,551,615 bytes.
+    Endless,
+}
+
+/// Writes what waits, and reports why the log of this name was not read to its end, after this many of its lines: a
+/// failed write, if one fails now.
+///
+/// ```
+/// use lines::output::Output;
+/// use program::log_fault::{LogFault, stop};
+///
+/// let (mut slice, mut error_slice, mut room) = ([0; 8], [0; 64], [0; 24]);
+/// let mut output = Output::new(Vec::new(rt.alloc()), &mut slice);
+/// let mut errors = Output::new(room.as_mut_slice(), &mut error_slice);
+/// stop("log", LogFault::Address, 6, &mut output, &mut errors);
+/// assert_eq!(rt; errors.finish(), Ok(()));
+/// drop(errors);
+/// assert_eq!(rt; room.as_slice(), b"log:7: refused address\n\0".as_slice());
+/// ```
+pub fn stop<W: Write, E: Write>(
+    name: &str,
+    fault: LogFault,
+    lines: u64,
+    output: &mut Output<'_, W>,
+    errors: &mut Output<'_, E>,
+)
+    ensures { StopsBy name.now lines fault
+        (ending output.old output.new errors.old errors.new 2) }
+{
+    match fault {
+        LogFault::Write => tell_log_fault(name, LogFault::Write, lines, errors),
+        _ => match output.hand_on() {
+            Ok(()) => tell_log_fault(name, fault, lines, errors),
+            Err(_) => tell_log_fault(name, LogFault::Write, lines, errors),
+        },
+    }
+}
+
+// Reports why the log of this name was not read to its end, after this many of its lines.
+fn tell_log_fault<E: Write>(name: &str, fault: LogFault, lines: u64, errors: &mut Output<'_, E>)
+    ensures { Tells errors.old errors.new (log_fault_text name.now lines fault) }
+{
+    match fault {
+        LogFault::Open => tell_of(name, ": cannot open\n", errors),
+        LogFault::Read => tell_of(name, ": cannot read\n", errors),
+        LogFault::Write => tell("write error\n", errors),
+        LogFault::Address => tell_line(name, lines, "address", errors),
+        LogFault::Length => tell_line(name, lines, "length", errors),
+        LogFault::Endless => tell_of(name, ": too long\n", errors),
+    }
+}
+
+/// Reports a name, and then a text.
+///
+/// ```
+/// let mut slice = [0; 64];
+/// let mut errors = lines::output::Output::new(Vec::new(rt.alloc()), &mut slice);
+/// program::log_fault::tell_of("log", ": cannot open\n", &mut errors);
+/// assert_eq!(rt; errors.finish(), Ok(()));
+/// ```
+pub fn tell_of<E: Write>(name: &str, text: &str, errors: &mut Output<'_, E>)
+    ensures { Tells errors.old errors.new (name.now ++ text.now) }
+{
+    tell(name, errors);
+    tell(text, errors);
+}
+
+/// Reports which line of a file is refused, the one after this many, and why.
+///
+/// ```
+/// let mut slice = [0; 64];
+/// let mut errors = lines::output::Output::new(Vec::new(rt.alloc()), &mut slice);
+/// program::log_fault::tell_line("log", 6, "address", &mut errors);
+/// assert_eq!(rt; errors.finish(), Ok(()));
+/// ```
+pub fn tell_line<E: Write>(name: &str, lines: u64, cause: &str, errors: &mut Output<'_, E>)
+    ensures { Tells errors.old errors.new (line_text name.now lines cause.now) }
+{
+    tell(name, errors);
+    tell(":", errors);
+    tell_number(lines.saturating_add(1), errors);
+    tell(": refused ", errors);
+    tell(cause, errors);
+    tell("\n", errors);
+}
