@@ -25,6 +25,20 @@ export let bytes = new Uint8Array(library.memory.buffer);
 export let view = new DataView(library.memory.buffer);
 export let words = new Int32Array(library.memory.buffer);
 
+/**
+ * The bits that are 1 in any of so many bytes from this place on, a multiple of 4: they are looked
+ * at four at a time.
+ */
+export function bitsOf(place, length) {
+  const fours = words;
+  const from = place >>> 2;
+  const end = (place + length) >>> 2;
+  let bits = 0;
+  for (let i = from; i < end; i += 1) bits |= fours[i];
+  for (let i = 4 * end; i < place + length; i += 1) bits |= bytes[i];
+  return bits;
+}
+
 /* Free blocks by order: one of order k has 2^k bytes, and its place is a multiple of that. */
 const free = Array.from({ length: LARGEST_ORDER + 1 }, () => new Set());
 let end = 0;

@@ -1,5 +1,5 @@
 import { v4IndexContains, v4IsSubnetOf, v6IndexContains, v6IsSubnetOf } from './library.mjs';
-import { ADDRESS, ANSWER, NUMBER, OTHER, bytes, view } from './memory.mjs';
+import { ADDRESS, ANSWER, NUMBER, OTHER, bitsOf, bytes, view } from './memory.mjs';
 import { IpNetworkError, networkError, never, wrongType } from './errors.mjs';
 import { MADE, addressOf, familyOf, putAddress } from './address.mjs';
 import { familyOfNetwork, networkAt, networkOf, putNetwork } from './network.mjs';
@@ -150,13 +150,10 @@ function answersOf(list, rows) {
   eachChunkOf(rows, kind, (addresses, length, first) => withRoom(2 * length, (room) => {
     never(kind.indexContainsColumn(
       place, 0, count, 0, index, 0, indexCount, 0, addresses, 0, length, 0,
-      room, 0, length, 0, room + length, 0, length, 0,
+      room + length, 0, length, 0, room, 0, length, 0,
     ));
-    const written = bytes;
-    let faults = 0;
-    for (let i = length; i < 2 * length; i += 1) faults |= written[room + i];
-    never(faults);
-    answers.set(bytes.subarray(room, room + length), first);
+    never(bitsOf(room, length));
+    answers.set(bytes.subarray(room + length, room + 2 * length), first);
   }));
   return answers;
 }
