@@ -30,7 +30,7 @@ module _ (known : KnownLists) (name : List ℕ) (number : ℕ) (remained remains
   text_read items (Err fault) h = tt
 
   stops_by : (failed : Bool) (fault : ReadFault) → (IsTrue failed → known.may_fail name) → StopsReading failed number fault → TextStops known number name fault
-  stops_by failed (faults.Open place) fails h = absurd h
+  stops_by failed (faults.Open place cause) fails h = absurd h
   stops_by failed (faults.Read place) fails h = (h.0, opened, fails h.1)
   stops_by failed faults.OutOfMemory fails h = tt
 

@@ -18,8 +18,8 @@ AreTexts known (name ∷ names) [] = ⊥
 
 -- the list of this name, which the fault tells by the number, is not read to its end
 abbrev pub TextStops : KnownLists → ℕ → List ℕ → ReadFault → Type 0
--- it is not opened
-TextStops known number name (Open place) = (place ≡ number) × known.may_open name false
+-- it is not opened, for this cause
+TextStops known number name (Open place cause) = (place ≡ number) × known.may_open name false × known.may_miss name cause
 -- a read of it fails
 TextStops known number name (Read place) = (place ≡ number) × known.may_open name true × known.may_fail name
 -- memory runs out for it

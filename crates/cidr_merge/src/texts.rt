@@ -5,7 +5,7 @@ ghost use Rattle.cidr_merge.specs.Texts.{IsTextOf, AreTexts, TextStops, TextsSto
 ghost use Rattle.cidr_merge.specs.Private.Devices.{ReadsAll, StopsReading, ended_by_read};
 
 use lines::watched::Watched;
-use lists::{OpenLists, ReadFault};
+use lists::{OpenFault, OpenLists, ReadFault};
 use std::alloc::Global;
 use std::io::Read;
 
@@ -47,8 +47,9 @@ fn text_of<L: OpenLists>(
     ensures ok { IfOk result (λ text. IsTextOf (L.known lists.now) name.now text.items) }
     ensures err { IfErr result (TextStops (L.known lists.now) place name.now) }
 {
-    let Ok(list) = lists.open(name) else {
-        return Err(ReadFault::Open(place));
+    let list = match lists.open(name) {
+        Ok(list) => list,
+        Err(error) => return Err(ReadFault::Open(place, OpenFault::of(error.kind()))),
     };
     let mut list = Watched::new(list);
     let text = read_all(alloc, &mut list, place);

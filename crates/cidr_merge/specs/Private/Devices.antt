@@ -10,13 +10,13 @@ ReadsAll remained remains text = Consumes remained remains text × IsAtEnd remai
 
 -- they were not read to the end: a read failed, of the list of this number, or memory ran out
 abbrev pub StopsReading : Bool → ℕ → ReadFault → Type 0
-StopsReading failed number (Open place) = ⊥
+StopsReading failed number (Open place cause) = ⊥
 StopsReading failed number (Read place) = (place ≡ number) × IsTrue failed
 StopsReading failed number OutOfMemory = Unit {0}
 
 -- whether a read ended the reading
 abbrev pub ended_by_read : {T : Type 0} → Result T ReadFault → Bool
 ended_by_read (Ok text) = false
-ended_by_read (Err (Open place)) = false
+ended_by_read (Err (Open place cause)) = false
 ended_by_read (Err (Read place)) = true
 ended_by_read (Err OutOfMemory) = false
