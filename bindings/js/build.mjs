@@ -84,7 +84,9 @@ write(
   `import library from './index.cjs';\n\nexport const { ${names.join(', ')} } = library;\n`,
 );
 write('index.d.mts', "export * from './index.cjs';\n");
-copyFileSync(join(here, 'index.d.ts'), join(folder, 'index.d.cts'));
+/* Comments begin at the left, since every byte is loaded. */
+const types = readFileSync(join(here, 'index.d.ts'), 'utf8').replace(/^ +(?=\/?\*)/gm, ' ');
+write('index.d.cts', types);
 copyFileSync(join(here, 'package.json'), join(folder, 'package.json'));
 copyFileSync(join(here, 'README.md'), join(folder, 'README.md'));
 for (const name of ['LICENSE-MIT', 'NOTICE']) {
