@@ -11,10 +11,10 @@ use Rattle.program.specs.Told.{was_refused, fault_text, in_list, refusals_text}
 use Rattle.program.specs.Usage.{usage_text}
 use Rattle.cidr_merge.specs.Pieces.{split_text, split_count, split_refusal}
 use Rattle.cidr_merge.specs.Reading.{ReadsSide}
-use Rattle.cidr_merge.specs.Runs.{FailsToWrite}
 use Rattle.cidr_merge.specs.SplitWords.{SaysSplit, SplitFault}
 use Rattle.cidr_merge.specs.Stopping.{Stops}
 use Rattle.cidr_merge.specs.Usage.{problem_text}
+use Rattle.cidr_merge.specs.Writing.{FailsToWrite}
 use Rattle.cidr_merge.specs.declared.reading.Sets.{Sets}
 use Rattle.cidr_merge.specs.declared.split_words.SplitRequest.{SplitRequest}
 use Rattle.cidr_merge.specs.declared.usage.UsageFault.{UsageFault}
