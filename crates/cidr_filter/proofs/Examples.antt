@@ -41,7 +41,7 @@ use Rattle.cidr_filter.specs.declared.listed.Listed.{Listed}
 use Rattle.cidr_filter.specs.declared.listed.Listed.TheVariants.{Addresses, Blocks}
 use Rattle.cidr_filter.specs.declared.listed.Tables.{Tables}
 use Rattle.program.specs.declared.log_fault.LogFault.TheVariants as faults
-use Rattle.cidr_filter.specs.declared.opening.OpenFault.TheVariants as causes
+use Rattle.lists.specs.declared.opening.OpenFault.TheVariants as causes
 use Rattle.cidr_filter.specs.declared.options.Choice.TheVariants as choices
 use Rattle.cidr_filter.proofs.OptionExamples.{letters}
 
@@ -403,10 +403,10 @@ module _ (known : KnownLists) (inside : IsVerdict (by false without.Stop) (codes
   })
 
   -- a log that cannot be opened: the others are filtered, and the status is 2
-  pub first_log_missed : known.may_open (codes "a") false → IsAllOf known (codes "b") (codes "10.0.0.1\n") → {W E : Type 0} (end : Ending W E) → HasWritten end (codes "10.0.0.1\n")
+  pub first_log_missed : known.may_open (codes "a") false → known.may_miss (codes "a") causes.Denied → IsAllOf known (codes "b") (codes "10.0.0.1\n") → {W E : Type 0} (end : Ending W E) → HasWritten end (codes "10.0.0.1\n")
       → HasTold end (codes "a: cannot open: permission denied\n") → end.status ≡ 2 → EndsLogs (by false without.Stop) known (codes "a" ∷ codes "b" ∷ []) end
   unfolding address_of digits v6_of gap_below
-  first_log_missed closed b end written told status = inl (record {
+  first_log_missed closed denied b end written told status = inl (record {
     output = codes "10.0.0.1\n";
     selected = 1;
     texts = codes "a: cannot open: permission denied\n";
@@ -420,7 +420,7 @@ module _ (known : KnownLists) (inside : IsVerdict (by false without.Stop) (codes
       [],
       true,
       false,
-      inr ((causes.Denied, closed, refl, refl, refl), refl),
+      inr ((causes.Denied, closed, denied, refl, refl, refl), refl),
       (codes "10.0.0.1\n", [], 1, 0, [], [], false, false, inl ((codes "10.0.0.1\n", b, (verdicts.Inside None, [], 0, inside, refl, (refl, refl), refl, refl), refl), refl), (refl, refl, refl, refl), refl, refl, refl, refl),
       refl,
       refl,

@@ -21,7 +21,7 @@ use Rattle.cidr_filter.specs.declared.filter.Filter.{Filter}
 use Rattle.cidr_filter.specs.declared.filter.Verdict.{Verdict}
 use Rattle.program.specs.declared.log_fault.LogFault.{LogFault}
 use Rattle.program.specs.declared.log_fault.LogFault.TheVariants as faults
-use Rattle.cidr_filter.specs.declared.opening.OpenFault.{OpenFault}
+use Rattle.lists.specs.declared.opening.OpenFault.{OpenFault}
 use Rattle.cidr_filter.proofs.Addressed.{lacking_same}
 use Rattle.cidr_filter.proofs.Failing.{or_assoc}
 
@@ -144,13 +144,13 @@ module _ (filter : Filter) (known : KnownLists) where
     }
 
   -- a log that was not opened
-  pub name_missed : {E : Type 0} (name : List ℕ) (fault : OpenFault) (old : Stand) (errors told : Written E) → known.may_open name false → Tells errors told (closed_text name fault)
+  pub name_missed : {E : Type 0} (name : List ℕ) (fault : OpenFault) (old : Stand) (errors told : Written E) → known.may_open name false → known.may_miss name fault → Tells errors told (closed_text name fault)
       → FiltersNames filter known (name ∷ []) true old (record old { lines = 0; addressed = false }) errors told
-  name_missed name fault old errors told closed tells = record {
+  name_missed name fault old errors told closed missed tells = record {
     output = [];
     count = 0;
     text = closed_text name fault;
-    filters = ([], [], 0, 0, closed_text name fault, [], true, false, inr ((fault, closed, refl, refl, refl), refl), (refl, refl, refl, refl), refl, refl, sym (append-nil (closed_text name fault)), refl);
+    filters = ([], [], 0, 0, closed_text name fault, [], true, false, inr ((fault, closed, missed, refl, refl, refl), refl), (refl, refl, refl, refl), refl, refl, sym (append-nil (closed_text name fault)), refl);
     tells = tells;
     puts = puts_nothing old.holds old.waits;
     counted = counts_none old.selected old.selected refl;

@@ -8,8 +8,8 @@ use Rattle.line_addresses.specs.declared.place.Place.{Place}
 use Rattle.line_addresses.specs.declared.place.Place.TheVariants as places
 use Rattle.cidr_filter.specs.declared.filter.Verdict.{Verdict}
 use Rattle.cidr_filter.specs.declared.filter.Verdict.TheVariants as verdicts
-use Rattle.cidr_filter.specs.declared.opening.OpenFault.{OpenFault}
-use Rattle.cidr_filter.specs.declared.opening.OpenFault.TheVariants as causes
+use Rattle.lists.specs.Opening.{open_fault_text}
+use Rattle.lists.specs.declared.opening.OpenFault.{OpenFault}
 
 -- whether a line, given without its end, has an address where it is looked for. One of more than 1,048,576 bytes has none
 abbrev pub is_addressed : Filter → List ℕ → Bool
@@ -44,12 +44,6 @@ lacking_by place name lines addressed = if nat_lt 0 lines && not addressed then 
 abbrev pub lacking_text : Filter → List ℕ → List LogLine → List ℕ
 lacking_text filter name lines = lacking_by filter.place name (length lines) (any_addressed filter lines)
 
--- what is reported of a log that cannot be opened, after its name
-abbrev pub open_fault_text : OpenFault → List ℕ
-open_fault_text causes.Missing = codes ": cannot open: no such file\n"
-open_fault_text causes.Denied = codes ": cannot open: permission denied\n"
-open_fault_text causes.Directory = codes ": cannot open: is a directory\n"
-open_fault_text causes.Other = codes ": cannot open\n"
-
+-- what is reported of a log of this name that cannot be opened
 abbrev pub closed_text : List ℕ → OpenFault → List ℕ
 closed_text name fault = name ++ open_fault_text fault

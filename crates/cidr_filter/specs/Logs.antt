@@ -9,7 +9,7 @@ use Rattle.cidr_filter.specs.declared.filter.Filter.{Filter}
 use Rattle.cidr_filter.specs.declared.filter.Verdict.TheVariants as verdicts
 use Rattle.program.specs.declared.log_fault.LogFault.{LogFault}
 use Rattle.program.specs.declared.log_fault.LogFault.TheVariants as faults
-use Rattle.cidr_filter.specs.declared.opening.OpenFault.{OpenFault}
+use Rattle.lists.specs.declared.opening.OpenFault.{OpenFault}
 
 -- the log of this name was read to its end: this is the output of its lines, this many of them were selected, and it is
 -- reported if none of them has an address
@@ -19,7 +19,7 @@ ReadsLog filter known name output selected told = (read : List ℕ) × IsAllOf k
 
 -- or it cannot be opened, which is reported with the cause
 abbrev pub MissesLog : KnownLists → List ℕ → List ℕ → ℕ → List ℕ → Type 0
-MissesLog known name output selected told = (fault : OpenFault) × known.may_open name false × (output ≡ []) × (selected ≡ 0) × (told ≡ closed_text name fault)
+MissesLog known name output selected told = (fault : OpenFault) × known.may_open name false × known.may_miss name fault × (output ≡ []) × (selected ≡ 0) × (told ≡ closed_text name fault)
 
 -- the logs of these names were read to their ends, or could not be opened, one after the other: this is the output of
 -- their lines, this many of them were selected, this is reported, and whether one could not be opened

@@ -10,12 +10,11 @@ ghost use Rattle.cidr_filter.specs.Private.Runs.{FiltersNames};
 
 use crate::filter::Filter;
 use crate::log::{Tally, filter_log};
-use crate::opening::open_fault;
 use crate::telling::{tell_closed, tell_lacking};
 use lines::fault::RunFault;
 use lines::output::Output;
 use lines::watched::Watched;
-use lists::OpenLists;
+use lists::{OpenFault, OpenLists};
 use program::ending::{FAILED, end};
 use program::log_fault::stop;
 use program::messages::number_text;
@@ -116,7 +115,7 @@ fn filter_one<L: OpenLists, W: Write, E: Write>(
     let log = match lists.open(name) {
         Ok(log) => log,
         Err(error) => {
-            tell_closed(name, open_fault(error.kind()), errors);
+            tell_closed(name, OpenFault::of(error.kind()), errors);
             return Some(true);
         }
     };

@@ -9,7 +9,6 @@ mod laws;
 mod listed;
 mod log;
 mod logs;
-mod opening;
 mod options;
 mod printing;
 mod printing_addresses;

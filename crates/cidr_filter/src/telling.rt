@@ -6,11 +6,10 @@ ghost use Rattle.cidr_filter.specs.Addressed.{closed_text, lacking_by, no_addres
 ghost use Rattle.cidr_filter.specs.Filters.{one_if};
 ghost use Rattle.cidr_filter.specs.Told.{is_text, texts_in};
 
-use crate::opening::OpenFault;
 use crate::options::behind;
 use line_addresses::{Place, Text};
 use lines::output::Output;
-use lists::Refusal;
+use lists::{OpenFault, Refusal};
 use program::log_fault::tell_of;
 use program::messages::{tell, tell_number};
 use program::telling::Places;

@@ -68,6 +68,7 @@ module _ (join : Join) (known : KnownLists) where
       are = refl;
       first = h.3.1;
       halts = (h.1, first_of h.1 h.2, refl, opened, fails h.0);
+      of_reading = tt;
       is = refl;
     })
     name_stops old new count failed (tallies.Log faults.Write) fails h = absurd h
@@ -83,6 +84,7 @@ module _ (join : Join) (known : KnownLists) where
       are = refl;
       first = h.is_done.1;
       halts = (line_halts _ h, opened);
+      of_reading = tt;
       is = told_log name count (length h.first) faults.Length (lines_told 0 count _ refl h.is_done.3);
     })
     name_stops old new count failed (tallies.Log faults.Endless) fails h = inl (record {
@@ -97,6 +99,7 @@ module _ (join : Join) (known : KnownLists) where
       are = refl;
       first = h.4.1;
       halts = (h.0, h.1, first_of (h.0 ++ h.1) h.2, h.3, refl, opened);
+      of_reading = tt;
       is = refl;
     })
     name_stops old new count failed tallies.OutOfMemory fails h = inr refl
@@ -115,6 +118,7 @@ module _ (join : Join) (known : KnownLists) where
     are = refl;
     first = refl;
     halts = (refl, closed);
+    of_reading = tt;
     is = refl;
   })
 
@@ -154,6 +158,7 @@ module _ (join : Join) (known : KnownLists) where
     are = marks_logs_both done s.before f.0 s.earlier f.1 s.are;
     first = s.first;
     halts = s.halts;
+    of_reading = s.of_reading;
     is = s.is;
   })
   stops_behind done more rest names old mid text e f (inr s) = inr s

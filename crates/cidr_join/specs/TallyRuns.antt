@@ -11,6 +11,7 @@ use Rattle.cidr_join.specs.Tallies.{Row, IsTally, rows_text}
 use Rattle.cidr_join.specs.Told.{log_fault_text}
 use Rattle.cidr_join.specs.declared.join.Join.{Join}
 use Rattle.cidr_join.specs.declared.log.LogFault.{LogFault}
+use Rattle.cidr_join.specs.declared.log.LogFault.TheVariants as faults
 use Rattle.cidr_join.specs.declared.value.Value.{Value}
 
 -- what is printed before each of these lines, each of which has at most 1,048,576 bytes without its end
@@ -25,6 +26,14 @@ MarksLogs join known [] marks = marks ≡ []
 MarksLogs join known (name ∷ names) marks = (read : List ℕ) × (first : List (List ℕ)) × (others : List (List ℕ))
     × IsAllOf known name read × Marks join (log_lines read) first × MarksLogs join known names others × (marks ≡ first ++ others)
 
+-- nothing is written before all logs are read, so that no write ends the reading
+abbrev pub IsOfReading : LogFault → Type 0
+IsOfReading faults.Open = Unit {0}
+IsOfReading faults.Read = Unit {0}
+IsOfReading faults.Write = ⊥
+IsOfReading faults.Length = Unit {0}
+IsOfReading faults.Endless = Unit {0}
+
 -- a log was not read to its end: those before it were, and its first lines; this is what is reported
 pub record StopsAtName (join : Join) (known : KnownLists) (names : List (List ℕ)) (text : List ℕ) : Type 0 where
   pub before : List (List ℕ)
@@ -38,6 +47,7 @@ pub record StopsAtName (join : Join) (known : KnownLists) (names : List (List �
   pub are : MarksLogs join known before earlier
   pub first : Marks join lines marks
   pub halts : HaltsBy known name lines fault
+  pub of_reading : IsOfReading fault
   pub is : text ≡ log_fault_text name (length lines) fault
 
 -- why nothing is counted: a log was not read to its end, or memory ran out

@@ -1,5 +1,7 @@
-use Rattle.std.proofs.Common.{◌∙◌, ap, refl}
+use Rattle.std.proofs.Common.{◌∙◌, ap, refl, subst, sym}
 use Rattle.lines.specs.Watched.{device_of, has_failed}
+use Rattle.lists.specs.Opening.{cause_of}
+use Rattle.lists.specs.declared.opening.OpenFault.{OpenFault}
 use Rattle.program.specs.Endings.{ending}
 use Rattle.cidr_filter.specs.Stands.{stand}
 use Rattle.cidr_filter.proofs.LogsInTurn.{stops_by, name_missed, name_ended}
@@ -8,8 +10,8 @@ use Rattle.cidr_filter.proofs.logs.filter_one.Goals as goal
 
 pub returns-in-Err : goal.returns-in-Err
 returns-in-Err g c =
-    name_missed c.args.filter.now (g.L.OpenLists.known c.args.lists.now) c.args.name.now c.open_fault.result
-    (stand c.args.output.now c.args.tally.now) c.args.errors.now c.tell_closed.new.errors c.in-Err.ensures.opened c.tell_closed.ensures
+    name_missed c.args.filter.now (g.L.OpenLists.known c.args.lists.now) c.args.name.now c.of.result
+    (stand c.args.output.now c.args.tally.now) c.args.errors.now c.tell_closed.new.errors c.in-Err.ensures.opened (subst (λ (fault : OpenFault). (g.L.OpenLists.known c.args.lists.now).may_miss c.args.name.now fault) (sym (c.of.ensures ∙ ap cause_of c.kind.ensures)) c.in-Err.ensures.missed) c.tell_closed.ensures
 
 pub returns-in-Ok-end : goal.returns-in-Ok-end
 returns-in-Ok-end g c =
