@@ -9,6 +9,7 @@ use Rattle.lines.specs.Parts.{IsBeginning}
 use Rattle.lines.specs.Outputs.{Written, Puts, AppendsBeginning, Prints}
 use Rattle.lines.proofs.Putting.{puts_nothing, puts_more}
 use Rattle.lists.specs.KnownLists.{KnownLists}
+use Rattle.lists.specs.declared.opening.OpenFault.{OpenFault}
 use Rattle.cidr_join.specs.Lines.{LogLine, lines_in, log_lines, ended_lines}
 use Rattle.cidr_join.specs.Joins.{Joins}
 use Rattle.cidr_join.specs.Logs.{IsAllOf, IsFirstOf, JoinsLogs, RefusesAfter, HaltsBy}
@@ -43,7 +44,7 @@ first_part read last input b = (last ++ b.0, b.1 ∙ append_assoc read last b.0)
 -- the output of the first lines was put, of which there were this many, or the writer failed, which took a beginning of
 -- it
 abbrev pub PutsBy : LogFault → Bool → Stand → Stand → List ℕ → ℕ → Type 0
-PutsBy faults.Open failed old new added lines = Puts old.holds old.waits new.holds new.waits added × (new.lines ≡ min lines (2 ^ 64 - 1))
+PutsBy (faults.Open cause) failed old new added lines = Puts old.holds old.waits new.holds new.waits added × (new.lines ≡ min lines (2 ^ 64 - 1))
 PutsBy faults.Read failed old new added lines = Puts old.holds old.waits new.holds new.waits added × (new.lines ≡ min lines (2 ^ 64 - 1))
 PutsBy faults.Write failed old new added lines = IsTrue failed × AppendsBeginning old.holds new.holds (old.waits ++ added)
 PutsBy faults.Length failed old new added lines = Puts old.holds old.waits new.holds new.waits added × (new.lines ≡ min lines (2 ^ 64 - 1))
@@ -82,7 +83,7 @@ ended_first read = ended_before (slice_split (λ b. b == 10) read)
 module _ (join : Join) (known : KnownLists) where
   -- what the first lines of a log are, whatever ends it
   pub some_first : (name : List ℕ) (lines : List LogLine) (fault : LogFault) → HaltsBy known name lines fault → HaltsBy known name lines faults.Write
-  some_first name lines faults.Open h = ([], [], (λ input e. (input, refl)), sym (ap (λ ls. ls ++ []) h.0))
+  some_first name lines (faults.Open cause) h = ([], [], (λ input e. (input, refl)), sym (ap (λ ls. ls ++ []) h.0))
   some_first name lines faults.Read h =
       let ended = ended_first h.0 in
       (h.0, ended.0, h.1, ended.1 ∙ ap (λ ls. ls ++ ended.0) (sym h.2))
@@ -119,7 +120,7 @@ module _ (join : Join) (known : KnownLists) where
     -- a log that was not joined to its end
     pub stops_by : (read_failed write_failed : Bool) (old new : Stand) (fault : LogFault) → (IsTrue read_failed → known.may_fail name) → old.lines ≡ 0 → Stops join remained remains read_failed write_failed old new fault
         → NameStops join known name write_failed old new fault
-    stops_by read_failed write_failed old new faults.Open fails zero h = absurd h
+    stops_by read_failed write_failed old new (faults.Open cause) fails zero h = absurd h
     stops_by read_failed write_failed old new faults.Read fails zero h = record {
       lines = ended_lines h.1;
       added = h.3.added;
@@ -150,12 +151,12 @@ module _ (join : Join) (known : KnownLists) where
     }
 
   -- a log that was not opened
-  pub name_closed : (name : List ℕ) (failed : Bool) (old : Stand) → old.lines ≡ 0 → known.may_open name false → NameStops join known name failed old old faults.Open
-  name_closed name failed old zero closed = record {
+  pub name_closed : (name : List ℕ) (cause : OpenFault) (failed : Bool) (old : Stand) → old.lines ≡ 0 → known.may_open name false → known.may_miss name cause → NameStops join known name failed old old (faults.Open cause)
+  name_closed name cause failed old zero closed missed = record {
     lines = [];
     added = [];
     joins = refl;
-    halts = (refl, closed);
+    halts = (refl, closed, missed);
     puts = (puts_nothing old.holds old.waits, omega (arith, zero));
   }
 

@@ -40,7 +40,7 @@ told_line name cause lines count e =
     ap (λ n. name ++ codes ":" ++ decimal n ++ codes ": refused " ++ cause ++ codes "\n") same
 
 pub told_log : (name : List ℕ) (lines count : ℕ) (fault : LogFault) → lines ≡ min count (2 ^ 64 - 1) → log_fault_text name lines fault ≡ log_fault_text name count fault
-told_log name lines count faults.Open e = refl
+told_log name lines count (faults.Open cause) e = refl
 told_log name lines count faults.Read e = refl
 told_log name lines count faults.Write e = refl
 told_log name lines count faults.Length e = told_line name (codes "length") lines count e
@@ -107,7 +107,7 @@ module _ {W E : Type 0} (join : Join) (known : KnownLists) (name : List ℕ) (li
   stops_now : (fault : LogFault) (old new : ℕ) → new ≡ told → HaltsBy known name lines fault
       → PutsBy fault mid.failed (stand end.output old) (stand mid new) added (length lines)
       → StopsBy name told fault (record end { output = mid }) → StopsAtLog join known (name ∷ []) end
-  stops_now faults.Open old new same halts puts stops = handed faults.Open halts (λ text h. h) (puts.0, sym same ∙ puts.1) stops
+  stops_now (faults.Open cause) old new same halts puts stops = handed (faults.Open cause) halts (λ text h. h) (puts.0, sym same ∙ puts.1) stops
   stops_now faults.Read old new same halts puts stops = handed faults.Read halts (λ text h. h) (puts.0, sym same ∙ puts.1) stops
   stops_now faults.Write old new same halts puts stops = had_failed halts puts stops
   stops_now faults.Length old new same halts puts stops = handed faults.Length halts (λ text h. h) (puts.0, sym same ∙ puts.1) stops
@@ -125,7 +125,7 @@ name_stops join known name end two mid fault old new s stops =
 wrote_behind : {W E : Type 0} (fault : LogFault) (end : Ending W E) (mid : Written W) (output text : List ℕ)
     → Prints end.output mid output
     → Wrote fault (record end { output = mid }) text → Wrote fault end (output ++ text)
-wrote_behind faults.Open end mid output text p h = puts_then_all _ _ _ _ _ output text p h
+wrote_behind (faults.Open cause) end mid output text p h = puts_then_all _ _ _ _ _ output text p h
 wrote_behind faults.Read end mid output text p h = puts_then_all _ _ _ _ _ output text p h
 wrote_behind faults.Write end mid output text p h = (h.0, begins_after_puts _ _ _ _ _ output text p h.1)
 wrote_behind faults.Length end mid output text p h = puts_then_all _ _ _ _ _ output text p h
@@ -264,7 +264,7 @@ all_by {W} {E} join known names output mid after errors silent told_errors statu
 -- ---- what was written when a log stopped
 
 pub stops_else : {W E : Type 0} (name : List ℕ) (lines : ℕ) (fault : LogFault) (end : Ending W E) → ¬ (fault ≡ faults.Write) → HandsOn name lines fault end → StopsBy name lines fault end
-stops_else name lines faults.Open end not h = h
+stops_else name lines (faults.Open cause) end not h = h
 stops_else name lines faults.Read end not h = h
 stops_else name lines faults.Write end not h = absurd (not refl)
 stops_else name lines faults.Length end not h = h

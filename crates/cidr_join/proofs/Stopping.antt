@@ -158,7 +158,7 @@ module _ (join : Join) where
       pub line_stops : (read_failed write_failed : Bool) (fault : LogFault)
           → LineStops join line (whole ++ feed_behind end) write_failed mid new fault
           → Stops join remained remains read_failed write_failed old new fault
-      line_stops read_failed write_failed faults.Open h = absurd h
+      line_stops read_failed write_failed (faults.Open cause) h = absurd h
       line_stops read_failed write_failed faults.Read h = absurd h
       line_stops read_failed write_failed faults.Write h = (
         h.0,

@@ -168,7 +168,7 @@ module _ (known : KnownLists) (name : List ℕ) (remained remains : Option (List
   text_read items (Err fault) h = tt
 
   stops_by : (failed : Bool) (fault : TextFault) → (IsTrue failed → known.may_fail name) → StopsReading remained remains failed fault → TextStops known name fault
-  stops_by failed faults.Open fails h = absurd h
+  stops_by failed (faults.Open cause) fails h = absurd h
   stops_by failed faults.Read fails h = (opened, fails h)
   stops_by failed faults.Length fails h = (opened, (h.0, (λ input e. known_first remained remains h.0 input (has input e) h.1), h.2))
   stops_by failed faults.OutOfMemory fails h = tt

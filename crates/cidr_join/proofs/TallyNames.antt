@@ -7,6 +7,7 @@ use Rattle.std.specs.Io.KnownBytes.{Consumes, IsAtEnd}
 use Rattle.std.proofs.lemmas.List.{take_all}
 use Rattle.lines.specs.Outputs.{Written}
 use Rattle.lists.specs.KnownLists.{KnownLists}
+use Rattle.lists.specs.declared.opening.OpenFault.{OpenFault}
 use Rattle.program.specs.Messages.{Tells}
 use Rattle.cidr_join.specs.Lines.{LogLine, ended_lines}
 use Rattle.cidr_join.specs.Logs.{logs_of, IsAllOf, IsFirstOf, RefusesAfter}
@@ -55,7 +56,7 @@ module _ (join : Join) (known : KnownLists) where
 
     pub name_stops : {Z S : Type 0} (old new : HashMap (Vec ℕ Z) ℕ S) (count : ℕ) (failed : Bool) (fault : TallyFault) → (IsTrue failed → known.may_fail name) → StopsReading (CountsLines join old new 0 count) remained remains failed fault
         → StopsTally join known (name ∷ []) (tally_fault_text name count fault)
-    name_stops old new count failed (tallies.Log faults.Open) fails h = absurd h
+    name_stops old new count failed (tallies.Log (faults.Open cause)) fails h = absurd h
     name_stops old new count failed (tallies.Log faults.Read) fails h = inl (record {
       before = [];
       name = name;
@@ -105,19 +106,19 @@ module _ (join : Join) (known : KnownLists) where
     name_stops old new count failed tallies.OutOfMemory fails h = inr refl
 
   -- a log that was not opened
-  pub name_closed : (name : List ℕ) → known.may_open name false → StopsTally join known (name ∷ []) (log_fault_text name 0 faults.Open)
-  name_closed name closed = inl (record {
+  pub name_closed : (name : List ℕ) (cause : OpenFault) → known.may_open name false → known.may_miss name cause → StopsTally join known (name ∷ []) (log_fault_text name 0 (faults.Open cause))
+  name_closed name cause closed missed = inl (record {
     before = [];
     name = name;
     behind = [];
     earlier = [];
     lines = [];
     marks = [];
-    fault = faults.Open;
+    fault = faults.Open cause;
     logs = refl;
     are = refl;
     first = refl;
-    halts = (refl, closed);
+    halts = (refl, closed, missed);
     of_reading = tt;
     is = refl;
   })

@@ -42,7 +42,7 @@ pub record RefusesAfter (known : KnownLists) (name : List ℕ) (lines : List Log
 -- the log of this name is not joined to its end, by the fault, but these first lines are
 abbrev pub HaltsBy : KnownLists → List ℕ → List LogLine → LogFault → Type 0
 -- it was not opened
-HaltsBy known name lines faults.Open = (lines ≡ []) × known.may_open name false
+HaltsBy known name lines (faults.Open cause) = (lines ≡ []) × known.may_open name false × known.may_miss name cause
 -- a read failed: the lines of which the line feed was read
 HaltsBy known name lines faults.Read =
     (read : List ℕ) × IsFirstOf known name read × (lines ≡ ended_lines read) × known.may_open name true × known.may_fail name

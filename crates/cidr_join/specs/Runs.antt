@@ -37,7 +37,7 @@ FailsWriting end text = (end.output_after.failed ≡ true)
 
 -- the text was written, unless it was a write that ended the run
 abbrev pub Wrote : {W E : Type 0} → LogFault → Ending W E → List ℕ → Type 0
-Wrote faults.Open end text = HasWritten end text
+Wrote (faults.Open cause) end text = HasWritten end text
 Wrote faults.Read end text = HasWritten end text
 Wrote faults.Write end text = FailsWriting end text
 Wrote faults.Length end text = HasWritten end text

@@ -52,7 +52,7 @@ pub record EndsAtLine (join : Join) (remained remains : Option (List ℕ)) (old 
 -- what is true if a log is not joined to its end, by the fault
 abbrev pub Stops : Join → Option (List ℕ) → Option (List ℕ) → Bool → Bool → Stand → Stand → LogFault → Type 0
 -- it was opened
-Stops join remained remains read_failed write_failed old new Open = ⊥
+Stops join remained remains read_failed write_failed old new (Open cause) = ⊥
 -- a read failed, and what was read before was joined
 Stops join remained remains read_failed write_failed old new Read = IsTrue read_failed × (read : List ℕ) × Consumes remained remains read × JoinsEnded join old new read
 -- a write failed
@@ -66,7 +66,7 @@ Stops join remained remains read_failed write_failed old new Endless =
 -- whether a read ended the joining
 abbrev pub ended_by_read : {T : Type 0} → Result T LogFault → Bool
 ended_by_read (Ok done) = false
-ended_by_read (Err Open) = false
+ended_by_read (Err (Open cause)) = false
 ended_by_read (Err Read) = true
 ended_by_read (Err Write) = false
 ended_by_read (Err Length) = false
@@ -75,7 +75,7 @@ ended_by_read (Err Endless) = false
 -- whether a write did
 abbrev pub ended_by_write : {T : Type 0} → Result T LogFault → Bool
 ended_by_write (Ok done) = false
-ended_by_write (Err Open) = false
+ended_by_write (Err (Open cause)) = false
 ended_by_write (Err Read) = false
 ended_by_write (Err Write) = true
 ended_by_write (Err Length) = false

@@ -28,7 +28,7 @@ MarksLogs join known (name ∷ names) marks = (read : List ℕ) × (first : List
 
 -- nothing is written before all logs are read, so that no write ends the reading
 abbrev pub IsOfReading : LogFault → Type 0
-IsOfReading faults.Open = Unit {0}
+IsOfReading (faults.Open cause) = Unit {0}
 IsOfReading faults.Read = Unit {0}
 IsOfReading faults.Write = ⊥
 IsOfReading faults.Length = Unit {0}

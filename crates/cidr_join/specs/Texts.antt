@@ -12,7 +12,7 @@ ReadsAll remained remains text = Consumes remained remains text × IsAtEnd remai
 
 -- they were not read to the end: a read failed, or there are more than 1,073,741,824, or memory ran out
 abbrev pub StopsReading : Option (List ℕ) → Option (List ℕ) → Bool → TextFault → Type 0
-StopsReading remained remains failed Open = ⊥
+StopsReading remained remains failed (Open cause) = ⊥
 StopsReading remained remains failed Read = IsTrue failed
 StopsReading remained remains failed Length = (read : List ℕ) × Consumes remained remains read × (1073741824 < length read)
 StopsReading remained remains failed OutOfMemory = Unit {0}
@@ -20,14 +20,14 @@ StopsReading remained remains failed OutOfMemory = Unit {0}
 -- whether a read ended the reading
 abbrev pub ended_by_read : {T : Type 0} → Result T TextFault → Bool
 ended_by_read (Ok text) = false
-ended_by_read (Err Open) = false
+ended_by_read (Err (Open cause)) = false
 ended_by_read (Err Read) = true
 ended_by_read (Err Length) = false
 ended_by_read (Err OutOfMemory) = false
 
 -- the list of this name was not read, for this reason
 abbrev pub TextStops : KnownLists → List ℕ → TextFault → Type 0
-TextStops known name Open = known.may_open name false
+TextStops known name (Open cause) = known.may_open name false × known.may_miss name cause
 TextStops known name Read = known.may_open name true × known.may_fail name
 TextStops known name Length = known.may_open name true × ((read : List ℕ) × IsFirstOf known name read × (1073741824 < length read))
 TextStops known name OutOfMemory = Unit {0}

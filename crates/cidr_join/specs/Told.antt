@@ -1,5 +1,6 @@
 -- What is reported on standard error.
 use Rattle.std.specs.Prelude.{ℕ, ◌+◌, ◌-◌, ◌^◌, min, List, ◌++◌, codes, decimal}
+use Rattle.lists.specs.Opening.{open_fault_text}
 use Rattle.cidr_join.specs.Entries.{cause_text}
 use Rattle.cidr_join.specs.declared.list.TakeFault.{TakeFault}
 use Rattle.cidr_join.specs.declared.log.LogFault.{LogFault}
@@ -15,7 +16,7 @@ line_text name before cause = name ++ codes ":" ++ decimal (min (before + 1) (2 
 
 -- what is reported if a list was not read
 abbrev pub text_fault_text : List ℕ → TextFault → List ℕ
-text_fault_text name texts.Open = name ++ codes ": cannot open\n"
+text_fault_text name (texts.Open cause) = name ++ open_fault_text cause
 text_fault_text name texts.Read = name ++ codes ": cannot read\n"
 text_fault_text name texts.Length = name ++ codes ": too long\n"
 text_fault_text name texts.OutOfMemory = codes "out of memory\n"
@@ -30,7 +31,7 @@ take_fault_text name fault = route_fault_text name fault.lines fault.fault
 
 -- what is reported if a log was not joined to its end, after this many of its lines
 abbrev pub log_fault_text : List ℕ → ℕ → LogFault → List ℕ
-log_fault_text name before faults.Open = name ++ codes ": cannot open\n"
+log_fault_text name before (faults.Open cause) = name ++ open_fault_text cause
 log_fault_text name before faults.Read = name ++ codes ": cannot read\n"
 log_fault_text name before faults.Write = codes "write error\n"
 log_fault_text name before faults.Length = line_text name before (codes "length")

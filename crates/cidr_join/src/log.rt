@@ -11,13 +11,14 @@ use lines::line_buffer::{LineBuffer, NextLine};
 use lines::line_end::LineEnd;
 use lines::output::Output;
 use lines::watched::Watched;
+use lists::OpenFault;
 use std::io::{Read, Write};
 
 /// Why a log is not joined to its end.
 #[derive(Clone, Copy, Debug, PartialEq, Eq)]
 pub enum LogFault {
-    /// The log cannot be opened.
-    Open,
+    /// The log cannot be opened, for this cause.
+    Open(OpenFault),
     /// A read failed.
     Read,
     /// A write failed.

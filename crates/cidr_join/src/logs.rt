@@ -10,7 +10,7 @@ use crate::log::{LogFault, join_log};
 use crate::telling::tell_log_fault;
 use lines::output::Output;
 use lines::watched::Watched;
-use lists::OpenLists;
+use lists::{OpenFault, OpenLists};
 use program::ending::{FAILED, end};
 use std::io::Write;
 
@@ -83,9 +83,13 @@ fn join_one<L: OpenLists, W: Write, E: Write>(
         (ending output.old output.new errors.old errors.new 2) }
 {
     let mut count = 0;
-    let Ok(log) = lists.open(name) else {
-        stop(name, LogFault::Open, count, output, errors);
-        return false;
+    let log = match lists.open(name) {
+        Ok(log) => log,
+        Err(error) => {
+            let cause = OpenFault::of(error.kind());
+            stop(name, LogFault::Open(cause), count, output, errors);
+            return false;
+        }
     };
     let mut log = Watched::new(log);
     let end = join_log(join, buffer, &mut log, output, &mut count);

@@ -18,7 +18,7 @@ use crate::telling::tell_log_fault;
 use lines::fault::RunFault;
 use lines::output::Output;
 use lines::watched::Watched;
-use lists::OpenLists;
+use lists::{OpenFault, OpenLists};
 use program::ending::{FAILED, end};
 use program::messages::{number_text, tell};
 use std::alloc::Global;
@@ -101,9 +101,13 @@ fn tally_one<L: OpenLists, E: Write>(
         → TellsStop join.now (L.known lists.now) (name.now ∷ []) errors.old errors.new }
 {
     let mut count = 0;
-    let Ok(log) = lists.open(name) else {
-        tell_stop(name, TallyFault::Log(LogFault::Open), count, errors);
-        return false;
+    let log = match lists.open(name) {
+        Ok(log) => log,
+        Err(error) => {
+            let cause = OpenFault::of(error.kind());
+            tell_stop(name, TallyFault::Log(LogFault::Open(cause)), count, errors);
+            return false;
+        }
     };
     let mut log = Watched::new(log);
     let end = tally_log(alloc, join, buffer, &mut log, tally, &mut count);

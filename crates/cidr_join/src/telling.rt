@@ -16,7 +16,7 @@ pub(crate) fn tell_text_fault<E: Write>(name: &str, fault: TextFault, errors: &m
     ensures { Tells errors.old errors.new (text_fault_text name.now fault) }
 {
     match fault {
-        TextFault::Open => tell_of(name, ": cannot open\n", errors),
+        TextFault::Open(cause) => tell_of(name, cause.text(), errors),
         TextFault::Read => tell_of(name, ": cannot read\n", errors),
         TextFault::Length => tell_of(name, ": too long\n", errors),
         TextFault::OutOfMemory => tell("out of memory\n", errors),
@@ -43,7 +43,7 @@ pub(crate) fn tell_log_fault<E: Write>(
     ensures { Tells errors.old errors.new (log_fault_text name.now lines fault) }
 {
     match fault {
-        LogFault::Open => tell_of(name, ": cannot open\n", errors),
+        LogFault::Open(cause) => tell_of(name, cause.text(), errors),
         LogFault::Read => tell_of(name, ": cannot read\n", errors),
         LogFault::Write => tell("write error\n", errors),
         LogFault::Length => tell_line(name, lines, "length", errors),

@@ -5,7 +5,7 @@ ghost use Rattle.cidr_join.specs.Logs.{IsAllOf};
 ghost use Rattle.cidr_join.specs.Texts.{ReadsAll, StopsReading, ended_by_read, TextStops};
 
 use lines::watched::Watched;
-use lists::OpenLists;
+use lists::{OpenFault, OpenLists};
 use std::alloc::Global;
 use std::io::Read;
 
@@ -18,8 +18,8 @@ const CHUNK_LEN: usize = 65536;
 /// Why a list is not read.
 #[derive(Clone, Copy, Debug, PartialEq, Eq)]
 pub enum TextFault {
-    /// It cannot be opened.
-    Open,
+    /// It cannot be opened, for this cause.
+    Open(OpenFault),
     /// A read failed.
     Read,
     /// It has more than 1,073,741,824 bytes.
@@ -37,8 +37,9 @@ pub(crate) fn text_of<L: OpenLists>(
     ensures ok { IfOk result (λ text. IsAllOf (L.known lists.now) name.now text.items) }
     ensures err { IfErr result (TextStops (L.known lists.now) name.now) }
 {
-    let Ok(list) = lists.open(name) else {
-        return Err(TextFault::Open);
+    let list = match lists.open(name) {
+        Ok(list) => list,
+        Err(error) => return Err(TextFault::Open(OpenFault::of(error.kind()))),
     };
     let mut list = Watched::new(list);
     let text = read_all(alloc, &mut list);

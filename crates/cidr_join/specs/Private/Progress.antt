@@ -31,7 +31,7 @@ JoinsLine join line text old new = (found : Option (IpNetwork × Value)) × Find
 
 -- or the writer failed, which took a beginning of what waited and of the line's output
 abbrev pub LineStops : Join → List ℕ → List ℕ → Bool → Stand → Stand → LogFault → Type 0
-LineStops join line text write_failed old new faults.Open = ⊥
+LineStops join line text write_failed old new (faults.Open cause) = ⊥
 LineStops join line text write_failed old new faults.Read = ⊥
 LineStops join line text write_failed old new faults.Write =
     IsTrue write_failed × (found : Option (IpNetwork × Value)) × Finds join (address_in join line) found

@@ -23,7 +23,7 @@ HandsOn name lines fault end = (HasWritten end [] × HasTold end (log_fault_text
 
 -- so it was, unless the writer had failed
 abbrev pub StopsBy : {W E : Type 0} → List ℕ → ℕ → LogFault → Ending W E → Type 0
-StopsBy name lines faults.Open end = HandsOn name lines faults.Open end
+StopsBy name lines (faults.Open cause) end = HandsOn name lines (faults.Open cause) end
 StopsBy name lines faults.Read end = HandsOn name lines faults.Read end
 StopsBy name lines faults.Write end = (end.output_after ≡ end.output) × HasTold end (log_fault_text name lines faults.Write)
 StopsBy name lines faults.Length end = HandsOn name lines faults.Length end

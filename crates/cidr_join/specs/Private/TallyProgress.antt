@@ -44,7 +44,7 @@ pub record ReadsToLine (done : List LogLine → Type 0) (remained remains : Opti
 
 -- what was read was not read to its end, by the fault; memory may run out at each line
 abbrev pub StopsReading : (List LogLine → Type 0) → Option (List ℕ) → Option (List ℕ) → Bool → TallyFault → Type 0
-StopsReading done remained remains failed (tallies.Log faults.Open) = ⊥
+StopsReading done remained remains failed (tallies.Log (faults.Open cause)) = ⊥
 StopsReading done remained remains failed (tallies.Log faults.Read) = IsTrue failed × (read : List ℕ) × Consumes remained remains read × done (ended_lines read)
 StopsReading done remained remains failed (tallies.Log faults.Write) = ⊥
 StopsReading done remained remains failed (tallies.Log faults.Length) = ReadsToLine done remained remains
@@ -55,7 +55,7 @@ StopsReading done remained remains failed tallies.OutOfMemory = Unit {0}
 -- whether a read ended the reading
 abbrev pub ended_by_read : {T : Type 0} → Result T TallyFault → Bool
 ended_by_read (Ok done) = false
-ended_by_read (Err (tallies.Log faults.Open)) = false
+ended_by_read (Err (tallies.Log (faults.Open cause))) = false
 ended_by_read (Err (tallies.Log faults.Read)) = true
 ended_by_read (Err (tallies.Log faults.Write)) = false
 ended_by_read (Err (tallies.Log faults.Length)) = false

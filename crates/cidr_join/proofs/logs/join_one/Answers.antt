@@ -1,36 +1,40 @@
-use Rattle.std.proofs.Common.{◌∙◌, ap, refl}
+use Rattle.std.proofs.Common.{◌∙◌, ap, refl, subst, sym}
 use Rattle.lines.specs.Watched.{device_of, has_failed}
 use Rattle.program.specs.Endings.{ending}
+use Rattle.lists.specs.Opening.{cause_of}
+use Rattle.lists.specs.declared.opening.OpenFault.{OpenFault}
 use Rattle.cidr_join.specs.Stands.{stand}
 use Rattle.cidr_join.specs.declared.log.LogFault.TheVariants.{Open}
 use Rattle.cidr_join.proofs.LogsInTurn.{stops_by, name_closed, name_joined}
 use Rattle.cidr_join.proofs.Runs.{name_stops}
 use Rattle.cidr_join.proofs.logs.join_one.Goals as goal
 
-pub returns-in_default-clause-stopped : goal.returns-in_default-clause-stopped
-returns-in_default-clause-stopped g c = λ no.
+pub returns-in-Err-clause-stopped : goal.returns-in-Err-clause-stopped
+returns-in-Err-clause-stopped g c = λ no.
     let known = g.L.OpenLists.known c.args.lists.now in
     let output = c.args.output.now in
+    let cause = c.of-cause.result in
     name_stops c.args.join.now known c.args.name.now
     (ending output c.stop.new.output c.args.errors.now c.stop.new.errors
     2) refl
-    output Open 0 0
-    (name_closed c.args.join.now known c.args.name.now output.failed
-    (stand output 0) refl c.in_default.ensures.opened) c.stop.ensures
+    output (Open cause) 0 0
+    (name_closed c.args.join.now known c.args.name.now cause output.failed
+    (stand output 0) refl c.in-Err.ensures.opened
+    (subst (λ (told : OpenFault). known.may_miss c.args.name.now told) (sym (c.of-cause.ensures ∙ ap cause_of c.kind.ensures)) c.in-Err.ensures.missed)) c.stop.ensures
 
-pub returns-in-Err-clause-stopped : goal.returns-in-Err-clause-stopped
-returns-in-Err-clause-stopped g c = λ no.
+pub returns-in-Err-end-clause-stopped : goal.returns-in-Err-end-clause-stopped
+returns-in-Err-end-clause-stopped g c = λ no.
     let known = g.L.OpenLists.known c.args.lists.now in
     let remaining = g.L.List.Read.remaining in
     let mid = c.join_log-end.new.output in
     name_stops c.args.join.now known c.args.name.now
-    (ending c.args.output.now c.stop-in-Err.new.output c.args.errors.now
-    c.stop-in-Err.new.errors 2) refl
-    mid c.in-Err.fault 0 c.join_log-end.new.count
+    (ending c.args.output.now c.stop-in-Err-end.new.output c.args.errors.now
+    c.stop-in-Err-end.new.errors 2) refl
+    mid c.in-Err-end.fault 0 c.join_log-end.new.count
     (stops_by c.args.join.now known c.args.name.now
     (remaining (device_of c.new-log.result)) (remaining (device_of c.join_log-end.new.reader))
     (λ input e. ap remaining c.new-log.ensures.device ∙ c.in-Ok.ensures.bytes input e)
     c.in-Ok.ensures.opened
     (has_failed c.join_log-end.new.reader) mid.failed
     (stand c.args.output.now 0) (stand mid c.join_log-end.new.count)
-    c.in-Err.fault c.close.ensures.failed refl c.in-Err.ensures.err) c.stop-in-Err.ensures
+    c.in-Err-end.fault c.close.ensures.failed refl c.in-Err-end.ensures.err) c.stop-in-Err-end.ensures
