@@ -107,7 +107,9 @@ def program(run):
     rows = []
     for row in ["has4", "read6", "ends", "find4-10000", "find6-10000", "routed4-100000"]:
         programs = [cidr, [peer], [peer, "hash"]] if "-" in row else [cidr, [peer]]
-        taken, alike = measure.measured(programs, row, count, rounds, measure.seconds, run.folder)
+        # What the routes take is taken off again, so that many lines are needed.
+        lines = 5 * count if "-" in row else count
+        taken, alike = measure.measured(programs, row, lines, rounds, measure.seconds, run.folder)
         if not alike:
             raise Differs(f"{row}: the programs do not answer the same")
         own, *others = [1e9 * each for each in taken]
