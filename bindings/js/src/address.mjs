@@ -2,6 +2,7 @@ import { addressCanonical, addressRead, v4Compare, v6Compare } from './library.m
 import { ADDRESS, LITTLE, NUMBER, OTHER, bytes, view, words } from './memory.mjs';
 import { addressError, textOf, wrongType } from './errors.mjs';
 import { askText, printed } from './texts.mjs';
+import { fourContains, sixContains } from './words.mjs';
 
 /**
  * What only this package has: the first argument of a constructor that is given what the library
@@ -17,12 +18,9 @@ const TYPED = Object.getPrototypeOf(Uint8Array.prototype);
 const tagOf = Object.getOwnPropertyDescriptor(TYPED, Symbol.toStringTag).get;
 const lengthOf = Object.getOwnPropertyDescriptor(TYPED, 'length').get;
 
-/* Friends of the class: they reach its fields. */
-let familyIn;
-let putIn;
-let putFourIn;
-let putSixIn;
-let isIn;
+/* Friends of the class: they reach its fields. They are constants once it is there, so that an
+ * engine need not ask what they are. */
+const ofAddress = {};
 
 /** An address of either family. It does not change. */
 export class IpAddress {
@@ -35,28 +33,28 @@ export class IpAddress {
   #d = 0;
 
   static {
-    familyIn = (address) => address.#family;
-    isIn = (value) => typeof value === 'object' && value !== null && #family in value;
-    /* One for each family, so that an engine sees objects of one shape in it. */
-    putFourIn = (address, place) => {
-      if (address.#family !== 4) return false;
-      words[place >>> 2] = address.#a;
-      return true;
-    };
-    putSixIn = (address, place) => {
-      if (address.#family !== 6) return false;
+    ofAddress.familyOf = (address) => address.#family;
+    ofAddress.isAddress = (value) => (
+      typeof value === 'object' && value !== null && #family in value
+    );
+    ofAddress.putAddress = (address, place) => {
       const target = words;
       const at = place >>> 2;
       target[at] = address.#a;
+      if (address.#family === 4) return;
       target[at + 1] = address.#b;
       target[at + 2] = address.#c;
       target[at + 3] = address.#d;
-      return true;
     };
-    putIn = (address, place) => {
-      if (address.#family === 4) putFourIn(address, place);
-      else putSixIn(address, place);
-    };
+    /* One for each family, so that an engine sees objects of one shape in it. */
+    ofAddress.liesInFour = (address, prefix, a) => (
+      address.#family === 4 && fourContains(prefix, a, address.#a) === 1
+    );
+    ofAddress.liesInSix = (address, prefix, a, b, c, d) => (
+      address.#family === 6 && sixContains(
+        prefix, a, b, c, d, address.#a, address.#b, address.#c, address.#d,
+      ) === 1
+    );
   }
 
   constructor(made, family, a, b, c, d) {
@@ -100,7 +98,7 @@ export class IpAddress {
   }
 
   get octets() {
-    putIn(this, ADDRESS);
+    putAddress(this, ADDRESS);
     return bytes.slice(ADDRESS, ADDRESS + (this.#family === 4 ? 4 : 16));
   }
 
@@ -117,7 +115,7 @@ export class IpAddress {
   }
 
   toString() {
-    putIn(this, ADDRESS);
+    putAddress(this, ADDRESS);
     bytes[ADDRESS + 16] = this.#family === 4 ? 4 : 16;
     return printed(addressCanonical, ADDRESS);
   }
@@ -169,7 +167,7 @@ export class Ipv4Address extends IpAddress {
   }
 
   get number() {
-    putIn(this, ADDRESS);
+    putAddress(this, ADDRESS);
     return view.getUint32(ADDRESS, false);
   }
 }
@@ -210,36 +208,17 @@ export class Ipv6Address extends IpAddress {
   }
 
   get number() {
-    putIn(this, ADDRESS);
+    putAddress(this, ADDRESS);
     return (view.getBigUint64(ADDRESS, false) << 64n) | view.getBigUint64(ADDRESS + 8, false);
   }
 }
 
-/** The family of an address, 4 or 6. */
-export const familyOf = (address) => familyIn(address);
-
-/** Writes the octets of an address to the memory, at a multiple of 4. */
-export const putAddress = (address, place) => putIn(address, place);
-
-/* Each writes the octets of a value to the memory, at a multiple of 4, if it is an address of the
- * family, and returns whether it is; or throws a TypeError if it is no address. */
-export function putFour(value, place) {
-  try {
-    return putFourIn(value, place);
-  } catch {
-    throw wrongType('address', 'an IpAddress or a string', value);
-  }
-}
-export function putSix(value, place) {
-  try {
-    return putSixIn(value, place);
-  } catch {
-    throw wrongType('address', 'an IpAddress or a string', value);
-  }
-}
-
-/** Whether a value is an address of this package. */
-export const isAddress = (value) => isIn(value);
+/**
+ * The family of an address, 4 or 6; whether a value is an address of this package; how an address
+ * is written to the memory, at a multiple of 4; and whether it lies in the IPv4 or IPv6 network of
+ * a prefix length and octets.
+ */
+export const { familyOf, isAddress, putAddress, liesInFour, liesInSix } = ofAddress;
 
 /** The address whose octets, 4 or 16, stand at this place. */
 export function addressAt(place, length) {
@@ -254,13 +233,13 @@ export function addressAt(place, length) {
 
 /** The address that an argument is or names, or a TypeError that names the argument. */
 export function addressOf(value, name) {
-  if (isIn(value)) return value;
+  if (isAddress(value)) return value;
   if (typeof value !== 'string') throw wrongType(name, 'an IpAddress or a string', value);
   return IpAddress.parse(value);
 }
 
 function requireAddress(value, name) {
-  if (!isIn(value)) throw wrongType(name, 'an IpAddress', value);
+  if (!isAddress(value)) throw wrongType(name, 'an IpAddress', value);
   return value;
 }
 
@@ -278,10 +257,10 @@ function ofLength(octets, length) {
 
 /** The order of two addresses of one family: that of the networks of these single addresses. */
 function orderOfTwo(one, other) {
-  const four = familyIn(one) === 4;
+  const four = familyOf(one) === 4;
   const prefix = four ? 4 : 16;
-  putIn(one, ADDRESS);
-  putIn(other, OTHER);
+  putAddress(one, ADDRESS);
+  putAddress(other, OTHER);
   bytes[ADDRESS + prefix] = 0;
   bytes[OTHER + prefix] = 0;
   const compare = four ? v4Compare : v6Compare;

@@ -8,8 +8,8 @@ const packed = Uint8Array.from(atob(MODULE), (unit) => unit.charCodeAt(0));
 /** The library for C, compiled for WebAssembly: its functions and its memory. */
 export const library = instanceOf(inflated(packed, MODULE_LENGTH));
 
-/* Its functions, which c/ipnetwork.h describes. Each pointer and each size is two numbers: the
- * low 32 bits and 0. */
+/* Its functions, which c/ipnetwork.h describes, and those of words.wat. Each pointer and each size
+ * is two numbers: the low 32 bits and 0. */
 export const {
   ipnetwork_v4_read: v4Read,
   ipnetwork_v6_read: v6Read,
@@ -18,8 +18,8 @@ export const {
   ipnetwork_v4_canonical: v4Canonical,
   ipnetwork_v6_canonical: v6Canonical,
   ipnetwork_address_canonical: addressCanonical,
-  ipnetwork_v4_contains: v4Contains,
-  ipnetwork_v6_contains: v6Contains,
+  v4_contains_words: v4ContainsWords,
+  v6_contains_words: v6ContainsWords,
   ipnetwork_v4_network: v4Network,
   ipnetwork_v6_network: v6Network,
   ipnetwork_v4_broadcast: v4Broadcast,

@@ -1,7 +1,7 @@
 import {
-  readWithCause, v4Broadcast, v4Canonical, v4Compare, v4Contains, v4IsSubnetOf, v4Mask, v4Network,
-  v4Nth, v4Overlaps, v4Read, v4Size, v4SubnetAt, v6Broadcast, v6Canonical, v6Compare, v6Contains,
-  v6IsSubnetOf, v6Mask, v6Network, v6Nth, v6Overlaps, v6Read, v6Size, v6SubnetAt,
+  readWithCause, v4Broadcast, v4Canonical, v4Compare, v4IsSubnetOf, v4Mask, v4Network, v4Nth,
+  v4Overlaps, v4Read, v4Size, v4SubnetAt, v6Broadcast, v6Canonical, v6Compare, v6IsSubnetOf, v6Mask,
+  v6Network, v6Nth, v6Overlaps, v6Read, v6Size, v6SubnetAt,
 } from './library.mjs';
 import {
   ADDRESS, ANSWER, LITTLE, NETWORK, NUMBER, OTHER, bytes, view, words,
@@ -9,14 +9,13 @@ import {
 import { networkError, never, prefixError, textOf, wrongType } from './errors.mjs';
 import { putNumber, requireParts, wholeNumber } from './arguments.mjs';
 import { askText, printed } from './texts.mjs';
-import { INSPECT, IpAddress, MADE, addressAt, putFour, putSix } from './address.mjs';
+import {
+  INSPECT, IpAddress, MADE, addressAt, isAddress, liesInFour, liesInSix,
+} from './address.mjs';
 
-/* Friends of the class: they reach its fields. */
-let holdFour;
-let holdSix;
-let putField;
-let isField;
-let familyField;
+/* Friends of the class: they reach its fields. They are constants once it is there, so that an
+ * engine need not ask what they are. */
+const ofNetwork = {};
 
 /**
  * A network of either family: an address, host bits kept, and a prefix length. It does not change.
@@ -32,15 +31,17 @@ export class IpNetwork {
   #prefix = 0;
 
   static {
-    familyField = (network) => network.#family;
-    isField = (value) => typeof value === 'object' && value !== null && #family in value;
+    ofNetwork.familyOfNetwork = (network) => network.#family;
+    ofNetwork.isNetwork = (value) => (
+      typeof value === 'object' && value !== null && #family in value
+    );
     /* Each writes the struct to NETWORK: one for each family, so that an engine sees objects of one
      * shape in it. */
-    holdFour = (network) => {
+    ofNetwork.holdFour = (network) => {
       words[NETWORK >>> 2] = network.#a;
       bytes[NETWORK + 4] = network.#prefix;
     };
-    holdSix = (network) => {
+    ofNetwork.holdSix = (network) => {
       const target = words;
       const at = NETWORK >>> 2;
       target[at] = network.#a;
@@ -49,7 +50,11 @@ export class IpNetwork {
       target[at + 3] = network.#d;
       bytes[NETWORK + 16] = network.#prefix;
     };
-    putField = (network, place) => {
+    ofNetwork.hasFour = (network, member) => liesInFour(member, network.#prefix, network.#a);
+    ofNetwork.hasSix = (network, member) => liesInSix(
+      member, network.#prefix, network.#a, network.#b, network.#c, network.#d,
+    );
+    ofNetwork.putNetwork = (network, place) => {
       const target = view;
       target.setInt32(place, network.#a, LITTLE);
       if (network.#family === 4) {
@@ -99,7 +104,7 @@ export class IpNetwork {
   }
 
   get address() {
-    putField(this, OTHER);
+    putNetwork(this, OTHER);
     return addressAt(OTHER, this.#octets);
   }
 
@@ -135,7 +140,12 @@ export class IpNetwork {
 
   contains(address) {
     const member = typeof address === 'string' ? IpAddress.parse(address) : address;
-    return this.#family === 4 ? fourContains(this, member) : sixContains(this, member);
+    try {
+      return this.#family === 4 ? hasFour(this, member) : hasSix(this, member);
+    } catch (error) {
+      if (isAddress(member)) throw error;
+      throw wrongType('address', 'an IpAddress or a string', member);
+    }
   }
 
   isSubnetOf(other) {
@@ -164,7 +174,7 @@ export class IpNetwork {
     requireNetwork(other, 'other');
     if (this.#family !== other.#family) return this.#family === 4 ? -1 : 1;
     this.#hold();
-    putField(other, OTHER);
+    putNetwork(other, OTHER);
     const compare = this.#family === 4 ? v4Compare : v6Compare;
     never(compare(NETWORK, 0, OTHER, 0, NUMBER, 0));
     return view.getInt32(NUMBER, true);
@@ -236,7 +246,7 @@ export class IpNetwork {
   #ask(other, call) {
     if (this.#family !== other.#family) return false;
     this.#hold();
-    putField(other, OTHER);
+    putNetwork(other, OTHER);
     never(call(NETWORK, 0, OTHER, 0, ANSWER, 0));
     return bytes[ANSWER] === 1;
   }
@@ -283,6 +293,13 @@ export class IpNetwork {
     }
   }
 }
+
+const { hasFour, hasSix, holdFour, holdSix } = ofNetwork;
+/**
+ * Whether a value is a network of this package; the family of one, 4 or 6; and how its struct is
+ * written to the memory.
+ */
+export const { isNetwork, familyOfNetwork, putNetwork } = ofNetwork;
 
 /** An IPv4 network. */
 export class Ipv4Network extends IpNetwork {
@@ -334,29 +351,6 @@ export class Ipv6Network extends IpNetwork {
   }
 }
 
-function fourContains(network, member) {
-  if (!putFour(member, ADDRESS)) return false;
-  holdFour(network);
-  never(v4Contains(NETWORK, 0, ADDRESS, 0, ANSWER, 0));
-  return bytes[ANSWER] === 1;
-}
-
-function sixContains(network, member) {
-  if (!putSix(member, ADDRESS)) return false;
-  holdSix(network);
-  never(v6Contains(NETWORK, 0, ADDRESS, 0, ANSWER, 0));
-  return bytes[ANSWER] === 1;
-}
-
-/** Whether a value is a network of this package. */
-export const isNetwork = (value) => isField(value);
-
-/** The family of a network, 4 or 6. */
-export const familyOfNetwork = (network) => familyField(network);
-
-/** Writes the struct of a network to the memory. */
-export const putNetwork = (network, place) => putField(network, place);
-
 /** The network of this family whose struct stands at this place. */
 export function networkAt(place, family) {
   const from = view;
@@ -368,7 +362,7 @@ export function networkAt(place, family) {
 
 /** The network that an argument is or names, or a TypeError that names the argument. */
 export function networkOf(value, name) {
-  if (isField(value)) return value;
+  if (isNetwork(value)) return value;
   if (typeof value !== 'string') throw wrongType(name, 'an IpNetwork or a string', value);
   return IpNetwork.parse(value);
 }
@@ -380,6 +374,6 @@ const eitherAt = (place) => (
 );
 
 function requireNetwork(value, name) {
-  if (!isField(value)) throw wrongType(name, 'an IpNetwork', value);
+  if (!isNetwork(value)) throw wrongType(name, 'an IpNetwork', value);
   return value;
 }
