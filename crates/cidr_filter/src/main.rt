@@ -5,6 +5,7 @@ mod arranging;
 mod command_line;
 mod filter;
 mod help;
+mod joined;
 mod laws;
 mod listed;
 mod log;
