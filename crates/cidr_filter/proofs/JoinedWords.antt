@@ -1,9 +1,8 @@
 -- Words in which options are joined, letter by letter.
-use Rattle.std.proofs.Common.{◌≡◌, ◌≢◌, ℕ, suc, ◌+◌, ◌-◌, ◌<◌, ◌≤◌, ◌∙◌, ◌==◌, ◌||◌, ◌&&◌, Bool, true, false, List, [], ◌∷◌, ◌++◌, cond, refl, sym, ap, subst, length, get_or, drop, drop-cons, append_assoc, append-nil, arith, inl, inr, true≢false}
+use Rattle.std.proofs.Common.{◌≡◌, ◌≢◌, ℕ, ◌<◌, ◌==◌, ◌||◌, ◌&&◌, Bool, true, false, List, [], ◌∷◌, refl, sym, ap, subst, arith, true≢false}
 use Rattle.std.proofs.lemmas.Bool.Decides.{nat_tests}
-use Rattle.std.specs.Prelude.{if◌then◌else◌, ◌⊎◌, nat_lt}
-use Rattle.std.proofs.lemmas.List.{drop_all}
-use Rattle.cidr_filter.specs.Joined.{letter_words, after_letters, value_words, takes_value, begins_with_value, is_joined, words_in, awaits_value}
+use Rattle.std.specs.Prelude.{if◌then◌else◌}
+use Rattle.cidr_filter.specs.Joined.{after_letters, begins_with_value, is_joined}
 use Rattle.cidr_filter.specs.Options.{is_letter}
 
 -- letters are characters of ASCII

@@ -80,7 +80,7 @@ no_fourth_bad_word text drop keep stop = rw (drop, keep, stop)
 
 -- letters, of which these are given
 abbrev pub letters : Bool → Bool → Bool → Bool → Letters
-letters inverts counts anywhere words = record { inverts = inverts; counts = counts; anywhere = anywhere; words = words; only = false }
+letters inverts counts anywhere words = record { inverts = inverts; counts = counts; anywhere = anywhere; words = words; only = false; named = false; unnamed = false }
 
 pub letters_together : letters_option (codes "vc") ≡ Some (choices.Letters (letters true true false false))
 letters_together = refl

@@ -153,6 +153,8 @@ fn word_of(letter: u8) -> Option<&'static str>
         b'a' => Some("-a"),
         b'w' => Some("-w"),
         b'o' => Some("-o"),
+        b'H' => Some("-H"),
+        b'h' => Some("-h"),
         _ => None,
     }
 }

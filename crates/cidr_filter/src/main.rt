@@ -10,6 +10,7 @@ mod laws;
 mod listed;
 mod log;
 mod logs;
+mod naming;
 mod options;
 mod printing;
 mod printing_addresses;

@@ -1,4 +1,4 @@
-use Rattle.std.proofs.Common.{◌∙◌, ◌≡◌, ◌++◌, ℕ, List, Bool, true, sym, ap, subst, map, append_assoc}
+use Rattle.std.proofs.Common.{◌∙◌, ◌≡◌, ◌++◌, ℕ, List, true, sym, ap, map, append_assoc}
 use Rattle.std.specs.Prelude.{Result, Ok, Err, OnOk}
 use Rattle.std.specs.String.{string_bytes}
 use Rattle.cidr_filter.specs.Joined.{after_letters, begins_with_value, letter_words, value_words}
