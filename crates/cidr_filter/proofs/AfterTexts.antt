@@ -1,6 +1,6 @@
 -- The text of the last `--after`.
 use Rattle.std.proofs.Common.{◌≡◌, ◌+◌, ◌-◌, ◌<◌, ◌≤◌, ◌∷◌, ◌∙◌, [], ℕ, List, Bool, true, false, cond, refl, sym, ap, length, length-drop, get_or, drop, arith}
-use Rattle.std.specs.Prelude.{String, codes, ◌||◌}
+use Rattle.std.specs.Prelude.{String, codes}
 use Rattle.std.specs.String.{string_bytes}
 use Rattle.std.proofs.lemmas.List.{drop_all, drop_more}
 use Rattle.program.specs.Words.{is}

@@ -1,6 +1,6 @@
 -- Values at which a misreading of the definitions would show.
-use Rattle.std.proofs.Common.{◌≡◌, ℕ, length, List, [], ◌∷◌, Bool, true, false, inl, inr, refl, arith, drop, sym, ◌∙◌, ◌⊎◌, true≢false}
-use Rattle.std.specs.Prelude.{codes, String, Some, None}
+use Rattle.std.proofs.Common.{◌≡◌, ℕ, length, List, [], ◌∷◌, ◌++◌, Bool, true, false, inl, inr, refl, arith, drop, sym, ◌∙◌, ◌⊎◌, true≢false}
+use Rattle.std.specs.Prelude.{codes, bytes_eq, String, Some, None}
 use Rattle.std.specs.Fmt.{digits}
 use Rattle.std.specs.String.{string_bytes}
 use Rattle.std.specs.Str.Lines.{lines}
@@ -21,11 +21,11 @@ use Rattle.program.specs.LogLines.{LogLine, log_lines, ended_lines, content, pri
 use Rattle.cidr_filter.specs.Listed.{IsStored, IsLongestBlock}
 use Rattle.program.specs.LogFaults.{log_fault_text}
 use Rattle.program.specs.Logs.{logs_of, IsAllOf, IsFirstOf}
-use Rattle.cidr_filter.specs.Logs.{FiltersLogs}
+use Rattle.cidr_filter.specs.Logs.{FiltersLogs, label_of}
 use Rattle.cidr_filter.specs.Reading.{ReadsOptions, HoldsRead}
 use Rattle.program.specs.Endings.{Ending, Refuses, HasTold, HasWritten}
 use Rattle.cidr_filter.specs.Options.{no_options, said_by}
-use Rattle.cidr_filter.specs.Addressed.{closed_text, lacking_by, lacking_text}
+use Rattle.cidr_filter.specs.Addressed.{closed_text, lacking_by}
 use Rattle.cidr_filter.specs.Runs.{total_text, status_by, EndsLogs, EndsFiltering, place_of, filter_of}
 use Rattle.lists.specs.declared.refusals.Refusal.{Refusal}
 use Rattle.program.specs.Told.{refusals_text}
@@ -94,7 +94,7 @@ printed_with_an_end = refl
 -- ---- what a line is to a list
 
 abbrev pub by : Bool → WithoutAddress → Filter
-by inverts bad = record { listed = Addresses (record { v4 = []; v6 = [] }); place = places.Field 1 32; mapped = false; inverts = inverts; bad = bad; counts = false; only = false }
+by inverts bad = record { listed = Addresses (record { v4 = []; v6 = [] }); place = places.Field 1 32; mapped = false; inverts = inverts; bad = bad; counts = false; only = false; named = false; name = [] }
 
 -- one that only counts
 abbrev pub counting : WithoutAddress → Filter
@@ -224,6 +224,22 @@ line_selected = refl
 pub line_counted : output_of (counting without.Drop) (verdicts.Inside None) (ended (codes "a")) ≡ []
 line_counted = refl
 
+-- with `-H` the name of the log stands first, whatever it is; and nothing without it
+pub line_named : (byte : ℕ) (name : List ℕ) → output_of (record (by false without.Drop) { name = byte ∷ name }) (verdicts.Inside None) (ended (codes "a")) ≡ (byte ∷ name ++ codes ":") ++ codes "a\n"
+line_named byte name = refl
+
+pub longest_named : (tables : Tables) → output_of (record (by false without.Keep) { listed = Blocks tables; name = codes "log" }) verdicts.NoAddress (ended (codes "a")) ≡ codes "log:-\ta\n"
+longest_named tables = refl
+
+pub standard_input_named : label_of true (codes "-") ≡ codes "(standard input)"
+standard_input_named = refl
+
+pub any_log_named : (name : List ℕ) → bytes_eq name (codes "-") ≡ false → label_of true name ≡ name
+any_log_named name other = rw other
+
+pub no_log_named : (name : List ℕ) → label_of false name ≡ []
+no_log_named name = refl
+
 -- with `-o` only the addresses that are in the lists, whatever they are beside: 10.0.0.0/8 has the first and the third
 abbrev pub addresses_of_ten : Filter
 addresses_of_ten = record (looking places.Anywhere false) {
@@ -234,6 +250,10 @@ addresses_of_ten = record (looking places.Anywhere false) {
 pub addresses_selected : output_of addresses_of_ten (verdicts.Inside None) (ended (codes "a=10.0.0.1:80 b=11.0.0.1,10.0.0.2.")) ≡ codes "10.0.0.1\n10.0.0.2\n"
 unfolding address_in before_port address_of digits v6_of gap_below
 addresses_selected = refl
+
+pub addresses_named : output_of (record addresses_of_ten { name = codes "log" }) (verdicts.Inside None) (ended (codes "10.0.0.1 10.0.0.2")) ≡ codes "log:10.0.0.1\nlog:10.0.0.2\n"
+unfolding address_in before_port address_of digits v6_of gap_below
+addresses_named = refl
 
 pub no_addresses_counted : output_of (record addresses_of_ten { counts = true }) (verdicts.Inside None) (ended (codes "10.0.0.1")) ≡ []
 no_addresses_counted = refl

@@ -5,6 +5,8 @@ pub mod Examples
 pub mod Failing
 pub mod Faults
 pub mod Filtering
+pub mod Heads
+pub mod JoinedWords
 pub mod Judging
 pub mod LawExamples
 pub mod LogParts

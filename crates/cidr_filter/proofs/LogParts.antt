@@ -1,5 +1,5 @@
 -- The parts of a log.
-use Rattle.std.proofs.Common.{◌≡◌, ℕ, ◌+◌, Bool, List, [], ◌∷◌, ◌++◌, sym, ap, subst, ◌∙◌, arith, append_assoc}
+use Rattle.std.proofs.Common.{ℕ, ◌+◌, List, [], ◌∷◌, ◌++◌, sym, ap, subst, ◌∙◌, arith, append_assoc}
 use Rattle.cidr_filter.specs.Filters.{output_of, Filters}
 use Rattle.cidr_filter.specs.Laws.{OutputsOfPartsFollow}
 use Rattle.program.specs.LogLines.{LogLine, log_lines}

@@ -1,5 +1,5 @@
 -- Logs that are filtered in turn.
-use Rattle.std.proofs.Common.{◌≡◌, ◌+◌, ◌-◌, ◌^◌, ◌++◌, ◌∷◌, ◌∙◌, ◌==◌, ◌||◌, [], ℕ, Bool, List, true, false, cond, inl, inr, refl, sym, ap, subst, arith, length, min, append_assoc, append-nil}
+use Rattle.std.proofs.Common.{◌≡◌, ◌+◌, ◌-◌, ◌^◌, ◌++◌, ◌∷◌, ◌∙◌, ◌||◌, [], ℕ, Bool, List, true, false, inl, inr, refl, sym, ap, subst, arith, length, min, append_assoc, append-nil}
 use Rattle.std.specs.Prelude.{Option, Some, IsTrue}
 use Rattle.lines.specs.Outputs.{Written, Puts, AppendsBeginning}
 use Rattle.lines.proofs.Putting.{puts_nothing, puts_more}
@@ -9,11 +9,10 @@ use Rattle.program.proofs.Told.{tells_more, tells_nothing, tells_same}
 use Rattle.cidr_filter.specs.Addressed.{any_addressed, lacking_by, lacking_text, closed_text}
 use Rattle.program.proofs.Counts.{counts_more, counts_none, counts_from_none}
 use Rattle.program.proofs.LogNames.{all_of, first_of}
-use Rattle.program.specs.Counts.{Counts}
 use Rattle.program.specs.LogLines.{LogLine, log_lines, ended_lines, content}
 use Rattle.program.specs.Logs.{StopsAfter, HaltsBy}
 use Rattle.cidr_filter.specs.Filters.{Filters}
-use Rattle.cidr_filter.specs.Logs.{FiltersLogs, EndsRunBy}
+use Rattle.cidr_filter.specs.Logs.{FiltersLogs, EndsRunBy, filter_for}
 use Rattle.cidr_filter.specs.Stands.{Stand}
 use Rattle.cidr_filter.specs.Stops.{Ends, EndsAtLine, Stops}
 use Rattle.cidr_filter.specs.Private.Runs.{FiltersNames}
@@ -42,14 +41,14 @@ pub record NameStops (filter : Filter) (known : KnownLists) (name : List ℕ) (f
   pub lines : List LogLine
   pub added : List ℕ
   pub count : ℕ
-  pub filters : Filters filter lines added count
+  pub filters : Filters (filter_for filter name) lines added count
   pub halts : HaltsBy (EndsRunBy filter) known name lines fault
   pub puts : PutsBy fault failed old new added (length lines)
 
 module _ (filter : Filter) (known : KnownLists) where
   module _ (name : List ℕ) (remained remains : Option (List ℕ)) (has : (input : List ℕ) → known.bytes_of name ≡ Some input → remained ≡ Some input) (opened : known.may_open name true) where
     -- a log that was filtered to its end
-    pub name_ended : {E : Type 0} (old new : Stand) (errors told : Written E) → Ends filter remained remains (record old { lines = 0; addressed = false }) new
+    pub name_ended : {E : Type 0} (old new : Stand) (errors told : Written E) → Ends (filter_for filter name) remained remains (record old { lines = 0; addressed = false }) new
         → Tells errors told (lacking_by filter.place name new.lines new.addressed) → FiltersNames filter known (name ∷ []) false old new errors told
     name_ended old new errors told ends tells =
         let lines = log_lines ends.read in
@@ -80,7 +79,7 @@ module _ (filter : Filter) (known : KnownLists) where
           counted = ends.goes.1;
         }
 
-    line_halts : (IsSo : List ℕ → Type 0) (verdict : Verdict) (old new : Stand) (h : EndsAtLine filter remained remains old new verdict)
+    line_halts : (IsSo : List ℕ → Type 0) (verdict : Verdict) (old new : Stand) (h : EndsAtLine (filter_for filter name) remained remains old new verdict)
         → IsSo (content h.line) → StopsAfter known name h.first IsSo
     line_halts IsSo verdict old new h so = record {
       read = h.read;
@@ -99,7 +98,7 @@ module _ (filter : Filter) (known : KnownLists) where
     }
 
     -- a log that was not filtered to its end
-    pub stops_by : (read_failed write_failed : Bool) (old new : Stand) (fault : LogFault) → (IsTrue read_failed → known.may_fail name) → Stops filter remained remains read_failed write_failed (record old { lines = 0; addressed = false }) new fault
+    pub stops_by : (read_failed write_failed : Bool) (old new : Stand) (fault : LogFault) → (IsTrue read_failed → known.may_fail name) → Stops (filter_for filter name) remained remains read_failed write_failed (record old { lines = 0; addressed = false }) new fault
         → NameStops filter known name write_failed old new fault
     stops_by read_failed write_failed old new faults.Open fails h = absurd h
     stops_by read_failed write_failed old new faults.Read fails h = record {

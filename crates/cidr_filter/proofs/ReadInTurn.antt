@@ -1,6 +1,6 @@
 -- Lists that are read in turn.
 use Rattle.std.proofs.Common.{◌≡◌, ◌<◌, ◌≤◌, ◌+◌, ◌++◌, ◌∷◌, ◌∙◌, [], ℕ, Bool, List, true, false, not, cond, refl, sym, ap, subst, arith, length, get_or, drop, length-drop, true≢false}
-use Rattle.std.specs.Prelude.{Option, None, Some, Result, Ok, Err, OnOk, IfOk, IfErr, String, nat_lt, ◌&&◌, ◌==◌, if◌then◌else◌, codes, bytes_eq}
+use Rattle.std.specs.Prelude.{Option, None, Some, Result, Ok, Err, OnOk, IfOk, IfErr, String, nat_lt, ◌&&◌, if◌then◌else◌, codes, bytes_eq}
 use Rattle.std.specs.List.{list_all}
 use Rattle.std.specs.String.{string_bytes}
 use Rattle.std.specs.Str.Lines.{lines}

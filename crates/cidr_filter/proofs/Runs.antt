@@ -1,10 +1,9 @@
 -- How a run ends.
-use Rattle.std.proofs.Common.{◌≡◌, ◌==◌, ◌+◌, ◌-◌, ◌^◌, ◌<◌, ◌≤◌, ◌++◌, ◌∷◌, ◌∙◌, [], ◌||◌, ℕ, zero, suc, List, Bool, true, false, true≢false, not, refl, sym, ap, subst, ◌⊎◌, inl, inr, arith, length, min, map, take, drop, take-append-drop, get_or, append_assoc, append-nil, decimal, codes}
+use Rattle.std.proofs.Common.{◌≡◌, ◌==◌, ◌+◌, ◌-◌, ◌^◌, ◌<◌, ◌≤◌, ◌++◌, ◌∷◌, ◌∙◌, [], ◌||◌, ℕ, List, Bool, true, false, not, refl, sym, ap, subst, ◌⊎◌, inl, inr, arith, length, min, map, take, drop, append_assoc, append-nil, decimal, codes}
 use Rattle.std.specs.Prelude.{Option, MatchOption, Result, Ok, Err, OnOk, OnErr, IfErr, IfOk, IsTrue, is_err, if◌then◌else◌, String}
 use Rattle.std.specs.String.{string_bytes}
 use Rattle.std.specs.Io.KnownBytes.{Appends}
-use Rattle.std.proofs.lemmas.Bool.{ne_eqb}
-use Rattle.std.proofs.lemmas.List.{take_all, take_more, map_push}
+use Rattle.std.proofs.lemmas.List.{take_all}
 use Rattle.lists.specs.Lists.{nothing_read}
 use Rattle.lists.specs.Refusals.{Refused, no_refusals}
 use Rattle.lines.specs.Outputs.{Written, Puts, AppendsBeginning, Prints, Writes, FailsIn}
@@ -15,9 +14,9 @@ use Rattle.program.specs.Messages.{Tells}
 use Rattle.lists.specs.KnownLists.{KnownLists}
 use Rattle.cidr_filter.specs.Filters.{Filters}
 use Rattle.program.specs.LogLines.{LogLine}
-use Rattle.cidr_filter.specs.Logs.{EndsRunBy}
+use Rattle.cidr_filter.specs.Logs.{EndsRunBy, filter_for}
 use Rattle.program.specs.Counts.{Counts}
-use Rattle.program.specs.LogFaults.{log_fault_text, FailsWriting, Wrote, HandsOn, StopsBy}
+use Rattle.program.specs.LogFaults.{log_fault_text, Wrote, HandsOn, StopsBy}
 use Rattle.program.specs.Logs.{logs_of, HaltsBy}
 use Rattle.cidr_filter.specs.Reading.{Stops, HoldsRead}
 use Rattle.cidr_filter.specs.Runs.{StopsAtLog, total_text, status_by, FiltersAll, EndsLogs, filter_of, EndsRequest, EndsAsked}
@@ -44,7 +43,7 @@ use Rattle.cidr_filter.proofs.Addressed.{same_test}
 
 -- the first lines of a log were filtered, and then it stopped
 at_log : {W E : Type 0} (filter : Filter) (known : KnownLists) (name : List ℕ) (fault : LogFault) (lines : List LogLine) (added : List ℕ) (more : ℕ) (end : Ending W E)
-    → end.status ≡ 2 → Filters filter lines added more → HaltsBy (EndsRunBy filter) known name lines fault → Wrote fault end ([] ++ added)
+    → end.status ≡ 2 → Filters (filter_for filter name) lines added more → HaltsBy (EndsRunBy filter) known name lines fault → Wrote fault end ([] ++ added)
     → HasTold end (log_fault_text name (length lines) fault) → StopsAtLog filter known (name ∷ []) end
 at_log filter known name fault lines added more end two filters halts wrote told = record {
   before = [];
@@ -68,7 +67,7 @@ at_log filter known name fault lines added more end two filters halts wrote told
 }
 
 module _ {W E : Type 0} (filter : Filter) (known : KnownLists) (name : List ℕ) (lines : List LogLine) (added : List ℕ) (more : ℕ)
-    (filters : Filters filter lines added more) (end : Ending W E) (two : end.status ≡ 2) (mid : Written W) (told : ℕ) where
+    (filters : Filters (filter_for filter name) lines added more) (end : Ending W E) (two : end.status ≡ 2) (mid : Written W) (told : ℕ) where
   -- the output of these lines was put, and then what waited was written or not
   handed : (fault : LogFault) → HaltsBy (EndsRunBy filter) known name lines fault → ((text : List ℕ) → HasWritten end text → Wrote fault end text)
       → Prints end.output mid added × (told ≡ min (length lines) (2 ^ 64 - 1))

@@ -1,10 +1,10 @@
 -- How the filtering of a log ends.
-use Rattle.std.proofs.Common.{◌≡◌, ℕ, ◌+◌, ◌||◌, Bool, true, false, List, [], ◌∷◌, ◌++◌, length, inl, inr, refl, sym, ap, ◌∙◌, subst, arith, append_assoc, append-nil}
-use Rattle.std.specs.Prelude.{Option, IsTrue}
+use Rattle.std.proofs.Common.{◌≡◌, ℕ, ◌+◌, ◌||◌, Bool, true, false, List, [], ◌∷◌, ◌++◌, length, refl, sym, ap, ◌∙◌, subst, arith, append_assoc, append-nil}
+use Rattle.std.specs.Prelude.{Option}
 use Rattle.lines.specs.Outputs.{Written, AppendsBeginning}
 use Rattle.lines.specs.declared.line_end.LineEnd.{LineEnd}
 use Rattle.lines.proofs.Putting.{begins_after_puts}
-use Rattle.program.specs.LogLines.{LogLine, ended_lines, log_lines, content, printed, feed_behind, log_line}
+use Rattle.program.specs.LogLines.{LogLine, ended_lines, content, printed, feed_behind, log_line}
 use Rattle.program.specs.LogReaders.{ComesNext, GivesNext, Breaks, line_of, whole_of}
 use Rattle.program.specs.declared.log_fault.LogFault.{LogFault}
 use Rattle.program.specs.declared.log_fault.LogFault.TheVariants as faults

@@ -1,15 +1,20 @@
--- The order of words: options may stand behind FILEs.
-use Rattle.std.specs.Prelude.{ℕ, ◌&&◌, Bool, true, false, not, List, [], ◌∷◌, ◌++◌, codes, if◌then◌else◌, String}
+-- The order of words: options may stand behind FILEs, and several in one word.
+use Rattle.std.specs.Prelude.{ℕ, ◌||◌, ◌&&◌, Bool, true, false, not, List, [], ◌∷◌, ◌++◌, codes, if◌then◌else◌, String}
 use Rattle.std.specs.String.{string_bytes}
 use Rattle.program.specs.Words.{is}
 use Rattle.cidr_filter.specs.CommandLines.{is_plain}
+use Rattle.cidr_filter.specs.Joined.{words_in, awaits_value}
 use Rattle.cidr_filter.specs.Options.{takes_next}
 use Rattle.cidr_filter.specs.declared.arranging.Mode.{Mode}
 use Rattle.cidr_filter.specs.declared.arranging.Mode.TheVariants as modes
 
+-- the value of the last option in a word is the next word
+abbrev pub awaits : {Z : Type 0} → String Z → Bool
+awaits word = takes_next word || awaits_value (string_bytes word)
+
 -- where the word behind this one stands: the value of an option is the next word, and behind a `--` are FILEs
 abbrev pub next_mode : {Z : Type 0} → Mode → String Z → Mode
-next_mode modes.Free word = if is (codes "--") word then modes.Files else if takes_next word then modes.Value else modes.Free
+next_mode modes.Free word = if is (codes "--") word then modes.Files else if awaits word then modes.Value else modes.Free
 next_mode modes.Value word = modes.Free
 next_mode modes.Files word = modes.Files
 
@@ -24,11 +29,17 @@ belongs options modes.Free word = if options then not (is_plain word) && not (is
 belongs options modes.Value word = options
 belongs options modes.Files word = not options
 
--- the words that do
+-- the words that a word stands for: the options that are joined in it each for itself
+abbrev pub words_at : Mode → List ℕ → List (List ℕ)
+words_at modes.Free word = words_in word
+words_at modes.Value word = word ∷ []
+words_at modes.Files word = word ∷ []
+
+-- those of the words that belong there
 abbrev pub part_in : {Z : Type 0} → Bool → Mode → List (String Z) → List (List ℕ)
 part_in options mode [] = []
 part_in options mode (word ∷ words) =
-    if belongs options mode word then string_bytes word ∷ part_in options (next_mode mode word) words else part_in options (next_mode mode word) words
+    if belongs options mode word then words_at mode (string_bytes word) ++ part_in options (next_mode mode word) words else part_in options (next_mode mode word) words
 
 -- whether the value of an option should stand here
 abbrev pub lacks_value : Mode → Bool

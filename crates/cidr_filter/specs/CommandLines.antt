@@ -1,5 +1,5 @@
 -- What the words of a command line ask for.
-use Rattle.std.specs.Prelude.{◌≡◌, ℕ, ◌+◌, ◌==◌, ◌||◌, ◌&&◌, Bool, true, false, not, List, [], ◌∷◌, Option, None, Some, drop, length, nat_le, if◌then◌else◌, codes, String}
+use Rattle.std.specs.Prelude.{◌≡◌, ℕ, ◌+◌, ◌==◌, ◌||◌, ◌&&◌, Bool, true, not, List, [], ◌∷◌, Option, None, Some, drop, length, nat_le, if◌then◌else◌, codes, String}
 use Rattle.std.specs.List.{list_all}
 use Rattle.std.specs.Option.{is_some}
 use Rattle.std.specs.String.{string_bytes}
@@ -43,7 +43,7 @@ is_placed request = request.letters.words || is_some request.field || is_some re
 
 -- which options are given together that do not go together: `--longest` with `-v` or `-c`, `-a` with `-k`, `-d` or `-w`,
 -- `--after` with one of these or `-a`,
--- `-w` with `-d`, and `-o` with `-v` or `--longest`
+-- `-w` with `-d`, `-o` with `-v` or `--longest`, and `-H` with `-c` or `-h`
 abbrev pub crossed_problem : Request → Option Problem
 crossed_problem request =
     if request.longest && (request.letters.inverts || request.letters.counts) then Some problems.Crossed
@@ -51,6 +51,7 @@ crossed_problem request =
     else if request.after && (request.letters.anywhere || is_placed request) then Some problems.After
     else if request.letters.words && is_some request.separator then Some problems.Words
     else if request.letters.only && (request.letters.inverts || request.longest) then Some problems.Only
+    else if request.letters.named && (request.letters.counts || request.letters.unnamed) then Some problems.Named
     else None
 
 -- the words are options, as many as there are, and FILEs. There is a list, standard input is named at most once, and

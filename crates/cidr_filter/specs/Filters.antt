@@ -139,17 +139,22 @@ abbrev pub is_listed : Listed → IpAddr → Bool
 is_listed (Addresses sets) address = has_address sets address
 is_listed (Blocks tables) address = false
 
+-- what stands first: the name of the log and a colon, with `-H`
+abbrev pub head_of : List ℕ → List ℕ
+head_of [] = []
+head_of (byte ∷ name) = byte ∷ name ++ 58 ∷ []
+
 -- with `-o`: the text of an address and a line feed, if it is in the lists
 abbrev pub text_of : Filter → IpAddr → List ℕ → List ℕ
-text_of filter address text = if is_listed filter.listed (asked filter.mapped address) then text ++ 10 ∷ [] else []
+text_of filter address text = if is_listed filter.listed (asked filter.mapped address) then head_of filter.name ++ (text ++ 10 ∷ []) else []
 
 abbrev pub texts_of : Filter → List Spelled → List ℕ
 texts_of filter found = flat_map (λ one. text_of filter one.address one.text) found
 
 -- what is printed of a selected line, which is given without its end, and as it is written: its mark and the line, or
--- with `-o` those of its addresses that are in the lists
+-- with `-o` those of its addresses that are in the lists. What stands first stands before each
 abbrev pub shown_of : Filter → Verdict → List ℕ → List ℕ → List ℕ
-shown_of filter verdict line text = if filter.only then texts_of filter (spelled_at filter.place line) else mark_of filter.listed verdict ++ text
+shown_of filter verdict line text = if filter.only then texts_of filter (spelled_at filter.place line) else head_of filter.name ++ (mark_of filter.listed verdict ++ text)
 
 -- what is written for a line: that, if it is selected, and nothing if lines are only counted
 abbrev pub output_of : Filter → Verdict → LogLine → List ℕ

@@ -3,6 +3,7 @@ pub mod Addressed
 pub mod Arranged
 pub mod CommandLines
 pub mod Filters
+pub mod Joined
 pub mod Laws
 pub mod Listed
 pub mod Logs

@@ -1,5 +1,5 @@
 -- Logs that are filtered in turn.
-use Rattle.std.specs.Prelude.{◌≡◌, ℕ, ◌+◌, ◌||◌, ◌⊎◌, Bool, true, false, List, [], ◌∷◌, ◌++◌}
+use Rattle.std.specs.Prelude.{◌≡◌, ℕ, ◌+◌, ◌||◌, ◌⊎◌, Bool, true, false, List, [], ◌∷◌, ◌++◌, if◌then◌else◌, codes, bytes_eq}
 use Rattle.lists.specs.KnownLists.{KnownLists}
 use Rattle.cidr_filter.specs.Addressed.{lacking_text, closed_text}
 use Rattle.cidr_filter.specs.Filters.{IsVerdict, is_refused, Filters}
@@ -11,10 +11,19 @@ use Rattle.program.specs.declared.log_fault.LogFault.{LogFault}
 use Rattle.program.specs.declared.log_fault.LogFault.TheVariants as faults
 use Rattle.lists.specs.declared.opening.OpenFault.{OpenFault}
 
+-- a log as it is called before its lines: standard input `(standard input)`, and others by their name; not at all
+-- without `-H`
+abbrev pub label_of : Bool → List ℕ → List ℕ
+label_of named name = if named then if bytes_eq name (codes "-") then codes "(standard input)" else name else []
+
+-- the filter of the log of this name
+abbrev pub filter_for : Filter → List ℕ → Filter
+filter_for filter name = record filter { name = label_of filter.named name }
+
 -- the log of this name was read to its end: this is the output of its lines, this many of them were selected, and it is
 -- reported if none of them has an address
 abbrev pub ReadsLog : Filter → KnownLists → List ℕ → List ℕ → ℕ → List ℕ → Type 0
-ReadsLog filter known name output selected told = (read : List ℕ) × IsAllOf known name read × Filters filter (log_lines read) output selected
+ReadsLog filter known name output selected told = (read : List ℕ) × IsAllOf known name read × Filters (filter_for filter name) (log_lines read) output selected
     × (told ≡ lacking_text filter name (log_lines read))
 
 -- or it cannot be opened, which is reported with the cause

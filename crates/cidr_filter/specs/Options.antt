@@ -54,9 +54,9 @@ text_option text = if length text == 0 then None else Some choices.Text
 abbrev pub after_option : List ℕ → Option Choice
 after_option text = if length text == 0 then None else Some choices.After
 
--- `-v`, `-c`, `-a`, `-w` and `-o`: their letters after one `-`, in any order
+-- `-v`, `-c`, `-a`, `-w`, `-o`, `-H` and `-h`: their letters after one `-`, in any order
 abbrev pub is_letter : ℕ → Bool
-is_letter letter = letter == 118 || letter == 99 || letter == 97 || letter == 119 || letter == 111
+is_letter letter = letter == 118 || letter == 99 || letter == 97 || letter == 119 || letter == 111 || letter == 72 || letter == 104
 
 abbrev pub letters_in : List ℕ → Letters
 letters_in text = record {
@@ -65,6 +65,8 @@ letters_in text = record {
   anywhere = list_any (λ letter. letter == 97) text;
   words = list_any (λ letter. letter == 119) text;
   only = list_any (λ letter. letter == 111) text;
+  named = list_any (λ letter. letter == 72) text;
+  unnamed = list_any (λ letter. letter == 104) text;
 }
 
 abbrev pub letters_option : List ℕ → Option Choice
@@ -118,6 +120,8 @@ either first second = record {
   anywhere = first.anywhere || second.anywhere;
   words = first.words || second.words;
   only = first.only || second.only;
+  named = first.named || second.named;
+  unnamed = first.unnamed || second.unnamed;
 }
 
 -- the request with an option added: of each option the last is said, and letters stay
@@ -136,7 +140,7 @@ with_option request choices.Text = record request { has_list = true }
 -- without options no place of the address is said, and bad lines are dropped
 abbrev pub no_options : Request
 no_options = record {
-  letters = record { inverts = false; counts = false; anywhere = false; words = false; only = false };
+  letters = record { inverts = false; counts = false; anywhere = false; words = false; only = false; named = false; unnamed = false };
   field = None;
   separator = None;
   after = false;

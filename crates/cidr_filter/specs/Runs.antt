@@ -17,7 +17,7 @@ use Rattle.cidr_filter.specs.CommandLines.{Says, AsksNothing}
 use Rattle.cidr_filter.specs.Filters.{Filters}
 use Rattle.program.specs.LogFaults.{log_fault_text, FailsWriting, Wrote}
 use Rattle.program.specs.Logs.{logs_of, HaltsBy}
-use Rattle.cidr_filter.specs.Logs.{FiltersLogs, EndsRunBy}
+use Rattle.cidr_filter.specs.Logs.{FiltersLogs, EndsRunBy, filter_for}
 use Rattle.cidr_filter.specs.Reading.{IsReadOf, Stops, HoldsRead}
 use Rattle.program.specs.LogLines.{LogLine}
 use Rattle.cidr_filter.specs.Options.{text_after}
@@ -47,7 +47,7 @@ pub record StopsAtLog {W E : Type 0} (filter : Filter) (known : KnownLists) (nam
   pub fault : LogFault
   pub logs : names ≡ before ++ name ∷ behind
   pub filters : FiltersLogs filter known before output selected texts missed
-  pub first : Filters filter lines added more
+  pub first : Filters (filter_for filter name) lines added more
   pub halts : HaltsBy (EndsRunBy filter) known name lines fault
   pub wrote : Wrote fault end (output ++ added)
   pub told : HasTold end (texts ++ log_fault_text name (length lines) fault)
@@ -96,6 +96,8 @@ filter_of words request listed = record {
   bad = request.bad;
   counts = request.letters.counts;
   only = request.letters.only;
+  named = request.letters.named;
+  name = [];
 }
 
 -- this was read of the lists: if a line of them was refused, or there is no memory, nothing is written. Else the logs are

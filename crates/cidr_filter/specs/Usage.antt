@@ -29,6 +29,7 @@ problem_text problems.Anywhere = codes "-a goes with none of -k, -d and -w"
 problem_text problems.After = codes "--after goes with none of -a, -k, -d and -w"
 problem_text problems.Words = codes "-w does not go with -d"
 problem_text problems.Only = codes "-o goes with neither -v nor --longest"
+problem_text problems.Named = codes "-H goes with neither -c nor -h"
 problem_text problems.NoList = codes "neither -f nor -e is given"
 problem_text problems.InputTwice = codes "-: standard input can be read only once"
 

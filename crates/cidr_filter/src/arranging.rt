@@ -1,8 +1,9 @@
 //! The order of words: options may stand behind FILEs.
-ghost use Rattle.std.specs.Prelude.{◌≡◌, ◌++◌, ◌∷◌, [], map, OnOk, IfOk, if◌then◌else◌};
+ghost use Rattle.std.specs.Prelude.{◌≡◌, ◌++◌, map, OnOk, IfOk, if◌then◌else◌};
 ghost use Rattle.std.specs.String.{string_bytes};
-ghost use Rattle.cidr_filter.specs.Arranged.{arranged, part_in, mode_after, next_mode, belongs, lacks_value};
+ghost use Rattle.cidr_filter.specs.Arranged.{arranged, part_in, mode_after, next_mode, belongs, words_at, awaits, lacks_value};
 
+use crate::joined::{awaits_value, put, put_words};
 use crate::options::takes_next;
 use crate::usage::is_plain;
 use program::words::is;
@@ -19,7 +20,8 @@ pub enum Mode {
     Files,
 }
 
-/// The words with the options and their values in front, in their order, and then, behind a `--`, the FILEs in theirs.
+/// The words with the options and their values in front, in their order, each a word of its own, and then, behind a `--`,
+/// the FILEs in theirs.
 /// If the last option has no value, the FILEs are left out.
 pub(crate) fn arranged(alloc: Global, words: &[String]) -> Result<Vec<String>, AllocError>
     ensures { IfOk result (λ all. map string_bytes all.items ≡ arranged words.now) }
@@ -53,7 +55,7 @@ fn put_part(
     Ok(mode)
 }
 
-// Adds a word, if it belongs to this part.
+// Adds the words that a word stands for, if it belongs to this part.
 fn put_word(
     alloc: Global,
     mode: Mode,
@@ -62,22 +64,24 @@ fn put_word(
     all: &mut Vec<String>,
 ) -> Result<(), AllocError>
     ensures { OnOk result (map string_bytes all.new.items
-        ≡ (if belongs options mode word.now then map string_bytes all.old.items ++ string_bytes word.now ∷ []
+        ≡ (if belongs options mode word.now then map string_bytes all.old.items ++ words_at mode (string_bytes word.now)
         else map string_bytes all.old.items)) }
 {
     if belongs(options, mode, word) {
-        return put(alloc, word.as_str(), all);
+        return put_at(alloc, mode, word.as_str(), all);
     }
     Ok(())
 }
 
-// Adds a text.
-fn put(alloc: Global, text: &str, all: &mut Vec<String>) -> Result<(), AllocError>
-    ensures { OnOk result (map string_bytes all.new.items ≡ map string_bytes all.old.items ++ text.now ∷ []) }
+// Adds the words that a word stands for.
+fn put_at(alloc: Global, mode: Mode, word: &str, all: &mut Vec<String>) -> Result<(), AllocError>
+    ensures { OnOk result (map string_bytes all.new.items
+        ≡ map string_bytes all.old.items ++ words_at mode word.now) }
 {
-    let word = String::from_str(alloc, text)?;
-    all.push(word)?;
-    Ok(())
+    match mode {
+        Mode::Free => put_words(alloc, word, all),
+        Mode::Value | Mode::Files => put(alloc, word, all),
+    }
 }
 
 // Whether a word belongs to the options, or to the FILEs.
@@ -105,7 +109,7 @@ fn next_mode(mode: Mode, word: &String) -> Mode
         Mode::Free => {
             if is(word, "--") {
                 Mode::Files
-            } else if takes_next(word) {
+            } else if awaits(word) {
                 Mode::Value
             } else {
                 Mode::Free
@@ -114,6 +118,13 @@ fn next_mode(mode: Mode, word: &String) -> Mode
         Mode::Value => Mode::Free,
         Mode::Files => Mode::Files,
     }
+}
+
+// Whether the value of the last option in a word is the next word.
+fn awaits(word: &String) -> bool
+    ensures { result ≡ awaits word.now }
+{
+    takes_next(word) || awaits_value(word.as_str())
 }
 
 // Whether the value of an option should stand here.

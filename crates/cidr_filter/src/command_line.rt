@@ -66,6 +66,8 @@ fn options_of(words: &[String]) -> Request
             anywhere: false,
             words: false,
             only: false,
+            named: false,
+            unnamed: false,
         },
         field: None,
         separator: None,
@@ -121,6 +123,8 @@ fn crossed_problem(request: Request) -> Option<Problem>
         Some(Problem::Words)
     } else if request.letters.only && (request.letters.inverts || request.longest) {
         Some(Problem::Only)
+    } else if request.letters.named && (request.letters.counts || request.letters.unnamed) {
+        Some(Problem::Named)
     } else {
         None
     }
@@ -187,6 +191,8 @@ fn either(first: Letters, second: Letters) -> Letters
         anywhere: first.anywhere || second.anywhere,
         words: first.words || second.words,
         only: first.only || second.only,
+        named: first.named || second.named,
+        unnamed: first.unnamed || second.unnamed,
     }
 }
 

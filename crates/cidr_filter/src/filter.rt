@@ -6,7 +6,9 @@ ghost use Rattle.cidr_filter.specs.Filters.{is_listed, IsVerdict, IsVerdictOfAdd
 
 use crate::listed::Listed;
 use ipnetwork::{IpAddr, IpNetwork};
-use line_addresses::{Place, address_of, field_of, following, next_address, unmapped, word_of};
+use line_addresses::{
+    Place, Text, address_of, field_of, following, next_address, unmapped, word_of,
+};
 use program::log_reader::LINE_MAX;
 
 /// What becomes of a line without an address.
@@ -67,6 +69,10 @@ pub struct Filter<'a> {
     pub(crate) counts: bool,
     /// Whether their addresses that are in the list are printed in place of them.
     pub(crate) only: bool,
+    /// Whether the name of its log stands before what is printed of a line.
+    pub(crate) named: bool,
+    /// That name, if it does. It is empty if it does not.
+    pub(crate) name: Text<'a>,
 }
 
 impl Filter<'_> {

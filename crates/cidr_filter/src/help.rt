@@ -6,37 +6,46 @@ Prints the lines of logs whose address is in a list of IP networks.
 
     cidr_filter [OPTION..] (-f LIST | -e TEXT).. [FILE..]
 
-    -f LIST         the networks of a file: networks (10.0.0.0/8, 10.0.0.1, 2001:db8::/32) and ranges (A - B), one a
-                    line; # and ; begin a comment; - is standard input
+    -f LIST         the networks of a file: networks (10.0.0.0/8, 10.0.0.1, 2001:db8::/32) and
+                    ranges (A - B), one a line; # and ; begin a comment; - is standard input
     -e TEXT         a network or a range
     -k N            the address is the Nth field; without this option the first
     -d CHAR         fields are cut at each single CHAR; without this option at each space
     -w              fields are what stands between runs of spaces and tabs. Not with -d
-    -a              addresses are looked for anywhere in a line: 10.1.1.1:51234, [10.1.1.1], SRC=10.1.1.1 and
-                    [2001:db8::1]:443 have one; v10.1.2.3, 1.2.3.4.5 and 12:34:56 have none. A line is printed if one of
-                    its addresses is in a network. Not with -k, -d or -w
-    --after TEXT    the address is the first that follows the first TEXT of a line, found as by -a; a line without TEXT
-                    has none: --after SRC=. Not with -a, -k, -d or -w
-    -o              print the addresses that are in a network, one a line, in place of lines. Not with -v or --longest
+    -a              addresses are looked for anywhere in a line: 10.1.1.1:51234, [10.1.1.1],
+                    SRC=10.1.1.1 and [2001:db8::1]:443 have one; v10.1.2.3, 1.2.3.4.5 and 12:34:56
+                    have none. A line is printed if one of its addresses is in a network. Not with
+                    -k, -d or -w
+    --after TEXT    the address is the first that follows the first TEXT of a line, found as by -a;
+                    a line without TEXT has none: --after SRC=. Not with -a, -k, -d or -w
+    -o              print the addresses that are in a network, one a line, in place of lines. Not
+                    with -v or --longest
     --mapped        an address ::ffff:A.B.C.D of a line counts as A.B.C.D
-    -v              print the lines whose address is in no network; with -a those that have addresses, none of which is
-    -c              print how many lines are selected
-    --longest       before a line print the longest network that holds its address (with -a the first of its addresses
-                    that is in one), and a tab; a range counts as the fewest networks that make it up. Not with -v
-                    or -c
+    -v              print the lines whose address is in no network; with -a those that have
+                    addresses, none of which is
+    -c              print how many lines are selected, over all FILEs
+    -H              before a line print the name of its FILE, or (standard input), and a colon. Not
+                    with -c or -h
+    -h              print no name before a line (this is the default, also with several FILEs)
+    --longest       before a line print the longest network that holds its address (with -a the
+                    first of its addresses that is in one), and a tab; a range counts as the fewest
+                    networks that make it up. Not with -v or -c
     --bad drop      a line without an address is not printed, also with -v (this is the default)
     --bad keep      it is printed, after a minus sign and a tab with --longest
     --bad stop      it ends the program
     --help          print this text
     --version       print the version
 
-Options may stand behind FILEs; what follows a -- are FILEs. A FILE is a name, or - for standard input, as is no FILE
-at all. A line is printed as it was; a last line without a line feed gets one. A line has at most 1,048,576 bytes; a
-longer one has no address, and ends the program unless such lines are dropped. A FILE that cannot be opened is reported,
-and the others are read. So is a FILE with lines of which none has an address where it is looked for.
+Options may stand behind FILEs; what follows a -- are FILEs. Options of one letter may be one word,
+with the value of the last behind it: -vk1, -e10.0.0.0/8. A FILE is a name, or - for standard input,
+as is no FILE at all. A line is printed as it was; a last line without a line feed gets one. A line
+has at most 1,048,576 bytes; a longer one has no address, and ends the program unless such lines are
+dropped. A FILE that cannot be opened is reported, and the others are read. So is a FILE with lines
+of which none has an address where it is looked for.
 
-Status: 0 if a line was printed or counted, 1 if none was, 2 on wrong usage, a refused line, a file that cannot be
-opened or read, a failed write or out of memory, 141 if standard output is a pipe that nobody reads any more.
+Status: 0 if a line was printed or counted, 1 if none was, 2 on wrong usage, a refused line, a file
+that cannot be opened or read, a failed write or out of memory, 141 if standard output is a pipe
+that nobody reads any more.
 
 Examples:
     cidr_filter -f networks.txt access.log
@@ -53,4 +62,4 @@ pub(crate) const PROGRAM: &str = "cidr_filter";
 
 /// How the program is used: what is reported for arguments that are not a command, after what is wrong with them.
 pub(crate) const USAGE: &str =
-    "usage: cidr_filter [-v] [-c] [-o] [-a | --after TEXT | [-k N] [-d CHAR | -w]] [--mapped] [--bad drop|keep|stop] [--longest] (-f LIST | -e TEXT).. [FILE..]; try --help\n";
+    "usage: cidr_filter [-v] [-c | -H] [-h] [-o] [-a | --after TEXT | [-k N] [-d CHAR | -w]] [--mapped] [--bad drop|keep|stop] [--longest] (-f LIST | -e TEXT).. [FILE..]; try --help\n";

@@ -10,7 +10,9 @@ ghost use Rattle.cidr_filter.specs.Private.Runs.{FiltersNames};
 
 use crate::filter::Filter;
 use crate::log::{Tally, filter_log};
+use crate::naming::label_of;
 use crate::telling::{tell_closed, tell_lacking};
+use line_addresses::Text;
 use lines::fault::RunFault;
 use lines::output::Output;
 use lines::watched::Watched;
@@ -19,6 +21,7 @@ use program::ending::{FAILED, end};
 use program::log_fault::stop;
 use program::messages::number_text;
 use std::io::Write;
+use std::mem::replace;
 
 /// The exit status if a line was selected.
 const SELECTED: u8 = 0;
@@ -27,16 +30,16 @@ const SELECTED: u8 = 0;
 const NONE_SELECTED: u8 = 1;
 
 /// Filters the logs of these names in their order, or standard input if there is no name, and returns the exit status.
-pub(crate) fn filter_logs<L: OpenLists, W: Write, E: Write>(
-    filter: &Filter,
-    files: &[String],
+pub(crate) fn filter_logs<'a, L: OpenLists, W: Write, E: Write>(
+    filter: &mut Filter<'a>,
+    files: &'a [String],
     lists: &L,
     buffer: &mut [u8],
     output: &mut Output<'_, W>,
     errors: &mut Output<'_, E>,
 ) -> u8
     requires { 1048578 ≤ length buffer.old }
-    ensures { EndsLogs filter.now (L.known lists.now) (logs_of files.now)
+    ensures { EndsLogs filter.old (L.known lists.now) (logs_of files.now)
         (ending output.old output.new errors.old errors.new result) }
 {
     let mut tally = Tally {
@@ -44,9 +47,10 @@ pub(crate) fn filter_logs<L: OpenLists, W: Write, E: Write>(
         lines: 0,
         is_addressed: false,
     };
+    let counts = filter.counts;
     match filter_each(filter, files, lists, buffer, output, &mut tally, errors) {
         Some(missed) => {
-            let written = write_end(filter.counts, tally.selected, output);
+            let written = write_end(counts, tally.selected, output);
             end(written, status(missed, tally.selected), errors)
         }
         None => FAILED,
@@ -55,9 +59,9 @@ pub(crate) fn filter_logs<L: OpenLists, W: Write, E: Write>(
 
 // Filters the logs of these names, or standard input, and returns whether one of them could not be opened, which is
 // reported. If one that was opened did not come to its end, the cause is reported, and there is no answer.
-fn filter_each<L: OpenLists, W: Write, E: Write>(
-    filter: &Filter,
-    files: &[String],
+fn filter_each<'a, L: OpenLists, W: Write, E: Write>(
+    filter: &mut Filter<'a>,
+    files: &'a [String],
     lists: &L,
     buffer: &mut [u8],
     output: &mut Output<'_, W>,
@@ -65,11 +69,12 @@ fn filter_each<L: OpenLists, W: Write, E: Write>(
     errors: &mut Output<'_, E>,
 ) -> Option<bool>
     requires { 1048578 ≤ length buffer.old }
-    ensures { MatchOption result
-        (StopsAtLog filter.now (L.known lists.now) (logs_of files.now)
+    ensures logs { MatchOption result
+        (StopsAtLog filter.old (L.known lists.now) (logs_of files.now)
         (ending output.old output.new errors.old errors.new 2))
-        (λ missed. FiltersNames filter.now (L.known lists.now) (logs_of files.now) missed
+        (λ missed. FiltersNames filter.old (L.known lists.now) (logs_of files.now) missed
         (stand output.old tally.old) (stand output.new tally.new) errors.old errors.new) }
+    ensures filter { filter.new ≡ filter.old }
 {
     if files.is_empty() {
         let input = "-";
@@ -94,9 +99,9 @@ fn either(first: bool, second: bool) -> bool
 }
 
 // Opens the log of this name and filters it, and returns whether it could not be opened, as `filter_each` does.
-fn filter_one<L: OpenLists, W: Write, E: Write>(
-    filter: &Filter,
-    name: &str,
+fn filter_one<'a, L: OpenLists, W: Write, E: Write>(
+    filter: &mut Filter<'a>,
+    name: &'a str,
     lists: &L,
     buffer: &mut [u8],
     output: &mut Output<'_, W>,
@@ -104,11 +109,12 @@ fn filter_one<L: OpenLists, W: Write, E: Write>(
     errors: &mut Output<'_, E>,
 ) -> Option<bool>
     requires { 1048578 ≤ length buffer.old }
-    ensures { MatchOption result
-        (StopsAtLog filter.now (L.known lists.now) (name.now ∷ [])
+    ensures logs { MatchOption result
+        (StopsAtLog filter.old (L.known lists.now) (name.now ∷ [])
         (ending output.old output.new errors.old errors.new 2))
-        (λ missed. FiltersNames filter.now (L.known lists.now) (name.now ∷ []) missed
+        (λ missed. FiltersNames filter.old (L.known lists.now) (name.now ∷ []) missed
         (stand output.old tally.old) (stand output.new tally.new) errors.old errors.new) }
+    ensures filter { filter.new ≡ filter.old }
 {
     tally.lines = 0;
     tally.is_addressed = false;
@@ -120,7 +126,10 @@ fn filter_one<L: OpenLists, W: Write, E: Write>(
         }
     };
     let mut log = Watched::new(log);
+    let label = label_of(filter.named, name);
+    let before = replace(&mut filter.name, Text::new(label));
     let end = filter_log(filter, buffer, &mut log, output, tally);
+    filter.name = before;
     lists.close(name, log);
     match end {
         Ok(()) => {

@@ -20,6 +20,10 @@ pub struct Letters {
     pub words: bool,
     /// `o`: the addresses that are in a network are printed in place of lines.
     pub only: bool,
+    /// `H`: the name of its FILE stands before a line.
+    pub named: bool,
+    /// `h`: it does not, as without an option.
+    pub unnamed: bool,
 }
 
 /// An option.
@@ -155,6 +159,8 @@ fn letters_in(letters: &[u8]) -> Letters
         anywhere: letters.contains(&b'a'),
         words: letters.contains(&b'w'),
         only: letters.contains(&b'o'),
+        named: letters.contains(&b'H'),
+        unnamed: letters.contains(&b'h'),
     }
 }
 
@@ -170,11 +176,17 @@ fn are_letters(letters: &[u8]) -> bool
     true
 }
 
-// Whether this is the letter of an option.
-fn is_letter(letter: u8) -> bool
+/// Whether this is the letter of an option.
+pub(crate) fn is_letter(letter: u8) -> bool
     ensures { result ≡ is_letter letter }
 {
-    letter == b'v' || letter == b'c' || letter == b'a' || letter == b'w' || letter == b'o'
+    letter == b'v'
+        || letter == b'c'
+        || letter == b'a'
+        || letter == b'w'
+        || letter == b'o'
+        || letter == b'H'
+        || letter == b'h'
 }
 
 // `-f` with this value.

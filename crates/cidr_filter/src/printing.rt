@@ -1,11 +1,12 @@
 //! Prints a line.
 ghost use Rattle.std.specs.Prelude.{◌≡◌, ◌||◌, ◌++◌, ◌∷◌, [], OnOk, OnErr, is_err};
 ghost use Rattle.lines.specs.Outputs.{Puts, AppendsBeginning, Prints, FailsIn};
-ghost use Rattle.cidr_filter.specs.Filters.{mark_of, block_text, block_in, shown_of};
+ghost use Rattle.cidr_filter.specs.Filters.{head_of, mark_of, block_text, block_in, shown_of};
 ghost use Rattle.program.specs.LogLines.{feed_behind};
 
 use crate::filter::{Filter, Verdict};
 use crate::listed::Listed;
+use crate::naming::put_head;
 use crate::printing_addresses::print_addresses;
 use ipnetwork::IpNetwork;
 use lines::fault::RunFault;
@@ -36,6 +37,27 @@ pub(crate) fn print_selected<W: Write>(
     if filter.only {
         return print_addresses(filter, line, output);
     }
+    print_named(filter, verdict, whole, end, output)
+}
+
+// Writes what stands first, and then a line of this verdict.
+fn print_named<W: Write>(
+    filter: &Filter,
+    verdict: &Verdict,
+    whole: &[u8],
+    end: LineEnd,
+    output: &mut Output<'_, W>,
+) -> Result<(), RunFault>
+    ensures ok { OnOk result (Puts
+        output.old.holds output.old.waits
+        output.new.holds output.new.waits
+        (head_of filter.now.name ++ (mark_of filter.now.listed verdict.now ++ (whole.now ++ feed_behind end)))) }
+    ensures failed { output.new.failed ≡ (output.old.failed || is_err result) }
+    ensures beginning { OnErr result (AppendsBeginning
+        output.old.holds output.new.holds (output.old.waits
+        ++ (head_of filter.now.name ++ (mark_of filter.now.listed verdict.now ++ (whole.now ++ feed_behind end))))) }
+{
+    put_head(filter, output)?;
     print_line(&filter.listed, verdict, whole, end, output)
 }
 

@@ -2,9 +2,10 @@
 ghost use Rattle.std.specs.Prelude.{◌≡◌, ◌||◌, ◌++◌, ◌∷◌, [], Some, OnOk, OnErr, is_err};
 ghost use Rattle.lines.specs.Outputs.{Prints, FailsIn};
 ghost use Rattle.line_addresses.specs.Addresses.{addresses_of};
-ghost use Rattle.cidr_filter.specs.Filters.{of_part, of_rest, spelled_at, text_of, texts_of};
+ghost use Rattle.cidr_filter.specs.Filters.{head_of, of_part, of_rest, spelled_at, text_of, texts_of};
 
 use crate::filter::Filter;
+use crate::naming::put_head;
 use ipnetwork::IpAddr;
 use line_addresses::{Place, address_of, field_of, following, next_address, word_of};
 use lines::fault::RunFault;
@@ -115,6 +116,21 @@ fn print_found<W: Write>(
     if !filter.prints(address) {
         return Ok(());
     }
+    print_named(filter, text, output)
+}
+
+// Writes what stands first, and then a text and a line feed.
+fn print_named<W: Write>(
+    filter: &Filter,
+    text: &[u8],
+    output: &mut Output<'_, W>,
+) -> Result<(), RunFault>
+    ensures ok { OnOk result (Prints output.old output.new (head_of filter.now.name ++ (text.now ++ 10 ∷ []))) }
+    ensures failed { output.new.failed ≡ (output.old.failed || is_err result) }
+    ensures beginning { OnErr result
+        (FailsIn output.old output.new (head_of filter.now.name ++ (text.now ++ 10 ∷ []))) }
+{
+    put_head(filter, output)?;
     put_text(text, output)
 }
 

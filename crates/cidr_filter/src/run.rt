@@ -1,5 +1,5 @@
 //! The run that the program makes.
-ghost use Rattle.std.specs.Prelude.{◌≡◌, ◌≤◌, length, codes};
+ghost use Rattle.std.specs.Prelude.{◌≡◌, ◌≤◌, [], length, codes};
 ghost use Rattle.program.specs.Endings.{ending};
 ghost use Rattle.program.specs.Messages.{Tells};
 ghost use Rattle.cidr_filter.specs.Runs.{EndsRequest, EndsAsked, EndsAs, place_of};
@@ -92,7 +92,7 @@ fn filter<L: OpenLists, W: Write, E: Write>(
     let Ok(mut buffer) = vec![in alloc; 0u8; BUFFER_LEN] else {
         return refuse_memory(errors);
     };
-    let filter = Filter {
+    let mut filter = Filter {
         listed,
         place: place_of(words, request),
         mapped: request.mapped,
@@ -100,10 +100,19 @@ fn filter<L: OpenLists, W: Write, E: Write>(
         bad: request.bad,
         counts: request.letters.counts,
         only: request.letters.only,
+        named: request.letters.named,
+        name: no_name(),
     };
     let files = &words[request.files..];
     let buffer = buffer.as_mut_slice();
-    filter_logs(&filter, files, lists, buffer, output, errors)
+    filter_logs(&mut filter, files, lists, buffer, output, errors)
+}
+
+// No name before lines.
+fn no_name<'a>() -> Text<'a>
+    ensures { result ≡ [] }
+{
+    Text::new(b"".as_slice())
 }
 
 // Where a request looks for the addresses of a line.

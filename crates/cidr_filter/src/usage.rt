@@ -40,6 +40,8 @@ pub enum Problem {
     Words,
     /// `-o` together with `-v` or `--longest`.
     Only,
+    /// `-H` together with `-c` or `-h`.
+    Named,
     /// No list.
     NoList,
     /// Standard input is to be read twice.
@@ -67,6 +69,7 @@ impl Problem {
             Problem::After => "--after goes with none of -a, -k, -d and -w",
             Problem::Words => "-w does not go with -d",
             Problem::Only => "-o goes with neither -v nor --longest",
+            Problem::Named => "-H goes with neither -c nor -h",
             Problem::NoList => "neither -f nor -e is given",
             Problem::InputTwice => "-: standard input can be read only once",
         }

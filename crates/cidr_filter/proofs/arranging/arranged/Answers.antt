@@ -1,7 +1,6 @@
-use Rattle.std.proofs.Common.{◌≡◌, ◌++◌, ◌∷◌, [], ◌∙◌, Bool, List, ℕ, true, false, map, sym, ap, append_assoc, codes}
+use Rattle.std.proofs.Common.{◌++◌, ◌∷◌, [], ◌∙◌, Bool, List, ℕ, true, false, sym, ap, append_assoc, codes}
 use Rattle.std.specs.Prelude.{if◌then◌else◌}
-use Rattle.std.specs.String.{string_bytes}
-use Rattle.cidr_filter.specs.Arranged.{part_in, mode_after, lacks_value}
+use Rattle.cidr_filter.specs.Arranged.{part_in, lacks_value}
 use Rattle.cidr_filter.specs.declared.arranging.Mode.TheVariants as modes
 use Rattle.cidr_filter.proofs.WordOrder.{put_to_nothing}
 use Rattle.cidr_filter.proofs.arranging.arranged.Goals as goal

@@ -1,23 +1,29 @@
-use Rattle.std.proofs.Common.{◌∙◌, ◌+◌, Bool, map, take, refl, sym, subst, arith}
+use Rattle.std.proofs.Common.{◌∙◌, ◌+◌, ◌∷◌, [], Bool, map, take, refl, sym, subst, arith}
 use Rattle.std.specs.String.{string_bytes}
 use Rattle.program.specs.Endings.{ending}
 use Rattle.cidr_filter.specs.Stands.{stand}
 use Rattle.cidr_filter.specs.Private.Runs.{FiltersNames}
+use Rattle.cidr_filter.specs.Runs.{StopsAtLog}
+use Rattle.cidr_filter.specs.declared.filter.Filter.{Filter}
 use Rattle.cidr_filter.proofs.LogsInTurn.{names_none}
 use Rattle.program.proofs.LogNames.{names_more}
 use Rattle.cidr_filter.proofs.Runs.{input_filtered, one_more, all_named, one_stops}
 use Rattle.cidr_filter.proofs.logs.filter_each.Goals as goal
 
-pub returns-then-is_empty : goal.returns-then-is_empty
-returns-then-is_empty g c =
+pub returns-then-is_empty-clause-logs : goal.returns-then-is_empty-clause-logs
+returns-then-is_empty-clause-logs g c =
     input_filtered c.args.filter.now (g.L.OpenLists.known c.args.lists.now) c.args.files.now c.filter_one.result
     (ending c.args.output.now c.filter_one.new.output c.args.errors.now c.filter_one.new.errors 2)
     (stand c.args.output.now c.args.tally.now) (stand c.filter_one.new.output c.filter_one.new.tally)
-    (sym c.is_empty.ensures ∙ c.if-is_empty.true) c.filter_one.ensures
+    (sym c.is_empty.ensures ∙ c.if-is_empty.true) c.filter_one.ensures.logs
+
+pub returns-then-is_empty-clause-filter : goal.returns-then-is_empty-clause-filter
+returns-then-is_empty-clause-filter g c = c.filter_one.ensures.filter
 
 pub loop-file-init : goal.loop-file-init
 loop-file-init g c = record {
   room = c.requires;
+  filter = refl;
   names = names_none c.args.filter.now (g.L.OpenLists.known c.args.lists.now) _ _;
 }
 
@@ -28,24 +34,32 @@ loop-file-preserved g c =
     let name = c.as_str-name.result.now in
     record {
       room = omega (arith, c.loop-file.invariant.room, c.filter_one-in-loop-file.auto.buffer);
+      filter = c.filter_one-in-loop-file.ensures.filter ∙ c.loop-file.invariant.filter;
       names = subst (λ (b : Bool). FiltersNames c.args.filter.now (g.L.OpenLists.known c.args.lists.now) (map string_bytes (take (i + 1) files)) b
           (stand c.args.output.now c.args.tally.now) (stand c.filter_one-in-loop-file.new.output c.filter_one-in-loop-file.new.tally)
           c.args.errors.now c.filter_one-in-loop-file.new.errors) (sym c.either-missed.ensures)
           (one_more c.args.filter.now (g.L.OpenLists.known c.args.lists.now) files i name c.loop-file.missed c.in-Some.more _ _ _ _ _ _
-          (names_more files i c.file-item.result name (omega arith) c.file-item.is c.as_str-name.ensures.value) c.loop-file.invariant.names c.in-Some.ensures);
+          (names_more files i c.file-item.result name (omega arith) c.file-item.is c.as_str-name.ensures.value) c.loop-file.invariant.names (subst (λ (f : Filter). FiltersNames f (g.L.OpenLists.known c.args.lists.now) (name ∷ []) c.in-Some.more
+          (stand c.loop-file.output c.loop-file.tally) (stand c.filter_one-in-loop-file.new.output c.filter_one-in-loop-file.new.tally) c.loop-file.errors c.filter_one-in-loop-file.new.errors) c.loop-file.invariant.filter c.in-Some.ensures.logs));
     }
 
-pub returns-in_default : goal.returns-in_default
-returns-in_default g c =
+pub returns-in_default-clause-logs : goal.returns-in_default-clause-logs
+returns-in_default-clause-logs g c =
     let files = c.args.files.now in
     let i = c.loop-file.file-index in
     let name = c.as_str-name.result.now in
     one_stops c.args.filter.now (g.L.OpenLists.known c.args.lists.now) files i name c.loop-file.missed c.args.output.now c.loop-file.output
     c.filter_one-in-loop-file.new.output c.args.errors.now c.loop-file.errors c.filter_one-in-loop-file.new.errors c.args.tally.now c.loop-file.tally
     (sym c.is_empty.ensures ∙ c.if-is_empty.false) (names_more files i c.file-item.result name (omega arith) c.file-item.is c.as_str-name.ensures.value) c.loop-file.invariant.names
-    c.in_default.ensures
+    (subst (λ (f : Filter). StopsAtLog f (g.L.OpenLists.known c.args.lists.now) (name ∷ []) (ending c.loop-file.output c.filter_one-in-loop-file.new.output c.loop-file.errors c.filter_one-in-loop-file.new.errors 2)) c.loop-file.invariant.filter c.in_default.ensures.logs)
 
-pub returns : goal.returns
-returns g c =
+pub returns-in_default-clause-filter : goal.returns-in_default-clause-filter
+returns-in_default-clause-filter g c = c.filter_one-in-loop-file.ensures.filter ∙ c.loop-file.invariant.filter
+
+pub returns-clause-logs : goal.returns-clause-logs
+returns-clause-logs g c =
     all_named c.args.filter.now (g.L.OpenLists.known c.args.lists.now) c.args.files.now c.loop-file.file-index c.loop-file.missed _ _ _ _
     (sym c.is_empty.ensures ∙ c.if-is_empty.false) (omega arith) c.loop-file.invariant.names
+
+pub returns-clause-filter : goal.returns-clause-filter
+returns-clause-filter g c = c.loop-file.invariant.filter

@@ -1,4 +1,4 @@
-use Rattle.std.proofs.Common.{◌≤◌, length, map, take}
+use Rattle.std.proofs.Common.{◌≡◌, ◌≤◌, length, map, take}
 use Rattle.std.specs.String.{string_bytes}
 use Rattle.cidr_filter.specs.Stands.{stand}
 use Rattle.cidr_filter.specs.Private.Runs.{FiltersNames}
@@ -7,6 +7,7 @@ use Rattle.cidr_filter.proofs.logs.filter_each.Given as goal
 abbrev pub invariant-loop-file : goal.invariant-loop-file
 invariant-loop-file g l = record {
   room : 1048578 ≤ length l.buffer;
-  names : FiltersNames l.filter (g.L.OpenLists.known l.lists) (map string_bytes (take l.file-index l.files)) l.missed
+  filter : l.filter ≡ l.initial.filter;
+  names : FiltersNames l.initial.filter (g.L.OpenLists.known l.lists) (map string_bytes (take l.file-index l.files)) l.missed
       (stand l.initial.output l.initial.tally) (stand l.output l.tally) l.initial.errors l.errors;
 }

@@ -3,10 +3,10 @@ use Rattle.cidr_filter.proofs.Runs.{all_by}
 use Rattle.cidr_filter.proofs.logs.filter_logs.Goals as goal
 
 pub returns-in-None : goal.returns-in-None
-returns-in-None g c = inr c.in-None.ensures
+returns-in-None g c = inr c.in-None.ensures.logs
 
 pub returns-in-Some : goal.returns-in-Some
 returns-in-Some g c =
     inl (all_by c.args.filter.now (g.L.OpenLists.known c.args.lists.now) _ c.in-Some.missed c.args.output.now c.filter_each.new.output c.write_end-written.new.output
     c.args.errors.now c.filter_each.new.errors c.end.new.errors c.end.result c.filter_each.new.tally.selected c.write_end-written.result c.status.result _ c.filter_each.new.tally refl refl
-    c.in-Some.ensures c.write_end-written.ensures.ok c.write_end-written.ensures.err c.write_end-written.ensures.failed c.status.ensures c.end.ensures.status c.end.ensures.told)
+    c.in-Some.ensures.logs c.write_end-written.ensures.ok c.write_end-written.ensures.err c.write_end-written.ensures.failed c.status.ensures c.end.ensures.status c.end.ensures.told)

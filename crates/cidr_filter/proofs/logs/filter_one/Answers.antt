@@ -1,30 +1,36 @@
-use Rattle.std.proofs.Common.{◌∙◌, ap, refl, subst, sym}
+use Rattle.std.proofs.Common.{◌∙◌, ap, false, refl, subst, sym, List, ℕ}
 use Rattle.lines.specs.Watched.{device_of, has_failed}
 use Rattle.lists.specs.Opening.{cause_of}
 use Rattle.lists.specs.declared.opening.OpenFault.{OpenFault}
 use Rattle.program.specs.Endings.{ending}
 use Rattle.cidr_filter.specs.Stands.{stand}
+use Rattle.cidr_filter.specs.Stops.{Ends, Stops}
+use Rattle.cidr_filter.specs.declared.filter.Filter.{Filter}
 use Rattle.cidr_filter.proofs.LogsInTurn.{stops_by, name_missed, name_ended}
 use Rattle.cidr_filter.proofs.Runs.{name_stops}
 use Rattle.cidr_filter.proofs.logs.filter_one.Goals as goal
 
-pub returns-in-Err : goal.returns-in-Err
-returns-in-Err g c =
+pub returns-in-Err-clause-logs : goal.returns-in-Err-clause-logs
+returns-in-Err-clause-logs g c =
     name_missed c.args.filter.now (g.L.OpenLists.known c.args.lists.now) c.args.name.now c.of.result
     (stand c.args.output.now c.args.tally.now) c.args.errors.now c.tell_closed.new.errors c.in-Err.ensures.opened (subst (λ (fault : OpenFault). (g.L.OpenLists.known c.args.lists.now).may_miss c.args.name.now fault) (sym (c.of.ensures ∙ ap cause_of c.kind.ensures)) c.in-Err.ensures.missed) c.tell_closed.ensures
 
-pub returns-in-Ok-end : goal.returns-in-Ok-end
-returns-in-Ok-end g c =
+-- ---- a log that was opened
+
+pub returns-in-Ok-end-clause-logs : goal.returns-in-Ok-end-clause-logs
+returns-in-Ok-end-clause-logs g c =
     let known = g.L.OpenLists.known c.args.lists.now in
     let remaining = g.L.List.Read.remaining in
     name_ended c.args.filter.now known c.args.name.now
     (remaining (device_of c.new-log.result)) (remaining (device_of c.filter_log-end.new.reader))
     (λ input e. ap remaining c.new-log.ensures.device ∙ c.in-Ok.ensures.bytes input e) c.in-Ok.ensures.opened
     (stand c.args.output.now c.args.tally.now) (stand c.filter_log-end.new.output c.filter_log-end.new.tally)
-    c.args.errors.now c.tell_lacking.new.errors c.in-Ok-end.ensures.ok c.tell_lacking.ensures
+    c.args.errors.now c.tell_lacking.new.errors
+    (subst (λ (f : Filter). Ends f (remaining (device_of c.new-log.result)) (remaining (device_of c.filter_log-end.new.reader))
+    (record (stand c.args.output.now c.args.tally.now) { lines = 0; addressed = false }) (stand c.filter_log-end.new.output c.filter_log-end.new.tally)) (ap (λ (n : List ℕ). record c.args.filter.now { name = n }) (c.replace-before.ensures.after ∙ c.new.ensures ∙ c.label_of-label.ensures)) c.in-Ok-end.ensures.ok) c.tell_lacking.ensures
 
-pub returns-in-Err-end : goal.returns-in-Err-end
-returns-in-Err-end g c =
+pub returns-in-Err-end-clause-logs : goal.returns-in-Err-end-clause-logs
+returns-in-Err-end-clause-logs g c =
     let known = g.L.OpenLists.known c.args.lists.now in
     let remaining = g.L.List.Read.remaining in
     let mid = c.filter_log-end.new.output in
@@ -39,4 +45,6 @@ returns-in-Err-end g c =
     c.in-Ok.ensures.opened
     (has_failed c.filter_log-end.new.reader) mid.failed
     (stand c.args.output.now c.args.tally.now) (stand mid tally)
-    c.in-Err-end.fault c.close.ensures.failed c.in-Err-end.ensures.err) c.stop.ensures
+    c.in-Err-end.fault c.close.ensures.failed
+    (subst (λ (f : Filter). Stops f (remaining (device_of c.new-log.result)) (remaining (device_of c.filter_log-end.new.reader)) (has_failed c.filter_log-end.new.reader) mid.failed
+    (record (stand c.args.output.now c.args.tally.now) { lines = 0; addressed = false }) (stand mid tally) c.in-Err-end.fault) (ap (λ (n : List ℕ). record c.args.filter.now { name = n }) (c.replace-before.ensures.after ∙ c.new.ensures ∙ c.label_of-label.ensures)) c.in-Err-end.ensures.err)) c.stop.ensures

@@ -1,4 +1,4 @@
-use Rattle.std.proofs.Common.{[], ◌++◌, drop, refl, sym, ◌∙◌, arith}
+use Rattle.std.proofs.Common.{[], ◌++◌, drop, refl, arith}
 use Rattle.std.specs.List.{slice_range}
 use Rattle.lines.proofs.Putting.{puts_nothing, puts_more}
 use Rattle.lines.proofs.Writes.{still_works}

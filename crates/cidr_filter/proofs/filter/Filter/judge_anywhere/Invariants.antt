@@ -1,4 +1,4 @@
-use Rattle.std.proofs.Common.{◌≡◌, ◌-◌, ◌≤◌, length, drop}
+use Rattle.std.proofs.Common.{◌-◌, ◌≤◌, length, drop}
 use Rattle.line_addresses.specs.Addresses.{addresses_of}
 use Rattle.cidr_filter.specs.Filters.{asked_of}
 use Rattle.cidr_filter.proofs.Judging.{Passes}

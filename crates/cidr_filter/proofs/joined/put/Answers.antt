@@ -1,7 +1,7 @@
 use Rattle.std.proofs.Common.{◌++◌, ◌∷◌, [], ◌∙◌, List, ℕ, map, ap}
 use Rattle.std.proofs.lemmas.List.{map_push}
 use Rattle.std.specs.String.{string_bytes}
-use Rattle.cidr_filter.proofs.arranging.put.Goals as goal
+use Rattle.cidr_filter.proofs.joined.put.Goals as goal
 
 pub returns : goal.returns
 returns c =

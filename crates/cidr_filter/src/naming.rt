@@ -1,0 +1,49 @@
+//! The name of a log before what is printed of its lines.
+ghost use Rattle.std.specs.Prelude.{◌≡◌, ◌||◌, ◌++◌, ◌∷◌, [], OnOk, OnErr, is_err};
+ghost use Rattle.lines.specs.Outputs.{Prints, FailsIn};
+ghost use Rattle.cidr_filter.specs.Filters.{head_of};
+ghost use Rattle.cidr_filter.specs.Logs.{label_of};
+
+use crate::filter::Filter;
+use lines::fault::RunFault;
+use lines::output::Output;
+use std::io::Write;
+
+/// What the log of this name is called before its lines; nothing, if it is not named there.
+pub(crate) fn label_of(named: bool, name: &str) -> &[u8]
+    ensures { result.now ≡ label_of named name.now }
+{
+    if !named {
+        return b"".as_slice();
+    }
+    if name == "-" {
+        return b"(standard input)".as_slice();
+    }
+    name.as_bytes()
+}
+
+/// Writes what stands first: what the log is called, and a colon, or nothing if it is not named.
+pub(crate) fn put_head<W: Write>(
+    filter: &Filter,
+    output: &mut Output<'_, W>,
+) -> Result<(), RunFault>
+    ensures ok { OnOk result (Prints output.old output.new (head_of filter.now.name)) }
+    ensures failed { output.new.failed ≡ (output.old.failed || is_err result) }
+    ensures beginning { OnErr result (FailsIn output.old output.new (head_of filter.now.name)) }
+{
+    let name = filter.name.bytes();
+    if name.is_empty() {
+        return Ok(());
+    }
+    put_label(name, output)
+}
+
+// Writes a text and a colon.
+fn put_label<W: Write>(text: &[u8], output: &mut Output<'_, W>) -> Result<(), RunFault>
+    ensures ok { OnOk result (Prints output.old output.new (text.now ++ 58 ∷ [])) }
+    ensures failed { output.new.failed ≡ (output.old.failed || is_err result) }
+    ensures beginning { OnErr result (FailsIn output.old output.new (text.now ++ 58 ∷ [])) }
+{
+    output.put(text)?;
+    output.put(b":")
+}
