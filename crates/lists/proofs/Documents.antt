@@ -1,5 +1,5 @@
 -- What is taken of a document.
-use Rattle.std.proofs.Common.{◌≡◌, ◌<◌, ◌∙◌, ℕ, Bool, true, false, List, [], ◌∷◌, ◌++◌, refl, sym, ap, subst, arith, length, append-nil, length-append, inl, inr, ⊎_elim}
+use Rattle.std.proofs.Common.{◌≡◌, ◌<◌, ◌∙◌, ℕ, Bool, true, false, List, [], ◌∷◌, ◌++◌, refl, sym, ap, subst, arith, length, append-nil, length-append, inl, inr}
 use Rattle.std.specs.Prelude.{Option, None, Some, Result, Ok, Err, IfOk, OnOk, IfErr, IsTrue, IsUtf8}
 use Rattle.std.specs.Io.KnownBytes.{Consumes, IsAtEnd}
 use Rattle.serde_json.specs.Read.{read as read_bytes}
@@ -7,7 +7,6 @@ use Rattle.lists.specs.Documents.{TakesString, TakesStrings, TakesDocument, Read
 use Rattle.lists.specs.KnownLists.{KnownLists}
 use Rattle.lists.specs.Lists.{ReadLists, at_list}
 use Rattle.lists.specs.Private.Documents.{IsAllOf, ReadsAll, StopsReading, BytesStop, TakesBytes, FailsBytes}
-use Rattle.lists.specs.Refusals.{Refused}
 use Rattle.lists.specs.declared.named.ReadFault.{ReadFault}
 use Rattle.lists.specs.declared.named.ReadFault.TheVariants as faults
 
