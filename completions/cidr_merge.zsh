@@ -11,11 +11,13 @@ if (( CURRENT == 2 )); then
         'check[the wrong entries of the lists]' \
         '--help[print the help]' '--version[print the version]'
 elif [[ $words[2] == split ]]; then
-    _arguments '--prefix[the prefix length]:length:' '*--skip-bad[pass over refused lines]' '*:list:_files'
+    _arguments '--prefix[the prefix length]:length:' '*--skip-bad[pass over refused lines]' \
+        '--json[read documents of JSON]' '--strict[refuse strings that are no entries]' '*:list:_files'
 elif [[ $words[2] == check ]]; then
     _files
 else
     _arguments '*--ranges[print ranges]' '*--count[print how many addresses]' \
         '--format[print as another program reads it]:form:(plain range netmask wildcard csv nft ipset json addresses)' \
-        '*--skip-bad[pass over refused lines]' '*:list:_files'
+        '*--skip-bad[pass over refused lines]' '*--json[read documents of JSON]' \
+        '*--strict[refuse strings that are no entries]' '*:list:_files'
 fi

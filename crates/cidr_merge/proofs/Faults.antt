@@ -5,7 +5,7 @@ use Rattle.std.specs.List.{list_all}
 use Rattle.std.proofs.lemmas.Bool.Decides.{nat_tests}
 use Rattle.std.specs.String.{string_bytes}
 use Rattle.program.specs.Words.{is, count}
-use Rattle.cidr_merge.specs.CommandLines.{has, options_len, operation_named, options_of, lists_of, before_dashes, behind_dashes, is_option, names_form, is_right, are_right, named_twice, form_of, can_print, is_name, are_options, are_lists, are_two_sides, are_sides, AreFor, AreForNone}
+use Rattle.cidr_merge.specs.CommandLines.{has, options_len, operation_named, options_of, lists_of, before_dashes, behind_dashes, is_option, names_form, is_right, are_right, named_twice, is_strict_alone, form_of, can_print, is_name, are_options, are_lists, are_two_sides, are_sides, AreFor, AreForNone}
 use Rattle.cidr_merge.specs.Usage.{first_of, option_problem, word_problem, fault_or, wrong_option, forms_fault, options_fault, form_fault, lists_fault, union_fault, sides_fault, parts_fault, fault_among, fault_for, fault_in}
 use Rattle.cidr_merge.specs.declared.command_line.Operation.{Operation}
 use Rattle.cidr_merge.specs.declared.command_line.Operation.TheVariants.{Union, Common, Minus, Differ}
@@ -37,15 +37,17 @@ none_is_few : (n : ℕ) → nat_lt 0 n ≡ false → nat_le n 1 ≡ true
 none_is_few n e = grind (arith, nat_tests)
 
 -- a fault for the first test that fails, and one for a second test
-free : (a b : Bool) (x y : UsageFault) → (if a then Some x else if b then Some y else None) ≡ None → (a ≡ false) × (b ≡ false)
-free false false x y e = (refl, refl)
-free false true x y e = absurd (let q = e in cc)
-free true b x y e = absurd (let q = e in cc)
+free_three : (a b c : Bool) (x y z : UsageFault) → (if a then Some x else if b then Some y else if c then Some z else None) ≡ None → (a ≡ false) × (b ≡ false) × (c ≡ false)
+free_three false false false x y z e = (refl, refl, refl)
+free_three false false true x y z e = absurd (let q = e in cc)
+free_three false true c x y z e = absurd (let q = e in cc)
+free_three true b c x y z e = absurd (let q = e in cc)
 
-no_fault : (a b : Bool) (x y : UsageFault) → a ≡ false → b ≡ false → (if a then Some x else if b then Some y else None) ≡ None
-no_fault false false x y p q = refl
-no_fault false true x y p q = absurd (let r = q in cc)
-no_fault true b x y p q = absurd (let r = p in cc)
+no_fault_three : (a b c : Bool) (x y z : UsageFault) → a ≡ false → b ≡ false → c ≡ false → (if a then Some x else if b then Some y else if c then Some z else None) ≡ None
+no_fault_three false false false x y z p q r = refl
+no_fault_three false false true x y z p q r = absurd (let s = r in cc)
+no_fault_three false true c x y z p q r = absurd (let s = q in cc)
+no_fault_three true b c x y z p q r = absurd (let s = p in cc)
 
 good_two : (a b : Bool) (x y : UsageFault) → (if not a then Some x else if not b then Some y else None) ≡ None → (a ≡ true) × (b ≡ true)
 good_two true true x y e = (refl, refl)
@@ -98,17 +100,21 @@ words_fine place is_value (word ∷ words) e =
 
 options_right : {Z : Type 0} (options : List (String Z)) → options_fault options ≡ None → are_options options ≡ true
 options_right options e =
+    let exclude = has (codes "--ranges") options && has (codes "--count") options in
     let g = first_none (wrong_option 1 false options) (forms_fault options) e in
-    let f = free (has (codes "--ranges") options && has (codes "--count") options) (named_twice options) _ _ g.1 in
-    both (are_right false options && not (has (codes "--ranges") options && has (codes "--count") options)) (not (named_twice options))
-    (both (are_right false options) (not (has (codes "--ranges") options && has (codes "--count") options)) (words_right 1 false options g.0) (ap not f.0)) (ap not f.1)
+    let f = free_three exclude (named_twice options) (is_strict_alone options) _ _ _ g.1 in
+    both (are_right false options && not exclude && not (named_twice options)) (not (is_strict_alone options))
+    (both (are_right false options && not exclude) (not (named_twice options))
+    (both (are_right false options) (not exclude) (words_right 1 false options g.0) (ap not f.0)) (ap not f.1)) (ap not f.2)
 
 options_fine : {Z : Type 0} (options : List (String Z)) → are_options options ≡ true → options_fault options ≡ None
 options_fine options e =
-    let g = of_both (are_right false options && not (has (codes "--ranges") options && has (codes "--count") options)) (not (named_twice options)) e in
-    let f = of_both (are_right false options) (not (has (codes "--ranges") options && has (codes "--count") options)) g.0 in
+    let exclude = has (codes "--ranges") options && has (codes "--count") options in
+    let h = of_both (are_right false options && not exclude && not (named_twice options)) (not (is_strict_alone options)) e in
+    let g = of_both (are_right false options && not exclude) (not (named_twice options)) h.0 in
+    let f = of_both (are_right false options) (not exclude) g.0 in
     ap (λ (o : Option UsageFault). first_of o (forms_fault options)) (words_fine 1 false options f.0)
-    ∙ no_fault (has (codes "--ranges") options && has (codes "--count") options) (named_twice options) _ _ (denied _ f.1) (denied _ g.1)
+    ∙ no_fault_three exclude (named_twice options) (is_strict_alone options) _ _ _ (denied _ f.1) (denied _ g.1) (denied _ h.1)
 
 form_right : {Z : Type 0} (operation : Operation) (options : List (String Z)) → form_fault operation options ≡ None → can_print operation (form_of Blocks options) ≡ true
 form_right operation options e = by (can_print operation (form_of Blocks options)) _ e where

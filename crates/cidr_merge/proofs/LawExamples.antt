@@ -42,13 +42,13 @@ pub an_empty_word_is_no_operation : NoOtherOperation → operation_called [] ≡
 an_empty_word_is_no_operation law = law [] (other _ _ refl) (other _ _ refl) (other _ _ refl) (other _ _ refl) (other _ _ refl)
 
 pub skip_is_no_option : NoOtherOption → is_option_text (codes "--skip") ≡ false
-skip_is_no_option law = law (codes "--skip") (other _ _ refl) (other _ _ refl) (other _ _ refl) (other _ _ refl)
+skip_is_no_option law = law (codes "--skip") (other _ _ refl) (other _ _ refl) (other _ _ refl) (other _ _ refl) (other _ _ refl) (other _ _ refl)
 
 pub dashes_are_no_option : NoOtherOption → is_option_text (codes "--") ≡ false
-dashes_are_no_option law = law (codes "--") (other _ _ refl) (other _ _ refl) (other _ _ refl) (other _ _ refl)
+dashes_are_no_option law = law (codes "--") (other _ _ refl) (other _ _ refl) (other _ _ refl) (other _ _ refl) (other _ _ refl) (other _ _ refl)
 
 pub counts_is_no_option : NoOtherOption → is_option_text (codes "--counts") ≡ false
-counts_is_no_option law = law (codes "--counts") (other _ _ refl) (other _ _ refl) (other _ _ refl) (other _ _ refl)
+counts_is_no_option law = law (codes "--counts") (other _ _ refl) (other _ _ refl) (other _ _ refl) (other _ _ refl) (other _ _ refl) (other _ _ refl)
 
 pub ranges_are_no_form : NoOtherForm → form_called (codes "ranges") ≡ None
 ranges_are_no_form law =

@@ -13,8 +13,15 @@ no_other_operation text union list common minus differ =
     rw (apart text (codes "union") union, apart text (codes "list") list, apart text (codes "common") common, apart text (codes "minus") minus, apart text (codes "differ") differ)
 
 pub no_other_option : NoOtherOption
-no_other_option text ranges count format skip =
-    rw (apart text (codes "--ranges") ranges, apart text (codes "--count") count, apart text (codes "--format") format, apart text (codes "--skip-bad") skip)
+no_other_option text ranges count format skip json strict =
+    rw (
+      apart text (codes "--ranges") ranges,
+      apart text (codes "--count") count,
+      apart text (codes "--format") format,
+      apart text (codes "--skip-bad") skip,
+      apart text (codes "--json") json,
+      apart text (codes "--strict") strict,
+    )
 
 pub no_other_form : NoOtherForm
 no_other_form text plain range netmask wildcard csv nft ipset json addresses =

@@ -12,12 +12,11 @@ use Rattle.lists.specs.KnownLists.{KnownLists}
 use Rattle.program.specs.Messages.{Tells}
 use Rattle.program.specs.Runs.{text_asked}
 use Rattle.program.proofs.Runs.{otherwise}
-use Rattle.lists.specs.Reading.{StopsAt}
 use Rattle.program.specs.Told.{was_refused, fault_text, in_list, refusals_text}
 use Rattle.program.specs.Usage.{usage_text}
 use Rattle.lists.specs.declared.named.ReadFault.{ReadFault}
 use Rattle.cidr_merge.specs.Answers.{IsAnswer}
-use Rattle.cidr_merge.specs.CommandLines.{has, stands, operation_named, options_of, lists_of, before_dashes, behind_dashes, are_options, are_lists, are_sides, usual_of, form_of, can_print, AreFor, Says, AreForNone}
+use Rattle.cidr_merge.specs.CommandLines.{has, stands, operation_named, options_of, lists_of, before_dashes, behind_dashes, are_options, are_lists, are_sides, usual_of, form_of, shape_of, can_print, AreFor, Says, AreForNone}
 use Rattle.cidr_merge.specs.Endings.{EndsAs}
 use Rattle.cidr_merge.specs.Findings.{ListsFindings}
 use Rattle.cidr_merge.specs.InspectionRuns.{EndsUnless}
@@ -25,6 +24,7 @@ use Rattle.cidr_merge.specs.Inspections.{inspection_of, inspection_fault}
 use Rattle.cidr_merge.specs.Parts.{UnionPrints, HaveLines, AreShort}
 use Rattle.cidr_merge.specs.Reading.{ReadsLists, ReadsSide, ReadsSides}
 use Rattle.cidr_merge.specs.Runs.{answer_status, WritesAnswer, StopsReading, EndsAnswering, EndsMerging, EndsCommand}
+use Rattle.cidr_merge.specs.Shapes.{Source, source, StopsOne}
 use Rattle.cidr_merge.specs.Splits.{EndsSplit}
 use Rattle.cidr_merge.specs.Stopping.{Stops, StopsInSides}
 use Rattle.cidr_merge.specs.Texts.{AreTexts, TextsStop}
@@ -47,28 +47,29 @@ what_an_operation_needs name others operation h = h
 
 pub what_a_request_says : {Z : Type 0} (words : List (String Z)) (request : Request) → Says words request
     → (request.form ≡ form_of (usual_of words) (options_of words)) × (request.skips_bad ≡ has (codes "--skip-bad") (options_of words))
+    × (request.shape ≡ shape_of (options_of words))
     × (slice_range words request.first request.middle ≡ before_dashes (lists_of words)) × (drop request.second words ≡ behind_dashes (lists_of words))
-what_a_request_says words request h = (h.form, h.skips, h.firsts, h.seconds)
+what_a_request_says words request h = (h.form, h.skips, h.shape, h.firsts, h.seconds)
 
 -- ---- what was read
 
-pub what_a_side_has : {Z : Type 0} (known : KnownLists) (number : ℕ) (names : List (String Z)) (before refused : Refused) (sets : Sets) → ReadsSide known number names before sets refused
+pub what_a_side_has : {Z : Type 0} (known : Source) (number : ℕ) (names : List (String Z)) (before refused : Refused) (sets : Sets) → ReadsSide known number names before sets refused
     → (read : ReadLists) × ReadsLists known number names (nothing_read before) read × (read.is_out_of_memory ≡ false) × IsAggregate 32 read.v4 sets.v4 × IsAggregate 128 read.v6 sets.v6 × (read.refused ≡ refused)
 what_a_side_has known number names before refused sets h = (h.read, h.lists, h.memory, h.v4, h.v6, h.refused_lines)
 
 pub what_both_sides_have : {Z : Type 0} (known : KnownLists) (words : List (String Z)) (request : Request) (first second : Sets) (refused : Refused) → ReadsSides known words request first second refused
-    → (between : Refused) × ReadsSide known request.first (slice_range words request.first request.middle) no_refusals first between × ReadsSide known request.second (drop request.second words) between second refused
+    → (between : Refused) × ReadsSide (source known request.shape) request.first (slice_range words request.first request.middle) no_refusals first between × ReadsSide (source known request.shape) request.second (drop request.second words) between second refused
 what_both_sides_have known words request first second refused h = (h.between, h.firsts, h.seconds)
 
-pub where_the_reading_stops : {Z : Type 0} (known : KnownLists) (number : ℕ) (names : List (String Z)) (before : ReadLists) (fault : ReadFault) (refused : Refused) (h : Stops known number names before fault refused)
+pub where_the_reading_stops : {Z : Type 0} (known : Source) (number : ℕ) (names : List (String Z)) (before : ReadLists) (fault : ReadFault) (refused : Refused) (h : Stops known number names before fault refused)
     → (names ≡ h.first ++ h.name ∷ h.others) × ReadsLists known number h.first before h.between × (h.between.is_out_of_memory ≡ false)
-    × StopsAt known (number + length h.first) (string_bytes h.name) h.between fault refused
+    × StopsOne known (number + length h.first) (string_bytes h.name) h.between fault refused
 where_the_reading_stops known number names before fault refused h = (h.cut, h.reads, h.memory, h.stops)
 
 pub what_stops_both_sides : {Z : Type 0} (known : KnownLists) (words : List (String Z)) (request : Request) (fault : ReadFault) (refused : Refused) → StopsInSides known words request fault refused
-    → Stops known request.first (slice_range words request.first request.middle) (nothing_read no_refusals) fault refused
-    ⊎ ((first : Sets) × (between : Refused) × ReadsSide known request.first (slice_range words request.first request.middle) no_refusals first between
-    × Stops known request.second (drop request.second words) (nothing_read between) fault refused)
+    → Stops (source known request.shape) request.first (slice_range words request.first request.middle) (nothing_read no_refusals) fault refused
+    ⊎ ((first : Sets) × (between : Refused) × ReadsSide (source known request.shape) request.first (slice_range words request.first request.middle) no_refusals first between
+    × Stops (source known request.shape) request.second (drop request.second words) (nothing_read between) fault refused)
 what_stops_both_sides known words request fault refused h = h
 
 -- ---- how a run ends

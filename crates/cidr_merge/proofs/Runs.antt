@@ -12,6 +12,7 @@ use Rattle.cidr_merge.specs.Reading.{ReadsSide, ReadsSides}
 use Rattle.cidr_merge.specs.InspectionRuns.{EndsInspecting}
 use Rattle.cidr_merge.specs.Inspections.{inspection_of}
 use Rattle.cidr_merge.specs.Runs.{EndsAnswering, EndsMerging, EndsRequest, EndsCommand}
+use Rattle.cidr_merge.specs.Shapes.{source}
 use Rattle.cidr_merge.specs.Stopping.{Stops, StopsInSides}
 use Rattle.cidr_merge.specs.declared.command_line.Request.{Request}
 use Rattle.lists.specs.declared.named.ReadFault.{ReadFault}
@@ -21,30 +22,30 @@ use Rattle.cidr_merge.proofs.ReadInTurn.{slice_rest}
 
 -- both sides were read
 pub sides_ok : {Z T F U G : Type 0} (result : Result T F) (read : Result U G) (done : U) (known : KnownLists) (words : List (String Z)) (request : Request) (first second : Sets)
-    (start between refused : Refused) → start ≡ no_refusals → read ≡ Ok done → OnOk read (ReadsSide known request.first (slice_range words request.first request.middle) start first between)
-    → OnOk result (ReadsSide known request.second (slice_range words request.second (length words)) between second refused) → OnOk result (ReadsSides known words request first second refused)
+    (start between refused : Refused) → start ≡ no_refusals → read ≡ Ok done → OnOk read (ReadsSide (source known request.shape) request.first (slice_range words request.first request.middle) start first between)
+    → OnOk result (ReadsSide (source known request.shape) request.second (slice_range words request.second (length words)) between second refused) → OnOk result (ReadsSides known words request first second refused)
 sides_ok {Z} {T} {F} {U} {G} (Ok all) read done known words request first second start between refused s e firsts seconds = record {
   between = between;
-  firsts = subst (λ (r : Refused). ReadsSide known request.first (slice_range words request.first request.middle) r first between) s
-      (subst (λ (r : Result U G). OnOk r (ReadsSide known request.first (slice_range words request.first request.middle) start first between)) e firsts);
-  seconds = subst (λ names. ReadsSide known request.second names between second refused) (slice_rest words request.second) seconds;
+  firsts = subst (λ (r : Refused). ReadsSide (source known request.shape) request.first (slice_range words request.first request.middle) r first between) s
+      (subst (λ (r : Result U G). OnOk r (ReadsSide (source known request.shape) request.first (slice_range words request.first request.middle) start first between)) e firsts);
+  seconds = subst (λ names. ReadsSide (source known request.shape) request.second names between second refused) (slice_rest words request.second) seconds;
 }
 sides_ok (Err fault) read done known words request first second start between refused s e firsts seconds = tt
 
 -- the reading stopped at a list of the first side
 pub first_stopped : {Z T : Type 0} (read : Result T ReadFault) (fault : ReadFault) (known : KnownLists) (words : List (String Z)) (request : Request) (start between refused : Refused) → start ≡ no_refusals
-    → read ≡ Err fault → IfErr read (λ f. Stops known request.first (slice_range words request.first request.middle) (nothing_read start) f between) → refused ≡ between
+    → read ≡ Err fault → IfErr read (λ f. Stops (source known request.shape) request.first (slice_range words request.first request.middle) (nothing_read start) f between) → refused ≡ between
     → StopsInSides known words request fault refused
 first_stopped {Z} {T} read fault known words request start between refused s e stops r =
     let names = slice_range words request.first request.middle in
-    let said = subst (λ (r : Result T ReadFault). IfErr r (λ f. Stops known request.first names (nothing_read start) f between)) e stops in
-    inl (subst (λ (l : Refused). Stops known request.first names (nothing_read no_refusals) fault l) (sym r)
-    (subst (λ (l : Refused). Stops known request.first names (nothing_read l) fault between) s said))
+    let said = subst (λ (r : Result T ReadFault). IfErr r (λ f. Stops (source known request.shape) request.first names (nothing_read start) f between)) e stops in
+    inl (subst (λ (l : Refused). Stops (source known request.shape) request.first names (nothing_read no_refusals) fault l) (sym r)
+    (subst (λ (l : Refused). Stops (source known request.shape) request.first names (nothing_read l) fault between) s said))
 
 -- or of the second
 pub second_stopped : {Z T U G : Type 0} (result : Result T ReadFault) (read : Result U G) (done : U) (known : KnownLists) (words : List (String Z)) (request : Request) (first : Sets)
-    (start between refused : Refused) → start ≡ no_refusals → read ≡ Ok done → OnOk read (ReadsSide known request.first (slice_range words request.first request.middle) start first between)
-    → IfErr result (λ f. Stops known request.second (slice_range words request.second (length words)) (nothing_read between) f refused)
+    (start between refused : Refused) → start ≡ no_refusals → read ≡ Ok done → OnOk read (ReadsSide (source known request.shape) request.first (slice_range words request.first request.middle) start first between)
+    → IfErr result (λ f. Stops (source known request.shape) request.second (slice_range words request.second (length words)) (nothing_read between) f refused)
     → IfErr result (λ f. StopsInSides known words request f refused)
 second_stopped (Ok all) read done known words request first start between refused s e firsts stops = tt
 second_stopped {Z} {T} {U} {G} (Err fault) read done known words request first start between refused s e firsts stops =
@@ -52,9 +53,9 @@ second_stopped {Z} {T} {U} {G} (Err fault) read done known words request first s
     inr (
       first,
       between,
-      subst (λ (r : Refused). ReadsSide known request.first names r first between) s
-          (subst (λ (r : Result U G). OnOk r (ReadsSide known request.first names start first between)) e firsts),
-      subst (λ ws. Stops known request.second ws (nothing_read between) fault refused) (slice_rest words request.second) stops,
+      subst (λ (r : Refused). ReadsSide (source known request.shape) request.first names r first between) s
+          (subst (λ (r : Result U G). OnOk r (ReadsSide (source known request.shape) request.first names start first between)) e firsts),
+      subst (λ ws. Stops (source known request.shape) request.second ws (nothing_read between) fault refused) (slice_rest words request.second) stops,
     )
 
 -- the answer was given

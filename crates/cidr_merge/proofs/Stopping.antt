@@ -5,8 +5,7 @@ use Rattle.std.specs.Prelude.{Result, Ok, Err, OnOk, IfErr, String, slice_range}
 use Rattle.std.specs.String.{string_bytes}
 use Rattle.lists.specs.Lists.{ReadLists, nothing_read}
 use Rattle.lists.specs.Refusals.{Refused}
-use Rattle.lists.specs.KnownLists.{KnownLists}
-use Rattle.lists.specs.Reading.{StopsAt}
+use Rattle.cidr_merge.specs.Shapes.{Source, StopsOne}
 use Rattle.cidr_merge.specs.Reading.{ReadsLists, ReadsSide}
 use Rattle.cidr_merge.specs.Stopping.{Stops}
 use Rattle.lists.specs.declared.named.ReadFault.{ReadFault}
@@ -26,9 +25,9 @@ slice_cut words from place to word le l within is =
     ∙ append_assoc (slice_range words from place) (word ∷ []) others
 
 -- the reading of the list at a place stops
-pub stops_in : {Z : Type 0} (known : KnownLists) (words : List (String Z)) (from place to : ℕ) (word : String Z) (start mid : ReadLists) (fault : ReadFault) (refused : Refused) → from ≤ place → place < to
+pub stops_in : {Z : Type 0} (known : Source) (words : List (String Z)) (from place to : ℕ) (word : String Z) (start mid : ReadLists) (fault : ReadFault) (refused : Refused) → from ≤ place → place < to
     → to ≤ length words → word ≡ get_or words place word → ReadsLists known from (slice_range words from place) start mid → mid.is_out_of_memory ≡ false
-    → StopsAt known place (string_bytes word) mid fault refused → Stops known from (slice_range words from to) start fault refused
+    → StopsOne known place (string_bytes word) mid fault refused → Stops known from (slice_range words from to) start fault refused
 stops_in known words from place to word start mid fault refused le l within is reads memory stops =
     let place_of : place ≡ from + length (slice_range words from place) = slice_count words from place le (omega (arith, l, within)) in
     record {
@@ -39,12 +38,12 @@ stops_in known words from place to word start mid fault refused le l within is r
       cut = slice_cut words from place to word le l within is;
       reads = reads;
       memory = memory;
-      stops = subst (λ (p : ℕ). StopsAt known p (string_bytes word) mid fault refused) place_of stops;
+      stops = subst (λ (p : ℕ). StopsOne known p (string_bytes word) mid fault refused) place_of stops;
     }
 
 -- ---- sides
 
-pub side_stopped : {Z T : Type 0} (result : Result T ReadFault) (known : KnownLists) (number : ℕ) (names : List (String Z)) (before after : Refused) (start read : ReadLists) → start ≡ nothing_read before
+pub side_stopped : {Z T : Type 0} (result : Result T ReadFault) (known : Source) (number : ℕ) (names : List (String Z)) (before after : Refused) (start read : ReadLists) → start ≡ nothing_read before
     → IfErr result (λ fault. Stops known number names start fault read.refused) → after ≡ read.refused → IfErr result (λ fault. Stops known number names (nothing_read before) fault after)
 side_stopped (Ok done) known number names before after start read s h e = tt
 side_stopped (Err fault) known number names before after start read s h e =
@@ -57,12 +56,12 @@ not_cut (y ∷ first) others x e = cc
 no_names : {X : Type 0} (names first others : List X) (x : X) → names ≡ [] → names ≡ first ++ x ∷ others → ⊥
 no_names names first others x e cut = not_cut first others x (sym e ∙ cut)
 
-reads_no_more : {Z : Type 0} (known : KnownLists) (number : ℕ) (names : List (String Z)) (start read : ReadLists) → names ≡ [] → ReadsLists known number names start read → read ≡ start
+reads_no_more : {Z : Type 0} (known : Source) (number : ℕ) (names : List (String Z)) (start read : ReadLists) → names ≡ [] → ReadsLists known number names start read → read ≡ start
 reads_no_more known number [] start read e h = h
 reads_no_more known number (name ∷ names) start read e h = absurd (let q = e in cc)
 
 -- where there are no lists, no line is refused
-pub none_refused : {Z T : Type 0} (result : Result T ReadFault) (known : KnownLists) (words : List (String Z)) (place : ℕ) (before : Refused) (sets : Sets) (refused : Refused)
+pub none_refused : {Z T : Type 0} (result : Result T ReadFault) (known : Source) (words : List (String Z)) (place : ℕ) (before : Refused) (sets : Sets) (refused : Refused)
     → OnOk result (ReadsSide known place (slice_range words place place) before sets refused)
     → IfErr result (λ fault. Stops known place (slice_range words place place) (nothing_read before) fault refused) → refused ≡ before
 none_refused (Ok done) known words place before sets refused side stops =

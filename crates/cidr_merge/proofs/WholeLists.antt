@@ -32,6 +32,8 @@ module _ (known : KnownLists) (name : List ℕ) (number : ℕ) (remained remains
   stops_by : (failed : Bool) (fault : ReadFault) → (IsTrue failed → known.may_fail name) → StopsReading failed number fault → TextStops known number name fault
   stops_by failed (faults.Open place cause) fails h = absurd h
   stops_by failed (faults.Read place) fails h = (h.0, opened, fails h.1)
+  stops_by failed (faults.Length place) fails h = absurd h
+  stops_by failed (faults.NotJson place line) fails h = absurd h
   stops_by failed faults.OutOfMemory fails h = tt
 
   pub text_stops : {X : Type 0} (failed : Bool) (result : Result X ReadFault) → (IsTrue failed → known.may_fail name) → IfErr result (StopsReading failed number) → IfErr result (TextStops known number name)

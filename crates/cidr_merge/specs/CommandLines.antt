@@ -11,6 +11,8 @@ use Rattle.cidr_merge.specs.declared.command_line.Form.{Form}
 use Rattle.cidr_merge.specs.declared.command_line.Form.TheVariants.{Blocks, Ranges, Counts, Exported}
 use Rattle.cidr_merge.specs.declared.exports.Export.TheVariants.{Netmask, Wildcard, Csv, Nft, Ipset, Json, Addresses}
 use Rattle.cidr_merge.specs.declared.command_line.Request.{Request}
+use Rattle.cidr_merge.specs.declared.shapes.Shape.{Shape}
+use Rattle.cidr_merge.specs.declared.shapes.Shape.TheVariants as shapes
 
 -- whether one of the words is this text
 abbrev pub has : {Z : Type 0} → List ℕ → List (String Z) → Bool
@@ -78,9 +80,10 @@ form_called text =
     else if bytes_eq text (codes "addresses") then Some (Exported Addresses)
     else None
 
--- there are four options; the word after a `--format` names a form
+-- there are six options; the word after a `--format` names a form
 abbrev pub is_option_text : List ℕ → Bool
 is_option_text text = bytes_eq text (codes "--ranges") || bytes_eq text (codes "--count") || bytes_eq text (codes "--format") || bytes_eq text (codes "--skip-bad")
+    || bytes_eq text (codes "--json") || bytes_eq text (codes "--strict")
 
 abbrev pub is_option : {Z : Type 0} → String Z → Bool
 is_option word = is_option_text (string_bytes word)
@@ -100,9 +103,17 @@ abbrev pub named_twice : {Z : Type 0} → List (String Z) → Bool
 named_twice options = nat_lt 1 (count (codes "--format") options)
     || (nat_lt 0 (count (codes "--format") options) && (has (codes "--ranges") options || has (codes "--count") options))
 
--- the options that say how to print exclude each other
+-- `--strict` is given without `--json`
+abbrev pub is_strict_alone : {Z : Type 0} → List (String Z) → Bool
+is_strict_alone options = has (codes "--strict") options && not (has (codes "--json") options)
+
+-- how the options say that lists are written
+abbrev pub shape_of : {Z : Type 0} → List (String Z) → Shape
+shape_of options = if has (codes "--json") options then (if has (codes "--strict") options then shapes.StrictJson else shapes.Json) else shapes.Lines
+
+-- the options that say how to print exclude each other, and `--strict` needs `--json`
 abbrev pub are_options : {Z : Type 0} → List (String Z) → Bool
-are_options options = are_right false options && not (has (codes "--ranges") options && has (codes "--count") options) && not (named_twice options)
+are_options options = are_right false options && not (has (codes "--ranges") options && has (codes "--count") options) && not (named_twice options) && not (is_strict_alone options)
 
 -- a list has a name, which does not begin with `-` unless it is `-`, standard input; that is named at most once, and
 -- one `--` may stand among the names
@@ -161,10 +172,11 @@ AreFor (name ∷ others) operation = (operation_named name ≡ Some operation) �
     × (can_print operation (form_of Blocks (options_of (name ∷ others))) ≡ true)
     × (are_lists (lists_of (name ∷ others)) ≡ true) × (are_sides operation (lists_of (name ∷ others)) ≡ true)
 
--- the request has the operation, the form and the lists that the words say
+-- the request has the form, the lists and their shape that the words say
 pub record Says {Z : Type 0} (words : List (String Z)) (request : Request) : Type 0 where
   pub form : request.form ≡ form_of (usual_of words) (options_of words)
   pub skips : request.skips_bad ≡ has (codes "--skip-bad") (options_of words)
+  pub shape : request.shape ≡ shape_of (options_of words)
   pub firsts : slice_range words request.first request.middle ≡ before_dashes (lists_of words)
   pub seconds : drop request.second words ≡ behind_dashes (lists_of words)
 

@@ -7,9 +7,10 @@ use Rattle.cidr_merge.specs.Inspections.{inspection_called}
 abbrev pub NoOtherOperation : Type 0
 NoOtherOperation = (text : List ℕ) → text ≢ codes "union" → text ≢ codes "list" → text ≢ codes "common" → text ≢ codes "minus" → text ≢ codes "differ" → operation_called text ≡ None
 
--- no text but these four is an option of an operation
+-- no text but these six is an option of an operation
 abbrev pub NoOtherOption : Type 0
-NoOtherOption = (text : List ℕ) → text ≢ codes "--ranges" → text ≢ codes "--count" → text ≢ codes "--format" → text ≢ codes "--skip-bad" → is_option_text text ≡ false
+NoOtherOption = (text : List ℕ) → text ≢ codes "--ranges" → text ≢ codes "--count" → text ≢ codes "--format" → text ≢ codes "--skip-bad"
+    → text ≢ codes "--json" → text ≢ codes "--strict" → is_option_text text ≡ false
 
 -- no text but these nine names a form
 abbrev pub NoOtherForm : Type 0

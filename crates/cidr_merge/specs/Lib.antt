@@ -12,6 +12,7 @@ pub mod Pieces
 pub mod Private
 pub mod Reading
 pub mod Runs
+pub mod Shapes
 pub mod SplitWords
 pub mod Splits
 pub mod Stopping

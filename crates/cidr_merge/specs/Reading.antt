@@ -5,21 +5,21 @@ use Rattle.ipnetwork_blocks.specs.Aggregate.{IsAggregate}
 use Rattle.lists.specs.Lists.{ReadLists, nothing_read}
 use Rattle.lists.specs.Refusals.{Refused, no_refusals}
 use Rattle.lists.specs.KnownLists.{KnownLists}
-use Rattle.lists.specs.Reading.{ReadsList}
+use Rattle.cidr_merge.specs.Shapes.{Source, source, ReadsOne}
 use Rattle.cidr_merge.specs.declared.command_line.Request.{Request}
 use Rattle.cidr_merge.specs.declared.reading.Sets.{Sets}
 
 -- the lists of these names are read, in turn; the first has this number, the next the one after it
-abbrev pub ReadsLists : {Z : Type 0} → KnownLists → ℕ → List (String Z) → ReadLists → ReadLists → Type 0
-ReadsLists known number [] before after = after ≡ before
-ReadsLists known number (name ∷ names) before after = (between : ReadLists) × ReadsList known number (string_bytes name) before between
-    × ReadsLists known (number + 1) names between after
+abbrev pub ReadsLists : {Z : Type 0} → Source → ℕ → List (String Z) → ReadLists → ReadLists → Type 0
+ReadsLists from number [] before after = after ≡ before
+ReadsLists from number (name ∷ names) before after = (between : ReadLists) × ReadsOne from number (string_bytes name) before between
+    × ReadsLists from (number + 1) names between after
 
 -- the lists of these names were read, after others of which some lines were refused: the sets have the addresses of
 -- their networks, and these are the refused lines now
-pub record ReadsSide {Z : Type 0} (known : KnownLists) (number : ℕ) (names : List (String Z)) (before : Refused) (sets : Sets) (refused : Refused) : Type 0 where
+pub record ReadsSide {Z : Type 0} (from : Source) (number : ℕ) (names : List (String Z)) (before : Refused) (sets : Sets) (refused : Refused) : Type 0 where
   pub read : ReadLists
-  pub lists : ReadsLists known number names (nothing_read before) read
+  pub lists : ReadsLists from number names (nothing_read before) read
   pub memory : read.is_out_of_memory ≡ false
   pub v4 : IsAggregate 32 read.v4 sets.v4
   pub v6 : IsAggregate 128 read.v6 sets.v6
@@ -28,5 +28,5 @@ pub record ReadsSide {Z : Type 0} (known : KnownLists) (number : ℕ) (names : L
 -- the lists of both sides were read
 pub record ReadsSides {Z : Type 0} (known : KnownLists) (words : List (String Z)) (request : Request) (first second : Sets) (refused : Refused) : Type 0 where
   pub between : Refused
-  pub firsts : ReadsSide known request.first (slice_range words request.first request.middle) no_refusals first between
-  pub seconds : ReadsSide known request.second (drop request.second words) between second refused
+  pub firsts : ReadsSide (source known request.shape) request.first (slice_range words request.first request.middle) no_refusals first between
+  pub seconds : ReadsSide (source known request.shape) request.second (drop request.second words) between second refused

@@ -4,6 +4,8 @@ use Rattle.ipnetwork_family.specs.PrefixNumber.{IsPrefixNumber, IsNoPrefixNumber
 use Rattle.program.specs.Told.{name_at}
 use Rattle.cidr_merge.specs.CommandLines.{begins_dashed, stands}
 use Rattle.cidr_merge.specs.Usage.{at_word, first_of, lists_fault, union_fault}
+use Rattle.cidr_merge.specs.declared.shapes.Shape.{Shape}
+use Rattle.cidr_merge.specs.declared.shapes.Shape.TheVariants as shapes
 use Rattle.cidr_merge.specs.declared.split_words.SplitRequest.{SplitRequest}
 use Rattle.cidr_merge.specs.declared.usage.Problem.TheVariants as problems
 use Rattle.cidr_merge.specs.declared.usage.UsageFault.{UsageFault}
@@ -16,9 +18,21 @@ after_skip words place = if stands (codes "--skip-bad") words place then place +
 abbrev pub prefix_place : {Z : Type 0} → List (String Z) → ℕ
 prefix_place words = after_skip words 1
 
--- the first list stands after the value of `--prefix`, or after a `--skip-bad` that follows that
+-- where a `--json` may stand: after the value of `--prefix`, or after a `--skip-bad` that follows that
+abbrev pub json_place : {Z : Type 0} → List (String Z) → ℕ
+json_place words = after_skip words (prefix_place words + 2)
+
+-- how a `--json` that stands at this index, and a `--strict` behind it, say that lists are written
+abbrev pub shape_at : {Z : Type 0} → List (String Z) → ℕ → Shape
+shape_at words place = if stands (codes "--json") words place then (if stands (codes "--strict") words (place + 1) then shapes.StrictJson else shapes.Json) else shapes.Lines
+
+-- the index after these
+abbrev pub after_shape : {Z : Type 0} → List (String Z) → ℕ → ℕ
+after_shape words place = if stands (codes "--json") words place then (if stands (codes "--strict") words (place + 1) then place + 2 else place + 1) else place
+
+-- the first list stands there
 abbrev pub first_list : {Z : Type 0} → List (String Z) → ℕ
-first_list words = after_skip words (prefix_place words + 2)
+first_list words = after_shape words (json_place words)
 
 -- the word after the one at this index is a number from 0 to 128, in the spelling of prefix lengths
 abbrev pub SaysLength : {Z : Type 0} → List (String Z) → ℕ → ℕ → Type 0
@@ -37,6 +51,7 @@ pub record SaysSplit {Z : Type 0} (words : List (String Z)) (request : SplitRequ
   pub prefix : stands (codes "--prefix") words (prefix_place words) ≡ true
   pub number : SaysLength words (prefix_place words) request.length
   pub skips : request.skips_bad ≡ (stands (codes "--skip-bad") words 1 || stands (codes "--skip-bad") words (prefix_place words + 2))
+  pub shape : request.shape ≡ shape_at words (json_place words)
   pub first : request.first ≡ first_list words
   pub lists : files_fault (first_list words) (drop (first_list words) words) ≡ None
 

@@ -11,6 +11,7 @@ use Rattle.program.specs.Told.{was_refused, fault_text, in_list, refusals_text}
 use Rattle.program.specs.Usage.{usage_text}
 use Rattle.cidr_merge.specs.Pieces.{split_text, split_count, split_refusal}
 use Rattle.cidr_merge.specs.Reading.{ReadsSide}
+use Rattle.cidr_merge.specs.Shapes.{source}
 use Rattle.cidr_merge.specs.SplitWords.{SaysSplit, SplitFault}
 use Rattle.cidr_merge.specs.Stopping.{Stops}
 use Rattle.cidr_merge.specs.Usage.{problem_text}
@@ -38,7 +39,7 @@ EndsCutting request skips sets end =
 -- the lists were not read to their ends: nothing was written, and the cause was reported
 abbrev pub StopsSplitting : {Z W E : Type 0} → KnownLists → List (String Z) → SplitRequest → Refused → Ending W E → Type 0
 StopsSplitting known words request refused end = (fault : ReadFault)
-    × Stops known request.first (drop request.first words) (nothing_read no_refusals) fault refused × IsSilent end × HasTold end (fault_text words fault)
+    × Stops (source known request.shape) request.first (drop request.first words) (nothing_read no_refusals) fault refused × IsSilent end × HasTold end (fault_text words fault)
 
 -- the refused lines were reported, and then either why the reading stopped, or the pieces were printed of the least
 -- list of what the lists name
@@ -46,7 +47,7 @@ abbrev pub EndsSplitting : {Z W E : Type 0} → KnownLists → List (String Z) �
 EndsSplitting {Z} {W} {E} known words request end = (refused : Refused) × (told : Written E)
     × Tells end.errors told (refusals_text words in_list refused)
     × (StopsSplitting known words request refused (record end { errors = told })
-    ⊎ ((sets : Sets) × ReadsSide known request.first (drop request.first words) no_refusals sets refused
+    ⊎ ((sets : Sets) × ReadsSide (source known request.shape) request.first (drop request.first words) no_refusals sets refused
     × EndsCutting request (was_refused refused) sets (record end { errors = told })))
 
 -- the words say a request, which is done, or something is wrong with them, and that and the usage are reported

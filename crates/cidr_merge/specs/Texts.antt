@@ -3,7 +3,7 @@ use Rattle.std.specs.Prelude.{◌≡◌, ℕ, ◌+◌, true, false, List, [], �
 use Rattle.std.specs.String.{string_bytes}
 use Rattle.lists.specs.KnownLists.{KnownLists}
 use Rattle.lists.specs.declared.named.ReadFault.{ReadFault}
-use Rattle.lists.specs.declared.named.ReadFault.TheVariants.{Open, Read, OutOfMemory}
+use Rattle.lists.specs.declared.named.ReadFault.TheVariants.{Open, Read, Length, NotJson, OutOfMemory}
 
 -- the list of this name was opened, and these bytes are all of it, if its bytes are known
 abbrev pub IsTextOf : KnownLists → List ℕ → List ℕ → Type 0
@@ -22,6 +22,9 @@ abbrev pub TextStops : KnownLists → ℕ → List ℕ → ReadFault → Type 0
 TextStops known number name (Open place cause) = (place ≡ number) × known.may_open name false × known.may_miss name cause
 -- a read of it fails
 TextStops known number name (Read place) = (place ≡ number) × known.may_open name true × known.may_fail name
+-- it may have any length and any text
+TextStops known number name (Length place) = ⊥
+TextStops known number name (NotJson place line) = ⊥
 -- memory runs out for it
 TextStops known number name OutOfMemory = Unit {0}
 

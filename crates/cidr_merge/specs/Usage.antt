@@ -5,7 +5,7 @@ use Rattle.std.specs.String.{string_bytes}
 use Rattle.program.specs.Told.{name_at}
 use Rattle.program.specs.Words.{is, count}
 use Rattle.program.specs.declared.usage.Subject.TheVariants.{CommandLine, Word}
-use Rattle.cidr_merge.specs.CommandLines.{has, names_form, named_twice, can_print, form_of, operation_named, options_of, lists_of, before_dashes, behind_dashes, is_option, is_name}
+use Rattle.cidr_merge.specs.CommandLines.{has, names_form, named_twice, is_strict_alone, can_print, form_of, operation_named, options_of, lists_of, before_dashes, behind_dashes, is_option, is_name}
 use Rattle.cidr_merge.specs.declared.command_line.Operation.{Operation}
 use Rattle.cidr_merge.specs.declared.command_line.Operation.TheVariants.{Union, Common, Minus, Differ}
 use Rattle.cidr_merge.specs.declared.command_line.Form.TheVariants.{Blocks}
@@ -31,6 +31,7 @@ problem_text problems.NoList = codes "no FILE"
 problem_text problems.OneSide = codes "no second side"
 problem_text problems.EmptyFirstSide = codes "no FILE before it"
 problem_text problems.EmptySecondSide = codes "no FILE after it"
+problem_text problems.StrictAlone = codes "only together with --json"
 problem_text problems.NoPrefix = codes "no --prefix"
 problem_text problems.NotALength = codes "not a prefix length"
 
@@ -73,11 +74,12 @@ abbrev pub wrong_option : {Z : Type 0} → ℕ → Bool → List (String Z) → 
 wrong_option place is_value [] = None
 wrong_option place is_value (word ∷ words) = fault_or place (word_problem is_value word) (wrong_option (1 + place) (is (codes "--format") word) words)
 
--- options that say how to print, and exclude each other
+-- options that say how to print, and exclude each other, or a `--strict` without `--json`
 abbrev pub forms_fault : {Z : Type 0} → List (String Z) → Option UsageFault
 forms_fault options =
     if has (codes "--ranges") options && has (codes "--count") options then Some (at_word (1 + position_or_len (is (codes "--ranges")) options) problems.RangesAndCount)
     else if named_twice options then Some (at_word (1 + position_or_len (is (codes "--format")) options) problems.AnotherForm)
+    else if is_strict_alone options then Some (at_word (1 + position_or_len (is (codes "--strict")) options) problems.StrictAlone)
     else None
 
 -- what is wrong with the options, of which the first is the second word: the first word that is none, or two that

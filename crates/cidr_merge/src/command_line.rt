@@ -5,6 +5,7 @@ ghost use Rattle.cidr_merge.specs.Private.Words.{IsWithin};
 ghost use Rattle.cidr_merge.specs.Usage.{fault_in};
 
 use crate::exports::Export;
+use crate::shapes::{Shape, shape_of};
 use crate::usage::{Problem, UsageFault, fault_of, fault_of_word, nothing_said};
 use crate::words::{has, options_count, place_of};
 use program::words::{is, text_at};
@@ -44,6 +45,8 @@ pub struct Request {
     pub form: Form,
     /// Whether refused lines are skipped.
     pub skips_bad: bool,
+    /// How the lists are written.
+    pub shape: Shape,
     /// The index of the first list among the words.
     pub first: usize,
     /// The index after the lists of the first side.
@@ -77,6 +80,7 @@ pub(crate) fn request_of(words: &[String]) -> Result<Request, UsageFault>
         operation,
         form: form_of(usual_form(name), options),
         skips_bad: has(options, "--skip-bad"),
+        shape: shape_of(options),
         first,
         middle,
         second: words.len().min(middle + 1),

@@ -9,13 +9,14 @@ Merges lists of IP networks, and prints the shortest list with exactly the addre
     cidr_merge minus  [OPTION..] FILE.. -- FILE..   of the first side and not of the second
     cidr_merge differ [OPTION..] FILE.. -- FILE..   what one side has and the other has not
     cidr_merge list   [OPTION..] FILE..             each address of any of the files
-    cidr_merge split --prefix N [--skip-bad] FILE.. the networks of union, cut into those of length N
+    cidr_merge split --prefix N [OPTION..] FILE..   the networks of union, cut into those of length N
     cidr_merge check  FILE..                        the wrong entries, each with its file and line
 
     --ranges       print FIRST - LAST for each run of addresses
     --count        print v4 BLOCKS ADDRESSES and v6 BLOCKS ADDRESSES
     --format FORM  print plain, range, netmask, wildcard, csv, nft, ipset, json or addresses
     --skip-bad     report refused lines, and print the result for the others
+    --json         each FILE is JSON: take its strings that are entries; --strict refuses other strings
     --help         print this text
     --version      print the version
 
@@ -24,7 +25,7 @@ or nothing; # and ; begin a comment. Host bits are dropped. A line has at most 1
 The result is in ascending order, IPv4 first. differ puts < before what only the first side has, and > before what only
 the second has. A refused line is reported as FILE:LINE: refused format, address, prefix, range or length. check prints
 that for each, and the line behind it. split leaves longer networks whole, and those of IPv4 if N is above 32, and
-prints no more than a million.
+prints no more than a million. Its options are --skip-bad, --json and --strict, in this order.
 
 Status: 0; 1 if the sides of differ are not equal, or check found something; 2 on wrong usage, a refused line, a file
 that cannot be read, too many networks of split, a failed write or out of memory; 3 if lines were skipped.

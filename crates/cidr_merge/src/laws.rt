@@ -21,7 +21,7 @@ pub fn no_other_operations()
     ensures { NoOtherOperation }
 {}
 
-/// No word but `--ranges`, `--count`, `--format` and `--skip-bad` is an option of an operation.
+/// No word but `--ranges`, `--count`, `--format`, `--skip-bad`, `--json` and `--strict` is an option of an operation.
 pub fn no_other_options()
     ensures { NoOtherOption }
 {}

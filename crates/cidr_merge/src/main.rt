@@ -17,6 +17,7 @@ mod laws;
 mod printing;
 mod reading;
 mod run;
+mod shapes;
 mod side_parts;
 mod sides;
 mod split;

@@ -2,11 +2,13 @@
 ghost use Rattle.std.specs.Prelude.{◌≡◌, ◌≤◌, false, length, slice_range, OnOk, IfErr};
 ghost use Rattle.lists.specs.Lists.{nothing_read};
 ghost use Rattle.cidr_merge.specs.Reading.{ReadsLists, ReadsSide};
+ghost use Rattle.cidr_merge.specs.Shapes.{source};
 ghost use Rattle.cidr_merge.specs.Stopping.{Stops};
 
+use crate::shapes::{Shape, read_one};
 use ipnetwork::{Ipv4Network, Ipv6Network};
 use ipnetwork_sets::AddressSet;
-use lists::{ListReader, OpenLists, ReadFault, Refusals, read_named};
+use lists::{ListReader, OpenLists, ReadFault, Refusals};
 use std::alloc::Global;
 
 /// The addresses of a side, by family.
@@ -22,6 +24,7 @@ pub(crate) struct Sets {
 pub(crate) fn read_side<L: OpenLists>(
     alloc: Global,
     lists: &L,
+    shape: Shape,
     words: &[String],
     from: usize,
     to: usize,
@@ -29,20 +32,22 @@ pub(crate) fn read_side<L: OpenLists>(
 ) -> (Sets, Refusals, Result<(), ReadFault>)
     requires order { from ≤ to }
     requires within { to ≤ length words.now }
-    ensures read { OnOk result.2 (ReadsSide (L.known lists.now) from
+    ensures read { OnOk result.2 (ReadsSide (source (L.known lists.now) shape) from
         (slice_range words.now from to) refusals result.0 result.1) }
-    ensures stopped { IfErr result.2 (λ fault. Stops (L.known lists.now) from
+    ensures stopped { IfErr result.2 (λ fault. Stops (source (L.known lists.now) shape) from
         (slice_range words.now from to) (nothing_read refusals) fault result.1) }
 {
     let mut reader = ListReader::new(alloc, refusals);
-    let end = read_all(lists, words, from, to, &mut reader);
+    let end = read_all(alloc, lists, shape, words, from, to, &mut reader);
     let (v4, v6, refusals) = reader.into_sets();
     (Sets { v4, v6 }, refusals, end)
 }
 
 // Reads the lists at these places.
 fn read_all<L: OpenLists>(
+    alloc: Global,
     lists: &L,
+    shape: Shape,
     words: &[String],
     from: usize,
     to: usize,
@@ -51,14 +56,14 @@ fn read_all<L: OpenLists>(
     requires order { from ≤ to }
     requires within { to ≤ length words.now }
     requires memory { reader.old.is_out_of_memory ≡ false }
-    ensures read { OnOk result (ReadsLists (L.known lists.now) from
+    ensures read { OnOk result (ReadsLists (source (L.known lists.now) shape) from
         (slice_range words.now from to) reader.old reader.new) }
     ensures memory { OnOk result (reader.new.is_out_of_memory ≡ false) }
-    ensures stopped { IfErr result (λ fault. Stops (L.known lists.now) from
+    ensures stopped { IfErr result (λ fault. Stops (source (L.known lists.now) shape) from
         (slice_range words.now from to) reader.old fault reader.new.refused) }
 {
     for place in from..to {
-        read_named(lists, words[place].as_str(), place, reader)?;
+        read_one(alloc, lists, shape, words[place].as_str(), place, reader)?;
     }
     Ok(())
 }

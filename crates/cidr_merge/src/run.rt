@@ -128,6 +128,7 @@ fn read_sides<L: OpenLists>(
     let (first, refusals, read) = read_side(
         alloc,
         lists,
+        request.shape,
         words,
         request.first,
         request.middle,
@@ -138,6 +139,7 @@ fn read_sides<L: OpenLists>(
             let (second, refusals, end) = read_side(
                 alloc,
                 lists,
+                request.shape,
                 words,
                 request.second,
                 words.len(),
@@ -149,6 +151,7 @@ fn read_sides<L: OpenLists>(
             let (second, refusals, _) = read_side(
                 alloc,
                 lists,
+                request.shape,
                 words,
                 request.second,
                 request.second,

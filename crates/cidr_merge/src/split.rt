@@ -58,6 +58,7 @@ fn split_lists<L: OpenLists, W: Write, E: Write>(
     let (sets, refusals, read) = read_side(
         alloc,
         lists,
+        request.shape,
         words,
         request.first,
         words.len(),

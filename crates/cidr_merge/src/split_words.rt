@@ -1,7 +1,8 @@
 //! What the words of a `split` ask for.
 ghost use Rattle.std.specs.Prelude.{◌≡◌, ◌≤◌, ◌+◌, ◌^◌, ◌<◌, length, IfOk, IfErr, IsTrue, MatchResult};
-ghost use Rattle.cidr_merge.specs.SplitWords.{after_skip, no_prefix, SaysLength, LengthFault, files_fault, SaysSplit, SplitFault};
+ghost use Rattle.cidr_merge.specs.SplitWords.{after_shape, after_skip, shape_at, no_prefix, SaysLength, LengthFault, files_fault, SaysSplit, SplitFault};
 
+use crate::shapes::Shape;
 use crate::usage::{Problem, UsageFault, fault_of_word, lists_fault, union_fault};
 use crate::words::{begins_dashed, stands};
 use ipnetwork::parse::read_number;
@@ -17,6 +18,8 @@ pub struct SplitRequest {
     pub length: u8,
     /// Whether refused lines are skipped.
     pub skips_bad: bool,
+    /// How the lists are written.
+    pub shape: Shape,
     /// The index of the first list among the words.
     pub first: usize,
 }
@@ -34,15 +37,49 @@ pub(crate) fn split_request(words: &[String]) -> Result<SplitRequest, UsageFault
         Ok(length) => length,
         Err(fault) => return Err(fault),
     };
-    let first = after_skip(words, place + 2);
+    let json_place = after_skip(words, place + 2);
+    let first = after_shape(words, json_place);
     if let Some(fault) = files_fault(&words[first..], first) {
         return Err(fault);
     }
     Ok(SplitRequest {
         length,
         skips_bad: stands(words, 1, "--skip-bad") || stands(words, place + 2, "--skip-bad"),
+        shape: shape_at(words, json_place),
         first,
     })
+}
+
+// How a `--json` that stands at this index, and a `--strict` behind it, say that lists are written.
+fn shape_at(words: &[String], place: usize) -> Shape
+    requires { place ≤ length words.now }
+    ensures { result ≡ shape_at words.now place }
+{
+    if !stands(words, place, "--json") {
+        return Shape::Lines;
+    }
+    if stands(words, place + 1, "--strict") {
+        Shape::StrictJson
+    } else {
+        Shape::Json
+    }
+}
+
+// The index after these.
+fn after_shape(words: &[String], place: usize) -> usize
+    requires { place ≤ length words.now }
+    ensures after { result ≡ after_shape words.now place }
+    ensures within { result ≤ length words.now }
+{
+    if place >= words.len() || text_at(words, place) != "--json" {
+        return place;
+    }
+    let next = place + 1;
+    if next < words.len() && text_at(words, next) == "--strict" {
+        next + 1
+    } else {
+        next
+    }
 }
 
 // The index after a `--skip-bad` that stands at this index, and else this index.

@@ -1,6 +1,6 @@
 //! What is wrong with words that are not a command.
 ghost use Rattle.std.specs.Prelude.{◌≡◌, ◌+◌, ◌^◌, ◌<◌, false, length, IfSome};
-ghost use Rattle.cidr_merge.specs.CommandLines.{is_option, is_name, names_form, is_exported, named_twice};
+ghost use Rattle.cidr_merge.specs.CommandLines.{is_option, is_name, names_form, is_exported, named_twice, is_strict_alone};
 ghost use Rattle.cidr_merge.specs.Usage.{problem_text, no_operation, at_word, first_not, word_problem, wrong_option, options_fault, option_problem, form_fault, lists_fault, name_problem, union_fault, no_second_side, sides_fault, fault_among};
 
 use crate::command_line::{Form, Operation, form_called, form_of};
@@ -23,6 +23,8 @@ pub enum Problem {
     RangesAndCount,
     /// `--format` is given twice, or together with `--ranges` or `--count`.
     AnotherForm,
+    /// `--strict` is given without `--json`.
+    StrictAlone,
     /// `differ` cannot be printed in this form.
     FormOfDiffer,
     /// The name of a list is empty.
@@ -61,6 +63,7 @@ impl Problem {
             Problem::NotAForm => "not a form",
             Problem::RangesAndCount => "not together with --count",
             Problem::AnotherForm => "given twice, or together with --ranges or --count",
+            Problem::StrictAlone => "only together with --json",
             Problem::FormOfDiffer => "differ can be printed only as plain or range",
             Problem::EmptyName => "not the name of a file",
             Problem::OptionAmongLists => "not a FILE; options stand before the first one",
@@ -147,6 +150,10 @@ fn options_fault(options: &[String]) -> Option<UsageFault>
         let place = place_of(options, "--format");
         return Some(fault_of_word(1 + place, Problem::AnotherForm));
     }
+    if is_strict_alone(options) {
+        let place = place_of(options, "--strict");
+        return Some(fault_of_word(1 + place, Problem::StrictAlone));
+    }
     None
 }
 
@@ -156,6 +163,13 @@ fn named_twice(options: &[String]) -> bool
 {
     is_repeated(options, "--format")
         || has(options, "--format") && (has(options, "--ranges") || has(options, "--count"))
+}
+
+// Whether `--strict` is given without `--json`.
+fn is_strict_alone(options: &[String]) -> bool
+    ensures { result ≡ is_strict_alone options.now }
+{
+    has(options, "--strict") && !has(options, "--json")
 }
 
 // The fault of the first word that is neither an option nor the value of one.
@@ -322,7 +336,12 @@ fn no_second_side(lists: &[String], first: usize) -> UsageFault
 fn is_option(word: &String) -> bool
     ensures { result ≡ is_option word.now }
 {
-    is(word, "--ranges") || is(word, "--count") || is(word, "--format") || is(word, "--skip-bad")
+    is(word, "--ranges")
+        || is(word, "--count")
+        || is(word, "--format")
+        || is(word, "--skip-bad")
+        || is(word, "--json")
+        || is(word, "--strict")
 }
 
 // The place of the first word that neither names a list nor is `--`, if there is one.

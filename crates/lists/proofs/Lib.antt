@@ -1,3 +1,4 @@
+pub mod Documents
 pub mod Handed
 pub mod EntryExamples
 pub mod EntryLawExamples

@@ -1,4 +1,5 @@
 -- What the private functions promise each other.
+pub mod Documents
 pub mod Parts
 pub mod Readings
 pub mod Taking

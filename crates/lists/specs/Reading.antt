@@ -5,7 +5,7 @@ use Rattle.lists.specs.Lists.{ReadLists, at_list, TakesLines}
 use Rattle.lists.specs.Refusals.{Refused}
 use Rattle.lists.specs.KnownLists.{KnownLists}
 use Rattle.lists.specs.declared.named.ReadFault.{ReadFault}
-use Rattle.lists.specs.declared.named.ReadFault.TheVariants.{Open, Read, OutOfMemory}
+use Rattle.lists.specs.declared.named.ReadFault.TheVariants.{Open, Read, Length, NotJson, OutOfMemory}
 
 -- the list of this name was opened, and, if its bytes are known, its lines are taken. Refused lines name the list by
 -- the number
@@ -28,6 +28,9 @@ StopsAt known number name before (Open place cause) refused = (place ≡ number)
 -- it cannot be read to its end, but some first lines are taken
 StopsAt known number name before (Read place) refused = (place ≡ number) × FailsReading known name
     × (after : ReadLists) × ReadsFirst known number name before after × (after.is_out_of_memory ≡ false) × (refused ≡ after.refused)
+-- it may have any length and any text
+StopsAt known number name before (Length place) refused = ⊥
+StopsAt known number name before (NotJson place line) refused = ⊥
 -- memory runs out for an entry of it
 StopsAt known number name before OutOfMemory refused = (after : ReadLists) × ReadsFirst known number name before after × (after.is_out_of_memory ≡ true) × (refused ≡ after.refused)
 
@@ -36,5 +39,7 @@ abbrev pub StopsAtText : ℕ → List ℕ → ReadLists → ReadFault → Refuse
 -- a text is not opened, and no read of it fails
 StopsAtText number text before (Open place cause) refused = ⊥
 StopsAtText number text before (Read place) refused = ⊥
+StopsAtText number text before (Length place) refused = ⊥
+StopsAtText number text before (NotJson place line) refused = ⊥
 -- memory runs out for an entry of it
 StopsAtText number text before OutOfMemory refused = (after : ReadLists) × TakesLines (at_list before number) (lines text) after × (after.is_out_of_memory ≡ true) × (refused ≡ after.refused)

@@ -85,7 +85,7 @@ fn read_line(line: &[u8]) -> Result<Option<Entry>, EntryFault>
 }
 
 /// The entry that a text names.
-fn read_text(text: &[u8]) -> Result<Entry, EntryFault>
+pub(crate) fn read_text(text: &[u8]) -> Result<Entry, EntryFault>
     ensures { ReadsText text.now result }
 {
     // Does nothing. The proof needs the law: other addresses of the same ends would be other ranges.

@@ -5,6 +5,7 @@
 #![tactic(auto)]
 
 mod comment;
+mod document;
 mod entry;
 mod fault;
 pub mod laws;
@@ -16,7 +17,9 @@ mod opening;
 mod range;
 mod read;
 mod refusals;
+mod strings;
 
+pub use document::{DOCUMENT_MAX, read_document};
 pub use entry::{Entry, EntryFault, read_entry};
 pub use fault::LineFault;
 pub use list_reader::ListReader;

@@ -3,10 +3,11 @@ ghost use Rattle.std.specs.Prelude.{◌≡◌, None, OnOk, Some};
 ghost use Rattle.ipnetwork_blocks.specs.Aggregate.{IsAggregate};
 ghost use Rattle.lists.specs.Entries.{IsRange};
 ghost use Rattle.lists.specs.Lists.{nothing_read, at_list, at_next_line, refusing, TakesEntry, Takes};
+ghost use Rattle.lists.specs.Documents.{TakesString};
 ghost use Rattle.lists.specs.Added.{AddsNetwork, AddsRange, AddsEntry};
 ghost use Rattle.lists.specs.Private.Taking.{IsGoodEntry};
 
-use crate::entry::{Entry, read_entry};
+use crate::entry::{Entry, read_entry, read_text};
 use crate::fault::LineFault;
 use crate::networks::Networks;
 use crate::refusals::{Refusal, Refusals};
@@ -158,6 +159,22 @@ impl ListReader {
         }
         self.next_line();
         self.refuse(LineFault::Length);
+    }
+
+    /// Takes a string of a document, unless memory has run out. One that names no entry is refused if the reading is
+    /// strict.
+    pub(crate) fn take_string(&mut self, text: &[u8], is_strict: bool)
+        ensures { TakesString is_strict self.old text.now self.new }
+    {
+        if self.is_out_of_memory() {
+            return;
+        }
+        self.next_line();
+        match read_text(text) {
+            Ok(entry) => self.take(entry),
+            Err(fault) if is_strict => self.refuse(LineFault::Entry(fault)),
+            Err(_) => {}
+        }
     }
 
     // Goes on to the next line of the list.

@@ -24,6 +24,11 @@ pub enum ReadFault {
     Open(usize, OpenFault),
     /// The list that is named by the word at this index cannot be read.
     Read(usize),
+    /// The document that is named by the word at this index has more than 1,073,741,824 bytes.
+    Length(usize),
+    /// The document that is named by the word at this index is not JSON, or has more than 127 levels: the first is the
+    /// word, and the second the line.
+    NotJson(usize, u64),
     /// Out of memory for what the lists name.
     OutOfMemory,
 }

@@ -7,7 +7,7 @@ use Rattle.lists.specs.Opening.{open_fault_text}
 use Rattle.lists.specs.Refusals.{Refused}
 use Rattle.lists.specs.declared.refusals.Refusal.{Refusal}
 use Rattle.lists.specs.declared.named.ReadFault.{ReadFault}
-use Rattle.lists.specs.declared.named.ReadFault.TheVariants.{Open, Read, OutOfMemory}
+use Rattle.lists.specs.declared.named.ReadFault.TheVariants.{Open, Read, Length, NotJson, OutOfMemory}
 
 -- the word at an index; past the last word, nothing
 abbrev pub name_at : {Z : Type 0} → List (String Z) → ℕ → List ℕ
@@ -42,4 +42,6 @@ refusals_text words place refused =
 abbrev pub fault_text : {Z : Type 0} → List (String Z) → ReadFault → List ℕ
 fault_text words (Open place cause) = name_at words place ++ open_fault_text cause
 fault_text words (Read place) = name_at words place ++ codes ": cannot read\n"
+fault_text words (Length place) = name_at words place ++ codes ": more than 1,073,741,824 bytes\n"
+fault_text words (NotJson place line) = name_at words place ++ codes ":" ++ decimal line ++ codes ": not JSON, or more than 127 levels\n"
 fault_text words OutOfMemory = codes "out of memory\n"

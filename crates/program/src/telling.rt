@@ -147,6 +147,16 @@ pub fn tell_fault<E: Write>(words: &[String], fault: ReadFault, errors: &mut Out
             tell_name(words, place, errors);
             tell(": cannot read\n", errors);
         }
+        ReadFault::Length(place) => {
+            tell_name(words, place, errors);
+            tell(": more than 1,073,741,824 bytes\n", errors);
+        }
+        ReadFault::NotJson(place, line) => {
+            tell_name(words, place, errors);
+            tell(":", errors);
+            tell_number(line, errors);
+            tell(": not JSON, or more than 127 levels\n", errors);
+        }
         ReadFault::OutOfMemory => tell("out of memory\n", errors),
     }
 }

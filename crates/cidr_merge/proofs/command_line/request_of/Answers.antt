@@ -19,6 +19,6 @@ returns-clause-asked c =
     let options = take n others in
     let lists = take (length others - n) (drop n others) in
     let right = all_right c.in-Some-operation_of.operation options lists (sym c.fault_of.ensures ∙ c.in_default-fault_of.is) in
-    said c.args.words.now c.in-Some.name.now others options lists c.in-Some-operation_of.operation c.form_of.result c.has.result n c.place_of.result
+    said c.args.words.now c.in-Some.name.now others options lists c.in-Some-operation_of.operation c.form_of.result c.has.result c.shape_of.result n c.place_of.result
     c.min.result (search rules) (search rules) c.options_count-count.ensures.count refl (take_rest others n) c.place_of.ensures.place c.min.ensures
-    right.0 right.1 right.2 right.3 (c.form_of.ensures ∙ ap (λ usual. form_of usual options) c.usual_form.ensures) c.has.ensures
+    right.0 right.1 right.2 right.3 (c.form_of.ensures ∙ ap (λ usual. form_of usual options) c.usual_form.ensures) c.has.ensures c.shape_of.ensures

@@ -1,4 +1,5 @@
 use Rattle.cidr_merge.proofs.Runs.{sides_ok, first_stopped, second_stopped}
+use Rattle.cidr_merge.specs.Shapes.{source}
 use Rattle.cidr_merge.proofs.Stopping.{none_refused}
 use Rattle.cidr_merge.proofs.run.read_sides.Goals as goal
 
@@ -22,4 +23,4 @@ returns-in-Err-clause-stopped g c =
     let none = c.read_side-second-in-Err.result in
     let known = (g.L.OpenLists.known c.args.lists.now) in
     first_stopped firsts.2 c.in-Err.fault known c.args.words.now c.args.request c.new.result firsts.1 none.1 c.new.ensures c.in-Err.is c.read_side-first.ensures.stopped
-    (none_refused none.2 known c.args.words.now c.args.request.second firsts.1 none.0 none.1 c.read_side-second-in-Err.ensures.read c.read_side-second-in-Err.ensures.stopped)
+    (none_refused none.2 (source known c.args.request.shape) c.args.words.now c.args.request.second firsts.1 none.0 none.1 c.read_side-second-in-Err.ensures.read c.read_side-second-in-Err.ensures.stopped)

@@ -1,0 +1,38 @@
+-- How lists are written, and what is read of one.
+use Rattle.std.specs.Prelude.{ℕ, true, false, List}
+use Rattle.lists.specs.Documents.{ReadsDocument, StopsAtDocument}
+use Rattle.lists.specs.KnownLists.{KnownLists}
+use Rattle.lists.specs.Lists.{ReadLists}
+use Rattle.lists.specs.Reading.{ReadsList, StopsAt}
+use Rattle.lists.specs.Refusals.{Refused}
+use Rattle.lists.specs.declared.named.ReadFault.{ReadFault}
+use Rattle.cidr_merge.specs.declared.shapes.Shape.{Shape}
+use Rattle.cidr_merge.specs.declared.shapes.Shape.TheVariants.{Lines, Json, StrictJson}
+
+-- what is known of lists, and how they are written
+pub record Source : Type 1 where
+  pub known : KnownLists
+  pub shape : Shape
+
+abbrev pub source : KnownLists → Shape → Source
+source known shape = record { known = known; shape = shape }
+
+-- the list of this name and number is read
+abbrev pub ReadsBy : Shape → KnownLists → ℕ → List ℕ → ReadLists → ReadLists → Type 0
+-- its lines are taken
+ReadsBy Lines known number name before after = ReadsList known number name before after
+-- or the strings of its document
+ReadsBy Json known number name before after = ReadsDocument known false number name before after
+ReadsBy StrictJson known number name before after = ReadsDocument known true number name before after
+
+abbrev pub ReadsOne : Source → ℕ → List ℕ → ReadLists → ReadLists → Type 0
+ReadsOne source number name before after = ReadsBy source.shape source.known number name before after
+
+-- the reading stops at it
+abbrev pub StopsBy : Shape → KnownLists → ℕ → List ℕ → ReadLists → ReadFault → Refused → Type 0
+StopsBy Lines known number name before fault refused = StopsAt known number name before fault refused
+StopsBy Json known number name before fault refused = StopsAtDocument known false number name before fault refused
+StopsBy StrictJson known number name before fault refused = StopsAtDocument known true number name before fault refused
+
+abbrev pub StopsOne : Source → ℕ → List ℕ → ReadLists → ReadFault → Refused → Type 0
+StopsOne source number name before fault refused = StopsBy source.shape source.known number name before fault refused

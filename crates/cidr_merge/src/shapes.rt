@@ -1,0 +1,55 @@
+//! How lists are written, and how one is read.
+ghost use Rattle.std.specs.Prelude.{◌≡◌, false, OnOk, IfErr};
+ghost use Rattle.cidr_merge.specs.CommandLines.{shape_of};
+ghost use Rattle.cidr_merge.specs.Shapes.{source, ReadsOne, StopsOne};
+
+use crate::words::has;
+use lists::{ListReader, OpenLists, ReadFault, read_document, read_named};
+use std::alloc::Global;
+
+/// How lists are written.
+#[derive(Clone, Copy, Debug, PartialEq, Eq)]
+pub enum Shape {
+    /// An entry in a line.
+    Lines,
+    /// As documents of JSON, of which the strings that name no entry are passed over.
+    Json,
+    /// As documents of JSON, of which these strings are refused.
+    StrictJson,
+}
+
+/// How these options say that lists are written.
+pub(crate) fn shape_of(options: &[String]) -> Shape
+    ensures { result ≡ shape_of options.now }
+{
+    if !has(options, "--json") {
+        return Shape::Lines;
+    }
+    if has(options, "--strict") {
+        Shape::StrictJson
+    } else {
+        Shape::Json
+    }
+}
+
+/// Opens the list of this name, which is the word at the index `place`, reads it to the end, and closes it.
+pub(crate) fn read_one<L: OpenLists>(
+    alloc: Global,
+    lists: &L,
+    shape: Shape,
+    name: &str,
+    place: usize,
+    reader: &mut ListReader,
+) -> Result<(), ReadFault>
+    ensures read { OnOk result
+        (ReadsOne (source (L.known lists.now) shape) place name.now reader.old reader.new) }
+    ensures memory { OnOk result (reader.new.is_out_of_memory ≡ false) }
+    ensures stopped { IfErr result (λ fault. StopsOne (source (L.known lists.now) shape) place
+        name.now reader.old fault reader.new.refused) }
+{
+    match shape {
+        Shape::Lines => read_named(lists, name, place, reader),
+        Shape::Json => read_document(alloc, lists, name, place, false, reader),
+        Shape::StrictJson => read_document(alloc, lists, name, place, true, reader),
+    }
+}

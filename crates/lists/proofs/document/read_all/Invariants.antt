@@ -1,0 +1,14 @@
+use Rattle.std.proofs.Common.{◌≡◌, ◌+◌, length}
+use Rattle.std.specs.Io.KnownBytes.{Consumes}
+use Rattle.lines.specs.Watched.{device_of, has_failed}
+use Rattle.lists.proofs.document.read_all.Given as goal
+
+abbrev pub invariant-reads : goal.invariant-reads
+invariant-reads g l = record {
+  reads : Consumes (g.R.Read.remaining (device_of l.initial.reader)) (g.R.Read.remaining (device_of l.reader)) l.bytes.items;
+  counted : length l.bytes.items + l.room ≡ 1073741824;
+  works : has_failed l.reader ≡ has_failed l.initial.reader;
+}
+
+abbrev pub decreases-reads : goal.decreases-reads
+decreases-reads g l = l.room

@@ -1,0 +1,75 @@
+-- Documents of JSON that are lists: their strings, and what is taken of them.
+use Rattle.std.specs.Prelude.{◌≡◌, ◌⊎◌, ◌<◌, ℕ, Bool, true, false, IsUtf8, List, [], ◌∷◌, ◌++◌, length, None, Some, Result, Ok, Err}
+use Rattle.serde_json.specs.Data.{Data, null, boolean, number, string, array, object, Items, no_items, item, Members, no_members, member}
+use Rattle.serde_json.specs.Read.{read}
+use Rattle.lists.specs.Entries.{ReadsText}
+use Rattle.lists.specs.KnownLists.{KnownLists}
+use Rattle.lists.specs.Lists.{ReadLists, at_list, at_next_line, refusing, TakesEntry}
+use Rattle.lists.specs.Refusals.{Refused}
+use Rattle.lists.specs.declared.entry.Entry.{Entry}
+use Rattle.lists.specs.declared.entry.EntryFault.{EntryFault}
+use Rattle.lists.specs.declared.fault.LineFault.TheVariants as faults
+use Rattle.lists.specs.declared.named.ReadFault.{ReadFault}
+use Rattle.lists.specs.declared.named.ReadFault.TheVariants.{Open, Read, Length, NotJson, OutOfMemory}
+
+-- the strings of a value, at any depth: those of the elements of an array and of the values of an object, in their
+-- order. A key is none of them
+abbrev mutual
+  pub strings_of : Data → List (List ℕ)
+  strings_of null = []
+  strings_of (boolean b) = []
+  strings_of (number n) = []
+  strings_of (string text) = text ∷ []
+  strings_of (array values) = strings_of_items values
+  strings_of (object members) = strings_of_members members
+
+  pub strings_of_items : Items → List (List ℕ)
+  strings_of_items no_items = []
+  strings_of_items (item value values) = strings_of value ++ strings_of_items values
+
+  pub strings_of_members : Members → List (List ℕ)
+  strings_of_members no_members = []
+  strings_of_members (member key value members) = strings_of value ++ strings_of_members members
+
+-- a string names an entry, which is taken; any other is refused if the reading is strict, and else passed over
+abbrev pub TakesText : Bool → ReadLists → Result Entry EntryFault → ReadLists → Type 0
+TakesText strict before (Ok entry) after = TakesEntry before entry after
+TakesText true before (Err fault) after = after ≡ refusing before (faults.Entry fault)
+TakesText false before (Err fault) after = after ≡ before
+
+-- once memory has run out, no string is taken. Strings are counted as lines are
+abbrev pub TakesString : Bool → ReadLists → List ℕ → ReadLists → Type 0
+TakesString strict before text after = ((before.is_out_of_memory ≡ true) × (after ≡ before))
+    ⊎ ((before.is_out_of_memory ≡ false) × ((reading : Result Entry EntryFault) × ReadsText text reading × TakesText strict (at_next_line before) reading after))
+
+-- these strings are taken in turn
+abbrev pub TakesStrings : Bool → ReadLists → List (List ℕ) → ReadLists → Type 0
+TakesStrings strict before [] after = after ≡ before
+TakesStrings strict before (text ∷ texts) after = (between : ReadLists) × TakesString strict before text between × TakesStrings strict between texts after
+
+-- the bytes are a document, of which the strings are taken
+abbrev pub TakesDocument : Bool → ReadLists → List ℕ → ReadLists → Type 0
+TakesDocument strict before bytes after = IsUtf8 bytes × ((document : Data) × (read bytes ≡ Some document) × TakesStrings strict before (strings_of document) after)
+
+-- the document of this name was opened, and, if its bytes are known, its strings are taken. Refused strings name it by
+-- the number
+abbrev pub ReadsDocument : KnownLists → Bool → ℕ → List ℕ → ReadLists → ReadLists → Type 0
+ReadsDocument known strict list name before after =
+    known.may_open name true × ((input : List ℕ) → known.bytes_of name ≡ Some input → TakesDocument strict (at_list before list) input after)
+
+-- the reading stops at the document of this name and number, and these are the refused strings then
+abbrev pub StopsAtDocument : KnownLists → Bool → ℕ → List ℕ → ReadLists → ReadFault → Refused → Type 0
+-- it is not opened, for this cause
+StopsAtDocument known strict list name before (Open place cause) refused =
+    (place ≡ list) × known.may_open name false × known.may_miss name cause × (refused ≡ before.refused)
+-- a read of it fails
+StopsAtDocument known strict list name before (Read place) refused = (place ≡ list) × known.may_open name true × known.may_fail name × (refused ≡ before.refused)
+-- it has more than 1,073,741,824 bytes
+StopsAtDocument known strict list name before (Length place) refused =
+    (place ≡ list) × known.may_open name true × ((input : List ℕ) → known.bytes_of name ≡ Some input → 1073741824 < length input) × (refused ≡ before.refused)
+-- its bytes are no document
+StopsAtDocument known strict list name before (NotJson place line) refused =
+    (place ≡ list) × known.may_open name true × ((input : List ℕ) → known.bytes_of name ≡ Some input → IsUtf8 input → read input ≡ None) × (refused ≡ before.refused)
+-- memory runs out for it, or for an entry of it
+StopsAtDocument known strict list name before OutOfMemory refused =
+    (refused ≡ before.refused) ⊎ ((after : ReadLists) × ReadsDocument known strict list name before after × (after.is_out_of_memory ≡ true) × (refused ≡ after.refused))

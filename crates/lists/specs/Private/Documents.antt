@@ -1,0 +1,55 @@
+-- The bytes of a document, and what is taken of them.
+use Rattle.std.specs.Prelude.{◌≡◌, ◌<◌, ◌⊎◌, ℕ, Bool, true, false, IsTrue, IsUtf8, List, length, Option, None, Some, Result, Ok, Err}
+use Rattle.std.specs.Io.KnownBytes.{Consumes, IsAtEnd}
+use Rattle.serde_json.specs.Read.{read}
+use Rattle.lists.specs.Documents.{TakesDocument}
+use Rattle.lists.specs.KnownLists.{KnownLists}
+use Rattle.lists.specs.Lists.{ReadLists, at_list}
+use Rattle.lists.specs.declared.named.ReadFault.{ReadFault}
+use Rattle.lists.specs.declared.named.ReadFault.TheVariants.{Open, Read, Length, NotJson, OutOfMemory}
+
+-- the document of this name was opened, and these are its bytes, if they are known
+abbrev pub IsAllOf : KnownLists → List ℕ → List ℕ → Type 0
+IsAllOf known name bytes = known.may_open name true × ((input : List ℕ) → known.bytes_of name ≡ Some input → bytes ≡ input)
+
+-- these bytes were read, and there are no more
+abbrev pub ReadsAll : Option (List ℕ) → Option (List ℕ) → List ℕ → Type 0
+ReadsAll remained remains bytes = Consumes remained remains bytes × IsAtEnd remains
+
+-- they were not read to the end: a read failed, or there are more than 1,073,741,824, or memory ran out
+abbrev pub StopsReading : Option (List ℕ) → Option (List ℕ) → Bool → ℕ → ReadFault → Type 0
+StopsReading remained remains failed number (Open place cause) = ⊥
+StopsReading remained remains failed number (Read place) = (place ≡ number) × IsTrue failed
+StopsReading remained remains failed number (Length place) = (place ≡ number) × ((read : List ℕ) × Consumes remained remains read × (1073741824 < length read))
+StopsReading remained remains failed number (NotJson place line) = ⊥
+StopsReading remained remains failed number OutOfMemory = Unit {0}
+
+-- whether a read ended the reading
+abbrev pub ended_by_read : {T : Type 0} → Result T ReadFault → Bool
+ended_by_read (Ok bytes) = false
+ended_by_read (Err (Open place cause)) = false
+ended_by_read (Err (Read place)) = true
+ended_by_read (Err (Length place)) = false
+ended_by_read (Err (NotJson place line)) = false
+ended_by_read (Err OutOfMemory) = false
+
+-- the bytes of the document of this name and number were not read, for this reason
+abbrev pub BytesStop : KnownLists → ℕ → List ℕ → ReadFault → Type 0
+BytesStop known number name (Open place cause) = (place ≡ number) × known.may_open name false × known.may_miss name cause
+BytesStop known number name (Read place) = (place ≡ number) × known.may_open name true × known.may_fail name
+BytesStop known number name (Length place) =
+    (place ≡ number) × known.may_open name true × ((input : List ℕ) → known.bytes_of name ≡ Some input → 1073741824 < length input)
+BytesStop known number name (NotJson place line) = ⊥
+BytesStop known number name OutOfMemory = Unit {0}
+
+-- the strings of the document of these bytes are taken, and whether memory ran out
+abbrev pub TakesBytes : Bool → ReadLists → List ℕ → ReadLists → Bool → Type 0
+TakesBytes strict before bytes after out = TakesDocument strict before bytes after × (after.is_out_of_memory ≡ out)
+
+-- they are not, or memory runs out
+abbrev pub FailsBytes : Bool → ℕ → List ℕ → ReadLists → ReadLists → ReadFault → Type 0
+FailsBytes strict number bytes before after (Open place cause) = ⊥
+FailsBytes strict number bytes before after (Read place) = ⊥
+FailsBytes strict number bytes before after (Length place) = ⊥
+FailsBytes strict number bytes before after (NotJson place line) = (place ≡ number) × (IsUtf8 bytes → read bytes ≡ None) × (after.refused ≡ before.refused)
+FailsBytes strict number bytes before after OutOfMemory = (after.refused ≡ before.refused) ⊎ TakesBytes strict (at_list before number) bytes after true

@@ -1,0 +1,206 @@
+"""Rows of `tests/cidr_merge` for documents of JSON, beside Python's `json` and `ipaddress`: a name, what a run gave and what
+is wanted, which is the status, standard output and standard error."""
+
+import ipaddress
+import json
+import os
+import random
+import subprocess
+
+SECONDS = 60
+LONGEST = 1 << 30
+
+# Three documents in the shapes that providers publish.
+AWS = {
+    "syncToken": "1712345678",
+    "createDate": "2024-04-05-19-34-38",
+    "prefixes": [
+        {"ip_prefix": "3.5.140.0/22", "region": "ap-northeast-2", "service": "AMAZON", "network_border_group": "ap-northeast-2"},
+        {"ip_prefix": "3.5.144.0/23", "region": "us-east-1", "service": "S3", "network_border_group": "us-east-1"},
+        {"ip_prefix": "3.5.146.0/23", "region": "us-east-1", "service": "S3", "network_border_group": "us-east-1"},
+    ],
+    "ipv6_prefixes": [{"ipv6_prefix": "2600:1f00::/24", "region": "GLOBAL", "service": "EC2", "network_border_group": "GLOBAL"}],
+}
+GOOGLE = {
+    "syncToken": "1712345678123",
+    "creationTime": "2024-04-05T19:34:38.123",
+    "prefixes": [{"ipv4Prefix": "8.8.4.0/24"}, {"ipv4Prefix": "8.8.8.0/24"}, {"ipv6Prefix": "2001:4860::/32"}],
+}
+AZURE = {
+    "changeNumber": 300,
+    "cloud": "Public",
+    "values": [
+        {
+            "name": "ActionGroup.AustraliaCentral",
+            "id": "ActionGroup.AustraliaCentral",
+            "properties": {
+                "changeNumber": 9,
+                "region": "australiacentral",
+                "regionId": 58,
+                "platform": "Azure",
+                "systemService": "ActionGroup",
+                "addressPrefixes": ["4.145.74.52/30", "20.36.103.16/28", "2603:1010:304::180/121"],
+                "networkFeatures": ["API", "NSG", "UDR", "FW"],
+            },
+        }
+    ],
+}
+
+# Strings that name no entry, though some have one in them.
+OTHERS = [
+    "", " ", "us-east-1", "AMAZON", "2024-04-05-19-34-38", "10.0.0.0/33", "10.0.0", "10.0.0.0/8 ", "10.0.0.0/8 # office",
+    "10.0.0.0/8\n", "10.0.0.9-10.0.0.1", "::1-10.0.0.1", "10.0.0.0/8/8", "x", "-", "\u00e9", "10.0.0.0/8;", "[10.0.0.1]",
+]  # fmt: skip
+
+NOT_JSON = [
+    b"", b"\n\n", b"{", b"[\n1,\n2", b"10.0.0.0/8\n10.1.0.0/16\n", b'["10.0.0.0/8",\n"10.1.0.0/16"\n', b'["10.0.0.0/8"]\n\n]',
+    b'{\n "a": "10.0.0.0/8",\n "b" "c"\n}\n', b"['10.0.0.0/8']", b'["10.0.0.0/8"\n\n"10.1.0.0/16"]', b'{"a":\n\nnul}', b"# none\n",
+]  # fmt: skip
+
+
+def run(program, words, folder, data=b""):
+    pipes = {"stdout": subprocess.PIPE, "stderr": subprocess.PIPE}
+    done = subprocess.run([program, *words], input=data, cwd=folder, timeout=SECONDS, **pipes)
+    return done.returncode, done.stdout, done.stderr
+
+
+def strings(value):
+    """The strings of a value at any depth, those of an object in the order of its keys, which are none of them."""
+    if isinstance(value, str):
+        yield value
+    elif isinstance(value, list):
+        for each in value:
+            yield from strings(each)
+    elif isinstance(value, dict):
+        for key in sorted(value):
+            yield from strings(value[key])
+
+
+def entry(text):
+    """The networks of the entry that a string names, or None."""
+    try:
+        if "-" not in text:
+            return [ipaddress.ip_network(text, strict=False)]
+        first, last = (ipaddress.ip_address(end.strip(" \t")) for end in text.split("-", 1))
+        return list(ipaddress.summarize_address_range(first, last))
+    except (ValueError, TypeError):
+        return None
+
+
+def union(documents):
+    """The lines of the shortest list of what the strings of the documents name."""
+    nets = [net for document in documents for text in strings(document) for net in entry(text) or []]
+    of_family = ([net for net in nets if net.version == version] for version in (4, 6))
+    return "".join(f"{net}\n" for family in of_family for net in ipaddress.collapse_addresses(family)).encode()
+
+
+def named(rng):
+    """A string that names an entry."""
+    kind, bits = rng.choice([(ipaddress.IPv4Address, 32), (ipaddress.IPv6Address, 128)])
+    address = rng.randrange(2**bits)
+    if rng.randrange(3):
+        return f"{kind(address)}/{rng.randrange(8, bits + 1)}" if rng.randrange(4) else str(kind(address))
+    last = min(address + rng.randrange(1000), 2**bits - 1)
+    return f"{kind(address)}{rng.choice(['-', ' - ', chr(9) + '-'])}{kind(last)}"
+
+
+def made_up(rng, depth):
+    """A value with some strings of both kinds in it."""
+    kind = rng.randrange(7 if depth else 5)
+    if kind < 3:
+        return named(rng) if rng.randrange(2) else rng.choice(OTHERS)
+    if kind < 5:
+        return rng.choice([None, True, False, 0, -1, 1.5, 10**30])
+    values = [made_up(rng, depth - 1) for _ in range(rng.randrange(6))]
+    if kind == 5:
+        return values
+    return {rng.choice(OTHERS + ["10.0.0.0/8", "::/0"]) + str(rng.randrange(3)): value for value in values}
+
+
+def write(folder, name, data):
+    with open(os.path.join(folder, name), "wb") as file:
+        file.write(data)
+
+
+def documents(program, folder):
+    """The documents of providers, made-up ones, and what is no document."""
+    for name, document in [("aws", AWS), ("google", GOOGLE), ("azure", AZURE)]:
+        write(folder, name, json.dumps(document, indent=2).encode())
+    for words, wanted in [
+        ("union --json aws", union([AWS])),
+        ("union --json google", union([GOOGLE])),
+        ("union --json azure", union([AZURE])),
+        ("union --json aws google azure", union([AWS, GOOGLE, AZURE])),
+        ("common --json aws google -- google azure", union([GOOGLE])),
+        ("minus --json aws google -- google", union([AWS])),
+        ("list --json --format plain google", union([GOOGLE])),
+        ("split --prefix 16 --json google", union([GOOGLE])),
+        ("split --prefix 23 --skip-bad --json aws google", b"3.5.140.0/23\n3.5.142.0/23\n3.5.144.0/23\n3.5.146.0/23\n"
+         b"8.8.4.0/24\n8.8.8.0/24\n2001:4860::/32\n2600:1f00::/24\n"),
+    ]:
+        yield words, run(program, words.split(), folder), (0, wanted, b"")
+    yield "differ", run(program, ["differ", "--json", "aws", "--", "aws"], folder), (0, b"", b"")
+
+    for text, wanted in [
+        (b'"10.0.0.0/8"', b"10.0.0.0/8\n"),
+        (b' [ "\\u0031\\u0030.0.0.0\\/8" ]\r\n', b"10.0.0.0/8\n"),
+        (b'{"10.0.0.0/8": 1}', b""),
+        (b'{"a": "10.0.0.0/8", "a": "11.0.0.0/8"}', b"11.0.0.0/8\n"),
+        (b"null", b""),
+        (b'["::/0", 10.5, "10.0.0.0/8\\n"]', b"::/0\n"),
+        (b'["10.0.0.0/' + b"0" * 2000 + b'8"]', b"10.0.0.0/8\n"),
+        (b"[" * 127 + b'"10.0.0.0/8"' + b"]" * 127, b"10.0.0.0/8\n"),
+    ]:
+        yield f"{text[:40]}", run(program, ["union", "--json", "-"], folder, text), (0, wanted, b"")
+    told = b"-:1: not JSON, or more than 127 levels\n"
+    for text in (b"[" * 128 + b'"10.0.0.0/8"' + b"]" * 128, b"\xef\xbb\xbf[]", b'["\xff"]', b"[1e999]"):
+        yield f"{text[:40]}", run(program, ["union", "--json", "-"], folder, text), (2, b"", told)
+    yield from refused(program, folder)
+    yield from of_length(program, folder)
+
+    for seed in range(150):
+        rng = random.Random(seed)
+        document = [made_up(rng, 4) for _ in range(rng.randrange(1, 12))]
+        indent = rng.choice([None, 1])
+        write(folder, "made_up", json.dumps(document, indent=indent, ensure_ascii=bool(seed % 2)).encode())
+        yield f"--json, seed {seed}", run(program, ["union", "--json", "made_up"], folder), (0, union([document]), b"")
+        others = [place for place, text in enumerate(strings(document), 1) if entry(text) is None]
+        status, output, error = run(program, ["union", "--strict", "--json", "made_up"], folder)
+        places = [int(line.split(b":")[1]) for line in error.splitlines()]
+        wanted = (2, b"", others) if others else (0, union([document]), [])
+        yield f"--strict, seed {seed}", (status, output, places), wanted
+
+
+def refused(program, folder):
+    """Strings that are refused, words that are wrong, and documents that are none, with the lines that Python tells."""
+    write(folder, "mixed", b'["10.0.0.0/8", "x", {"b": "1.2.3.4/33", "a": "2.0.0.0-1.0.0.0"}, "10.0.0.0/8/8"]')
+    told = b"mixed:2: refused address\nmixed:3: refused range\nmixed:4: refused prefix\nmixed:5: refused format\n"
+    for words, wanted in [
+        ("union --json --strict mixed", (2, b"", told)),
+        ("union --json --strict --skip-bad mixed", (3, b"10.0.0.0/8\n", told)),
+        ("split --prefix 8 --json --strict mixed", (2, b"", told)),
+        ("split --prefix 8 --skip-bad --json --strict mixed", (3, b"10.0.0.0/8\n", told)),
+        ("union --json mixed", (0, b"10.0.0.0/8\n", b"")),
+        ("minus --json --strict google -- mixed", (2, b"", b"google:1: refused address\ngoogle:5: refused address\n" + told)),
+        ("union --json missing", (2, b"", b"missing: cannot open: no such file\n")),
+        ("union --json .", (2, b"", b".: cannot open: is a directory\n")),
+    ]:
+        yield words, run(program, words.split(), folder), wanted
+    for place, text in enumerate(NOT_JSON):
+        write(folder, "none", text)
+        line = 0
+        try:
+            json.loads(text)
+        except json.JSONDecodeError as error:
+            line = error.lineno
+        told = f"none:{line}: not JSON, or more than 127 levels\n".encode()
+        yield f"no document, {place}: {text}", run(program, ["union", "--json", "google", "none"], folder), (2, b"", told)
+
+
+def of_length(program, folder):
+    """The longest document, and one that is longer by a byte."""
+    text = b'["10.0.0.0/8"]'
+    blanks = b" " * (LONGEST - len(text))
+    yield "the longest document", run(program, ["union", "--json", "-"], folder, text + blanks), (0, b"10.0.0.0/8\n", b"")
+    told = b"-: more than 1,073,741,824 bytes\n"
+    yield "a longer document", run(program, ["union", "--json", "-"], folder, text + blanks + b" "), (2, b"", told)
