@@ -1,6 +1,6 @@
 //! The calls of networks of either family.
 ghost use Rattle.std.specs.Prelude.{◌≡◌};
-ghost use Rattle.ipnetwork.specs.IpNetworkText.{ReadsIpNetwork};
+ghost use Rattle.ipnetwork.specs.IpNetworkText.{ReadsIpNetwork, TellsIpCause};
 ghost use Rattle.ipnetwork_c.specs.Either.{HoldsIp, ReadsWithCause, MemberQuery, address_in as address_in_c};
 ghost use Rattle.ipnetwork_c.specs.Answers.{ReadsInto};
 
@@ -29,26 +29,25 @@ pub extern "C" fn ipnetwork_read(text: &[u8], network: &mut IpInC) -> u32
 pub extern "C" fn ipnetwork_read_with_cause(text: &[u8], network: &mut IpInC) -> u32
     ensures { ReadsInto ReadsWithCause HoldsIp text.now network.old network.new result }
 {
-    match network_or_cause(text) {
+    match IpNetwork::read_bytes(text) {
         Ok(read) => {
             *network = IpInC::of(&read);
             OK
         }
-        Err(cause) => fault::number_of(cause),
-    }
-}
-
-/// The network of either family that a text names, or why it names none. Only a text that is refused is looked at again.
-fn network_or_cause(text: &[u8]) -> Result<IpNetwork, CidrFault>
-    ensures { ReadsWithCause text.now result }
-{
-    match IpNetwork::read_bytes(text) {
-        Ok(read) => Ok(read),
-        Err(_) => match cause(text) {
-            Some(cause) => Err(cause),
+        Err(_) => match refusal_of(text) {
+            Some(cause) => fault::number_of(cause),
             None => unreachable!(),
         },
     }
+}
+
+/// Why a text names no network of either family, if it names none. It stands apart so that reading a text that names one
+/// is all that a column's loop has in it.
+#[inline(never)]
+fn refusal_of(text: &[u8]) -> Option<CidrFault>
+    ensures { TellsIpCause text.now result }
+{
+    cause(text)
 }
 
 /// Whether an address of 4 or 16 octets lies in the network's set, as 1 or 0. No address of the other family does.
