@@ -10,32 +10,25 @@ use Rattle.std.proofs.lemmas.List.Folds.{list_all-append}
 use Rattle.std.proofs.lemmas.Nat.{mul-add-lt}
 use Rattle.lines.specs.LineBuffers.{Buffered, IsPending, HandsOut, Gives, Receives, work}
 use Rattle.lines.specs.Outputs.{Puts}
-use Rattle.lines.specs.declared.line_buffer.NextLine.TheVariants.{Line, TooLong, Ask}
+use Rattle.lines.specs.declared.line_buffer.NextLine.TheVariants.{Line, Ask}
 use Rattle.lines.specs.declared.line_end.LineEnd.{LineEnd}
 use Rattle.lines.proofs.BytesLemmas.{HasNo}
 use Rattle.lines.proofs.HandingOut.{has_no}
 use Rattle.lines.proofs.Putting.{puts_nothing, puts_out, puts_more}
 use Rattle.cidr_join.specs.Joins.{address_in, Finds, output_of}
-use Rattle.cidr_join.specs.Lines.{LogLine, log_lines, content, printed}
-use Rattle.cidr_join.specs.Stands.{Stand, Counts, Goes}
+use Rattle.program.specs.LogLines.{LogLine, log_lines, content, printed, feed_behind, log_line}
+use Rattle.cidr_join.specs.Stands.{Stand, Goes}
+use Rattle.program.specs.Counts.{Counts}
 use Rattle.ipnetwork.specs.declared.ip_network.IpNetwork.{IpNetwork}
-use Rattle.cidr_join.specs.Private.Progress.{feed_behind, shown, JoinsLine, AreFirst, JoinsSoFar}
+use Rattle.cidr_join.specs.Private.Progress.{shown, JoinsLine, JoinsSoFar}
+use Rattle.program.specs.LogReaders.{AreFirst}
 use Rattle.cidr_join.specs.declared.join.Join.{Join}
 use Rattle.cidr_join.specs.declared.value.Value.{Value}
-use Rattle.cidr_join.proofs.Handed.{log_line, printed_is, IsFirstOf, handed_first}
+use Rattle.program.proofs.Counts.{counts_more, counts_none}
+use Rattle.program.proofs.HandedLines.{printed_is, IsFirstOf, handed_first}
 use Rattle.cidr_join.proofs.LogParts.{both}
 
 -- ---- stands
-
-pub counts_more : (old mid new first second : ℕ) → Counts old mid first → Counts mid new second
-    → Counts old new (first + second)
-counts_more old mid new first second f g within =
-    let one = f within in
-    let two = g (omega (arith, one)) in
-    omega (arith, one, two)
-
-pub counts_none : (old new : ℕ) → new ≡ old → Counts old new 0
-counts_none old new same within = omega (arith, within, same)
 
 pub goes_nowhere : (old : Stand) → Goes old old [] 0
 goes_nowhere old = (

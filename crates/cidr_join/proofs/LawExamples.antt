@@ -7,7 +7,7 @@ use Rattle.program.specs.declared.usage.Subject.TheVariants as subjects
 use Rattle.cidr_join.specs.CommandLines.{AsksNothing}
 use Rattle.cidr_join.specs.Joins.{Joins}
 use Rattle.cidr_join.specs.Laws.{LogsHaveOneOutput, OutputsOfPartsFollow, Tallies, TalliesOfPartsAddUp, is_one_of, begins_with, is_option_word, OthersAreNoOptions, OthersAskForNothing, WordsHaveOneFault}
-use Rattle.cidr_join.specs.Lines.{log_lines}
+use Rattle.program.specs.LogLines.{log_lines}
 use Rattle.cidr_join.specs.Options.{option_of}
 use Rattle.cidr_join.specs.Tallies.{Row, counted_by}
 use Rattle.cidr_join.specs.Usage.{about, HasFault}

@@ -1,9 +1,7 @@
 pub mod Failing
 pub mod Faults
-pub mod Handed
 pub mod Joining
 pub mod LawExamples
-pub mod LogLines
 pub mod LogParts
 pub mod LogsInTurn
 pub mod Marks

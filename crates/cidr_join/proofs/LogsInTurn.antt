@@ -1,5 +1,5 @@
 -- Logs that are joined in turn.
-use Rattle.std.proofs.Common.{◌≡◌, ◌+◌, ◌-◌, ◌^◌, ◌++◌, ◌∷◌, ◌∙◌, ◌==◌, [], ℕ, Bool, List, true, false, cond, inl, inr, refl, sym, ap, subst, arith, length, min, append_assoc, append-nil}
+use Rattle.std.proofs.Common.{◌≡◌, ◌-◌, ◌^◌, ◌++◌, ◌∷◌, ◌∙◌, ◌==◌, [], ℕ, Bool, List, true, false, cond, inl, inr, refl, sym, ap, subst, arith, length, min, append_assoc, append-nil}
 use Rattle.std.specs.Prelude.{Option, None, Some, IsTrue, filter}
 use Rattle.std.specs.List.{slice_split}
 use Rattle.std.specs.Io.KnownBytes.{Appends, Consumes, IsAtEnd}
@@ -10,10 +10,12 @@ use Rattle.lines.specs.Outputs.{Written, Puts, AppendsBeginning, Prints}
 use Rattle.lines.proofs.Putting.{puts_nothing, puts_more}
 use Rattle.lists.specs.KnownLists.{KnownLists}
 use Rattle.lists.specs.declared.opening.OpenFault.{OpenFault}
-use Rattle.cidr_join.specs.Lines.{LogLine, lines_in, log_lines, ended_lines}
+use Rattle.program.specs.LogLines.{LogLine, lines_in, log_lines, ended_lines}
 use Rattle.cidr_join.specs.Joins.{Joins}
-use Rattle.cidr_join.specs.Logs.{IsAllOf, IsFirstOf, JoinsLogs, RefusesAfter, HaltsBy}
-use Rattle.cidr_join.specs.Stands.{Stand, stand, Counts}
+use Rattle.cidr_join.specs.Logs.{JoinsLogs, RefusesAfter, HaltsBy}
+use Rattle.program.specs.Logs.{IsAllOf, IsFirstOf}
+use Rattle.cidr_join.specs.Stands.{Stand, stand}
+use Rattle.program.proofs.Counts.{counts_from_none}
 use Rattle.cidr_join.specs.Stops.{Ends, EndsAtLine, Stops}
 use Rattle.cidr_join.specs.Private.Runs.{JoinsNames}
 use Rattle.cidr_join.specs.declared.join.Join.{Join}
@@ -57,9 +59,6 @@ pub record NameStops (join : Join) (known : KnownLists) (name : List ℕ) (faile
   pub joins : Joins join lines added
   pub halts : HaltsBy known name lines fault
   pub puts : PutsBy fault failed old new added (length lines)
-
-pub lines_told : (old lines count : ℕ) → old ≡ 0 → Counts old lines count → lines ≡ min count (2 ^ 64 - 1)
-lines_told old lines count zero counted = let e = counted (omega (arith, zero)) in omega (arith, e, zero)
 
 -- the lines that are ended come first
 module _ where
@@ -126,7 +125,7 @@ module _ (join : Join) (known : KnownLists) where
       added = h.3.added;
       joins = h.3.joins;
       halts = (h.1, first_of h.1 h.2, refl, opened, fails h.0);
-      puts = (h.3.goes.0, lines_told old.lines new.lines _ zero h.3.goes.1);
+      puts = (h.3.goes.0, counts_from_none old.lines new.lines _ zero h.3.goes.1);
     }
     stops_by read_failed write_failed old new faults.Write fails zero h = record {
       lines = h.1.first;
@@ -140,14 +139,14 @@ module _ (join : Join) (known : KnownLists) where
       added = h.added;
       joins = h.joins;
       halts = (line_halts old new h, opened);
-      puts = (h.goes.0, lines_told old.lines new.lines _ zero h.goes.1);
+      puts = (h.goes.0, counts_from_none old.lines new.lines _ zero h.goes.1);
     }
     stops_by read_failed write_failed old new faults.Endless fails zero h = record {
       lines = ended_lines h.0;
       added = h.4.added;
       joins = h.4.joins;
       halts = (h.0, h.1, first_of (h.0 ++ h.1) h.2, h.3, refl, opened);
-      puts = (h.4.goes.0, lines_told old.lines new.lines _ zero h.4.goes.1);
+      puts = (h.4.goes.0, counts_from_none old.lines new.lines _ zero h.4.goes.1);
     }
 
   -- a log that was not opened

@@ -9,9 +9,9 @@ use Rattle.ipnetwork.specs.declared.ip_network.IpNetwork.TheVariants as networks
 use Rattle.ipnetwork_family.specs.Network.{Network, HostBitsAreZero}
 use Rattle.ipnetwork_table.specs.Laws.{BlocksOfAnyWidthThatMeet}
 use Rattle.ipnetwork_table.specs.Table.{IsLongest, NoneHolds}
-use Rattle.cidr_join.specs.Joins.{address_in, Finds, output_of, Joins}
+use Rattle.cidr_join.specs.Joins.{Finds, output_of, Joins}
 use Rattle.cidr_join.specs.Laws.{LogsHaveOneOutput}
-use Rattle.cidr_join.specs.Lines.{LogLine, log_lines}
+use Rattle.program.specs.LogLines.{LogLine, log_lines}
 use Rattle.cidr_join.specs.Routes.{Values, IsLongestRoute, NoRouteHolds}
 use Rattle.cidr_join.specs.declared.join.Join.{Join}
 use Rattle.cidr_join.specs.declared.routes.Routes.{Routes}

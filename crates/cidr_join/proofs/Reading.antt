@@ -10,12 +10,12 @@ use Rattle.lines.specs.declared.line_buffer.NextLine.TheVariants.{Line, TooLong,
 use Rattle.lines.specs.declared.line_end.LineEnd.{LineEnd}
 use Rattle.lines.proofs.BytesLemmas.{HasNo}
 use Rattle.lines.proofs.HandingOut.{has_no}
-use Rattle.cidr_join.specs.Lines.{LogLine, log_lines, ended_lines, content}
-use Rattle.cidr_join.specs.Private.Progress.{AreFirst}
+use Rattle.program.specs.LogLines.{LogLine, log_lines, ended_lines, content, log_line, unended}
+use Rattle.program.specs.LogReaders.{AreFirst}
 use Rattle.cidr_join.specs.Private.TallyProgress.{ReadsSoFar, ReadsAll, ReadsToLine}
-use Rattle.cidr_join.proofs.Handed.{log_line, handed_first}
+use Rattle.program.proofs.HandedLines.{handed_first}
 use Rattle.cidr_join.proofs.Joining.{all_lines, next_first, first_still, ended_too, no_bytes}
-use Rattle.cidr_join.proofs.LogLines.{unended, lines_last, rest_unended, some_bytes}
+use Rattle.program.proofs.LogLines.{lines_last, rest_unended, some_bytes}
 use Rattle.cidr_join.proofs.Stopping.{first_ended}
 
 pub begins : (done : List LogLine → Type 0) (room : ℕ) (held : Buffered) (remained : Option (List ℕ)) → room ≡ 2 ^ 64 - 1 → IsPending held [] → held.ended ≡ false → done []

@@ -1,25 +1,27 @@
 -- How a run ends.
-use Rattle.std.proofs.Common.{◌≡◌, ◌==◌, ◌+◌, ◌-◌, ◌^◌, ◌<◌, ◌≤◌, ◌++◌, ◌∷◌, ◌∙◌, [], ◌||◌, ℕ, List, Bool, true, false, true≢false, refl, sym, ap, subst, ◌⊎◌, inl, inr, arith, length, min, map, take, drop, take-append-drop, get_or, append_assoc, append-nil, decimal, codes}
-use Rattle.std.specs.Prelude.{Option, Some, Result, Ok, Err, OnOk, OnErr, IsTrue, is_err, String}
+use Rattle.std.proofs.Common.{◌≡◌, ◌==◌, ◌+◌, ◌-◌, ◌^◌, ◌<◌, ◌≤◌, ◌++◌, ◌∷◌, ◌∙◌, [], ◌||◌, ℕ, List, Bool, true, false, true≢false, refl, sym, ap, subst, inl, inr, arith, length, min, map, take, drop, take-append-drop, get_or, append_assoc, append-nil, decimal, codes}
+use Rattle.std.specs.Prelude.{Result, Ok, Err, OnOk, OnErr, IsTrue, is_err, String}
 use Rattle.std.specs.String.{string_bytes}
 use Rattle.std.specs.Io.KnownBytes.{Appends}
 use Rattle.std.proofs.lemmas.Bool.{ne_eqb}
 use Rattle.std.proofs.lemmas.List.{take_all, take_more, map_push}
-use Rattle.lines.specs.Outputs.{Written, Puts, AppendsBeginning, Prints, Writes, FailsIn}
+use Rattle.lines.specs.Outputs.{Written, AppendsBeginning, Prints, Writes, FailsIn}
 use Rattle.lines.proofs.Putting.{begins_after_puts}
 use Rattle.program.proofs.Told.{tells_same}
 use Rattle.program.specs.Endings.{Ending, ending, Refuses, HasTold, HasWritten, status_of, end_text}
 use Rattle.program.specs.Messages.{Tells}
 use Rattle.lists.specs.KnownLists.{KnownLists}
 use Rattle.cidr_join.specs.Joins.{Joins}
-use Rattle.cidr_join.specs.Lines.{LogLine}
-use Rattle.cidr_join.specs.Logs.{logs_of, IsAllOf, HaltsBy}
+use Rattle.program.specs.LogLines.{LogLine}
+use Rattle.cidr_join.specs.Logs.{HaltsBy}
+use Rattle.program.specs.Logs.{logs_of, IsAllOf}
 use Rattle.cidr_join.specs.Routes.{Values}
 use Rattle.cidr_join.specs.Runs.{FailsWriting, Wrote, StopsAtLog, JoinsAll, EndsLogs, EndsAsked, list_name, EndsJoining, EndsRequest}
 use Rattle.cidr_join.specs.TallyRuns.{EndsTally}
-use Rattle.cidr_join.specs.Stands.{Stand, stand}
+use Rattle.cidr_join.specs.Stands.{stand}
 use Rattle.cidr_join.specs.Texts.{TextStops}
-use Rattle.cidr_join.specs.Told.{line_text, text_fault_text, log_fault_text}
+use Rattle.cidr_join.specs.Told.{text_fault_text, log_fault_text}
+use Rattle.program.specs.LogFaults.{line_text}
 use Rattle.cidr_join.specs.Private.Runs.{JoinsNames, HandsOn, StopsBy}
 use Rattle.cidr_join.specs.declared.command_line.Request.{Request}
 use Rattle.cidr_join.specs.declared.join.Join.{Join}

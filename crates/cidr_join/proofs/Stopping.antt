@@ -1,5 +1,5 @@
 -- How the joining of a log ends.
-use Rattle.std.proofs.Common.{◌≡◌, ℕ, ◌+◌, ◌-◌, ◌^◌, ◌<◌, ◌≤◌, ◌||◌, ◌&&◌, Bool, true, false, not, cond, List, [], ◌∷◌, ◌++◌, length, inl, inr, refl, sym, ap, ◌∙◌, subst, arith, append_assoc, append-nil, length-append, true≢false}
+use Rattle.std.proofs.Common.{◌≡◌, ℕ, ◌-◌, ◌^◌, ◌<◌, ◌≤◌, ◌||◌, ◌&&◌, Bool, true, false, not, cond, List, [], ◌∷◌, ◌++◌, length, inl, inr, refl, sym, ap, ◌∙◌, subst, arith, append_assoc, append-nil, length-append, true≢false}
 use Rattle.std.specs.Prelude.{Option, Result, Ok, Err, OnErr, IsTrue}
 use Rattle.std.specs.Io.KnownBytes.{Consumes, Keeps}
 use Rattle.std.specs.List.{list_all, filter}
@@ -11,17 +11,17 @@ use Rattle.lines.specs.declared.line_end.LineEnd.{LineEnd}
 use Rattle.lines.proofs.Putting.{begins_after_puts}
 use Rattle.ipnetwork.specs.declared.ip_network.IpNetwork.{IpNetwork}
 use Rattle.cidr_join.specs.Joins.{address_in, Finds, output_of, Joins}
-use Rattle.cidr_join.specs.Lines.{LogLine, log_lines, ended_lines, content, printed}
+use Rattle.program.specs.LogLines.{LogLine, log_lines, ended_lines, content, printed, feed_behind, log_line, unended}
 use Rattle.cidr_join.specs.Stands.{Stand, Goes}
 use Rattle.cidr_join.specs.Stops.{Ends, JoinsEnded, WritesBeginning, EndsAtLine, Stops}
-use Rattle.cidr_join.specs.Private.Progress.{feed_behind, shown, LineStops, JoinsSoFar}
+use Rattle.cidr_join.specs.Private.Progress.{shown, LineStops, JoinsSoFar}
 use Rattle.cidr_join.specs.declared.join.Join.{Join}
 use Rattle.cidr_join.specs.declared.value.Value.{Value}
 use Rattle.cidr_join.specs.declared.log.LogFault.{LogFault}
 use Rattle.cidr_join.specs.declared.log.LogFault.TheVariants as faults
 use Rattle.cidr_join.proofs.Joining.{goes_still, all_lines, Idle}
-use Rattle.cidr_join.proofs.Handed.{log_line, printed_is, handed_first}
-use Rattle.cidr_join.proofs.LogLines.{unended, lines_last, rest_unended, some_bytes}
+use Rattle.program.proofs.HandedLines.{printed_is, handed_first}
+use Rattle.program.proofs.LogLines.{lines_last, rest_unended, some_bytes}
 use Rattle.cidr_join.proofs.LogParts.{both}
 
 pub on_err : {T E : Type 0} (result : Result T E) (P : Type 0) → P → OnErr result P

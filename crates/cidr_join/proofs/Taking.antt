@@ -1,7 +1,6 @@
 -- What the lines of a list are taken for, one after the other, and how its bytes are read.
-use Rattle.std.proofs.Common.{◌≡◌, ℕ, ◌+◌, ◌-◌, ◌<◌, ◌≤◌, ◌==◌, Bool, true, false, List, [], ◌∷◌, ◌++◌, length, take, drop, refl, inr, sym, ap, subst, ◌∙◌, arith, append_assoc, append-nil, length-append}
+use Rattle.std.proofs.Common.{◌≡◌, ℕ, ◌+◌, ◌-◌, ◌≤◌, ◌==◌, Bool, true, false, List, [], ◌∷◌, ◌++◌, length, take, drop, refl, inr, sym, ap, subst, ◌∙◌, arith, append_assoc, append-nil, length-append}
 use Rattle.std.specs.Prelude.{Option, Some, Result, Ok, Err, OnOk, IfOk, IfErr, IsTrue}
-use Rattle.std.specs.Io.KnownBytes.{Consumes}
 use Rattle.std.specs.List.{slice_split}
 use Rattle.std.proofs.lemmas.List.{take_rest}
 use Rattle.byte_search.specs.Bytes.{IsAbsent, IsNext}
@@ -14,7 +13,7 @@ use Rattle.lists.specs.declared.entry.Entry.{Entry}
 use Rattle.lists.specs.declared.entry.Entry.TheVariants as entries
 use Rattle.lists.specs.declared.entry.EntryFault.{EntryFault}
 use Rattle.cidr_join.specs.Entries.{trimmed, is_skipped, entry_len, entry_part, EntryFails, Says, LineFaults}
-use Rattle.cidr_join.specs.Logs.{IsAllOf}
+use Rattle.program.specs.Logs.{IsAllOf}
 use Rattle.cidr_join.specs.Routes.{Values, no_networks, SetsOne, HasOne, SetsAll, RangeHasOne, IsGoodEntry, SetsEntry, EntryHasOne, IsRefusal}
 use Rattle.cidr_join.specs.Takes.{TakesLine, TakesLines, LineFails, StopsTaking}
 use Rattle.cidr_join.specs.Texts.{ReadsAll, StopsReading, TextStops}

@@ -3,13 +3,13 @@ use Rattle.std.proofs.Common.{◌≡◌, ℕ, ◌≤◌, List, [], ◌∷◌, �
 use Rattle.std.specs.Prelude.{Vec}
 use Rattle.std.specs.HashMap.{HashMap}
 use Rattle.cidr_join.specs.Joins.{Finds, address_in, mark_of}
-use Rattle.cidr_join.specs.Lines.{LogLine, content}
-use Rattle.cidr_join.specs.Stands.{Counts}
+use Rattle.program.specs.LogLines.{LogLine, content}
+use Rattle.program.specs.Counts.{Counts}
 use Rattle.cidr_join.specs.TallyRuns.{Marks}
 use Rattle.cidr_join.specs.Private.Counting.{Counted}
 use Rattle.cidr_join.specs.Private.TallyProgress.{CountsLine, CountsAll, CountsLines}
 use Rattle.cidr_join.specs.declared.join.Join.{Join}
-use Rattle.cidr_join.proofs.Joining.{counts_more, counts_none}
+use Rattle.program.proofs.Counts.{counts_more, counts_none}
 
 pub marks_both : (join : Join) (lines more : List LogLine) (a b : List (List ℕ)) → Marks join lines a → Marks join more b → Marks join (lines ++ more) (a ++ b)
 marks_both join [] more a b p q = subst (λ (t : List (List ℕ)). Marks join more t) (ap (λ t. t ++ b) (sym p)) q

@@ -9,8 +9,9 @@ use Rattle.lines.specs.Outputs.{Written}
 use Rattle.lists.specs.KnownLists.{KnownLists}
 use Rattle.lists.specs.declared.opening.OpenFault.{OpenFault}
 use Rattle.program.specs.Messages.{Tells}
-use Rattle.cidr_join.specs.Lines.{LogLine, ended_lines}
-use Rattle.cidr_join.specs.Logs.{logs_of, IsAllOf, IsFirstOf, RefusesAfter}
+use Rattle.program.specs.LogLines.{LogLine, ended_lines}
+use Rattle.cidr_join.specs.Logs.{RefusesAfter}
+use Rattle.program.specs.Logs.{logs_of, IsAllOf, IsFirstOf}
 use Rattle.cidr_join.specs.TallyRuns.{MarksLogs, StopsTally}
 use Rattle.cidr_join.specs.Told.{log_fault_text}
 use Rattle.cidr_join.specs.Private.TallyProgress.{CountsLines, CountsNames, ReadsAll, ReadsToLine, StopsReading, TellsStop, tally_fault_text}
@@ -18,7 +19,8 @@ use Rattle.cidr_join.specs.declared.join.Join.{Join}
 use Rattle.cidr_join.specs.declared.log.LogFault.TheVariants as faults
 use Rattle.cidr_join.specs.declared.tally_log.TallyFault.{TallyFault}
 use Rattle.cidr_join.specs.declared.tally_log.TallyFault.TheVariants as tallies
-use Rattle.cidr_join.proofs.LogsInTurn.{known_first, known_all, lines_told}
+use Rattle.cidr_join.proofs.LogsInTurn.{known_first, known_all}
+use Rattle.program.proofs.Counts.{counts_from_none}
 use Rattle.cidr_join.proofs.Runs.{told_log, logs_some, logs_none, names_apart}
 use Rattle.cidr_join.proofs.TallyLines.{counts_nothing, counts_both}
 
@@ -86,7 +88,7 @@ module _ (join : Join) (known : KnownLists) where
       first = h.is_done.1;
       halts = (line_halts _ h, opened);
       of_reading = tt;
-      is = told_log name count (length h.first) faults.Length (lines_told 0 count _ refl h.is_done.3);
+      is = told_log name count (length h.first) faults.Length (counts_from_none 0 count _ refl h.is_done.3);
     })
     name_stops old new count failed (tallies.Log faults.Endless) fails h = inl (record {
       before = [];

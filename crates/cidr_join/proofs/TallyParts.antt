@@ -7,11 +7,11 @@ use Rattle.ipnetwork.specs.declared.ip_network.IpNetwork.{IpNetwork}
 use Rattle.ipnetwork_table.specs.Laws.{BlocksOfAnyWidthThatMeet}
 use Rattle.cidr_join.specs.Joins.{mark_of}
 use Rattle.cidr_join.specs.Laws.{TalliesOfPartsAddUp}
-use Rattle.cidr_join.specs.Lines.{LogLine, log_lines}
+use Rattle.program.specs.LogLines.{LogLine, log_lines}
 use Rattle.cidr_join.specs.TallyRuns.{Marks}
 use Rattle.cidr_join.specs.declared.join.Join.{Join}
 use Rattle.cidr_join.specs.declared.value.Value.{Value}
-use Rattle.cidr_join.proofs.LogParts.{lines_two}
+use Rattle.program.proofs.LogLines.{lines_two}
 use Rattle.cidr_join.proofs.OneOutput.{one_found}
 use Rattle.cidr_join.proofs.TallyLines.{marks_both}
 

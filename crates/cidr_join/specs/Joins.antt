@@ -8,7 +8,7 @@ use Rattle.line_addresses.specs.Following.{following}
 use Rattle.line_addresses.specs.Mapped.{unmapped}
 use Rattle.line_addresses.specs.Words.{words_of}
 use Rattle.cidr_join.specs.Fields.{field_of}
-use Rattle.cidr_join.specs.Lines.{LogLine, content, printed}
+use Rattle.program.specs.LogLines.{LogLine, content, printed}
 use Rattle.cidr_join.specs.Routes.{IsLongestRoute, NoRouteHolds}
 use Rattle.cidr_join.specs.declared.join.Join.{Join}
 use Rattle.cidr_join.specs.declared.join.Place.{Place}

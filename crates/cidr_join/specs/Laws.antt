@@ -4,7 +4,7 @@ use Rattle.std.specs.List.{list_all, list_any}
 use Rattle.std.specs.String.{string_bytes}
 use Rattle.cidr_join.specs.CommandLines.{Begin, AsksNothing}
 use Rattle.cidr_join.specs.Joins.{Joins}
-use Rattle.cidr_join.specs.Lines.{LogLine, log_lines, content, IsWhole}
+use Rattle.program.specs.LogLines.{LogLine, log_lines}
 use Rattle.cidr_join.specs.Options.{option_of}
 use Rattle.cidr_join.specs.Tallies.{Row, counted_by, IsTally}
 use Rattle.cidr_join.specs.TallyRuns.{Marks}

@@ -4,7 +4,6 @@ pub mod Entries
 pub mod Fields
 pub mod Joins
 pub mod Laws
-pub mod Lines
 pub mod Logs
 pub mod Options
 pub mod Private

@@ -1,26 +1,12 @@
 -- Logs that are joined in turn.
-use Rattle.std.specs.Prelude.{◌≡◌, ℕ, ◌-◌, ◌^◌, ◌<◌, Bool, true, false, List, [], ◌∷◌, ◌++◌, length, map, codes, Some, String}
-use Rattle.std.specs.String.{string_bytes}
-use Rattle.lines.specs.Parts.{IsBeginning}
+use Rattle.std.specs.Prelude.{◌≡◌, ℕ, ◌-◌, ◌^◌, ◌<◌, true, false, List, [], ◌∷◌, ◌++◌, length}
 use Rattle.lists.specs.KnownLists.{KnownLists}
 use Rattle.cidr_join.specs.Joins.{Joins}
-use Rattle.cidr_join.specs.Lines.{LogLine, log_lines, ended_lines, content, IsWhole}
+use Rattle.program.specs.LogLines.{LogLine, log_lines, ended_lines, content, IsWhole}
+use Rattle.program.specs.Logs.{IsAllOf, IsFirstOf}
 use Rattle.cidr_join.specs.declared.join.Join.{Join}
 use Rattle.cidr_join.specs.declared.log.LogFault.{LogFault}
 use Rattle.cidr_join.specs.declared.log.LogFault.TheVariants as faults
-
--- the names of the logs: the FILEs, or `-`, which is standard input, if there is none
-abbrev pub logs_of : {Z : Type 0} → List (String Z) → List (List ℕ)
-logs_of [] = codes "-" ∷ []
-logs_of (file ∷ files) = map string_bytes (file ∷ files)
-
--- the file of this name was opened, and these bytes are all of it, if its bytes are known
-abbrev pub IsAllOf : KnownLists → List ℕ → List ℕ → Type 0
-IsAllOf known name read = known.may_open name true × ((input : List ℕ) → known.bytes_of name ≡ Some input → read ≡ input)
-
--- these bytes are the first of it
-abbrev pub IsFirstOf : KnownLists → List ℕ → List ℕ → Type 0
-IsFirstOf known name read = (input : List ℕ) → known.bytes_of name ≡ Some input → IsBeginning read input
 
 -- the logs of these names were read to their ends: this is the output of their lines, one log after the other
 abbrev pub JoinsLogs : Join → KnownLists → List (List ℕ) → List ℕ → Type 0

@@ -9,8 +9,9 @@ use Rattle.program.specs.Runs.{EndsRun}
 use Rattle.program.specs.Usage.{usage_text}
 use Rattle.cidr_join.specs.CommandLines.{Says, AsksNothing}
 use Rattle.cidr_join.specs.Joins.{Joins}
-use Rattle.cidr_join.specs.Lines.{LogLine}
-use Rattle.cidr_join.specs.Logs.{logs_of, IsAllOf, JoinsLogs, HaltsBy}
+use Rattle.program.specs.LogLines.{LogLine}
+use Rattle.cidr_join.specs.Logs.{JoinsLogs, HaltsBy}
+use Rattle.program.specs.Logs.{logs_of, IsAllOf}
 use Rattle.cidr_join.specs.Options.{value_of}
 use Rattle.cidr_join.specs.Routes.{no_networks}
 use Rattle.cidr_join.specs.TallyRuns.{EndsTally}
@@ -26,7 +27,6 @@ use Rattle.cidr_join.specs.declared.list.TakeFault.{TakeFault}
 use Rattle.cidr_join.specs.declared.log.LogFault.{LogFault}
 use Rattle.cidr_join.specs.declared.log.LogFault.TheVariants as faults
 use Rattle.cidr_join.specs.declared.routes.Networks.{Networks}
-use Rattle.cidr_join.specs.declared.routes.Routes.{Routes}
 use Rattle.cidr_join.specs.declared.text.TextFault.{TextFault}
 use Rattle.cidr_join.specs.declared.usage.UsageFault.{UsageFault}
 

@@ -1,6 +1,7 @@
 -- Where a log stands.
-use Rattle.std.specs.Prelude.{◌≡◌, ℕ, ◌+◌, ◌-◌, ◌^◌, ◌≤◌, min, List, Option}
+use Rattle.std.specs.Prelude.{ℕ, List, Option}
 use Rattle.lines.specs.Outputs.{Written, Puts}
+use Rattle.program.specs.Counts.{Counts}
 
 -- what the writer holds, what waits, and how many lines were joined
 pub record Stand : Type 0 where
@@ -10,10 +11,6 @@ pub record Stand : Type 0 where
 
 abbrev pub stand : {W : Type 0} → Written W → ℕ → Stand
 stand output lines = record { holds = output.holds; waits = output.waits; lines = lines }
-
--- 64 bits count this many more
-abbrev pub Counts : ℕ → ℕ → ℕ → Type 0
-Counts old new more = old ≤ 2 ^ 64 - 1 → new ≡ min (old + more) (2 ^ 64 - 1)
 
 -- from one stand to the next these bytes were added to the output, and this many lines joined
 abbrev pub Goes : Stand → Stand → List ℕ → ℕ → Type 0

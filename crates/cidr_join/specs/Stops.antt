@@ -3,7 +3,7 @@ use Rattle.std.specs.Prelude.{◌≡◌, ℕ, ◌-◌, ◌^◌, ◌<◌, Bool, t
 use Rattle.std.specs.Io.KnownBytes.{Consumes, IsAtEnd}
 use Rattle.lines.specs.Outputs.{AppendsBeginning}
 use Rattle.cidr_join.specs.Joins.{Joins}
-use Rattle.cidr_join.specs.Lines.{LogLine, log_lines, ended_lines, content, IsWhole}
+use Rattle.program.specs.LogLines.{LogLine, log_lines, ended_lines, content, IsWhole}
 use Rattle.cidr_join.specs.Stands.{Stand, Goes}
 use Rattle.cidr_join.specs.declared.join.Join.{Join}
 use Rattle.cidr_join.specs.declared.log.LogFault.{LogFault}

@@ -5,8 +5,9 @@ use Rattle.lines.specs.Outputs.{FailsIn}
 use Rattle.lists.specs.KnownLists.{KnownLists}
 use Rattle.program.specs.Endings.{Ending, Refuses, HasTold, HasWritten}
 use Rattle.cidr_join.specs.Joins.{Finds, address_in, mark_of}
-use Rattle.cidr_join.specs.Lines.{LogLine, log_lines, content}
-use Rattle.cidr_join.specs.Logs.{IsAllOf, HaltsBy}
+use Rattle.program.specs.LogLines.{LogLine, log_lines, content}
+use Rattle.cidr_join.specs.Logs.{HaltsBy}
+use Rattle.program.specs.Logs.{IsAllOf}
 use Rattle.cidr_join.specs.Tallies.{Row, IsTally, rows_text}
 use Rattle.cidr_join.specs.Told.{log_fault_text}
 use Rattle.cidr_join.specs.declared.join.Join.{Join}

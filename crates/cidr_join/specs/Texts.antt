@@ -2,7 +2,7 @@
 use Rattle.std.specs.Prelude.{ℕ, ◌<◌, Bool, true, false, IsTrue, List, length, Option, Result, Ok, Err}
 use Rattle.std.specs.Io.KnownBytes.{Consumes, IsAtEnd}
 use Rattle.lists.specs.KnownLists.{KnownLists}
-use Rattle.cidr_join.specs.Logs.{IsFirstOf}
+use Rattle.program.specs.Logs.{IsFirstOf}
 use Rattle.cidr_join.specs.declared.text.TextFault.{TextFault}
 use Rattle.cidr_join.specs.declared.text.TextFault.TheVariants.{Open, Read, Length, OutOfMemory}
 

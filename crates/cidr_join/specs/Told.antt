@@ -1,6 +1,7 @@
 -- What is reported on standard error.
-use Rattle.std.specs.Prelude.{ℕ, ◌+◌, ◌-◌, ◌^◌, min, List, ◌++◌, codes, decimal}
+use Rattle.std.specs.Prelude.{ℕ, List, ◌++◌, codes}
 use Rattle.lists.specs.Opening.{open_fault_text}
+use Rattle.program.specs.LogFaults.{line_text}
 use Rattle.cidr_join.specs.Entries.{cause_text}
 use Rattle.cidr_join.specs.declared.list.TakeFault.{TakeFault}
 use Rattle.cidr_join.specs.declared.log.LogFault.{LogFault}
@@ -9,10 +10,6 @@ use Rattle.cidr_join.specs.declared.routes.RouteFault.{RouteFault}
 use Rattle.cidr_join.specs.declared.routes.RouteFault.TheVariants as routes
 use Rattle.cidr_join.specs.declared.text.TextFault.{TextFault}
 use Rattle.cidr_join.specs.declared.text.TextFault.TheVariants as texts
-
--- what is reported about a refused line: the file, the number of the line, which comes after this many lines, and why
-abbrev pub line_text : List ℕ → ℕ → List ℕ → List ℕ
-line_text name before cause = name ++ codes ":" ++ decimal (min (before + 1) (2 ^ 64 - 1)) ++ codes ": refused " ++ cause ++ codes "\n"
 
 -- what is reported if a list was not read
 abbrev pub text_fault_text : List ℕ → TextFault → List ℕ

@@ -3,7 +3,8 @@ ghost use Rattle.std.specs.Prelude.{◌≡◌, ◌||◌, ◌≤◌, ◌++◌, []
 ghost use Rattle.lines.specs.Watched.{device_of, has_failed};
 ghost use Rattle.cidr_join.specs.Stands.{stand};
 ghost use Rattle.cidr_join.specs.Stops.{Ends, Stops, ended_by_read, ended_by_write};
-ghost use Rattle.cidr_join.specs.Private.Progress.{feed_behind, JoinsLine, LineStops};
+ghost use Rattle.cidr_join.specs.Private.Progress.{JoinsLine, LineStops};
+ghost use Rattle.program.specs.LogLines.{feed_behind};
 
 use crate::join::{Join, LINE_MAX};
 use crate::printing::print_line;

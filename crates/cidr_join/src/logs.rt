@@ -1,6 +1,6 @@
 //! Joins the logs of a run in turn.
 ghost use Rattle.std.specs.Prelude.{◌≡◌, ◌≤◌, ◌∷◌, [], true, false, length};
-ghost use Rattle.cidr_join.specs.Logs.{logs_of};
+ghost use Rattle.program.specs.Logs.{logs_of};
 ghost use Rattle.program.specs.Endings.{ending};
 ghost use Rattle.cidr_join.specs.Runs.{EndsLogs, StopsAtLog};
 ghost use Rattle.cidr_join.specs.Private.Runs.{JoinsNames, StopsBy};

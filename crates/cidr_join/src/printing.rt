@@ -2,7 +2,7 @@
 ghost use Rattle.std.specs.Prelude.{◌≡◌, ◌≤◌, ◌||◌, ◌++◌, ◌∷◌, [], length, drop, OnOk, OnErr, is_err};
 ghost use Rattle.lines.specs.Outputs.{Prints, FailsIn};
 ghost use Rattle.cidr_join.specs.Joins.{mark_of, shown_of};
-ghost use Rattle.cidr_join.specs.Private.Progress.{feed_behind};
+ghost use Rattle.program.specs.LogLines.{feed_behind};
 
 use crate::join::Join;
 use crate::value::Value;
@@ -10,6 +10,7 @@ use ipnetwork::IpNetwork;
 use lines::fault::RunFault;
 use lines::line_end::LineEnd;
 use lines::output::Output;
+use program::log_reader::put_feed;
 use std::io::Write;
 
 /// Writes a line, and before it or behind it what was found for its address: the value, or the network, or a minus sign
@@ -122,17 +123,4 @@ pub(crate) fn put_both<W: Write>(
 {
     output.put(first)?;
     output.put(second)
-}
-
-// Writes a line feed behind a line that has none.
-fn put_feed<W: Write>(end: LineEnd, output: &mut Output<'_, W>) -> Result<(), RunFault>
-    ensures ok { OnOk result (Prints output.old output.new (feed_behind end)) }
-    ensures failed { output.new.failed ≡ (output.old.failed || is_err result) }
-    ensures beginning { OnErr result (FailsIn output.old output.new (feed_behind end)) }
-{
-    match end {
-        LineEnd::LineFeed => Ok(()),
-        LineEnd::ReturnAndLineFeed => Ok(()),
-        LineEnd::EndOfInput => output.put(b"\n"),
-    }
 }

@@ -2,7 +2,7 @@
 ghost use Rattle.std.specs.Prelude.{◌≡◌, ◌≤◌, length, codes, take};
 ghost use Rattle.program.specs.Endings.{ending};
 ghost use Rattle.program.specs.Messages.{Tells};
-ghost use Rattle.cidr_join.specs.Logs.{logs_of};
+ghost use Rattle.program.specs.Logs.{logs_of};
 ghost use Rattle.cidr_join.specs.Runs.{EndsRequest, EndsAs, EndsAsked, EndsJoining, place_of, list_name};
 
 use crate::command_line::{Request, request_of};

@@ -3,7 +3,7 @@ ghost use Rattle.std.specs.Prelude.{◌≡◌, ◌≤◌, ◌++◌, ◌∷◌, �
 ghost use Rattle.lines.specs.Outputs.{Prints, FailsIn, Writes};
 ghost use Rattle.program.specs.Endings.{ending};
 ghost use Rattle.program.specs.Messages.{Tells};
-ghost use Rattle.cidr_join.specs.Logs.{logs_of};
+ghost use Rattle.program.specs.Logs.{logs_of};
 ghost use Rattle.cidr_join.specs.Tallies.{row_text, rows_text};
 ghost use Rattle.cidr_join.specs.TallyRuns.{EndsTally};
 ghost use Rattle.cidr_join.specs.Private.Counting.{row_of};

@@ -1,14 +1,14 @@
 //! Messages on the error writer. If a write of one fails, nothing else changes.
-ghost use Rattle.std.specs.Prelude.{◌≡◌, ◌++◌};
 ghost use Rattle.program.specs.Messages.{Tells};
-ghost use Rattle.cidr_join.specs.Told.{line_text, log_fault_text, text_fault_text, take_fault_text};
+ghost use Rattle.cidr_join.specs.Told.{log_fault_text, text_fault_text, take_fault_text};
 
 use crate::list::TakeFault;
 use crate::log::LogFault;
 use crate::routes::RouteFault;
 use crate::text::TextFault;
 use lines::output::Output;
-use program::messages::{tell, tell_number};
+use program::log_fault::{tell_line, tell_of};
+use program::messages::tell;
 use std::io::Write;
 
 /// Reports why the list of this name was not read.
@@ -49,24 +49,4 @@ pub(crate) fn tell_log_fault<E: Write>(
         LogFault::Length => tell_line(name, lines, "length", errors),
         LogFault::Endless => tell_of(name, ": too long\n", errors),
     }
-}
-
-// Reports a name, and then a text.
-fn tell_of<E: Write>(name: &str, text: &str, errors: &mut Output<'_, E>)
-    ensures { Tells errors.old errors.new (name.now ++ text.now) }
-{
-    tell(name, errors);
-    tell(text, errors);
-}
-
-// Reports which line is refused, and why.
-fn tell_line<E: Write>(name: &str, lines: u64, cause: &str, errors: &mut Output<'_, E>)
-    ensures { Tells errors.old errors.new (line_text name.now lines cause.now) }
-{
-    tell(name, errors);
-    tell(":", errors);
-    tell_number(lines.saturating_add(1), errors);
-    tell(": refused ", errors);
-    tell(cause, errors);
-    tell("\n", errors);
 }

@@ -1,7 +1,7 @@
 //! Reads a whole list.
 ghost use Rattle.std.specs.Prelude.{◌≡◌, ◌||◌, IfOk, IfErr};
 ghost use Rattle.lines.specs.Watched.{device_of, has_failed};
-ghost use Rattle.cidr_join.specs.Logs.{IsAllOf};
+ghost use Rattle.program.specs.Logs.{IsAllOf};
 ghost use Rattle.cidr_join.specs.Texts.{ReadsAll, StopsReading, ended_by_read, TextStops};
 
 use lines::watched::Watched;

@@ -1,25 +1,18 @@
 -- How far a log is joined.
-use Rattle.std.specs.Prelude.{◌≡◌, ℕ, ◌+◌, ◌-◌, ◌^◌, Bool, true, false, IsTrue, List, [], ◌∷◌, ◌++◌, length, Option}
+use Rattle.std.specs.Prelude.{◌≡◌, ℕ, ◌+◌, ◌-◌, ◌^◌, Bool, true, false, IsTrue, List, ◌++◌, length, Option}
 use Rattle.std.specs.List.{list_all}
 use Rattle.std.specs.Io.KnownBytes.{Consumes, IsAtEnd}
 use Rattle.ipnetwork.specs.declared.ip_network.IpNetwork.{IpNetwork}
 use Rattle.lines.specs.LineBuffers.{Buffered, IsPending}
 use Rattle.lines.specs.Outputs.{AppendsBeginning}
-use Rattle.lines.specs.declared.line_end.LineEnd.{LineEnd}
-use Rattle.lines.specs.declared.line_end.LineEnd.TheVariants.{LineFeed, ReturnAndLineFeed, EndOfInput}
 use Rattle.cidr_join.specs.Joins.{address_in, Finds, mark_of, shown_of, Joins}
-use Rattle.cidr_join.specs.Lines.{LogLine, log_lines}
+use Rattle.program.specs.LogLines.{LogLine}
+use Rattle.program.specs.LogReaders.{AreFirst}
 use Rattle.cidr_join.specs.Stands.{Stand, Goes}
 use Rattle.cidr_join.specs.declared.join.Join.{Join}
 use Rattle.cidr_join.specs.declared.log.LogFault.{LogFault}
 use Rattle.cidr_join.specs.declared.log.LogFault.TheVariants as faults
 use Rattle.cidr_join.specs.declared.value.Value.{Value}
-
--- what is written behind a line as it was read: a line feed, if none ended it
-abbrev pub feed_behind : LineEnd → List ℕ
-feed_behind LineFeed = []
-feed_behind ReturnAndLineFeed = []
-feed_behind EndOfInput = 10 ∷ []
 
 -- what is written for a line, given without its end and as it is written, of which this was found
 abbrev pub shown : Join → Option (IpNetwork × Value) → List ℕ → List ℕ → List ℕ
@@ -38,11 +31,6 @@ LineStops join line text write_failed old new faults.Write =
     × AppendsBeginning old.holds new.holds (old.waits ++ shown join found line text)
 LineStops join line text write_failed old new faults.Length = ⊥
 LineStops join line text write_failed old new faults.Endless = ⊥
-
--- these lines, and then those of what is pending, are the lines of what was read, whatever is read after it
-abbrev pub AreFirst : Bool → List ℕ → List LogLine → List ℕ → Type 0
-AreFirst ended read first pending = (more : List ℕ) → (ended ≡ true → more ≡ [])
-    → log_lines (read ++ more) ≡ first ++ log_lines (pending ++ more)
 
 -- what was read, with room for so many more bytes: its first lines were joined, and what follows them is pending
 pub record JoinsSoFar (join : Join) (room : ℕ) (held : Buffered)

@@ -9,12 +9,12 @@ use Rattle.lines.specs.Outputs.{Written}
 use Rattle.lists.specs.KnownLists.{KnownLists}
 use Rattle.program.specs.Messages.{Tells}
 use Rattle.cidr_join.specs.Joins.{address_in, Finds, mark_of}
-use Rattle.cidr_join.specs.Lines.{LogLine, log_lines, ended_lines, content, IsWhole}
-use Rattle.cidr_join.specs.Stands.{Counts}
+use Rattle.program.specs.LogLines.{LogLine, log_lines, ended_lines, content, IsWhole}
+use Rattle.program.specs.Counts.{Counts}
 use Rattle.cidr_join.specs.TallyRuns.{Marks, MarksLogs, StopsTally}
 use Rattle.cidr_join.specs.Told.{log_fault_text}
 use Rattle.cidr_join.specs.Private.Counting.{Counted, CountsOne}
-use Rattle.cidr_join.specs.Private.Progress.{AreFirst}
+use Rattle.program.specs.LogReaders.{AreFirst}
 use Rattle.cidr_join.specs.declared.join.Join.{Join}
 use Rattle.cidr_join.specs.declared.log.LogFault.TheVariants as faults
 use Rattle.cidr_join.specs.declared.tally_log.TallyFault.{TallyFault}

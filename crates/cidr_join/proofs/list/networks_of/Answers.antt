@@ -1,4 +1,4 @@
-use Rattle.std.proofs.Common.{[], refl, arith}
+use Rattle.std.proofs.Common.{arith}
 use Rattle.cidr_join.proofs.Taking.{line_more, line_stops, all_taken, last_stops}
 use Rattle.cidr_join.proofs.list.networks_of.Goals as goal
 

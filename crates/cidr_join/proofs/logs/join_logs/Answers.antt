@@ -1,4 +1,4 @@
-use Rattle.std.proofs.Common.{inl, inr, refl}
+use Rattle.std.proofs.Common.{inl, inr}
 use Rattle.cidr_join.proofs.Runs.{all_by}
 use Rattle.cidr_join.proofs.logs.join_logs.Goals as goal
 

@@ -5,7 +5,7 @@ use Rattle.lists.specs.Opening.{cause_of}
 use Rattle.lists.specs.declared.opening.OpenFault.{OpenFault}
 use Rattle.cidr_join.specs.Stands.{stand}
 use Rattle.cidr_join.specs.declared.log.LogFault.TheVariants.{Open}
-use Rattle.cidr_join.proofs.LogsInTurn.{stops_by, name_closed, name_joined}
+use Rattle.cidr_join.proofs.LogsInTurn.{stops_by, name_closed}
 use Rattle.cidr_join.proofs.Runs.{name_stops}
 use Rattle.cidr_join.proofs.logs.join_one.Goals as goal
 

@@ -1,4 +1,4 @@
-use Rattle.cidr_join.specs.Private.Progress.{feed_behind}
+use Rattle.program.specs.LogLines.{feed_behind}
 use Rattle.cidr_join.proofs.Marks.{behind_line, before_line, prints_it, fails_in_it}
 use Rattle.cidr_join.proofs.printing.print_with.Goals as goal
 

@@ -1,7 +1,7 @@
 use Rattle.std.proofs.Common.{◌++◌, List, ℕ, subst, append_assoc}
 use Rattle.lines.specs.Outputs.{AppendsBeginning}
 use Rattle.lines.proofs.Putting.{begins_within}
-use Rattle.cidr_join.specs.Private.Progress.{feed_behind}
+use Rattle.program.specs.LogLines.{feed_behind}
 use Rattle.cidr_join.proofs.Joining.{put_two_ok}
 use Rattle.cidr_join.proofs.Stopping.{on_err, begins_after_ok}
 use Rattle.cidr_join.proofs.printing.put_rest.Goals as goal

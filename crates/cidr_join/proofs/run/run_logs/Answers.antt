@@ -1,5 +1,5 @@
 use Rattle.program.specs.Endings.{ending}
-use Rattle.cidr_join.specs.Logs.{logs_of}
+use Rattle.program.specs.Logs.{logs_of}
 use Rattle.cidr_join.proofs.Runs.{asked_tally, asked_lines}
 use Rattle.cidr_join.proofs.run.run_logs.Goals as goal
 
