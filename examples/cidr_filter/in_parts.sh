@@ -5,9 +5,9 @@
 #
 # usage: examples/cidr_filter/in_parts.sh OPTION .. < LOG > SELECTED
 #
-# The options are those of cidr_filter. With `-c` the numbers of the parts are added up. `--bad
-# keep` and `--bad stop` are refused: a line would end its part only. Without GNU parallel, the parts
-# are filtered one after the other.
+# The options are those of cidr_filter, also joined in one word. With `-c` the numbers of the parts
+# are added up. `--bad keep` and `--bad stop` are refused: a line would end its part only. Without GNU
+# parallel, the parts are filtered one after the other.
 set -eu -o pipefail
 program=$(cd "$(dirname "$0")/../.." && pwd)/crates/cidr_filter/out/cidr_filter
 
@@ -22,20 +22,37 @@ check_bad() {
     esac
 }
 
+# The letters behind one `-`: of those before an option that takes a value, `c` asks for the number.
+# That option and its value, if they are joined, are the text `value`; or the value is the next word.
+letters() {
+    local text=${1#-}
+    local before=${text%%[!vcawoHh]*}
+    value=${text#"$before"}
+    case $value in
+    "" | [fekd]*) [[ $before != *c* ]] || counts=1 ;;
+    esac
+}
+
 # What the options ask for; what is wrong with them otherwise, the program tells.
-counts=
+counts= value=
 check_options() {
     while [ $# -gt 0 ]; do
         case $1 in
-        -f) [ "${2-}" != - ] || refuse "-f -: standard input is the log" ;;
         --bad) check_bad "${2-}" ;;
         --bad=*) check_bad "${1#--bad=}" ;;
         esac
         case $1 in
-        -f | -e | -k | -d | --bad | --after) [ $# -eq 1 ] || shift ;;
+        --bad | --after) [ $# -eq 1 ] || shift ;;
         --) [ $# -eq 1 ] || refuse "$2: the log is standard input" ;;
+        --*) ;;
         - | [!-]* | "") refuse "$1: the log is standard input" ;;
-        -[vcawo]*) [[ ! $1 =~ ^-[vcawo]*c[vcawo]*$ ]] || counts=1 ;;
+        -*)
+            letters "$1"
+            [ "$value" != f- ] && [ "$value ${2-}" != "f -" ] || refuse "-f -: standard input is the log"
+            case $value in
+            [fekd]) [ $# -eq 1 ] || shift ;;
+            esac
+            ;;
         esac
         shift
     done
