@@ -195,8 +195,14 @@ WHOLE = (
     "--after -c -f made",
     "-f absent",
     "-f bad -c",
+    "-ce10.0.0.0/8",
+    "-cfmade",
+    "-vf made",
+    "-cvk 1 -fmade",
+    "-hc -fmade",
+    "-Hfmade",
 )
-REFUSED = ("--bad stop -f made", "--bad=keep -f made", "-f -", "-f made made_log", "-f made -")
+REFUSED = ("--bad stop -f made", "--bad=keep -f made", "-f -", "-f-", "-vf -", "-f made made_log", "-f made -")
 
 
 def of_made_log(words, folder, **others):
