@@ -20,7 +20,7 @@ const lengthOf = Object.getOwnPropertyDescriptor(TYPED, 'length').get;
 
 /* Friends of the class: they reach its fields. They are constants once it is there, so that an
  * engine need not ask what they are. */
-const ofAddress = {};
+const ofAddress = { __proto__: null };
 
 /** An address of either family. It does not change. */
 export class IpAddress {

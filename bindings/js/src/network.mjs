@@ -15,7 +15,7 @@ import {
 
 /* Friends of the class: they reach its fields. They are constants once it is there, so that an
  * engine need not ask what they are. */
-const ofNetwork = {};
+const ofNetwork = { __proto__: null };
 
 /**
  * A network of either family: an address, host bits kept, and a prefix length. It does not change.
