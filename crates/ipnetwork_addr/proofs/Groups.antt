@@ -11,6 +11,18 @@ below h = subst (λ (v : ℕ). v < 16) (sym h.value) h.below_sixteen
 
 -- ---- digits that were read
 
+pub one_hex : {text rest : List ℕ} {a : ℕ} → BeginsWithHex text a rest → NoHex rest → BeginsWithGroup text a rest
+one_hex first stops = record {
+  front = first.byte ∷ [];
+  named = record {
+    digits = (lit≤ tt, (below first, tt));
+    short = lit≤ tt;
+    value = rw first.value (omega arith);
+  };
+  split = first.split;
+  stops = stops;
+}
+
 pub two_hexes : {text r rest : List ℕ} {a b : ℕ} → BeginsWithHex text a r → BeginsWithHex r b rest → NoHex rest → BeginsWithGroup text (a * 16 + b) rest
 two_hexes first second stops = record {
   front = first.byte ∷ second.byte ∷ [];

@@ -5,6 +5,7 @@ pub mod ComputedReading
 pub mod ComputedV4
 pub mod ComputedV6
 pub mod Decimals
+mod DigitLanes
 pub mod EightSegments
 pub mod EitherFamily
 pub mod Examples
@@ -13,6 +14,7 @@ mod FirstLanes
 pub mod FirstMarks
 pub mod Gaps
 pub mod Groups
+mod GroupsAtOnce
 pub mod Hexes
 pub mod Ipv4Lemmas
 pub mod Ipv6Bytes

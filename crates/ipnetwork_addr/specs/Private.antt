@@ -1,5 +1,6 @@
 -- What the private functions promise each other.
 pub mod Decimals
+pub mod DigitLanes
 pub mod GroupFront
 pub mod LongestRun
 pub mod NoAddress

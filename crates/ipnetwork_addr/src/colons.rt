@@ -5,10 +5,22 @@ ghost use Rattle.ipnetwork_addr.specs.Ipv6Text.{NamesV6};
 ghost use Rattle.ipnetwork_addr.specs.Private.NoAddress.{NamesNoV6};
 ghost use Rattle.ipnetwork_addr.specs.Private.GroupFront.{BeginsWithLeft, NoLeft, EndsWithRight, NoRight};
 
+use crate::colons_at_once::read_at_once;
 use crate::group::read_part;
 
 /// The number of the address that a text names.
 pub(crate) fn read_address(text: &[u8]) -> Option<u128>
+    ensures { MatchOption result (NamesNoV6 text.now) (λ address. NamesV6 text.now address) }
+{
+    match read_at_once(text) {
+        Some(address) => Some(address),
+        None => read_from_left(text),
+    }
+}
+
+/// The same, one byte after the other.
+#[inline(never)]
+fn read_from_left(text: &[u8]) -> Option<u128>
     ensures { MatchOption result (NamesNoV6 text.now) (λ address. NamesV6 text.now address) }
 {
     let (count, left, end) = read_left(text)?;
@@ -51,7 +63,7 @@ fn read_right(text: &[u8], room: usize) -> Option<u128>
 }
 
 /// The number of this many groups, moved to the front of eight.
-fn shift(number: u128, count: usize) -> u128
+pub(crate) fn shift(number: u128, count: usize) -> u128
     requires counted { count ≤ 7 }
     requires small { number < (2 ^ 16) ^ count }
     ensures { result ≡ number * (2 ^ 16) ^ (8 - count) }

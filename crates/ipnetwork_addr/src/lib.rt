@@ -5,8 +5,10 @@
 
 mod canonical;
 mod colons;
+mod colons_at_once;
 pub mod decimal;
 mod decimal_value;
+mod digit_lanes;
 mod error;
 pub mod first_mark;
 mod group;

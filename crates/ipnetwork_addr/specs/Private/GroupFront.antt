@@ -1,5 +1,5 @@
 -- The groups that a text begins with.
-use Rattle.std.specs.Prelude.{◌≡◌, ℕ, ◌^◌, ◌<◌, ◌≤◌, ◌⊎◌, List, [], ◌∷◌, ◌++◌, length, slice_index, Option, None, Some}
+use Rattle.std.specs.Prelude.{◌≡◌, ℕ, ◌^◌, ◌<◌, ◌≤◌, ◌⊎◌, List, [], ◌∷◌, ◌++◌, length, drop, slice_index, Option, None, Some}
 use Rattle.std.specs.Char.{digit_value}
 use Rattle.std.specs.Int.Digits.{number_from_digits}
 use Rattle.ipnetwork_addr.specs.Ipv4Text.{NamesV4}
@@ -27,6 +27,12 @@ pub record BeginsWithGroup (text : List ℕ) (group : ℕ) (rest : List ℕ) : T
 -- the text begins with no group
 abbrev pub NoGroup : List ℕ → Type 0
 NoGroup text = (group : ℕ) (rest : List ℕ) → ¬ (BeginsWithGroup text group rest)
+
+-- the text from one place up to another is a group, and then comes a colon or the end of the text
+pub record IsGroupUpTo (text : List ℕ) (at end group : ℕ) : Type 0 where
+  pub begins : BeginsWithGroup (drop at text) group (drop end text)
+  pub within : end ≤ length text
+  pub colon_or_end : end < length text → slice_index text end ≡ colon
 
 -- A part of an IPv6 text is one group or more, joined by colons, up to the end of the text, which may come after an
 -- IPv4 text in place of the last two groups, or up to a `::`. The end is what follows the `::`, if there is one. Here:

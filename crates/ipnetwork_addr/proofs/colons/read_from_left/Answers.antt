@@ -2,7 +2,7 @@ use Rattle.std.proofs.Common.{ap, arith}
 use Rattle.std.specs.Option.{option_copied}
 use Rattle.ipnetwork_addr.proofs.Gaps.{no_names, names_full, too_few, gap_beside_eight, no_names_right, names_gap}
 use Rattle.ipnetwork_addr.proofs.Shifts.{gap_fits}
-use Rattle.ipnetwork_addr.proofs.colons.read_address.Goals as goal
+use Rattle.ipnetwork_addr.proofs.colons.read_from_left.Goals as goal
 
 pub returns-in_err-count : goal.returns-in_err-count
 returns-in_err-count c = rw c.from_residual.ensures (no_names _ c.in_err-count.ensures)

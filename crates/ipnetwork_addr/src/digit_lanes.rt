@@ -1,0 +1,75 @@
+//! The values of the hex digits of a text, as the lanes of vectors.
+ghost use Rattle.std.specs.Prelude.{◌≡◌, ◌+◌, ◌≤◌, length};
+ghost use Rattle.std.specs.Simd.Lanes.{put_chunk};
+ghost use Rattle.ipnetwork_addr.specs.Private.DigitLanes.{AreValuesOf, ShowsValues, ShowsValuesUpTo};
+
+use std::simd::prelude::*;
+
+/// The place of the value of a text's first byte. Those of a group are read four at a time, also
+/// where fewer bytes come before its end.
+pub(crate) const FIRST: usize = 4;
+
+/// The greatest length of a text whose values there is room for.
+pub(crate) const MOST: usize = 44;
+
+/// What stands for a byte that is not a hex digit, or another number above 15.
+const NO_DIGIT: u8 = 255;
+
+/// Puts the value of each byte of a text as a hex digit at its place. The colons are returned, as bits.
+///
+/// The three vectors overlap in a text of less than 48 bytes.
+#[inline(always)]
+pub(crate) fn put_values(text: &[u8], values: &mut [u8; 48]) -> u64
+    requires long { 16 ≤ length text.now }
+    requires short { length text.now ≤ 44 }
+    ensures { ShowsValues text.now values.new }
+{
+    let last = text.len() - 16;
+    let middle = last.min(16);
+    let colons = put_lanes(text, 0, values);
+    let more_colons = put_lanes(text, middle, values) << middle;
+    colons | more_colons | put_lanes(text, last, values) << last
+}
+
+/// Puts the values of the sixteen bytes from the place `at` on, of which the colons are returned, as bits.
+#[inline(always)]
+fn put_lanes(text: &[u8], at: usize, values: &mut [u8; 48]) -> u64
+    requires within { at + 16 ≤ length text.now }
+    requires short { length text.now ≤ 44 }
+    requires so_far { ShowsValuesUpTo at text.now values.old }
+    ensures { ShowsValuesUpTo (at + 16) text.now values.new }
+{
+    let bytes = u8x16::from_slice(&text[at..]);
+    store(values, at + FIRST, values_of(bytes));
+    colons_of(bytes)
+}
+
+/// Stores sixteen lanes from the place `at` on.
+#[inline(always)]
+fn store(values: &mut [u8; 48], at: usize, lanes: u8x16)
+    requires { at ≤ 32 }
+    ensures { values.new ≡ put_chunk at values.old lanes }
+{
+    lanes.copy_to_slice(&mut values[at..]);
+}
+
+/// The value of each byte as a hex digit of either case: more than 15 if it is none.
+#[inline(always)]
+fn values_of(bytes: u8x16) -> u8x16
+    ensures { AreValuesOf bytes result }
+{
+    let decimals = bytes - u8x16::splat(b'0');
+    let letters = (bytes | u8x16::splat(0x20)) - u8x16::splat(b'a');
+    let others = letters
+        .simd_lt(u8x16::splat(6))
+        .select(letters + u8x16::splat(10), u8x16::splat(NO_DIGIT));
+    decimals
+        .simd_lt(u8x16::splat(10))
+        .select(decimals, others)
+}
+
+/// The places of the colons, as bits.
+#[inline(always)]
+fn colons_of(bytes: u8x16) -> u64 {
+    bytes.simd_eq(u8x16::splat(b':')).to_bitmask()
+}
