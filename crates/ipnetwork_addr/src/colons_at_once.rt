@@ -35,11 +35,7 @@ pub(crate) fn read_at_once(text: &[u8]) -> Option<u128>
 /// The groups before the end of the text or before a `::`: how many, the number whose digits in base
 /// 2^16 they are, and the place behind the `::`.
 #[inline(always)]
-fn read_left(
-    text: &[u8],
-    values: &[u8; 48],
-    ends: u64,
-) -> Option<(usize, u128, Option<usize>)>
+fn read_left(text: &[u8], values: &[u8; 48], ends: u64) -> Option<(usize, u128, Option<usize>)>
     requires short { length text.now ≤ 44 }
     requires shown { ShowsValues text.now values.now }
     ensures { IfSome result (λ found. BeginsWithLeft text.now found.0 found.1
@@ -120,7 +116,12 @@ fn read_group(text: &[u8], values: &[u8; 48], at: usize, end: usize) -> Option<u
     if end < text.len() && text[end] != b':' {
         return None;
     }
-    let before = [values[end], values[end + 1], values[end + 2], values[end + 3]];
+    let before = [
+        values[end],
+        values[end + 1],
+        values[end + 2],
+        values[end + 3],
+    ];
     let digits = u32::from_be_bytes(before) & u32::MAX >> (32 - 8 * (end - at));
     if digits & 0xf0f0_f0f0 != 0 {
         return None;

@@ -63,9 +63,7 @@ fn values_of(bytes: u8x16) -> u8x16
     let others = letters
         .simd_lt(u8x16::splat(6))
         .select(letters + u8x16::splat(10), u8x16::splat(NO_DIGIT));
-    decimals
-        .simd_lt(u8x16::splat(10))
-        .select(decimals, others)
+    decimals.simd_lt(u8x16::splat(10)).select(decimals, others)
 }
 
 /// The places of the colons, as bits.
