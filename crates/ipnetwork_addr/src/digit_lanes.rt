@@ -17,7 +17,7 @@ const NO_DIGIT: u8 = 255;
 
 /// Puts the value of each byte of a text as a hex digit at its place. The colons are returned, as bits.
 ///
-/// The three vectors overlap in a text of less than 48 bytes.
+/// The last vector overlaps the one before, unless the text has 32 bytes.
 #[inline(always)]
 pub(crate) fn put_values(text: &[u8], values: &mut [u8; 48]) -> u64
     requires long { 16 ≤ length text.now }
@@ -25,10 +25,11 @@ pub(crate) fn put_values(text: &[u8], values: &mut [u8; 48]) -> u64
     ensures { ShowsValues text.now values.new }
 {
     let last = text.len() - 16;
-    let middle = last.min(16);
-    let colons = put_lanes(text, 0, values);
-    let more_colons = put_lanes(text, middle, values) << middle;
-    colons | more_colons | put_lanes(text, last, values) << last
+    let mut colons = put_lanes(text, 0, values);
+    if last > 16 {
+        colons |= put_lanes(text, 16, values) << 16;
+    }
+    colons | put_lanes(text, last, values) << last
 }
 
 /// Puts the values of the sixteen bytes from the place `at` on, of which the colons are returned, as bits.
