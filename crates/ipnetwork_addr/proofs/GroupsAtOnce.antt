@@ -1,10 +1,9 @@
 -- A group of an IPv6 text by the place where it ends, of which the values of the digits are known.
-use Rattle.std.proofs.Common.{◌≡◌, ◌≢◌, ℕ, zero, suc, ◌+◌, ◌-◌, ◌*◌, ◌/◌, ◌%◌, ◌^◌, ◌<◌, ◌≤◌, List, [], ◌∷◌, length, drop, get_or, refl, sym, ap, ◌∙◌, subst, arith, lit≤, length-drop, bit_and, min, inl, inr}
+use Rattle.std.proofs.Common.{◌≡◌, ◌≢◌, ℕ, zero, suc, ◌+◌, ◌-◌, ◌*◌, ◌/◌, ◌%◌, ◌^◌, ◌<◌, ◌≤◌, List, ◌∷◌, length, drop, get_or, refl, sym, ap, ◌∙◌, subst, arith, lit≤, bit_and, min, inl, inr}
 use Rattle.std.proofs.lemmas.Bool.{cases_lt}
 use Rattle.std.proofs.lemmas.List.{drop_more, drop_all}
 use Rattle.std.proofs.lemmas.Nat.{and_mask, and_le_l}
 use Rattle.std.proofs.lemmas.Nat.Bits.{bit_at_and, bit_at-zero}
-use Rattle.std.specs.Char.{digit_value}
 use Rattle.std.specs.Int.{bit_at}
 use Rattle.ipnetwork_addr.specs.Texts.{colon}
 use Rattle.ipnetwork_addr.specs.Private.DigitLanes.{ShowsValues, AreDigitsIn, group_in}

@@ -1,12 +1,12 @@
 //! Reads an IPv6 text with all its colons known, and the values of all its digits.
-ghost use Rattle.std.specs.Prelude.{◌≡◌, ◌+◌, ◌-◌, ◌*◌, ◌/◌, ◌%◌, ◌^◌, ◌<◌, ◌≤◌, length, drop, IfSome, IsTrue};
+ghost use Rattle.std.specs.Prelude.{◌≡◌, ◌≤◌, length, drop, IfSome};
 ghost use Rattle.std.specs.Option.{option_map};
 ghost use Rattle.ipnetwork_addr.specs.Ipv6Text.{NamesV6};
 ghost use Rattle.ipnetwork_addr.specs.Private.DigitLanes.{ShowsValues, AreDigitsIn, group_in};
-ghost use Rattle.ipnetwork_addr.specs.Private.GroupFront.{NoHex, IsGroupUpTo, BeginsWithPart, BeginsWithLeft, EndsWithRight};
+ghost use Rattle.ipnetwork_addr.specs.Private.GroupFront.{IsGroupUpTo, BeginsWithPart, BeginsWithLeft, EndsWithRight};
 
 use crate::colons::shift;
-use crate::digit_lanes::{FIRST, MOST, put_values};
+use crate::digit_lanes::{MOST, put_values};
 use crate::group::append;
 
 /// The number of the address that a text names. `None` says nothing: the text is then to be read

@@ -7,7 +7,7 @@ use std::simd::prelude::*;
 
 /// The place of the value of a text's first byte. Those of a group are read four at a time, also
 /// where fewer bytes come before its end.
-pub(crate) const FIRST: usize = 4;
+const FIRST: usize = 4;
 
 /// The greatest length of a text whose values there is room for.
 pub(crate) const MOST: usize = 44;

@@ -1,5 +1,5 @@
 use Rattle.std.proofs.Common.{arith, drop}
-use Rattle.std.proofs.lemmas.List.{drop_all, drop_more}
+use Rattle.std.proofs.lemmas.List.{drop_all}
 use Rattle.ipnetwork_addr.proofs.PartSteps.{fits_one, so_far_none, so_far_more, ends_last, ends_at_gap}
 use Rattle.ipnetwork_addr.proofs.GroupsAtOnce.{at_colon, no_colon_at, second_colon}
 use Rattle.ipnetwork_addr.proofs.colons_at_once.read_part.Goals.{else-at-text-via-then-at-text+else-text-at-eq58, else-at-text-via-else-at-text}

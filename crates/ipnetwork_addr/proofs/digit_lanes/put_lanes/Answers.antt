@@ -1,5 +1,4 @@
-use Rattle.std.proofs.Common.{arith, sym, subst}
-use Rattle.ipnetwork_addr.specs.Private.DigitLanes.{ShowsValuesUpTo}
+use Rattle.std.proofs.Common.{arith}
 use Rattle.ipnetwork_addr.proofs.DigitLanes.{shows_more}
 use Rattle.ipnetwork_addr.proofs.digit_lanes.put_lanes.Goals as goal
 
