@@ -15,5 +15,6 @@ _arguments \
     '*-H[print the name of its file before a line]' '*-h[print no name before a line]' \
     '*--longest[print the longest network before a line]' \
     '*--bad[a line without an address]:what happens to it:(drop keep stop)' \
+    '--quiet[show no progress on a terminal]' \
     '(- *)--help[print the help]' '(- *)--version[print the version]' \
     '*:log:_files'

@@ -12,5 +12,6 @@ _arguments \
     '*--network[print the network in place of its value]' \
     '*--tally[print how many lines have each value]' \
     '*--last-wins[a network that stands twice has its last value]' \
+    '--quiet[show no progress on a terminal]' \
     '(- *)--help[print the help]' '(- *)--version[print the version]' \
     '*:log:_files'

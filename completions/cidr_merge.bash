@@ -2,7 +2,7 @@
 _cidr_merge() {
     local word="${COMP_WORDS[COMP_CWORD]}"
     if [ "$COMP_CWORD" -eq 1 ]; then
-        COMPREPLY=($(compgen -W "union common minus differ list split check --help --version" -- "$word"))
+        COMPREPLY=($(compgen -W "union common minus differ list split check --quiet --help --version" -- "$word"))
     elif [ "${COMP_WORDS[COMP_CWORD-1]}" = --format ]; then
         COMPREPLY=($(compgen -W "plain range netmask wildcard csv nft ipset json addresses" -- "$word"))
     elif [ "${COMP_WORDS[1]}" = split ] && [[ "$word" == -* ]]; then

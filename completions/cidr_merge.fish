@@ -2,6 +2,7 @@
 set -l operations union common minus differ list
 set -l commands $operations split check
 complete -c cidr_merge -n "not __fish_seen_subcommand_from $commands" -f -a "$commands"
+complete -c cidr_merge -n "not __fish_seen_subcommand_from $commands" -l quiet -d "Show no progress on a terminal"
 complete -c cidr_merge -n "not __fish_seen_subcommand_from $commands" -l help -d "Print the help"
 complete -c cidr_merge -n "not __fish_seen_subcommand_from $commands" -l version -d "Print the version"
 complete -c cidr_merge -n "__fish_seen_subcommand_from $operations" -l ranges -d "Print ranges"

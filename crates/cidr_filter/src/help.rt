@@ -33,6 +33,7 @@ Prints the lines of logs whose address is in a list of IP networks.
     --bad drop      a line without an address is not printed, also with -v (this is the default)
     --bad keep      it is printed, after a minus sign and a tab with --longest
     --bad stop      it ends the program
+    --quiet         as the first word: do not show on a terminal how much was read
     --help          print this text
     --version       print the version
 

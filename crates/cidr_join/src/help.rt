@@ -23,6 +23,7 @@ Prints each line of logs behind the value that a list gives its address.
     --tally         print no line: print how many lines have each value, and a tab and the value, most first, and those of
                     one count in the order of their bytes. Lines that would have a minus sign count as one. Not with
                     --last
+    --quiet         as the first word: do not show on a terminal how much was read
     --help          print this text
     --version       print the version
 

@@ -17,6 +17,7 @@ Merges lists of IP networks, and prints the shortest list with exactly the addre
     --format FORM  print plain, range, netmask, wildcard, csv, nft, ipset, json or addresses
     --skip-bad     report refused lines, and print the result for the others
     --json         each FILE is JSON: take its strings that are entries; --strict refuses other strings
+    --quiet        as the first word: do not show on a terminal how much was read
     --help         print this text
     --version      print the version
 

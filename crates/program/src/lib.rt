@@ -7,6 +7,8 @@ pub mod ending;
 pub mod log_fault;
 pub mod log_reader;
 pub mod messages;
+pub mod progress;
+pub mod standard_error;
 pub mod standard_output;
 pub mod start;
 pub mod system;

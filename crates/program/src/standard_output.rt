@@ -1,39 +1,56 @@
 //! Standard output, which may be a pipe that its reader closes.
+use crate::progress::Progress;
 use std::cell::Cell;
 use std::io;
 use std::io::{ErrorKind, Stdout, Write};
 
-/// Standard output, and a note whether a write failed since nobody reads it any more.
+/// Standard output, and a note whether a write failed since nobody reads it any more. What is shown of a long reading is
+/// taken away before a write.
 ///
 /// ```
+/// use program::progress::Progress;
+/// use program::standard_output::StandardOutput;
 /// use std::io::Write;
 ///
-/// let is_closed = std::cell::Cell::new(false);
-/// let mut output = program::standard_output::StandardOutput::new(rt.stdout(), &is_closed);
+/// let (progress, is_closed) = (Progress::new(&rt, true), std::cell::Cell::new(false));
+/// let mut output = StandardOutput::new(rt.stdout(), &progress, &is_closed);
 /// assert!(rt; output.flush().is_ok());
 /// assert!(rt; !is_closed.get());
 /// ```
 #[derive(Drop)]
 pub struct StandardOutput<'a> {
     output: Stdout,
+    progress: &'a Progress<'a>,
     is_closed: &'a Cell<bool>,
 }
 
 impl<'a> StandardOutput<'a> {
-    /// Standard output, with the place of that note.
+    /// Standard output, with what is shown on standard error and the place of that note.
     ///
     /// ```
-    /// let is_closed = std::cell::Cell::new(false);
-    /// let _ = program::standard_output::StandardOutput::new(rt.stdout(), &is_closed);
+    /// use program::progress::Progress;
+    /// use program::standard_output::StandardOutput;
+    ///
+    /// let (progress, is_closed) = (Progress::new(&rt, true), std::cell::Cell::new(false));
+    /// let _ = StandardOutput::new(rt.stdout(), &progress, &is_closed);
     /// assert!(rt; !is_closed.get());
     /// ```
-    pub fn new(output: Stdout, is_closed: &'a Cell<bool>) -> StandardOutput<'a> {
-        StandardOutput { output, is_closed }
+    pub fn new(
+        output: Stdout,
+        progress: &'a Progress<'a>,
+        is_closed: &'a Cell<bool>,
+    ) -> StandardOutput<'a> {
+        StandardOutput {
+            output,
+            progress,
+            is_closed,
+        }
     }
 }
 
 impl Write for StandardOutput<'_> {
     fn write(&mut self, buf: &[u8]) -> io::Result<usize> {
+        self.progress.clear();
         let result = self.output.write(buf);
         if let Err(error) = &result {
             if matches!(error.kind(), ErrorKind::BrokenPipe) {

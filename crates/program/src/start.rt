@@ -2,14 +2,15 @@
 ghost use Rattle.std.specs.Prelude.{◌≡◌, None, Some, MatchOption};
 ghost use Rattle.program.specs.Runs.{text_asked};
 
-use crate::arguments::arguments;
+use crate::arguments::{ArgumentsFault, arguments};
+use crate::progress::Progress;
+use crate::standard_error::StandardError;
 use crate::standard_output::StandardOutput;
 use crate::system::System;
 use crate::usage::refuse_arguments;
-use crate::words::is_only;
+use crate::words::{is, is_only};
 use lines::output::Output;
 use std::cell::Cell;
-use std::io::Stderr;
 use std::process::ExitCode;
 
 /// The most bytes that wait to be written to standard output.
@@ -21,7 +22,7 @@ const TOLD_MAX: usize = 1024;
 /// The exit status that a shell shows for a program that the signal of a closed pipe ended.
 const CLOSED: u8 = 141;
 
-/// Runs a program on the words after its name, and returns the exit status. If the arguments cannot be
+/// Runs a program on the words after its name, less a `--quiet` that comes first, and returns the exit status. If the arguments cannot be
 /// read, that is reported instead. If standard output is a pipe that nobody reads any more, what waits to be reported is
 /// dropped, and the exit status is 141, as a shell shows it for a program that ends at such a write.
 ///
@@ -35,28 +36,56 @@ where
         &[String],
         &System<'_>,
         &mut Output<'_, StandardOutput<'_>>,
-        &mut Output<'_, Stderr>,
+        &mut Output<'_, StandardError<'_>>,
     ) -> u8,
     requires { F.IsAlwaysCallable run }
 {
+    let words = arguments(rt);
+    let progress = Progress::new(rt, is_quiet(&words));
     let mut waiting = [0u8; WAITING_MAX];
     let is_closed = Cell::new(false);
-    let standard_output = StandardOutput::new(rt.stdout(), &is_closed);
+    let standard_output = StandardOutput::new(rt.stdout(), &progress, &is_closed);
     let mut output = Output::new(standard_output, &mut waiting);
     let mut told = [0u8; TOLD_MAX];
-    let mut errors = Output::new(rt.stderr(), &mut told);
-    let status = match arguments(rt) {
+    let mut errors = Output::new(StandardError::new(rt.stderr(), &progress), &mut told);
+    let status = match words {
         Ok(words) => {
-            let system = System::new(rt);
-            run(words.as_slice(), &system, &mut output, &mut errors)
+            let system = System::with_progress(rt, &progress);
+            let asked = without_quiet(words.as_slice());
+            run(asked, &system, &mut output, &mut errors)
         }
         Err(fault) => refuse_arguments(fault, program, usage, &mut errors),
     };
+    progress.clear();
     if is_closed.get() {
         return ExitCode::from(CLOSED);
     }
     let _ = errors.finish();
     ExitCode::from(status)
+}
+
+// Whether nothing is shown of a long reading: the first word is `--quiet`, or there will be none.
+fn is_quiet(words: &Result<Vec<String>, ArgumentsFault>) -> bool {
+    match words {
+        Ok(words) => begins_quiet(words.as_slice()),
+        Err(_) => true,
+    }
+}
+
+// Whether the first word is `--quiet`.
+fn begins_quiet(words: &[String]) -> bool {
+    match words.first() {
+        Some(first) => is(first, "--quiet"),
+        None => false,
+    }
+}
+
+// The words, less a `--quiet` that comes first.
+fn without_quiet(words: &[String]) -> &[String] {
+    match words {
+        [first, rest @ ..] => { if is(first, "--quiet") { rest } else { words } }
+        [] => words,
+    }
 }
 
 /// The text that the only word asks for: the help or the version.

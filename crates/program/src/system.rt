@@ -2,6 +2,7 @@
 ghost use Rattle.std.specs.Prelude.{IsTrue};
 ghost use Rattle.lines.specs.Watched.{has_failed};
 
+use crate::progress::Progress;
 use lines::watched::Watched;
 use lists::OpenLists;
 use std::fs::File;
@@ -19,6 +20,7 @@ use std::{fs, io};
 #[derive(Drop)]
 pub struct System<'a> {
     rt: &'a HostRuntime,
+    progress: Option<&'a Progress<'a>>,
 }
 
 impl<'a> System<'a> {
@@ -31,7 +33,24 @@ impl<'a> System<'a> {
     /// assert!(rt; system.open("no such file").is_err());
     /// ```
     pub fn new(rt: &'a HostRuntime) -> System<'a> {
-        System { rt }
+        System { rt, progress: None }
+    }
+
+    /// The same, and what is read of them is counted and shown.
+    ///
+    /// ```
+    /// use lists::OpenLists;
+    /// use program::progress::Progress;
+    /// use program::system::System;
+    ///
+    /// let progress = Progress::new(&rt, true);
+    /// assert!(rt; System::with_progress(&rt, &progress).open("-").is_ok());
+    /// ```
+    pub fn with_progress(rt: &'a HostRuntime, progress: &'a Progress<'a>) -> System<'a> {
+        System {
+            rt,
+            progress: Some(progress),
+        }
     }
 }
 
@@ -58,6 +77,33 @@ impl Read for Device {
     }
 }
 
+/// A device, and what is shown of its reading.
+///
+/// ```
+/// use lists::OpenLists;
+/// use std::io::Read;
+///
+/// let mut list = program::system::System::new(&rt).open("no such file");
+/// assert!(rt; list.is_err());
+/// ```
+#[derive(Drop)]
+pub struct ShownDevice<'a> {
+    device: Device,
+    progress: Option<&'a Progress<'a>>,
+}
+
+impl Read for ShownDevice<'_> {
+    fn read(&mut self, buf: &mut [u8]) -> io::Result<usize> {
+        let count = self.device.read(buf)?;
+        if let Some(progress) = self.progress {
+            if let Some(read) = buf.get(..count) {
+                progress.count(read);
+            }
+        }
+        Ok(count)
+    }
+}
+
 // Whether a file that was opened is a directory, which the system opens but does not read.
 fn is_directory(file: &File) -> bool {
     match file.metadata() {
@@ -66,22 +112,30 @@ fn is_directory(file: &File) -> bool {
     }
 }
 
-impl OpenLists for System<'_> {
-    type List = Device;
+// Opens the file of this name, or standard input.
+fn device_of(rt: &HostRuntime, name: &str) -> io::Result<Device> {
+    if name == "-" {
+        return Ok(Device::Input(rt.stdin()));
+    }
+    let file = fs::open(rt, name)?;
+    if is_directory(&file) {
+        return Err(io::Error::from(ErrorKind::IsADirectory));
+    }
+    Ok(Device::File(file))
+}
 
-    fn open(&self, name: &str) -> io::Result<Device> {
-        if name == "-" {
-            return Ok(Device::Input(self.rt.stdin()));
-        }
-        let file = fs::open(self.rt, name)?;
-        if is_directory(&file) {
-            return Err(io::Error::from(ErrorKind::IsADirectory));
-        }
-        Ok(Device::File(file))
+impl<'a> OpenLists for System<'a> {
+    type List = ShownDevice<'a>;
+
+    fn open(&self, name: &str) -> io::Result<ShownDevice<'a>> {
+        Ok(ShownDevice {
+            device: device_of(self.rt, name)?,
+            progress: self.progress,
+        })
     }
 
-    fn close(&self, _name: &str, list: Watched<Device>)
-        ensures failed { IsTrue (has_failed list) → Unit {0} }
+    fn close(&self, _name: &str, list: Watched<ShownDevice<'a>>)
+        ensures failed { IsTrue (has_failed list.entry) → Unit {0} }
     {
         drop(list);
     }

@@ -1,0 +1,46 @@
+//! Standard error, where a long reading is shown too.
+use crate::progress::Progress;
+use std::io;
+use std::io::{Stderr, Write};
+
+/// Standard error. What is shown there of a long reading is taken away before a write.
+///
+/// ```
+/// use program::progress::Progress;
+/// use program::standard_error::StandardError;
+/// use std::io::Write;
+///
+/// let progress = Progress::new(&rt, true);
+/// assert!(rt; StandardError::new(rt.stderr(), &progress).flush().is_ok());
+/// ```
+#[derive(Drop)]
+pub struct StandardError<'a> {
+    errors: Stderr,
+    progress: &'a Progress<'a>,
+}
+
+impl<'a> StandardError<'a> {
+    /// Standard error, with what is shown there.
+    ///
+    /// ```
+    /// use program::progress::Progress;
+    /// use program::standard_error::StandardError;
+    ///
+    /// let progress = Progress::new(&rt, true);
+    /// let _ = StandardError::new(rt.stderr(), &progress);
+    /// ```
+    pub fn new(errors: Stderr, progress: &'a Progress<'a>) -> StandardError<'a> {
+        StandardError { errors, progress }
+    }
+}
+
+impl Write for StandardError<'_> {
+    fn write(&mut self, buf: &[u8]) -> io::Result<usize> {
+        self.progress.clear();
+        self.errors.write(buf)
+    }
+
+    fn flush(&mut self) -> io::Result<()> {
+        self.errors.flush()
+    }
+}
