@@ -15,6 +15,7 @@ import { dirname, join } from 'node:path';
 import { fileURLToPath } from 'node:url';
 import { deflateRawSync } from 'node:zlib';
 import { inflated } from './src/inflate.mjs';
+import { unspelled } from './src/spelling.mjs';
 
 const here = dirname(fileURLToPath(import.meta.url));
 const [modulePath, folder, instancePath] = process.argv.slice(2);
@@ -59,16 +60,31 @@ const squeezed = (code) => code
   .replace(TEXT_OR_SIGN, (_, text, sign) => text ?? sign);
 const codeOf = (files) => squeezed(files.map((name) => source(pathOf(name))).join('\n'));
 
+/** The text that `unspelled` reads as these bytes, and as a byte 0 behind them if it has room. */
+function spelled(packed) {
+  const digits = '#$%&\'()*+,-./0123456789:;!=>?@ABCDEFGHIJKLMNOPQRSTUVWXYZ'
+    + '[]^_`abcdefghijklmnopqrstuvwxyz{|}~';
+  let text = '';
+  for (let bit = 0; bit < packed.length * 8; bit += 13) {
+    const at = bit >> 3;
+    const three = packed[at] | (packed[at + 1] ?? 0) << 8 | (packed[at + 2] ?? 0) << 16;
+    const number = three >> (bit & 7) & 8191;
+    text += digits[Math.floor(number / 91)] + digits[number % 91];
+  }
+  return text;
+}
+
 const bytes = readFileSync(modulePath);
 const packed = deflateRawSync(bytes, { level: 9, memLevel: 9 });
-if (!bytes.equals(inflated(packed, bytes.length))) {
+const spelling = spelled(packed);
+if (!bytes.equals(inflated(unspelled(spelling), bytes.length))) {
   throw new Error('the module is another one when it is unpacked');
 }
 mkdirSync(folder, { recursive: true });
 const write = (name, text) => writeFileSync(join(folder, name), text);
 const head = '// Made by build.mjs of the sources in bindings/js/src.\n';
 const length = `const MODULE_LENGTH = ${bytes.length};\n`;
-write('index.mjs', `${head}const MODULE = '${packed.toString('base64')}';
+write('index.mjs', `${head}const MODULE = "${spelling}";
 ${length}${codeOf(order)}export { ${names.join(', ')} };\n`);
 /* Node takes the module from there, and unpacks it by itself. */
 const unpacked = order.filter((name) => name !== 'inflate.mjs');
@@ -76,7 +92,7 @@ write('index.cjs', `${head}'use strict';
 const { readFileSync } = require('node:fs');
 const { join } = require('node:path');
 const source = readFileSync(join(__dirname, 'index.mjs'), 'latin1');
-const [, MODULE] = source.match(/^const MODULE = '(.*)';$/m);
+const [, MODULE] = source.match(/^const MODULE = "(.*)";$/m);
 const inflated = (packed) => require('node:zlib').inflateRawSync(packed);
 ${length}${codeOf(unpacked)}module.exports = { ${names.join(', ')} };\n`);
 write(

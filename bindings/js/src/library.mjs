@@ -1,12 +1,11 @@
 import { inflated } from './inflate.mjs';
 import { instanceOf } from './instance.mjs';
-/* What build.mjs writes: the module, packed, as base64, and how many bytes it has. */
+/* What build.mjs writes: the module, packed and spelled, and how many bytes it has. */
 import { MODULE, MODULE_LENGTH } from './module.mjs';
-
-const packed = Uint8Array.from(atob(MODULE), (unit) => unit.charCodeAt(0));
+import { unspelled } from './spelling.mjs';
 
 /** The library for C, compiled for WebAssembly: its functions and its memory. */
-export const library = instanceOf(inflated(packed, MODULE_LENGTH));
+export const library = instanceOf(inflated(unspelled(MODULE), MODULE_LENGTH));
 
 /* Its functions, which c/ipnetwork.h describes, and those of words.wat. Each pointer and each size
  * is two numbers: the low 32 bits and 0. */
