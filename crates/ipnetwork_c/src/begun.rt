@@ -25,8 +25,8 @@ pub(crate) fn begun<N: AddressSpace, H: Guessed<N>>(
     begun_by_halves::<N, H>(list, index, number)
 }
 
-/// The same, if the search ends at one of the last structs of the part of the number, where it mostly does. No branch
-/// depends on how many of them begin up to the number: they are counted, and only then is looked whether it ends there.
+/// The same, if the search ends before or after the last struct of the part of the number, where it mostly does. No
+/// branch depends on whether this one begins up to the number: only then is looked whether the search ends there.
 #[inline(always)]
 pub(crate) fn begun_at_once<N: AddressSpace, H: Guessed<N>>(
     list: &[H],
@@ -40,8 +40,8 @@ pub(crate) fn begun_at_once<N: AddressSpace, H: Guessed<N>>(
     }
     let part = part_of::<N, H>(list, index, number);
     let end = part_end(index, part, list.len()).min(list.len());
-    let from = end.max(2) - 2;
-    let place = from + two_up_to::<N, H>(list, from, number);
+    let last = end.max(1) - 1;
+    let place = last + one_up_to::<N, H>(list, last, number);
     if !next_is_after::<N, H>(list, place, number) || !last_is_up_to::<N, H>(list, place, number) {
         return None;
     }
@@ -140,14 +140,13 @@ fn part_end(index: &[u32], part: usize, count: usize) -> usize
     index[part + 1] as usize
 }
 
-// How many of the two structs from `from` on seem to begin up to the number.
+// 1 if the struct there seems to begin up to the number, and 0 if not.
 #[inline(always)]
-fn two_up_to<N: AddressSpace, H: Guessed<N>>(list: &[H], from: usize, number: H::Number) -> usize
-    requires { from + 2 ≤ length list.now }
-    ensures { result ≤ 2 }
+fn one_up_to<N: AddressSpace, H: Guessed<N>>(list: &[H], place: usize, number: H::Number) -> usize
+    requires { place < length list.now }
+    ensures { result ≤ 1 }
 {
-    let first = usize::from(list[from].seems_up_to(number));
-    first + usize::from(list[from + 1].seems_up_to(number))
+    usize::from(list[place].seems_up_to(number))
 }
 
 // Whether the struct after so many begins after the number, or there is none.

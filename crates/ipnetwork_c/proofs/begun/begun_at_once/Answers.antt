@@ -8,6 +8,6 @@ returns g c =
     let held = g.H.HoldsNetwork.held in
     let list = c.args.list.now in
     let size = length-map list held in
-    let place : ℕ = c.max-from.result - 2 + c.two_up_to.result in
+    let place : ℕ = c.max-last.result - 1 + c.one_up_to.result in
     ends_at (map held list) (g.H.Numbered.value c.args.number) place (omega arith)
     (c.last_is_up_to.ensures.0 c.if-not-last_is_up_to.false) (c.next_is_after.ensures.0 c.if-not-next_is_after.false)
