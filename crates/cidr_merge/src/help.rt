@@ -18,8 +18,7 @@ Merges lists of IP networks, and prints the shortest list with exactly the addre
     --skip-bad     report refused lines, and print the result for the others
     --json         each FILE is JSON: take its strings that are entries; --strict refuses other strings
     --quiet        as the first word: do not show on a terminal how much was read
-    --help         print this text
-    --version      print the version
+    --help         print this text; --version prints the version
 
 A FILE is a name, or - for standard input. A line has a network (10.0.0.0/8, 10.0.0.1, 2001:db8::/32), a range (A - B)
 or nothing; # and ; begin a comment. Host bits are dropped. A line has at most 1,024 bytes.
