@@ -35,7 +35,7 @@ extern "C" {
  * that of the library. A call that is added raises the minor version, which ipnetwork_abi_minor_version() returns: a
  * program needs a library of the version that it was compiled with, and of the same minor version or a later one. */
 #define IPNETWORK_ABI_VERSION 2
-#define IPNETWORK_ABI_MINOR_VERSION 5
+#define IPNETWORK_ABI_MINOR_VERSION 6
 
 /* Enough for every text of the family and the zero byte after it. */
 #define IPNETWORK_V4_TEXT 19
@@ -371,6 +371,52 @@ IPNETWORK_CHECKED_FAULT ipnetwork_fault ipnetwork_v4_index_find_column(const ipn
 IPNETWORK_CHECKED_FAULT ipnetwork_fault ipnetwork_v6_index_find_column(const ipnetwork_v6 *blocks, size_t block_count,
     const uint32_t *index, size_t index_length, const uint8_t *addresses, size_t address_count,
     size_t *IPNETWORK_ALONE places, size_t place_count, uint8_t *IPNETWORK_ALONE faults, size_t fault_count);
+
+/* A table cut into ranges of addresses that all have the same longest block, so that the next calls find it by one search
+ * where those above mostly make several. blocks is a table, as ipnetwork_v4_table_make and ipnetwork_v6_table_make leave
+ * it; ranges, places and range_count are the caller's memory. A range begins where a block begins, and after the last
+ * address of a block unless that is the last of all; where several do, it may stand there several times. ranges[i] is the
+ * first address of the range number i, with the prefix length 32 or 128, in ascending order; places[i] is the place in
+ * blocks of the longest block that has the addresses from there to the next range (of equal ones, of the last), or
+ * IPNETWORK_NO_PLACE if none has them. Before ranges[0] no block has an address. *range_count is how many they are, at most
+ * 2 * block_count; what comes after them is not written. That the list is a table is not checked: of another list the
+ * block at each place has the addresses too, but there may be a longer one, and IPNETWORK_NO_PLACE says nothing.
+ * IPNETWORK_PREFIX if the prefix length of a struct is past the width, else IPNETWORK_SHORT_BUFFER if range_room or
+ * place_room, for how many there is room, is less than 2 * block_count: then nothing is written. The time is that of
+ * a sort, and of as many calls of ipnetwork_v4_table_find as there are ranges. */
+#define IPNETWORK_NO_PLACE SIZE_MAX
+IPNETWORK_CHECKED_AT(7) ipnetwork_fault ipnetwork_v4_ranges_make(const ipnetwork_v4 *blocks, size_t block_count,
+    ipnetwork_v4 *IPNETWORK_ALONE ranges, size_t range_room, size_t *IPNETWORK_ALONE places, size_t place_room,
+    size_t *IPNETWORK_ALONE range_count);
+IPNETWORK_CHECKED_AT(7) ipnetwork_fault ipnetwork_v6_ranges_make(const ipnetwork_v6 *blocks, size_t block_count,
+    ipnetwork_v6 *IPNETWORK_ALONE ranges, size_t range_room, size_t *IPNETWORK_ALONE places, size_t place_room,
+    size_t *IPNETWORK_ALONE range_count);
+
+/* What ipnetwork_v4_table_find and ipnetwork_v6_table_find find in a table, by its ranges and their places, as the calls
+ * above make them, and an index of the ranges, as ipnetwork_v4_index_make and ipnetwork_v6_index_make make it:
+ * *place is the place beside the last range that begins at the address or before it. IPNETWORK_NO_MEMBER if there is none,
+ * or if IPNETWORK_NO_PLACE, or nothing, stands beside it: then *place is not written. The index only says where the search
+ * begins: whatever it holds, the answer is that of the ranges and places. These are not checked: of others *place is what
+ * the places say, of ranges in another order maybe that beside another one. If the table changes, make them again. */
+IPNETWORK_CHECKED_AT(7, 8) ipnetwork_fault ipnetwork_v4_ranges_find(const ipnetwork_v4 *ranges, size_t range_count,
+    const size_t *places, size_t place_count, const uint32_t *index, size_t index_length, const uint8_t address[4],
+    size_t *IPNETWORK_ALONE place);
+IPNETWORK_CHECKED_AT(7, 8) ipnetwork_fault ipnetwork_v6_ranges_find(const ipnetwork_v6 *ranges, size_t range_count,
+    const size_t *places, size_t place_count, const uint32_t *index, size_t index_length, const uint8_t address[16],
+    size_t *IPNETWORK_ALONE place);
+
+/* The same of many addresses in one call: found[i] and faults[i] are what the call for one address leaves and returns of
+ * the address number i, so that an address without a block leaves its place as it was, and stops nothing. There are
+ * address_count addresses, of 4 or 16 octets each, one after the other. What comes after the last of found and faults is
+ * not written. IPNETWORK_SHORT_BUFFER if there is room for fewer of them than addresses: then nothing is written. */
+IPNETWORK_CHECKED_FAULT ipnetwork_fault ipnetwork_v4_ranges_find_column(const ipnetwork_v4 *ranges, size_t range_count,
+    const size_t *places, size_t place_count, const uint32_t *index, size_t index_length, const uint8_t *addresses,
+    size_t address_count, size_t *IPNETWORK_ALONE found, size_t found_count, uint8_t *IPNETWORK_ALONE faults,
+    size_t fault_count);
+IPNETWORK_CHECKED_FAULT ipnetwork_fault ipnetwork_v6_ranges_find_column(const ipnetwork_v6 *ranges, size_t range_count,
+    const size_t *places, size_t place_count, const uint32_t *index, size_t index_length, const uint8_t *addresses,
+    size_t address_count, size_t *IPNETWORK_ALONE found, size_t found_count, uint8_t *IPNETWORK_ALONE faults,
+    size_t fault_count);
 
 /* The union of two sets, what both have (intersection), and what the first has and the second has not (difference): the
  * fewest blocks with these addresses, in ascending order and without host bits, in the front of blocks, an array of the

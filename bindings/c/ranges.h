@@ -1,4 +1,5 @@
-/* Tables as ranges, for the bindings for Python and Go, which are compiled with this. It is no part of the library.
+/* Tables as ranges, for the bindings for Python and Go, which are compiled with this. It is no part of the library. What
+ * stands beside a range is not the place of a block, as ipnetwork_v4_ranges_make leaves it, but its number.
  *
  * Where the blocks of a table begin, and where the addresses after them begin, the address space is cut into ranges, at
  * most twice as many as there are blocks. No block begins or ends within one, so that all its addresses have the longest
@@ -11,6 +12,8 @@
 #include "ipnetwork.h"
 
 #include <string.h>
+
+_Static_assert(sizeof(size_t) == sizeof(int64_t), "the numbers beside ranges are searched as places");
 
 /* Structs of one family, of addresses of 4 or 16 octets, and their index, if it has a length. */
 typedef struct {
@@ -99,13 +102,27 @@ static inline ipnetwork_fault ranges_of(const uint8_t *blocks, size_t count, siz
     return IPNETWORK_OK;
 }
 
-/* The number that stands beside what a search of a list finds, or -1. */
-static inline ipnetwork_fault number_of(const searched_list *list, const int64_t *numbers, const uint8_t *address,
-                                        int64_t *number) {
+/* The number that stands beside the longest block of a table with an address, or -1. */
+static inline ipnetwork_fault block_number(const searched_list *table, const int64_t *numbers, const uint8_t *address,
+                                           int64_t *number) {
     size_t place = 0;
-    ipnetwork_fault fault = list_find(list, address, &place);
+    ipnetwork_fault fault = list_find(table, address, &place);
     *number = -1;
     if (fault == IPNETWORK_OK) memcpy(number, numbers + place, sizeof *number);
+    return fault == IPNETWORK_NO_MEMBER ? IPNETWORK_OK : fault;
+}
+
+/* The number that stands beside the range that an address lies in, or -1, which is IPNETWORK_NO_PLACE as a place. */
+static inline ipnetwork_fault number_of(const searched_list *ranges, const int64_t *numbers, const uint8_t *address,
+                                        int64_t *number) {
+    size_t place = IPNETWORK_NO_PLACE;
+    ipnetwork_fault fault =
+        ranges->width == 4
+            ? ipnetwork_v4_ranges_find((const ipnetwork_v4 *)ranges->structs, ranges->count, (const size_t *)numbers,
+                                       ranges->count, ranges->index, ranges->index_length, address, &place)
+            : ipnetwork_v6_ranges_find((const ipnetwork_v6 *)ranges->structs, ranges->count, (const size_t *)numbers,
+                                       ranges->count, ranges->index, ranges->index_length, address, &place);
+    *number = (int64_t)place;
     return fault == IPNETWORK_NO_MEMBER ? IPNETWORK_OK : fault;
 }
 
@@ -115,7 +132,7 @@ static inline ipnetwork_fault range_numbers(const searched_list *table, const in
                                             size_t count, int64_t *told) {
     for (size_t at = 0; at < count; at++) {
         int64_t number;
-        ipnetwork_fault fault = number_of(table, numbers, ranges + at * (table->width + 1), &number);
+        ipnetwork_fault fault = block_number(table, numbers, ranges + at * (table->width + 1), &number);
         if (fault != IPNETWORK_OK) return fault;
         memcpy(told + at, &number, sizeof number);
     }

@@ -180,6 +180,33 @@ static uint32_t *make_index(size_t count, size_t *length) {
     return index;
 }
 
+/* The ranges of the table, and of a table of the IPv6 networks. */
+static ipnetwork_v4 ranges[2 * MANY];
+static ipnetwork_v6 table_six[MANY], ranges_six[2 * MANY];
+static size_t beside[2 * MANY], beside_six[2 * MANY], range_count, range_count_six, length_ranges, length_ranges_six;
+static uint32_t *index_ranges, *index_ranges_six;
+
+static void make_ranges(const ipnetwork_v6 *networks) {
+    if (ipnetwork_v6_table_make(networks, MANY, table_six, MANY, places, MANY) != IPNETWORK_OK ||
+        ipnetwork_v4_ranges_make(table_blocks, MANY, ranges, 2 * MANY, beside, 2 * MANY, &range_count) != IPNETWORK_OK ||
+        ipnetwork_v6_ranges_make(table_six, MANY, ranges_six, 2 * MANY, beside_six, 2 * MANY, &range_count_six) != IPNETWORK_OK)
+        abort();
+    index_ranges = make_index(range_count, &length_ranges);
+    index_ranges_six = make_index(range_count_six, &length_ranges_six);
+    if (ipnetwork_v4_index_make(ranges, range_count, index_ranges, length_ranges) != IPNETWORK_OK ||
+        ipnetwork_v6_index_make(ranges_six, range_count_six, index_ranges_six, length_ranges_six) != IPNETWORK_OK)
+        abort();
+}
+static uint64_t ranges_by(size_t i) {
+    return ipnetwork_v4_ranges_find(ranges, range_count, beside, range_count, index_ranges, length_ranges, searched[i], indexes) + indexes[0];
+}
+static uint64_t ranges_column_by(size_t i) {
+    return i != 0 ? 0 : ipnetwork_v4_ranges_find_column(ranges, range_count, beside, range_count, index_ranges, length_ranges, searched[0], COUNT, indexes, COUNT, faults, COUNT) + indexes[1];
+}
+static uint64_t ranges_column_six(size_t i) {
+    return i != 0 ? 0 : ipnetwork_v6_ranges_find_column(ranges_six, range_count_six, beside_six, range_count_six, index_ranges_six, length_ranges_six, searched_six[0], COUNT, indexes, COUNT, faults, COUNT) + indexes[1];
+}
+
 static void make_indexes(void) {
     for (size_t i = 0; i < MANY; i++) {
         memcpy(set_six[i].address, (uint8_t[]){0x20, 1, 0x0d}, 3);
@@ -194,6 +221,7 @@ static void make_indexes(void) {
         if (next() & 1)
             memcpy(searched_six[i], set_six[next() % MANY].address, 16);
     }
+    make_ranges(set_six);
     if (ipnetwork_v6_aggregate(set_six, MANY, &set_six_count) != IPNETWORK_OK)
         abort();
     index_set = make_index(set_count, &length_set);
@@ -233,7 +261,8 @@ struct row {
 /* The least of several measurements of each row, which take turns, so that what else the machine does meets all of
  * them. */
 static void measure(const struct row *rows, size_t count) {
-    double least[7] = {1e300, 1e300, 1e300, 1e300, 1e300, 1e300, 1e300};
+    double least[10];
+    for (size_t row = 0; row < count; row++) least[row] = 1e300;
     for (int try = 0; try < TRIES; try++) {
         for (size_t row = 0; row < count; row++) {
             uint64_t sum = 0;
@@ -261,6 +290,7 @@ int main(void) {
         {"ipnetwork_v4_table_find", table_v4}, {"ipnetwork_v4_table_find_column", table_column_v4}};
     static const struct row by_index[] = {{"ipnetwork_v4_index_contains", set_by}, {"ipnetwork_v4_index_contains_column", set_column_by},
         {"ipnetwork_v4_index_find", table_by}, {"ipnetwork_v4_index_find_column", table_column_by},
+        {"ipnetwork_v4_ranges_find", ranges_by}, {"ipnetwork_v4_ranges_find_column", ranges_column_by}, {"ipnetwork_v6_ranges_find_column", ranges_column_six},
         {"ipnetwork_v6_set_contains", set_v6}, {"ipnetwork_v6_index_contains", six_by}, {"ipnetwork_v6_index_contains_column", six_column_by}};
     make();
     join();
@@ -269,6 +299,6 @@ int main(void) {
     measure(reads, 6);
     measure(members, 4);
     measure(searches, 4);
-    measure(by_index, 7);
+    measure(by_index, 10);
     return 0;
 }

@@ -1009,6 +1009,150 @@ static void indexes(void) {
     CHECK("room", answer == 0 && none[0] == 77 && size == 1048576);
 }
 
+/* The place of the longest block with the address, of equal ones the last, found as plainly as it can be: by its bits. */
+static size_t plain_longest(const uint8_t *blocks, size_t count, size_t width, const uint8_t *address) {
+    size_t longest = IPNETWORK_NO_PLACE;
+    for (size_t i = 0; i < count; i++) {
+        const uint8_t *block = blocks + i * (width + 1);
+        int has = 1;
+        for (unsigned bit = 0; bit < block[width]; bit++)
+            has &= ((block[bit / 8] ^ address[bit / 8]) >> (7 - bit % 8) & 1) == 0;
+        if (has && (longest == IPNETWORK_NO_PLACE || block[width] >= blocks[longest * (width + 1) + width])) longest = i;
+    }
+    return longest;
+}
+
+/* Ranges of one family, whose structs and addresses have so many octets. */
+struct ranges_of_table {
+    size_t width, count;
+    uint8_t *structs;
+    size_t *places;
+    uint32_t *index;
+    size_t index_length;
+};
+
+static ipnetwork_fault found_by(const struct ranges_of_table *of, size_t place_count, const uint8_t *address, size_t *place) {
+    if (of->width == 4)
+        return ipnetwork_v4_ranges_find((const ipnetwork_v4 *)of->structs, of->count, of->places, place_count, of->index, of->index_length, address, place);
+    return ipnetwork_v6_ranges_find((const ipnetwork_v6 *)of->structs, of->count, of->places, place_count, of->index, of->index_length, address, place);
+}
+
+static ipnetwork_fault column_by(const struct ranges_of_table *of, const uint8_t *addresses, size_t asked, size_t *places, size_t room, uint8_t *faults, size_t fault_room) {
+    if (of->width == 4)
+        return ipnetwork_v4_ranges_find_column((const ipnetwork_v4 *)of->structs, of->count, of->places, of->count, of->index, of->index_length, addresses, asked, places, room, faults, fault_room);
+    return ipnetwork_v6_ranges_find_column((const ipnetwork_v6 *)of->structs, of->count, of->places, of->count, of->index, of->index_length, addresses, asked, places, room, faults, fault_room);
+}
+
+/* The ranges of a table cut it where they have to, and each address has the place that a linear search of the table finds,
+ * by itself and in a column, whatever the index holds. */
+static void asked_ranges(const uint8_t *blocks, size_t count, size_t width, const uint8_t *addresses, size_t asked) {
+    struct ranges_of_table of = {width, 77, edge((2 * count + 1) * (width + 1)), edge((2 * count + 1) * sizeof(size_t)), edge(80), 20};
+    size_t stride = width + 1, room = 2 * count + 1, found[300];
+    uint8_t faults[300];
+    memset(of.structs, 77, room * stride);
+    memset(of.places, 77, room * sizeof *of.places);
+    ipnetwork_fault made = width == 4
+        ? ipnetwork_v4_ranges_make((const ipnetwork_v4 *)blocks, count, (ipnetwork_v4 *)of.structs, room, of.places, 2 * count, &of.count)
+        : ipnetwork_v6_ranges_make((const ipnetwork_v6 *)blocks, count, (ipnetwork_v6 *)of.structs, 2 * count, of.places, room, &of.count);
+    CHECK("ranges", made == YES && of.count <= 2 * count && of.count >= count);
+    for (size_t i = of.count * stride; i < room * stride; i++) CHECK("ranges", of.structs[i] == 77);
+    for (size_t i = of.count * sizeof(size_t); i < room * sizeof(size_t); i++) CHECK("ranges", ((uint8_t *)of.places)[i] == 77);
+    for (size_t i = 0; i < of.count; i++) {
+        CHECK("ranges", of.structs[i * stride + width] == 8 * width);
+        CHECK("ranges", i == 0 || memcmp(of.structs + (i - 1) * stride, of.structs + i * stride, width) <= 0);
+        CHECK("ranges", of.places[i] == plain_longest(blocks, count, width, of.structs + i * stride));
+    }
+    for (int turn = 0; turn < 3; turn++) {
+        if (turn == 0) of.index_length = 0;
+        if (turn == 1) of.index_length = 20;
+        if (turn == 1) CHECK("ranges", (width == 4 ? ipnetwork_v4_index_make((const ipnetwork_v4 *)of.structs, of.count, of.index, 20)
+                                                  : ipnetwork_v6_index_make((const ipnetwork_v6 *)of.structs, of.count, of.index, 20)) == YES);
+        if (turn == 2)
+            for (size_t i = 0; i < 20; i++) of.index[i] = number() % 4 == 0 ? number() * 65537u : number() % 24;
+        memset(found, 77, sizeof found);
+        memset(faults, 77, sizeof faults);
+        CHECK("ranges", column_by(&of, addresses, asked, found, asked, faults, 300) == YES);
+        CHECK("ranges", ((uint8_t *)found)[asked * sizeof *found] == 77 && faults[asked] == 77);
+        for (size_t i = 0; i < asked; i++) {
+            size_t place, wanted = plain_longest(blocks, count, width, addresses + i * width), blank;
+            memset(&place, 77, sizeof place);
+            blank = place;
+            CHECK("ranges", found_by(&of, of.count, addresses + i * width, &place) == faults[i]);
+            CHECK("ranges", faults[i] == (wanted == IPNETWORK_NO_PLACE ? IPNETWORK_NO_MEMBER : YES));
+            CHECK("ranges", place == (faults[i] == YES ? wanted : blank) && found[i] == place);
+            CHECK("ranges", found_by(&of, 0, addresses + i * width, &place) == IPNETWORK_NO_MEMBER);
+        }
+    }
+    if (count > 0) {
+        size_t told = 77;
+        CHECK("room", (width == 4 ? ipnetwork_v4_ranges_make((const ipnetwork_v4 *)blocks, count, (ipnetwork_v4 *)of.structs, 2 * count - 1, of.places, room, &told)
+                                  : ipnetwork_v6_ranges_make((const ipnetwork_v6 *)blocks, count, (ipnetwork_v6 *)of.structs, room, of.places, 2 * count - 1, &told)) == IPNETWORK_SHORT_BUFFER && told == 77);
+        CHECK("room", column_by(&of, addresses, 2, found, 1, faults, 2) == IPNETWORK_SHORT_BUFFER && column_by(&of, addresses, 2, found, 2, faults, 1) == IPNETWORK_SHORT_BUFFER);
+    }
+    leave_edge(of.structs, room * stride);
+    leave_edge(of.places, room * sizeof *of.places);
+    leave_edge(of.index, 80);
+}
+
+/* Tables of networks that are put in order, of random ones and of those at the ends of the addresses. */
+static void table_ranges(void) {
+    uint8_t addresses[260][4], addresses_six[260][16] = {{0}};
+    for (unsigned host = 0; host < 256; host++) {
+        memcpy(addresses[host], ((uint8_t[]){192, 0, 2, (uint8_t)host}), 4);
+        memcpy(addresses_six[host], ((uint8_t[]){0x20, 1, 0x0d, 0xb8}), 4);
+        addresses_six[host][15] = (uint8_t)host;
+    }
+    memset(addresses[256], 0, 8);
+    memset(addresses[258], 255, 8);
+    memset(addresses_six[258], 255, 32);
+    addresses[257][3] = addresses_six[257][15] = 1;
+    addresses[259][3] = addresses_six[259][15] = 254;
+    static const char *ends[] = {"0.0.0.0/0", "0.0.0.0/32", "0.0.0.1/32", "255.255.255.255/32", "255.255.255.254/31", "192.0.2.0/24", "192.0.2.0/25", "192.0.2.64/26", "192.0.2.127/32", "192.0.2.128/25", "128.0.0.0/1"};
+    static const char *ends_six[] = {"::/0", "::/128", "::1/128", "ffff:ffff:ffff:ffff:ffff:ffff:ffff:ffff/128", "ffff:ffff:ffff:ffff:ffff:ffff:ffff:fffe/127", "2001:db8::/120", "2001:db8::/121", "2001:db8::40/122", "2001:db8::7f/128", "2001:db8::80/121", "8000::/1"};
+    enum { ENDS = sizeof ends / sizeof *ends };
+    for (size_t round = 0; round < 600; round++) {
+        size_t count = round % 23, places[23];
+        ipnetwork_v4 *four = edge(count * sizeof *four), *fours = edge(count * sizeof *fours);
+        ipnetwork_v6 *six = edge(count * sizeof *six), *sixes = edge(count * sizeof *sixes);
+        for (size_t i = 0; i < count; i++) {
+            random_network(&four[i], &six[i]);
+            if (round % 2 == 0) {
+                size_t end = number() % ENDS;
+                four[i] = v4(ends[end]);
+                six[i] = v6(ends_six[end]);
+            }
+        }
+        CHECK("ranges", ipnetwork_v4_table_make(four, count, fours, count, places, count) == YES);
+        CHECK("ranges", ipnetwork_v6_table_make(six, count, sixes, count, places, count) == YES);
+        asked_ranges((const uint8_t *)fours, count, 4, addresses[0], 260);
+        asked_ranges((const uint8_t *)sixes, count, 16, addresses_six[0], 260);
+        if (count > 0) {
+            ipnetwork_v4 made[46];
+            ipnetwork_v6 made_six[46];
+            size_t beside[46] = {77}, told = 77;
+            fours[round % count].prefix = 33;
+            sixes[round % count].prefix = 129;
+            memset(made, 77, sizeof made);
+            memset(made_six, 77, sizeof made_six);
+            CHECK("past", ipnetwork_v4_ranges_make(fours, count, made, 46, beside, 46, &told) == PREF && ipnetwork_v4_ranges_make(fours, count, NULL, 0, NULL, 0, &told) == PREF);
+            CHECK("past", ipnetwork_v6_ranges_make(sixes, count, made_six, 46, beside, 46, &told) == PREF && ipnetwork_v6_ranges_make(sixes, count, NULL, 0, NULL, 0, &told) == PREF);
+            CHECK("past", told == 77 && beside[0] == 77 && made[0].prefix == 77 && made_six[0].prefix == 77);
+        }
+        leave_edge(four, count * sizeof *four);
+        leave_edge(fours, count * sizeof *fours);
+        leave_edge(six, count * sizeof *six);
+        leave_edge(sixes, count * sizeof *sixes);
+    }
+    size_t told = 77, place = 77;
+    CHECK("NULL", ipnetwork_v4_ranges_make(NULL, 0, NULL, 0, NULL, 0, &told) == YES && told == 0);
+    told = 77;
+    CHECK("NULL", ipnetwork_v6_ranges_make(NULL, 0, NULL, 0, NULL, 0, &told) == YES && told == 0);
+    CHECK("NULL", ipnetwork_v4_ranges_find(NULL, 0, NULL, 0, NULL, 0, addresses[0], &place) == IPNETWORK_NO_MEMBER && place == 77);
+    CHECK("NULL", ipnetwork_v6_ranges_find(NULL, 0, NULL, 0, NULL, 0, addresses_six[0], &place) == IPNETWORK_NO_MEMBER && place == 77);
+    CHECK("NULL", ipnetwork_v4_ranges_find_column(NULL, 0, NULL, 0, NULL, 0, NULL, 0, NULL, 0, NULL, 0) == YES);
+    CHECK("NULL", ipnetwork_v6_ranges_find_column(NULL, 0, NULL, 0, NULL, 0, NULL, 0, NULL, 0, NULL, 0) == YES);
+}
+
 /* The blocks of ranges within 256 addresses, and the longest lists that there are. */
 static void ranges(void) {
     for (unsigned first = 0; first < 256; first += 3) {
@@ -1487,6 +1631,7 @@ int main(void) {
     tables();
     tables_made();
     indexes();
+    table_ranges();
     ranges();
     subnets();
     columns_of_texts();

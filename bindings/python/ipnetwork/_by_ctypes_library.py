@@ -47,7 +47,7 @@ def _load() -> ctypes.CDLL:
     pointer, octets, size, word = ctypes.c_void_p, ctypes.c_char_p, ctypes.c_size_t, ctypes.c_uint32
     for name in ("abi_version", "abi_minor_version"):
         _declare(library, name, [])
-    if library.ipnetwork_abi_version() != 2 or library.ipnetwork_abi_minor_version() < 5:
+    if library.ipnetwork_abi_version() != 2 or library.ipnetwork_abi_minor_version() < 6:
         raise ImportError(
             f"{path} is of another version than this module: build it again, as "
             "bindings/README.md says"
@@ -75,6 +75,7 @@ def _load() -> ctypes.CDLL:
             ("index_make", [octets, size, pointer, size]),
             ("index_contains_column", searched),
             ("index_find_column", searched),
+            ("ranges_find_column", [octets, size, *searched]),
             ("union", operation),
             ("intersection", operation),
             ("difference", operation),

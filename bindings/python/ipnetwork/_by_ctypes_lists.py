@@ -130,6 +130,19 @@ def find_packed(structs: bytes, index: bytes, packed: bytes, width: int) -> list
     return [-1 if fault else place for place, fault in zip(places, faults)]
 
 
+def numbers_packed(
+    structs: bytes, numbers: bytes, index: bytes, packed: bytes, width: int
+) -> list[int]:
+    """For each packed address of so many bytes the number beside the range that it lies in, or -1,
+    which stands beside a range as the place of no block."""
+    count, of = len(packed) // width, len(structs) // (width + 1)
+    places, faults = (ctypes.c_size_t * count)(), (ctypes.c_ubyte * count)()
+    call = getattr(library, f"ipnetwork_v{4 if width == 4 else 6}_ranges_find_column")
+    given = structs, of, numbers, of, index, len(index) // 4, packed, count
+    answered(call(*given, places, count, faults, count))
+    return [-1 if fault else place for place, fault in zip(places, faults)]
+
+
 def set_contains_column(
     search: tuple[bytes, bytes, bytes, bytes], addresses: ReadableBuffer
 ) -> bytearray:
@@ -187,10 +200,8 @@ def table_find_column(
     told = array.array("q", [-1]) * (len(column) // ADDRESS)
     for width, (structs, numbers, index) in ((4, search[:3]), (16, search[3:])):
         rows, packed = _family(column, width)
-        beside = memoryview(numbers).cast("q")
-        for row, place in zip(rows, find_packed(structs, index, packed, width)):
-            if place >= 0:
-                told[row] = beside[place]
+        for row, number in zip(rows, numbers_packed(structs, numbers, index, packed, width)):
+            told[row] = number
     return bytearray(told.tobytes())
 
 

@@ -15,7 +15,9 @@ pub mod BlocksPut
 pub mod PrintedRows
 pub mod TableFinding
 pub mod TableMaking
+pub mod Cutting
 pub mod TableExamples
+pub mod RangeExamples
 pub mod StructExamples
 pub mod ResultExamples
 pub mod SearchExamples

@@ -10,7 +10,7 @@ wide = record { address = 0x0a000000; prefix = 8 }
 abbrev narrow : Network
 narrow = record { address = 0x0a010000; prefix = 16 }
 
-abbrev nested : List Network
+abbrev pub nested : List Network
 nested = wide ∷ narrow ∷ narrow ∷ []
 
 are_blocks : (k : ℕ) (d : Network) → k < 3 → IsCidrBlock 32 (get_or nested k d)

@@ -10,6 +10,7 @@ pub mod Blocks
 pub mod Sets
 pub mod Tables
 pub mod Indexes
+pub mod Ranges
 pub mod TextColumns
 pub mod PrintedColumns
 pub mod ColumnLaws

@@ -6,4 +6,5 @@ pub mod Writing
 pub mod Kept
 pub mod Tables
 pub mod Indexes
+pub mod Cuts
 pub mod Halves

@@ -29,6 +29,9 @@ mod numbered;
 mod order;
 mod printed_columns;
 mod questions;
+mod range_calls;
+mod range_columns;
+mod range_making;
 mod set_calls;
 mod set_operations;
 mod sets;
@@ -55,7 +58,7 @@ pub extern "C" fn ipnetwork_abi_version() -> u32
 /// The minor version: each call that is added raises it, and a change of `ipnetwork_abi_version` begins it again at 0.
 #[unsafe(no_mangle)]
 pub extern "C" fn ipnetwork_abi_minor_version() -> u32
-    ensures { result ≡ 5 }
+    ensures { result ≡ 6 }
 {
-    5
+    6
 }

@@ -1,0 +1,57 @@
+-- Ranges at which a misreading of `IsCut`, `IsLongestAt`, `place_before` or `AreRangesOf` would show: of 10.0.0.0/8, and
+-- 10.1.0.0/16 twice.
+use Rattle.std.proofs.Common.{◌≡◌, ℕ, zero, suc, ◌<◌, ◌≤◌, List, [], ◌∷◌, get_or, refl, inl, inr, lit<, lit≤, arith, ⊎_elim}
+use Rattle.ipnetwork_family.specs.Network.{Network}
+use Rattle.ipnetwork_blocks.proofs.LeastLists.{contains_nil}
+use Rattle.ipnetwork_c.specs.Tables.{FindsLongest}
+use Rattle.ipnetwork_c.specs.Ranges.{no_place, place_before, EndsAt, IsCut, IsLongestAt, AreRangesOf}
+use Rattle.ipnetwork_c.proofs.TableExamples.{nested, nested_is_a_table, the_last_of_the_longest_is_found, no_wider_block_is_found}
+
+abbrev wide : Network
+wide = record { address = 0x0a000000; prefix = 8 }
+
+abbrev narrow : Network
+narrow = record { address = 0x0a010000; prefix = 16 }
+
+-- a range begins with a block, and after one
+pub one_begins_with_a_block : IsCut 32 nested 0x0a010000
+one_begins_with_a_block = (narrow, (1, lit< tt, refl), inl refl)
+
+pub one_begins_after_a_block : IsCut 32 nested 0x0b000000
+one_begins_after_a_block = (wide, (0, lit< tt, refl), inr refl)
+
+-- and not with its last address
+pub none_begins_at_an_end : ¬ (EndsAt 32 wide 0x0affffff)
+none_begins_at_an_end e = ⊎_elim (λ (f : 0x0affffff ≡ 0x0a000000). omega (arith, f)) (λ (l : 0x0affffff ≡ 0x0b000000). omega (arith, l)) e
+
+-- the place is that beside the last of so many ranges
+pub the_place_of_the_second_range : place_before (0 ∷ 2 ∷ 0 ∷ []) 2 ≡ 2
+the_place_of_the_second_range = refl
+
+pub no_place_before_the_first : place_before (0 ∷ 2 ∷ 0 ∷ []) 0 ≡ 18446744073709551615
+no_place_before_the_first = refl
+
+pub no_place_past_the_last : place_before (0 ∷ 2 ∷ 0 ∷ []) 4 ≡ no_place
+no_place_past_the_last = refl
+
+-- of 10.1.2.3 it is that of the last of the longest,
+pub the_longest_stands_there : IsLongestAt 32 nested 0x0a010203 2
+the_longest_stands_there = inl (lit< tt, the_last_of_the_longest_is_found)
+
+-- and no other, nor that of no network
+pub no_wider_one_stands_there : ¬ (IsLongestAt 32 nested 0x0a010203 0)
+no_wider_one_stands_there h = ⊎_elim (λ (f : (0 < no_place) × FindsLongest 32 nested 0x0a010203 0). no_wider_block_is_found f.1) (λ (n : (0 ≡ no_place) × _). let none = n.0 in omega (arith, none)) h
+
+pub none_is_missed : ¬ (IsLongestAt 32 nested 0x0a010203 no_place)
+none_is_missed h =
+    ⊎_elim
+    (λ (f : (no_place < no_place) × _). let less = f.0 in omega (arith, less))
+    (λ (n : (no_place ≡ no_place) × _). n.1 nested_is_a_table (narrow, (1, lit< tt, refl), (lit< tt, refl)))
+    h
+
+-- no range is left out, and none is there that no network needs
+pub no_range_is_left_out : ¬ (AreRangesOf 32 (wide ∷ []) [] [])
+no_range_is_left_out r = contains_nil 0x0b000000 (r.cut 0x0b000000 (lit< tt) (wide, (0, lit< tt, refl), inr refl))
+
+pub no_range_without_a_network : ¬ (AreRangesOf 32 [] (record { address = 0x0a000000; prefix = 32 } ∷ []) (no_place ∷ []))
+no_range_without_a_network r = let few : 1 ≤ 0 = r.few in omega (arith, few)

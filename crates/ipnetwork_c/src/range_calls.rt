@@ -1,0 +1,88 @@
+//! Ranges in the caller's memory, asked for the longest block with an address: one search, whatever lies in what.
+ghost use Rattle.std.specs.Prelude.{◌≡◌, ◌<◌};
+ghost use Rattle.ipnetwork_c.specs.Held.{v4_in, v6_in, number_of_octets};
+ghost use Rattle.ipnetwork_c.specs.Ranges.{RangeQuery, no_place, place_before};
+ghost use Rattle.ipnetwork_c.specs.Numbers.{no_member};
+ghost use Rattle.ipnetwork_c.specs.Outcomes.{IsFault, Unless, Writes};
+
+use crate::begun::begun;
+use crate::fault::{NO_MEMBER, OK};
+use crate::guessed::Guessed;
+use crate::range_making::NO_PLACE;
+use crate::structs::{Ipv4InC, Ipv6InC, number_of, number_of_four};
+use ipnetwork::{Ipv4Network, Ipv6Network};
+use ipnetwork_blocks::AddressSpace;
+
+/// The place beside the last of the ranges that begins at an address or before it, by an index of the ranges, as
+/// `ipnetwork_v4_index_make` makes it, or by none. Of the ranges and places of a table, as `ipnetwork_v4_ranges_make`
+/// makes them, it is the place that `ipnetwork_v4_table_find` finds in the table. `NO_MEMBER` if no range begins there, if
+/// it has no place beside it, or that of no block. Whatever the index holds, what is found is the same.
+#[unsafe(no_mangle)]
+#[inline(always)]
+pub extern "C" fn ipnetwork_v4_ranges_find(
+    ranges: &[Ipv4InC],
+    places: &[usize],
+    index: &[u32],
+    address: &[u8; 4],
+    place: &mut usize,
+) -> u32
+    ensures { RangeQuery v4_in ranges.now places.now
+        (number_of_octets address.now) place.old place.new result }
+{
+    place_at::<Ipv4Network, Ipv4InC>(ranges, places, index, number_of_four(address), place)
+}
+
+/// The same for IPv6, of what `ipnetwork_v6_ranges_make` makes.
+#[unsafe(no_mangle)]
+#[inline(always)]
+pub extern "C" fn ipnetwork_v6_ranges_find(
+    ranges: &[Ipv6InC],
+    places: &[usize],
+    index: &[u32],
+    address: &[u8; 16],
+    place: &mut usize,
+) -> u32
+    ensures { RangeQuery v6_in ranges.now places.now
+        (number_of_octets address.now) place.old place.new result }
+{
+    place_at::<Ipv6Network, Ipv6InC>(ranges, places, index, number_of(address), place)
+}
+
+// The same for the number of an address.
+#[inline(always)]
+fn place_at<N: AddressSpace, H: Guessed<N>>(
+    ranges: &[H],
+    places: &[usize],
+    index: &[u32],
+    number: H::Number,
+    place: &mut usize,
+) -> u32
+    ensures { RangeQuery H.held ranges.now places.now (H.value number) place.old place.new result }
+{
+    let count = begun::<N, H>(ranges, index, number);
+    put_found(found_before(places, count), place)
+}
+
+// The place beside the last of so many ranges, or that of no block.
+#[inline(always)]
+fn found_before(places: &[usize], count: usize) -> usize
+    ensures { result ≡ place_before places.now count }
+{
+    if count == 0 || count > places.len() {
+        return NO_PLACE;
+    }
+    places[count - 1]
+}
+
+// Puts what was found, unless it is the place of no block.
+#[inline(always)]
+fn put_found(found: usize, place: &mut usize) -> u32
+    ensures { Unless (IsFault no_member (found ≡ no_place))
+        (Writes (λ put. (put < no_place) × (put ≡ found))) place.old place.new result }
+{
+    if found == NO_PLACE {
+        return NO_MEMBER;
+    }
+    *place = found;
+    OK
+}

@@ -1,0 +1,83 @@
+//! Ranges asked for many addresses in one call, a row for each.
+ghost use Rattle.ipnetwork_c.specs.Held.{v4_in, v6_in, number_of_octets};
+ghost use Rattle.ipnetwork_c.specs.Ranges.{RangeQuery, RangeRows};
+
+use crate::fault::{OK, SHORT_BUFFER};
+use crate::range_calls::{ipnetwork_v4_ranges_find, ipnetwork_v6_ranges_find};
+use crate::structs::{Ipv4InC, Ipv6InC};
+
+/// For each of these addresses the place that the ranges of a table tell: place i and fault i are what
+/// `ipnetwork_v4_ranges_find` leaves and returns of address i, so that an address without a block stops nothing. What
+/// comes after them stays as it is. `SHORT_BUFFER` if there are fewer places or faults than addresses.
+#[unsafe(no_mangle)]
+pub extern "C" fn ipnetwork_v4_ranges_find_column(
+    ranges: &[Ipv4InC],
+    range_places: &[usize],
+    index: &[u32],
+    addresses: &[[u8; 4]],
+    places: &mut [usize],
+    faults: &mut [u8],
+) -> u32
+    ensures { RangeRows v4_in ranges.now range_places.now addresses.now (places.old, faults.old)
+        (places.new, faults.new) result }
+{
+    if places.len() < addresses.len() || faults.len() < addresses.len() {
+        return SHORT_BUFFER;
+    }
+    for (row, address) in addresses.iter().enumerate() {
+        faults[row] = v4_find(ranges, range_places, index, address, &mut places[row]);
+    }
+    OK
+}
+
+// The fault of the call for one address, as a byte.
+#[inline(always)]
+fn v4_find(
+    ranges: &[Ipv4InC],
+    range_places: &[usize],
+    index: &[u32],
+    address: &[u8; 4],
+    place: &mut usize,
+) -> u8
+    ensures { RangeQuery v4_in ranges.now range_places.now
+        (number_of_octets address.now) place.old place.new result }
+{
+    ipnetwork_v4_ranges_find(ranges, range_places, index, address, place) as u8
+}
+
+/// The same of IPv6, as `ipnetwork_v6_ranges_find` finds places.
+#[unsafe(no_mangle)]
+pub extern "C" fn ipnetwork_v6_ranges_find_column(
+    ranges: &[Ipv6InC],
+    range_places: &[usize],
+    index: &[u32],
+    addresses: &[[u8; 16]],
+    places: &mut [usize],
+    faults: &mut [u8],
+) -> u32
+    ensures { RangeRows v6_in ranges.now range_places.now addresses.now (places.old, faults.old)
+        (places.new, faults.new) result }
+{
+    if places.len() < addresses.len() || faults.len() < addresses.len() {
+        return SHORT_BUFFER;
+    }
+    for (row, address) in addresses.iter().enumerate() {
+        faults[row] = v6_find(ranges, range_places, index, address, &mut places[row]);
+    }
+    OK
+}
+
+// The fault of the call for one address, as a byte.
+#[inline(always)]
+fn v6_find(
+    ranges: &[Ipv6InC],
+    range_places: &[usize],
+    index: &[u32],
+    address: &[u8; 16],
+    place: &mut usize,
+) -> u8
+    ensures { RangeQuery v6_in ranges.now range_places.now
+        (number_of_octets address.now) place.old place.new result }
+{
+    ipnetwork_v6_ranges_find(ranges, range_places, index, address, place) as u8
+}

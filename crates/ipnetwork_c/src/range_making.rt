@@ -1,0 +1,142 @@
+//! Tables cut into ranges of addresses that all have the same longest block, in the caller's memory.
+ghost use Rattle.std.specs.Prelude.{◌≡◌, ◌+◌, ◌*◌, ◌<◌, ◌≤◌, ◌++◌, ◌∷◌, [], List, length, map, take};
+ghost use Rattle.std.specs.List.{All};
+ghost use Rattle.ipnetwork_c.specs.Held.{v4_in, v6_in};
+ghost use Rattle.ipnetwork_c.specs.Ranges.{IsLongestAt, MakesRanges};
+ghost use Rattle.ipnetwork_c.specs.Private.Cuts.{firsts, AreCutsOf, AreEndsOf, ArePlacesUpTo, IsAlone, IsWrittenUpTo};
+
+use crate::fault::{OK, PREFIX, SHORT_BUFFER};
+use crate::guessed::Guessed;
+use crate::listed::all_fit;
+use crate::structs::{Ipv4InC, Ipv6InC};
+use crate::tables::find;
+use ipnetwork::{Ipv4Network, Ipv6Network};
+use ipnetwork_blocks::AddressSpace;
+
+/// The place that stands for no block.
+pub(crate) const NO_PLACE: usize = usize::MAX;
+
+/// Cuts the addresses into ranges where the blocks of a table begin and after their ends, so that all addresses of one
+/// have the same longest block: to the front of `ranges` the first address of each, as the network of it alone, in
+/// ascending order, to the front of `places` the place of that block, or the greatest number if there is none, and how
+/// many they are to `count`. An address before all of them has no block. What comes after them stays as it is. `PREFIX`
+/// if the prefix length of a struct is greater than 32, else `SHORT_BUFFER` if there is room for fewer ranges or places
+/// than two of each block.
+#[unsafe(no_mangle)]
+pub extern "C" fn ipnetwork_v4_ranges_make(
+    blocks: &[Ipv4InC],
+    ranges: &mut [Ipv4InC],
+    places: &mut [usize],
+    count: &mut usize,
+) -> u32
+    ensures { MakesRanges 32 v4_in blocks.now ((ranges.old, places.old), count.old)
+        ((ranges.new, places.new), count.new) result }
+{
+    make::<Ipv4Network, Ipv4InC>(blocks, ranges, places, count)
+}
+
+/// The same of IPv6, for prefix lengths up to 128.
+#[unsafe(no_mangle)]
+pub extern "C" fn ipnetwork_v6_ranges_make(
+    blocks: &[Ipv6InC],
+    ranges: &mut [Ipv6InC],
+    places: &mut [usize],
+    count: &mut usize,
+) -> u32
+    ensures { MakesRanges 128 v6_in blocks.now ((ranges.old, places.old), count.old)
+        ((ranges.new, places.new), count.new) result }
+{
+    make::<Ipv6Network, Ipv6InC>(blocks, ranges, places, count)
+}
+
+// Sorts where the blocks begin and end, and asks the blocks for the first address of each range.
+fn make<N: AddressSpace, H: Guessed<N>>(
+    blocks: &[H],
+    ranges: &mut [H],
+    places: &mut [usize],
+    count: &mut usize,
+) -> u32
+    ensures { MakesRanges N.WIDTH H.held blocks.now ((ranges.old, places.old), count.old)
+        ((ranges.new, places.new), count.new) result }
+{
+    if !all_fit::<N, H>(blocks) {
+        return PREFIX;
+    }
+    if ranges.len() / 2 < blocks.len() || places.len() / 2 < blocks.len() {
+        return SHORT_BUFFER;
+    }
+    let made = put_cuts::<N, H>(blocks, ranges);
+    ranges[..made].sort_unstable();
+    put_places::<N, H>(blocks, &ranges[..made], &mut places[..made]);
+    *count = made;
+    OK
+}
+
+// Puts where each block begins, and where it has ended, and returns how many these are.
+fn put_cuts<N: AddressSpace, H: Guessed<N>>(blocks: &[H], ranges: &mut [H]) -> usize
+    requires held { All H.holds blocks.now }
+    requires room { 2 * length blocks.now ≤ length ranges.old }
+    ensures written { IsWrittenUpTo ranges.old ranges.new result }
+    ensures cuts { AreCutsOf N.WIDTH H.holds H.held (map H.held blocks.now) (length blocks.now)
+        (take result ranges.new) }
+{
+    let mut count = 0;
+    for row in 0..blocks.len() {
+        count = put_ends::<N, H>(blocks[row].held_network(), ranges, count);
+    }
+    count
+}
+
+// Puts after so many others where the block begins, and the address after its last, if there is one.
+fn put_ends<N: AddressSpace, H: Guessed<N>>(block: N, ranges: &mut [H], count: usize) -> usize
+    requires { count + 2 ≤ length ranges.old }
+    ensures more { count ≤ result }
+    ensures written { IsWrittenUpTo ranges.old ranges.new result }
+    ensures ends { (put : List H) × AreEndsOf N.WIDTH H.holds H.held (N.pair block) put
+        × (take result ranges.new ≡ take count ranges.old ++ put) }
+{
+    let _ = block.prefix();
+    put_first::<N, H>(block.network(), ranges, count);
+    match N::next_address(block.broadcast()) {
+        Some(next) => {
+            put_first::<N, H>(next, ranges, count + 1);
+            count + 2
+        }
+        None => count + 1,
+    }
+}
+
+// Puts the network of an address alone at a place.
+fn put_first<N: AddressSpace, H: Guessed<N>>(address: N::Addr, ranges: &mut [H], place: usize)
+    requires { place < length ranges.old }
+    ensures written { IsWrittenUpTo ranges.old ranges.new (place + 1) }
+    ensures put { (alone : H) × IsAlone N.WIDTH H.holds H.held alone
+        × ((H.held alone).address ≡ N.number address)
+        × (take (place + 1) ranges.new ≡ take place ranges.old ++ alone ∷ []) }
+{
+    let width = (H::half() + 1) as u8;
+    ranges[place] = H::holding(N::block_at(address, width));
+}
+
+// Puts beside each range the place of the longest block with its first address.
+fn put_places<N: AddressSpace, H: Guessed<N>>(blocks: &[H], ranges: &[H], places: &mut [usize])
+    requires held { All H.holds blocks.now }
+    requires room { length places.old ≡ length ranges.now }
+    ensures size { length places.new ≡ length places.old }
+    ensures places { ArePlacesUpTo N.WIDTH (map H.held blocks.now) (firsts H.held ranges.now) places.new
+        (length ranges.now) }
+{
+    for row in 0..ranges.len() {
+        places[row] = place_of::<N, H>(blocks, ranges[row].own_address());
+    }
+}
+
+// The place of the longest block with the address, or that of no block.
+fn place_of<N: AddressSpace, H: Guessed<N>>(blocks: &[H], address: N::Addr) -> usize
+    requires { All H.holds blocks.now }
+    ensures { IsLongestAt N.WIDTH (map H.held blocks.now) (N.number address) result }
+{
+    let mut place = NO_PLACE;
+    let _ = find::<N, H>(blocks, &[], address, &mut place);
+    place
+}
