@@ -234,20 +234,26 @@ moved w table x y place same h =
     ⊎_elim
     (λ (f : (place < no_place) × FindsLongest w table y place).
     let within = f.1.within in
-    inl (f.0, record {
-      within = within;
-      one = λ d. (same place d within).1 (f.1.one d);
-      longest = λ t k d l m. f.1.longest t k d l ((same k d l).0 m);
-      last = λ t k d after l m. f.1.last t k d after l ((same k d l).0 m);
-    }))
+    inl (
+      f.0,
+      record {
+        within = within;
+        one = λ d. (same place d within).1 (f.1.one d);
+        longest = λ t k d l m. f.1.longest t k d l ((same k d l).0 m);
+        last = λ t k d after l m. f.1.last t k d after l ((same k d l).0 m);
+      },
+    ))
     (λ (n : (place ≡ no_place) × (IsTable w table → ¬ (InUnion w table y))).
-    inr (n.0, λ t u.
-    let c = u.1 in
-    let k : ℕ = c.0 in
-    let at : get_or table k u.0 ≡ u.0 = c.2 in
-    let has : Member w (get_or table k u.0) x = subst (λ (m : Network). Member w m x) (sym at) u.2 in
-    let has_y : Member w u.0 y = subst (λ (m : Network). Member w m y) at ((same k u.0 c.1).0 has) in
-    n.1 t (u.0, c, has_y)))
+    inr (
+      n.0,
+      λ t u.
+          let c = u.1 in
+          let k : ℕ = c.0 in
+          let at : get_or table k u.0 ≡ u.0 = c.2 in
+          let has : Member w (get_or table k u.0) x = subst (λ (m : Network). Member w m x) (sym at) u.2 in
+          let has_y : Member w u.0 y = subst (λ (m : Network). Member w m y) at ((same k u.0 c.1).0 has) in
+          n.1 t (u.0, c, has_y),
+    ))
     h
 
 -- the place beside the ranges before one
@@ -279,12 +285,15 @@ answers_all w table ranges places x i cuts up size beside fits stands =
     (λ (none : i ≤ 0).
     let e : 0 ≡ i = omega arith in
     subst (λ (j : ℕ). IsLongestAt w table x (place_before places j)) e
-    (inr (refl, λ t u.
-    let c = u.1 in
-    let at : get_or table c.0 u.0 ≡ u.0 = c.2 in
-    let has : Member w (get_or table c.0 u.0) x = subst (λ (m : Network). Member w m x) (sym at) u.2 in
-    let some = none_before w ranges x i (get_or table c.0 u.0) split up (cuts c.0 u.0 c.1) has in
-    omega (arith, some, none))))
+    (inr (
+      refl,
+      λ t u.
+          let c = u.1 in
+          let at : get_or table c.0 u.0 ≡ u.0 = c.2 in
+          let has : Member w (get_or table c.0 u.0) x = subst (λ (m : Network). Member w m x) (sym at) u.2 in
+          let some = none_before w ranges x i (get_or table c.0 u.0) split up (cuts c.0 u.0 c.1) has in
+          omega (arith, some, none),
+    )))
     (cases_lt 0 i)
 
 -- ---- what a search of the table finds, as a place
@@ -415,5 +424,20 @@ made {C} w holds held list before cut sorted places put count count_before fits 
     subst (λ (xs : List C). AreRangesOf w (map held list) (map held xs) (take count (put ++ drop count places))) (sym front)
     (subst (λ (ys : List ℕ). AreRangesOf w (map held list) (map held sorted) ys) (sym front_places) is) in
     let size_before = written.size in
-    On (fits, On ((room, places_room), (refl, (whole, whole_places, omega (arith, there, size_before), fronts,
-    front_dropped sorted (drop count cut) count size ∙ written.rest, front_dropped put (drop count places) count put_size))))
+    On (
+      fits,
+      On (
+        (room, places_room),
+        (
+          refl,
+          (
+            whole,
+            whole_places,
+            omega (arith, there, size_before),
+            fronts,
+            front_dropped sorted (drop count cut) count size ∙ written.rest,
+            front_dropped put (drop count places) count put_size,
+          ),
+        ),
+      ),
+    )
