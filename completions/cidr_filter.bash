@@ -3,11 +3,11 @@ _cidr_filter() {
     local word="${COMP_WORDS[COMP_CWORD]}" before="${COMP_WORDS[COMP_CWORD - 1]}"
     case "$before" in
         --bad) COMPREPLY=($(compgen -W "drop keep stop" -- "$word")) ;;
-        -e | -k | -d | --after) COMPREPLY=() ;;
+        -e | -k | -d | -m | --after) COMPREPLY=() ;;
         -f) ;;
         *)
             if [[ "$word" == -* ]]; then
-                COMPREPLY=($(compgen -W "-f -e -k -d -w -a --after -o --mapped -v -c -H -h --longest --bad --quiet --help --version -- -" -- "$word"))
+                COMPREPLY=($(compgen -W "-f -e -k -d -w -a --after -o --mapped -v -c -m -H -h --longest --bad --quiet --help --version -- -" -- "$word"))
             fi
             ;;
     esac

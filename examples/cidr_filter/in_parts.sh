@@ -6,8 +6,8 @@
 # usage: examples/cidr_filter/in_parts.sh OPTION .. < LOG > SELECTED
 #
 # The options are those of cidr_filter, also joined in one word. With `-c` the numbers of the parts
-# are added up. `--bad keep` and `--bad stop` are refused: a line would end its part only. Without GNU
-# parallel, the parts are filtered one after the other.
+# are added up. `--bad keep` and `--bad stop` are refused: a line would end its part only; and so is
+# `-m`. Without GNU parallel, the parts are filtered one after the other.
 set -eu -o pipefail
 program=$(cd "$(dirname "$0")/../.." && pwd)/crates/cidr_filter/out/cidr_filter
 
@@ -29,7 +29,7 @@ letters() {
     local before=${text%%[!vcawoHh]*}
     value=${text#"$before"}
     case $value in
-    "" | [fekd]*) [[ $before != *c* ]] || counts=1 ;;
+    "" | [fekdm]*) [[ $before != *c* ]] || counts=1 ;;
     esac
 }
 
@@ -50,6 +50,7 @@ check_options() {
             letters "$1"
             [ "$value" != f- ] && [ "$value ${2-}" != "f -" ] || refuse "-f -: standard input is the log"
             case $value in
+            m*) refuse "-m: a line would end its part only" ;;
             [fekd]) [ $# -eq 1 ] || shift ;;
             esac
             ;;

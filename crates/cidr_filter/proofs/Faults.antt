@@ -155,20 +155,22 @@ module _ {Z : Type 0} (words : List (String Z)) (said : Request) (opens : Begins
 
 -- ---- laws
 
-none_of : (a b c d e f j z g h i dash some all : Bool) → ((a || (b || (c || (d || (e || (f || (j || (z || false)))))))) || (g || (h || (i || false))) || (dash && (some && all))) ≡ false
-    → (a ≡ false) × (b ≡ false) × (c ≡ false) × (d ≡ false) × (e ≡ false) × (f ≡ false) × (j ≡ false) × (z ≡ false) × (g ≡ false) × (h ≡ false) × (i ≡ false) × ((dash && (some && all)) ≡ false)
-none_of true b c d e f j z g h i dash some all is = absurd (true≢false is)
-none_of false true c d e f j z g h i dash some all is = absurd (true≢false is)
-none_of false false true d e f j z g h i dash some all is = absurd (true≢false is)
-none_of false false false true e f j z g h i dash some all is = absurd (true≢false is)
-none_of false false false false true f j z g h i dash some all is = absurd (true≢false is)
-none_of false false false false false true j z g h i dash some all is = absurd (true≢false is)
-none_of false false false false false false true z g h i dash some all is = absurd (true≢false is)
-none_of false false false false false false false true g h i dash some all is = absurd (true≢false is)
-none_of false false false false false false false false true h i dash some all is = absurd (true≢false is)
-none_of false false false false false false false false false true i dash some all is = absurd (true≢false is)
-none_of false false false false false false false false false false true dash some all is = absurd (true≢false is)
-none_of false false false false false false false false false false false dash some all is = (refl, refl, refl, refl, refl, refl, refl, refl, refl, refl, refl, is)
+none_of : (a b c d y e f j z g h q i dash some all : Bool) → ((a || (b || (c || (d || (y || (e || (f || (j || (z || false))))))))) || (g || (h || (q || (i || false)))) || (dash && (some && all))) ≡ false
+    → (a ≡ false) × (b ≡ false) × (c ≡ false) × (d ≡ false) × (y ≡ false) × (e ≡ false) × (f ≡ false) × (j ≡ false) × (z ≡ false) × (g ≡ false) × (h ≡ false) × (q ≡ false) × (i ≡ false) × ((dash && (some && all)) ≡ false)
+none_of true b c d y e f j z g h q i dash some all is = absurd (true≢false is)
+none_of false true c d y e f j z g h q i dash some all is = absurd (true≢false is)
+none_of false false true d y e f j z g h q i dash some all is = absurd (true≢false is)
+none_of false false false true y e f j z g h q i dash some all is = absurd (true≢false is)
+none_of false false false false true e f j z g h q i dash some all is = absurd (true≢false is)
+none_of false false false false false true f j z g h q i dash some all is = absurd (true≢false is)
+none_of false false false false false false true j z g h q i dash some all is = absurd (true≢false is)
+none_of false false false false false false false true z g h q i dash some all is = absurd (true≢false is)
+none_of false false false false false false false false true g h q i dash some all is = absurd (true≢false is)
+none_of false false false false false false false false false true h q i dash some all is = absurd (true≢false is)
+none_of false false false false false false false false false false true q i dash some all is = absurd (true≢false is)
+none_of false false false false false false false false false false false true i dash some all is = absurd (true≢false is)
+none_of false false false false false false false false false false false false true dash some all is = absurd (true≢false is)
+none_of false false false false false false false false false false false false false dash some all is = (refl, refl, refl, refl, refl, refl, refl, refl, refl, refl, refl, refl, refl, is)
 
 no_flags : {A : Type 0} (dash some all : Bool) (x none : A) → (dash && (some && all)) ≡ false → cond dash (cond (some && all) x none) none ≡ none
 no_flags false some all x none e = refl
@@ -176,20 +178,20 @@ no_flags true true true x none e = absurd (true≢false e)
 no_flags true true false x none e = refl
 no_flags true false all x none e = refl
 
-none_chosen : {A : Type 0} (a b c d e f j z g h i dash some all : Bool) (next k l m n o x none : A)
-    → ((a || (b || (c || (d || (e || (f || (j || (z || false)))))))) || (g || (h || (i || false))) || (dash && (some && all))) ≡ false
-    → cond (a || b || c || d || e || z) next (cond g k (cond h l (cond i m (cond f n (cond j o (cond dash (cond (some && all) x none) none)))))) ≡ none
-none_chosen a b c d e f j z g h i dash some all next k l m n o x none is =
-    let others = none_of a b c d e f j z g h i dash some all is in
-    rw (others.0, others.1, others.2, others.3, others.4, others.7, others.8, others.9, others.10, others.5, others.6) (no_flags dash some all x none others.11)
+none_chosen : {A : Type 0} (a b c d y e f j z g h q i dash some all : Bool) (next k l p m n o x none : A)
+    → ((a || (b || (c || (d || (y || (e || (f || (j || (z || false))))))))) || (g || (h || (q || (i || false)))) || (dash && (some && all))) ≡ false
+    → cond (a || b || c || d || y || e || z) next (cond g k (cond h l (cond q p (cond i m (cond f n (cond j o (cond dash (cond (some && all) x none) none))))))) ≡ none
+none_chosen a b c d y e f j z g h q i dash some all next k l p m n o x none is =
+    let others = none_of a b c d y e f j z g h q i dash some all is in
+    rw (others.0, others.1, others.2, others.3, others.4, others.5, others.8, others.9, others.10, others.11, others.12, others.6, others.7) (no_flags dash some all x none others.13)
 
 no_option : {Z : Type 0} (word : String Z) (others : List (String Z)) → is_option_word (string_bytes word) ≡ false → option_of (word ∷ others) ≡ None
 no_option word others is =
     let w = string_bytes word in
-    none_chosen (bytes_eq w (codes "-f")) (bytes_eq w (codes "-e")) (bytes_eq w (codes "-k")) (bytes_eq w (codes "-d")) (bytes_eq w (codes "--bad")) (bytes_eq w (codes "--longest")) (bytes_eq w (codes "--mapped"))
+    none_chosen (bytes_eq w (codes "-f")) (bytes_eq w (codes "-e")) (bytes_eq w (codes "-k")) (bytes_eq w (codes "-d")) (bytes_eq w (codes "-m")) (bytes_eq w (codes "--bad")) (bytes_eq w (codes "--longest")) (bytes_eq w (codes "--mapped"))
     (bytes_eq w (codes "--after"))
-    (begins (codes "-k") w) (begins (codes "-d") w) (begins (codes "--bad=") w) (begins (codes "-") w) (nat_lt 0 (length (drop 1 w))) (list_all is_letter (drop 1 w))
-    _ _ _ _ _ _ _ _ is
+    (begins (codes "-k") w) (begins (codes "-d") w) (begins (codes "-m") w) (begins (codes "--bad=") w) (begins (codes "-") w) (nat_lt 0 (length (drop 1 w))) (list_all is_letter (drop 1 w))
+    _ _ _ _ _ _ _ _ _ is
 
 pub others_are_none : {Z : Type 0} (words : List (String Z)) → OthersAreNoOptions words
 others_are_none [] = tt

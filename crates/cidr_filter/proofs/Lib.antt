@@ -9,13 +9,17 @@ pub mod Heads
 pub mod JoinedWords
 pub mod Judging
 pub mod LawExamples
+pub mod Left
+pub mod LeftExamples
 pub mod LogParts
 pub mod LogsInTurn
 pub mod OneOutput
 pub mod OptionExamples
 pub mod ReadInTurn
 pub mod Requests
+pub mod RunExamples
 pub mod Runs
+pub mod Spent
 pub mod Stopping
 pub mod Tables
 pub mod Texts

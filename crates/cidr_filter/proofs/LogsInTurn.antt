@@ -1,6 +1,7 @@
 -- Logs that are filtered in turn.
 use Rattle.std.proofs.Common.{◌≡◌, ◌+◌, ◌-◌, ◌^◌, ◌++◌, ◌∷◌, ◌∙◌, ◌||◌, [], ℕ, Bool, List, true, false, inl, inr, refl, sym, ap, subst, arith, length, min, append_assoc, append-nil}
 use Rattle.std.specs.Prelude.{Option, Some, IsTrue}
+use Rattle.std.specs.Io.KnownBytes.{Consumes, IsAtEnd}
 use Rattle.lines.specs.Outputs.{Written, Puts, AppendsBeginning}
 use Rattle.lines.proofs.Putting.{puts_nothing, puts_more}
 use Rattle.lists.specs.KnownLists.{KnownLists}
@@ -9,12 +10,13 @@ use Rattle.program.proofs.Told.{tells_more, tells_nothing, tells_same}
 use Rattle.cidr_filter.specs.Addressed.{any_addressed, lacking_by, lacking_text, closed_text}
 use Rattle.program.proofs.Counts.{counts_more, counts_none, counts_from_none}
 use Rattle.program.proofs.LogNames.{all_of, first_of}
-use Rattle.program.specs.LogLines.{LogLine, log_lines, ended_lines, content}
-use Rattle.program.specs.Logs.{StopsAfter, HaltsBy}
-use Rattle.cidr_filter.specs.Filters.{Filters}
-use Rattle.cidr_filter.specs.Logs.{FiltersLogs, EndsRunBy, filter_for}
+use Rattle.program.specs.LogLines.{LogLine, log_lines, ended_lines, content, IsWhole}
+use Rattle.program.specs.Logs.{IsAllOf, StopsAfter, HaltsBy}
+use Rattle.program.specs.declared.log_reader.LogReader.{LogReader}
+use Rattle.cidr_filter.specs.Filters.{Filters, LastIsSelected}
+use Rattle.cidr_filter.specs.Logs.{FiltersLogs, EndsRunBy, is_short, filter_for}
 use Rattle.cidr_filter.specs.Stands.{Stand}
-use Rattle.cidr_filter.specs.Stops.{Ends, EndsAtLine, Stops}
+use Rattle.cidr_filter.specs.Stops.{Ends, Leaves, EndsAtLine, Stops}
 use Rattle.cidr_filter.specs.Private.Runs.{FiltersNames}
 use Rattle.cidr_filter.specs.declared.filter.Filter.{Filter}
 use Rattle.cidr_filter.specs.declared.filter.Verdict.{Verdict}
@@ -36,12 +38,17 @@ PutsBy faults.Address failed old new added lines = Puts old.holds old.waits new.
 PutsBy faults.Length failed old new added lines = Puts old.holds old.waits new.holds new.waits added × (new.lines ≡ min lines (2 ^ 64 - 1))
 PutsBy faults.Endless failed old new added lines = Puts old.holds old.waits new.holds new.waits added × (new.lines ≡ min lines (2 ^ 64 - 1))
 
+-- the lines of what was read
+first_lines : (read pending : List ℕ) (first : List LogLine) → log_lines (read ++ []) ≡ first ++ log_lines (pending ++ []) → log_lines read ≡ first ++ log_lines pending
+first_lines read pending first e = sym (ap log_lines (append-nil read)) ∙ e ∙ ap (λ (p : List ℕ). first ++ log_lines p) (append-nil pending)
+
 -- the log of this name was not filtered to its end, by the fault
 pub record NameStops (filter : Filter) (known : KnownLists) (name : List ℕ) (failed : Bool) (old new : Stand) (fault : LogFault) : Type 0 where
   pub lines : List LogLine
   pub added : List ℕ
   pub count : ℕ
   pub filters : Filters (filter_for filter name) lines added count
+  pub short : is_short fault filter.most count ≡ true
   pub halts : HaltsBy (EndsRunBy filter) known name lines fault
   pub puts : PutsBy fault failed old new added (length lines)
 
@@ -66,7 +73,7 @@ module _ (filter : Filter) (known : KnownLists) where
             [],
             false,
             false,
-            inl ((ends.read, all_of known name remained remains has opened ends.read ends.reads ends.end, ends.filters, refl), refl),
+            inl ((ends.read, all_of known name remained remains has opened ends.read ends.reads ends.end, ends.filters, refl, ends.below), refl),
             (refl, refl, refl, refl),
             sym (append-nil ends.added),
             omega arith,
@@ -79,6 +86,59 @@ module _ (filter : Filter) (known : KnownLists) where
           counted = ends.goes.1;
         }
 
+    is_whole : (read : List ℕ) (line : LogLine) → Consumes remained remains read → IsWhole (IsAtEnd remains) line → IsWhole (IsAllOf known name read) line
+    is_whole read line reads (inl ended) = inl ended
+    is_whole read line reads (inr (inl end)) = inr (inl (all_of known name remained remains has opened read reads end))
+    is_whole read line reads (inr (inr long)) = inr (inr long)
+
+    last_whole : (lines : List LogLine) (read : List ℕ) → Consumes remained remains read → LastIsSelected (filter_for filter name) (IsAtEnd remains) lines
+        → LastIsSelected (filter_for filter name) (IsAllOf known name read) lines
+    last_whole lines read reads (inl none) = inl none
+    last_whole lines read reads (inr h) = inr (h.0, h.1, h.2, h.3, is_whole read h.1 reads h.4, h.5, h.6)
+
+    -- a log that was left
+    pub name_left : {E : Type 0} (old new : Stand) (errors : Written E) (log : LogReader) → Leaves (filter_for filter name) log remained remains (record old { lines = 0; addressed = false }) new
+        → FiltersNames filter known (name ∷ []) false old new errors errors
+    name_left old new errors log left = record {
+      output = left.added;
+      count = left.count;
+      text = [];
+      filters = (
+        left.added,
+        [],
+        left.count,
+        0,
+        [],
+        [],
+        false,
+        false,
+        inr (
+            inl (
+              (
+                left.hands.read,
+                left.first,
+                log_lines left.hands.pending,
+                opened,
+                first_of known name remained remains has left.hands.read left.hands.reads,
+                first_lines left.hands.read left.hands.pending left.first (left.hands.lines [] (λ e. refl)),
+                left.filters,
+                record { most = left.all.most; last = last_whole left.first left.hands.read left.hands.reads left.all.last },
+                refl,
+              ),
+              refl,
+            )
+            ),
+        (refl, refl, refl, refl),
+        sym (append-nil left.added),
+        omega arith,
+        refl,
+        refl,
+      );
+      tells = tells_nothing errors;
+      puts = left.goes.0;
+      counted = left.goes.1;
+    }
+
     line_halts : (IsSo : List ℕ → Type 0) (verdict : Verdict) (old new : Stand) (h : EndsAtLine (filter_for filter name) remained remains old new verdict)
         → IsSo (content h.line) → StopsAfter known name h.first IsSo
     line_halts IsSo verdict old new h so = record {
@@ -87,13 +147,7 @@ module _ (filter : Filter) (known : KnownLists) where
       others = h.others;
       is_first = first_of known name remained remains has h.read h.reads;
       are = h.lines;
-      is_line = elim h.is_line [
-        | inl ended ↦ inl ended
-        | inr others ↦ elim others [
-          | inl end ↦ inr (inl (all_of known name remained remains has opened h.read h.reads end))
-          | inr long ↦ inr (inr long)
-        ]
-      ];
+      is_line = is_whole h.read h.line h.reads h.is_line;
       is_so = so;
     }
 
@@ -106,6 +160,7 @@ module _ (filter : Filter) (known : KnownLists) where
       added = h.3.added;
       count = h.3.count;
       filters = h.3.filters;
+      short = h.3.below;
       halts = (h.1, first_of known name remained remains has h.1 h.2, refl, opened, fails h.0);
       puts = (h.3.goes.0, counts_from_none 0 new.lines _ refl h.3.goes.2);
     }
@@ -114,6 +169,7 @@ module _ (filter : Filter) (known : KnownLists) where
       added = h.1.added;
       count = h.1.count;
       filters = h.1.filters;
+      short = h.1.within;
       halts = (h.1.read, h.1.others, first_of known name remained remains has h.1.read h.1.reads, h.1.lines);
       puts = (h.0, h.1.beginning);
     }
@@ -122,6 +178,7 @@ module _ (filter : Filter) (known : KnownLists) where
       added = h.added;
       count = h.count;
       filters = h.filters;
+      short = h.below;
       halts = (line_halts (EndsRunBy filter faults.Address) _ _ new h (h.judges, h.refused), opened);
       puts = (h.goes.0, counts_from_none 0 new.lines _ refl h.goes.2);
     }
@@ -130,6 +187,7 @@ module _ (filter : Filter) (known : KnownLists) where
       added = h.added;
       count = h.count;
       filters = h.filters;
+      short = h.below;
       halts = (line_halts (EndsRunBy filter faults.Length) _ _ new h (h.judges, h.refused), opened);
       puts = (h.goes.0, counts_from_none 0 new.lines _ refl h.goes.2);
     }
@@ -138,6 +196,7 @@ module _ (filter : Filter) (known : KnownLists) where
       added = h.4.added;
       count = h.4.count;
       filters = h.4.filters;
+      short = h.4.below;
       halts = (h.0, h.1, first_of known name remained remains has (h.0 ++ h.1) h.2, h.3, refl, opened);
       puts = (h.4.goes.0, counts_from_none 0 new.lines _ refl h.4.goes.2);
     }
@@ -149,7 +208,7 @@ module _ (filter : Filter) (known : KnownLists) where
     output = [];
     count = 0;
     text = closed_text name fault;
-    filters = ([], [], 0, 0, closed_text name fault, [], true, false, inr ((fault, closed, missed, refl, refl, refl), refl), (refl, refl, refl, refl), refl, refl, sym (append-nil (closed_text name fault)), refl);
+    filters = ([], [], 0, 0, closed_text name fault, [], true, false, inr (inr ((fault, closed, missed, refl, refl, refl), refl)), (refl, refl, refl, refl), refl, refl, sym (append-nil (closed_text name fault)), refl);
     tells = tells;
     puts = puts_nothing old.holds old.waits;
     counted = counts_none old.selected old.selected refl;

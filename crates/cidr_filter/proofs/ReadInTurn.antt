@@ -1,7 +1,8 @@
 -- Lists that are read in turn.
-use Rattle.std.proofs.Common.{◌≡◌, ◌<◌, ◌≤◌, ◌+◌, ◌++◌, ◌∷◌, ◌∙◌, [], ℕ, Bool, List, true, false, not, cond, refl, sym, ap, subst, arith, length, get_or, drop, length-drop, true≢false}
+use Rattle.std.proofs.Common.{◌≡◌, ◌<◌, ◌≤◌, ◌+◌, ◌-◌, ◌^◌, ◌++◌, ◌∷◌, ◌∙◌, [], ℕ, Bool, List, true, false, not, cond, refl, sym, ap, subst, arith, length, get_or, min, drop, length-drop, true≢false}
 use Rattle.std.specs.Prelude.{Option, None, Some, Result, Ok, Err, OnOk, IfOk, IfErr, String, nat_lt, ◌&&◌, if◌then◌else◌, codes, bytes_eq}
 use Rattle.std.specs.List.{list_all}
+use Rattle.std.specs.Char.{is_ascii_digit}
 use Rattle.std.specs.String.{string_bytes}
 use Rattle.std.specs.Str.Lines.{lines}
 use Rattle.std.proofs.lemmas.List.{get_or-drop}
@@ -16,7 +17,7 @@ use Rattle.lists.specs.declared.named.ReadFault.{ReadFault}
 use Rattle.program.proofs.Told.{name_within}
 use Rattle.cidr_filter.specs.CommandLines.{Begin}
 use Rattle.cidr_filter.specs.Listed.{HasBlocksOf}
-use Rattle.cidr_filter.specs.Options.{option_of, behind_option, takes_next, in_one_word, field_option, separator_option, bad_option, letters_option, letters_in, is_field, is_separator, is_letter, number_of, begins, is_list}
+use Rattle.cidr_filter.specs.Options.{option_of, behind_option, takes_next, in_one_word, field_option, separator_option, most_option, bad_option, letters_option, letters_in, is_field, is_separator, is_letter, number_of, begins, is_list}
 use Rattle.cidr_filter.specs.Reading.{ReadsOption, next_place, ReadsOptions, ReadsLists, StopsAtOption, Stops, HoldsRead}
 use Rattle.program.specs.Told.{name_at}
 use Rattle.cidr_filter.specs.Private.Reading.{ReadsAll, HasSets, HasBlocks}
@@ -67,6 +68,11 @@ letters_other letters =
     either (nat_lt 0 (length letters) && list_all is_letter letters)
     (Some (choices.Letters (letters_in letters))) None refl refl
 
+most_other : (text : List ℕ) → is_other (most_option text) ≡ true
+most_other text =
+    either (nat_lt 0 (length text) && list_all is_ascii_digit text)
+    (Some (choices.Most (min (number_of text) (2 ^ 64 - 1)))) None refl refl
+
 bad_other : (text : List ℕ) → is_other (bad_option text) ≡ true
 bad_other text =
     let stop : Option Choice = if bytes_eq text (codes "stop") then Some (choices.WithoutAddress without.Stop) else None in
@@ -81,13 +87,15 @@ one_word_other word =
     let mapped : Option Choice = if bytes_eq word (codes "--mapped") then Some choices.Mapped else letters in
     let longest : Option Choice = if bytes_eq word (codes "--longest") then Some choices.Longest else mapped in
     let bad : Option Choice = if begins (codes "--bad=") word then bad_option (drop 6 word) else longest in
-    let separator : Option Choice = if begins (codes "-d") word then separator_option (drop 2 word) else bad in
+    let most : Option Choice = if begins (codes "-m") word then most_option (drop 2 word) else bad in
+    let separator : Option Choice = if begins (codes "-d") word then separator_option (drop 2 word) else most in
     either (begins (codes "-k") word) (field_option (drop 2 word)) separator (field_other (drop 2 word))
-    (either (begins (codes "-d") word) (separator_option (drop 2 word)) bad (separator_other (drop 2 word))
+    (either (begins (codes "-d") word) (separator_option (drop 2 word)) most (separator_other (drop 2 word))
+    (either (begins (codes "-m") word) (most_option (drop 2 word)) bad (most_other (drop 2 word))
     (either (begins (codes "--bad=") word) (bad_option (drop 6 word)) longest (bad_other (drop 6 word))
     (either (bytes_eq word (codes "--longest")) (Some choices.Longest) mapped refl
     (either (bytes_eq word (codes "--mapped")) (Some choices.Mapped) letters refl
-    (either (begins (codes "-") word) (letters_option (drop 1 word)) None (letters_other (drop 1 word)) refl)))))
+    (either (begins (codes "-") word) (letters_option (drop 1 word)) None (letters_other (drop 1 word)) refl))))))
 
 other_not_list : (o : Option Choice) (choice : Choice) → o ≡ Some choice → is_other o ≡ true → is_list choice ≡ true → ⊥
 other_not_list o choice e other list = true≢false (sym other ∙ ap is_other e ∙ ap not list)
@@ -115,6 +123,7 @@ pub reads_nothing : (known : KnownLists) (number : ℕ) (choice : Choice) (value
 reads_nothing known number (choices.Letters letters) value before e = refl
 reads_nothing known number (choices.Field field) value before e = refl
 reads_nothing known number (choices.Separator byte) value before e = refl
+reads_nothing known number (choices.Most most) value before e = refl
 reads_nothing known number (choices.WithoutAddress bad) value before e = refl
 reads_nothing known number choices.Longest value before e = refl
 reads_nothing known number choices.Mapped value before e = refl
@@ -135,6 +144,7 @@ file_is : {T E : Type 0} (result : Result T E) (known : KnownLists) (number : �
 file_is result known number (choices.Letters letters) value before after list not h = absurd (true≢false (sym list))
 file_is result known number (choices.Field field) value before after list not h = absurd (true≢false (sym list))
 file_is result known number (choices.Separator byte) value before after list not h = absurd (true≢false (sym list))
+file_is result known number (choices.Most most) value before after list not h = absurd (true≢false (sym list))
 file_is result known number (choices.WithoutAddress bad) value before after list not h = absurd (true≢false (sym list))
 file_is result known number choices.Longest value before after list not h = absurd (true≢false (sym list))
 file_is result known number choices.Mapped value before after list not h = absurd (true≢false (sym list))
@@ -194,6 +204,7 @@ file_stops_at : {T : Type 0} (result : Result T ReadFault) (known : KnownLists) 
 file_stops_at result known number (choices.Letters letters) value before refused list not h = absurd (true≢false (sym list))
 file_stops_at result known number (choices.Field field) value before refused list not h = absurd (true≢false (sym list))
 file_stops_at result known number (choices.Separator byte) value before refused list not h = absurd (true≢false (sym list))
+file_stops_at result known number (choices.Most most) value before refused list not h = absurd (true≢false (sym list))
 file_stops_at result known number (choices.WithoutAddress bad) value before refused list not h = absurd (true≢false (sym list))
 file_stops_at result known number choices.Longest value before refused list not h = absurd (true≢false (sym list))
 file_stops_at result known number choices.Mapped value before refused list not h = absurd (true≢false (sym list))

@@ -12,9 +12,9 @@ use Rattle.program.proofs.Told.{tells_same, tells_more}
 use Rattle.program.specs.Endings.{Ending, ending, Refuses, HasTold, HasWritten, status_of, end_text}
 use Rattle.program.specs.Messages.{Tells}
 use Rattle.lists.specs.KnownLists.{KnownLists}
-use Rattle.cidr_filter.specs.Filters.{Filters}
+use Rattle.cidr_filter.specs.Filters.{Filters, is_within}
 use Rattle.program.specs.LogLines.{LogLine}
-use Rattle.cidr_filter.specs.Logs.{EndsRunBy, filter_for}
+use Rattle.cidr_filter.specs.Logs.{EndsRunBy, is_short, filter_for}
 use Rattle.program.specs.Counts.{Counts}
 use Rattle.program.specs.LogFaults.{log_fault_text, Wrote, HandsOn, StopsBy}
 use Rattle.program.specs.Logs.{logs_of, HaltsBy}
@@ -38,14 +38,24 @@ use Rattle.program.proofs.LogReading.{failed_now}
 use Rattle.program.proofs.LogStops.{told_log, puts_then_all, written_behind, failed_behind, wrote_behind, wrote_same}
 use Rattle.cidr_filter.proofs.LogsInTurn.{PutsBy, NameStops, names_both, logs_both}
 use Rattle.cidr_filter.proofs.Addressed.{same_test}
+use Rattle.cidr_filter.proofs.Spent.{below_within}
 
 -- ---- a log that stops
 
+short_within : (fault : LogFault) (most : Option ℕ) (count : ℕ) → is_short fault most count ≡ true → is_within most count ≡ true
+short_within faults.Open most count e = below_within most count e
+short_within faults.Read most count e = below_within most count e
+short_within faults.Write most count e = e
+short_within faults.Address most count e = below_within most count e
+short_within faults.Length most count e = below_within most count e
+short_within faults.Endless most count e = below_within most count e
+
 -- the first lines of a log were filtered, and then it stopped
 at_log : {W E : Type 0} (filter : Filter) (known : KnownLists) (name : List ℕ) (fault : LogFault) (lines : List LogLine) (added : List ℕ) (more : ℕ) (end : Ending W E)
-    → end.status ≡ 2 → Filters (filter_for filter name) lines added more → HaltsBy (EndsRunBy filter) known name lines fault → Wrote fault end ([] ++ added)
+    → end.status ≡ 2 → Filters (filter_for filter name) lines added more → is_short fault filter.most more ≡ true → HaltsBy (EndsRunBy filter) known name lines fault
+    → Wrote fault end ([] ++ added)
     → HasTold end (log_fault_text name (length lines) fault) → StopsAtLog filter known (name ∷ []) end
-at_log filter known name fault lines added more end two filters halts wrote told = record {
+at_log filter known name fault lines added more end two filters short halts wrote told = record {
   before = [];
   name = name;
   behind = [];
@@ -60,6 +70,7 @@ at_log filter known name fault lines added more end two filters halts wrote told
   logs = refl;
   filters = (refl, refl, refl, refl);
   first = filters;
+  short = short;
   halts = halts;
   wrote = wrote;
   told = told;
@@ -69,39 +80,39 @@ at_log filter known name fault lines added more end two filters halts wrote told
 module _ {W E : Type 0} (filter : Filter) (known : KnownLists) (name : List ℕ) (lines : List LogLine) (added : List ℕ) (more : ℕ)
     (filters : Filters (filter_for filter name) lines added more) (end : Ending W E) (two : end.status ≡ 2) (mid : Written W) (told : ℕ) where
   -- the output of these lines was put, and then what waited was written or not
-  handed : (fault : LogFault) → HaltsBy (EndsRunBy filter) known name lines fault → ((text : List ℕ) → HasWritten end text → Wrote fault end text)
+  handed : (fault : LogFault) → is_short fault filter.most more ≡ true → HaltsBy (EndsRunBy filter) known name lines fault → ((text : List ℕ) → HasWritten end text → Wrote fault end text)
       → Prints end.output mid added × (told ≡ min (length lines) (2 ^ 64 - 1))
       → HandsOn name told fault (record end { output = mid }) → StopsAtLog filter known (name ∷ []) end
-  handed fault halts wrote p (inl h) =
-      at_log filter known name fault lines added more end two filters halts (wrote ([] ++ added) (written_behind end mid added p.0 h.0))
+  handed fault short halts wrote p (inl h) =
+      at_log filter known name fault lines added more end two filters short halts (wrote ([] ++ added) (written_behind end mid added p.0 h.0))
       (tells_same end.errors end.errors_after _ _ (told_log name told (length lines) fault p.1) h.1)
-  handed fault halts wrote p (inr h) =
-      at_log filter known name faults.Write lines added more end two filters (some_first (EndsRunBy filter) known name lines fault halts) (failed_behind end mid added p.0 h.0) h.1
+  handed fault short halts wrote p (inr h) =
+      at_log filter known name faults.Write lines added more end two filters (short_within fault filter.most more short) (some_first (EndsRunBy filter) known name lines fault halts) (failed_behind end mid added p.0 h.0) h.1
 
   -- the writer had failed
-  had_failed : HaltsBy (EndsRunBy filter) known name lines faults.Write → IsTrue mid.failed
+  had_failed : is_within filter.most more ≡ true → HaltsBy (EndsRunBy filter) known name lines faults.Write → IsTrue mid.failed
       × FailsIn end.output mid added
       → (end.output_after ≡ mid) × HasTold (record end { output = mid }) (codes "write error\n") → StopsAtLog filter known (name ∷ []) end
-  had_failed halts p stops =
-      at_log filter known name faults.Write lines added more end two filters halts
+  had_failed short halts p stops =
+      at_log filter known name faults.Write lines added more end two filters short halts
       (subst (λ (o : Written W). (o.failed ≡ true) × FailsIn end.output o added) (sym stops.0) p) stops.1
 
-  stops_now : (fault : LogFault) (old new : Tally) → new.lines ≡ told → HaltsBy (EndsRunBy filter) known name lines fault
+  stops_now : (fault : LogFault) (old new : Tally) → new.lines ≡ told → is_short fault filter.most more ≡ true → HaltsBy (EndsRunBy filter) known name lines fault
       → PutsBy fault mid.failed (stand end.output old) (stand mid new) added (length lines)
       → StopsBy name told fault (record end { output = mid }) → StopsAtLog filter known (name ∷ []) end
-  stops_now faults.Open old new same halts puts stops = handed faults.Open halts (λ text h. h) (puts.0, sym same ∙ puts.1) stops
-  stops_now faults.Read old new same halts puts stops = handed faults.Read halts (λ text h. h) (puts.0, sym same ∙ puts.1) stops
-  stops_now faults.Write old new same halts puts stops = had_failed halts puts stops
-  stops_now faults.Address old new same halts puts stops = handed faults.Address halts (λ text h. h) (puts.0, sym same ∙ puts.1) stops
-  stops_now faults.Length old new same halts puts stops = handed faults.Length halts (λ text h. h) (puts.0, sym same ∙ puts.1) stops
-  stops_now faults.Endless old new same halts puts stops = handed faults.Endless halts (λ text h. h) (puts.0, sym same ∙ puts.1) stops
+  stops_now faults.Open old new same short halts puts stops = handed faults.Open short halts (λ text h. h) (puts.0, sym same ∙ puts.1) stops
+  stops_now faults.Read old new same short halts puts stops = handed faults.Read short halts (λ text h. h) (puts.0, sym same ∙ puts.1) stops
+  stops_now faults.Write old new same short halts puts stops = had_failed short halts puts stops
+  stops_now faults.Address old new same short halts puts stops = handed faults.Address short halts (λ text h. h) (puts.0, sym same ∙ puts.1) stops
+  stops_now faults.Length old new same short halts puts stops = handed faults.Length short halts (λ text h. h) (puts.0, sym same ∙ puts.1) stops
+  stops_now faults.Endless old new same short halts puts stops = handed faults.Endless short halts (λ text h. h) (puts.0, sym same ∙ puts.1) stops
 
 -- a log that was not filtered to its end
 pub name_stops : {W E : Type 0} (filter : Filter) (known : KnownLists) (name : List ℕ) (end : Ending W E) → end.status ≡ 2 → (mid : Written W) (fault : LogFault) (old new : Tally)
     → NameStops filter known name mid.failed (stand end.output old) (stand mid new) fault → StopsBy name new.lines fault (record end { output = mid })
     → StopsAtLog filter known (name ∷ []) end
 name_stops filter known name end two mid fault old new s stops =
-    stops_now filter known name s.lines s.added s.count s.filters end two mid new.lines fault old new refl s.halts s.puts stops
+    stops_now filter known name s.lines s.added s.count s.filters end two mid new.lines fault old new refl s.short s.halts s.puts stops
 
 -- ---- logs in turn
 
@@ -125,6 +136,7 @@ stops_behind_names filter known done more rest names missed end mid between old 
   logs = names_behind done more rest names s.before s.behind s.name e s.logs;
   filters = logs_both filter known done s.before f.output s.output f.count s.selected f.text s.texts missed s.missed f.filters s.filters;
   first = s.first;
+  short = s.short;
   halts = s.halts;
   wrote = wrote_same s.fault end _ _ (sym (append_assoc f.output s.output s.added)) (wrote_behind s.fault end mid between f.output (s.output ++ s.added) f.puts s.wrote);
   told = tells_same end.errors end.errors_after _ _ (sym (append_assoc f.text s.texts (log_fault_text s.name (length s.lines) s.fault)))

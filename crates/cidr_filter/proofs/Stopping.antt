@@ -20,6 +20,7 @@ use Rattle.cidr_filter.specs.declared.filter.Verdict.{Verdict}
 use Rattle.cidr_filter.specs.declared.filter.Verdict.TheVariants as verdicts
 use Rattle.cidr_filter.specs.declared.log.Tally.{Tally}
 use Rattle.cidr_filter.proofs.Filtering.{goes_idle, goes_still}
+use Rattle.cidr_filter.proofs.Spent.{below_within, within_more}
 use Rattle.cidr_filter.proofs.LogParts.{both}
 
 module _ (filter : Filter) (was now : LogReader) (remained before after : Option (List ℕ)) (old mid between : Stand)
@@ -43,6 +44,7 @@ module _ (filter : Filter) (was now : LogReader) (remained before after : Option
     reads = next.reads;
     lines = next.lines;
     filters = s.filters;
+    below = s.below;
     goes = still;
     is_line = next.is_line;
     judges = judges;
@@ -75,6 +77,7 @@ module _ (filter : Filter) (was now : LogReader) (remained before after : Option
           sym (append-nil added),
           omega arith,
         );
+        within = within_more filter.most s.count (is_selected filter verdict) s.below;
         beginning = begins_after_puts old.holds between.holds new.holds old.waits between.waits s.added
             added still.0 took;
       }
@@ -131,6 +134,7 @@ module _ (filter : Filter) (was now : LogReader) (remained before after : Option
     reads = given.1;
     end = given.2;
     filters = subst (λ (ls : List LogLine). Filters filter ls s.added s.count) (sym given.3) s.filters;
+    below = s.below;
     goes = subst (λ (ls : List LogLine). Goes old between s.added s.count (length ls)) (sym given.3) still;
     addressed = seen ∙ s.addressed
         ∙ ap (λ (ls : List LogLine). old.addressed || any_addressed filter ls) (sym given.3);
@@ -146,6 +150,7 @@ module _ {W : Type 0} (filter : Filter) (was : LogReader) (remained before after
     added = s.added;
     count = s.count;
     filters = subst (λ (ls : List LogLine). Filters filter ls s.added s.count) (sym are) s.filters;
+    below = s.below;
     goes = subst (λ (ls : List LogLine). Goes old (stand new tally) s.added s.count (length ls)) (sym are)
         (goes_still old (stand mid tally) (stand new tally) s.added s.count (length s.first) s.goes idle);
   }
@@ -166,6 +171,7 @@ module _ {W : Type 0} (filter : Filter) (was : LogReader) (remained before after
       reads = h.4;
       lines = h.5;
       filters = s.filters;
+      within = below_within filter.most s.count s.below;
       beginning = subst (λ t. AppendsBeginning old.holds new.holds (old.waits ++ t)) (append-nil s.added)
           (begins_after_puts old.holds mid.holds new.holds old.waits mid.waits s.added [] s.goes.0 h.1);
     },

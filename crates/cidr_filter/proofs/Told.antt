@@ -31,10 +31,10 @@ not_second : (a b : Bool) → (a || b) ≡ false → b ≡ false
 not_second true b e = absurd (true≢false e)
 not_second false b e = e
 
-not_text : (file text field separator bad behind : Bool) → (((((file || text) || field) || separator) || bad) || behind) ≡ false → text ≡ false
-not_text file text field separator bad behind e =
-    not_second file text (not_first (file || text) field (not_first ((file || text) || field) separator (not_first (((file || text) || field) || separator) bad
-    (not_first ((((file || text) || field) || separator) || bad) behind e))))
+not_text : (file text field separator most bad behind : Bool) → ((((((file || text) || field) || separator) || most) || bad) || behind) ≡ false → text ≡ false
+not_text file text field separator most bad behind e =
+    not_second file text (not_first (file || text) field (not_first ((file || text) || field) separator (not_first (((file || text) || field) || separator) most
+    (not_first ((((file || text) || field) || separator) || most) bad (not_first (((((file || text) || field) || separator) || most) || bad) behind e)))))
 
 -- an option of two words, or of one
 two_or_one : {Z : Type 0} (word value : String Z) (words : List (String Z)) (takes : Bool) → takes_next word ≡ takes
@@ -42,7 +42,7 @@ two_or_one : {Z : Type 0} (word value : String Z) (words : List (String Z)) (tak
 two_or_one word value words true e = refl
 two_or_one word value words false e =
     let none : one_if (is (codes "-e") word) ≡ 0 =
-    ap one_if (not_text (is (codes "-f") word) (is (codes "-e") word) (is (codes "-k") word) (is (codes "-d") word) (is (codes "--bad") word) (is (codes "--after") word) e) in
+    ap one_if (not_text (is (codes "-f") word) (is (codes "-e") word) (is (codes "-k") word) (is (codes "-d") word) (is (codes "-m") word) (is (codes "--bad") word) (is (codes "--after") word) e) in
     omega (arith, none)
 
 first_text : {Z : Type 0} (word : String Z) (words : List (String Z)) → texts_in (word ∷ words) ≡ one_if (is (codes "-e") word) + texts_in (behind_option (word ∷ words))

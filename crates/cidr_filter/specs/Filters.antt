@@ -1,5 +1,5 @@
 -- Which lines of a log are selected.
-use Rattle.std.specs.Prelude.{◌≡◌, ℕ, ◌+◌, ◌-◌, ◌<◌, ◌≤◌, ◌⊎◌, Bool, true, false, not, ◌&&◌, List, [], ◌∷◌, ◌++◌, Option, None, Some, length, take, map, flat_map, slice_get, codes, if◌then◌else◌}
+use Rattle.std.specs.Prelude.{◌≡◌, ℕ, ◌+◌, ◌-◌, ◌<◌, ◌≤◌, ◌⊎◌, Bool, true, false, not, ◌&&◌, List, [], ◌∷◌, ◌++◌, Option, None, Some, length, take, map, flat_map, slice_get, codes, nat_lt, nat_le, if◌then◌else◌}
 use Rattle.std.specs.List.{AllByRecursion}
 use Rattle.std.specs.Option.{option_to_list}
 use Rattle.ipnetwork_addr.specs.declared.ip.IpAddr.{IpAddr}
@@ -10,7 +10,7 @@ use Rattle.line_addresses.specs.Following.{following}
 use Rattle.line_addresses.specs.Mapped.{unmapped}
 use Rattle.line_addresses.specs.Words.{words_of}
 use Rattle.line_addresses.specs.Fields.{field_of}
-use Rattle.program.specs.LogLines.{LogLine, content, printed}
+use Rattle.program.specs.LogLines.{LogLine, content, printed, IsWhole}
 use Rattle.cidr_filter.specs.Listed.{IsIn, IsLongestBlock, has_address}
 use Rattle.cidr_filter.specs.declared.filter.WithoutAddress.{WithoutAddress}
 use Rattle.cidr_filter.specs.declared.filter.WithoutAddress.TheVariants as without
@@ -160,6 +160,15 @@ shown_of filter verdict line text = if filter.only then texts_of filter (spelled
 abbrev pub output_of : Filter → Verdict → LogLine → List ℕ
 output_of filter verdict line = if is_selected filter verdict && not filter.counts then shown_of filter verdict (content line) (printed line) else []
 
+-- fewer lines are selected than may be, or as many at the most
+abbrev pub is_below : Option ℕ → ℕ → Bool
+is_below None count = true
+is_below (Some most) count = nat_lt count most
+
+abbrev pub is_within : Option ℕ → ℕ → Bool
+is_within None count = true
+is_within (Some most) count = nat_le count most
+
 -- how many lines that is
 abbrev pub one_if : Bool → ℕ
 one_if selected = if selected then 1 else 0
@@ -170,3 +179,13 @@ Filters filter [] output count = (output ≡ []) × (count ≡ 0)
 Filters filter (line ∷ lines) output count = (verdict : Verdict) × (others : List ℕ) × (more : ℕ) × IsVerdict filter (content line) verdict
     × (is_refused filter verdict ≡ false) × Filters filter lines others more
     × (output ≡ output_of filter verdict line ++ others) × (count ≡ one_if (is_selected filter verdict) + more)
+
+-- there are no lines, or the last of them is selected, and is a line whatever comes after it
+abbrev pub LastIsSelected : Filter → Type 0 → List LogLine → Type 0
+LastIsSelected filter ends lines = (lines ≡ []) ⊎ ((first : List LogLine) × (line : LogLine) × (verdict : Verdict) × (lines ≡ first ++ line ∷ [])
+    × IsWhole ends line × IsVerdict filter (content line) verdict × (is_selected filter verdict ≡ true))
+
+-- a log ends with these lines, of which so many are selected: they are as many as may be
+pub record AreAll (filter : Filter) (ends : Type 0) (lines : List LogLine) (count : ℕ) : Type 0 where
+  pub most : filter.most ≡ Some count
+  pub last : LastIsSelected filter ends lines

@@ -18,16 +18,16 @@ value_words [] = []
 value_words (letter ∷ []) = (45 ∷ letter ∷ []) ∷ []
 value_words (letter ∷ byte ∷ value) = (45 ∷ letter ∷ []) ∷ (byte ∷ value) ∷ []
 
--- the options of these letters take a value: `f`, `e`, `k` and `d`
+-- the options of these letters take a value: `f`, `e`, `k`, `d` and `m`
 abbrev pub takes_value : ℕ → Bool
-takes_value letter = letter == 102 || letter == 101 || letter == 107 || letter == 100
+takes_value letter = letter == 102 || letter == 101 || letter == 107 || letter == 100 || letter == 109
 
 abbrev pub begins_with_value : List ℕ → Bool
 begins_with_value [] = false
 begins_with_value (letter ∷ text) = takes_value letter
 
--- a text begins with `f` or `e`, or with letters of options and then that of one that takes a value. With `k` or `d` it
--- is an option in one word
+-- a text begins with `f` or `e`, or with letters of options and then that of one that takes a value. With `k`, `d` or
+-- `m` it is an option in one word
 abbrev pub is_joined : List ℕ → Bool
 is_joined [] = false
 is_joined (first ∷ text) = first == 102 || first == 101 || is_letter first && begins_with_value (after_letters (first ∷ text))

@@ -52,8 +52,8 @@ are_flags word = begins_with (codes "-") word && (nat_lt 0 (length (drop 1 word)
 -- a word of an option
 abbrev pub is_option_word : List ℕ → Bool
 is_option_word word =
-    is_one_of (codes "-f" ∷ codes "-e" ∷ codes "-k" ∷ codes "-d" ∷ codes "--bad" ∷ codes "--longest" ∷ codes "--mapped" ∷ codes "--after" ∷ []) word
-    || begins_with_one_of (codes "-k" ∷ codes "-d" ∷ codes "--bad=" ∷ []) word || are_flags word
+    is_one_of (codes "-f" ∷ codes "-e" ∷ codes "-k" ∷ codes "-d" ∷ codes "-m" ∷ codes "--bad" ∷ codes "--longest" ∷ codes "--mapped" ∷ codes "--after" ∷ []) word
+    || begins_with_one_of (codes "-k" ∷ codes "-d" ∷ codes "-m" ∷ codes "--bad=" ∷ []) word || are_flags word
 
 -- every other word is no option, whatever follows it
 abbrev pub OthersAreNoOptions : {Z : Type 0} → List (String Z) → Type 0

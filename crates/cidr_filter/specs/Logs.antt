@@ -1,10 +1,10 @@
 -- Logs that are filtered in turn.
-use Rattle.std.specs.Prelude.{◌≡◌, ℕ, ◌+◌, ◌||◌, ◌⊎◌, Bool, true, false, List, [], ◌∷◌, ◌++◌, if◌then◌else◌, codes, bytes_eq}
+use Rattle.std.specs.Prelude.{◌≡◌, ℕ, ◌+◌, ◌||◌, ◌⊎◌, Bool, true, false, Option, List, [], ◌∷◌, ◌++◌, if◌then◌else◌, codes, bytes_eq}
 use Rattle.lists.specs.KnownLists.{KnownLists}
 use Rattle.cidr_filter.specs.Addressed.{lacking_text, closed_text}
-use Rattle.cidr_filter.specs.Filters.{IsVerdict, is_refused, Filters}
-use Rattle.program.specs.LogLines.{log_lines}
-use Rattle.program.specs.Logs.{IsAllOf}
+use Rattle.cidr_filter.specs.Filters.{IsVerdict, is_refused, is_below, is_within, Filters, AreAll}
+use Rattle.program.specs.LogLines.{LogLine, log_lines}
+use Rattle.program.specs.Logs.{IsAllOf, IsFirstOf}
 use Rattle.cidr_filter.specs.declared.filter.Filter.{Filter}
 use Rattle.cidr_filter.specs.declared.filter.Verdict.TheVariants as verdicts
 use Rattle.program.specs.declared.log_fault.LogFault.{LogFault}
@@ -24,21 +24,37 @@ filter_for filter name = record filter { name = label_of filter.named name }
 -- reported if none of them has an address
 abbrev pub ReadsLog : Filter → KnownLists → List ℕ → List ℕ → ℕ → List ℕ → Type 0
 ReadsLog filter known name output selected told = (read : List ℕ) × IsAllOf known name read × Filters (filter_for filter name) (log_lines read) output selected
-    × (told ≡ lacking_text filter name (log_lines read))
+    × (told ≡ lacking_text filter name (log_lines read)) × (is_below filter.most selected ≡ true)
+
+-- or it was read up to the last line that may be selected, and nothing is reported of it
+abbrev pub LeavesLog : Filter → KnownLists → List ℕ → List ℕ → ℕ → List ℕ → Type 0
+LeavesLog filter known name output selected told = (read : List ℕ) × (lines : List LogLine) × (others : List LogLine) × known.may_open name true × IsFirstOf known name read
+    × (log_lines read ≡ lines ++ others) × Filters (filter_for filter name) lines output selected × AreAll (filter_for filter name) (IsAllOf known name read) lines selected × (told ≡ [])
 
 -- or it cannot be opened, which is reported with the cause
 abbrev pub MissesLog : KnownLists → List ℕ → List ℕ → ℕ → List ℕ → Type 0
 MissesLog known name output selected told = (fault : OpenFault) × known.may_open name false × known.may_miss name fault × (output ≡ []) × (selected ≡ 0) × (told ≡ closed_text name fault)
 
--- the logs of these names were read to their ends, or could not be opened, one after the other: this is the output of
+-- the logs of these names were read to their ends, or left, or could not be opened, one after the other: this is the output of
 -- their lines, this many of them were selected, this is reported, and whether one could not be opened
 abbrev pub FiltersLogs : Filter → KnownLists → List (List ℕ) → List ℕ → ℕ → List ℕ → Bool → Type 0
 FiltersLogs filter known [] output selected told missed = (output ≡ []) × (selected ≡ 0) × (told ≡ []) × (missed ≡ false)
 FiltersLogs filter known (name ∷ names) output selected told missed = (added : List ℕ) × (others : List ℕ) × (one : ℕ) × (more : ℕ) × (text : List ℕ) × (texts : List ℕ)
     × (is_missed : Bool) × (are_missed : Bool)
-    × ((ReadsLog filter known name added one text × (is_missed ≡ false)) ⊎ (MissesLog known name added one text × (is_missed ≡ true)))
+    × ((ReadsLog filter known name added one text × (is_missed ≡ false)) ⊎ ((LeavesLog filter known name added one text × (is_missed ≡ false))
+    ⊎ (MissesLog known name added one text × (is_missed ≡ true))))
     × FiltersLogs filter known names others more texts are_missed
     × (output ≡ added ++ others) × (selected ≡ one + more) × (told ≡ text ++ texts) × (missed ≡ (is_missed || are_missed))
+
+-- so many lines of a log are selected where it ends a run, by the fault: fewer than may be, and at a failed write as many
+-- at the most
+abbrev pub is_short : LogFault → Option ℕ → ℕ → Bool
+is_short faults.Open most count = is_below most count
+is_short faults.Read most count = is_below most count
+is_short faults.Write most count = is_within most count
+is_short faults.Address most count = is_below most count
+is_short faults.Length most count = is_below most count
+is_short faults.Endless most count = is_below most count
 
 -- what ends a run, by the fault: a line, given without its end, without an address, if the option says so, or one that is
 -- too long and is not dropped

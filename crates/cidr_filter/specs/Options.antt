@@ -1,5 +1,5 @@
 -- What an option of the command line says.
-use Rattle.std.specs.Prelude.{ℕ, ◌+◌, ◌-◌, ◌*◌, ◌==◌, ◌||◌, ◌&&◌, Bool, true, false, not, List, [], ◌∷◌, Option, None, Some, take, drop, length, nat_lt, nat_le, if◌then◌else◌, codes, bytes_eq, fold, String}
+use Rattle.std.specs.Prelude.{ℕ, ◌+◌, ◌-◌, ◌*◌, ◌^◌, min, ◌==◌, ◌||◌, ◌&&◌, Bool, true, false, not, List, [], ◌∷◌, Option, None, Some, take, drop, length, nat_lt, nat_le, if◌then◌else◌, codes, bytes_eq, fold, String}
 use Rattle.std.specs.List.{list_all, list_any}
 use Rattle.std.specs.String.{string_bytes}
 use Rattle.std.specs.Char.{is_ascii_digit}
@@ -33,6 +33,10 @@ abbrev pub separator_option : List ℕ → Option Choice
 separator_option [] = None
 separator_option (byte ∷ []) = if is_separator byte then Some (choices.Separator byte) else None
 separator_option (byte ∷ other ∷ bytes) = None
+
+-- `-m`: digits, of a number. One above the greatest of 64 bits counts as that
+abbrev pub most_option : List ℕ → Option Choice
+most_option text = if nat_lt 0 (length text) && list_all is_ascii_digit text then Some (choices.Most (min (number_of text) (2 ^ 64 - 1))) else None
 
 -- `--bad`: one of three words
 abbrev pub bad_option : List ℕ → Option Choice
@@ -74,7 +78,7 @@ letters_option text = if nat_lt 0 (length text) && list_all is_letter text then 
 
 -- the value of such an option is the next word
 abbrev pub takes_next : {Z : Type 0} → String Z → Bool
-takes_next word = is (codes "-f") word || is (codes "-e") word || is (codes "-k") word || is (codes "-d") word || is (codes "--bad") word
+takes_next word = is (codes "-f") word || is (codes "-e") word || is (codes "-k") word || is (codes "-d") word || is (codes "-m") word || is (codes "--bad") word
     || is (codes "--after") word
 
 abbrev pub in_two_words : {Z : Type 0} → String Z → List ℕ → Option Choice
@@ -83,15 +87,17 @@ in_two_words name value =
     else if is (codes "-e") name then text_option value
     else if is (codes "-k") name then field_option value
     else if is (codes "-d") name then separator_option value
+    else if is (codes "-m") name then most_option value
     else if is (codes "--bad") name then bad_option value
     else after_option value
 
--- others are one word, in which the value of `-k` and of `-d` may stand after the letter, and that of `--bad` after a
+-- others are one word, in which the value of `-k`, of `-d` and of `-m` may stand after the letter, and that of `--bad` after a
 -- `=`
 abbrev pub in_one_word : List ℕ → Option Choice
 in_one_word word =
     if begins (codes "-k") word then field_option (drop 2 word)
     else if begins (codes "-d") word then separator_option (drop 2 word)
+    else if begins (codes "-m") word then most_option (drop 2 word)
     else if begins (codes "--bad=") word then bad_option (drop 6 word)
     else if bytes_eq word (codes "--longest") then Some choices.Longest
     else if bytes_eq word (codes "--mapped") then Some choices.Mapped
@@ -129,6 +135,7 @@ abbrev pub with_option : Request → Choice → Request
 with_option request (choices.Letters letters) = record request { letters = either request.letters letters }
 with_option request (choices.Field number) = record request { field = Some number }
 with_option request (choices.Separator byte) = record request { separator = Some byte }
+with_option request (choices.Most most) = record request { most = Some most }
 with_option request (choices.WithoutAddress bad) = record request { bad = bad }
 with_option request choices.Longest = record request { longest = true }
 with_option request choices.Mapped = record request { mapped = true }
@@ -137,12 +144,13 @@ with_option request choices.File = record request { has_list = true }
 with_option request choices.Input = record request { has_list = true; inputs = request.inputs + 1 }
 with_option request choices.Text = record request { has_list = true }
 
--- without options no place of the address is said, and bad lines are dropped
+-- without options no place of the address is said, bad lines are dropped, and all lines may be selected
 abbrev pub no_options : Request
 no_options = record {
   letters = record { inverts = false; counts = false; anywhere = false; words = false; only = false; named = false; unnamed = false };
   field = None;
   separator = None;
+  most = None;
   after = false;
   mapped = false;
   longest = false;
@@ -177,6 +185,7 @@ abbrev pub is_list : Choice → Bool
 is_list (choices.Letters letters) = false
 is_list (choices.Field number) = false
 is_list (choices.Separator byte) = false
+is_list (choices.Most most) = false
 is_list (choices.WithoutAddress bad) = false
 is_list choices.Longest = false
 is_list choices.Mapped = false

@@ -1,5 +1,6 @@
 -- What the private functions promise each other.
 pub mod Judging
+pub mod Leaving
 pub mod Progress
 pub mod Reading
 pub mod Requests

@@ -17,7 +17,7 @@ use Rattle.cidr_filter.specs.CommandLines.{Says, AsksNothing}
 use Rattle.cidr_filter.specs.Filters.{Filters}
 use Rattle.program.specs.LogFaults.{log_fault_text, FailsWriting, Wrote}
 use Rattle.program.specs.Logs.{logs_of, HaltsBy}
-use Rattle.cidr_filter.specs.Logs.{FiltersLogs, EndsRunBy, filter_for}
+use Rattle.cidr_filter.specs.Logs.{FiltersLogs, EndsRunBy, is_short, filter_for}
 use Rattle.cidr_filter.specs.Reading.{IsReadOf, Stops, HoldsRead}
 use Rattle.program.specs.LogLines.{LogLine}
 use Rattle.cidr_filter.specs.Options.{text_after}
@@ -48,6 +48,7 @@ pub record StopsAtLog {W E : Type 0} (filter : Filter) (known : KnownLists) (nam
   pub logs : names ≡ before ++ name ∷ behind
   pub filters : FiltersLogs filter known before output selected texts missed
   pub first : Filters (filter_for filter name) lines added more
+  pub short : is_short fault filter.most more ≡ true
   pub halts : HaltsBy (EndsRunBy filter) known name lines fault
   pub wrote : Wrote fault end (output ++ added)
   pub told : HasTold end (texts ++ log_fault_text name (length lines) fault)
@@ -61,7 +62,7 @@ total_text counts selected = if counts then decimal (min selected (2 ^ 64 - 1)) 
 abbrev pub status_by : Bool → ℕ → ℕ
 status_by missed selected = if missed then 2 else if nat_lt 0 selected then 0 else 1
 
--- all logs were filtered to their ends, but those that could not be opened
+-- all logs were filtered to their ends, or left, but those that could not be opened
 pub record FiltersAll {W E : Type 0} (filter : Filter) (known : KnownLists) (names : List (List ℕ)) (end : Ending W E) : Type 0 where
   pub output : List ℕ
   pub selected : ℕ
@@ -94,6 +95,7 @@ filter_of words request listed = record {
   mapped = request.mapped;
   inverts = request.letters.inverts;
   bad = request.bad;
+  most = request.most;
   counts = request.letters.counts;
   only = request.letters.only;
   named = request.letters.named;

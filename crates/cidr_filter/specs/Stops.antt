@@ -3,12 +3,16 @@ use Rattle.std.specs.Prelude.{◌≡◌, ℕ, ◌-◌, ◌^◌, ◌<◌, ◌||�
 use Rattle.std.specs.Io.KnownBytes.{Consumes, IsAtEnd}
 use Rattle.lines.specs.Outputs.{AppendsBeginning}
 use Rattle.cidr_filter.specs.Addressed.{any_addressed}
-use Rattle.cidr_filter.specs.Filters.{IsVerdict, is_refused, Filters}
+use Rattle.cidr_filter.specs.Filters.{IsVerdict, is_refused, is_below, is_within, Filters, AreAll}
 use Rattle.program.specs.LogLines.{LogLine, log_lines, ended_lines, content, IsWhole}
+use Rattle.program.specs.LogReaders.{HandsFirst}
+use Rattle.program.specs.declared.log_reader.LogReader.{LogReader}
 use Rattle.cidr_filter.specs.Stands.{Stand, Goes}
 use Rattle.cidr_filter.specs.declared.filter.Filter.{Filter}
 use Rattle.cidr_filter.specs.declared.filter.Verdict.{Verdict}
 use Rattle.cidr_filter.specs.declared.filter.Verdict.TheVariants as verdicts
+use Rattle.cidr_filter.specs.declared.log.Reached.{Reached}
+use Rattle.cidr_filter.specs.declared.log.Reached.TheVariants.{End, Last}
 use Rattle.program.specs.declared.log_fault.LogFault.{LogFault}
 use Rattle.program.specs.declared.log_fault.LogFault.TheVariants.{Open, Read, Write, Address, Length, Endless}
 
@@ -20,14 +24,32 @@ pub record Ends (filter : Filter) (remained remains : Option (List ℕ)) (old ne
   pub reads : Consumes remained remains read
   pub end : IsAtEnd remains
   pub filters : Filters filter (log_lines read) added count
+  pub below : is_below filter.most count ≡ true
   pub goes : Goes old new added count (length (log_lines read))
   pub addressed : new.addressed ≡ (old.addressed || any_addressed filter (log_lines read))
+
+-- of what was read the first lines were filtered, up to the last that may be selected, and the reader of the log handed
+-- out no other
+pub record Leaves (filter : Filter) (log : LogReader) (remained remains : Option (List ℕ)) (old new : Stand) : Type 0 where
+  pub first : List LogLine
+  pub added : List ℕ
+  pub count : ℕ
+  pub hands : HandsFirst log remained remains first
+  pub filters : Filters filter first added count
+  pub all : AreAll filter (IsAtEnd remains) first count
+  pub goes : Goes old new added count (length first)
+
+-- where it ends, if nothing stops it
+abbrev pub EndsBy : Reached → Filter → LogReader → Option (List ℕ) → Option (List ℕ) → Stand → Stand → Type 0
+EndsBy End filter log remained remains old new = Ends filter remained remains old new
+EndsBy Last filter log remained remains old new = Leaves filter log remained remains old new
 
 -- of these bytes the lines were filtered whose line feed is there
 pub record FiltersEnded (filter : Filter) (old new : Stand) (bytes : List ℕ) : Type 0 where
   pub added : List ℕ
   pub count : ℕ
   pub filters : Filters filter (ended_lines bytes) added count
+  pub below : is_below filter.most count ≡ true
   pub goes : Goes old new added count (length (ended_lines bytes))
 
 -- of what was read the first lines were filtered, and the writer, which failed, took a beginning of their output
@@ -40,6 +62,7 @@ pub record WritesBeginning (filter : Filter) (remained remains : Option (List �
   pub reads : Consumes remained remains read
   pub lines : log_lines read ≡ first ++ others
   pub filters : Filters filter first added count
+  pub within : is_within filter.most count ≡ true
   pub beginning : AppendsBeginning old.holds new.holds (old.waits ++ added)
 
 -- of what was read the first lines were filtered, and the next line, of this verdict, ends the run
@@ -53,6 +76,7 @@ pub record EndsAtLine (filter : Filter) (remained remains : Option (List ℕ)) (
   pub reads : Consumes remained remains read
   pub lines : log_lines read ≡ first ++ line ∷ others
   pub filters : Filters filter first added count
+  pub below : is_below filter.most count ≡ true
   pub goes : Goes old new added count (length first)
   pub is_line : IsWhole (IsAtEnd remains) line
   pub judges : IsVerdict filter (content line) verdict

@@ -17,6 +17,7 @@ abbrev pub problem_text : Problem → List ℕ
 problem_text problems.NoValue = codes "has no value"
 problem_text problems.Field = codes "is no field number"
 problem_text problems.Separator = codes "is not one ASCII byte other than LF, CR and NUL"
+problem_text problems.Most = codes "is no number of lines"
 problem_text problems.WithoutAddress = codes "is not drop, keep or stop"
 problem_text problems.Name = codes "is no file name"
 problem_text problems.Text = codes "is no network or range"
@@ -44,6 +45,7 @@ value_problem name =
     else if is (codes "-e") name then problems.Text
     else if is (codes "-k") name then problems.Field
     else if is (codes "-d") name then problems.Separator
+    else if is (codes "-m") name then problems.Most
     else if is (codes "--bad") name then problems.WithoutAddress
     else problems.Empty
 
@@ -52,6 +54,7 @@ abbrev pub word_problem : List ℕ → Problem
 word_problem word =
     if begins (codes "-k") word then problems.Field
     else if begins (codes "-d") word then problems.Separator
+    else if begins (codes "-m") word then problems.Most
     else if begins (codes "--bad=") word then problems.WithoutAddress
     else if bytes_eq word (codes "--help") || bytes_eq word (codes "--version") then problems.NotAlone
     else problems.NoOption

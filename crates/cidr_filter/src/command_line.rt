@@ -20,6 +20,8 @@ pub struct Request {
     pub field: Option<u32>,
     /// The byte between fields, if an option says it.
     pub separator: Option<u8>,
+    /// How many lines of a log are selected at the most, if an option says it.
+    pub most: Option<u64>,
     /// Whether an option says the text that a line's address follows.
     pub after: bool,
     /// Whether an IPv4-mapped address of a line counts as its IPv4 one.
@@ -71,6 +73,7 @@ fn options_of(words: &[String]) -> Request
         },
         field: None,
         separator: None,
+        most: None,
         after: false,
         mapped: false,
         longest: false,
@@ -154,6 +157,10 @@ fn with_choice(request: Request, choice: Choice) -> Request
         },
         Choice::Separator(separator) => Request {
             separator: Some(separator),
+            ..request
+        },
+        Choice::Most(most) => Request {
+            most: Some(most),
             ..request
         },
         Choice::WithoutAddress(bad) => Request { bad, ..request },

@@ -65,6 +65,8 @@ pub struct Filter<'a> {
     pub(crate) mapped: bool,
     pub(crate) inverts: bool,
     pub(crate) bad: WithoutAddress,
+    /// How many lines of a log are selected at the most, if that is said: the log ends at the last of them.
+    pub(crate) most: Option<u64>,
     /// Whether the selected lines are only counted.
     pub(crate) counts: bool,
     /// Whether their addresses that are in the list are printed in place of them.

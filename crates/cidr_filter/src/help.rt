@@ -24,6 +24,7 @@ Prints the lines of logs whose address is in a list of IP networks.
     -v              print the lines whose address is in no network; with -a those that have
                     addresses, none of which is
     -c              print how many lines are selected, over all FILEs
+    -m N            at most N lines of each FILE are selected: behind the last no more of it is read
     -H              before a line print the name of its FILE, or (standard input), and a colon. Not
                     with -c or -h
     -h              print no name before a line (this is the default, also with several FILEs)
@@ -63,4 +64,4 @@ pub(crate) const PROGRAM: &str = "cidr_filter";
 
 /// How the program is used: what is reported for arguments that are not a command, after what is wrong with them.
 pub(crate) const USAGE: &str =
-    "usage: cidr_filter [-v] [-c | -H] [-h] [-o] [-a | --after TEXT | [-k N] [-d CHAR | -w]] [--mapped] [--bad drop|keep|stop] [--longest] (-f LIST | -e TEXT).. [FILE..]; try --help\n";
+    "usage: cidr_filter [-v] [-c | -H] [-h] [-o] [-m N] [-a | --after TEXT | [-k N] [-d CHAR | -w]] [--mapped] [--bad drop|keep|stop] [--longest] (-f LIST | -e TEXT).. [FILE..]; try --help\n";

@@ -84,7 +84,7 @@ fn begins_with_value(text: &[u8]) -> bool
 fn takes_value(letter: u8) -> bool
     ensures { result ≡ takes_value letter }
 {
-    letter == b'f' || letter == b'e' || letter == b'k' || letter == b'd'
+    letter == b'f' || letter == b'e' || letter == b'k' || letter == b'd' || letter == b'm'
 }
 
 // What stands behind the letters at the head of a text.
@@ -182,6 +182,7 @@ fn value_word(letter: u8) -> &'static str
         b'f' => "-f",
         b'e' => "-e",
         b'k' => "-k",
-        _ => "-d",
+        b'd' => "-d",
+        _ => "-m",
     }
 }

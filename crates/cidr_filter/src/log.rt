@@ -1,16 +1,18 @@
 //! Filters the lines of a log.
-ghost use Rattle.std.specs.Prelude.{◌≡◌, ◌||◌, ◌≤◌, ◌++◌, [], if◌then◌else◌, length, IsTrue, OnOk, OnErr, IfErr, IsOkUnless, Err};
+ghost use Rattle.std.specs.Prelude.{◌≡◌, ◌||◌, ◌≤◌, ◌++◌, [], ℕ, List, Option, if◌then◌else◌, IsTrue, OnOk, OnErr, IfErr, IfOk, IsOkUnless, Err};
 ghost use Rattle.lines.specs.Outputs.{AppendsBeginning};
 ghost use Rattle.lines.specs.Watched.{device_of, has_failed};
 ghost use Rattle.program.specs.LogFaults.{ended_by_read, ended_by_write};
 ghost use Rattle.program.specs.LogLines.{feed_behind};
-ghost use Rattle.cidr_filter.specs.Filters.{shown_of};
+ghost use Rattle.program.specs.LogReaders.{HandsFirst, hurries_of};
+ghost use Rattle.cidr_filter.specs.Filters.{is_refused, shown_of};
 ghost use Rattle.cidr_filter.specs.Stands.{stand, stand, Goes};
-ghost use Rattle.cidr_filter.specs.Stops.{Ends, Stops};
+ghost use Rattle.cidr_filter.specs.Stops.{EndsBy, Stops};
 ghost use Rattle.cidr_filter.specs.Private.Judging.{fault_of};
 ghost use Rattle.cidr_filter.specs.Private.Progress.{FiltersLine, LineStops};
 
 use crate::filter::{Filter, Verdict};
+use crate::leaving::{fewer, is_spent, leave};
 use crate::printing::print_selected;
 use lines::line_end::LineEnd;
 use lines::output::Output;
@@ -18,6 +20,15 @@ use lines::watched::Watched;
 use program::log_fault::LogFault;
 use program::log_reader::{LogReader, NextLogLine};
 use std::io::{Read, Write};
+
+/// Where the filtering of a log ends that nothing stops.
+#[derive(Clone, Copy, Debug, PartialEq, Eq)]
+pub enum Reached {
+    /// The end of the log.
+    End,
+    /// The last line that may be selected. Nothing is read behind it.
+    Last,
+}
 
 /// How many lines were selected.
 #[derive(Clone, Copy, Debug, PartialEq, Eq)]
@@ -30,20 +41,23 @@ pub struct Tally {
     pub is_addressed: bool,
 }
 
-/// Filters the lines of a log: those that are selected are written, or only counted.
+/// Filters the lines of a log, up to the last that may be selected: those that are selected are written, or only counted.
+/// No line behind that is asked for, so that no read is made for it.
 ///
 /// What is selected of the lines that a read completes is written before the next read. After a failed read nothing is
 /// written. A line that is too long ends the run even if its end was not read.
 pub fn filter_log<R: Read, W: Write>(
     filter: &Filter,
-    buffer: &mut [u8],
+    log: &mut LogReader<'_>,
     reader: &mut Watched<R>,
     output: &mut Output<'_, W>,
     tally: &mut Tally,
-) -> Result<(), LogFault>
-    requires room { 1048578 ≤ length buffer.old }
-    ensures ok { OnOk result
-        (Ends filter.now (R.remaining (device_of reader.old))
+) -> Result<Reached, LogFault>
+    // Nothing was read with `log`, and it hurries if a line that is too long ends the run.
+    requires unread { (remained : Option (List ℕ)) → HandsFirst log.old remained remained [] }
+    requires hurries { hurries_of log.old ≡ is_refused filter.now Verdict.TooLong }
+    ensures ok { IfOk result (λ reached.
+        EndsBy reached filter.now log.new (R.remaining (device_of reader.old))
         (R.remaining (device_of reader.new))
         (stand output.old tally.old)
         (stand output.new tally.new)) }
@@ -61,14 +75,23 @@ pub fn filter_log<R: Read, W: Write>(
     ensures handed_on { result ≡ Err LogFault.Read → output.old.waits ≡ [] → output.new.waits ≡ [] }
 {
     let refuses_long_lines = filter.refuses(&Verdict::TooLong);
-    let mut log = LogReader::new(buffer, refuses_long_lines);
+    let mut left = filter.most;
+    if is_spent(left) {
+        return leave(output);
+    }
     'lines: loop {
         match log.next(reader, output) {
             Ok(NextLogLine::Line(end)) => {
                 let line = log.line();
                 let whole = log.whole_line();
-                if let Err(fault) = filter_line(filter, line, whole, end, output, tally) {
-                    return Err(fault);
+                match filter_line(filter, line, whole, end, output, tally) {
+                    Ok(is_selected) => {
+                        left = fewer(left, is_selected);
+                    }
+                    Err(fault) => return Err(fault),
+                }
+                if is_spent(left) {
+                    return leave(output);
                 }
             }
             Ok(NextLogLine::TooLong) => {
@@ -77,13 +100,13 @@ pub fn filter_log<R: Read, W: Write>(
                 }
                 tally.lines = tally.lines.saturating_add(1);
             }
-            Ok(NextLogLine::End) => return Ok(()),
+            Ok(NextLogLine::End) => return Ok(Reached::End),
             Err(fault) => return Err(fault),
         }
     }
 }
 
-// Filters a line within the limit. `whole` is the line as it was read, with its end.
+// Filters a line within the limit, and returns whether it is selected. `whole` is the line as it was read, with its end.
 fn filter_line<W: Write>(
     filter: &Filter,
     line: &[u8],
@@ -91,8 +114,9 @@ fn filter_line<W: Write>(
     end: LineEnd,
     output: &mut Output<'_, W>,
     tally: &mut Tally,
-) -> Result<(), LogFault>
-    ensures ok { OnOk result (FiltersLine filter.now line.now (whole.now ++ feed_behind end)
+) -> Result<bool, LogFault>
+    ensures ok { IfOk result (λ is_selected.
+        FiltersLine filter.now line.now (whole.now ++ feed_behind end) is_selected
         (stand output.old tally.old) (stand output.new tally.new)) }
     ensures err { IfErr result (LineStops filter.now line.now (whole.now ++ feed_behind end)
         output.new.failed
@@ -106,9 +130,12 @@ fn filter_line<W: Write>(
     tally.lines = tally.lines.saturating_add(1);
     tally.is_addressed = verdict.is_addressed_or(tally.is_addressed);
     if !filter.selects(&verdict) {
-        return Ok(());
+        return Ok(false);
     }
-    select_line(filter, &verdict, line, whole, end, output, tally)
+    match select_line(filter, &verdict, line, whole, end, output, tally) {
+        Ok(()) => Ok(true),
+        Err(fault) => Err(fault),
+    }
 }
 
 // Counts a line, and writes what is printed of it unless lines are only counted.

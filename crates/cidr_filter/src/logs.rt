@@ -8,8 +8,8 @@ ghost use Rattle.cidr_filter.specs.Runs.{EndsLogs, StopsAtLog, total_text, statu
 ghost use Rattle.cidr_filter.specs.Stands.{stand};
 ghost use Rattle.cidr_filter.specs.Private.Runs.{FiltersNames};
 
-use crate::filter::Filter;
-use crate::log::{Tally, filter_log};
+use crate::filter::{Filter, Verdict};
+use crate::log::{Reached, Tally, filter_log};
 use crate::naming::label_of;
 use crate::telling::{tell_closed, tell_lacking};
 use line_addresses::Text;
@@ -19,6 +19,7 @@ use lines::watched::Watched;
 use lists::{OpenFault, OpenLists};
 use program::ending::{FAILED, end};
 use program::log_fault::stop;
+use program::log_reader::LogReader;
 use program::messages::number_text;
 use std::io::Write;
 use std::mem::replace;
@@ -128,14 +129,16 @@ fn filter_one<'a, L: OpenLists, W: Write, E: Write>(
     let mut log = Watched::new(log);
     let label = label_of(filter.named, name);
     let before = replace(&mut filter.name, Text::new(label));
-    let end = filter_log(filter, buffer, &mut log, output, tally);
+    let mut lines = LogReader::new(buffer, filter.refuses(&Verdict::TooLong));
+    let end = filter_log(filter, &mut lines, &mut log, output, tally);
     filter.name = before;
     lists.close(name, log);
     match end {
-        Ok(()) => {
+        Ok(Reached::End) => {
             tell_lacking(&filter.place, name, tally.lines, tally.is_addressed, errors);
             Some(false)
         }
+        Ok(Reached::Last) => Some(false),
         Err(fault) => {
             stop(name, fault, tally.lines, output, errors);
             None

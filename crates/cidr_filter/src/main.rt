@@ -7,6 +7,7 @@ mod filter;
 mod help;
 mod joined;
 mod laws;
+mod leaving;
 mod listed;
 mod log;
 mod logs;

@@ -2,7 +2,7 @@
 ghost use Rattle.std.specs.Prelude.{[], ◌≡◌, ◌-◌, ◌^◌, ◌<◌, ◌≤◌, drop, length, min};
 ghost use Rattle.std.specs.List.{list_all};
 ghost use Rattle.std.specs.Char.{is_ascii_digit};
-ghost use Rattle.cidr_filter.specs.Options.{is_letter, number_of, takes_next, behind_option, option_of, in_one_word, in_two_words, is_list, letters_option, letters_in, file_option, text_option, field_option, separator_option, bad_option, after_option, text_after, said_after, or_last};
+ghost use Rattle.cidr_filter.specs.Options.{is_letter, number_of, takes_next, behind_option, option_of, in_one_word, in_two_words, is_list, letters_option, letters_in, file_option, text_option, field_option, separator_option, most_option, bad_option, after_option, text_after, said_after, or_last};
 
 use crate::filter::WithoutAddress;
 use program::words::is;
@@ -35,6 +35,8 @@ pub enum Choice {
     Field(u32),
     /// `-d`.
     Separator(u8),
+    /// `-m`: so many lines of a log are selected at the most.
+    Most(u64),
     /// `--bad`.
     WithoutAddress(WithoutAddress),
     /// `--longest`.
@@ -91,6 +93,7 @@ pub(crate) fn takes_next(word: &String) -> bool
         || is(word, "-e")
         || is(word, "-k")
         || is(word, "-d")
+        || is(word, "-m")
         || is(word, "--bad")
         || is(word, "--after")
 }
@@ -107,6 +110,8 @@ fn choice_with(name: &String, value: &[u8]) -> Option<Choice>
         field_choice(value)
     } else if is(name, "-d") {
         separator_choice(value)
+    } else if is(name, "-m") {
+        most_choice(value)
     } else if is(name, "--bad") {
         bad_choice(value)
     } else {
@@ -123,6 +128,9 @@ fn choice_in(word: &[u8]) -> Option<Choice>
     }
     if let Some(value) = word.strip_prefix(b"-d".as_slice()) {
         return separator_choice(value);
+    }
+    if let Some(value) = word.strip_prefix(b"-m".as_slice()) {
+        return most_choice(value);
     }
     if let Some(value) = word.strip_prefix(b"--bad=".as_slice()) {
         return bad_choice(value);
@@ -269,6 +277,16 @@ fn separator_choice(value: &[u8]) -> Option<Choice>
         }
         _ => None,
     }
+}
+
+// `-m` with this value: a number, of which one above the greatest of 64 bits counts as that.
+fn most_choice(value: &[u8]) -> Option<Choice>
+    ensures { result ≡ most_option value.now }
+{
+    if value.is_empty() || !are_digits(value) {
+        return None;
+    }
+    Some(Choice::Most(number_of(value)))
 }
 
 // `--bad` with this value.

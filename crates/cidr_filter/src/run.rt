@@ -98,6 +98,7 @@ fn filter<L: OpenLists, W: Write, E: Write>(
         mapped: request.mapped,
         inverts: request.letters.inverts,
         bad: request.bad,
+        most: request.most,
         counts: request.letters.counts,
         only: request.letters.only,
         named: request.letters.named,

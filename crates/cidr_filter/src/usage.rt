@@ -16,6 +16,8 @@ pub enum Problem {
     Field,
     /// Not a byte that separates fields.
     Separator,
+    /// Not how many lines are selected at the most.
+    Most,
     /// Not what becomes of a line without an address.
     WithoutAddress,
     /// Not the name of a file: empty.
@@ -57,6 +59,7 @@ impl Problem {
             Problem::NoValue => "has no value",
             Problem::Field => "is no field number",
             Problem::Separator => "is not one ASCII byte other than LF, CR and NUL",
+            Problem::Most => "is no number of lines",
             Problem::WithoutAddress => "is not drop, keep or stop",
             Problem::Name => "is no file name",
             Problem::Text => "is no network or range",
@@ -142,6 +145,8 @@ fn value_problem(name: &String) -> Problem
         Problem::Field
     } else if is(name, "-d") {
         Problem::Separator
+    } else if is(name, "-m") {
+        Problem::Most
     } else if is(name, "--bad") {
         Problem::WithoutAddress
     } else {
@@ -157,6 +162,8 @@ fn word_problem(word: &[u8]) -> Problem
         Problem::Field
     } else if word.starts_with(b"-d".as_slice()) {
         Problem::Separator
+    } else if word.starts_with(b"-m".as_slice()) {
+        Problem::Most
     } else if word.starts_with(b"--bad=".as_slice()) {
         Problem::WithoutAddress
     } else if word == b"--help".as_slice() || word == b"--version".as_slice() {

@@ -2,10 +2,11 @@
 use Rattle.std.specs.Prelude.{◌≡◌, ℕ, Bool, true, false, not, ◌&&◌, ◌||◌, IsTrue, List, [], ◌++◌, length, Option, if◌then◌else◌}
 use Rattle.lines.specs.Outputs.{AppendsBeginning}
 use Rattle.cidr_filter.specs.Addressed.{is_addressed_by, any_addressed}
-use Rattle.cidr_filter.specs.Filters.{IsVerdict, is_refused, is_selected, shown_of, one_if, Filters}
+use Rattle.cidr_filter.specs.Filters.{IsVerdict, is_refused, is_selected, shown_of, one_if, is_below, Filters}
 use Rattle.program.specs.LogLines.{LogLine}
 use Rattle.program.specs.LogReaders.{HandsFirst}
 use Rattle.program.specs.declared.log_reader.LogReader.{LogReader}
+use Rattle.cidr_filter.specs.Private.Leaving.{less}
 use Rattle.cidr_filter.specs.Stands.{Stand, Goes}
 use Rattle.cidr_filter.specs.declared.filter.Filter.{Filter}
 use Rattle.cidr_filter.specs.declared.filter.Verdict.{Verdict}
@@ -18,12 +19,13 @@ abbrev pub shown : Filter → Verdict → List ℕ → List ℕ → List ℕ
 shown filter verdict line text =
     if is_selected filter verdict && not filter.counts then shown_of filter verdict line text else []
 
--- a line, given without its end and as it is written, was filtered
-abbrev pub FiltersLine : Filter → List ℕ → List ℕ → Stand → Stand → Type 0
-FiltersLine filter line text old new = (verdict : Verdict) × IsVerdict filter line verdict
+-- a line, given without its end and as it is written, was filtered, and is selected or not
+abbrev pub FiltersLine : Filter → List ℕ → List ℕ → Bool → Stand → Stand → Type 0
+FiltersLine filter line text selected old new = (verdict : Verdict) × IsVerdict filter line verdict
     × (is_refused filter verdict ≡ false)
     × Goes old new (shown filter verdict line text) (one_if (is_selected filter verdict)) 1
     × (new.addressed ≡ (old.addressed || is_addressed_by verdict))
+    × (selected ≡ is_selected filter verdict)
 
 -- a line, given without its end, ends the run
 abbrev pub RefusesLine : Filter → List ℕ → Stand → Stand → Verdict → Type 0
@@ -50,5 +52,10 @@ pub record FiltersSoFar (filter : Filter) (reader : LogReader) (remained remains
   pub added : List ℕ
   pub count : ℕ
   pub filters : Filters filter first added count
+  pub below : is_below filter.most count ≡ true
   pub goes : Goes old new added count (length first)
   pub addressed : new.addressed ≡ (old.addressed || any_addressed filter first)
+
+-- and so many more lines may be selected
+abbrev pub FiltersWith : Filter → LogReader → Option (List ℕ) → Option (List ℕ) → Stand → Stand → Option ℕ → Type 0
+FiltersWith filter reader remained remains old new left = (s : FiltersSoFar filter reader remained remains old new) × (left ≡ less filter.most s.count)

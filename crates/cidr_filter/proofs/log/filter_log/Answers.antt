@@ -5,15 +5,38 @@ use Rattle.lines.proofs.Writes.{still_works}
 use Rattle.program.proofs.Counts.{counts_none}
 use Rattle.program.specs.LogReaders.{GivesNext}
 use Rattle.program.specs.declared.log_reader.NextLogLine.{NextLogLine}
+use Rattle.cidr_filter.specs.Filters.{one_if}
 use Rattle.cidr_filter.specs.Stands.{stand}
-use Rattle.cidr_filter.proofs.Filtering.{goes_idle, begins, after_line, after_long}
+use Rattle.cidr_filter.proofs.Failing.{or_on}
+use Rattle.cidr_filter.proofs.Filtering.{goes_idle, begins_with, after_line_with, after_long_with}
+use Rattle.cidr_filter.proofs.Spent.{none_may, less_more, all_selected, last_selected}
+use Rattle.cidr_filter.proofs.Left.{no_read, reads_still, line_left, line_left_unwritten, all_left, all_left_unwritten}
 use Rattle.cidr_filter.proofs.Stopping.{line_stops, long_line_stops, log_ends, breaks}
 use Rattle.cidr_filter.proofs.log.filter_log.Goals as goal
 
+-- ---- no line may be selected
+
+pub returns-then-is_spent-clause-ok : goal.returns-then-is_spent-clause-ok
+returns-then-is_spent-clause-ok g c =
+    all_left c.args.filter.now c.args.log.now _ (c.requires.unread _) c.args.output.now c.leave.new.output c.args.tally.now
+    (none_may c.args.filter.now.most (sym c.is_spent.ensures ∙ c.if-is_spent.true)) c.leave.result c.leave.ensures.last c.leave.ensures.ok
+
+pub returns-then-is_spent-clause-err : goal.returns-then-is_spent-clause-err
+returns-then-is_spent-clause-err g c =
+    all_left_unwritten c.args.filter.now c.args.log.now _ (c.requires.unread _) c.args.output.now c.leave.new.output c.args.tally.now
+    (none_may c.args.filter.now.most (sym c.is_spent.ensures ∙ c.if-is_spent.true)) (has_failed c.args.reader.now) c.leave.result c.leave.ensures.fault
+    c.leave.ensures.failed c.leave.ensures.beginning
+
+pub returns-then-is_spent-clause-reader_failed : goal.returns-then-is_spent-clause-reader_failed
+returns-then-is_spent-clause-reader_failed g c = reads_still c.leave.result _ _ c.leave.ensures.fault refl
+
+pub returns-then-is_spent-clause-handed_on : goal.returns-then-is_spent-clause-handed_on
+returns-then-is_spent-clause-handed_on g c = λ is. absurd (no_read c.leave.result c.leave.ensures.fault is)
+
 pub lines-init : goal.lines-init
 lines-init g c = record {
-  sofar = begins c.args.filter.now c.new-log.result _ _ (c.new-log.ensures.begins _);
-  hurries = c.new-log.ensures.hurries;
+  sofar = begins_with c.args.filter.now c.args.log.now _ _ (c.requires.unread _) (sym c.is_spent.ensures ∙ c.if-is_spent.false);
+  hurries = c.requires.hurries ∙ sym c.refuses-refuses_long_lines.ensures;
   reads = refl;
   writes = refl;
 }
@@ -22,7 +45,7 @@ lines-init g c = record {
 
 pub returns-in-Err-filter_line-clause-err : goal.returns-in-Err-filter_line-clause-err
 returns-in-Err-filter_line-clause-err g c =
-    let s = c.lines.invariant.sofar in
+    let s = c.lines.invariant.sofar.0 in
     let between = stand c.next.new.output c.lines.tally in
     line_stops c.args.filter.now c.lines.log c.next.new.self _ _ _ _ (stand c.lines.output c.lines.tally) between s
     (goes_idle (stand c.lines.output c.lines.tally) between refl refl c.in-Ok-Line.ensures.put) _ c.in-Ok-Line.end
@@ -31,27 +54,68 @@ returns-in-Err-filter_line-clause-err g c =
     c.line-line.ensures c.whole_line-whole.ensures (has_failed c.next.new.reader) c.filter_line.new.output.failed
     c.in-Err-filter_line.fault c.in-Err-filter_line.ensures.err
 
-pub lines-preserved-in_default : goal.lines-preserved-in_default
-lines-preserved-in_default g c =
-    let s = c.lines.invariant.sofar in
+pub lines-preserved-else-is_spent-2 : goal.lines-preserved-else-is_spent-2
+lines-preserved-else-is_spent-2 g c =
+    let s = c.lines.invariant.sofar.0 in
     let between = stand c.next.new.output c.lines.tally in
     record {
-      sofar = after_line c.args.filter.now c.lines.log c.next.new.self _ _ _ _ (stand c.lines.output c.lines.tally) between s
+      sofar = after_line_with c.args.filter.now c.lines.log c.next.new.self _ _ _ _ (stand c.lines.output c.lines.tally) between s
           (goes_idle (stand c.lines.output c.lines.tally) between refl refl c.in-Ok-Line.ensures.put) refl _ c.in-Ok-Line.end
           c.line-line.result.now c.whole_line-whole.result.now (subst (λ (n : NextLogLine). GivesNext c.next.new.self (g.R.Read.remaining (device_of c.args.reader.now)) (g.R.Read.remaining (device_of c.next.new.reader)) s.first n)
           c.in-Ok-Line.field-0-is (c.in-Ok-Line.ensures.gives _ s.first s.hands))
-          c.line-line.ensures c.whole_line-whole.ensures c.in_default.ensures.ok;
+          c.line-line.ensures c.whole_line-whole.ensures c.in-Ok.is_selected c.in-Ok.ensures.ok
+          c.lines.left c.fewer-left.result c.lines.invariant.sofar.1 c.fewer-left.ensures (sym c.is_spent-in-Ok-Line.ensures ∙ c.if-is_spent-2.false);
       hurries = c.next.ensures.hurries ∙ c.lines.invariant.hurries;
       reads = still_works _ _ _ c.in-Ok-Line.ensures.reader_failed c.lines.invariant.reads;
-      writes = still_works _ _ _ c.in_default.ensures.writer_failed
+      writes = still_works _ _ _ c.in-Ok.ensures.writer_failed
           (still_works _ _ _ c.in-Ok-Line.ensures.writer_failed c.lines.invariant.writes);
     }
+
+-- ---- the last line that may be selected
+
+pub returns-then-is_spent-2-clause-ok : goal.returns-then-is_spent-2-clause-ok
+returns-then-is_spent-2-clause-ok g c =
+    let s = c.lines.invariant.sofar.0 in
+    let between = stand c.next.new.output c.lines.tally in
+    let selected = c.in-Ok.is_selected in
+    let more = less_more c.args.filter.now.most c.lines.left c.fewer-left.result s.count (one_if selected) c.lines.invariant.sofar.1 c.fewer-left.ensures in
+    let spent = sym c.is_spent-in-Ok-Line.ensures ∙ c.if-is_spent-2.true in
+    line_left c.args.filter.now c.lines.log c.next.new.self _ _ _ _ (stand c.lines.output c.lines.tally) between s
+    (goes_idle (stand c.lines.output c.lines.tally) between refl refl c.in-Ok-Line.ensures.put) refl c.filter_line.new.output c.leave-then-is_spent-2.new.output c.filter_line.new.tally c.in-Ok-Line.end
+    c.line-line.result.now c.whole_line-whole.result.now (subst (λ (n : NextLogLine). GivesNext c.next.new.self (g.R.Read.remaining (device_of c.args.reader.now)) (g.R.Read.remaining (device_of c.next.new.reader)) s.first n)
+    c.in-Ok-Line.field-0-is (c.in-Ok-Line.ensures.gives _ s.first s.hands))
+    c.line-line.ensures c.whole_line-whole.ensures selected c.in-Ok.ensures.ok c.leave-then-is_spent-2.result
+    (all_selected c.args.filter.now.most c.fewer-left.result s.count selected more s.below spent)
+    (last_selected c.args.filter.now.most c.fewer-left.result s.count selected more s.below spent) c.leave-then-is_spent-2.ensures.last c.leave-then-is_spent-2.ensures.ok
+
+pub returns-then-is_spent-2-clause-err : goal.returns-then-is_spent-2-clause-err
+returns-then-is_spent-2-clause-err g c =
+    let s = c.lines.invariant.sofar.0 in
+    let between = stand c.next.new.output c.lines.tally in
+    line_left_unwritten c.args.filter.now c.lines.log c.next.new.self _ _ _ _ (stand c.lines.output c.lines.tally) between s
+    (goes_idle (stand c.lines.output c.lines.tally) between refl refl c.in-Ok-Line.ensures.put) refl c.filter_line.new.output c.leave-then-is_spent-2.new.output c.filter_line.new.tally c.in-Ok-Line.end
+    c.line-line.result.now c.whole_line-whole.result.now (subst (λ (n : NextLogLine). GivesNext c.next.new.self (g.R.Read.remaining (device_of c.args.reader.now)) (g.R.Read.remaining (device_of c.next.new.reader)) s.first n)
+    c.in-Ok-Line.field-0-is (c.in-Ok-Line.ensures.gives _ s.first s.hands))
+    c.line-line.ensures c.whole_line-whole.ensures c.in-Ok.is_selected c.in-Ok.ensures.ok (has_failed c.next.new.reader) c.leave-then-is_spent-2.result
+    c.leave-then-is_spent-2.ensures.fault c.leave-then-is_spent-2.ensures.failed c.leave-then-is_spent-2.ensures.beginning
+
+pub returns-then-is_spent-2-clause-reader_failed : goal.returns-then-is_spent-2-clause-reader_failed
+returns-then-is_spent-2-clause-reader_failed g c =
+    reads_still c.leave-then-is_spent-2.result _ _ c.leave-then-is_spent-2.ensures.fault (still_works _ _ _ c.in-Ok-Line.ensures.reader_failed c.lines.invariant.reads)
+
+pub returns-then-is_spent-2-clause-writer_failed : goal.returns-then-is_spent-2-clause-writer_failed
+returns-then-is_spent-2-clause-writer_failed g c =
+    or_on _ _ _ _ (still_works _ _ _ c.in-Ok.ensures.writer_failed (still_works _ _ _ c.in-Ok-Line.ensures.writer_failed c.lines.invariant.writes))
+    c.leave-then-is_spent-2.ensures.writer_failed
+
+pub returns-then-is_spent-2-clause-handed_on : goal.returns-then-is_spent-2-clause-handed_on
+returns-then-is_spent-2-clause-handed_on g c = λ is. absurd (no_read c.leave-then-is_spent-2.result c.leave-then-is_spent-2.ensures.fault is)
 
 -- ---- a line that is too long
 
 pub returns-then-refuses_long_lines-clause-err : goal.returns-then-refuses_long_lines-clause-err
 returns-then-refuses_long_lines-clause-err g c =
-    let s = c.lines.invariant.sofar in
+    let s = c.lines.invariant.sofar.0 in
     let between = stand c.next.new.output c.lines.tally in
     long_line_stops c.args.filter.now c.lines.log c.next.new.self _ _ _ _ (stand c.lines.output c.lines.tally) between s
     (goes_idle (stand c.lines.output c.lines.tally) between refl refl c.in-Ok-TooLong.ensures.put)
@@ -61,12 +125,12 @@ returns-then-refuses_long_lines-clause-err g c =
 
 pub lines-preserved : goal.lines-preserved
 lines-preserved g c =
-    let s = c.lines.invariant.sofar in
+    let s = c.lines.invariant.sofar.0 in
     let between = stand c.next.new.output c.lines.tally in
     let hurries = c.next.ensures.hurries ∙ c.lines.invariant.hurries in
     record {
-      sofar = after_long c.args.filter.now c.lines.log c.next.new.self _ _ _ _ (stand c.lines.output c.lines.tally) between s
-          (goes_idle (stand c.lines.output c.lines.tally) between refl refl c.in-Ok-TooLong.ensures.put) refl _
+      sofar = after_long_with c.args.filter.now c.lines.log c.next.new.self _ _ _ _ (stand c.lines.output c.lines.tally) between s
+          (goes_idle (stand c.lines.output c.lines.tally) between refl refl c.in-Ok-TooLong.ensures.put) refl _ c.lines.left
           (subst (λ (n : NextLogLine). GivesNext c.next.new.self (g.R.Read.remaining (device_of c.args.reader.now)) (g.R.Read.remaining (device_of c.next.new.reader)) s.first n)
           c.in-Ok-TooLong.field-0-is (c.in-Ok-TooLong.ensures.gives _ s.first s.hands)) (hurries ∙ c.if-refuses_long_lines.false)
           (sym c.refuses-refuses_long_lines.ensures ∙ c.if-refuses_long_lines.false) (
@@ -74,7 +138,7 @@ lines-preserved g c =
             counts_none c.lines.tally.selected c.lines.tally.selected refl,
             λ within.
                 c.saturating_add-tally.ensures,
-          ) refl;
+          ) refl c.lines.invariant.sofar.1;
       hurries = hurries;
       reads = still_works _ _ _ c.in-Ok-TooLong.ensures.reader_failed c.lines.invariant.reads;
       writes = still_works _ _ _ c.in-Ok-TooLong.ensures.writer_failed c.lines.invariant.writes;
@@ -84,7 +148,7 @@ lines-preserved g c =
 
 pub returns-in-Ok-End-clause-ok : goal.returns-in-Ok-End-clause-ok
 returns-in-Ok-End-clause-ok g c =
-    let s = c.lines.invariant.sofar in
+    let s = c.lines.invariant.sofar.0 in
     let between = stand c.next.new.output c.lines.tally in
     log_ends c.args.filter.now c.lines.log c.next.new.self _ _ _ _ (stand c.lines.output c.lines.tally) between s
     (goes_idle (stand c.lines.output c.lines.tally) between refl refl c.in-Ok-End.ensures.put)
@@ -95,6 +159,6 @@ returns-in-Ok-End-clause-ok g c =
 
 pub returns-in-Err-clause-err : goal.returns-in-Err-clause-err
 returns-in-Err-clause-err g c =
-    let s = c.lines.invariant.sofar in
+    let s = c.lines.invariant.sofar.0 in
     breaks c.args.filter.now c.lines.log _ _ _ _ c.lines.output c.next.new.output c.lines.tally s
     (has_failed c.next.new.reader) c.in-Err.fault (c.in-Err.ensures.breaks _ s.first s.hands)

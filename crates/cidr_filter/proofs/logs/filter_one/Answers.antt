@@ -4,9 +4,11 @@ use Rattle.lists.specs.Opening.{cause_of}
 use Rattle.lists.specs.declared.opening.OpenFault.{OpenFault}
 use Rattle.program.specs.Endings.{ending}
 use Rattle.cidr_filter.specs.Stands.{stand}
-use Rattle.cidr_filter.specs.Stops.{Ends, Stops}
+use Rattle.cidr_filter.specs.Stops.{Ends, Leaves, Stops}
+use Rattle.cidr_filter.specs.declared.log.Reached.TheVariants as reached
 use Rattle.cidr_filter.specs.declared.filter.Filter.{Filter}
-use Rattle.cidr_filter.proofs.LogsInTurn.{stops_by, name_missed, name_ended}
+use Rattle.cidr_filter.proofs.Left.{ended_at}
+use Rattle.cidr_filter.proofs.LogsInTurn.{stops_by, name_missed, name_ended, name_left}
 use Rattle.cidr_filter.proofs.Runs.{name_stops}
 use Rattle.cidr_filter.proofs.logs.filter_one.Goals as goal
 
@@ -17,8 +19,14 @@ returns-in-Err-clause-logs g c =
 
 -- ---- a log that was opened
 
-pub returns-in-Ok-end-clause-logs : goal.returns-in-Ok-end-clause-logs
-returns-in-Ok-end-clause-logs g c =
+pub filter_log-end-requires-clause-unread : goal.filter_log-end-requires-clause-unread
+filter_log-end-requires-clause-unread g c = c.new-lines.ensures.begins
+
+pub filter_log-end-requires-clause-hurries : goal.filter_log-end-requires-clause-hurries
+filter_log-end-requires-clause-hurries g c = c.new-lines.ensures.hurries ∙ c.refuses.ensures
+
+pub returns-in-Ok-End-clause-logs : goal.returns-in-Ok-End-clause-logs
+returns-in-Ok-End-clause-logs g c =
     let known = g.L.OpenLists.known c.args.lists.now in
     let remaining = g.L.List.Read.remaining in
     name_ended c.args.filter.now known c.args.name.now
@@ -27,7 +35,21 @@ returns-in-Ok-end-clause-logs g c =
     (stand c.args.output.now c.args.tally.now) (stand c.filter_log-end.new.output c.filter_log-end.new.tally)
     c.args.errors.now c.tell_lacking.new.errors
     (subst (λ (f : Filter). Ends f (remaining (device_of c.new-log.result)) (remaining (device_of c.filter_log-end.new.reader))
-    (record (stand c.args.output.now c.args.tally.now) { lines = 0; addressed = false }) (stand c.filter_log-end.new.output c.filter_log-end.new.tally)) (ap (λ (n : List ℕ). record c.args.filter.now { name = n }) (c.replace-before.ensures.after ∙ c.new.ensures ∙ c.label_of-label.ensures)) c.in-Ok-end.ensures.ok) c.tell_lacking.ensures
+    (record (stand c.args.output.now c.args.tally.now) { lines = 0; addressed = false }) (stand c.filter_log-end.new.output c.filter_log-end.new.tally)) (ap (λ (n : List ℕ). record c.args.filter.now { name = n }) (c.replace-before.ensures.after ∙ c.new.ensures ∙ c.label_of-label.ensures))
+    (ended_at _ _ _ _ _ _ c.filter_log-end.result _ reached.End c.in-Ok-End.is (rw c.in-Ok-End.is at c.in-Ok-End.field-0-is) c.filter_log-end.ensures.ok)) c.tell_lacking.ensures
+
+pub returns-in-Ok-Last-clause-logs : goal.returns-in-Ok-Last-clause-logs
+returns-in-Ok-Last-clause-logs g c =
+    let known = g.L.OpenLists.known c.args.lists.now in
+    let remaining = g.L.List.Read.remaining in
+    name_left c.args.filter.now known c.args.name.now
+    (remaining (device_of c.new-log.result)) (remaining (device_of c.filter_log-end.new.reader))
+    (λ input e. ap remaining c.new-log.ensures.device ∙ c.in-Ok.ensures.bytes input e) c.in-Ok.ensures.opened
+    (stand c.args.output.now c.args.tally.now) (stand c.filter_log-end.new.output c.filter_log-end.new.tally)
+    c.args.errors.now c.filter_log-end.new.log
+    (subst (λ (f : Filter). Leaves f c.filter_log-end.new.log (remaining (device_of c.new-log.result)) (remaining (device_of c.filter_log-end.new.reader))
+    (record (stand c.args.output.now c.args.tally.now) { lines = 0; addressed = false }) (stand c.filter_log-end.new.output c.filter_log-end.new.tally)) (ap (λ (n : List ℕ). record c.args.filter.now { name = n }) (c.replace-before.ensures.after ∙ c.new.ensures ∙ c.label_of-label.ensures))
+    (ended_at _ _ _ _ _ _ c.filter_log-end.result _ reached.Last c.in-Ok-Last.is (rw c.in-Ok-Last.is at c.in-Ok-Last.field-0-is) c.filter_log-end.ensures.ok))
 
 pub returns-in-Err-end-clause-logs : goal.returns-in-Err-end-clause-logs
 returns-in-Err-end-clause-logs g c =

@@ -1,0 +1,104 @@
+-- Logs that are left at the last line that may be selected.
+use Rattle.std.proofs.Common.{◌≡◌, ℕ, List, [], ◌∷◌, Bool, true, false, refl, inl, inr, arith}
+use Rattle.std.proofs.lemmas.Option.{none-some}
+use Rattle.std.specs.Prelude.{codes, Option, Some, None}
+use Rattle.lists.specs.KnownLists.{KnownLists}
+use Rattle.program.specs.LogLines.{LogLine}
+use Rattle.program.specs.Logs.{IsAllOf, IsFirstOf}
+use Rattle.cidr_filter.specs.Filters.{IsVerdict, is_below, is_within, AreAll, Filters}
+use Rattle.cidr_filter.specs.Joined.{words_in}
+use Rattle.cidr_filter.specs.Logs.{LeavesLog, is_short}
+use Rattle.cidr_filter.specs.Options.{most_option, in_one_word}
+use Rattle.cidr_filter.specs.declared.filter.Filter.{Filter}
+use Rattle.cidr_filter.specs.declared.filter.Verdict.TheVariants as verdicts
+use Rattle.cidr_filter.specs.declared.filter.WithoutAddress.TheVariants as without
+use Rattle.cidr_filter.specs.declared.options.Choice.TheVariants as choices
+use Rattle.program.specs.declared.log_fault.LogFault.TheVariants as faults
+use Rattle.cidr_filter.proofs.Examples.{ended, by}
+use Rattle.cidr_filter.proofs.Requests.{same_value}
+
+-- ---- the number of lines
+
+pub any_number : most_option (codes "12") ≡ Some (choices.Most 12)
+any_number = refl
+
+pub no_line : most_option (codes "0") ≡ Some (choices.Most 0)
+no_line = refl
+
+-- a number that 64 bits do not hold counts as the greatest that they do
+pub past_64_bits : most_option (codes "18446744073709551616") ≡ Some (choices.Most 18446744073709551615)
+past_64_bits = refl
+
+pub no_signed_number : most_option (codes "-1") ≡ None
+no_signed_number = refl
+
+pub no_number_of_lines : most_option [] ≡ None
+no_number_of_lines = refl
+
+pub number_in_one_word : in_one_word (codes "-m7") ≡ Some (choices.Most 7)
+number_in_one_word = refl
+
+pub number_behind_letters : words_in (codes "-cm7") ≡ codes "-c" ∷ codes "-m" ∷ codes "7" ∷ []
+number_behind_letters = refl
+
+-- ---- how many may be selected
+
+pub one_less_is_below : is_below (Some 2) 1 ≡ true
+one_less_is_below = refl
+
+pub all_are_not_below : is_below (Some 2) 2 ≡ false
+all_are_not_below = refl
+
+pub any_are_below : (count : ℕ) → is_below None count ≡ true
+any_are_below count = refl
+
+-- at a failed write all may be selected, and before another fault not
+pub all_at_a_failed_write : is_short faults.Write (Some 2) 2 ≡ true
+all_at_a_failed_write = refl
+
+pub not_all_at_a_failed_read : is_short faults.Read (Some 2) 2 ≡ false
+not_all_at_a_failed_read = refl
+
+pub no_more_at_a_failed_write : is_short faults.Write (Some 2) 3 ≡ false
+no_more_at_a_failed_write = refl
+
+-- ---- a log that is left
+
+abbrev pub up_to_two : Filter
+up_to_two = record (by false without.Drop) { most = Some 2 }
+
+module _ (known : KnownLists) (inside : IsVerdict up_to_two (codes "10.0.0.1") (verdicts.Inside None)) (outside : IsVerdict up_to_two (codes "11.0.0.1") verdicts.Outside) where
+  -- at its second selected line, whatever follows it
+  pub left_at_the_second : known.may_open (codes "a") true → IsFirstOf known (codes "a") (codes "10.0.0.1\n11.0.0.1\n10.0.0.1\n10.0.0.1\nx")
+      → LeavesLog up_to_two known (codes "a") (codes "10.0.0.1\n10.0.0.1\n") 2 []
+  left_at_the_second opened first = (
+    codes "10.0.0.1\n11.0.0.1\n10.0.0.1\n10.0.0.1\nx",
+    ended (codes "10.0.0.1") ∷ ended (codes "11.0.0.1") ∷ ended (codes "10.0.0.1") ∷ [],
+    ended (codes "10.0.0.1") ∷ record { bytes = codes "x"; is_ended = false } ∷ [],
+    opened,
+    first,
+    refl,
+    (
+      verdicts.Inside None,
+      codes "10.0.0.1\n",
+      1,
+      inside,
+      refl,
+      (verdicts.Outside, codes "10.0.0.1\n", 1, outside, refl, (verdicts.Inside None, [], 0, inside, refl, (refl, refl), refl, refl), refl, refl),
+      refl,
+      refl,
+    ),
+    record {
+      most = refl;
+      last = inr (ended (codes "10.0.0.1") ∷ ended (codes "11.0.0.1") ∷ [], ended (codes "10.0.0.1"), verdicts.Inside None, refl, inl refl, inside, refl);
+    },
+    refl,
+  )
+
+-- and not at its first
+pub not_at_the_first : (ends : Type 0) (lines : List LogLine) → AreAll up_to_two ends lines 1 → ⊥
+not_at_the_first ends lines all = let same = same_value 2 1 all.most in omega (arith, same)
+
+-- without the option no log is left
+pub never_left : (ends : Type 0) (lines : List LogLine) (count : ℕ) → AreAll (by false without.Drop) ends lines count → ⊥
+never_left ends lines count all = none-some count all.most

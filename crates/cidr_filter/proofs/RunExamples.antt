@@ -1,0 +1,279 @@
+-- Runs at which a misreading of the definitions would show.
+use Rattle.std.proofs.Common.{◌≡◌, ℕ, List, [], ◌∷◌, true, false, inl, inr, refl, drop, sym, ◌∙◌, ◌⊎◌, true≢false}
+use Rattle.std.specs.Prelude.{codes, String, Some, None}
+use Rattle.std.specs.Fmt.{digits}
+use Rattle.std.specs.String.{string_bytes}
+use Rattle.std.specs.Str.Lines.{lines}
+use Rattle.ipnetwork_addr.specs.Computed.Ipv6Text.{v6_of, gap_below}
+use Rattle.line_addresses.specs.Addresses.{address_of}
+use Rattle.lists.specs.Lists.{ReadLists, at_list, TakesLines}
+use Rattle.lists.specs.KnownLists.{KnownLists}
+use Rattle.program.specs.Told.{was_refused}
+use Rattle.cidr_filter.specs.Filters.{IsVerdict}
+use Rattle.program.specs.LogFaults.{log_fault_text}
+use Rattle.program.specs.Logs.{logs_of, IsAllOf, IsFirstOf}
+use Rattle.cidr_filter.specs.Logs.{FiltersLogs}
+use Rattle.cidr_filter.specs.Reading.{ReadsOptions, HoldsRead}
+use Rattle.program.specs.Endings.{Ending, Refuses, HasTold, HasWritten}
+use Rattle.cidr_filter.specs.Runs.{total_text, EndsLogs, EndsFiltering, filter_of}
+use Rattle.cidr_filter.specs.declared.filter.WithoutAddress.TheVariants as without
+use Rattle.cidr_filter.specs.declared.filter.Verdict.TheVariants as verdicts
+use Rattle.cidr_filter.specs.declared.command_line.Request.{Request}
+use Rattle.cidr_filter.specs.declared.listed.Listed.{Listed}
+use Rattle.program.specs.declared.log_fault.LogFault.TheVariants as faults
+use Rattle.lists.specs.declared.opening.OpenFault.TheVariants as causes
+use Rattle.cidr_filter.specs.declared.options.Choice.TheVariants as choices
+use Rattle.cidr_filter.proofs.Examples.{ended, by, counting}
+
+-- ---- how a run ends
+
+pub the_number_of_lines : total_text true 12 ≡ codes "12\n"
+unfolding digits
+the_number_of_lines = refl
+
+-- up to what 64 bits count
+pub no_greater_number : total_text true 18446744073709551616 ≡ codes "18446744073709551615\n"
+unfolding digits
+no_greater_number = refl
+
+pub no_greater_line : log_fault_text (codes "log") 18446744073709551615 faults.Address ≡ codes "log:18446744073709551615: refused address\n"
+unfolding digits
+no_greater_line = refl
+
+pub no_number : total_text false 12 ≡ []
+no_number = refl
+
+-- without a refused line a run is not silent: there is no memory, or the logs are filtered
+pub not_silent : {Z W E : Type 0} (known : KnownLists) (words : List (String Z)) (request : Request) (read : ReadLists) (end : Ending W E) → was_refused read.refused ≡ false → EndsFiltering known words request read end
+    → Refuses (codes "out of memory\n") end
+    ⊎ ((listed : Listed) × HoldsRead request.longest read listed × EndsLogs (filter_of words request listed) known (logs_of (drop request.files words)) end)
+not_silent known words request read end none (inl ends) = absurd (true≢false (sym ends.0 ∙ none))
+not_silent known words request read end none (inr ends) = ends.1
+
+pub standard_input : (Z : Type 0) → logs_of {Z = Z} [] ≡ codes "-" ∷ []
+standard_input Z = refl
+
+pub files_in_their_order : {Z : Type 0} (one two : String Z) → logs_of (one ∷ two ∷ []) ≡ string_bytes one ∷ string_bytes two ∷ []
+files_in_their_order one two = refl
+
+-- a list, and then an `-e`: each is taken at the place of its value
+pub lists_in_their_order : {Z : Type 0} (known : KnownLists) (file list text value : String Z) (before mid after : ReadLists) → string_bytes list ≡ codes "a" → string_bytes value ≡ codes "x"
+    → known.may_open (codes "a") true → ((input : List ℕ) → known.bytes_of (codes "a") ≡ Some input → TakesLines (at_list before 1) (lines input) mid)
+    → TakesLines (at_list mid 3) (lines (codes "x")) after → string_bytes file ≡ codes "-f" → string_bytes text ≡ codes "-e"
+    → ReadsOptions known (file ∷ list ∷ text ∷ value ∷ []) (file ∷ list ∷ text ∷ value ∷ []) (choices.File ∷ choices.Text ∷ []) before after
+lists_in_their_order known file list text value before mid after l v opened first second f t = rw (f, l, v) (mid, (opened, first), (after, second, refl))
+
+module _ (known : KnownLists) (inside : IsVerdict (by false without.Stop) (codes "10.0.0.1") (verdicts.Inside None)) (outside : IsVerdict (by false without.Stop) (codes "11.0.0.1") verdicts.Outside)
+    (bad : IsVerdict (by false without.Stop) (codes "bad") verdicts.NoAddress) where
+  -- two logs, of which the second has no last line feed
+  pub two_logs : IsAllOf known (codes "a") (codes "11.0.0.1\n10.0.0.1\n") → IsAllOf known (codes "b") (codes "10.0.0.1")
+      → FiltersLogs (by false without.Stop) known (codes "a" ∷ codes "b" ∷ []) (codes "10.0.0.1\n10.0.0.1\n") 2 [] false
+  unfolding address_of digits v6_of gap_below
+  two_logs a b = (
+    codes "10.0.0.1\n",
+    codes "10.0.0.1\n",
+    1,
+    1,
+    [],
+    [],
+    false,
+    false,
+    inl (
+      (codes "11.0.0.1\n10.0.0.1\n", a, (verdicts.Outside, codes "10.0.0.1\n", 1, outside, refl, (verdicts.Inside None, [], 0, inside, refl, (refl, refl), refl, refl), refl, refl), refl, refl),
+      refl,
+    ),
+    (
+      codes "10.0.0.1\n",
+      [],
+      1,
+      0,
+      [],
+      [],
+      false,
+      false,
+      inl ((codes "10.0.0.1", b, (verdicts.Inside None, [], 0, inside, refl, (refl, refl), refl, refl), refl, refl), refl),
+      (refl, refl, refl, refl),
+      refl,
+      refl,
+      refl,
+      refl,
+    ),
+    refl,
+    refl,
+    refl,
+    refl,
+  )
+
+  -- they are counted together
+  pub two_logs_counted : IsAllOf known (codes "a") (codes "10.0.0.1\n") → IsAllOf known (codes "b") (codes "10.0.0.1\n") → {W E : Type 0} (end : Ending W E) → HasWritten end (codes "2\n") → HasTold end [] → end.status ≡ 0
+      → EndsLogs (counting without.Stop) known (codes "a" ∷ codes "b" ∷ []) end
+  unfolding address_of digits v6_of gap_below
+  two_logs_counted a b end written told status = inl (record {
+    output = [];
+    selected = 2;
+    texts = [];
+    missed = false;
+    filters = (
+      [],
+      [],
+      1,
+      1,
+      [],
+      [],
+      false,
+      false,
+      inl ((codes "10.0.0.1\n", a, (verdicts.Inside None, [], 0, inside, refl, (refl, refl), refl, refl), refl, refl), refl),
+      ([], [], 1, 0, [], [], false, false, inl ((codes "10.0.0.1\n", b, (verdicts.Inside None, [], 0, inside, refl, (refl, refl), refl, refl), refl, refl), refl), (refl, refl, refl, refl), refl, refl, refl, refl),
+      refl,
+      refl,
+      refl,
+      refl,
+    );
+    ends = inl (written, told, status);
+  })
+
+  -- a log that cannot be opened: the others are filtered, and the status is 2
+  pub first_log_missed : known.may_open (codes "a") false → known.may_miss (codes "a") causes.Denied → IsAllOf known (codes "b") (codes "10.0.0.1\n") → {W E : Type 0} (end : Ending W E) → HasWritten end (codes "10.0.0.1\n")
+      → HasTold end (codes "a: cannot open: permission denied\n") → end.status ≡ 2 → EndsLogs (by false without.Stop) known (codes "a" ∷ codes "b" ∷ []) end
+  unfolding address_of digits v6_of gap_below
+  first_log_missed closed denied b end written told status = inl (record {
+    output = codes "10.0.0.1\n";
+    selected = 1;
+    texts = codes "a: cannot open: permission denied\n";
+    missed = true;
+    filters = (
+      [],
+      codes "10.0.0.1\n",
+      0,
+      1,
+      codes "a: cannot open: permission denied\n",
+      [],
+      true,
+      false,
+      inr (inr ((causes.Denied, closed, denied, refl, refl, refl), refl)),
+      (codes "10.0.0.1\n", [], 1, 0, [], [], false, false, inl ((codes "10.0.0.1\n", b, (verdicts.Inside None, [], 0, inside, refl, (refl, refl), refl, refl), refl, refl), refl), (refl, refl, refl, refl), refl, refl, refl, refl),
+      refl,
+      refl,
+      refl,
+      refl,
+    );
+    ends = inl (written, told, status);
+  })
+
+  -- a line that ends the run: what comes before it is written
+  pub stopped_at_the_second_line : known.may_open (codes "a") true → IsFirstOf known (codes "a") (codes "10.0.0.1\nbad\n10.0.0.1\n") → {W E : Type 0} (end : Ending W E) → HasWritten end (codes "10.0.0.1\n") → HasTold end (codes "a:2: refused address\n")
+      → end.status ≡ 2 → EndsLogs (by false without.Stop) known (codes "a" ∷ codes "b" ∷ []) end
+  unfolding digits
+  stopped_at_the_second_line opened a end written told status = inr (record {
+    before = [];
+    name = codes "a";
+    behind = codes "b" ∷ [];
+    output = [];
+    selected = 0;
+    texts = [];
+    missed = false;
+    lines = ended (codes "10.0.0.1") ∷ [];
+    added = codes "10.0.0.1\n";
+    more = 1;
+    fault = faults.Address;
+    logs = refl;
+    filters = (refl, refl, refl, refl);
+    first = (verdicts.Inside None, [], 0, inside, refl, (refl, refl), refl, refl);
+    short = refl;
+    halts = (
+      record {
+        read = codes "10.0.0.1\nbad\n10.0.0.1\n";
+        line = ended (codes "bad");
+        others = ended (codes "10.0.0.1") ∷ [];
+        is_first = a;
+        are = refl;
+        is_line = inl refl;
+        is_so = (bad, refl);
+      },
+      opened,
+    );
+    wrote = written;
+    told = told;
+    status = status;
+  })
+
+  -- a read that fails: the lines before it whose line feed was read were filtered, and what follows them is no line
+  pub stopped_by_a_failed_read : known.may_open (codes "a") true → known.may_fail (codes "a") → IsFirstOf known (codes "a") (codes "10.0.0.1\n10.0.0.1") → {W E : Type 0} (end : Ending W E) → HasWritten end (codes "10.0.0.1\n")
+      → HasTold end (codes "a: cannot read\n") → end.status ≡ 2 → EndsLogs (by false without.Stop) known (codes "a" ∷ codes "b" ∷ []) end
+  stopped_by_a_failed_read opened fails a end written told status = inr (record {
+    before = [];
+    name = codes "a";
+    behind = codes "b" ∷ [];
+    output = [];
+    selected = 0;
+    texts = [];
+    missed = false;
+    lines = ended (codes "10.0.0.1") ∷ [];
+    added = codes "10.0.0.1\n";
+    more = 1;
+    fault = faults.Read;
+    logs = refl;
+    filters = (refl, refl, refl, refl);
+    first = (verdicts.Inside None, [], 0, inside, refl, (refl, refl), refl, refl);
+    short = refl;
+    halts = (codes "10.0.0.1\n10.0.0.1", a, refl, opened, fails);
+    wrote = written;
+    told = told;
+    status = status;
+  })
+
+  -- no line of a log is selected
+  pub nothing_selected : IsAllOf known (codes "-") (codes "11.0.0.1\n") → {W E : Type 0} (end : Ending W E) → HasWritten end [] → HasTold end [] → end.status ≡ 1
+      → EndsLogs (by false without.Stop) known (codes "-" ∷ []) end
+  unfolding address_of digits v6_of gap_below
+  nothing_selected a end written told status = inl (record {
+    output = [];
+    selected = 0;
+    texts = [];
+    missed = false;
+    filters = (
+      [],
+      [],
+      0,
+      0,
+      [],
+      [],
+      false,
+      false,
+      inl ((codes "11.0.0.1\n", a, (verdicts.Outside, [], 0, outside, refl, (refl, refl), refl, refl), refl, refl), refl),
+      (refl, refl, refl, refl),
+      refl,
+      refl,
+      refl,
+      refl,
+    );
+    ends = inl (written, told, status);
+  })
+
+  -- no line of a log has an address
+  pub nothing_found : IsVerdict (by false without.Drop) (codes "x") verdicts.NoAddress → IsAllOf known (codes "a") (codes "x\n") → {W E : Type 0} (end : Ending W E) → HasWritten end []
+      → HasTold end (codes "cidr_filter: a: no line has an address in field 1\n") → end.status ≡ 1 → EndsLogs (by false without.Drop) known (codes "a" ∷ []) end
+  unfolding address_of digits v6_of gap_below
+  nothing_found none a end written told status = inl (record {
+    output = [];
+    selected = 0;
+    texts = codes "cidr_filter: a: no line has an address in field 1\n";
+    missed = false;
+    filters = (
+      [],
+      [],
+      0,
+      0,
+      codes "cidr_filter: a: no line has an address in field 1\n",
+      [],
+      false,
+      false,
+      inl ((codes "x\n", a, (verdicts.NoAddress, [], 0, none, refl, (refl, refl), refl, refl), refl, refl), refl),
+      (refl, refl, refl, refl),
+      refl,
+      refl,
+      refl,
+      refl,
+    );
+    ends = inl (written, told, status);
+  })

@@ -1,0 +1,97 @@
+"""Rows of `tests/cidr_filter` beside GNU grep, for the options that both have: what is printed, and the status, where
+both select the same lines; and that nothing is read behind the line that ends a log. Each function yields a name,
+whether the row is as it should be, and what was got."""
+
+import itertools
+import os
+import random
+import subprocess
+import threading
+
+SECONDS = 60
+PIPES = {"stdout": subprocess.PIPE, "stderr": subprocess.PIPE}
+LOGS = ("one", "two", "none_of_ten", "three", "nothing")
+# The options of a run, of each kind one or none.
+KINDS = (("", "-v"), ("", "-m 1", "-m 2", "-m 7", "-m 0", "-m 1000"), ("", "-H", "-c"))
+
+
+def run(words, folder, given=b""):
+    got = subprocess.run(words, input=given, cwd=folder, timeout=SECONDS, **PIPES)
+    return got.stdout, got.stderr, got.returncode
+
+
+def write_logs(folder):
+    """Logs whose lines begin with addresses, of which those of 10.0.0.0/8 are the lines that begin with `10.`."""
+    rng = random.Random(5)
+    for name in LOGS:
+        first = [11, 100, 1] if name == "none_of_ten" else [10, 10, 11, 100, 1]
+        lines = [f"{rng.choice(first)}.{rng.randrange(256)}.0.{n % 256} {n}\n" for n in range(0 if name == "nothing" else 300)]
+        with open(os.path.join(folder, name), "w") as f:
+            f.write("".join(lines))
+
+
+def counted(output):
+    """The sum of the numbers that grep prints, one for each log, as the one number of all logs."""
+    return f"{sum(int(number) for number in output.split())}\n".encode()
+
+
+def as_grep(program, folder):
+    """What GNU grep prints of the lines that begin with `10.`, and its status."""
+    write_logs(folder)
+    version = subprocess.run(["grep", "--version"], stdout=subprocess.PIPE).stdout
+    if b"GNU grep" not in version:
+        return
+    for options in itertools.product(*KINDS):
+        options = " ".join(options).split()
+        for logs in (["one"], ["-"], ["none_of_ten"], ["nothing"], ["one", "none_of_ten", "-", "three"], ["nothing", "two"]):
+            given = b"11.0.0.1 x\n10.0.0.1 y\n10.0.0.2 z\n"
+            name = [] if "-H" in options else ["-h"]
+            wanted, _, status = run(["grep", *name, *options, "-e", "^10\\.", *logs], folder, given)
+            if "-c" in options:
+                zero = "0" in options
+                wanted = b"0\n" if zero else counted(wanted)
+            got = run([program, *options, "-e", "10.0.0.0/8", *logs], folder, given)
+            yield f"{options} {logs}, as grep", (got[0], got[2]) == (wanted, status), got
+
+
+# The words, what standard input gives before a read of it fails or waits, what is printed, and the status.
+LEFT = (
+    ("-m 1", b"11.0.0.1\n10.0.0.1 a\n10.0.0.2", b"10.0.0.1 a\n", 0),
+    ("-m 2 -v", b"11.0.0.1\n10.0.0.1 a\n11.0.0.1\n", b"11.0.0.1\n11.0.0.1\n", 0),
+    ("-cm1", b"10.0.0.1\n", b"1\n", 0),
+    ("-m0", b"", b"", 1),
+)
+
+
+def left(program, folder):
+    """No read is made behind the line that ends a log: not one that would fail, nor one that would wait."""
+    for words, given, output, status in LEFT:
+        command = [program, *words.split(), "-e", "10.0.0.0/8"]
+        for fails in (True, False):
+            reader, writer = os.pipe()
+            os.set_blocking(reader, not fails)
+            os.write(writer, given)
+            got = subprocess.run(command, cwd=folder, stdin=reader, timeout=SECONDS, **PIPES)
+            got = (got.stdout, got.stderr, got.returncode)
+            os.close(reader)
+            os.close(writer)
+            yield f"{words}, a read that {'fails' if fails else 'waits'}", got == (output, b"", status), got
+        yield f"{words}, a log without an end", *without_end(command, output, status)
+
+
+def without_end(command, output, status):
+    """Whether a run ends whose standard input goes on as long as it is read."""
+    with subprocess.Popen(command, stdin=subprocess.PIPE, **PIPES) as running:
+
+        def feed():
+            try:
+                while True:
+                    running.stdin.write(b"11.0.0.1\n10.0.0.1 a\n" * 1000)
+            except (BrokenPipeError, ValueError):
+                pass
+
+        feeder = threading.Thread(target=feed)
+        feeder.start()
+        got = running.stdout.read(), running.stderr.read(), running.wait(timeout=SECONDS)
+        feeder.join(timeout=SECONDS)
+        return not feeder.is_alive() and got == (output, b"", status), got
