@@ -1,5 +1,5 @@
 -- How lists are written, and what is read of one.
-use Rattle.std.specs.Prelude.{ℕ, true, false, List}
+use Rattle.std.specs.Prelude.{◌≡◌, ℕ, true, false, List}
 use Rattle.lists.specs.Documents.{ReadsDocument, StopsAtDocument}
 use Rattle.lists.specs.KnownLists.{KnownLists}
 use Rattle.lists.specs.Lists.{ReadLists}
@@ -31,8 +31,8 @@ ReadsOne source number name before after = ReadsBy source.shape source.known num
 -- the reading stops at it
 abbrev pub StopsBy : Shape → KnownLists → ℕ → List ℕ → ReadLists → ReadFault → Refused → Type 0
 StopsBy Lines known number name before fault refused = StopsAt known number name before fault refused
-StopsBy Json known number name before fault refused = StopsAtDocument known false number name before fault refused
-StopsBy StrictJson known number name before fault refused = StopsAtDocument known true number name before fault refused
+StopsBy Json known number name before fault refused = (after : ReadLists) × StopsAtDocument known false number name before fault after × (refused ≡ after.refused)
+StopsBy StrictJson known number name before fault refused = (after : ReadLists) × StopsAtDocument known true number name before fault after × (refused ≡ after.refused)
 
 abbrev pub StopsOne : Source → ℕ → List ℕ → ReadLists → ReadFault → Refused → Type 0
 StopsOne source number name before fault refused = StopsBy source.shape source.known number name before fault refused

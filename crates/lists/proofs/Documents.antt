@@ -1,9 +1,8 @@
 -- What is taken of a document.
 use Rattle.std.proofs.Common.{◌≡◌, ◌<◌, ◌∙◌, ℕ, Bool, true, false, List, [], ◌∷◌, ◌++◌, refl, sym, ap, subst, arith, length, append-nil, length-append, inl, inr}
-use Rattle.std.specs.Prelude.{Option, None, Some, Result, Ok, Err, IfOk, OnOk, IfErr, IsTrue, IsUtf8}
+use Rattle.std.specs.Prelude.{Option, None, Some, Result, Ok, Err, IfOk, OnOk, IfErr, IsTrue}
 use Rattle.std.specs.Io.KnownBytes.{Consumes, IsAtEnd}
-use Rattle.serde_json.specs.Read.{read as read_bytes}
-use Rattle.lists.specs.Documents.{TakesString, TakesStrings, TakesDocument, ReadsDocument, StopsAtDocument}
+use Rattle.lists.specs.Documents.{IsNoDocument, TakesString, TakesStrings, TakesDocument, ReadsDocument, StopsAtDocument}
 use Rattle.lists.specs.KnownLists.{KnownLists}
 use Rattle.lists.specs.Lists.{ReadLists, at_list}
 use Rattle.lists.specs.Private.Documents.{IsAllOf, ReadsAll, StopsReading, BytesStop, TakesBytes, FailsBytes}
@@ -33,23 +32,23 @@ all_read None remains read input e h end = absurd (none_is_some input e)
 all_read (Some was) None read input e h end = absurd h
 all_read (Some was) (Some left) read input e h end = sym (sym (some_are_one was input e) ∙ h ∙ ap (λ t. read ++ t) end ∙ append-nil read)
 
-as_long : (remained remains : Option (List ℕ)) (read input : List ℕ) → remained ≡ Some input → Consumes remained remains read → 1073741824 < length read → 1073741824 < length input
-as_long None remains read input e h long = absurd (none_is_some input e)
-as_long (Some was) None read input e h long = absurd h
-as_long (Some was) (Some left) read input e h long =
+as_long : (least : ℕ) (remained remains : Option (List ℕ)) (read input : List ℕ) → remained ≡ Some input → Consumes remained remains read → least < length read → least < length input
+as_long least None remains read input e h long = absurd (none_is_some input e)
+as_long least (Some was) None read input e h long = absurd h
+as_long least (Some was) (Some left) read input e h long =
     omega (arith, long, ap (λ (l : List ℕ). length l) (sym (some_are_one was input e) ∙ h), length-append read left)
 
 module _ (known : KnownLists) (name : List ℕ) (number : ℕ) (remained remains : Option (List ℕ)) (has : (input : List ℕ) → known.bytes_of name ≡ Some input → remained ≡ Some input) (opened : known.may_open name true) where
   pub bytes_read : {X : Type 0} (items : X → List ℕ) (result : Result X ReadFault) → IfOk result (λ t. ReadsAll remained remains (items t)) → IfOk result (λ t. IsAllOf known name (items t))
-  bytes_read items (Ok bytes) h = (opened, λ input e. all_read remained remains (items bytes) input (has input e) h.0 h.1)
+  bytes_read items (Ok bytes) h = (opened, (λ input e. all_read remained remains (items bytes) input (has input e) h.0 h.1), h.2)
   bytes_read items (Err fault) h = tt
 
   stops_by : (failed : Bool) (fault : ReadFault) → (IsTrue failed → known.may_fail name) → StopsReading remained remains failed number fault → BytesStop known number name fault
   stops_by failed (faults.Open place cause) fails h = absurd h
   stops_by failed (faults.Read place) fails h = (h.0, opened, fails h.1)
-  stops_by failed (faults.Length place) fails h = (h.0, opened, λ input e. as_long remained remains h.1.0 input (has input e) h.1.1 h.1.2)
+  stops_by failed (faults.Length place) fails h = (h.0, opened, λ input e. as_long 1073741824 remained remains h.1.0 input (has input e) h.1.1 h.1.2)
   stops_by failed (faults.NotJson place line) fails h = absurd h
-  stops_by failed faults.OutOfMemory fails h = tt
+  stops_by failed faults.OutOfMemory fails h = (opened, λ input e. as_long 0 remained remains h.0 input (has input e) h.1 h.2)
 
   pub bytes_stop : {X : Type 0} (failed : Bool) (result : Result X ReadFault) → (IsTrue failed → known.may_fail name) → IfErr result (StopsReading remained remains failed number)
       → IfErr result (BytesStop known number name)
@@ -60,12 +59,12 @@ module _ (known : KnownLists) (name : List ℕ) (number : ℕ) (remained remains
 
 module _ (known : KnownLists) (strict : Bool) (name : List ℕ) (number : ℕ) (before : ReadLists) where
   -- its bytes were not read
-  pub not_read : (fault : ReadFault) → BytesStop known number name fault → StopsAtDocument known strict number name before fault before.refused
+  pub not_read : (fault : ReadFault) → BytesStop known number name fault → StopsAtDocument known strict number name before fault before
   not_read (faults.Open place cause) h = (h.0, h.1, h.2, refl)
   not_read (faults.Read place) h = (h.0, h.1, h.2, refl)
   not_read (faults.Length place) h = (h.0, h.1, h.2, refl)
   not_read (faults.NotJson place line) h = absurd h
-  not_read faults.OutOfMemory h = inl refl
+  not_read faults.OutOfMemory h = inl (h, refl)
 
   module _ (bytes : List ℕ) (after : ReadLists) (all : IsAllOf known name bytes) where
     document_read : (out : Bool) → TakesBytes strict (at_list before number) bytes after out → ReadsDocument known strict number name before after
@@ -79,15 +78,15 @@ module _ (known : KnownLists) (strict : Bool) (name : List ℕ) (number : ℕ) (
     memory_ok (Ok done) h = h.1
     memory_ok (Err fault) h = tt
 
-    fails_by : (fault : ReadFault) → FailsBytes strict number bytes before after fault → StopsAtDocument known strict number name before fault after.refused
+    fails_by : (fault : ReadFault) → FailsBytes strict number bytes before after fault → StopsAtDocument known strict number name before fault after
     fails_by (faults.Open place cause) h = absurd h
     fails_by (faults.Read place) h = absurd h
     fails_by (faults.Length place) h = absurd h
-    fails_by (faults.NotJson place line) h = (h.0, all.0, (λ input e utf8. sym (ap read_bytes (all.1 input e)) ∙ h.1 (subst (λ (b : List ℕ). IsUtf8 b) (sym (all.1 input e)) utf8)), h.2)
-    fails_by faults.OutOfMemory (inl same) = inl same
-    fails_by faults.OutOfMemory (inr h) = inr (after, document_read true h, h.1, refl)
+    fails_by (faults.NotJson place line) h = (h.0, all.0, (λ input e. subst (λ (b : List ℕ). IsNoDocument b) (all.1 input e) h.1), h.2)
+    fails_by faults.OutOfMemory (inl h) = inl ((all.0, λ input e. subst (λ (b : List ℕ). 0 < length b) (all.1 input e) h.0), h.1)
+    fails_by faults.OutOfMemory (inr h) = inr (document_read true h, h.1)
 
     pub read_err : {T : Type 0} (result : Result T ReadFault) → IfErr result (FailsBytes strict number bytes before after)
-        → IfErr result (λ fault. StopsAtDocument known strict number name before fault after.refused)
+        → IfErr result (λ fault. StopsAtDocument known strict number name before fault after)
     read_err (Ok done) h = tt
     read_err (Err fault) h = fails_by fault h

@@ -1,3 +1,5 @@
+pub mod DocumentExamples
+pub mod DocumentLaws
 pub mod Documents
 pub mod Handed
 pub mod EntryExamples
@@ -7,6 +9,7 @@ pub mod Gained
 pub mod LawExamples
 pub mod MergedParts
 pub mod NamedLists
+pub mod Occurrences
 pub mod PartExamples
 pub mod Parts
 pub mod PlainTexts

@@ -19,7 +19,7 @@ OneNetwork = (text : List ℕ) (a b : IpNetwork) → NamesIpNetwork text a → N
 abbrev pub OneAddress : Type 0
 OneAddress = (text : List ℕ) (a b : IpAddr) → NamesIp text a → NamesIp text b → a ≡ b
 
-one_entry : OneNetwork → OneAddress → (text : List ℕ) (a b : Entry) → NamesEntry text a → NamesEntry text b → a ≡ b
+pub one_entry : OneNetwork → OneAddress → (text : List ℕ) (a b : Entry) → NamesEntry text a → NamesEntry text b → a ≡ b
 one_entry network address text (Network a) (Network b) (none, named) (also, other) = ap Network (network text a b named other)
 one_entry network address text (Network a) (Range first last) (none, named) (dash, ends, range) = absurd (none dash)
 one_entry network address text (Range first last) (Network b) (dash, ends, range) (none, named) = absurd (none dash)

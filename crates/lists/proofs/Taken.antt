@@ -16,7 +16,7 @@ use Rattle.lists.specs.declared.fault.LineFault.{LineFault}
 use Rattle.lists.specs.declared.fault.LineFault.TheVariants as faults
 use Rattle.lists.proofs.Gained.{same_addresses}
 
-on_next_line : (before : ReadLists) (a : IpAddr) → HasAddress (at_next_line before) a ≡ HasAddress before a
+pub on_next_line : (before : ReadLists) (a : IpAddr) → HasAddress (at_next_line before) a ≡ HasAddress before a
 on_next_line before (V4 a) = refl
 on_next_line before (V6 a) = refl
 

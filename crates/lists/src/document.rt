@@ -1,9 +1,10 @@
 //! Reads a document of JSON as a list.
-ghost use Rattle.std.specs.Prelude.{◌≡◌, ◌||◌, false, IfOk, OnOk, IfErr};
+ghost use Rattle.std.specs.Prelude.{◌≡◌, ◌≤◌, ◌||◌, false, length, IfOk, OnOk, IfErr};
 ghost use Rattle.lines.specs.Watched.{device_of, has_failed};
 ghost use Rattle.lists.specs.Documents.{ReadsDocument, StopsAtDocument};
 ghost use Rattle.lists.specs.Lists.{at_list};
-ghost use Rattle.lists.specs.Private.Documents.{IsAllOf, ReadsAll, StopsReading, ended_by_read, BytesStop, TakesBytes, FailsBytes};
+ghost use Rattle.lists.specs.Private.Documents.{IsAllOf, ReadsAll, StopsReading, ended_by_read};
+ghost use Rattle.lists.specs.Private.Documents.{BytesStop, TakesBytes, FailsBytes};
 
 use crate::list_reader::ListReader;
 use crate::named::ReadFault;
@@ -25,12 +26,16 @@ pub const DOCUMENT_MAX: usize = 1_073_741_824;
 /// How many bytes are read at once.
 const CHUNK_LEN: usize = 65536;
 
-/// Opens the document of JSON (RFC 8259) of this name, which is the word at the index `place`, reads it, and closes it.
+/// Opens the document of JSON (RFC 8259) of this name, which is the word at the index `place`,
+/// reads it, and closes it.
 ///
-/// Each of its strings that is the text of a network or of a range is an entry, at any depth, as an element of an array
-/// or as a value of an object; keys are not looked at. Of values of one key the last counts. Another string is passed
-/// over, or refused if the reading is strict: strings are then numbered as lines are, in the order of `Value`, which has
-/// the keys of an object in order. A document has at most 1,073,741,824 bytes and 127 levels.
+/// Each of its strings that is the text of a network or of a range is an entry, at any depth, as an
+/// element of an array or as a value of an object; keys are not looked at. Of values of one key the
+/// last counts. Another string is passed over, or refused if the reading is strict: strings are then
+/// numbered as lines are, in the order of `Value`, which has the keys of an object in order. A
+/// document has at most 1,073,741,824 bytes and 127 levels.
+///
+/// If the reading stops, the reader is unchanged, unless memory ran out for an entry.
 ///
 /// ```
 /// use lists::{OpenFault, ReadFault, read_document};
@@ -53,7 +58,7 @@ pub fn read_document<L: OpenLists>(
         (ReadsDocument (L.known lists.now) is_strict place name.now reader.old reader.new) }
     ensures memory { OnOk result (reader.new.is_out_of_memory ≡ false) }
     ensures stopped { IfErr result (λ fault. StopsAtDocument (L.known lists.now) is_strict place
-        name.now reader.old fault reader.new.refused) }
+        name.now reader.old fault reader.new) }
 {
     let bytes = match bytes_of(alloc, lists, name, place) {
         Ok(bytes) => bytes,
@@ -62,7 +67,7 @@ pub fn read_document<L: OpenLists>(
     take_document(alloc, bytes.as_slice(), place, is_strict, reader)
 }
 
-// Takes the strings of the document of these bytes.
+// Takes the strings of the document of these bytes. Changes nothing if they are no document.
 fn take_document(
     alloc: Global,
     bytes: &[u8],
@@ -70,8 +75,11 @@ fn take_document(
     is_strict: bool,
     reader: &mut ListReader,
 ) -> Result<(), ReadFault>
-    ensures read { OnOk result (TakesBytes is_strict (at_list reader.old place) bytes.now reader.new false) }
-    ensures stopped { IfErr result (λ fault. FailsBytes is_strict place bytes.now reader.old reader.new fault) }
+    requires { length bytes.now ≤ 1073741824 }
+    ensures read { OnOk result
+        (TakesBytes is_strict (at_list reader.old place) bytes.now reader.new false) }
+    ensures stopped { IfErr result
+        (λ fault. FailsBytes is_strict place bytes.now reader.old reader.new fault) }
 {
     let value = match Value::from_slice(alloc, bytes) {
         Ok(value) => value,

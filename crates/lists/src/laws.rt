@@ -1,5 +1,6 @@
 //! The laws of entries and of lists. Each function's contract is a law; it does nothing, and a proof whose function
 //! calls it may use the law.
+ghost use Rattle.lists.specs.DocumentLaws.{StringsOccur, DocumentsAddWhatTheyName};
 ghost use Rattle.lists.specs.Lists.{LinesAddWhatTheyName};
 ghost use Rattle.lists.specs.Merges.{MergesOfPartsMerge};
 ghost use Rattle.lists.specs.Printed.{PrintedListsNameTheirNetworks};
@@ -44,6 +45,20 @@ pub fn lines_add_what_they_name()
     ensures { LinesAddWhatTheyName }
 {
     line_says_one_thing();
+}
+
+/// The strings of a value of JSON are those that occur in it, at any depth; a key does not.
+pub fn strings_occur()
+    ensures { StringsOccur }
+{}
+
+/// A document that is taken adds the addresses that its strings name, and no others, unless memory
+/// runs out for them.
+pub fn documents_add_what_they_name()
+    ensures { DocumentsAddWhatTheyName }
+{
+    network_laws::ip_network_text_names_one();
+    address_laws::ip_text_names_one();
 }
 
 /// A list may be merged in parts, of any number and in any order: the merge of the parts' merges is the merge of the

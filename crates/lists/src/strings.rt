@@ -1,6 +1,7 @@
 //! Takes the strings of a value of JSON.
 ghost use Rattle.serde_json.specs.View.{view, items_view, members_view};
-ghost use Rattle.lists.specs.Documents.{strings_of, strings_of_items, strings_of_members, TakesStrings};
+ghost use Rattle.lists.specs.Documents.{strings_of, strings_of_items, strings_of_members};
+ghost use Rattle.lists.specs.Documents.{TakesStrings};
 
 use crate::list_reader::ListReader;
 use serde_json::{Map, Value};
