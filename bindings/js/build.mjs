@@ -49,15 +49,16 @@ const pathOf = (name) => (
 );
 
 /**
- * The same code without comments, which the types have, blank lines, and blanks before a line and
- * beside a sign; strings stay as they are.
+ * The same code without comments, which the types have, blank lines, blanks before a line and beside
+ * a sign, and ends of lines after `;`, `,` and `{`; strings stay as they are.
  */
 const TEXT_OR_SIGN = /('(?:[^'\\\n]|\\.)*'|`(?:[^`\\]|\\.)*`)| *([-=+*/%<>!&|^?:;,(){}[\]]) */g;
 const squeezed = (code) => code
   .replace(/^export /gm, '')
   .replace(/^ *\/\*[^]*?\*\/\n/gm, '')
   .replace(/\n\s+/g, '\n')
-  .replace(TEXT_OR_SIGN, (_, text, sign) => text ?? sign);
+  .replace(TEXT_OR_SIGN, (_, text, sign) => text ?? sign)
+  .replace(/([;,{])\n/g, '$1');
 const codeOf = (files) => squeezed(files.map((name) => source(pathOf(name))).join('\n'));
 
 /** The text that `unspelled` reads as these bytes, and as a byte 0 behind them if it has room. */
