@@ -1,22 +1,35 @@
-use Rattle.std.proofs.Common.{◌≡◌, true, false, refl}
+use Rattle.std.proofs.Common.{◌≡◌, ℕ, List, true, false, refl, sym, subst}
 use Rattle.std.specs.Prelude.{Result, Ok, Err, IfErr}
 use Rattle.lists.specs.Documents.{StopsAtDocument}
+use Rattle.lists.specs.KnownLists.{KnownLists}
 use Rattle.lists.specs.Lists.{ReadLists}
 use Rattle.lists.specs.declared.named.ReadFault.{ReadFault}
+use Rattle.cidr_merge.specs.Shapes.{StopsBy}
+use Rattle.cidr_merge.specs.declared.shapes.Shape.{Shape}
+use Rattle.cidr_merge.specs.declared.shapes.Shape.TheVariants.{Json, StrictJson}
 use Rattle.cidr_merge.proofs.shapes.read_one.Goals as goal
 
 -- what the reader holds has the refused lines
-holds_refused : {T : Type 0} (result : Result T ReadFault) (Stops : ReadFault → ReadLists → Type 0) (now : ReadLists) → IfErr result (λ fault. Stops fault now)
-    → IfErr result (λ fault. (after : ReadLists) × Stops fault after × (now.refused ≡ after.refused))
-holds_refused (Ok done) Stops now h = tt
-holds_refused (Err fault) Stops now h = (now, h, refl)
+json_stops : {T : Type 0} (known : KnownLists) (shape : Shape) (place : ℕ) (name : List ℕ) (before : ReadLists) (result : Result T ReadFault) (now : ReadLists)
+    → shape ≡ Json → IfErr result (λ fault. StopsAtDocument known false place name before fault now)
+    → IfErr result (λ fault. StopsBy shape known place name before fault now.refused)
+json_stops known shape place name before (Ok done) now w h = tt
+json_stops known shape place name before (Err fault) now w h =
+    subst (λ s. StopsBy s known place name before fault now.refused) (sym w) (now, h, refl)
+
+strict_json_stops : {T : Type 0} (known : KnownLists) (shape : Shape) (place : ℕ) (name : List ℕ) (before : ReadLists) (result : Result T ReadFault) (now : ReadLists)
+    → shape ≡ StrictJson → IfErr result (λ fault. StopsAtDocument known true place name before fault now)
+    → IfErr result (λ fault. StopsBy shape known place name before fault now.refused)
+strict_json_stops known shape place name before (Ok done) now w h = tt
+strict_json_stops known shape place name before (Err fault) now w h =
+    subst (λ s. StopsBy s known place name before fault now.refused) (sym w) (now, h, refl)
 
 pub returns-in-Json-clause-stopped : goal.returns-in-Json-clause-stopped
 returns-in-Json-clause-stopped g c =
-    holds_refused c.read_document.result (λ fault after. StopsAtDocument (g.L.OpenLists.known c.args.lists.now) false c.args.place c.args.name.now c.args.reader.now fault after)
-    c.read_document.new.reader c.read_document.ensures.stopped
+    json_stops (g.L.OpenLists.known c.args.lists.now) c.args.shape c.args.place c.args.name.now c.args.reader.now c.read_document.result c.read_document.new.reader
+    c.in-Json.is c.read_document.ensures.stopped
 
 pub returns-in-StrictJson-clause-stopped : goal.returns-in-StrictJson-clause-stopped
 returns-in-StrictJson-clause-stopped g c =
-    holds_refused c.read_document.result (λ fault after. StopsAtDocument (g.L.OpenLists.known c.args.lists.now) true c.args.place c.args.name.now c.args.reader.now fault after)
-    c.read_document.new.reader c.read_document.ensures.stopped
+    strict_json_stops (g.L.OpenLists.known c.args.lists.now) c.args.shape c.args.place c.args.name.now c.args.reader.now c.read_document-in-StrictJson.result
+    c.read_document-in-StrictJson.new.reader c.in-StrictJson.is c.read_document-in-StrictJson.ensures.stopped
