@@ -3,8 +3,8 @@
  * Every call except the two that tell a version returns an ipnetwork_fault: IPNETWORK_OK, which is 0, or why there is
  * no result. Results are written through the last pointers. After a fault nothing has been written, except that after
  * IPNETWORK_SHORT_BUFFER a call with a pointer for the length of texts, or for the number of blocks, has written that.
- * A struct that the caller has filled is checked by each call that looks at it: a prefix length past the width is
- * IPNETWORK_PREFIX, and never trusted. Only the searches of sets and tables do not look at every struct.
+ * A prefix length that the caller has filled is checked by each call that looks at it: one past the width is
+ * IPNETWORK_PREFIX, and never trusted. The searches of sets, tables and ranges do not look at every one, or at none.
  *
  * No call allocates or keeps anything. Each may be made from any thread, and from several at once, as long as no
  * other thread writes what it reads or touches what it writes.

@@ -3,9 +3,8 @@
  *
  * Where the blocks of a table begin, and where the addresses after them begin, the address space is cut into ranges, at
  * most twice as many as there are blocks. No block begins or ends within one, so that all its addresses have the longest
- * block that its first address has, and that is asked of the library. A range is kept as the struct of its first address
- * with the prefix length 0, which has every address: so a search for the longest block ends at the first struct that it
- * comes to, the last one that begins at the address or before it. */
+ * block that its first address has, and that is asked of the library. A range is kept as the struct of its first address;
+ * its prefix length, 0, is not looked at. */
 #ifndef IPNETWORK_RANGES_H
 #define IPNETWORK_RANGES_H
 
