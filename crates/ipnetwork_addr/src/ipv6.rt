@@ -99,6 +99,7 @@ impl Ipv6Addr {
     /// assert_eq!(rt; dotted, Ok(Ipv6Addr::new(0x64, 0xff9b, 0, 0, 0, 0, 0xc000, 0x221)));
     /// assert_eq!(rt; Ipv6Addr::read_bytes(b"1::2::3"), Err(AddrParseError::Ipv6));
     /// ```
+    #[inline(always)]
     pub fn read_bytes(text: &[u8]) -> Result<Self, AddrParseError>
         ensures { Reads NamesV6 AddrParseError.Ipv6 text.now result }
     {

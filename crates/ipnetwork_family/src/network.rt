@@ -276,23 +276,14 @@ impl<A: Address> Network<A> {
     /// assert_eq!(rt; network.prefix(), 8);
     /// assert_eq!(rt; Ipv4Network::read_bytes(b"10.1.9.32/33"), Err(CidrFault::Prefix));
     /// ```
+    #[inline(always)]
     pub fn read_bytes(text: &[u8]) -> Result<Self, CidrFault>
         ensures { ReadsNetworkOf A.family text.now result }
     {
-        if let Some(network) = read_suffixed::<A>(text) {
-            return Ok(network);
+        match read_suffixed::<A>(text) {
+            Some(network) => Ok(network),
+            None => read_parts(text),
         }
-        // Does nothing. The proof needs the law: no address text and no suffix contains a `/`.
-        A::law_texts();
-        let (address, suffix) = split(text)?;
-        let Ok(address) = A::read_bytes(address) else {
-            return Err(CidrFault::Addr);
-        };
-        let Some(prefix) = prefix_length::<A>(suffix) else {
-            return Err(CidrFault::Prefix);
-        };
-        address.law_of_width();
-        Ok(Network { address, prefix })
     }
 
     /// The network that a text names, as `read_bytes` reads it. If it names none, the error is what
@@ -343,6 +334,24 @@ impl<A: Address> Network<A> {
     {
         String::from_str(alloc, self.canonical().as_str())
     }
+}
+
+/// The network that a text names, by the parts before and after its `/`, or the cause.
+#[inline(never)]
+fn read_parts<A: Address>(text: &[u8]) -> Result<Network<A>, CidrFault>
+    ensures { ReadsNetworkOf A.family text.now result }
+{
+    // Does nothing. The proof needs the law: no address text and no suffix contains a `/`.
+    A::law_texts();
+    let (address, suffix) = split(text)?;
+    let Ok(address) = A::read_bytes(address) else {
+        return Err(CidrFault::Addr);
+    };
+    let Some(prefix) = prefix_length::<A>(suffix) else {
+        return Err(CidrFault::Prefix);
+    };
+    address.law_of_width();
+    Ok(Network { address, prefix })
 }
 
 /// The network that a text names, if its suffix has one to three bytes. `None` says nothing of the text.
