@@ -25,9 +25,11 @@ use core::ops::RangeInclusive;
 use core::str::FromStr;
 
 mod printed_columns;
+mod ranges;
 mod read_columns;
 
 pub use printed_columns::print_address_column;
+pub use ranges::{Ipv4Ranges, Ipv6Ranges};
 pub use read_columns::read_address_column;
 
 /// How many rows of a column are copied at a time.

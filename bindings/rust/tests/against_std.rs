@@ -527,6 +527,25 @@ fn tables() {
     }
 }
 
+/// Asks the ranges of a table, without and with an index, and compares with what the table tells.
+macro_rules! asked_by_ranges {
+    ($table:ident, $asked:ident, $address:ident, $told:expr) => {
+        let mut starts = [$table.blocks(), $table.blocks()].concat();
+        let mut beside = vec![7; starts.len()];
+        let ranges = $table.ranges(&mut starts, &mut beside);
+        let mut index = vec![7; index_size(ranges.count())];
+        for ranges in [ranges, ranges.with_index(&mut index)] {
+            let (mut numbers, mut faults) = ([77; 256], [77; 256]);
+            ranges.find_column(&$asked, &mut numbers, &mut faults);
+            assert_eq!((numbers, faults), $told);
+            for octets in $asked.iter().copied() {
+                let address = $address::from(octets);
+                assert_eq!(ranges.find(address), $table.find(address));
+            }
+        }
+    };
+}
+
 /// Asks tables of the same hosts in both families about all 256, one by one and in columns.
 fn ask(fours: &[Ipv4Network], table: Ipv4Table, table6: Ipv6Table) {
     let asked: Vec<[u8; 4]> = (0..=255).map(|host| [192, 0, 2, host]).collect();
@@ -535,6 +554,8 @@ fn ask(fours: &[Ipv4Network], table: Ipv4Table, table6: Ipv6Table) {
     let (mut faults, mut faults6) = ([77; 256], [77; 256]);
     table.find_column(&asked, &mut numbers, &mut faults);
     table6.find_column(&asked6, &mut numbers6, &mut faults6);
+    asked_by_ranges!(table, asked, Ipv4Addr, (numbers, faults));
+    asked_by_ranges!(table6, asked6, Ipv6Addr, (numbers6, faults6));
     for host in 0..256 {
         let address = Ipv4Addr::from(asked[host]);
         let having = fours

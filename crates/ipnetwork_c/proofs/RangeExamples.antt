@@ -1,11 +1,18 @@
 -- Ranges at which a misreading of `IsCut`, `IsLongestAt`, `place_before` or `AreRangesOf` would show: of 10.0.0.0/8, and
 -- 10.1.0.0/16 twice.
-use Rattle.std.proofs.Common.{◌≡◌, ℕ, zero, suc, ◌<◌, ◌≤◌, List, [], ◌∷◌, get_or, refl, inl, inr, lit<, lit≤, arith, ⊎_elim}
+use Rattle.std.proofs.Common.{◌≡◌, ℕ, zero, suc, ◌<◌, ◌≤◌, List, [], ◌∷◌, get_or, map, refl, inl, inr, lit<, lit≤, arith, ⊎_elim}
 use Rattle.ipnetwork_family.specs.Network.{Network}
 use Rattle.ipnetwork_blocks.proofs.LeastLists.{contains_nil}
 use Rattle.ipnetwork_c.specs.Tables.{FindsLongest}
-use Rattle.ipnetwork_c.specs.Ranges.{no_place, place_before, EndsAt, IsCut, IsLongestAt, AreRangesOf}
-use Rattle.ipnetwork_c.proofs.TableExamples.{nested, nested_is_a_table, the_last_of_the_longest_is_found, no_wider_block_is_found}
+use Rattle.ipnetwork_blocks.specs.Aggregate.{InUnion}
+use Rattle.ipnetwork_c.specs.declared.structs.Ipv4InC.{Ipv4InC}
+use Rattle.ipnetwork_c.specs.Numbers.{ok, no_member}
+use Rattle.ipnetwork_c.specs.Held.{v4_in}
+use Rattle.ipnetwork_c.specs.Outcomes.{Unless, IsFault, Writes}
+use Rattle.ipnetwork_c.specs.Outcomes.Unless.{On, Nothing}
+use Rattle.ipnetwork_c.specs.Tables.{IsTable}
+use Rattle.ipnetwork_c.specs.Ranges.{no_place, place_before, EndsAt, IsCut, IsLongestAt, AreRangesOf, RangeQuery, RangesFindTheLongest}
+use Rattle.ipnetwork_c.proofs.TableExamples.{nested, nested_is_a_table, the_last_of_the_longest_is_found, no_wider_block_is_found, none_before_an_equal_one_is_found}
 
 abbrev wide : Network
 wide = record { address = 0x0a000000; prefix = 8 }
@@ -55,3 +62,26 @@ no_range_is_left_out r = contains_nil 0x0b000000 (r.cut 0x0b000000 (lit< tt) (wi
 
 pub no_range_without_a_network : ¬ (AreRangesOf 32 [] (record { address = 0x0a000000; prefix = 32 } ∷ []) (no_place ∷ []))
 no_range_without_a_network r = let few : 1 ≤ 0 = r.few in omega (arith, few)
+
+-- so what the law says is found by the ranges of these blocks is that of the last of the longest, and no fault
+abbrev nested_in_c : List Ipv4InC
+nested_in_c =
+    record { address = 10 ∷ 0 ∷ 0 ∷ 0 ∷ []; prefix = 8 }
+    ∷ record { address = 10 ∷ 1 ∷ 0 ∷ 0 ∷ []; prefix = 16 }
+    ∷ record { address = 10 ∷ 1 ∷ 0 ∷ 0 ∷ []; prefix = 16 }
+    ∷ []
+
+only_the_last : (i : ℕ) → FindsLongest 32 nested 0x0a010203 i → i ≡ 2
+only_the_last zero f = absurd (no_wider_block_is_found f)
+only_the_last (suc zero) f = absurd (none_before_an_equal_one_is_found f)
+only_the_last (suc (suc zero)) f = refl
+only_the_last (suc (suc (suc i))) f = let l = f.within in absurd (omega (arith, l))
+
+found_in_nested : (before after code : ℕ) → Unless (IsFault no_member (IsTable 32 nested → ¬ (InUnion 32 nested 0x0a010203))) (Writes (FindsLongest 32 nested 0x0a010203)) before after code → (code ≡ ok) × (after ≡ 2)
+found_in_nested before after code (On w) = (w.0, only_the_last after w.1)
+found_in_nested before after code (Nothing f same) = absurd (f.0 nested_is_a_table (narrow, (1, lit< tt, refl), (lit< tt, refl)))
+
+pub ranges_find_the_last_of_the_longest : RangesFindTheLongest 32 v4_in → (ranges : List Ipv4InC) (places : List ℕ) (before after code : ℕ)
+    → AreRangesOf 32 nested (map v4_in ranges) places → RangeQuery v4_in ranges places 0x0a010203 before after code → (code ≡ ok) × (after ≡ 2)
+ranges_find_the_last_of_the_longest law ranges places before after code are query =
+    found_in_nested before after code (law nested_in_c ranges places 0x0a010203 before after code are (lit< tt) query)

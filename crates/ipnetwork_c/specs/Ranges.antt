@@ -24,7 +24,7 @@ place_before places i = get_or (no_place ∷ places) i no_place
 abbrev pub EndsAt : ℕ → Network → ℕ → Type 0
 EndsAt w n a = (a ≡ low w n) ⊎ (a ≡ high w n + 1)
 
--- some of the networks begins at the address, or ends before it
+-- some of the networks begins at the address, or has its last address right before it
 abbrev pub IsCut : ℕ → List Network → ℕ → Type 0
 IsCut w networks a = (n : Network) × Contains networks n × EndsAt w n a
 

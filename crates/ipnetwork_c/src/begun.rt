@@ -7,9 +7,9 @@ use crate::guessed::Guessed;
 use crate::numbered::Numbered;
 use ipnetwork_blocks::AddressSpace;
 
-/// How many of a list in ascending order begin at the number or before it. Of any other list, a number of structs of
-/// which the last does, and the next one does not. The index only says where the search begins: one that is not that of
-/// the list costs time, and changes nothing else.
+/// How many of a list in ascending order begin at the number or before it. Of any other list, a
+/// number of structs of which the last does, and the next one does not. The index only says where
+/// the search begins: one that is not that of the list costs time, and changes nothing else.
 #[inline(always)]
 pub(crate) fn begun<N: AddressSpace, H: Guessed<N>>(
     list: &[H],
@@ -25,8 +25,9 @@ pub(crate) fn begun<N: AddressSpace, H: Guessed<N>>(
     begun_by_halves::<N, H>(list, index, number)
 }
 
-/// The same, if the search ends before or after the last struct of the part of the number, where it mostly does. No
-/// branch depends on whether this one begins up to the number: only then is looked whether the search ends there.
+/// The same, if the search ends before or after the last struct of the part of the number, where it
+/// mostly does. No branch depends on whether this one begins up to the number: only then is looked
+/// whether the search ends there.
 #[inline(always)]
 pub(crate) fn begun_at_once<N: AddressSpace, H: Guessed<N>>(
     list: &[H],
@@ -48,7 +49,8 @@ pub(crate) fn begun_at_once<N: AddressSpace, H: Guessed<N>>(
     Some(place)
 }
 
-/// The same by halves: of the part of the number, and of the whole list if that is not in the index.
+/// The same by halves: of the part of the number, and of the whole list if that is not in the
+/// index.
 #[inline(never)]
 pub(crate) fn begun_by_halves<N: AddressSpace, H: Numbered<N>>(
     list: &[H],
@@ -67,8 +69,9 @@ pub(crate) fn begun_by_halves<N: AddressSpace, H: Numbered<N>>(
     begun_between::<N, H>(list, from, to, number)
 }
 
-// The same, of which is known that the structs before `begin` begin up to the number, and that at `end` after it. A step
-// leaves a number of structs and not an end, so that it is compiled to no branch that depends on the list.
+// The same, of which is known that the structs before `begin` begin up to the number, and that at
+// `end` after it. A step leaves a number of structs and not an end, so that it is compiled to no
+// branch that depends on the list.
 fn begun_between<N: AddressSpace, H: Numbered<N>>(
     list: &[H],
     begin: usize,
@@ -181,7 +184,8 @@ fn last_is_up_to<N: AddressSpace, H: Numbered<N>>(
     begins_up_to::<N, H>(list[place - 1], number)
 }
 
-// The start, or the end of the list if that comes first, unless the struct before begins after the number: then 0.
+// The start, or the end of the list if that comes first, unless the struct before begins after the
+// number: then 0.
 fn from_start<N: AddressSpace, H: Numbered<N>>(list: &[H], start: usize, number: H::Number) -> usize
     ensures within { result ≤ length list.now }
     ensures last { LastUpTo (map H.held list.now) (H.value number) result }
@@ -193,8 +197,8 @@ fn from_start<N: AddressSpace, H: Numbered<N>>(list: &[H], start: usize, number:
     0
 }
 
-// Up to where structs are looked at, from `from` on: to the start of the next part, if the one there begins after the
-// number, and else to the last.
+// Up to where structs are looked at, from `from` on: to the start of the next part, if the one
+// there begins after the number, and else to the last.
 fn end_of<N: AddressSpace, H: Numbered<N>>(
     list: &[H],
     index: &[u32],

@@ -1,4 +1,5 @@
-//! Ranges in the caller's memory, asked for the longest block with an address: one search, whatever lies in what.
+//! Ranges in the caller's memory, asked for the longest block with an address: one search, whatever
+//! lies in what.
 ghost use Rattle.std.specs.Prelude.{◌≡◌, ◌<◌};
 ghost use Rattle.ipnetwork_c.specs.Held.{v4_in, v6_in, number_of_octets};
 ghost use Rattle.ipnetwork_c.specs.Ranges.{RangeQuery, no_place, place_before};
@@ -13,10 +14,11 @@ use crate::structs::{Ipv4InC, Ipv6InC, number_of, number_of_four};
 use ipnetwork::{Ipv4Network, Ipv6Network};
 use ipnetwork_blocks::AddressSpace;
 
-/// The place beside the last of the ranges that begins at an address or before it, by an index of the ranges, as
-/// `ipnetwork_v4_index_make` makes it, or by none. Of the ranges and places of a table, as `ipnetwork_v4_ranges_make`
-/// makes them, it is the place that `ipnetwork_v4_table_find` finds in the table. `NO_MEMBER` if no range begins there, if
-/// it has no place beside it, or that of no block. Whatever the index holds, what is found is the same.
+/// The place beside the last of the ranges that begins at an address or before it, by an index of
+/// the ranges, as `ipnetwork_v4_index_make` makes it, or by none. Of the ranges and places of a
+/// table, as `ipnetwork_v4_ranges_make` makes them, it is the place that `ipnetwork_v4_table_find`
+/// finds in the table. `NO_MEMBER` if no range begins there, if it has no place beside it, or that
+/// of no block. Whatever the index holds, what is found is the same.
 #[unsafe(no_mangle)]
 #[inline(always)]
 pub extern "C" fn ipnetwork_v4_ranges_find(
@@ -74,15 +76,19 @@ fn found_before(places: &[usize], count: usize) -> usize
     places[count - 1]
 }
 
-// Puts what was found, unless it is the place of no block.
+// Puts what was found, unless it is the place of no block. The place is written in both cases, so
+// that no branch depends on the address.
 #[inline(always)]
 fn put_found(found: usize, place: &mut usize) -> u32
     ensures { Unless (IsFault no_member (found ≡ no_place))
         (Writes (λ put. (put < no_place) × (put ≡ found))) place.old place.new result }
 {
-    if found == NO_PLACE {
-        return NO_MEMBER;
-    }
-    *place = found;
-    OK
+    let before = *place;
+    let (put, fault) = if found == NO_PLACE {
+        (before, NO_MEMBER)
+    } else {
+        (found, OK)
+    };
+    *place = put;
+    fault
 }

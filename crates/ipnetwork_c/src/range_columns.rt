@@ -6,9 +6,10 @@ use crate::fault::{OK, SHORT_BUFFER};
 use crate::range_calls::{ipnetwork_v4_ranges_find, ipnetwork_v6_ranges_find};
 use crate::structs::{Ipv4InC, Ipv6InC};
 
-/// For each of these addresses the place that the ranges of a table tell: place i and fault i are what
-/// `ipnetwork_v4_ranges_find` leaves and returns of address i, so that an address without a block stops nothing. What
-/// comes after them stays as it is. `SHORT_BUFFER` if there are fewer places or faults than addresses.
+/// For each of these addresses the place that the ranges of a table tell: place i and fault i are
+/// what `ipnetwork_v4_ranges_find` leaves and returns of address i, so that an address without a
+/// block stops nothing. What comes after them stays as it is. `SHORT_BUFFER` if there are fewer
+/// places or faults than addresses.
 #[unsafe(no_mangle)]
 pub extern "C" fn ipnetwork_v4_ranges_find_column(
     ranges: &[Ipv4InC],

@@ -1,4 +1,5 @@
-//! Tables cut into ranges of addresses that all have the same longest block, in the caller's memory.
+//! Tables cut into ranges of addresses that all have the same longest block, in the caller's
+//! memory.
 ghost use Rattle.std.specs.Prelude.{◌≡◌, ◌+◌, ◌*◌, ◌<◌, ◌≤◌, ◌++◌, ◌∷◌, [], List, length, map, take};
 ghost use Rattle.std.specs.List.{All};
 ghost use Rattle.ipnetwork_c.specs.Held.{v4_in, v6_in};
@@ -16,12 +17,13 @@ use ipnetwork_blocks::AddressSpace;
 /// The place that stands for no block.
 pub(crate) const NO_PLACE: usize = usize::MAX;
 
-/// Cuts the addresses into ranges where the blocks of a table begin and after their ends, so that all addresses of one
-/// have the same longest block: to the front of `ranges` the first address of each, as the network of it alone, in
-/// ascending order, to the front of `places` the place of that block, or the greatest number if there is none, and how
-/// many they are to `count`. An address before all of them has no block. What comes after them stays as it is. `PREFIX`
-/// if the prefix length of a struct is greater than 32, else `SHORT_BUFFER` if there is room for fewer ranges or places
-/// than two of each block.
+/// Cuts the addresses into ranges where the blocks of a table begin and after their ends, so that
+/// all addresses of one have the same longest block: to the front of `ranges` the first address of
+/// each, as the network of it alone, in ascending order, to the front of `places` the place of that
+/// block, or the greatest number if there is none, and how many they are to `count`. An address
+/// before all of them has no block. What comes after them stays as it is. `PREFIX` if the prefix
+/// length of a struct is greater than 32, else `SHORT_BUFFER` if there is room for fewer ranges or
+/// places than two of each block.
 #[unsafe(no_mangle)]
 pub extern "C" fn ipnetwork_v4_ranges_make(
     blocks: &[Ipv4InC],
@@ -87,7 +89,8 @@ fn put_cuts<N: AddressSpace, H: Guessed<N>>(blocks: &[H], ranges: &mut [H]) -> u
     count
 }
 
-// Puts after so many others where the block begins, and the address after its last, if there is one.
+// Puts after so many others where the block begins, and the address after its last, if there is
+// one.
 fn put_ends<N: AddressSpace, H: Guessed<N>>(block: N, ranges: &mut [H], count: usize) -> usize
     requires { count + 2 ≤ length ranges.old }
     ensures more { count ≤ result }

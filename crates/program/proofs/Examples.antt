@@ -13,7 +13,7 @@ use Rattle.lists.specs.Reading.{ReadsList, StopsAt, StopsAtText}
 use Rattle.program.specs.Runs.{text_asked}
 use Rattle.program.specs.Told.{fault_text, more_text}
 use Rattle.program.specs.Usage.{subject_text, usage_text, arguments_text}
-use Rattle.program.specs.Words.{is, is_only}
+use Rattle.program.specs.Words.{is, is_only, begins_with, without_first}
 use Rattle.program.specs.declared.arguments.ArgumentsFault.TheVariants as arguments
 use Rattle.lists.specs.declared.named.ReadFault.TheVariants.{Open, Read, OutOfMemory}
 use Rattle.lists.specs.declared.opening.OpenFault.{OpenFault}
@@ -124,3 +124,13 @@ the_version word help version e = rw e
 
 pub the_help_among_others : {Z : Type 0} (word other : String Z) (help version : List ℕ) → text_asked help version (word ∷ other ∷ []) ≡ None
 the_help_among_others word other help version = refl
+
+-- a word is left out only if it comes first
+pub the_first_word_is_left_out : {Z : Type 0} (quiet list : String Z) → string_bytes quiet ≡ codes "--quiet" → without_first (codes "--quiet") (quiet ∷ list ∷ quiet ∷ []) ≡ list ∷ quiet ∷ []
+the_first_word_is_left_out quiet list e = rw e
+
+pub another_first_word_stays : {Z : Type 0} (union quiet : String Z) → string_bytes union ≡ codes "union" → without_first (codes "--quiet") (union ∷ quiet ∷ []) ≡ union ∷ quiet ∷ []
+another_first_word_stays union quiet e = rw e
+
+pub only_the_first_word_counts : {Z : Type 0} (union quiet : String Z) → string_bytes union ≡ codes "union" → begins_with (codes "--quiet") (union ∷ quiet ∷ []) ≡ false
+only_the_first_word_counts union quiet e = rw e

@@ -14,8 +14,9 @@ const PAUSE: u128 = 500;
 /// The bytes of the longest text that is shown.
 const SHOWN_MAX: usize = 80;
 
-/// How many lines and bytes were read, in one line of standard error that is written over and over: shown if standard
-/// error is a terminal, from two seconds after the start on, at most twice a second.
+/// How many lines and bytes were read, in one line of standard error that is written over and over:
+/// shown if standard error is a terminal, from two seconds after the start on, at most twice a
+/// second.
 ///
 /// ```
 /// let progress = program::progress::Progress::new(&rt, true);

@@ -4,8 +4,8 @@ use std::cell::Cell;
 use std::io;
 use std::io::{ErrorKind, Stdout, Write};
 
-/// Standard output, and a note whether a write failed since nobody reads it any more. What is shown of a long reading is
-/// taken away before a write.
+/// Standard output, and a note whether a write failed since nobody reads it any more. What is shown
+/// of a long reading is taken away before a write.
 ///
 /// ```
 /// use program::progress::Progress;

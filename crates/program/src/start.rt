@@ -1,6 +1,7 @@
 //! The frame of a program: what it prints of itself, and the devices that its run has.
-ghost use Rattle.std.specs.Prelude.{◌≡◌, None, Some, MatchOption};
+ghost use Rattle.std.specs.Prelude.{◌≡◌, None, Some, MatchOption, codes};
 ghost use Rattle.program.specs.Runs.{text_asked};
+ghost use Rattle.program.specs.Words.{begins_with, without_first};
 
 use crate::arguments::{ArgumentsFault, arguments};
 use crate::progress::Progress;
@@ -22,9 +23,10 @@ const TOLD_MAX: usize = 1024;
 /// The exit status that a shell shows for a program that the signal of a closed pipe ended.
 const CLOSED: u8 = 141;
 
-/// Runs a program on the words after its name, less a `--quiet` that comes first, and returns the exit status. If the arguments cannot be
-/// read, that is reported instead. If standard output is a pipe that nobody reads any more, what waits to be reported is
-/// dropped, and the exit status is 141, as a shell shows it for a program that ends at such a write.
+/// Runs a program on the words after its name, less a `--quiet` that comes first, and returns the
+/// exit status. If the arguments cannot be read, that is reported instead. If standard output is a
+/// pipe that nobody reads any more, what waits to be reported is dropped, and the exit status is
+/// 141, as a shell shows it for a program that ends at such a write.
 ///
 /// ```
 /// let usage = "usage: sum FILE\n";
@@ -73,15 +75,19 @@ fn is_quiet(words: &Result<Vec<String>, ArgumentsFault>) -> bool {
 }
 
 // Whether the first word is `--quiet`.
-fn begins_quiet(words: &[String]) -> bool {
-    match words.first() {
-        Some(first) => is(first, "--quiet"),
-        None => false,
+fn begins_quiet(words: &[String]) -> bool
+    ensures { result ≡ begins_with (codes "--quiet") words.now }
+{
+    match words {
+        [first, ..] => is(first, "--quiet"),
+        [] => false,
     }
 }
 
 // The words, less a `--quiet` that comes first.
-fn without_quiet(words: &[String]) -> &[String] {
+fn without_quiet(words: &[String]) -> &[String]
+    ensures { result.now ≡ without_first (codes "--quiet") words.now }
+{
     match words {
         [first, rest @ ..] => { if is(first, "--quiet") { rest } else { words } }
         [] => words,

@@ -6,7 +6,7 @@ use crate::progress::Progress;
 use lines::watched::Watched;
 use lists::OpenLists;
 use std::fs::File;
-use std::io::{ErrorKind, Read, Stdin};
+use std::io::{ErrorKind, IsTerminal, Read, Stdin};
 use std::{fs, io};
 
 /// The files of the system, and its standard input under the name `-`.
@@ -51,6 +51,14 @@ impl<'a> System<'a> {
             rt,
             progress: Some(progress),
         }
+    }
+
+    // What is shown of the reading of this file: nothing, if it is typed at a terminal.
+    fn progress_of(&self, name: &str) -> Option<&'a Progress<'a>> {
+        if name == "-" && self.rt.stdin().is_terminal() {
+            return None;
+        }
+        self.progress
     }
 }
 
@@ -130,7 +138,7 @@ impl<'a> OpenLists for System<'a> {
     fn open(&self, name: &str) -> io::Result<ShownDevice<'a>> {
         Ok(ShownDevice {
             device: device_of(self.rt, name)?,
-            progress: self.progress,
+            progress: self.progress_of(name),
         })
     }
 

@@ -2,9 +2,9 @@
 ghost use Rattle.ipnetwork_c.specs.Held.{v4_in, v6_in};
 ghost use Rattle.ipnetwork_c.specs.Ranges.{RangesFindTheLongest};
 
-/// What `ipnetwork_v4_ranges_find` finds by the ranges and places that `ipnetwork_v4_ranges_make` made of a table is the
-/// longest block of the table with the address, and it finds none only if no block has it: as `ipnetwork_v4_table_find`
-/// answers. The same of IPv6.
+/// What `ipnetwork_v4_ranges_find` finds by the ranges and places that `ipnetwork_v4_ranges_make`
+/// made of a table is the longest block of the table with the address, and it finds none only if no
+/// block has it: as `ipnetwork_v4_table_find` answers. The same of IPv6.
 pub fn ranges_find_the_longest()
     ensures v4 { RangesFindTheLongest 32 v4_in }
     ensures v6 { RangesFindTheLongest 128 v6_in }

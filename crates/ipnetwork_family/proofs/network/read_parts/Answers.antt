@@ -17,13 +17,13 @@ returns-in_err-address g c =
           c.args.text.now fault.1,
     )
 
-pub returns-in_default-read_bytes : goal.returns-in_default-read_bytes
-returns-in_default-read_bytes g c =
+pub returns-in_default : goal.returns-in_default
+returns-in_default g c =
     let A = g.A.Address in
     let clean = address_no_slash A.family.NamesAddress c.law_texts.ensures.address_bytes in
     no_address A.WIDTH A.family.NamesAddress A.family.IsSuffix clean c.args.text.now _ _
     c.in_ok-address.ensures
-    (λ x h. c.in_default-read_bytes.ensures.1 (A.of_number x)
+    (λ x h. c.in_default.ensures.1 (A.of_number x)
     (subst (λ (n : ℕ). A.family.NamesAddress c.in_ok-address.address.now n) (sym (A.forth x)) h))
 
 pub returns-in_default-prefix_length : goal.returns-in_default-prefix_length
@@ -37,4 +37,4 @@ pub returns : goal.returns
 returns g c =
     let A = g.A.Address in
     named_by_parts A.WIDTH A.family.NamesAddress A.family.IsSuffix c.args.text.now _ _
-    c.in_ok-address.ensures _ c.in-Ok.ensures c.in-Some-prefix_length.ensures.1
+    c.in_ok-address.ensures _ c.in-Ok.ensures c.in-Some.ensures.1
