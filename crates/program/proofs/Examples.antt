@@ -1,6 +1,6 @@
 -- Values at which a misreading of the definitions would show. Each of these computes.
-use Rattle.std.proofs.Common.{◌≡◌, ◌-◌, ◌^◌, ◌<◌, ℕ, List, ◌∷◌, [], true, false, inl, inr, refl, arith}
-use Rattle.std.specs.Prelude.{codes, String, None, Some, Ok, Err}
+use Rattle.std.proofs.Common.{◌≡◌, ◌-◌, ◌^◌, ◌<◌, ℕ, List, ◌∷◌, [], true, false, inl, inr, refl, ap, arith}
+use Rattle.std.specs.Prelude.{codes, String, None, Some, Ok, Err, if◌then◌else◌, bytes_eq}
 use Rattle.std.specs.Fmt.{digits}
 use Rattle.std.specs.String.{string_bytes}
 use Rattle.std.specs.Str.Lines.{lines}
@@ -127,10 +127,10 @@ the_help_among_others word other help version = refl
 
 -- a word is left out only if it comes first
 pub the_first_word_is_left_out : {Z : Type 0} (quiet list : String Z) → string_bytes quiet ≡ codes "--quiet" → without_first (codes "--quiet") (quiet ∷ list ∷ quiet ∷ []) ≡ list ∷ quiet ∷ []
-the_first_word_is_left_out quiet list e = rw e
+the_first_word_is_left_out quiet list e = ap (λ (text : List ℕ). if bytes_eq text (codes "--quiet") then list ∷ quiet ∷ [] else quiet ∷ list ∷ quiet ∷ []) e
 
 pub another_first_word_stays : {Z : Type 0} (union quiet : String Z) → string_bytes union ≡ codes "union" → without_first (codes "--quiet") (union ∷ quiet ∷ []) ≡ union ∷ quiet ∷ []
-another_first_word_stays union quiet e = rw e
+another_first_word_stays union quiet e = ap (λ (text : List ℕ). if bytes_eq text (codes "--quiet") then quiet ∷ [] else union ∷ quiet ∷ []) e
 
 pub only_the_first_word_counts : {Z : Type 0} (union quiet : String Z) → string_bytes union ≡ codes "union" → begins_with (codes "--quiet") (union ∷ quiet ∷ []) ≡ false
 only_the_first_word_counts union quiet e = rw e

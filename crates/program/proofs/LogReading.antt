@@ -1,7 +1,7 @@
 -- A log is read, line by line.
 use Rattle.std.proofs.Common.{◌≡◌, ℕ, zero, suc, ◌+◌, ◌-◌, ◌*◌, ◌^◌, ◌<◌, ◌≤◌, ◌==◌, ◌&&◌, ◌⊎◌, Bool, true, false, not, cond, if◌then◌else◌, List, [], ◌∷◌, ◌++◌, length, inl, inr, take, refl, sym, ap, ◌∙◌, subst, true≢false, arith, append_assoc, append-nil, length-append, length-take, length-drop}
 use Rattle.std.specs.Prelude.{Option, IsTrue, slice_index, ◌||◌}
-use Rattle.std.specs.Io.KnownBytes.{Appends, Consumes, Keeps, IsAtEnd}
+use Rattle.std.specs.Io.KnownBytes.{Appends, Consumes, Keeps}
 use Rattle.std.specs.List.{list_all, filter}
 use Rattle.std.proofs.KnownBytes.{Consumes-nil, Consumes-trans, Consumes-kept}
 use Rattle.std.proofs.Math.Nat.{mul_comm}
@@ -11,11 +11,10 @@ use Rattle.std.proofs.lemmas.Nat.{mul-add-lt}
 use Rattle.lines.specs.LineBuffers.{Buffered, IsDropped, IsPending, waits, HandsOut, Gives, Receives, HasNoFeed, work}
 use Rattle.lines.specs.declared.line_buffer.NextLine.TheVariants as handed
 use Rattle.lines.specs.declared.line_end.LineEnd.{LineEnd}
-use Rattle.lines.proofs.BytesLemmas.{HasNo}
 use Rattle.lines.proofs.HandingOut.{has_no}
 use Rattle.lines.proofs.Putting.{puts_out, puts_more, begins_after_puts}
 use Rattle.lines.specs.Outputs.{Puts, AppendsBeginning}
-use Rattle.program.specs.LogLines.{LogLine, log_lines, ended_lines, content, printed, feed_behind, log_line, unended, IsWhole}
+use Rattle.program.specs.LogLines.{LogLine, log_lines, ended_lines, content, feed_behind, log_line, unended}
 use Rattle.program.specs.LogReaders.{buffered, AreFirst, HandsFirst, ComesNext, GivesNext, left}
 use Rattle.program.specs.declared.log_reader.LogReader.{LogReader}
 use Rattle.program.specs.declared.log_reader.NextLogLine.TheVariants.{Line, TooLong, End}

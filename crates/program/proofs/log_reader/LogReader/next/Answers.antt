@@ -2,7 +2,7 @@ use Rattle.std.proofs.Common.{◌-◌, ◌∙◌, ap, refl, sym, arith, length, 
 use Rattle.lines.specs.Watched.{has_failed}
 use Rattle.lines.proofs.Writes.{still_works}
 use Rattle.program.specs.declared.log_reader.LogReader.{LogReader}
-use Rattle.program.proofs.LogReading.{failed_now, gives_line, gives_long, gives_end, long_comes, read_breaks, endless_breaks, reads_on, write_breaks, puts_idle, fails_idle, some_pending, less_to_hand, less_to_read}
+use Rattle.program.proofs.LogReading.{failed_now, gives_line, gives_long, gives_end, long_comes, read_breaks, endless_breaks, reads_on, write_breaks, puts_idle, fails_idle, some_pending, less_to_read}
 use Rattle.program.proofs.log_reader.LogReader.next.Goals as goal
 
 -- ---- a line
