@@ -76,19 +76,27 @@ fn found_before(places: &[usize], count: usize) -> usize
     places[count - 1]
 }
 
-// Puts what was found, unless it is the place of no block. The place is written in both cases, so
-// that no branch depends on the address.
+// Puts what was found, unless it is the place of no block.
 #[inline(always)]
 fn put_found(found: usize, place: &mut usize) -> u32
     ensures { Unless (IsFault no_member (found ≡ no_place))
         (Writes (λ put. (put < no_place) × (put ≡ found))) place.old place.new result }
 {
-    let before = *place;
-    let (put, fault) = if found == NO_PLACE {
+    let (put, fault) = found_or_before(found, *place);
+    *place = put;
+    fault
+}
+
+// What is put, and the fault: what was found, or what stood there before. Not inlined: a compiler
+// that sees where it is put leaves that out for the latter, by a branch that is often guessed wrong.
+#[inline(never)]
+fn found_or_before(found: usize, before: usize) -> (usize, u32)
+    ensures { Unless (IsFault no_member (found ≡ no_place))
+        (Writes (λ put. (put < no_place) × (put ≡ found))) before result.0 result.1 }
+{
+    if found == NO_PLACE {
         (before, NO_MEMBER)
     } else {
         (found, OK)
-    };
-    *place = put;
-    fault
+    }
 }
