@@ -1,5 +1,5 @@
 -- Where the networks of a table cut the addresses, and that one place serves a whole range.
-use Rattle.std.proofs.Common.{◌≡◌, ◌↔◌, ℕ, zero, suc, ◌+◌, ◌-◌, ◌*◌, ◌/◌, ◌^◌, ◌<◌, ◌≤◌, ◌⊎◌, inl, inr, ⊎_elim, List, [], ◌∷◌, ◌++◌, length, map, take, drop, get_or, slice_get, slice_set, Some, sym, refl, ap, subst, ◌∙◌, arith, length-append, append_assoc, take-append-drop, ◌≢◌, get_or-set_other, get_or-set_same}
+use Rattle.std.proofs.Common.{◌≡◌, ◌↔◌, ℕ, zero, suc, ◌+◌, ◌-◌, ◌*◌, ◌/◌, ◌^◌, ◌<◌, ◌≤◌, ◌⊎◌, inl, inr, ⊎_elim, List, [], ◌∷◌, ◌++◌, length, map, take, drop, get_or, slice_set, sym, refl, ap, subst, ◌∙◌, arith, length-append, append_assoc, take-append-drop, ◌≢◌, get_or-set_other, get_or-set_same}
 use Rattle.std.specs.List.{All, AllPairs, Contains}
 use Rattle.std.specs.List.Sorted.{IsPermutation}
 use Rattle.std.proofs.lemmas.Bool.{cases_lt}
@@ -8,18 +8,16 @@ use Rattle.std.proofs.Math.Seq.{take-append_seam, drop-append_seam}
 use Rattle.std.proofs.lemmas.List.Elements.{All-nil, All-cons, All-append, All-map, Contains-append_left, Contains-append_right, Contains-append_cases}
 use Rattle.std.proofs.lemmas.List.Sorted.{All-permutation, Contains-permutation, IsPermutation-map, IsPermutation-sym, length_permutation}
 use Rattle.ipnetwork_family.specs.Network.{Network, IsNetwork, IsNetworkAtMost, Member, block_at, low, high, block_size}
-use Rattle.ipnetwork_family.proofs.Blocks.{size_pos, within_member, member_within, high_fits}
+use Rattle.ipnetwork_family.proofs.Blocks.{size_pos, within_member, member_within}
 use Rattle.ipnetwork_blocks.specs.Aggregate.{InUnion}
 use Rattle.ipnetwork_blocks.specs.Private.Joining.{AreInOrder}
 use Rattle.ipnetwork_blocks.proofs.LeastLists.{contains_cons, contains_nil}
 use Rattle.ipnetwork_sets.specs.Private.Search.{IsSplit}
-use Rattle.ipnetwork_c.specs.Numbers.{no_member}
 use Rattle.ipnetwork_c.specs.Held.{PrefixFits}
-use Rattle.ipnetwork_c.specs.Outcomes.{Unless, IsFault, Writes}
 use Rattle.ipnetwork_c.specs.Outcomes.Unless.{On, Nothing}
 use Rattle.ipnetwork_c.specs.Searches.{StandsAt, LastFits}
 use Rattle.ipnetwork_c.specs.Tables.{IsTable, FindsLongest, TableQuery}
-use Rattle.ipnetwork_c.specs.Ranges.{no_place, place_before, EndsAt, IsCut, IsLongestAt, AreRangesOf, MakesRanges, RangeQuery, RangesFindTheLongest}
+use Rattle.ipnetwork_c.specs.Ranges.{no_place, place_before, IsLongestAt, AreRangesOf, MakesRanges, RangeQuery, RangesFindTheLongest}
 use Rattle.ipnetwork_c.specs.Private.Cuts.{firsts, IsAlone, AreEndsOf, AreCutsOf, IsWrittenUpTo, ArePlacesUpTo}
 use Rattle.std.proofs.lemmas.Option.{get_or_from_slice_get, slice_get_within}
 use Rattle.ipnetwork_c.proofs.Searching.{stands_split}

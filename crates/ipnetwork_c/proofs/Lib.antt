@@ -9,6 +9,7 @@ pub mod Truths
 pub mod Rows
 pub mod Searching
 pub mod Indexed
+pub mod HighFirst
 pub mod HighHalves
 pub mod IndexParts
 pub mod BlocksPut

@@ -1,6 +1,6 @@
 -- Ranges at which a misreading of `IsCut`, `IsLongestAt`, `place_before` or `AreRangesOf` would show: of 10.0.0.0/8, and
 -- 10.1.0.0/16 twice.
-use Rattle.std.proofs.Common.{◌≡◌, ℕ, zero, suc, ◌<◌, ◌≤◌, List, [], ◌∷◌, get_or, map, refl, inl, inr, lit<, lit≤, arith, ⊎_elim}
+use Rattle.std.proofs.Common.{◌≡◌, ℕ, zero, suc, ◌<◌, ◌≤◌, List, [], ◌∷◌, map, refl, inl, inr, lit<, arith, ⊎_elim}
 use Rattle.ipnetwork_family.specs.Network.{Network}
 use Rattle.ipnetwork_blocks.proofs.LeastLists.{contains_nil}
 use Rattle.ipnetwork_c.specs.Tables.{FindsLongest}

@@ -1,12 +1,13 @@
 //! The calls of networks of either family.
-ghost use Rattle.std.specs.Prelude.{◌≡◌};
+ghost use Rattle.std.specs.Prelude.{◌≡◌, IfSome};
+ghost use Rattle.ipnetwork_family.specs.Ipv6NetworkText.{NamesV6Network};
 ghost use Rattle.ipnetwork.specs.IpNetworkText.{ReadsIpNetwork, TellsIpCause};
 ghost use Rattle.ipnetwork_c.specs.Either.{HoldsIp, ReadsWithCause, MemberQuery, address_in as address_in_c};
 ghost use Rattle.ipnetwork_c.specs.Answers.{ReadsInto};
 
 use crate::fault::{self, NO_FAMILY, OK, PREFIX};
 use crate::structs::{IpInC, V4, V6, address_of};
-use ipnetwork::{CidrFault, IpAddr, IpNetwork, Ipv4Addr, cause};
+use ipnetwork::{CidrFault, IpAddr, IpNetwork, Ipv4Addr, Ipv6Network, cause};
 
 /// Reads the network of either family that a text names, as `IpNetwork::read_bytes` does: `OK`, and the network is
 /// written, with the struct of the other family all zeros. Any other text is `ADDRESS`.
@@ -26,9 +27,14 @@ pub extern "C" fn ipnetwork_read(text: &[u8], network: &mut IpInC) -> u32
 /// The same with the cause: any other text is `FORMAT` if it has two or more `/`, else `ADDRESS` if what stands before
 /// the `/` is an address of neither family, else `PREFIX`.
 #[unsafe(no_mangle)]
+#[inline(always)]
 pub extern "C" fn ipnetwork_read_with_cause(text: &[u8], network: &mut IpInC) -> u32
     ensures { ReadsInto ReadsWithCause HoldsIp text.now network.old network.new result }
 {
+    if let Some(read) = v6_behind_four_digits(text) {
+        *network = IpInC::of_v6(&read);
+        return OK;
+    }
     match IpNetwork::read_bytes(text) {
         Ok(read) => {
             *network = IpInC::of(&read);
@@ -38,6 +44,21 @@ pub extern "C" fn ipnetwork_read_with_cause(text: &[u8], network: &mut IpInC) ->
             Some(cause) => fault::number_of(cause),
             None => unreachable!(),
         },
+    }
+}
+
+/// The IPv6 network that a text names, if its fifth byte is a colon, as behind four digits. `None`
+/// says nothing. Read so, it is stored once, and not as one of either family first.
+#[inline(always)]
+fn v6_behind_four_digits(text: &[u8]) -> Option<Ipv6Network>
+    ensures { IfSome result (NamesV6Network text.now) }
+{
+    let [_, _, _, _, b':', ..] = text else {
+        return None;
+    };
+    match Ipv6Network::read_bytes(text) {
+        Ok(network) => Some(network),
+        Err(_) => None,
     }
 }
 

@@ -1,5 +1,6 @@
 //! The structs of the header, and the networks that they stand for.
 ghost use Rattle.std.specs.Prelude.{◌≡◌, ◌↔◌, IsTrue, MatchOption};
+ghost use Rattle.ipnetwork_addr.specs.Digits.{octets_of_v6};
 ghost use Rattle.ipnetwork_family.specs.Network.{Member};
 ghost use Rattle.std.specs.Option.{SomeIff};
 ghost use Rattle.ipnetwork_c.specs.Held.{v4_in, v6_in, PrefixFits, HoldsV4, HoldsV6, number_of_octets};
@@ -145,6 +146,24 @@ impl IpInC {
         }
     }
 
+    /// The struct that holds an IPv6 network.
+    #[inline(always)]
+    pub(crate) fn of_v6(network: &Ipv6Network) -> Self
+        ensures { HoldsIp result (IpNetwork.V6 network.now) }
+    {
+        IpInC {
+            family: V6,
+            v4: Ipv4InC {
+                address: [0; 4],
+                prefix: 0,
+            },
+            v6: Ipv6InC {
+                address: octets_of(network.ip()),
+                prefix: network.prefix(),
+            },
+        }
+    }
+
     /// The network of the family that the struct names. `NO_FAMILY` if that is neither 4 nor 6, else `PREFIX` if the
     /// prefix length is greater than the family's width.
     pub(crate) fn network(&self) -> Result<IpNetwork, u32>
@@ -196,6 +215,14 @@ pub(crate) fn number_of_four(octets: &[u8; 4]) -> u32
     ensures { result ≡ number_of_octets octets.now }
 {
     u32::from_be_bytes(*octets)
+}
+
+/// The 16 octets of an address, by its number: they are then stored eight at a time.
+#[inline(always)]
+fn octets_of(address: Ipv6Addr) -> [u8; 16]
+    ensures { result ≡ octets_of_v6 address }
+{
+    u128::from(address).to_be_bytes()
 }
 
 /// The number of 16 octets.

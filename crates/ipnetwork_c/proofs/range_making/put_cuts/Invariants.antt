@@ -1,4 +1,4 @@
-use Rattle.std.proofs.Common.{length, map, take}
+use Rattle.std.proofs.Common.{map, take}
 use Rattle.ipnetwork_c.specs.Private.Cuts.{AreCutsOf, IsWrittenUpTo}
 use Rattle.ipnetwork_c.proofs.range_making.put_cuts.Given as goal
 

@@ -1,4 +1,4 @@
-use Rattle.std.proofs.Common.{ℕ, ◌+◌, refl, ap, ◌∙◌, arith}
+use Rattle.std.proofs.Common.{ℕ, ◌+◌, refl, ap, ◌∙◌}
 use Rattle.std.proofs.lemmas.Grind.{take-set_at}
 use Rattle.ipnetwork_c.proofs.Cutting.{alone_at, written_first}
 use Rattle.ipnetwork_c.proofs.range_making.put_first.Goals as goal
