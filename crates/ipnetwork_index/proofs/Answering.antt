@@ -1,15 +1,16 @@
 -- One answer serves a whole range.
-use Rattle.std.proofs.Common.{◌≡◌, ◌↔◌, ℕ, ◌+◌, ◌-◌, ◌^◌, ◌<◌, ◌≤◌, ◌⊎◌, List, [], ◌∷◌, ◌++◌, length, get_or, arith, inl, inr, sym, ap, subst, ◌∙◌, ⊎_elim, Option, None, Some, IsSome, is_some, length-append}
+use Rattle.std.proofs.Common.{◌≡◌, ◌≢◌, ◌↔◌, ℕ, ◌+◌, ◌-◌, ◌^◌, ◌<◌, ◌≤◌, ◌⊎◌, min, List, [], ◌∷◌, ◌++◌, length, get_or, arith, inl, inr, sym, refl, ap, subst, ◌∙◌, ⊎_elim, Option, None, Some, IsSome, is_some, length-append}
 use Rattle.std.specs.List.{Contains}
 use Rattle.std.specs.FinMap.{FinMap, get}
 use Rattle.std.proofs.lemmas.Bool.{cases_lt, cases_eq}
-use Rattle.std.proofs.lemmas.List.{get_or_default, get_or_append_left, get_or_push}
-use Rattle.ipnetwork_family.specs.Network.{Network, IsNetwork, Member, low, high, network_cmp}
+use Rattle.std.proofs.lemmas.List.{get_or_default, get_or_append_left, get_or_past, get_or_push}
+use Rattle.ipnetwork_family.specs.Network.{Network, IsNetwork, Member, low, high, block_at, network_cmp}
 use Rattle.ipnetwork_family.proofs.Blocks.{size_pos, within_member, member_within}
-use Rattle.ipnetwork_table.specs.Table.{HasOnlyBlocks, Finds}
+use Rattle.ipnetwork_family.proofs.BlocksAt.{block_at_is}
+use Rattle.ipnetwork_table.specs.Table.{HasOnlyBlocks, IsLongest, NoneHolds, Finds}
 use Rattle.ipnetwork_index.specs.Private.Partitions.{IsPartition, LiesAt}
 use Rattle.ipnetwork_index.specs.Private.Edges.{IsCutOut, CutsOut}
-use Rattle.ipnetwork_index.specs.Private.Answers.{AreAnswersUpTo, AreAnswers, IsAnswered}
+use Rattle.ipnetwork_index.specs.Private.Answers.{IsFound, Tells, TellsAt, IsMadeOf, AreAnswersUpTo, AreNone, AreAnswers, IsAnswered}
 use Rattle.ipnetwork_index.proofs.RangeCounts.{cut_by_blocks}
 
 -- ---- the last number of a range is in the same networks as its others
@@ -78,50 +79,127 @@ same_members w lasts x at n p h c nn =
           (cases_lt x (low w n))),
     )
 
--- ---- so what is found for it is found for them
+-- ---- what is told of a number
 
-answer_moves : {N V : Type 0} (pair : N → Network) (w : ℕ) (t : FinMap network_cmp V) (x y : ℕ)
-    (found : Option (N × V))
-    → ((n : Network) → IsSome (get t n) → Member w n x ↔ Member w n y) → Finds pair w t y found
-    → Finds pair w t x found
-answer_moves pair w t x y None same h = λ n s m. h n s ((same n s).0 m)
-answer_moves pair w t x y (Some f) same h = record {
-  stored = h.stored;
-  holds = (same (pair f.0) (ap is_some h.stored)).1 h.holds;
-  longest = λ m s k. h.longest m s ((same m s).0 k);
+-- what is found is told by its prefix length
+pub told : {V : Type 0} (w : ℕ) (t : FinMap network_cmp V) (x prefix : ℕ) (n : Network) (value : V)
+    → w ≤ 128 → HasOnlyBlocks w t → IsLongest w t x n value → prefix ≡ n.prefix
+    → Tells w t x prefix value
+told w t x prefix n value few blocks h is =
+    let b = blocks n (ap is_some h.stored) in
+    let fits : n.prefix ≤ w = b.network.prefix_fits in
+    record {
+      none = λ e. absurd (omega arith);
+      found = λ _. record {
+        within = omega arith;
+        longest = subst (λ (m : Network). IsLongest w t x m value)
+            (block_at_is w n x prefix b.block h.holds (sym is)) h;
+      };
+    }
+
+pub none_told : {V : Type 0} (w : ℕ) (t : FinMap network_cmp V) (x : ℕ) (value : V)
+    → NoneHolds w t x → Tells w t x 255 value
+none_told w t x value h = record { none = λ _. h; found = λ ne. absurd (ne refl) }
+
+-- ---- what is told of a number is told of those in the same blocks
+
+told_moves : {V : Type 0} (w : ℕ) (t : FinMap network_cmp V) (prefixes : List ℕ) (values : List V)
+    (at x y : ℕ)
+    → HasOnlyBlocks w t → ((n : Network) → IsSome (get t n) → Member w n x ↔ Member w n y)
+    → TellsAt w t prefixes values at y → TellsAt w t prefixes values at x
+told_moves w t prefixes values at x y blocks same h = record {
+  none = λ e n s m. h.none e n s ((same n s).0 m);
+  found = λ other ne.
+      let p : ℕ = get_or prefixes at 255 in
+      let value = get_or values at other in
+      let f : IsFound w t y p value = h.found other ne in
+      let b : Network = block_at w y p in
+      let stored : IsSome (get t b) = ap is_some f.longest.stored in
+      let holds : Member w b x = (same b stored).1 f.longest.holds in
+      let moved : IsLongest w t x b value = record {
+        stored = f.longest.stored;
+        holds = holds;
+        longest = λ m s k. f.longest.longest m s ((same m s).0 k);
+      } in
+      record {
+        within = f.within;
+        longest = subst (λ (n : Network). IsLongest w t x n value)
+            (block_at_is w b x p (blocks b stored).block holds refl) moved;
+      };
 }
 
-pub answered : {N V : Type 0} (pair : N → Network) (w : ℕ) (t : FinMap network_cmp V)
-    (lasts : List ℕ) (answers : List (Option (N × V)))
-    → HasOnlyBlocks w t → CutsOut w t lasts → AreAnswers pair w t lasts answers
-    → IsAnswered pair w t lasts answers
-answered pair w t lasts answers blocks c a = record {
-  blocks = blocks;
-  size = a.size;
-  all = λ x at small h.
-      let one = h.one in
-      answer_moves pair w t x (get_or lasts at 0) (get_or answers at None)
-      (λ n s. same_members w lasts x at n c.partition h (c.blocks n s) (blocks n s).network)
-      (a.all at one);
-  cut = cut_by_blocks w t lasts c;
-}
+pub answered : {V : Type 0} (w : ℕ) (t : FinMap network_cmp V) (lasts prefixes : List ℕ)
+    (values : List V)
+    → HasOnlyBlocks w t → CutsOut w t lasts → AreAnswers w t lasts prefixes values
+    → IsAnswered w t lasts prefixes values
+answered w t lasts prefixes values blocks c a =
+    ⊎_elim
+    (λ (n : AreNone w t prefixes values). record {
+      blocks = blocks;
+      size = n.prefix_count ∙ sym n.value_count;
+      all = λ x at h. record {
+        none = λ _. n.all x;
+        found = λ other ne.
+            absurd (ne (get_or_past prefixes at 255 (omega (arith, n.prefix_count))));
+      };
+      cut = cut_by_blocks w t lasts c;
+    })
+    (λ (e : AreAnswersUpTo w t lasts prefixes values (length lasts)). record {
+      blocks = blocks;
+      size = e.prefix_count ∙ sym e.value_count;
+      all = λ x at h. told_moves w t prefixes values at x (get_or lasts at 0) blocks
+          (λ n s. same_members w lasts x at n c.partition h (c.blocks n s) (blocks n s).network)
+          (e.all at h.one);
+      cut = cut_by_blocks w t lasts c;
+    })
+    a
+
+-- ---- and an answer that is made of it is what a look-up finds
+
+pub made_finds : {N V : Type 0} (pair : N → Network) (w : ℕ) (t : FinMap network_cmp V)
+    (prefixes : List ℕ) (values : List V) (x at : ℕ) (answer : Option (N × V))
+    → TellsAt w t prefixes values at x → IsMadeOf pair w prefixes values at x answer
+    → Finds pair w t x answer
+made_finds pair w t prefixes values x at None h m = h.none m
+made_finds pair w t prefixes values x at (Some f) h m =
+    let p : ℕ = get_or prefixes at 255 in
+    let found : IsFound w t x p (get_or values at f.1) = h.found f.1 m.0 in
+    let within : p ≤ w = found.within in
+    let least : min p w ≡ p = omega arith in
+    let is : block_at w x p ≡ pair f.0 = ap (block_at w x) (sym least) ∙ sym m.1 in
+    subst (λ (n : Network). IsLongest w t x n f.1) is
+    (subst (λ v. IsLongest w t x (block_at w x p) v) m.2 found.longest)
 
 -- ---- one answer more
 
-pub answers_more : {N V : Type 0} (pair : N → Network) (w : ℕ) (t : FinMap network_cmp V)
-    (lasts : List ℕ) (answers : List (Option (N × V))) (count : ℕ) (answer : Option (N × V))
-    → AreAnswersUpTo pair w t lasts answers count → Finds pair w t (get_or lasts count 0) answer
-    → AreAnswersUpTo pair w t lasts (answers ++ answer ∷ []) (count + 1)
-answers_more pair w t lasts answers count answer a h =
-    let size = a.size in
+pub answers_more : {V : Type 0} (w : ℕ) (t : FinMap network_cmp V) (lasts prefixes : List ℕ)
+    (values : List V) (count prefix : ℕ) (value : V)
+    → AreAnswersUpTo w t lasts prefixes values count
+    → Tells w t (get_or lasts count 0) prefix value
+    → AreAnswersUpTo w t lasts (prefixes ++ prefix ∷ []) (values ++ value ∷ []) (count + 1)
+answers_more w t lasts prefixes values count prefix value a h =
+    let prefix_count = a.prefix_count in
+    let value_count = a.value_count in
     record {
-      size = omega (arith, length-append answers (answer ∷ []));
+      prefix_count = omega (arith, length-append prefixes (prefix ∷ []));
+      value_count = omega (arith, length-append values (value ∷ []));
       all = λ k l. ⊎_elim
-          (λ (early : k < count). rw (get_or_append_left answers (answer ∷ []) None k (omega arith))
-          (a.all k early))
+          (λ (early : k < count).
+          let p = get_or_append_left prefixes (prefix ∷ []) 255 k (omega arith) in
+          let told : TellsAt w t prefixes values k (get_or lasts k 0) = a.all k early in
+          record {
+            none = λ e. told.none (sym p ∙ e);
+            found = λ other. rw (p, get_or_append_left values (value ∷ []) other k (omega arith))
+                (told.found other);
+          })
           (λ (here : count ≤ k).
           let q : count ≡ k = omega arith in
-          rw (get_or_push answers answer None k (omega arith))
-          (subst (λ (j : ℕ). Finds pair w t (get_or lasts j 0) answer) q h))
+          let p = get_or_push prefixes prefix 255 k (omega arith) in
+          let told : Tells w t (get_or lasts k 0) prefix value
+          = subst (λ (j : ℕ). Tells w t (get_or lasts j 0) prefix value) q h in
+          record {
+            none = λ e. told.none (sym p ∙ e);
+            found = λ other. rw (p, get_or_push values value other k (omega arith)) told.found;
+          })
           (cases_lt k count);
     }

@@ -7,6 +7,7 @@ ghost use Rattle.ipnetwork_index.specs.Turns.{CutInto};
 use crate::cuts::{closed, cuts_of};
 use crate::indexed_network::IndexedNetwork;
 use crate::partition::Partition;
+use crate::starts::part_bits;
 use ipnetwork_sets::AddressSet;
 use std::alloc::{AllocError, Global};
 use std::marker::Model;
@@ -59,7 +60,8 @@ impl<N: IndexedNetwork> AddressIndex<N> {
         let cuts = cuts_of(alloc, set)?;
         let first_is_in = set.contains(N::whole().network());
         let lasts = closed::<N>(cuts)?;
-        let partition = Partition::new(alloc, lasts.as_slice())?;
+        let bits = part_bits(lasts.len());
+        let partition = Partition::new(alloc, lasts.as_slice(), bits)?;
         Ok(AddressIndex {
             partition,
             first_is_in,

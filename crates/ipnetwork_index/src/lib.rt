@@ -7,6 +7,7 @@
 #![tactic(auto)]
 
 mod address_index;
+mod answers;
 mod cuts;
 mod edges;
 mod fours;

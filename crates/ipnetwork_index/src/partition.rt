@@ -8,7 +8,7 @@ use crate::halves::{all_end, are_worth_it, highs_of, place_by_halves};
 use crate::indexed_network::IndexedNetwork;
 use crate::key::Key;
 use crate::search::place_of;
-use crate::starts::{part_bits, span_of, write_starts};
+use crate::starts::{span_of, write_starts};
 use std::alloc::{AllocError, Global};
 use std::marker::Model;
 
@@ -46,36 +46,37 @@ impl<N: IndexedNetwork> Model for Partition<N> {
 }
 
 impl<N: IndexedNetwork> Partition<N> {
-    /// The ranges with these last addresses.
-    pub(crate) fn new(alloc: Global, addresses: &[N::Addr]) -> Result<Self, AllocError>
-        requires { IsPartition N.WIDTH (map N.number addresses.now) }
+    /// The ranges with these last addresses, searched in 2^`bits` parts.
+    pub(crate) fn new(alloc: Global, addresses: &[N::Addr], bits: u32) -> Result<Self, AllocError>
+        requires parts { bits ≤ 20 }
+        requires partition { IsPartition N.WIDTH (map N.number addresses.now) }
         ensures { IfOk result (λ partition. partition ≡ map N.number addresses.now) }
     {
         let lasts = padded::<N>(numbers_of::<N>(alloc, addresses)?)?;
-        Self::of_padded(alloc, lasts)
+        Self::of_padded(alloc, lasts, bits)
     }
 
     // The ranges with these last numbers, which are searched by halves if these differ.
-    fn of_padded(alloc: Global, lasts: Vec<N::Number>) -> Result<Self, AllocError>
-        requires { IsPadded N.WIDTH (map N.Number.value lasts.items) }
+    fn of_padded(alloc: Global, lasts: Vec<N::Number>, bits: u32) -> Result<Self, AllocError>
+        requires parts { bits ≤ 20 }
+        requires padded { IsPadded N.WIDTH (map N.Number.value lasts.items) }
         ensures { IfOk result (λ partition. partition ≡ unpadded (map N.Number.value lasts.items)) }
     {
         if N::has_halves() {
             let highs = highs_of::<N>(alloc, lasts.as_slice())?;
             if are_worth_it::<N::High>(highs.as_slice()) {
-                return Self::of_halves(alloc, lasts, highs);
+                return Self::of_halves(alloc, lasts, highs, bits);
             }
         }
-        Self::of_wholes(alloc, lasts)
+        Self::of_wholes(alloc, lasts, bits)
     }
 
     // The same, searched by whole numbers.
-    fn of_wholes(alloc: Global, lasts: Vec<N::Number>) -> Result<Self, AllocError>
-        requires { IsPadded N.WIDTH (map N.Number.value lasts.items) }
+    fn of_wholes(alloc: Global, lasts: Vec<N::Number>, bits: u32) -> Result<Self, AllocError>
+        requires parts { bits ≤ 20 }
+        requires padded { IsPadded N.WIDTH (map N.Number.value lasts.items) }
         ensures { IfOk result (λ partition. partition ≡ unpadded (map N.Number.value lasts.items)) }
     {
-        let ranges = lasts.len() - 3;
-        let bits = part_bits(ranges);
         let (base, shift) = span_of::<N::Number>(lasts.as_slice(), bits);
         let starts = starts_of::<N::Number>(alloc, lasts.as_slice(), base, shift, 1 << bits)?;
         Ok(Partition {
@@ -95,13 +96,13 @@ impl<N: IndexedNetwork> Partition<N> {
         alloc: Global,
         lasts: Vec<N::Number>,
         highs: Vec<N::High>,
+        bits: u32,
     ) -> Result<Self, AllocError>
+        requires parts { bits ≤ 20 }
         requires padded { IsPadded N.WIDTH (map N.Number.value lasts.items) }
         requires halves { map N.High.value highs.items ≡ map N.high (map N.Number.value lasts.items) }
         ensures { IfOk result (λ partition. partition ≡ unpadded (map N.Number.value lasts.items)) }
     {
-        let ranges = highs.len() - 3;
-        let bits = part_bits(ranges);
         let (high_base, shift) = span_of::<N::High>(highs.as_slice(), bits);
         let starts = starts_of::<N::High>(alloc, highs.as_slice(), high_base, shift, 1 << bits)?;
         let highs_tell = all_end::<N>(lasts.as_slice());

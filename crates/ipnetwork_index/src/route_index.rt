@@ -3,11 +3,12 @@ ghost use Rattle.std.specs.Prelude.{◌≡◌, IfOk, length, map};
 ghost use Rattle.ipnetwork_table.specs.Table.{HasOnlyBlocks, Finds};
 ghost use Rattle.ipnetwork_index.specs.Columns.{AreFound};
 ghost use Rattle.ipnetwork_index.specs.Turns.{CutByBlocks};
-ghost use Rattle.ipnetwork_index.specs.Private.Answers.{AreAnswers};
 
+use crate::answers::{Answers, answers_of};
 use crate::edges::ranges_of;
 use crate::indexed_network::IndexedNetwork;
 use crate::partition::Partition;
+use crate::starts::route_bits;
 use ipnetwork_table::PrefixTable;
 use std::alloc::{AllocError, Global};
 use std::marker::Model;
@@ -29,7 +30,7 @@ pub struct RouteIndex<N: IndexedNetwork, V: Copy> {
     // The addresses, cut where a block begins or ends.
     partition: Partition<N>,
     // What the table finds for the addresses of each range.
-    answers: Vec<Option<(N, V)>>,
+    answers: Answers<V>,
 }
 
 // A contract sees the finite map of the table.
@@ -45,7 +46,8 @@ impl<N: IndexedNetwork, V: Copy> Model for RouteIndex<N, V> {
 
     ghost view = { λ i. i.table };
 
-    ghost invariant = { λ i. IsAnswered N.pair N.WIDTH i.table i.partition i.answers.items };
+    ghost invariant = { λ i. IsAnswered N.WIDTH i.table i.partition i.answers.prefixes.items
+        i.answers.values.items };
 }
 
 impl<N: IndexedNetwork, V: Copy> RouteIndex<N, V> {
@@ -65,7 +67,8 @@ impl<N: IndexedNetwork, V: Copy> RouteIndex<N, V> {
         let _ = table.len();
         let lasts = ranges_of(alloc, &table)?;
         let answers = answers_of(alloc, &table, lasts.as_slice())?;
-        let partition = Partition::new(alloc, lasts.as_slice())?;
+        let bits = route_bits(lasts.len());
+        let partition = Partition::new(alloc, lasts.as_slice(), bits)?;
         Ok(RouteIndex {
             table,
             partition,
@@ -88,8 +91,8 @@ impl<N: IndexedNetwork, V: Copy> RouteIndex<N, V> {
         ensures answer { Finds N.pair N.WIDTH self.now (N.number addr) result }
         ensures blocks { HasOnlyBlocks N.WIDTH self.now }
     {
-        let answers = self.answers.as_slice();
-        answers[self.partition.place_of(N::number_of(addr))]
+        let place = self.partition.place_of(N::number_of(addr));
+        self.answers.of(place, addr)
     }
 
     /// What a look-up of each of the addresses finds, put at the same place. There must be as many
@@ -143,7 +146,8 @@ impl<N: IndexedNetwork, V: Copy> RouteIndex<N, V> {
     /// The number of ranges that the table's blocks cut the addresses into, where one begins or ends:
     /// what a look-up finds is the same for all addresses of one. There are at most one more than
     /// twice the blocks (`laws::few_routed_ranges`). Beside what an `AddressIndex` has of so many
-    /// ranges, the index has the table and what a look-up finds in each range.
+    /// ranges, the index has the table, and of each range a byte and a value. From 2^17 ranges on it
+    /// has fewer places of 4 bytes: at most one for each range, and no more than 2^20 of them.
     ///
     /// ```
     /// let mut table = PrefixTable::new(rt.alloc());
@@ -155,20 +159,4 @@ impl<N: IndexedNetwork, V: Copy> RouteIndex<N, V> {
     {
         self.partition.len()
     }
-}
-
-// What the table finds for the last address of each range.
-fn answers_of<N: IndexedNetwork, V: Copy>(
-    alloc: Global,
-    table: &PrefixTable<N, V>,
-    lasts: &[N::Addr],
-) -> Result<Vec<Option<(N, V)>>, AllocError>
-    ensures { IfOk result
-        (λ answers. AreAnswers N.pair N.WIDTH table.now (map N.number lasts.now) answers.items) }
-{
-    let mut answers = Vec::with_capacity(alloc, lasts.len())?;
-    for last in lasts {
-        answers.push(table.lookup(*last))?;
-    }
-    Ok(answers)
 }

@@ -21,6 +21,7 @@ use crate::key::Key;
 /// assert_eq!(rt; place_of(&keys, &starts, 9, 2, 20), 1);
 /// assert_eq!(rt; place_of(&keys, &starts, 9, 2, 21), 2);
 /// ```
+#[inline(always)]
 pub fn place_of<K: Key>(keys: &[K], starts: &[u32], base: K, shift: u32, key: K) -> usize
     requires narrow { shift < K.BITS }
     requires searched { IsSearchable (map K.value keys.now) starts.now (K.value base) shift }

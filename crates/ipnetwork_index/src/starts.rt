@@ -17,6 +17,18 @@ pub fn part_bits(ranges: usize) -> u32
     bits.min(20)
 }
 
+// The same, for the index of a table, which is small if it has many ranges: from 2^17 of them on
+// it has one part for one or two of them.
+pub(crate) fn route_bits(ranges: usize) -> u32
+    ensures { result ≤ 20 }
+{
+    let bits = usize::BITS - ranges.leading_zeros();
+    if bits < 18 {
+        return bits + 1;
+    }
+    (bits - 1).min(20)
+}
+
 // From which of so many parts on, and how large they are: from the first key to the last of a range
 // but one, so that the first bits that all of them share are left out; or, if that makes them much
 // smaller, from the first to the last of those in the middle, without a 64th at either end. The

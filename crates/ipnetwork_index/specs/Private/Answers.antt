@@ -1,27 +1,64 @@
 -- One answer for all numbers of a range.
-use Rattle.std.specs.Prelude.{◌≡◌, ℕ, ◌^◌, ◌<◌, List, length, Option, None}
+use Rattle.std.specs.Prelude.{◌≡◌, ◌≢◌, ℕ, ◌<◌, ◌≤◌, ◌⊎◌, min, List, length, Option, MatchOption}
 use Rattle.std.proofs.Common.{get_or}
 use Rattle.std.specs.FinMap.{FinMap}
-use Rattle.ipnetwork_family.specs.Network.{Network, network_cmp}
-use Rattle.ipnetwork_table.specs.Table.{HasOnlyBlocks, Finds}
+use Rattle.ipnetwork_family.specs.Network.{Network, block_at, network_cmp}
+use Rattle.ipnetwork_table.specs.Table.{HasOnlyBlocks, IsLongest, NoneHolds}
 use Rattle.ipnetwork_index.specs.Turns.{CutByBlocks}
 use Rattle.ipnetwork_index.specs.Private.Partitions.{LiesAt}
 
--- each answer is what a look-up of the last number of its range finds, and they are so many
-pub record AreAnswersUpTo {N V : Type 0} (pair : N → Network) (w : ℕ) (t : FinMap network_cmp V)
-    (lasts : List ℕ) (answers : List (Option (N × V))) (count : ℕ) : Type 0 where
-  pub size : length answers ≡ count
-  pub all : (k : ℕ) → k < count → Finds pair w t (get_or lasts k 0) (get_or answers k None)
+-- the block of this prefix length that has x is what a look-up of x finds, with this value
+pub record IsFound {V : Type 0} (w : ℕ) (t : FinMap network_cmp V) (x prefix : ℕ) (value : V)
+    : Type 0 where
+  pub within : prefix ≤ w
+  pub longest : IsLongest w t x (block_at w x prefix) value
 
--- there is one for each range
-abbrev pub AreAnswers : {N V : Type 0} → (N → Network) → ℕ → FinMap network_cmp V → List ℕ
-    → List (Option (N × V)) → Type 0
-AreAnswers pair w t lasts answers = AreAnswersUpTo pair w t lasts answers (length lasts)
+-- so it is; or the prefix length is 255, and a look-up of x finds nothing
+pub record Tells {V : Type 0} (w : ℕ) (t : FinMap network_cmp V) (x prefix : ℕ) (value : V) : Type 0
+  where
+    pub none : prefix ≡ 255 → NoneHolds w t x
+    pub found : prefix ≢ 255 → IsFound w t x prefix value
 
--- and each is what a look-up of any number of its range finds
-pub record IsAnswered {N V : Type 0} (pair : N → Network) (w : ℕ) (t : FinMap network_cmp V)
-    (lasts : List ℕ) (answers : List (Option (N × V))) : Type 0 where
+-- the same, of what stands at this place
+pub record TellsAt {V : Type 0} (w : ℕ) (t : FinMap network_cmp V) (prefixes : List ℕ)
+    (values : List V) (at x : ℕ) : Type 0 where
+  pub none : get_or prefixes at 255 ≡ 255 → NoneHolds w t x
+  pub found : (other : V) → get_or prefixes at 255 ≢ 255
+      → IsFound w t x (get_or prefixes at 255) (get_or values at other)
+
+-- what stands at this place, as an answer to a look-up of x. A prefix length greater than w stands
+-- for w
+abbrev pub IsMadeOf : {N V : Type 0} → (N → Network) → ℕ → List ℕ → List V → ℕ → ℕ
+    → Option (N × V) → Type 0
+IsMadeOf pair w prefixes values at x answer =
+    MatchOption answer (get_or prefixes at 255 ≡ 255)
+    (λ found. (get_or prefixes at 255 ≢ 255)
+    × (pair found.0 ≡ block_at w x (min (get_or prefixes at 255) w))
+    × (get_or values at found.1 ≡ found.1))
+
+-- so many answers tell what look-ups of the last numbers of the first ranges find
+pub record AreAnswersUpTo {V : Type 0} (w : ℕ) (t : FinMap network_cmp V) (lasts prefixes : List ℕ)
+    (values : List V) (count : ℕ) : Type 0 where
+  pub prefix_count : length prefixes ≡ count
+  pub value_count : length values ≡ count
+  pub all : (k : ℕ) → k < count → TellsAt w t prefixes values k (get_or lasts k 0)
+
+-- there are no answers, and no block of the table has any number
+pub record AreNone {V : Type 0} (w : ℕ) (t : FinMap network_cmp V) (prefixes : List ℕ)
+    (values : List V) : Type 0 where
+  pub prefix_count : length prefixes ≡ 0
+  pub value_count : length values ≡ 0
+  pub all : (x : ℕ) → NoneHolds w t x
+
+-- there is one for each range, or none
+abbrev pub AreAnswers : {V : Type 0} → ℕ → FinMap network_cmp V → List ℕ → List ℕ → List V → Type 0
+AreAnswers w t lasts prefixes values = AreNone w t prefixes values
+    ⊎ AreAnswersUpTo w t lasts prefixes values (length lasts)
+
+-- and it tells what a look-up of any number of its range finds
+pub record IsAnswered {V : Type 0} (w : ℕ) (t : FinMap network_cmp V) (lasts prefixes : List ℕ)
+    (values : List V) : Type 0 where
   pub blocks : HasOnlyBlocks w t
-  pub size : length answers ≡ length lasts
-  pub all : (x at : ℕ) → x < 2 ^ w → LiesAt lasts x at → Finds pair w t x (get_or answers at None)
+  pub size : length prefixes ≡ length values
+  pub all : (x at : ℕ) → LiesAt lasts x at → TellsAt w t prefixes values at x
   pub cut : CutByBlocks w t (length lasts)

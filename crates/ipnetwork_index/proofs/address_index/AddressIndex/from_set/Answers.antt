@@ -8,8 +8,8 @@ use Rattle.ipnetwork_index.proofs.address_index.AddressIndex.from_set.Goals as g
 pub closed-requires : goal.closed-requires
 closed-requires g c = set_cuts_rise _ _ c.in_ok-cuts.ensures
 
-pub new-requires : goal.new-requires
-new-requires g c = rw c.as_slice.ensures.value c.in_ok-lasts.ensures.partition
+pub new-requires-clause-partition : goal.new-requires-clause-partition
+new-requires-clause-partition g c = rw c.as_slice.ensures.value c.in_ok-lasts.ensures.partition
 
 pub invariant_of-result : goal.invariant_of-result
 invariant_of-result g c = rw (c.in_ok-partition.ensures, c.as_slice.ensures.value)
