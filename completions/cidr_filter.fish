@@ -10,6 +10,8 @@ complete -c cidr_filter -s o -d "Print the addresses that are in a network in pl
 complete -c cidr_filter -l mapped -d "An IPv4-mapped address counts as its IPv4 one"
 complete -c cidr_filter -s v -d "Lines whose address is in no network"
 complete -c cidr_filter -s c -d "Print how many lines are selected"
+complete -c cidr_filter -s l -d "Print the names of files that have a selected line"
+complete -c cidr_filter -s q -d "Print nothing, and end at the first selected line"
 complete -c cidr_filter -s m -x -d "At most so many lines of each file are selected"
 complete -c cidr_filter -s H -d "Print the name of its file before a line"
 complete -c cidr_filter -s h -d "Print no name before a line"

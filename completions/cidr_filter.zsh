@@ -12,6 +12,8 @@ _arguments \
     '*--mapped[an IPv4-mapped address counts as its IPv4 one]' \
     '*-v[lines whose address is in no network]' \
     '*-c[print how many lines are selected]' \
+    '*-l[print the names of files that have a selected line]' \
+    '*-q[print nothing, and end at the first selected line]' \
     '*-m[at most so many lines of each file are selected]:number: ' \
     '*-H[print the name of its file before a line]' '*-h[print no name before a line]' \
     '*--longest[print the longest network before a line]' \

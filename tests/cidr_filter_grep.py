@@ -12,7 +12,7 @@ SECONDS = 60
 PIPES = {"stdout": subprocess.PIPE, "stderr": subprocess.PIPE}
 LOGS = ("one", "two", "none_of_ten", "three", "nothing")
 # The options of a run, of each kind one or none.
-KINDS = (("", "-v"), ("", "-m 1", "-m 2", "-m 7", "-m 0", "-m 1000"), ("", "-H", "-c"))
+KINDS = (("", "-v"), ("", "-m 1", "-m 2", "-m 7", "-m 0", "-m 1000"), ("", "-H", "-c"), ("", "-l", "-q", "-l -q"))
 
 
 def run(words, folder, given=b""):
@@ -43,11 +43,12 @@ def as_grep(program, folder):
         return
     for options in itertools.product(*KINDS):
         options = " ".join(options).split()
+        shows_numbers = "-c" in options and not {"-l", "-q"} & set(options)
         for logs in (["one"], ["-"], ["none_of_ten"], ["nothing"], ["one", "none_of_ten", "-", "three"], ["nothing", "two"]):
             given = b"11.0.0.1 x\n10.0.0.1 y\n10.0.0.2 z\n"
             name = [] if "-H" in options else ["-h"]
             wanted, _, status = run(["grep", *name, *options, "-e", "^10\\.", *logs], folder, given)
-            if "-c" in options:
+            if shows_numbers:
                 zero = "0" in options
                 wanted = b"0\n" if zero else counted(wanted)
             got = run([program, *options, "-e", "10.0.0.0/8", *logs], folder, given)
@@ -60,6 +61,11 @@ LEFT = (
     ("-m 2 -v", b"11.0.0.1\n10.0.0.1 a\n11.0.0.1\n", b"11.0.0.1\n11.0.0.1\n", 0),
     ("-cm1", b"10.0.0.1\n", b"1\n", 0),
     ("-m0", b"", b"", 1),
+    ("-l", b"11.0.0.1\n10.0.0.1 a\n10.0.0.2", b"(standard input)\n", 0),
+    ("-lv", b"10.0.0.1\n11.0.0.1\n", b"(standard input)\n", 0),
+    ("-q", b"11.0.0.1\n10.0.0.1 a\n10.0.0.2", b"", 0),
+    ("-qvc", b"10.0.0.1\n11.0.0.1\n", b"", 0),
+    ("-q -m0", b"", b"", 1),
 )
 
 

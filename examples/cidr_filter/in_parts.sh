@@ -6,8 +6,8 @@
 # usage: examples/cidr_filter/in_parts.sh OPTION .. < LOG > SELECTED
 #
 # The options are those of cidr_filter, also joined in one word. With `-c` the numbers of the parts
-# are added up. `--bad keep` and `--bad stop` are refused: a line would end its part only; and so is
-# `-m`. Without GNU parallel, the parts are filtered one after the other.
+# are added up. `--bad keep` and `--bad stop` are refused: a line would end its part only; and so are
+# `-m`, `-l` and `-q`. Without GNU parallel, the parts are filtered one after the other.
 set -eu -o pipefail
 program=$(cd "$(dirname "$0")/../.." && pwd)/crates/cidr_filter/out/cidr_filter
 
@@ -26,10 +26,13 @@ check_bad() {
 # That option and its value, if they are joined, are the text `value`; or the value is the next word.
 letters() {
     local text=${1#-}
-    local before=${text%%[!vcawoHh]*}
+    local before=${text%%[!vcawoHhlq]*}
     value=${text#"$before"}
     case $value in
-    "" | [fekdm]*) [[ $before != *c* ]] || counts=1 ;;
+    "" | [fekdm]*)
+        [[ $before != *[lq]* ]] || refuse "-l, -q: a line would end its part only"
+        [[ $before != *c* ]] || counts=1
+        ;;
     esac
 }
 

@@ -3,7 +3,6 @@ use Rattle.std.proofs.Common.{◌≡◌, ℕ, length, List, [], ◌∷◌, ◌++
 use Rattle.std.specs.Prelude.{codes, bytes_eq, String, Some, None}
 use Rattle.std.specs.Fmt.{digits}
 use Rattle.std.specs.String.{string_bytes}
-use Rattle.std.specs.Str.Lines.{lines}
 use Rattle.ipnetwork_addr.specs.Computed.Ipv6Text.{v6_of, gap_below}
 use Rattle.ipnetwork_addr.specs.declared.ip.IpAddr.{IpAddr}
 use Rattle.ipnetwork_addr.specs.declared.ip.IpAddr.TheVariants as addresses
@@ -27,6 +26,7 @@ use Rattle.cidr_filter.specs.Told.{in_option}
 use Rattle.cidr_filter.specs.declared.filter.WithoutAddress.{WithoutAddress}
 use Rattle.cidr_filter.specs.declared.filter.WithoutAddress.TheVariants as without
 use Rattle.cidr_filter.specs.declared.filter.Filter.{Filter}
+use Rattle.cidr_filter.specs.declared.filter.Shown.TheVariants as shows
 use Rattle.line_addresses.specs.declared.place.Place.{Place}
 use Rattle.line_addresses.specs.declared.place.Place.TheVariants as places
 use Rattle.cidr_filter.specs.declared.filter.Verdict.TheVariants as verdicts
@@ -86,11 +86,11 @@ printed_with_an_end = refl
 -- ---- what a line is to a list
 
 abbrev pub by : Bool → WithoutAddress → Filter
-by inverts bad = record { listed = Addresses (record { v4 = []; v6 = [] }); place = places.Field 1 32; mapped = false; inverts = inverts; bad = bad; most = None; counts = false; only = false; named = false; name = [] }
+by inverts bad = record { listed = Addresses (record { v4 = []; v6 = [] }); place = places.Field 1 32; mapped = false; inverts = inverts; bad = bad; most = None; shows = shows.Lines; named = false; name = [] }
 
 -- one that only counts
 abbrev pub counting : WithoutAddress → Filter
-counting bad = record (by false bad) { counts = true }
+counting bad = record (by false bad) { shows = shows.Count }
 
 -- one that looks at this place
 abbrev pub looking : Place → Bool → Filter
@@ -236,7 +236,7 @@ no_log_named name = refl
 abbrev pub addresses_of_ten : Filter
 addresses_of_ten = record (looking places.Anywhere false) {
   listed = Addresses (record { v4 = record { address = 0x0a000000; prefix = 8 } ∷ []; v6 = [] });
-  only = true;
+  shows = shows.Addresses;
 }
 
 pub addresses_selected : output_of addresses_of_ten (verdicts.Inside None) (ended (codes "a=10.0.0.1:80 b=11.0.0.1,10.0.0.2.")) ≡ codes "10.0.0.1\n10.0.0.2\n"
@@ -247,7 +247,7 @@ pub addresses_named : output_of (record addresses_of_ten { name = codes "log" })
 unfolding address_in before_port address_of digits v6_of gap_below
 addresses_named = refl
 
-pub no_addresses_counted : output_of (record addresses_of_ten { counts = true }) (verdicts.Inside None) (ended (codes "10.0.0.1")) ≡ []
+pub no_addresses_counted : output_of (record addresses_of_ten { shows = shows.Count }) (verdicts.Inside None) (ended (codes "10.0.0.1")) ≡ []
 no_addresses_counted = refl
 
 -- ---- what is told
@@ -295,7 +295,7 @@ a_log_with_an_address = refl
 pub a_log_without_lines : lacking_by places.Anywhere (codes "log") 0 false ≡ []
 a_log_without_lines = refl
 
-pub a_missed_log : status_by true 3 ≡ 2
+pub a_missed_log : status_by false true 3 ≡ 2
 a_missed_log = refl
 
 pub a_log_that_fails : log_fault_text (codes "log") 9 faults.Read ≡ codes "log: cannot read\n"

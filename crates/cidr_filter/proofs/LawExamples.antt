@@ -121,7 +121,7 @@ not_behind_an_option flag word others law f w =
     law (choices.Letters (letters true false false false) ∷ []) word others (rw f, rw f) (ap is_option_word w) (ap (begins_with (codes "-")) w) (ap (is_one_of (codes "-" ∷ codes "--" ∷ [])) w)
 
 -- the law leaves out the words of options, and no others
-pub words_of_options : list_all is_option_word (codes "-f" ∷ codes "-e" ∷ codes "-k" ∷ codes "-k3" ∷ codes "-d" ∷ codes "-d," ∷ codes "--bad" ∷ codes "--bad=drop" ∷ codes "--longest" ∷ codes "--mapped" ∷ codes "--after" ∷ codes "-v" ∷ codes "-c" ∷ codes "-vc" ∷ codes "-aw" ∷ codes "-o" ∷ []) ≡ true
+pub words_of_options : list_all is_option_word (codes "-f" ∷ codes "-e" ∷ codes "-k" ∷ codes "-k3" ∷ codes "-d" ∷ codes "-d," ∷ codes "--bad" ∷ codes "--bad=drop" ∷ codes "--longest" ∷ codes "--mapped" ∷ codes "--after" ∷ codes "-v" ∷ codes "-c" ∷ codes "-vc" ∷ codes "-aw" ∷ codes "-o" ∷ codes "-lq" ∷ []) ≡ true
 words_of_options = refl
 
 pub words_of_none :

@@ -5,7 +5,7 @@ use Rattle.lines.specs.Outputs.{Written, AppendsBeginning, Prints, FailsIn}
 use Rattle.lines.specs.declared.line_end.LineEnd.{LineEnd}
 use Rattle.lines.proofs.Putting.{begins_after_puts}
 use Rattle.program.specs.LogFaults.{ended_by_read}
-use Rattle.program.specs.LogLines.{LogLine, log_lines, content, feed_behind, log_line}
+use Rattle.program.specs.LogLines.{log_lines, feed_behind, log_line}
 use Rattle.program.specs.LogReaders.{HandsFirst, GivesNext, line_of, whole_of}
 use Rattle.program.specs.declared.log_fault.LogFault.{LogFault}
 use Rattle.program.specs.declared.log_fault.LogFault.TheVariants as faults
@@ -19,7 +19,7 @@ use Rattle.cidr_filter.specs.declared.filter.Filter.{Filter}
 use Rattle.cidr_filter.specs.declared.log.Reached.{Reached}
 use Rattle.cidr_filter.specs.declared.log.Reached.TheVariants as reached
 use Rattle.cidr_filter.specs.declared.log.Tally.{Tally}
-use Rattle.cidr_filter.proofs.Filtering.{goes_nowhere, goes_idle, goes_still, more_filters, more_goes, line_judged, line_goes}
+use Rattle.cidr_filter.proofs.Filtering.{goes_idle, goes_still, more_filters, more_goes, line_judged, line_goes}
 use Rattle.cidr_filter.proofs.Spent.{within_more}
 
 -- ---- what was written at the end

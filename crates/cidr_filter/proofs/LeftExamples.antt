@@ -1,11 +1,11 @@
 -- Logs that are left at the last line that may be selected.
-use Rattle.std.proofs.Common.{◌≡◌, ℕ, List, [], ◌∷◌, Bool, true, false, refl, inl, inr, arith}
+use Rattle.std.proofs.Common.{◌≡◌, ℕ, List, [], ◌∷◌, true, false, refl, inl, inr, arith}
 use Rattle.std.proofs.lemmas.Option.{none-some}
-use Rattle.std.specs.Prelude.{codes, Option, Some, None}
+use Rattle.std.specs.Prelude.{codes, Some, None}
 use Rattle.lists.specs.KnownLists.{KnownLists}
 use Rattle.program.specs.LogLines.{LogLine}
-use Rattle.program.specs.Logs.{IsAllOf, IsFirstOf}
-use Rattle.cidr_filter.specs.Filters.{IsVerdict, is_below, is_within, AreAll, Filters}
+use Rattle.program.specs.Logs.{IsFirstOf}
+use Rattle.cidr_filter.specs.Filters.{IsVerdict, is_below, AreAll}
 use Rattle.cidr_filter.specs.Joined.{words_in}
 use Rattle.cidr_filter.specs.Logs.{LeavesLog, is_short}
 use Rattle.cidr_filter.specs.Options.{most_option, in_one_word}

@@ -1,6 +1,8 @@
 pub mod Addressed
 pub mod AfterTexts
 pub mod Among
+pub mod Enough
+pub mod EnoughExamples
 pub mod Examples
 pub mod Failing
 pub mod Faults

@@ -13,8 +13,8 @@ use Rattle.program.proofs.LogNames.{all_of, first_of}
 use Rattle.program.specs.LogLines.{LogLine, log_lines, ended_lines, content, IsWhole}
 use Rattle.program.specs.Logs.{IsAllOf, StopsAfter, HaltsBy}
 use Rattle.program.specs.declared.log_reader.LogReader.{LogReader}
-use Rattle.cidr_filter.specs.Filters.{Filters, LastIsSelected}
-use Rattle.cidr_filter.specs.Logs.{FiltersLogs, EndsRunBy, is_short, filter_for}
+use Rattle.cidr_filter.specs.Filters.{is_silent, Filters, LastIsSelected}
+use Rattle.cidr_filter.specs.Logs.{FiltersLogs, is_enough, EndsRunBy, is_short, filter_for}
 use Rattle.cidr_filter.specs.Stands.{Stand}
 use Rattle.cidr_filter.specs.Stops.{Ends, Leaves, EndsAtLine, Stops}
 use Rattle.cidr_filter.specs.Private.Runs.{FiltersNames}
@@ -24,6 +24,7 @@ use Rattle.program.specs.declared.log_fault.LogFault.{LogFault}
 use Rattle.program.specs.declared.log_fault.LogFault.TheVariants as faults
 use Rattle.lists.specs.declared.opening.OpenFault.{OpenFault}
 use Rattle.cidr_filter.proofs.Addressed.{lacking_same}
+use Rattle.cidr_filter.proofs.Enough.{few_first, few_second, enough_behind, not_enough, enough_same, goes_nowhere, went_on, goes_on, goes_so}
 use Rattle.cidr_filter.proofs.Failing.{or_assoc}
 
 -- ---- one log
@@ -74,7 +75,7 @@ module _ (filter : Filter) (known : KnownLists) where
             false,
             false,
             inl ((ends.read, all_of known name remained remains has opened ends.read ends.reads ends.end, ends.filters, refl, ends.below), refl),
-            (refl, refl, refl, refl),
+            goes_nowhere (is_enough filter.shows ends.count),
             sym (append-nil ends.added),
             omega arith,
             sym (append-nil text),
@@ -128,7 +129,7 @@ module _ (filter : Filter) (known : KnownLists) where
               refl,
             )
             ),
-        (refl, refl, refl, refl),
+        goes_nowhere (is_enough filter.shows left.count),
         sym (append-nil left.added),
         omega arith,
         refl,
@@ -208,7 +209,7 @@ module _ (filter : Filter) (known : KnownLists) where
     output = [];
     count = 0;
     text = closed_text name fault;
-    filters = ([], [], 0, 0, closed_text name fault, [], true, false, inr (inr ((fault, closed, missed, refl, refl, refl), refl)), (refl, refl, refl, refl), refl, refl, sym (append-nil (closed_text name fault)), refl);
+    filters = ([], [], 0, 0, closed_text name fault, [], true, false, inr (inr ((fault, closed, missed, refl, refl, refl), refl)), goes_nowhere (is_enough filter.shows 0), refl, refl, sym (append-nil (closed_text name fault)), refl);
     tells = tells;
     puts = puts_nothing old.holds old.waits;
     counted = counts_none old.selected old.selected refl;
@@ -227,40 +228,89 @@ module _ (filter : Filter) (known : KnownLists) where
     counted = counts_none old.selected old.selected refl;
   }
 
-  pub logs_both : (first second : List (List ℕ)) (a b : List ℕ) (m n : ℕ) (s t : List ℕ) (x y : Bool) → FiltersLogs filter known first a m s x → FiltersLogs filter known second b n t y
+  pub logs_both : (first second : List (List ℕ)) (a b : List ℕ) (m n : ℕ) (s t : List ℕ) (x y : Bool) → is_enough filter.shows m ≡ false
+      → FiltersLogs filter known first a m s x → FiltersLogs filter known second b n t y
       → FiltersLogs filter known (first ++ second) (a ++ b) (m + n) (s ++ t) (x || y)
-  logs_both [] second a b m n s t x y f g =
+  logs_both [] second a b m n s t x y few f g =
       let none = f.1 in
       let same : n ≡ m + n = omega (arith, none) in
       subst (λ (z : Bool). FiltersLogs filter known second (a ++ b) (m + n) (s ++ t) (z || y)) (sym f.3)
       (subst (λ (l : List ℕ). FiltersLogs filter known second (a ++ b) (m + n) (l ++ t) y) (sym f.2)
       (subst (λ (l : List ℕ). FiltersLogs filter known second (l ++ b) (m + n) t y) (sym f.0)
       (subst (λ (k : ℕ). FiltersLogs filter known second b k t y) same g)))
-  logs_both (name ∷ first) second a b m n s t x y f g = (
-    f.0,
-    f.1 ++ b,
-    f.2,
-    f.3 + n,
-    f.4,
-    f.5 ++ t,
-    f.6,
-    f.7 || y,
-    f.8,
-    logs_both first second f.1 b f.3 n f.5 t f.7 y f.9 g,
-    ap (λ (l : List ℕ). l ++ b) f.10 ∙ append_assoc f.0 f.1 b,
-    let e = f.11 in omega (arith, e),
-    ap (λ (l : List ℕ). l ++ t) f.12 ∙ append_assoc f.4 f.5 t,
-    ap (λ (l : Bool). l || y) f.13 ∙ or_assoc f.6 f.7 y,
-  )
+  logs_both (name ∷ first) second a b m n s t x y few f g =
+      let all = subst (λ (k : ℕ). is_enough filter.shows k ≡ false) f.11 few in
+      let one = few_first (is_silent filter.shows) f.2 f.3 all in
+      let more = few_second (is_silent filter.shows) f.2 f.3 all in (
+        f.0,
+        f.1 ++ b,
+        f.2,
+        f.3 + n,
+        f.4,
+        f.5 ++ t,
+        f.6,
+        f.7 || y,
+        f.8,
+        goes_on (FiltersLogs filter known (first ++ second) (f.1 ++ b) (f.3 + n) (f.5 ++ t) (f.7 || y)) (f.1 ++ b) (f.3 + n) (f.5 ++ t) (f.7 || y) (is_enough filter.shows f.2) one
+            (logs_both first second f.1 b f.3 n f.5 t f.7 y more
+            (went_on (FiltersLogs filter known first f.1 f.3 f.5 f.7) f.1 f.3 f.5 f.7 (is_enough filter.shows f.2) one f.9) g),
+        ap (λ (l : List ℕ). l ++ b) f.10 ∙ append_assoc f.0 f.1 b,
+        let e = f.11 in omega (arith, e),
+        ap (λ (l : List ℕ). l ++ t) f.12 ∙ append_assoc f.4 f.5 t,
+        ap (λ (l : Bool). l || y) f.13 ∙ or_assoc f.6 f.7 y,
+      )
 
-  pub names_both : {E : Type 0} (first second : List (List ℕ)) (x y : Bool) (old mid new : Stand) (errors between told : Written E) → FiltersNames filter known first x old mid errors between
+  -- logs that are enough, whatever logs follow them
+  pub logs_enough : (first second : List (List ℕ)) (a : List ℕ) (m : ℕ) (s : List ℕ) (x : Bool) → is_enough filter.shows m ≡ true
+      → FiltersLogs filter known first a m s x → FiltersLogs filter known (first ++ second) a m s x
+  logs_enough [] second a m s x enough f = absurd (not_enough (is_silent filter.shows) (subst (λ (k : ℕ). is_enough filter.shows k ≡ true) f.1 enough))
+  logs_enough (name ∷ first) second a m s x enough f =
+      let all = subst (λ (k : ℕ). is_enough filter.shows k ≡ true) f.11 enough in (
+        f.0,
+        f.1,
+        f.2,
+        f.3,
+        f.4,
+        f.5,
+        f.6,
+        f.7,
+        f.8,
+        goes_so (FiltersLogs filter known first f.1 f.3 f.5 f.7) f.1 f.3 f.5 f.7 (FiltersLogs filter known (first ++ second) f.1 f.3 f.5 f.7) (is_enough filter.shows f.2)
+            (λ few l. logs_enough first second f.1 f.3 f.5 f.7 (enough_behind (is_silent filter.shows) f.2 f.3 all few) l) f.9,
+        f.10,
+        f.11,
+        f.12,
+        f.13,
+      )
+
+  -- whether logs are enough, by how many of their lines were counted
+  pub enough_by : {E : Type 0} (names : List (List ℕ)) (x is : Bool) (old new : Stand) (errors told : Written E) → (f : FiltersNames filter known names x old new errors told)
+      → old.selected ≡ 0 → is_enough filter.shows new.selected ≡ is → is_enough filter.shows f.count ≡ is
+  enough_by names x is old new errors told f none e =
+      sym (enough_same (is_silent filter.shows) new.selected f.count (counts_from_none old.selected new.selected f.count none f.counted)) ∙ e
+
+  pub names_both : {E : Type 0} (first second : List (List ℕ)) (x y : Bool) (old mid new : Stand) (errors between told : Written E) → old.selected ≡ 0
+      → is_enough filter.shows mid.selected ≡ false → FiltersNames filter known first x old mid errors between
       → FiltersNames filter known second y mid new between told → FiltersNames filter known (first ++ second) (x || y) old new errors told
-  names_both first second x y old mid new errors between told f g = record {
+  names_both first second x y old mid new errors between told none few f g = record {
     output = f.output ++ g.output;
     count = f.count + g.count;
     text = f.text ++ g.text;
-    filters = logs_both first second f.output g.output f.count g.count f.text g.text x y f.filters g.filters;
+    filters = logs_both first second f.output g.output f.count g.count f.text g.text x y (enough_by first x false old mid errors between f none few) f.filters g.filters;
     tells = tells_more errors between told f.text g.text f.tells g.tells;
     puts = puts_more old.holds mid.holds new.holds old.waits mid.waits new.waits f.output g.output f.puts g.puts;
     counted = counts_more old.selected mid.selected new.selected f.count g.count f.counted g.counted;
+  }
+
+  pub names_enough : {E : Type 0} (first second : List (List ℕ)) (x : Bool) (old new : Stand) (errors told : Written E) → old.selected ≡ 0
+      → is_enough filter.shows new.selected ≡ true → FiltersNames filter known first x old new errors told
+      → FiltersNames filter known (first ++ second) x old new errors told
+  names_enough first second x old new errors told none enough f = record {
+    output = f.output;
+    count = f.count;
+    text = f.text;
+    filters = logs_enough first second f.output f.count f.text x (enough_by first x true old new errors told f none enough) f.filters;
+    tells = f.tells;
+    puts = f.puts;
+    counted = f.counted;
   }

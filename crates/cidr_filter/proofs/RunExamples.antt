@@ -178,6 +178,7 @@ module _ (known : KnownLists) (inside : IsVerdict (by false without.Stop) (codes
     fault = faults.Address;
     logs = refl;
     filters = (refl, refl, refl, refl);
+    few = refl;
     first = (verdicts.Inside None, [], 0, inside, refl, (refl, refl), refl, refl);
     short = refl;
     halts = (
@@ -214,6 +215,7 @@ module _ (known : KnownLists) (inside : IsVerdict (by false without.Stop) (codes
     fault = faults.Read;
     logs = refl;
     filters = (refl, refl, refl, refl);
+    few = refl;
     first = (verdicts.Inside None, [], 0, inside, refl, (refl, refl), refl, refl);
     short = refl;
     halts = (codes "10.0.0.1\n10.0.0.1", a, refl, opened, fails);

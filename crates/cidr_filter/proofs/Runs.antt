@@ -1,9 +1,9 @@
 -- How a run ends.
-use Rattle.std.proofs.Common.{◌≡◌, ◌==◌, ◌+◌, ◌-◌, ◌^◌, ◌<◌, ◌≤◌, ◌++◌, ◌∷◌, ◌∙◌, [], ◌||◌, ℕ, List, Bool, true, false, not, refl, sym, ap, subst, ◌⊎◌, inl, inr, arith, length, min, map, take, drop, append_assoc, append-nil, decimal, codes}
+use Rattle.std.proofs.Common.{◌≡◌, ◌==◌, ◌+◌, ◌-◌, ◌^◌, ◌<◌, ◌≤◌, ◌++◌, ◌∷◌, ◌∙◌, [], ◌||◌, ◌&&◌, ℕ, List, Bool, true, false, not, refl, sym, ap, subst, ◌⊎◌, inl, inr, arith, length, min, map, take, drop, take-append-drop, append_assoc, append-nil, decimal, codes}
 use Rattle.std.specs.Prelude.{Option, MatchOption, Result, Ok, Err, OnOk, OnErr, IfErr, IfOk, IsTrue, is_err, if◌then◌else◌, String}
 use Rattle.std.specs.String.{string_bytes}
 use Rattle.std.specs.Io.KnownBytes.{Appends}
-use Rattle.std.proofs.lemmas.List.{take_all}
+use Rattle.std.proofs.lemmas.List.{take_all, map-append}
 use Rattle.lists.specs.Lists.{nothing_read}
 use Rattle.lists.specs.Refusals.{Refused, no_refusals}
 use Rattle.lines.specs.Outputs.{Written, Puts, AppendsBeginning, Prints, Writes, FailsIn}
@@ -12,9 +12,9 @@ use Rattle.program.proofs.Told.{tells_same, tells_more}
 use Rattle.program.specs.Endings.{Ending, ending, Refuses, HasTold, HasWritten, status_of, end_text}
 use Rattle.program.specs.Messages.{Tells}
 use Rattle.lists.specs.KnownLists.{KnownLists}
-use Rattle.cidr_filter.specs.Filters.{Filters, is_within}
+use Rattle.cidr_filter.specs.Filters.{Filters, is_within, is_count, is_silent}
 use Rattle.program.specs.LogLines.{LogLine}
-use Rattle.cidr_filter.specs.Logs.{EndsRunBy, is_short, filter_for}
+use Rattle.cidr_filter.specs.Logs.{is_enough, EndsRunBy, is_short, filter_for}
 use Rattle.program.specs.Counts.{Counts}
 use Rattle.program.specs.LogFaults.{log_fault_text, Wrote, HandsOn, StopsBy}
 use Rattle.program.specs.Logs.{logs_of, HaltsBy}
@@ -36,7 +36,8 @@ use Rattle.program.proofs.Counts.{counts_from_none}
 use Rattle.program.proofs.LogNames.{some_first, names_behind, names_apart, logs_some, logs_none}
 use Rattle.program.proofs.LogReading.{failed_now}
 use Rattle.program.proofs.LogStops.{told_log, puts_then_all, written_behind, failed_behind, wrote_behind, wrote_same}
-use Rattle.cidr_filter.proofs.LogsInTurn.{PutsBy, NameStops, names_both, logs_both}
+use Rattle.cidr_filter.proofs.Enough.{none_few, few_both}
+use Rattle.cidr_filter.proofs.LogsInTurn.{PutsBy, NameStops, names_both, names_enough, enough_by, logs_both}
 use Rattle.cidr_filter.proofs.Addressed.{same_test}
 use Rattle.cidr_filter.proofs.Spent.{below_within}
 
@@ -69,6 +70,7 @@ at_log filter known name fault lines added more end two filters short halts wrot
   fault = fault;
   logs = refl;
   filters = (refl, refl, refl, refl);
+  few = none_few (is_silent filter.shows);
   first = filters;
   short = short;
   halts = halts;
@@ -119,9 +121,9 @@ name_stops filter known name end two mid fault old new s stops =
 -- a log that stops behind others that were filtered
 pub stops_behind_names : {W E : Type 0} (filter : Filter) (known : KnownLists) (done more rest names : List (List ℕ)) (missed : Bool) (end : Ending W E) (mid : Written W) (between : Written E) (old now : Tally)
     → names ≡ done ++ (more ++ rest)
-    → FiltersNames filter known done missed (stand end.output old) (stand mid now) end.errors between
+    → old.selected ≡ 0 → is_enough filter.shows now.selected ≡ false → FiltersNames filter known done missed (stand end.output old) (stand mid now) end.errors between
     → StopsAtLog filter known more (record end { output = mid; errors = between }) → StopsAtLog filter known names end
-stops_behind_names filter known done more rest names missed end mid between old now e f s = record {
+stops_behind_names filter known done more rest names missed end mid between old now e none few f s = record {
   before = done ++ s.before;
   name = s.name;
   behind = s.behind ++ rest;
@@ -134,7 +136,9 @@ stops_behind_names filter known done more rest names missed end mid between old 
   more = s.more;
   fault = s.fault;
   logs = names_behind done more rest names s.before s.behind s.name e s.logs;
-  filters = logs_both filter known done s.before f.output s.output f.count s.selected f.text s.texts missed s.missed f.filters s.filters;
+  filters = logs_both filter known done s.before f.output s.output f.count s.selected f.text s.texts missed s.missed
+      (enough_by filter known done missed false (stand end.output old) (stand mid now) end.errors between f none few) f.filters s.filters;
+  few = few_both (is_silent filter.shows) f.count s.selected (enough_by filter known done missed false (stand end.output old) (stand mid now) end.errors between f none few) s.few;
   first = s.first;
   short = s.short;
   halts = s.halts;
@@ -156,11 +160,21 @@ module _ {Z : Type 0} (filter : Filter) (known : KnownLists) (files : List (Stri
 
   -- the one at a place was filtered too
   pub one_more : {E : Type 0} (i : ℕ) (name : List ℕ) (x y : Bool) (old mid new : Stand) (errors between told : Written E) → map string_bytes (take (i + 1) files) ≡ map string_bytes (take i files) ++ name ∷ []
+      → old.selected ≡ 0 → is_enough filter.shows mid.selected ≡ false
       → FiltersNames filter known (map string_bytes (take i files)) x old mid errors between → FiltersNames filter known (name ∷ []) y mid new between told
       → FiltersNames filter known (map string_bytes (take (i + 1) files)) (x || y) old new errors told
-  one_more i name x y old mid new errors between told e f g =
+  one_more i name x y old mid new errors between told e none few f g =
       subst (λ (n : List (List ℕ)). FiltersNames filter known n (x || y) old new errors told) (sym e)
-      (names_both filter known (map string_bytes (take i files)) (name ∷ []) x y old mid new errors between told f g)
+      (names_both filter known (map string_bytes (take i files)) (name ∷ []) x y old mid new errors between told none few f g)
+
+  -- those up to a place are enough
+  pub enough_named : {E : Type 0} (i : ℕ) (missed : Bool) (old new : Stand) (errors told : Written E) → (length files == 0) ≡ false → old.selected ≡ 0
+      → is_enough filter.shows new.selected ≡ true → FiltersNames filter known (map string_bytes (take i files)) missed old new errors told
+      → FiltersNames filter known (logs_of files) missed old new errors told
+  enough_named i missed old new errors told some none enough h =
+      subst (λ (n : List (List ℕ)). FiltersNames filter known n missed old new errors told)
+      (sym (map-append string_bytes (take i files) (drop i files)) ∙ ap (map string_bytes) (take-append-drop i files) ∙ sym (logs_some files some))
+      (names_enough filter known (map string_bytes (take i files)) (map string_bytes (drop i files)) missed old new errors told none enough h)
 
   -- all were
   pub all_named : {E : Type 0} (i : ℕ) (missed : Bool) (old new : Stand) (errors told : Written E) → (length files == 0) ≡ false → length files ≤ i
@@ -171,14 +185,15 @@ module _ {Z : Type 0} (filter : Filter) (known : KnownLists) (files : List (Stri
   -- the one at a place stopped
   pub one_stops : {W E : Type 0} (i : ℕ) (name : List ℕ) (missed : Bool) (output mid after : Written W) (errors between told : Written E) (old now : Tally)
       → (length files == 0) ≡ false → map string_bytes (take (i + 1) files) ≡ map string_bytes (take i files) ++ name ∷ []
+      → old.selected ≡ 0 → is_enough filter.shows now.selected ≡ false
       → FiltersNames filter known (map string_bytes (take i files)) missed (stand output old) (stand mid now) errors between
       → StopsAtLog filter known (name ∷ []) (ending mid after between told 2)
       → StopsAtLog filter known (logs_of files) (ending output after errors told 2)
-  one_stops {W} {E} i name missed output mid after errors between told old now some more f s =
+  one_stops {W} {E} i name missed output mid after errors between told old now some more none few f s =
       let end : Ending W E = ending output after errors told 2 in
       subst (λ (n : List (List ℕ)). StopsAtLog filter known n end) (sym (logs_some files some))
       (stops_behind_names filter known (map string_bytes (take i files)) (name ∷ []) (map string_bytes (drop (i + 1) files)) (map string_bytes files) missed end mid between old now
-      (names_apart files i name more) f s)
+      (names_apart files i name more) none few f s)
 
 -- ---- all logs
 
@@ -191,9 +206,9 @@ total_same false told count e = refl
 module _ {W E T F : Type 0} (filter : Filter) (known : KnownLists) (names : List (List ℕ)) (missed : Bool) (end : Ending W E) (mid : Written W) (between : Written E) (told : ℕ) where
   all_ended : (written : Result T F) (status : ℕ) (old now : Tally) → old.selected ≡ 0 → now.selected ≡ told
       → FiltersNames filter known names missed (stand end.output old) (stand mid now) end.errors between
-      → OnOk written (Writes mid end.output_after (total_text filter.counts told))
-      → OnErr written (FailsIn mid end.output_after (total_text filter.counts told))
-      → end.output_after.failed ≡ (mid.failed || is_err written) → status ≡ status_by missed told → end.status ≡ status_of written status
+      → OnOk written (Writes mid end.output_after (total_text (is_count filter.shows) told))
+      → OnErr written (FailsIn mid end.output_after (total_text (is_count filter.shows) told))
+      → end.output_after.failed ≡ (mid.failed || is_err written) → status ≡ status_by (is_enough filter.shows told) missed told → end.status ≡ status_of written status
       → Tells between end.errors_after (end_text written) → FiltersAll filter known names end
   all_ended (Ok done) status old now none same f ok err failed st two tells =
       let counted = counts_from_none old.selected told f.count none (subst (λ n. Counts old.selected n f.count) same f.counted) in
@@ -204,10 +219,10 @@ module _ {W E T F : Type 0} (filter : Filter) (known : KnownLists) (names : List
         missed = missed;
         filters = f.filters;
         ends = inl (
-          puts_then_all _ _ _ _ _ f.output (total_text filter.counts f.count) f.puts
-              (subst (λ t. Writes mid end.output_after t) (total_same filter.counts told f.count counted) ok),
+          puts_then_all _ _ _ _ _ f.output (total_text (is_count filter.shows) f.count) f.puts
+              (subst (λ t. Writes mid end.output_after t) (total_same (is_count filter.shows) told f.count counted) ok),
           tells_same end.errors end.errors_after (f.text ++ []) f.text (append-nil f.text) (tells_more end.errors between end.errors_after f.text [] f.tells tells),
-          two ∙ st ∙ ap (λ (b : Bool). if missed then 2 else if b then 0 else 1) (same_test told f.count counted),
+          two ∙ st ∙ ap (λ (b : Bool). if is_silent filter.shows && b then 0 else if missed then 2 else if b then 0 else 1) (same_test told f.count counted),
         );
       }
   all_ended (Err fault) status old now none same f ok err failed st two tells =
@@ -221,8 +236,8 @@ module _ {W E T F : Type 0} (filter : Filter) (known : KnownLists) (names : List
         ends = inr (
           (
             failed_now end.output_after.failed mid.failed failed,
-            begins_after_puts _ _ _ _ _ f.output (total_text filter.counts f.count) f.puts
-                (subst (λ t. FailsIn mid end.output_after t) (total_same filter.counts told f.count counted) err),
+            begins_after_puts _ _ _ _ _ f.output (total_text (is_count filter.shows) f.count) f.puts
+                (subst (λ t. FailsIn mid end.output_after t) (total_same (is_count filter.shows) told f.count counted) err),
           ),
           tells_more end.errors between end.errors_after f.text (codes "write error\n") f.tells tells,
           two,
@@ -308,15 +323,18 @@ module _ {Z W E : Type 0} (known : KnownLists) (words : List (String Z)) (reques
 
 -- how all logs ended
 pub all_by : {W E T F : Type 0} (filter : Filter) (known : KnownLists) (names : List (List ℕ)) (missed : Bool)
-    (output mid after : Written W) (errors between told_errors : Written E) (status told : ℕ) (written : Result T F) (wanted : ℕ) (old now : Tally) → old.selected ≡ 0 → now.selected ≡ told
+    (output mid after : Written W) (errors between told_errors : Written E) (status told : ℕ) (counts : Bool) (written : Result T F) (wanted : ℕ) (old now : Tally) → old.selected ≡ 0 → now.selected ≡ told
     → FiltersNames filter known names missed (stand output old) (stand mid now) errors between
-    → OnOk written (Writes mid after (total_text filter.counts told))
-    → OnErr written (FailsIn mid after (total_text filter.counts told))
-    → after.failed ≡ (mid.failed || is_err written) → wanted ≡ status_by missed told → status ≡ status_of written wanted
+    → counts ≡ is_count filter.shows
+    → OnOk written (Writes mid after (total_text counts told))
+    → OnErr written (FailsIn mid after (total_text counts told))
+    → after.failed ≡ (mid.failed || is_err written) → wanted ≡ status_by (is_enough filter.shows told) missed told → status ≡ status_of written wanted
     → Tells between told_errors (end_text written)
     → FiltersAll filter known names (ending output after errors told_errors status)
-all_by filter known names missed output mid after errors between told_errors status told written wanted old now none is f ok err failed st two text =
-    all_ended filter known names missed (ending output after errors told_errors status) mid between told written wanted old now none is f ok err failed st two text
+all_by filter known names missed output mid after errors between told_errors status told counts written wanted old now none is f e ok err failed st two text =
+    all_ended filter known names missed (ending output after errors told_errors status) mid between told written wanted old now none is f
+    (subst (λ (b : Bool). OnOk written (Writes mid after (total_text b told))) e ok)
+    (subst (λ (b : Bool). OnErr written (FailsIn mid after (total_text b told))) e err) failed st two text
 
 -- ---- the words with the options in front
 

@@ -1,6 +1,6 @@
 -- How many lines of a log are selected, and how many more may be.
 use Rattle.std.proofs.Common.{◌≡◌, ℕ, ◌+◌, ◌-◌, ◌<◌, ◌≤◌, ◌==◌, ◌∙◌, Bool, true, false, Option, None, Some, refl, sym, ap, arith, true≢false}
-use Rattle.std.specs.Prelude.{nat_lt, nat_le, if◌then◌else◌}
+use Rattle.std.specs.Prelude.{nat_lt, nat_le}
 use Rattle.std.proofs.lemmas.Bool.Decides.{nat_tests}
 use Rattle.cidr_filter.specs.Filters.{is_below, is_within, one_if}
 use Rattle.cidr_filter.specs.Private.Leaving.{less, is_spent}

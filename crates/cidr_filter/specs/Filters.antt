@@ -1,5 +1,5 @@
 -- Which lines of a log are selected.
-use Rattle.std.specs.Prelude.{◌≡◌, ℕ, ◌+◌, ◌-◌, ◌<◌, ◌≤◌, ◌⊎◌, Bool, true, false, not, ◌&&◌, List, [], ◌∷◌, ◌++◌, Option, None, Some, length, take, map, flat_map, slice_get, codes, nat_lt, nat_le, if◌then◌else◌}
+use Rattle.std.specs.Prelude.{◌≡◌, ℕ, ◌+◌, ◌-◌, ◌<◌, ◌≤◌, ◌⊎◌, Bool, true, false, not, List, [], ◌∷◌, ◌++◌, Option, None, Some, length, take, map, flat_map, slice_get, codes, nat_lt, nat_le, if◌then◌else◌}
 use Rattle.std.specs.List.{AllByRecursion}
 use Rattle.std.specs.Option.{option_to_list}
 use Rattle.ipnetwork_addr.specs.declared.ip.IpAddr.{IpAddr}
@@ -15,6 +15,8 @@ use Rattle.cidr_filter.specs.Listed.{IsIn, IsLongestBlock, has_address}
 use Rattle.cidr_filter.specs.declared.filter.WithoutAddress.{WithoutAddress}
 use Rattle.cidr_filter.specs.declared.filter.WithoutAddress.TheVariants as without
 use Rattle.cidr_filter.specs.declared.filter.Filter.{Filter}
+use Rattle.cidr_filter.specs.declared.filter.Shown.{Shown}
+use Rattle.cidr_filter.specs.declared.filter.Shown.TheVariants as shows
 use Rattle.line_addresses.specs.declared.place.Place.{Place}
 use Rattle.line_addresses.specs.declared.place.Place.TheVariants as places
 use Rattle.cidr_filter.specs.declared.filter.Verdict.{Verdict}
@@ -151,14 +153,38 @@ text_of filter address text = if is_listed filter.listed (asked filter.mapped ad
 abbrev pub texts_of : Filter → List Spelled → List ℕ
 texts_of filter found = flat_map (λ one. text_of filter one.address one.text) found
 
--- what is printed of a selected line, which is given without its end, and as it is written: its mark and the line, or
--- with `-o` those of its addresses that are in the lists. What stands first stands before each
-abbrev pub shown_of : Filter → Verdict → List ℕ → List ℕ → List ℕ
-shown_of filter verdict line text = if filter.only then texts_of filter (spelled_at filter.place line) else head_of filter.name ++ (mark_of filter.listed verdict ++ text)
+-- lines are only counted
+abbrev pub is_count : Shown → Bool
+is_count shows.Lines = false
+is_count shows.Addresses = false
+is_count shows.Count = true
+is_count shows.Names = false
+is_count shows.Nothing = false
 
--- what is written for a line: that, if it is selected, and nothing if lines are only counted
+-- nothing is printed, and the run ends at the first selected line
+abbrev pub is_silent : Shown → Bool
+is_silent shows.Lines = false
+is_silent shows.Addresses = false
+is_silent shows.Count = false
+is_silent shows.Names = false
+is_silent shows.Nothing = true
+
+-- what is printed of a selected line, which is given without its end, and as it is written: its mark and the line, or
+-- with `-o` those of its addresses that are in the lists, what stands first before each; or with `-l` the name of its
+-- log; or nothing, with `-c` and with `-q`
+abbrev pub shown_by : Shown → Filter → Verdict → List ℕ → List ℕ → List ℕ
+shown_by shows.Lines filter verdict line text = head_of filter.name ++ (mark_of filter.listed verdict ++ text)
+shown_by shows.Addresses filter verdict line text = texts_of filter (spelled_at filter.place line)
+shown_by shows.Count filter verdict line text = []
+shown_by shows.Names filter verdict line text = filter.name ++ 10 ∷ []
+shown_by shows.Nothing filter verdict line text = []
+
+abbrev pub shown_of : Filter → Verdict → List ℕ → List ℕ → List ℕ
+shown_of filter verdict line text = shown_by filter.shows filter verdict line text
+
+-- what is written for a line: that, if it is selected
 abbrev pub output_of : Filter → Verdict → LogLine → List ℕ
-output_of filter verdict line = if is_selected filter verdict && not filter.counts then shown_of filter verdict (content line) (printed line) else []
+output_of filter verdict line = if is_selected filter verdict then shown_of filter verdict (content line) (printed line) else []
 
 -- fewer lines are selected than may be, or as many at the most
 abbrev pub is_below : Option ℕ → ℕ → Bool
@@ -185,7 +211,7 @@ abbrev pub LastIsSelected : Filter → Type 0 → List LogLine → Type 0
 LastIsSelected filter ends lines = (lines ≡ []) ⊎ ((first : List LogLine) × (line : LogLine) × (verdict : Verdict) × (lines ≡ first ++ line ∷ [])
     × IsWhole ends line × IsVerdict filter (content line) verdict × (is_selected filter verdict ≡ true))
 
--- a log ends with these lines, of which so many are selected: they are as many as may be
+-- no line behind these is asked for, of which so many are selected: they are as many as may be
 pub record AreAll (filter : Filter) (ends : Type 0) (lines : List LogLine) (count : ℕ) : Type 0 where
   pub most : filter.most ≡ Some count
   pub last : LastIsSelected filter ends lines

@@ -44,10 +44,10 @@ is_one_of texts word = list_any (bytes_eq word) texts
 abbrev pub begins_with_one_of : List (List ℕ) → List ℕ → Bool
 begins_with_one_of texts word = list_any (λ text. begins_with text word) texts
 
--- the word is a `-` and letters `v` (byte 118), `c` (99), `a` (97), `w` (119), `o` (111), `H` (72) and `h` (104), one or
--- more
+-- the word is a `-` and letters `v` (byte 118), `c` (99), `a` (97), `w` (119), `o` (111), `H` (72), `h` (104), `l` (108) and
+-- `q` (113), one or more
 abbrev pub are_flags : List ℕ → Bool
-are_flags word = begins_with (codes "-") word && (nat_lt 0 (length (drop 1 word)) && list_all (λ letter. letter == 118 || letter == 99 || letter == 97 || letter == 119 || letter == 111 || letter == 72 || letter == 104) (drop 1 word))
+are_flags word = begins_with (codes "-") word && (nat_lt 0 (length (drop 1 word)) && list_all (λ letter. letter == 118 || letter == 99 || letter == 97 || letter == 119 || letter == 111 || letter == 72 || letter == 104 || letter == 108 || letter == 113) (drop 1 word))
 
 -- a word of an option
 abbrev pub is_option_word : List ℕ → Bool

@@ -1,18 +1,19 @@
 -- Logs that are filtered in turn.
-use Rattle.std.specs.Prelude.{◌≡◌, ℕ, ◌+◌, ◌||◌, ◌⊎◌, Bool, true, false, Option, List, [], ◌∷◌, ◌++◌, if◌then◌else◌, codes, bytes_eq}
+use Rattle.std.specs.Prelude.{◌≡◌, ℕ, ◌+◌, ◌||◌, ◌&&◌, ◌⊎◌, Bool, true, false, Option, List, [], ◌∷◌, ◌++◌, if◌then◌else◌, nat_lt, codes, bytes_eq}
 use Rattle.lists.specs.KnownLists.{KnownLists}
 use Rattle.cidr_filter.specs.Addressed.{lacking_text, closed_text}
-use Rattle.cidr_filter.specs.Filters.{IsVerdict, is_refused, is_below, is_within, Filters, AreAll}
+use Rattle.cidr_filter.specs.Filters.{IsVerdict, is_refused, is_silent, is_below, is_within, Filters, AreAll}
 use Rattle.program.specs.LogLines.{LogLine, log_lines}
 use Rattle.program.specs.Logs.{IsAllOf, IsFirstOf}
 use Rattle.cidr_filter.specs.declared.filter.Filter.{Filter}
+use Rattle.cidr_filter.specs.declared.filter.Shown.{Shown}
 use Rattle.cidr_filter.specs.declared.filter.Verdict.TheVariants as verdicts
 use Rattle.program.specs.declared.log_fault.LogFault.{LogFault}
 use Rattle.program.specs.declared.log_fault.LogFault.TheVariants as faults
 use Rattle.lists.specs.declared.opening.OpenFault.{OpenFault}
 
--- a log as it is called before its lines: standard input `(standard input)`, and others by their name; not at all
--- without `-H`
+-- a log as it is called before its lines, or in place of them: standard input `(standard input)`, and others by their
+-- name; not at all without `-H` and `-l`
 abbrev pub label_of : Bool → List ℕ → List ℕ
 label_of named name = if named then if bytes_eq name (codes "-") then codes "(standard input)" else name else []
 
@@ -35,15 +36,29 @@ LeavesLog filter known name output selected told = (read : List ℕ) × (lines :
 abbrev pub MissesLog : KnownLists → List ℕ → List ℕ → ℕ → List ℕ → Type 0
 MissesLog known name output selected told = (fault : OpenFault) × known.may_open name false × known.may_miss name fault × (output ≡ []) × (selected ≡ 0) × (told ≡ closed_text name fault)
 
--- the logs of these names were read to their ends, or left, or could not be opened, one after the other: this is the output of
--- their lines, this many of them were selected, this is reported, and whether one could not be opened
+-- whether the run ends behind logs of which so many lines are selected: with `-q`, if there is one
+abbrev pub is_enough : Shown → ℕ → Bool
+is_enough shown selected = is_silent shown && nat_lt 0 selected
+
+-- nothing came of no log
+abbrev pub NoLogs : List ℕ → ℕ → List ℕ → Bool → Type 0
+NoLogs output selected told missed = (output ≡ []) × (selected ≡ 0) × (told ≡ []) × (missed ≡ false)
+
+-- behind a log that is enough no other is opened. Behind another this is true
+abbrev pub GoesOn : Bool → Type 0 → List ℕ → ℕ → List ℕ → Bool → Type 0
+GoesOn true goes output selected told missed = NoLogs output selected told missed
+GoesOn false goes output selected told missed = goes
+
+-- the logs of these names were read to their ends, or left, or could not be opened, one after the other, up to the first
+-- that is enough: this is the output of their lines, this many of them were selected, this is reported, and whether one
+-- could not be opened
 abbrev pub FiltersLogs : Filter → KnownLists → List (List ℕ) → List ℕ → ℕ → List ℕ → Bool → Type 0
-FiltersLogs filter known [] output selected told missed = (output ≡ []) × (selected ≡ 0) × (told ≡ []) × (missed ≡ false)
+FiltersLogs filter known [] output selected told missed = NoLogs output selected told missed
 FiltersLogs filter known (name ∷ names) output selected told missed = (added : List ℕ) × (others : List ℕ) × (one : ℕ) × (more : ℕ) × (text : List ℕ) × (texts : List ℕ)
     × (is_missed : Bool) × (are_missed : Bool)
     × ((ReadsLog filter known name added one text × (is_missed ≡ false)) ⊎ ((LeavesLog filter known name added one text × (is_missed ≡ false))
     ⊎ (MissesLog known name added one text × (is_missed ≡ true))))
-    × FiltersLogs filter known names others more texts are_missed
+    × GoesOn (is_enough filter.shows one) (FiltersLogs filter known names others more texts are_missed) others more texts are_missed
     × (output ≡ added ++ others) × (selected ≡ one + more) × (told ≡ text ++ texts) × (missed ≡ (is_missed || are_missed))
 
 -- so many lines of a log are selected where it ends a run, by the fault: fewer than may be, and at a failed write as many

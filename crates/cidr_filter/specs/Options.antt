@@ -58,9 +58,11 @@ text_option text = if length text == 0 then None else Some choices.Text
 abbrev pub after_option : List ℕ → Option Choice
 after_option text = if length text == 0 then None else Some choices.After
 
--- `-v`, `-c`, `-a`, `-w`, `-o`, `-H` and `-h`: their letters after one `-`, in any order
+-- `-v`, `-c`, `-a`, `-w`, `-o`, `-H`, `-h`, `-l` and `-q`: their letters after one `-`, in any order
 abbrev pub is_letter : ℕ → Bool
-is_letter letter = letter == 118 || letter == 99 || letter == 97 || letter == 119 || letter == 111 || letter == 72 || letter == 104
+is_letter letter =
+    letter == 118 || letter == 99 || letter == 97 || letter == 119 || letter == 111 || letter == 72 || letter == 104 || letter == 108
+    || letter == 113
 
 abbrev pub letters_in : List ℕ → Letters
 letters_in text = record {
@@ -71,6 +73,8 @@ letters_in text = record {
   only = list_any (λ letter. letter == 111) text;
   named = list_any (λ letter. letter == 72) text;
   unnamed = list_any (λ letter. letter == 104) text;
+  names = list_any (λ letter. letter == 108) text;
+  quiet = list_any (λ letter. letter == 113) text;
 }
 
 abbrev pub letters_option : List ℕ → Option Choice
@@ -128,6 +132,8 @@ either first second = record {
   only = first.only || second.only;
   named = first.named || second.named;
   unnamed = first.unnamed || second.unnamed;
+  names = first.names || second.names;
+  quiet = first.quiet || second.quiet;
 }
 
 -- the request with an option added: of each option the last is said, and letters stay
@@ -147,7 +153,17 @@ with_option request choices.Text = record request { has_list = true }
 -- without options no place of the address is said, bad lines are dropped, and all lines may be selected
 abbrev pub no_options : Request
 no_options = record {
-  letters = record { inverts = false; counts = false; anywhere = false; words = false; only = false; named = false; unnamed = false };
+  letters = record {
+    inverts = false;
+    counts = false;
+    anywhere = false;
+    words = false;
+    only = false;
+    named = false;
+    unnamed = false;
+    names = false;
+    quiet = false;
+  };
   field = None;
   separator = None;
   most = None;

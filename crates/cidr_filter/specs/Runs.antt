@@ -1,5 +1,5 @@
 -- How a run ends: its exit status, what was written, and what was reported.
-use Rattle.std.specs.Prelude.{◌≡◌, ℕ, ◌-◌, ◌^◌, min, List, [], ◌∷◌, ◌++◌, Bool, true, false, ◌⊎◌, if◌then◌else◌, length, map, nat_lt, take, drop, codes, decimal, String}
+use Rattle.std.specs.Prelude.{◌≡◌, ℕ, ◌-◌, ◌^◌, min, List, [], ◌∷◌, ◌++◌, Bool, true, false, ◌||◌, ◌⊎◌, Option, None, Some, if◌then◌else◌, length, map, nat_lt, take, drop, codes, decimal, String}
 use Rattle.std.specs.String.{string_bytes}
 use Rattle.std.specs.Option.{unwrap_or}
 use Rattle.lists.specs.Lists.{ReadLists, nothing_read}
@@ -14,10 +14,10 @@ use Rattle.lists.specs.KnownLists.{KnownLists}
 use Rattle.program.specs.Usage.{usage_text}
 use Rattle.cidr_filter.specs.Arranged.{arranged}
 use Rattle.cidr_filter.specs.CommandLines.{Says, AsksNothing}
-use Rattle.cidr_filter.specs.Filters.{Filters}
+use Rattle.cidr_filter.specs.Filters.{Filters, is_count}
 use Rattle.program.specs.LogFaults.{log_fault_text, FailsWriting, Wrote}
 use Rattle.program.specs.Logs.{logs_of, HaltsBy}
-use Rattle.cidr_filter.specs.Logs.{FiltersLogs, EndsRunBy, is_short, filter_for}
+use Rattle.cidr_filter.specs.Logs.{FiltersLogs, is_enough, EndsRunBy, is_short, filter_for}
 use Rattle.cidr_filter.specs.Reading.{IsReadOf, Stops, HoldsRead}
 use Rattle.program.specs.LogLines.{LogLine}
 use Rattle.cidr_filter.specs.Options.{text_after}
@@ -25,6 +25,9 @@ use Rattle.cidr_filter.specs.Told.{in_option}
 use Rattle.cidr_filter.specs.Usage.{problem_text, HasFault}
 use Rattle.cidr_filter.specs.declared.command_line.Request.{Request}
 use Rattle.cidr_filter.specs.declared.filter.Filter.{Filter}
+use Rattle.cidr_filter.specs.declared.filter.Shown.{Shown}
+use Rattle.cidr_filter.specs.declared.filter.Shown.TheVariants as shows
+use Rattle.cidr_filter.specs.declared.options.Letters.{Letters}
 use Rattle.line_addresses.specs.declared.place.Place.{Place}
 use Rattle.line_addresses.specs.declared.place.Place.TheVariants as places
 use Rattle.cidr_filter.specs.declared.listed.Listed.{Listed}
@@ -47,6 +50,7 @@ pub record StopsAtLog {W E : Type 0} (filter : Filter) (known : KnownLists) (nam
   pub fault : LogFault
   pub logs : names ≡ before ++ name ∷ behind
   pub filters : FiltersLogs filter known before output selected texts missed
+  pub few : is_enough filter.shows selected ≡ false
   pub first : Filters (filter_for filter name) lines added more
   pub short : is_short fault filter.most more ≡ true
   pub halts : HaltsBy (EndsRunBy filter) known name lines fault
@@ -58,9 +62,10 @@ pub record StopsAtLog {W E : Type 0} (filter : Filter) (known : KnownLists) (nam
 abbrev pub total_text : Bool → ℕ → List ℕ
 total_text counts selected = if counts then decimal (min selected (2 ^ 64 - 1)) ++ codes "\n" else []
 
--- the status is 2 if a log could not be opened, and else 0 if a line was selected, and 1 if none was
-abbrev pub status_by : Bool → ℕ → ℕ
-status_by missed selected = if missed then 2 else if nat_lt 0 selected then 0 else 1
+-- the status is 0 if a line was selected with `-q`. Else it is 2 if a log could not be opened, and else 0 if a line was
+-- selected, and 1 if none was
+abbrev pub status_by : Bool → Bool → ℕ → ℕ
+status_by enough missed selected = if enough then 0 else if missed then 2 else if nat_lt 0 selected then 0 else 1
 
 -- all logs were filtered to their ends, or left, but those that could not be opened
 pub record FiltersAll {W E : Type 0} (filter : Filter) (known : KnownLists) (names : List (List ℕ)) (end : Ending W E) : Type 0 where
@@ -71,8 +76,9 @@ pub record FiltersAll {W E : Type 0} (filter : Filter) (known : KnownLists) (nam
   pub filters : FiltersLogs filter known names output selected texts missed
   -- their output was written, and what there is to report of them was reported; or the writer failed, and that was
   -- reported after it
-  pub ends : (HasWritten end (output ++ total_text filter.counts selected) × HasTold end texts × (end.status ≡ status_by missed selected))
-      ⊎ (FailsWriting end (output ++ total_text filter.counts selected) × HasTold end (texts ++ codes "write error\n") × (end.status ≡ 2))
+  pub ends : (HasWritten end (output ++ total_text (is_count filter.shows) selected) × HasTold end texts
+      × (end.status ≡ status_by (is_enough filter.shows selected) missed selected))
+      ⊎ (FailsWriting end (output ++ total_text (is_count filter.shows) selected) × HasTold end (texts ++ codes "write error\n") × (end.status ≡ 2))
 
 -- the logs were filtered, in turn
 abbrev pub EndsLogs : {W E : Type 0} → Filter → KnownLists → List (List ℕ) → Ending W E → Type 0
@@ -87,6 +93,27 @@ place_of words request =
     else if request.letters.words then places.Word (unwrap_or request.field 1)
     else places.Field (unwrap_or request.field 1) (unwrap_or request.separator 32)
 
+-- how many lines of a log are selected at the most: with `-q` and with `-l` one is enough
+abbrev pub up_to_one : Option ℕ → Option ℕ
+up_to_one None = Some 1
+up_to_one (Some most) = Some (min most 1)
+
+abbrev pub most_of : Letters → Option ℕ → Option ℕ
+most_of letters most = if letters.quiet || letters.names then up_to_one most else most
+
+-- what is printed: of `-q`, `-l`, `-c` and `-o` the first that is given says it
+abbrev pub shows_of : Letters → Shown
+shows_of letters =
+    if letters.quiet then shows.Nothing
+    else if letters.names then shows.Names
+    else if letters.counts then shows.Count
+    else if letters.only then shows.Addresses
+    else shows.Lines
+
+-- the name of its log is printed of a line
+abbrev pub is_named : Letters → Bool
+is_named letters = letters.named || letters.names
+
 -- the filter of a request
 abbrev pub filter_of : {Z : Type 0} → List (String Z) → Request → Listed → Filter
 filter_of words request listed = record {
@@ -95,10 +122,9 @@ filter_of words request listed = record {
   mapped = request.mapped;
   inverts = request.letters.inverts;
   bad = request.bad;
-  most = request.most;
-  counts = request.letters.counts;
-  only = request.letters.only;
-  named = request.letters.named;
+  most = most_of request.letters request.most;
+  shows = shows_of request.letters;
+  named = is_named request.letters;
   name = [];
 }
 

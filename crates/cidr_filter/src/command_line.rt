@@ -1,5 +1,5 @@
 //! What the arguments ask for.
-ghost use Rattle.std.specs.Prelude.{◌≡◌, ◌+◌, ◌^◌, ◌<◌, ◌≤◌, drop, length, nat_le, IfOk, IfErr};
+ghost use Rattle.std.specs.Prelude.{◌≡◌, ◌||◌, ◌+◌, ◌^◌, ◌<◌, ◌≤◌, drop, length, nat_le, IfOk, IfErr};
 ghost use Rattle.cidr_filter.specs.CommandLines.{crossed_problem, is_placed, inputs_among, Says, AsksNothing};
 ghost use Rattle.cidr_filter.specs.Options.{with_option, either};
 ghost use Rattle.cidr_filter.specs.Private.Requests.{BeginsWith, behind_dashes};
@@ -70,6 +70,8 @@ fn options_of(words: &[String]) -> Request
             only: false,
             named: false,
             unnamed: false,
+            names: false,
+            quiet: false,
         },
         field: None,
         separator: None,
@@ -193,14 +195,23 @@ fn either(first: Letters, second: Letters) -> Letters
     ensures { result ≡ either first second }
 {
     Letters {
-        inverts: first.inverts || second.inverts,
-        counts: first.counts || second.counts,
-        anywhere: first.anywhere || second.anywhere,
-        words: first.words || second.words,
-        only: first.only || second.only,
-        named: first.named || second.named,
-        unnamed: first.unnamed || second.unnamed,
+        inverts: one_of(first.inverts, second.inverts),
+        counts: one_of(first.counts, second.counts),
+        anywhere: one_of(first.anywhere, second.anywhere),
+        words: one_of(first.words, second.words),
+        only: one_of(first.only, second.only),
+        named: one_of(first.named, second.named),
+        unnamed: one_of(first.unnamed, second.unnamed),
+        names: one_of(first.names, second.names),
+        quiet: one_of(first.quiet, second.quiet),
     }
+}
+
+// Whether one of two is so.
+fn one_of(first: bool, second: bool) -> bool
+    ensures { result ≡ (first || second) }
+{
+    first || second
 }
 
 // Whether the sum is at most one.

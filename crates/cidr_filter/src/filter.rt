@@ -2,7 +2,7 @@
 ghost use Rattle.std.specs.Prelude.{◌≡◌, ◌≤◌, ◌||◌, Some, MatchOption};
 ghost use Rattle.line_addresses.specs.Addresses.{addresses_of};
 ghost use Rattle.cidr_filter.specs.Addressed.{is_addressed_by};
-ghost use Rattle.cidr_filter.specs.Filters.{is_listed, IsVerdict, IsVerdictOfAddresses, IsListed, TellsBlock, asked, asked_of, of_part, of_rest, spelled_at, is_selected, is_refused};
+ghost use Rattle.cidr_filter.specs.Filters.{is_listed, IsVerdict, IsVerdictOfAddresses, IsListed, TellsBlock, asked, asked_of, of_part, of_rest, spelled_at, is_selected, is_refused, is_count, is_silent};
 
 use crate::listed::Listed;
 use ipnetwork::{IpAddr, IpNetwork};
@@ -25,7 +25,8 @@ pub enum WithoutAddress {
 /// What a line is to a list.
 #[derive(Clone, Copy, Debug, PartialEq, Eq)]
 pub enum Verdict {
-    /// An address of it is one of the lists. With `--longest`, this is the longest block that holds the first of these.
+    /// An address of it is one of the lists. With `--longest`, this is the longest block that holds
+    /// the first of these.
     Inside(Option<IpNetwork>),
     /// It has addresses, and none is one of the lists.
     Outside,
@@ -56,7 +57,22 @@ impl Verdict {
     }
 }
 
-/// What decides which lines are selected.
+/// What is printed.
+#[derive(Clone, Copy, Debug, PartialEq, Eq)]
+pub enum Shown {
+    /// The selected lines.
+    Lines,
+    /// Their addresses that are in the list, in place of them.
+    Addresses,
+    /// How many lines are selected.
+    Count,
+    /// The name of each log that has a selected line.
+    Names,
+    /// Nothing, and the run ends at the first selected line.
+    Nothing,
+}
+
+/// What decides which lines are selected, and what is printed of them.
 #[derive(Drop)]
 pub struct Filter<'a> {
     pub(crate) listed: Listed,
@@ -65,15 +81,14 @@ pub struct Filter<'a> {
     pub(crate) mapped: bool,
     pub(crate) inverts: bool,
     pub(crate) bad: WithoutAddress,
-    /// How many lines of a log are selected at the most, if that is said: the log ends at the last of them.
+    /// How many lines of a log are selected at the most, if that is said: the log ends at the last
+    /// of them.
     pub(crate) most: Option<u64>,
-    /// Whether the selected lines are only counted.
-    pub(crate) counts: bool,
-    /// Whether their addresses that are in the list are printed in place of them.
-    pub(crate) only: bool,
-    /// Whether the name of its log stands before what is printed of a line.
+    /// What is printed.
+    pub(crate) shows: Shown,
+    /// Whether the name of its log is printed of a line.
     pub(crate) named: bool,
-    /// That name, if it does. It is empty if it does not.
+    /// That name, if it is. It is empty if it is not.
     pub(crate) name: Text<'a>,
 }
 
@@ -182,8 +197,8 @@ impl Filter<'_> {
         }
     }
 
-    /// Whether an address of a line is printed in place of it: whether it is in the list. Of blocks none is, since `-o` is
-    /// not given together with `--longest`.
+    /// Whether an address of a line is printed in place of it: whether it is in the list. Of blocks
+    /// none is, since `-o` is not given together with `--longest`.
     pub(crate) fn prints(&self, address: IpAddr) -> bool
         ensures { result ≡ is_listed self.now.listed (asked self.now.mapped address) }
     {
@@ -201,6 +216,26 @@ impl Filter<'_> {
             unmapped(address)
         } else {
             address
+        }
+    }
+
+    /// Whether the selected lines are only counted.
+    pub(crate) fn counts(&self) -> bool
+        ensures { result ≡ is_count self.now.shows }
+    {
+        match self.shows {
+            Shown::Count => true,
+            Shown::Lines | Shown::Addresses | Shown::Names | Shown::Nothing => false,
+        }
+    }
+
+    /// Whether nothing is printed, and the run ends at the first selected line.
+    pub(crate) fn is_silent(&self) -> bool
+        ensures { result ≡ is_silent self.now.shows }
+    {
+        match self.shows {
+            Shown::Nothing => true,
+            Shown::Lines | Shown::Addresses | Shown::Count | Shown::Names => false,
         }
     }
 

@@ -24,6 +24,10 @@ Prints the lines of logs whose address is in a list of IP networks.
     -v              print the lines whose address is in no network; with -a those that have
                     addresses, none of which is
     -c              print how many lines are selected, over all FILEs
+    -l              print the name of each FILE that has a selected line, or (standard input), in
+                    place of lines; no more of it is read behind that line
+    -q              print nothing, and end at the first selected line, with status 0 also if a FILE
+                    before it cannot be opened. Of -q, -l, -c and -o the first in this order counts
     -m N            at most N lines of each FILE are selected: behind the last no more of it is read
     -H              before a line print the name of its FILE, or (standard input), and a colon. Not
                     with -c or -h
@@ -45,7 +49,7 @@ has at most 1,048,576 bytes; a longer one has no address, and ends the program u
 dropped. A FILE that cannot be opened is reported, and the others are read. So is a FILE with lines
 of which none has an address where it is looked for.
 
-Status: 0 if a line was printed or counted, 1 if none was, 2 on wrong usage, a refused line, a file
+Status: 0 if a line was selected, 1 if none was, 2 on wrong usage, a refused line, a file
 that cannot be opened or read, a failed write or out of memory, 141 if standard output is a pipe
 that nobody reads any more.
 
@@ -62,6 +66,7 @@ pub(crate) const VERSION: &str = "cidr_filter 0.1.0\n";
 /// The name of the program.
 pub(crate) const PROGRAM: &str = "cidr_filter";
 
-/// How the program is used: what is reported for arguments that are not a command, after what is wrong with them.
+/// How the program is used: what is reported for arguments that are not a command, after what is
+/// wrong with them.
 pub(crate) const USAGE: &str =
-    "usage: cidr_filter [-v] [-c | -H] [-h] [-o] [-m N] [-a | --after TEXT | [-k N] [-d CHAR | -w]] [--mapped] [--bad drop|keep|stop] [--longest] (-f LIST | -e TEXT).. [FILE..]; try --help\n";
+    "usage: cidr_filter [-v] [-c | -H] [-h] [-l] [-q] [-o] [-m N] [-a | --after TEXT | [-k N] [-d CHAR | -w]] [--mapped] [--bad drop|keep|stop] [--longest] (-f LIST | -e TEXT).. [FILE..]; try --help\n";

@@ -1,10 +1,11 @@
-//! What follows from the clauses of a command line and of a log. Each function's contract is a law: it does nothing, and a proof that calls it
-//! may use the law.
+//! What follows from the clauses of a command line and of a log. Each function's contract is a law:
+//! it does nothing, and a proof that calls it may use the law.
 ghost use Rattle.cidr_filter.specs.Laws.{OthersAreNoOptions, OthersAskForNothing, WordsHaveOneFault, LinesHaveOneVerdict, LogsHaveOneOutput, OutputsOfPartsFollow, LinesThatEndRunsAreWhole};
 
 use ipnetwork_table::laws::blocks_of_any_width_that_meet;
 
-/// A line is one thing to a list, and only one. So a log has at most one output, and as many lines of it are selected.
+/// A line is one thing to a list, and only one. So a log has at most one output, and as many lines
+/// of it are selected.
 pub fn a_log_has_one_output()
     ensures line { LinesHaveOneVerdict }
     ensures log { LogsHaveOneOutput }
@@ -12,19 +13,20 @@ pub fn a_log_has_one_output()
     blocks_of_any_width_that_meet();
 }
 
-/// If a log is cut directly after a line feed, its output is that of the first part and then that of the second.
+/// If a log is cut directly after a line feed, its output is that of the first part and then that
+/// of the second.
 pub fn outputs_of_parts_follow()
     ensures { OutputsOfPartsFollow }
 {}
 
-/// A line that ends a run ends it whatever comes after what was read: it is a line of the log, in its place, that is
-/// refused for the same reason.
+/// A line that ends a run ends it whatever comes after what was read: it is a line of the log, in
+/// its place, that is refused for the same reason.
 pub fn lines_that_end_runs_are_whole()
     ensures { LinesThatEndRunsAreWhole }
 {}
 
-/// A word other than those of the options is none of them, whatever follows it. If it begins with a `-`, and is neither
-/// `-` nor `--`, then the words ask for nothing where it stands behind options.
+/// A word other than those of the options is none of them, whatever follows it. If it begins with a
+/// `-`, and is neither `-` nor `--`, then the words ask for nothing where it stands behind options.
 pub fn other_words_are_no_options(words: &[String])
     ensures option { OthersAreNoOptions words.now }
     ensures command { OthersAskForNothing words.now }

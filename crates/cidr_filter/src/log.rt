@@ -1,5 +1,5 @@
 //! Filters the lines of a log.
-ghost use Rattle.std.specs.Prelude.{◌≡◌, ◌||◌, ◌≤◌, ◌++◌, [], ℕ, List, Option, if◌then◌else◌, IsTrue, OnOk, OnErr, IfErr, IfOk, IsOkUnless, Err};
+ghost use Rattle.std.specs.Prelude.{◌≡◌, ◌||◌, ◌≤◌, ◌++◌, [], ℕ, List, Option, IsTrue, OnOk, OnErr, IfErr, IfOk, IsOkUnless, Err};
 ghost use Rattle.lines.specs.Outputs.{AppendsBeginning};
 ghost use Rattle.lines.specs.Watched.{device_of, has_failed};
 ghost use Rattle.program.specs.LogFaults.{ended_by_read, ended_by_write};
@@ -41,11 +41,12 @@ pub struct Tally {
     pub is_addressed: bool,
 }
 
-/// Filters the lines of a log, up to the last that may be selected: those that are selected are written, or only counted.
-/// No line behind that is asked for, so that no read is made for it.
+/// Filters the lines of a log, up to the last that may be selected: those that are selected are
+/// written, or only counted. No line behind that is asked for, so that no read is made for it.
 ///
-/// What is selected of the lines that a read completes is written before the next read. After a failed read nothing is
-/// written. A line that is too long ends the run even if its end was not read.
+/// What is selected of the lines that a read completes is written before the next read. After a
+/// failed read nothing is written. A line that is too long ends the run even if its end was not
+/// read.
 pub fn filter_log<R: Read, W: Write>(
     filter: &Filter,
     log: &mut LogReader<'_>,
@@ -67,8 +68,8 @@ pub fn filter_log<R: Read, W: Write>(
         (has_failed reader.new) output.new.failed
         (stand output.old tally.old)
         (stand output.new tally.new)) }
-    // A device has failed exactly if it had failed before, or its failure ended the log. So nothing is written after a
-    // read that failed.
+    // A device has failed exactly if it had failed before, or its failure ended the log. So nothing
+    // is written after a read that failed.
     ensures reader_failed { has_failed reader.new ≡ (has_failed reader.old || ended_by_read result) }
     ensures writer_failed { output.new.failed ≡ (output.old.failed || ended_by_write result) }
     ensures written { OnOk result (output.new.waits ≡ []) }
@@ -106,7 +107,8 @@ pub fn filter_log<R: Read, W: Write>(
     }
 }
 
-// Filters a line within the limit, and returns whether it is selected. `whole` is the line as it was read, with its end.
+// Filters a line within the limit, and returns whether it is selected. `whole` is the line as it
+// was read, with its end.
 fn filter_line<W: Write>(
     filter: &Filter,
     line: &[u8],
@@ -138,7 +140,7 @@ fn filter_line<W: Write>(
     }
 }
 
-// Counts a line, and writes what is printed of it unless lines are only counted.
+// Counts a line, and writes what is printed of it.
 fn select_line<W: Write>(
     filter: &Filter,
     verdict: &Verdict,
@@ -150,21 +152,16 @@ fn select_line<W: Write>(
 ) -> Result<(), LogFault>
     ensures ok { OnOk result (Goes
         (stand output.old tally.old) (stand output.new tally.new)
-        (if filter.now.counts then []
-        else shown_of filter.now verdict.now line.now (whole.now ++ feed_behind end)) 1 0) }
+        (shown_of filter.now verdict.now line.now (whole.now ++ feed_behind end)) 1 0) }
     ensures err { OnErr result (IsTrue output.new.failed) }
     ensures beginning { OnErr result (AppendsBeginning
         output.old.holds output.new.holds (output.old.waits
-        ++ (if filter.now.counts then []
-        else shown_of filter.now verdict.now line.now (whole.now ++ feed_behind end)))) }
+        ++ shown_of filter.now verdict.now line.now (whole.now ++ feed_behind end))) }
     ensures fault { IsOkUnless result LogFault.Write }
     ensures addressed { tally.new.is_addressed ≡ tally.old.is_addressed }
     ensures writer_failed { output.new.failed ≡ (output.old.failed || ended_by_write result) }
 {
     tally.selected = tally.selected.saturating_add(1);
-    if filter.counts {
-        return Ok(());
-    }
     match print_selected(filter, verdict, line, whole, end, output) {
         Ok(()) => Ok(()),
         Err(_) => Err(LogFault::Write),

@@ -1,5 +1,5 @@
 //! Filters the logs of a run in turn.
-ghost use Rattle.std.specs.Prelude.{◌≡◌, ◌≤◌, ◌++◌, ◌||◌, ◌∷◌, [], decimal, length, is_err, OnOk, OnErr, MatchOption};
+ghost use Rattle.std.specs.Prelude.{◌≡◌, ◌≤◌, ◌++◌, ◌||◌, ◌&&◌, ◌∷◌, [], decimal, length, nat_lt, is_err, OnOk, OnErr, MatchOption};
 ghost use Rattle.std.specs.Io.KnownBytes.{Appends};
 ghost use Rattle.lines.specs.Outputs.{Prints, Writes, FailsIn};
 ghost use Rattle.program.specs.Endings.{ending};
@@ -30,7 +30,8 @@ const SELECTED: u8 = 0;
 /// The exit status if none was.
 const NONE_SELECTED: u8 = 1;
 
-/// Filters the logs of these names in their order, or standard input if there is no name, and returns the exit status.
+/// Filters the logs of these names in their order, or standard input if there is no name, and
+/// returns the exit status.
 pub(crate) fn filter_logs<'a, L: OpenLists, W: Write, E: Write>(
     filter: &mut Filter<'a>,
     files: &'a [String],
@@ -48,18 +49,21 @@ pub(crate) fn filter_logs<'a, L: OpenLists, W: Write, E: Write>(
         lines: 0,
         is_addressed: false,
     };
-    let counts = filter.counts;
+    let counts = filter.counts();
+    let is_silent = filter.is_silent();
     match filter_each(filter, files, lists, buffer, output, &mut tally, errors) {
         Some(missed) => {
             let written = write_end(counts, tally.selected, output);
-            end(written, status(missed, tally.selected), errors)
+            let is_enough = is_enough(is_silent, tally.selected);
+            end(written, status(is_enough, missed, tally.selected), errors)
         }
         None => FAILED,
     }
 }
 
-// Filters the logs of these names, or standard input, and returns whether one of them could not be opened, which is
-// reported. If one that was opened did not come to its end, the cause is reported, and there is no answer.
+// Filters the logs of these names, or standard input, up to the first that is enough, and returns
+// whether one of them could not be opened, which is reported. If a fault ends the filtering of one
+// that was opened, it is reported, and there is no answer.
 fn filter_each<'a, L: OpenLists, W: Write, E: Write>(
     filter: &mut Filter<'a>,
     files: &'a [String],
@@ -69,7 +73,8 @@ fn filter_each<'a, L: OpenLists, W: Write, E: Write>(
     tally: &mut Tally,
     errors: &mut Output<'_, E>,
 ) -> Option<bool>
-    requires { 1048578 ≤ length buffer.old }
+    requires room { 1048578 ≤ length buffer.old }
+    requires none { tally.old.selected ≡ 0 }
     ensures logs { MatchOption result
         (StopsAtLog filter.old (L.known lists.now) (logs_of files.now)
         (ending output.old output.new errors.old errors.new 2))
@@ -81,6 +86,7 @@ fn filter_each<'a, L: OpenLists, W: Write, E: Write>(
         let input = "-";
         return filter_one(filter, input, lists, buffer, output, tally, errors);
     }
+    let is_silent = filter.is_silent();
     let mut missed = false;
     for file in files {
         let name = file.as_str();
@@ -88,8 +94,18 @@ fn filter_each<'a, L: OpenLists, W: Write, E: Write>(
             return None;
         };
         missed = either(missed, more);
+        if is_enough(is_silent, tally.selected) {
+            return Some(missed);
+        }
     }
     Some(missed)
+}
+
+// Whether the run ends behind logs of which so many lines are selected.
+fn is_enough(is_silent: bool, selected: u64) -> bool
+    ensures { result ≡ (is_silent && nat_lt 0 selected) }
+{
+    is_silent && selected > 0
 }
 
 // Whether one of two is so.
@@ -99,7 +115,8 @@ fn either(first: bool, second: bool) -> bool
     first || second
 }
 
-// Opens the log of this name and filters it, and returns whether it could not be opened, as `filter_each` does.
+// Opens the log of this name and filters it, and returns whether it could not be opened, as
+// `filter_each` does.
 fn filter_one<'a, L: OpenLists, W: Write, E: Write>(
     filter: &mut Filter<'a>,
     name: &'a str,
@@ -182,11 +199,14 @@ fn put_number<W: Write>(number: u64, output: &mut Output<'_, W>) -> Result<(), R
     output.put(number_text(number).as_str().as_bytes())
 }
 
-// The exit status by whether a log could not be opened, and how many lines were selected.
-fn status(missed: bool, selected: u64) -> u8
-    ensures { result ≡ status_by missed selected }
+// The exit status by whether the selected lines end the run, whether a log could not be opened, and
+// how many lines were selected.
+fn status(is_enough: bool, missed: bool, selected: u64) -> u8
+    ensures { result ≡ status_by is_enough missed selected }
 {
-    if missed {
+    if is_enough {
+        SELECTED
+    } else if missed {
         FAILED
     } else if selected > 0 {
         SELECTED

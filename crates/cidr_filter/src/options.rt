@@ -1,6 +1,6 @@
 //! The options of a command line, one at a time.
-ghost use Rattle.std.specs.Prelude.{[], ◌≡◌, ◌-◌, ◌^◌, ◌<◌, ◌≤◌, drop, length, min};
-ghost use Rattle.std.specs.List.{list_all};
+ghost use Rattle.std.specs.Prelude.{[], ◌≡◌, ◌==◌, ◌-◌, ◌^◌, ◌<◌, ◌≤◌, drop, length, min};
+ghost use Rattle.std.specs.List.{list_all, list_any};
 ghost use Rattle.std.specs.Char.{is_ascii_digit};
 ghost use Rattle.cidr_filter.specs.Options.{is_letter, number_of, takes_next, behind_option, option_of, in_one_word, in_two_words, is_list, letters_option, letters_in, file_option, text_option, field_option, separator_option, most_option, bad_option, after_option, text_after, said_after, or_last};
 
@@ -24,6 +24,10 @@ pub struct Letters {
     pub named: bool,
     /// `h`: it does not, as without an option.
     pub unnamed: bool,
+    /// `l`: the names of FILEs are printed in place of their lines.
+    pub names: bool,
+    /// `q`: nothing is printed.
+    pub quiet: bool,
 }
 
 /// An option.
@@ -162,14 +166,23 @@ fn letters_in(letters: &[u8]) -> Letters
     ensures { result ≡ letters_in letters.now }
 {
     Letters {
-        inverts: letters.contains(&b'v'),
-        counts: letters.contains(&b'c'),
-        anywhere: letters.contains(&b'a'),
-        words: letters.contains(&b'w'),
-        only: letters.contains(&b'o'),
-        named: letters.contains(&b'H'),
-        unnamed: letters.contains(&b'h'),
+        inverts: has(letters, b'v'),
+        counts: has(letters, b'c'),
+        anywhere: has(letters, b'a'),
+        words: has(letters, b'w'),
+        only: has(letters, b'o'),
+        named: has(letters, b'H'),
+        unnamed: has(letters, b'h'),
+        names: has(letters, b'l'),
+        quiet: has(letters, b'q'),
     }
+}
+
+// Whether a letter is among these.
+fn has(letters: &[u8], letter: u8) -> bool
+    ensures { result ≡ list_any (λ one. one == letter) letters.now }
+{
+    letters.contains(&letter)
 }
 
 // Whether there are only letters of options.
@@ -195,6 +208,8 @@ pub(crate) fn is_letter(letter: u8) -> bool
         || letter == b'o'
         || letter == b'H'
         || letter == b'h'
+        || letter == b'l'
+        || letter == b'q'
 }
 
 // `-f` with this value.

@@ -4,10 +4,10 @@ ghost use Rattle.lines.specs.Outputs.{Puts, AppendsBeginning, Prints, FailsIn};
 ghost use Rattle.cidr_filter.specs.Filters.{head_of, mark_of, block_text, block_in, shown_of};
 ghost use Rattle.program.specs.LogLines.{feed_behind};
 
-use crate::filter::{Filter, Verdict};
+use crate::filter::{Filter, Shown, Verdict};
 use crate::listed::Listed;
 use crate::naming::put_head;
-use crate::printing_addresses::print_addresses;
+use crate::printing_addresses::{print_addresses, put_text};
 use ipnetwork::IpNetwork;
 use lines::fault::RunFault;
 use lines::line_end::LineEnd;
@@ -15,8 +15,7 @@ use lines::output::Output;
 use program::log_reader::put_feed;
 use std::io::Write;
 
-/// Writes what is printed of a line of this verdict, which is given without its end too: with `-o` its addresses that are
-/// in the list.
+/// Writes what is printed of a line of this verdict, which is given without its end too.
 pub(crate) fn print_selected<W: Write>(
     filter: &Filter,
     verdict: &Verdict,
@@ -34,10 +33,12 @@ pub(crate) fn print_selected<W: Write>(
         output.old.holds output.new.holds (output.old.waits
         ++ shown_of filter.now verdict.now line.now (whole.now ++ feed_behind end))) }
 {
-    if filter.only {
-        return print_addresses(filter, line, output);
+    match filter.shows {
+        Shown::Lines => print_named(filter, verdict, whole, end, output),
+        Shown::Addresses => print_addresses(filter, line, output),
+        Shown::Names => put_text(filter.name.bytes(), output),
+        Shown::Count | Shown::Nothing => Ok(()),
     }
-    print_named(filter, verdict, whole, end, output)
 }
 
 // Writes what stands first, and then a line of this verdict.
@@ -61,8 +62,8 @@ fn print_named<W: Write>(
     print_line(&filter.listed, verdict, whole, end, output)
 }
 
-// Writes a line of this verdict, and before it, with `--longest`, the block that holds its address. `whole` is the line
-// as it was read, with its end; if that is no line feed, one is written.
+// Writes a line of this verdict, and before it, with `--longest`, the block that holds its address.
+// `whole` is the line as it was read, with its end; if that is no line feed, one is written.
 fn print_line<W: Write>(
     listed: &Listed,
     verdict: &Verdict,
@@ -125,12 +126,15 @@ fn put_block<W: Write>(block: Option<IpNetwork>, output: &mut Output<'_, W>) -> 
     ensures beginning { OnErr result
         (FailsIn output.old output.new ((block_text block ++ 9 ∷ []))) }
 {
-    put_text(block, output)?;
+    put_block_text(block, output)?;
     output.put(b"\t")
 }
 
 // Writes a block, or a minus sign for none.
-fn put_text<W: Write>(block: Option<IpNetwork>, output: &mut Output<'_, W>) -> Result<(), RunFault>
+fn put_block_text<W: Write>(
+    block: Option<IpNetwork>,
+    output: &mut Output<'_, W>,
+) -> Result<(), RunFault>
     ensures ok { OnOk result (Prints output.old output.new (block_text block)) }
     ensures failed { output.new.failed ≡ (output.old.failed || is_err result) }
     ensures beginning { OnErr result (FailsIn output.old output.new (block_text block)) }

@@ -134,8 +134,8 @@ fn print_named<W: Write>(
     put_text(text, output)
 }
 
-// Writes a text and a line feed.
-fn put_text<W: Write>(text: &[u8], output: &mut Output<'_, W>) -> Result<(), RunFault>
+/// Writes a text and a line feed.
+pub(crate) fn put_text<W: Write>(text: &[u8], output: &mut Output<'_, W>) -> Result<(), RunFault>
     ensures ok { OnOk result (Prints output.old output.new (text.now ++ 10 ∷ [])) }
     ensures failed { output.new.failed ≡ (output.old.failed || is_err result) }
     ensures beginning { OnErr result (FailsIn output.old output.new (text.now ++ 10 ∷ [])) }

@@ -2,14 +2,14 @@
 ghost use Rattle.std.specs.Prelude.{◌≡◌, ◌≤◌, [], length, codes};
 ghost use Rattle.program.specs.Endings.{ending};
 ghost use Rattle.program.specs.Messages.{Tells};
-ghost use Rattle.cidr_filter.specs.Runs.{EndsRequest, EndsAsked, EndsAs, place_of};
+ghost use Rattle.cidr_filter.specs.Runs.{EndsRequest, EndsAsked, EndsAs, place_of, most_of, up_to_one, shows_of, is_named};
 
 use crate::arranging::arranged;
 use crate::command_line::{Request, request_of};
-use crate::filter::Filter;
+use crate::filter::{Filter, Shown};
 use crate::help::{HELP, PROGRAM, USAGE, VERSION};
 use crate::logs::filter_logs;
-use crate::options::text_after;
+use crate::options::{Letters, text_after};
 use crate::reading::read_listed;
 use crate::telling::InOptions;
 use line_addresses::{Place, Text};
@@ -64,7 +64,8 @@ fn obey<L: OpenLists, W: Write, E: Write>(
     }
 }
 
-// Reads the lists, reports the refused lines, and then filters the logs by what was read, unless memory ran out.
+// Reads the lists, reports the refused lines, and then filters the logs by what was read, unless
+// memory ran out.
 fn filter<L: OpenLists, W: Write, E: Write>(
     alloc: Global,
     request: Request,
@@ -77,6 +78,7 @@ fn filter<L: OpenLists, W: Write, E: Write>(
     ensures { EndsRequest (L.known lists.now) words.now request
         (ending output.old output.new errors.old errors.new result) }
 {
+    let files = &words[request.files..];
     let (listed, refusals, read) = read_listed(alloc, lists, words, request.longest);
     tell_refusals(words, &InOptions { words }, &refusals, errors);
     if let Err(fault) = read {
@@ -98,15 +100,58 @@ fn filter<L: OpenLists, W: Write, E: Write>(
         mapped: request.mapped,
         inverts: request.letters.inverts,
         bad: request.bad,
-        most: request.most,
-        counts: request.letters.counts,
-        only: request.letters.only,
-        named: request.letters.named,
+        most: most_of(request.letters, request.most),
+        shows: shows_of(request.letters),
+        named: is_named(request.letters),
         name: no_name(),
     };
-    let files = &words[request.files..];
     let buffer = buffer.as_mut_slice();
     filter_logs(&mut filter, files, lists, buffer, output, errors)
+}
+
+// How many lines of a log are selected at the most, if the option for that says this.
+fn most_of(letters: Letters, most: Option<u64>) -> Option<u64>
+    ensures { result ≡ most_of letters most }
+{
+    if letters.quiet || letters.names {
+        up_to_one(most)
+    } else {
+        most
+    }
+}
+
+// One line, or none if no line may be selected.
+fn up_to_one(most: Option<u64>) -> Option<u64>
+    ensures { result ≡ up_to_one most }
+{
+    match most {
+        Some(most) => Some(most.min(1)),
+        None => Some(1),
+    }
+}
+
+// What is printed.
+fn shows_of(letters: Letters) -> Shown
+    ensures { result ≡ shows_of letters }
+{
+    if letters.quiet {
+        Shown::Nothing
+    } else if letters.names {
+        Shown::Names
+    } else if letters.counts {
+        Shown::Count
+    } else if letters.only {
+        Shown::Addresses
+    } else {
+        Shown::Lines
+    }
+}
+
+// Whether the name of its log is printed of a line.
+fn is_named(letters: Letters) -> bool
+    ensures { result ≡ is_named letters }
+{
+    letters.named || letters.names
 }
 
 // No name before lines.

@@ -1,5 +1,5 @@
 -- How far a log is filtered.
-use Rattle.std.specs.Prelude.{◌≡◌, ℕ, Bool, true, false, not, ◌&&◌, ◌||◌, IsTrue, List, [], ◌++◌, length, Option, if◌then◌else◌}
+use Rattle.std.specs.Prelude.{◌≡◌, ℕ, Bool, true, false, ◌||◌, IsTrue, List, [], ◌++◌, length, Option, if◌then◌else◌}
 use Rattle.lines.specs.Outputs.{AppendsBeginning}
 use Rattle.cidr_filter.specs.Addressed.{is_addressed_by, any_addressed}
 use Rattle.cidr_filter.specs.Filters.{IsVerdict, is_refused, is_selected, shown_of, one_if, is_below, Filters}
@@ -17,7 +17,7 @@ use Rattle.program.specs.declared.log_fault.LogFault.TheVariants as faults
 -- what is written for a line of this verdict, given without its end and as it is written
 abbrev pub shown : Filter → Verdict → List ℕ → List ℕ → List ℕ
 shown filter verdict line text =
-    if is_selected filter verdict && not filter.counts then shown_of filter verdict line text else []
+    if is_selected filter verdict then shown_of filter verdict line text else []
 
 -- a line, given without its end and as it is written, was filtered, and is selected or not
 abbrev pub FiltersLine : Filter → List ℕ → List ℕ → Bool → Stand → Stand → Type 0

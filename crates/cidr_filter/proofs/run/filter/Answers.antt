@@ -60,4 +60,4 @@ returns g c =
     c.filter_logs.new.errors c.filter_logs.result)
     c.tell_refusals.new.errors c.tell_refusals.ensures r.2 c.in_default.field-0 r.0 c.in_default.is
     c.read_listed-listed.ensures.read c.is_empty.result c.is_empty.ensures c.if-not-is_empty.false
-    c.in-Ok.listed c.in-Ok.is (rw (take_rest, c.place_of.ensures, c.no_name.ensures) at c.filter_logs.ensures)
+    c.in-Ok.listed c.in-Ok.is (rw (take_rest, c.place_of.ensures, c.most_of.ensures, c.shows_of.ensures, c.is_named.ensures, c.no_name.ensures) at c.filter_logs.ensures)

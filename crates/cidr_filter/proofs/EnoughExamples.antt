@@ -1,0 +1,133 @@
+-- Runs whose answer is known at the first selected line, of one log or of all.
+use Rattle.std.proofs.Common.{◌≡◌, ℕ, List, [], ◌∷◌, true, false, inl, inr, refl, true≢false}
+use Rattle.std.specs.Prelude.{codes, Some, None}
+use Rattle.lists.specs.KnownLists.{KnownLists}
+use Rattle.program.specs.Endings.{Ending, HasTold, HasWritten}
+use Rattle.program.specs.Logs.{IsFirstOf}
+use Rattle.cidr_filter.specs.Filters.{IsVerdict, output_of}
+use Rattle.cidr_filter.specs.Logs.{is_enough, GoesOn}
+use Rattle.cidr_filter.specs.Runs.{EndsLogs, StopsAtLog, most_of, shows_of, is_named, status_by, total_text}
+use Rattle.cidr_filter.specs.declared.filter.Filter.{Filter}
+use Rattle.cidr_filter.specs.declared.filter.Shown.TheVariants as shows
+use Rattle.cidr_filter.specs.declared.filter.Verdict.TheVariants as verdicts
+use Rattle.cidr_filter.specs.declared.filter.WithoutAddress.TheVariants as without
+use Rattle.cidr_filter.specs.declared.options.Letters.{Letters}
+use Rattle.cidr_filter.proofs.Examples.{ended, by}
+use Rattle.cidr_filter.proofs.OptionExamples.{letters}
+use Rattle.cidr_filter.proofs.Enough.{is_none}
+
+-- ---- what is asked
+
+abbrev asks_names : Letters
+asks_names = record (letters false true false false) { only = true; names = true }
+
+abbrev asks_nothing : Letters
+asks_nothing = record asks_names { quiet = true }
+
+-- of `-q`, `-l`, `-c` and `-o` the first counts
+pub quiet_before_all : shows_of asks_nothing ≡ shows.Nothing
+quiet_before_all = refl
+
+pub names_before_a_count : shows_of asks_names ≡ shows.Names
+names_before_a_count = refl
+
+pub count_before_addresses : shows_of (record (letters false true false false) { only = true }) ≡ shows.Count
+count_before_addresses = refl
+
+-- one line is selected at the most, or none
+pub one_of_any : most_of asks_names None ≡ Some 1
+one_of_any = refl
+
+pub one_of_five : most_of asks_nothing (Some 5) ≡ Some 1
+one_of_five = refl
+
+pub none_of_none : most_of asks_names (Some 0) ≡ Some 0
+none_of_none = refl
+
+pub five_without_them : most_of (letters false true false false) (Some 5) ≡ Some 5
+five_without_them = refl
+
+pub named_without_another_option : is_named asks_names ≡ true
+named_without_another_option = refl
+
+-- ---- what is printed
+
+abbrev naming : Filter
+naming = record (by false without.Drop) { most = Some 1; shows = shows.Names; named = true; name = codes "log" }
+
+pub name_of_a_log : output_of naming (verdicts.Inside None) (ended (codes "10.0.0.1")) ≡ codes "log\n"
+name_of_a_log = refl
+
+pub no_name_of_a_log : output_of naming verdicts.Outside (ended (codes "10.0.0.1")) ≡ []
+no_name_of_a_log = refl
+
+pub no_number_beside_names : total_text false 2 ≡ []
+no_number_beside_names = refl
+
+-- ---- what is enough
+
+pub one_line_is_enough : is_enough shows.Nothing 1 ≡ true
+one_line_is_enough = refl
+
+pub no_line_is_not : is_enough shows.Nothing 0 ≡ false
+no_line_is_not = refl
+
+pub names_are_not : is_enough shows.Names 1 ≡ false
+names_are_not = refl
+
+pub enough_beside_a_missed_log : status_by true true 1 ≡ 0
+enough_beside_a_missed_log = refl
+
+abbrev silent : Filter
+silent = record (by false without.Stop) { most = Some 1; shows = shows.Nothing }
+
+module _ (known : KnownLists) (inside : IsVerdict silent (codes "10.0.0.1") (verdicts.Inside None)) (outside : IsVerdict silent (codes "11.0.0.1") verdicts.Outside) where
+  -- the first log is left at its second line, and the other is not opened
+  pub first_log_is_enough : known.may_open (codes "a") true → IsFirstOf known (codes "a") (codes "11.0.0.1\n10.0.0.1\nbad\n") → {W E : Type 0} (end : Ending W E)
+      → HasWritten end [] → HasTold end [] → end.status ≡ 0 → EndsLogs silent known (codes "a" ∷ codes "b" ∷ []) end
+  first_log_is_enough opened first end written told status = inl (record {
+    output = [];
+    selected = 1;
+    texts = [];
+    missed = false;
+    filters = (
+      [],
+      [],
+      1,
+      0,
+      [],
+      [],
+      false,
+      false,
+      inr (
+          inl (
+            (
+              codes "11.0.0.1\n10.0.0.1\nbad\n",
+              ended (codes "11.0.0.1") ∷ ended (codes "10.0.0.1") ∷ [],
+              ended (codes "bad") ∷ [],
+              opened,
+              first,
+              refl,
+              (verdicts.Outside, [], 1, outside, refl, (verdicts.Inside None, [], 0, inside, refl, (refl, refl), refl, refl), refl, refl),
+              record { most = refl; last = inr (ended (codes "11.0.0.1") ∷ [], ended (codes "10.0.0.1"), verdicts.Inside None, refl, inl refl, inside, refl) },
+              refl,
+            ),
+            refl,
+          )
+          ),
+      (refl, refl, refl, refl),
+      refl,
+      refl,
+      refl,
+      refl,
+    );
+    ends = inl (written, told, status);
+  })
+
+-- behind a log that is enough nothing is told, and no log is missed
+pub nothing_told_behind : (goes : Type 0) (output told : List ℕ) (selected : ℕ) → GoesOn (is_enough shows.Nothing 1) goes output selected told true → ⊥
+nothing_told_behind goes output told selected h = true≢false h.3
+
+-- nor does a log behind it stop the run
+pub no_stop_behind : {W E : Type 0} (known : KnownLists) (names : List (List ℕ)) (end : Ending W E) → (s : StopsAtLog silent known names end) → s.selected ≡ 0
+no_stop_behind known names end s = is_none s.selected s.few
