@@ -1,4 +1,5 @@
 -- What the contracts of this crate cite.
+pub mod Addressed
 pub mod CommandLines
 pub mod Entries
 pub mod Fields

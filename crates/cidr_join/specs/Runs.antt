@@ -1,5 +1,5 @@
 -- How a run ends: its exit status, what was written, and what was reported.
-use Rattle.std.specs.Prelude.{◌≡◌, ℕ, Bool, List, [], ◌∷◌, ◌++◌, true, false, ◌⊎◌, if◌then◌else◌, length, take, drop, codes, String, ◌==◌}
+use Rattle.std.specs.Prelude.{◌≡◌, ℕ, Bool, List, ◌∷◌, ◌++◌, true, false, ◌⊎◌, if◌then◌else◌, length, take, drop, codes, String, ◌==◌}
 use Rattle.std.specs.List.{slice_split}
 use Rattle.std.specs.Option.{unwrap_or}
 use Rattle.lines.specs.Outputs.{FailsIn}
@@ -44,30 +44,33 @@ Wrote faults.Length end text = HasWritten end text
 Wrote faults.Endless end text = HasWritten end text
 
 -- a log was not joined to its end, and ended the run: those before it were joined, and its first lines; their outputs
--- were written, the cause was reported, and the status is 2
+-- were written, the cause was reported after what there is to report of those before it, and the status is 2
 pub record StopsAtLog {W E : Type 0} (join : Join) (known : KnownLists) (names : List (List ℕ)) (end : Ending W E) : Type 0 where
   pub before : List (List ℕ)
   pub name : List ℕ
   pub behind : List (List ℕ)
   pub output : List ℕ
+  pub texts : List ℕ
   pub lines : List LogLine
   pub added : List ℕ
   pub fault : LogFault
   pub logs : names ≡ before ++ name ∷ behind
-  pub joins : JoinsLogs join known before output
+  pub joins : JoinsLogs join known before output texts
   pub first : Joins join lines added
   pub halts : HaltsBy known name lines fault
   pub wrote : Wrote fault end (output ++ added)
-  pub told : HasTold end (log_fault_text name (length lines) fault)
+  pub told : HasTold end (texts ++ log_fault_text name (length lines) fault)
   pub status : end.status ≡ 2
 
 -- all logs were joined to their ends
 pub record JoinsAll {W E : Type 0} (join : Join) (known : KnownLists) (names : List (List ℕ)) (end : Ending W E) : Type 0 where
   pub output : List ℕ
-  pub joins : JoinsLogs join known names output
-  -- their output was written and nothing reported, and the status is 0; or the writer failed, and that was reported
-  pub ends : (HasWritten end output × HasTold end [] × (end.status ≡ 0))
-      ⊎ (FailsWriting end output × HasTold end (codes "write error\n") × (end.status ≡ 2))
+  pub texts : List ℕ
+  pub joins : JoinsLogs join known names output texts
+  -- their output was written, what there is to report of them was reported, and the status is 0; or the writer failed, and
+  -- that was reported after it
+  pub ends : (HasWritten end output × HasTold end texts × (end.status ≡ 0))
+      ⊎ (FailsWriting end output × HasTold end (texts ++ codes "write error\n") × (end.status ≡ 2))
 
 -- the logs were joined, in turn
 abbrev pub EndsLogs : {W E : Type 0} → Join → KnownLists → List (List ℕ) → Ending W E → Type 0

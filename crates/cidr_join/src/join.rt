@@ -75,19 +75,18 @@ pub struct Join<'a> {
 }
 
 impl<'a> Join<'a> {
-    /// The longest network of the list that has the address of a line, and its value. The line is given without its
-    /// end. Does not allocate.
-    pub(crate) fn find(&self, line: &[u8]) -> Option<(IpNetwork, Value<'a>)>
-        ensures { Finds self.now (address_in self.now line.now) result }
+    /// The longest network of the list that has an address, and its value. Does not allocate.
+    pub(crate) fn find(&self, address: Option<IpAddr>) -> Option<(IpNetwork, Value<'a>)>
+        ensures { Finds self.now address result }
     {
-        match self.address_in(line) {
+        match address {
             Some(address) => self.routes.longest(address),
             None => None,
         }
     }
 
-    // The address for which the list is asked.
-    fn address_in(&self, line: &[u8]) -> Option<IpAddr>
+    /// The address of a line for which the list is asked. The line is given without its end.
+    pub(crate) fn address_in(&self, line: &[u8]) -> Option<IpAddr>
         ensures { result ≡ address_in self.now line.now }
     {
         match self.found_in(line) {

@@ -14,6 +14,7 @@ mod options;
 mod printing;
 mod routes;
 mod run;
+mod seen;
 mod tally;
 mod tally_log;
 mod tally_logs;

@@ -7,6 +7,7 @@ ghost use Rattle.cidr_join.specs.Private.TallyProgress.{CountsLine, CountsLines,
 
 use crate::join::{Join, LINE_MAX};
 use crate::log::LogFault;
+use crate::seen::Seen;
 use crate::tally::Tally;
 use crate::value::Value;
 use ipnetwork::IpNetwork;
@@ -24,7 +25,7 @@ pub enum TallyFault {
     OutOfMemory,
 }
 
-/// Counts for each line of a log what the list gives its address, and adds how many lines these are to `count`.
+/// Counts for each line of a log what the list gives its address, and the line.
 ///
 /// A line that is too long ends the run even if its end was not read.
 pub(crate) fn tally_log<R: Read>(
@@ -33,15 +34,15 @@ pub(crate) fn tally_log<R: Read>(
     buffer: &mut [u8],
     reader: &mut Watched<R>,
     tally: &mut Tally,
-    count: &mut u64,
+    seen: &mut Seen,
 ) -> Result<(), TallyFault>
     requires room { 1048578 ≤ length buffer.old }
     ensures ok { OnOk result
-        (ReadsAll (CountsLines join.now tally.old.counts tally.new.counts count.old count.new)
+        (ReadsAll (CountsLines join.now tally.old.counts tally.new.counts seen.old seen.new)
         (R.remaining (device_of reader.old))
         (R.remaining (device_of reader.new))) }
     ensures err { IfErr result
-        (StopsReading (CountsLines join.now tally.old.counts tally.new.counts count.old count.new)
+        (StopsReading (CountsLines join.now tally.old.counts tally.new.counts seen.old seen.new)
         (R.remaining (device_of reader.old))
         (R.remaining (device_of reader.new))
         (has_failed reader.new)) }
@@ -53,7 +54,7 @@ pub(crate) fn tally_log<R: Read>(
         match lines.next() {
             NextLine::Line(_) => {
                 let line = lines.line();
-                if let Err(_) = count_line(alloc, join, line, tally, count) {
+                if let Err(_) = count_line(alloc, join, line, tally, seen) {
                     return Err(TallyFault::OutOfMemory);
                 }
             }
@@ -81,13 +82,14 @@ fn count_line(
     join: &Join<'_>,
     line: &[u8],
     tally: &mut Tally,
-    count: &mut u64,
+    seen: &mut Seen,
 ) -> Result<(), AllocError>
     ensures { OnOk result
-        (CountsLine join.now line.now tally.old.counts tally.new.counts count.old count.new) }
+        (CountsLine join.now line.now tally.old.counts tally.new.counts seen.old seen.new) }
 {
-    let found = join.find(line);
-    *count = count.saturating_add(1);
+    let address = join.address_in(line);
+    seen.add(address.is_some());
+    let found = join.find(address);
     count_found(alloc, join.network, &found, tally)
 }
 

@@ -5,6 +5,7 @@ use Rattle.std.specs.Io.KnownBytes.{Consumes, IsAtEnd}
 use Rattle.ipnetwork.specs.declared.ip_network.IpNetwork.{IpNetwork}
 use Rattle.lines.specs.LineBuffers.{Buffered, IsPending}
 use Rattle.lines.specs.Outputs.{AppendsBeginning}
+use Rattle.cidr_join.specs.Addressed.{is_addressed, any_addressed}
 use Rattle.cidr_join.specs.Joins.{address_in, Finds, mark_of, shown_of, Joins}
 use Rattle.program.specs.LogLines.{LogLine}
 use Rattle.program.specs.LogReaders.{AreFirst}
@@ -20,7 +21,7 @@ shown join found line text = shown_of join.last (mark_of join.network found) lin
 
 -- a line was joined
 abbrev pub JoinsLine : Join → List ℕ → List ℕ → Stand → Stand → Type 0
-JoinsLine join line text old new = (found : Option (IpNetwork × Value)) × Finds join (address_in join line) found × Goes old new (shown join found line text) 1
+JoinsLine join line text old new = (found : Option (IpNetwork × Value)) × Finds join (address_in join line) found × Goes old new (shown join found line text) 1 (is_addressed join line)
 
 -- or the writer failed, which took a beginning of what waited and of the line's output
 abbrev pub LineStops : Join → List ℕ → List ℕ → Bool → Stand → Stand → LogFault → Type 0
@@ -46,4 +47,4 @@ pub record JoinsSoFar (join : Join) (room : ℕ) (held : Buffered)
   pub ended : held.ended ≡ false → list_all (λ line. line.is_ended) first ≡ true
   pub added : List ℕ
   pub joins : Joins join first added
-  pub goes : Goes old new added (length first)
+  pub goes : Goes old new added (length first) (any_addressed join first)
