@@ -1,8 +1,10 @@
 -- What the contracts of this crate cite.
 pub mod Addressed
+pub mod Arranged
 pub mod CommandLines
 pub mod Entries
 pub mod Fields
+pub mod Joined
 pub mod Joins
 pub mod Laws
 pub mod Logs

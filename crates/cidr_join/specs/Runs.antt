@@ -1,12 +1,14 @@
 -- How a run ends: its exit status, what was written, and what was reported.
-use Rattle.std.specs.Prelude.{◌≡◌, ℕ, Bool, List, ◌∷◌, ◌++◌, true, false, ◌⊎◌, if◌then◌else◌, length, take, drop, codes, String, ◌==◌}
+use Rattle.std.specs.Prelude.{◌≡◌, ℕ, Bool, List, ◌∷◌, ◌++◌, true, false, ◌⊎◌, if◌then◌else◌, length, map, take, drop, codes, String, ◌==◌}
 use Rattle.std.specs.List.{slice_split}
 use Rattle.std.specs.Option.{unwrap_or}
+use Rattle.std.specs.String.{string_bytes}
 use Rattle.lines.specs.Outputs.{FailsIn}
 use Rattle.lists.specs.KnownLists.{KnownLists}
 use Rattle.program.specs.Endings.{Ending, Refuses, HasTold, HasWritten}
 use Rattle.program.specs.Runs.{EndsRun}
 use Rattle.program.specs.Usage.{usage_text}
+use Rattle.cidr_join.specs.Arranged.{arranged}
 use Rattle.cidr_join.specs.CommandLines.{Says, AsksNothing}
 use Rattle.cidr_join.specs.Joins.{Joins}
 use Rattle.program.specs.LogLines.{LogLine}
@@ -119,11 +121,17 @@ EndsRequest known words request end =
     ((fault : TextFault) × TextStops known (list_name words request) fault × Refuses (text_fault_text (list_name words request) fault) end)
     ⊎ ((text : List ℕ) × IsAllOf known (list_name words request) text × EndsJoining known words request (list_name words request) text end)
 
+-- the words say a request, which is done, or something is wrong with them, and that and the usage are reported
+abbrev pub EndsWords : {Z W E : Type 0} → List ℕ → List ℕ → KnownLists → List (String Z) → Ending W E → Type 0
+EndsWords program usage known words end =
+    ((request : Request) × Says words request × EndsRequest known words request end)
+    ⊎ ((fault : UsageFault) × AsksNothing words × HasFault words fault
+    × Refuses (usage_text program usage words fault.subject (problem_text fault.problem)) end)
+
 -- how a run ends of a program of this name, help, version and usage: with the help or the version, if the words ask for
--- it. Else they say a request, which is done, or something is wrong with them, and that and the usage are reported
+-- it. Else they are read with the options in front, unless there is no memory for that
 abbrev pub EndsAs : {Z W E : Type 0} → List ℕ → List ℕ → List ℕ → List ℕ → KnownLists
     → List (String Z) → Ending W E → Type 0
-EndsAs program help version usage known words end = EndsRun help version words
-    (((request : Request) × Says words request × EndsRequest known words request end)
-    ⊎ ((fault : UsageFault) × AsksNothing words × HasFault words fault
-    × Refuses (usage_text program usage words fault.subject (problem_text fault.problem)) end)) end
+EndsAs {Z} program help version usage known words end = EndsRun help version words
+    (Refuses (codes "out of memory\n") end
+    ⊎ ((asked : List (String Z)) × (map string_bytes asked ≡ arranged words) × EndsWords program usage known asked end)) end

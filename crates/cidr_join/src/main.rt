@@ -1,10 +1,12 @@
 //! The lines of logs, each with the value that a list gives its address.
 #![tactic(auto)]
 
+mod arranging;
 mod command_line;
 mod field;
 mod help;
 mod join;
+mod joined;
 mod laws;
 mod line;
 mod list;

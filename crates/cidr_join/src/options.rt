@@ -159,8 +159,8 @@ fn are_letters(letters: &[u8]) -> bool
     true
 }
 
-// Whether this is the letter of an option.
-fn is_letter(letter: u8) -> bool
+/// Whether this is the letter of an option.
+pub(crate) fn is_letter(letter: u8) -> bool
     ensures { result ≡ is_letter letter }
 {
     letter == b'a' || letter == b'w'

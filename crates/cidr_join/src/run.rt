@@ -3,8 +3,9 @@ ghost use Rattle.std.specs.Prelude.{◌≡◌, ◌≤◌, length, codes, take};
 ghost use Rattle.program.specs.Endings.{ending};
 ghost use Rattle.program.specs.Messages.{Tells};
 ghost use Rattle.program.specs.Logs.{logs_of};
-ghost use Rattle.cidr_join.specs.Runs.{EndsRequest, EndsAs, EndsAsked, EndsJoining, place_of, list_name};
+ghost use Rattle.cidr_join.specs.Runs.{EndsRequest, EndsAs, EndsAsked, EndsWords, EndsJoining, place_of, list_name};
 
+use crate::arranging::arranged;
 use crate::command_line::{Request, request_of};
 use crate::help::{HELP, PROGRAM, USAGE, VERSION};
 use crate::join::{Join, LINE_MAX, Place, Text};
@@ -41,6 +42,23 @@ pub(crate) fn run<L: OpenLists, W: Write, E: Write>(
     if let Some(text) = text_asked(HELP, VERSION, words) {
         return print_text(text, output, errors);
     }
+    let Ok(asked) = arranged(alloc, words) else {
+        return refuse_memory(errors);
+    };
+    obey(alloc, asked.as_slice(), lists, output, errors)
+}
+
+// Does what the words ask for, of which the options come first, and returns the exit status.
+fn obey<L: OpenLists, W: Write, E: Write>(
+    alloc: Global,
+    words: &[String],
+    lists: &L,
+    output: &mut Output<'_, W>,
+    errors: &mut Output<'_, E>,
+) -> u8
+    ensures { EndsWords PROGRAM.now USAGE.now (L.known lists.now) words.now
+        (ending output.old output.new errors.old errors.new result) }
+{
     match request_of(words) {
         Ok(request) => join(alloc, request, words, lists, output, errors),
         Err(fault) => {

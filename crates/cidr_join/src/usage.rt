@@ -192,8 +192,8 @@ fn is_name(word: &String) -> bool
     !word.as_bytes().is_empty()
 }
 
-// Whether a word is `-`, or does not begin with a `-`.
-fn is_plain(word: &String) -> bool
+/// Whether a word is `-`, or does not begin with a `-`.
+pub(crate) fn is_plain(word: &String) -> bool
     ensures { result ≡ is_plain word.now }
 {
     is(word, "-") || !word.as_bytes().starts_with(b"-".as_slice())
