@@ -1,9 +1,14 @@
 -- Definitions at values at which a misreading of them would show.
-use Rattle.std.proofs.Common.{◌≡◌, ◌∷◌, [], true, false, refl}
-use Rattle.std.specs.Prelude.{◌++◌, decimal, codes}
+use Rattle.std.proofs.Common.{◌≡◌, ◌^◌, ◌+◌, ◌∷◌, [], true, false, refl}
+use Rattle.std.specs.Prelude.{◌++◌, decimal, codes, None, Some}
+use Rattle.ipnetwork_addr.specs.declared.ip.IpAddr.TheVariants as addresses
+use Rattle.ipnetwork.specs.declared.ip_network.IpNetwork.TheVariants as families
 use Rattle.cidr_join.specs.Addressed.{lacking_by}
+use Rattle.cidr_join.specs.Groups.{block_in}
 use Rattle.cidr_join.specs.Joined.{words_in, awaits_value}
+use Rattle.cidr_join.specs.Options.{group_option}
 use Rattle.cidr_join.specs.declared.join.Place.TheVariants as places
+use Rattle.cidr_join.specs.declared.options.Choice.TheVariants as choices
 
 -- ---- logs in which no line has an address
 
@@ -55,3 +60,34 @@ waits_for_its_value = refl
 
 pub has_its_value : awaits_value (codes "-wf1") ≡ false
 has_its_value = refl
+
+-- ---- blocks of two lengths
+
+pub two_lengths : group_option (codes "24,064") ≡ Some (choices.Group (record { v4 = 24; v6 = 64 }))
+two_lengths = refl
+
+pub greatest_lengths : group_option (codes "32,128") ≡ Some (choices.Group (record { v4 = 32; v6 = 128 }))
+greatest_lengths = refl
+
+pub length_past_the_width : group_option (codes "33,0") ≡ None
+length_past_the_width = refl
+
+pub length_past_the_other_width : group_option (codes "0,129") ≡ None
+length_past_the_other_width = refl
+
+pub one_length : group_option (codes "24") ≡ None
+one_length = refl
+
+pub three_lengths : group_option (codes "24,64,1") ≡ None
+three_lengths = refl
+
+pub no_length : group_option (codes ",64") ≡ None
+no_length = refl
+
+-- 10.1.2.3 is in 10.1.2.0/24
+pub block_of_v4 : block_in (record { v4 = 24; v6 = 64 }) (addresses.V4 167838211) ≡ families.V4 (record { address = 167838208; prefix = 24 })
+block_of_v4 = refl
+
+-- 1::1 is in 1::/16
+pub block_of_v6 : block_in (record { v4 = 24; v6 = 16 }) (addresses.V6 (2 ^ 112 + 1)) ≡ families.V6 (record { address = 2 ^ 112; prefix = 16 })
+block_of_v6 = refl

@@ -19,12 +19,11 @@ use Rattle.cidr_join.specs.Joins.{address_in, Finds, output_of}
 use Rattle.program.specs.LogLines.{LogLine, log_lines, content, printed, feed_behind, log_line}
 use Rattle.cidr_join.specs.Addressed.{is_addressed, any_addressed}
 use Rattle.cidr_join.specs.Stands.{Stand, Sees, Goes}
-use Rattle.ipnetwork.specs.declared.ip_network.IpNetwork.{IpNetwork}
 use Rattle.cidr_join.specs.Private.Progress.{shown, JoinsLine, JoinsSoFar}
 use Rattle.program.specs.LogReaders.{AreFirst}
+use Rattle.cidr_join.specs.declared.found.Found.{Found}
 use Rattle.cidr_join.specs.declared.join.Join.{Join}
 use Rattle.cidr_join.specs.declared.seen.Seen.{Seen}
-use Rattle.cidr_join.specs.declared.value.Value.{Value}
 use Rattle.program.proofs.HandedLines.{printed_is, IsFirstOf, handed_first}
 use Rattle.cidr_join.proofs.Addressed.{sees_nothing, sees_more, any_more}
 use Rattle.cidr_join.proofs.Failing.{none_or}
@@ -134,7 +133,7 @@ module _ (join : Join) where
     still_first = subst (λ (e : Bool). AreFirst e s.read s.first s.pending) (sym same) s.lines
 
     -- a line more, whose output was put
-    one_more : (new : Stand) (line : List ℕ) (end : LineEnd) (found : Option (IpNetwork × Value))
+    one_more : (new : Stand) (line : List ℕ) (end : LineEnd) (found : Found)
         → HandsOut now s.pending line end → length line ≤ 1048576
         → Finds join (address_in join line) found
         → Goes mid new (output_of join found (log_line line end)) 1 (is_addressed join line)

@@ -1,6 +1,7 @@
 -- How a run ends.
 use Rattle.std.proofs.Common.{◌≡◌, ◌==◌, ◌+◌, ◌-◌, ◌^◌, ◌<◌, ◌≤◌, ◌++◌, ◌∷◌, ◌∙◌, [], ◌||◌, ℕ, List, Bool, true, false, true≢false, refl, sym, ap, subst, inl, inr, arith, length, min, map, take, drop, take-append-drop, get_or, append_assoc, append-nil, decimal, codes}
-use Rattle.std.specs.Prelude.{Result, Ok, Err, OnOk, OnErr, IsTrue, is_err, String}
+use Rattle.std.specs.Prelude.{Option, None, Result, Ok, Err, OnOk, OnErr, IsTrue, is_err, String}
+use Rattle.std.specs.List.{slice_split}
 use Rattle.std.specs.String.{string_bytes}
 use Rattle.std.specs.Io.KnownBytes.{Appends}
 use Rattle.std.proofs.lemmas.Bool.{ne_eqb}
@@ -15,16 +16,19 @@ use Rattle.cidr_join.specs.Joins.{Joins}
 use Rattle.program.specs.LogLines.{LogLine}
 use Rattle.cidr_join.specs.Logs.{HaltsBy}
 use Rattle.program.specs.Logs.{logs_of, IsAllOf}
-use Rattle.cidr_join.specs.Routes.{Values}
-use Rattle.cidr_join.specs.Runs.{FailsWriting, Wrote, StopsAtLog, JoinsAll, EndsLogs, EndsAsked, EndsWords, list_name, EndsJoining, EndsRequest}
+use Rattle.cidr_join.specs.Routes.{Values, no_networks}
+use Rattle.cidr_join.specs.Runs.{FailsWriting, Wrote, StopsAtLog, JoinsAll, EndsLogs, EndsAsked, EndsWords, EndsFinding, EndsGrouping, EndsJoining, EndsRequest, answers_of, join_of, list_name}
 use Rattle.cidr_join.specs.TallyRuns.{EndsTally}
 use Rattle.cidr_join.specs.Stands.{stand}
+use Rattle.cidr_join.specs.Takes.{TakesLines}
 use Rattle.cidr_join.specs.Texts.{TextStops}
 use Rattle.cidr_join.specs.Told.{text_fault_text, log_fault_text}
 use Rattle.program.specs.LogFaults.{line_text}
 use Rattle.cidr_join.specs.Private.Runs.{JoinsNames, HandsOn, StopsBy}
+use Rattle.cidr_join.specs.declared.answers.Answers.{Answers}
 use Rattle.cidr_join.specs.declared.command_line.Request.{Request}
 use Rattle.cidr_join.specs.declared.join.Join.{Join}
+use Rattle.cidr_join.specs.declared.lengths.Lengths.{Lengths}
 use Rattle.cidr_join.specs.declared.log.LogFault.{LogFault}
 use Rattle.cidr_join.specs.declared.log.LogFault.TheVariants as faults
 use Rattle.cidr_join.specs.declared.routes.Networks.{Networks}
@@ -296,12 +300,12 @@ handed_some name lines fault end failed h told =
 
 module _ {Z W E : Type 0} (known : KnownLists) (words : List (String Z)) (request : Request) (end : Ending W E) (name : List ℕ) (same : name ≡ list_name words request) where
   -- the list was read
-  pub joined_to : (text : List ℕ) → IsAllOf known name text → EndsJoining known words request name text end → EndsRequest known words request end
+  pub joined_to : (text : List ℕ) → IsAllOf known name text → EndsJoining known words request name text end → EndsGrouping None known words request end
   joined_to text all h =
       inr (text, subst (λ (n : List ℕ). IsAllOf known n text) same all, subst (λ (n : List ℕ). EndsJoining known words request n text end) same h)
 
   -- it was not
-  pub not_read : (fault : TextFault) → TextStops known name fault → Refuses (text_fault_text name fault) end → EndsRequest known words request end
+  pub not_read : (fault : TextFault) → TextStops known name fault → Refuses (text_fault_text name fault) end → EndsGrouping None known words request end
   not_read fault stops h =
       inl (fault, subst (λ (n : List ℕ). TextStops known n fault) same stops, subst (λ (n : List ℕ). Refuses (text_fault_text n fault) end) same h)
 
@@ -310,6 +314,18 @@ same_routes routes networks a b =
     ap (λ (t : Values). with_both t routes.v6) a ∙ ap (λ (t : Values). with_both networks.v4 t) b where
       with_both : Values → Values → Routes
       with_both v4 v6 = record { v4 = v4; v6 = v6 }
+
+-- what is printed of addresses was found, and the logs were joined by it
+pub taken : {Z W E : Type 0} (known : KnownLists) (words : List (String Z)) (request : Request) (name text : List ℕ) (end : Ending W E) (networks : Networks) (by : Answers) → by ≡ answers_of request networks
+    → TakesLines request.last_wins no_networks (slice_split (λ b. b == 10) text) networks → EndsFinding known words request by end → EndsJoining known words request name text end
+taken known words request name text end networks by same takes (inl h) = inr (inl h)
+taken known words request name text end networks by same takes (inr h) =
+    inr (inr (networks, takes, subst (λ (a : Answers). EndsAsked request.tally (join_of words request a) known (logs_of (drop request.files words)) end) same h))
+
+-- whether lines are grouped
+pub by_group : {Z W E : Type 0} (known : KnownLists) (words : List (String Z)) (request : Request) (end : Ending W E) (group : Option Lengths) → request.group ≡ group → EndsGrouping group known words request end
+    → EndsRequest known words request end
+by_group known words request end group is h = subst (λ (o : Option Lengths). EndsGrouping o known words request end) (sym is) h
 
 -- ---- what is asked of the logs
 

@@ -32,7 +32,7 @@ module _ {Z S : Type 0} where
       → (first : List LogLine) (next : LogLine) → content next ≡ line → length line ≤ 1048576 → CountsLines join old mid was among first
       → CountsLines join old new was is (first ++ next ∷ [])
   line_more join old mid new was among is line f first next same short d =
-      let mark = mark_of join.network f.0 in (
+      let mark = mark_of f.0 in (
         d.0 ++ mark ∷ [],
         marks_both join first (next ∷ []) d.0 (mark ∷ []) d.1 (
           f.0,

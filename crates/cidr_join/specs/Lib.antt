@@ -4,6 +4,7 @@ pub mod Arranged
 pub mod CommandLines
 pub mod Entries
 pub mod Fields
+pub mod Groups
 pub mod Joined
 pub mod Joins
 pub mod Laws

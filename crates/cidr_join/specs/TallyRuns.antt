@@ -1,6 +1,5 @@
 -- The tally of a run.
-use Rattle.std.specs.Prelude.{◌≡◌, ◌≤◌, ◌⊎◌, ℕ, true, List, [], ◌∷◌, ◌++◌, Option, length, codes}
-use Rattle.ipnetwork.specs.declared.ip_network.IpNetwork.{IpNetwork}
+use Rattle.std.specs.Prelude.{◌≡◌, ◌≤◌, ◌⊎◌, ℕ, true, List, [], ◌∷◌, ◌++◌, length, codes}
 use Rattle.lines.specs.Outputs.{FailsIn}
 use Rattle.lists.specs.KnownLists.{KnownLists}
 use Rattle.program.specs.Endings.{Ending, Refuses, HasTold, HasWritten}
@@ -11,16 +10,16 @@ use Rattle.cidr_join.specs.Logs.{HaltsBy}
 use Rattle.program.specs.Logs.{IsAllOf}
 use Rattle.cidr_join.specs.Tallies.{Row, IsTally, rows_text}
 use Rattle.cidr_join.specs.Told.{log_fault_text}
+use Rattle.cidr_join.specs.declared.found.Found.{Found}
 use Rattle.cidr_join.specs.declared.join.Join.{Join}
 use Rattle.cidr_join.specs.declared.log.LogFault.{LogFault}
 use Rattle.cidr_join.specs.declared.log.LogFault.TheVariants as faults
-use Rattle.cidr_join.specs.declared.value.Value.{Value}
 
 -- what is printed before each of these lines, each of which has at most 1,048,576 bytes without its end
 abbrev pub Marks : Join → List LogLine → List (List ℕ) → Type 0
 Marks join [] marks = marks ≡ []
-Marks join (line ∷ lines) marks = (found : Option (IpNetwork × Value)) × (others : List (List ℕ)) × (length (content line) ≤ 1048576)
-    × Finds join (address_in join (content line)) found × Marks join lines others × (marks ≡ mark_of join.network found ∷ others)
+Marks join (line ∷ lines) marks = (found : Found) × (others : List (List ℕ)) × (length (content line) ≤ 1048576)
+    × Finds join (address_in join (content line)) found × Marks join lines others × (marks ≡ mark_of found ∷ others)
 
 -- what is printed before the lines of the logs of these names, which were read to their ends, and what is reported of
 -- those in which no line has an address

@@ -1,13 +1,16 @@
 //! The lines of logs, each with the value that a list gives its address.
 #![tactic(auto)]
 
+mod answers;
 mod arranging;
 mod command_line;
 mod field;
+mod found;
 mod help;
 mod join;
 mod joined;
 mod laws;
+mod lengths;
 mod line;
 mod list;
 mod log;

@@ -1,16 +1,13 @@
 //! Counts what a list gives the lines of a log.
 ghost use Rattle.std.specs.Prelude.{◌≡◌, ◌||◌, ◌≤◌, length, OnOk, IfErr};
 ghost use Rattle.lines.specs.Watched.{device_of, has_failed};
-ghost use Rattle.cidr_join.specs.Joins.{mark_of};
-ghost use Rattle.cidr_join.specs.Private.Counting.{CountsOne};
 ghost use Rattle.cidr_join.specs.Private.TallyProgress.{CountsLine, CountsLines, ReadsAll, StopsReading, ended_by_read};
 
+use crate::found::Found;
 use crate::join::{Join, LINE_MAX};
 use crate::log::LogFault;
 use crate::seen::Seen;
 use crate::tally::Tally;
-use crate::value::Value;
-use ipnetwork::IpNetwork;
 use lines::line_buffer::{LineBuffer, NextLine};
 use lines::watched::Watched;
 use std::alloc::{AllocError, Global};
@@ -76,7 +73,7 @@ pub(crate) fn tally_log<R: Read>(
     }
 }
 
-// Counts what the list gives the address of a line within the limit, and the line.
+// Counts what is printed of the address of a line within the limit, and the line.
 fn count_line(
     alloc: Global,
     join: &Join<'_>,
@@ -89,28 +86,9 @@ fn count_line(
 {
     let address = join.address_in(line);
     seen.add(address.is_some());
-    let found = join.find(address);
-    count_found(alloc, join.network, &found, tally)
-}
-
-// Counts what was found: the value, or the network, or a minus sign for none.
-fn count_found(
-    alloc: Global,
-    network: bool,
-    found: &Option<(IpNetwork, Value<'_>)>,
-    tally: &mut Tally,
-) -> Result<(), AllocError>
-    ensures { OnOk result
-        (CountsOne (mark_of network found.now) tally.old.counts tally.new.counts) }
-{
-    match found {
-        Some((block, value)) => {
-            if network {
-                tally.count(alloc, block.canonical().as_str().as_bytes())
-            } else {
-                tally.count(alloc, value.bytes())
-            }
-        }
-        None => tally.count(alloc, b"-"),
+    match join.find(address) {
+        Found::Network(network) => tally.count(alloc, network.canonical().as_str().as_bytes()),
+        Found::Value(value) => tally.count(alloc, value.bytes()),
+        Found::Nothing => tally.count(alloc, b"-"),
     }
 }

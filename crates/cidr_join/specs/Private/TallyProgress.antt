@@ -3,7 +3,6 @@ use Rattle.std.specs.Prelude.{◌≡◌, ℕ, ◌+◌, ◌-◌, ◌^◌, ◌<◌
 use Rattle.std.specs.HashMap.{HashMap}
 use Rattle.std.specs.Io.KnownBytes.{Consumes, IsAtEnd}
 use Rattle.std.specs.List.{list_all}
-use Rattle.ipnetwork.specs.declared.ip_network.IpNetwork.{IpNetwork}
 use Rattle.lines.specs.LineBuffers.{Buffered, IsPending}
 use Rattle.lines.specs.Outputs.{Written}
 use Rattle.lists.specs.KnownLists.{KnownLists}
@@ -16,12 +15,12 @@ use Rattle.cidr_join.specs.TallyRuns.{Marks, MarksLogs, StopsTally}
 use Rattle.cidr_join.specs.Told.{log_fault_text}
 use Rattle.cidr_join.specs.Private.Counting.{Counted, CountsOne}
 use Rattle.program.specs.LogReaders.{AreFirst}
+use Rattle.cidr_join.specs.declared.found.Found.{Found}
 use Rattle.cidr_join.specs.declared.join.Join.{Join}
 use Rattle.cidr_join.specs.declared.log.LogFault.TheVariants as faults
 use Rattle.cidr_join.specs.declared.seen.Seen.{Seen}
 use Rattle.cidr_join.specs.declared.tally_log.TallyFault.{TallyFault}
 use Rattle.cidr_join.specs.declared.tally_log.TallyFault.TheVariants as tallies
-use Rattle.cidr_join.specs.declared.value.Value.{Value}
 
 -- ---- lines of a log, of which something was done
 
@@ -82,7 +81,7 @@ pub record ReadsSoFar (done : List LogLine → Type 0) (room : ℕ) (held : Buff
 module _ {Z S : Type 0} where
   -- what the list gives a line was counted, and the line
   abbrev pub CountsLine : Join → List ℕ → HashMap (Vec ℕ Z) ℕ S → HashMap (Vec ℕ Z) ℕ S → Seen → Seen → Type 0
-  CountsLine join line old new was is = (found : Option (IpNetwork × Value)) × Finds join (address_in join line) found × CountsOne (mark_of join.network found) old new × Sees was is 1 (is_addressed join line)
+  CountsLine join line old new was is = (found : Found) × Finds join (address_in join line) found × CountsOne (mark_of found) old new × Sees was is 1 (is_addressed join line)
 
   -- these texts were counted
   abbrev pub CountsAll : List (List ℕ) → HashMap (Vec ℕ Z) ℕ S → HashMap (Vec ℕ Z) ℕ S → Type 0
