@@ -2,11 +2,11 @@
 _cidr_join() {
     local word="${COMP_WORDS[COMP_CWORD]}" before="${COMP_WORDS[COMP_CWORD - 1]}"
     case "$before" in
-        -k | -d | --after) COMPREPLY=() ;;
+        -k | -d | --after | --group) COMPREPLY=() ;;
         -f) ;;
         *)
             if [[ "$word" == -* ]]; then
-                COMPREPLY=($(compgen -W "-f -k -d -w -a --after --mapped --last --network --tally --last-wins --quiet --help --version -- -" -- "$word"))
+                COMPREPLY=($(compgen -W "-f -k -d -w -a --after --mapped --last --network --tally --group --last-wins --quiet --help --version -- -" -- "$word"))
             fi
             ;;
     esac

@@ -9,6 +9,7 @@ complete -c cidr_join -l mapped -d "An IPv4-mapped address counts as its IPv4 on
 complete -c cidr_join -l last -d "Print the value behind a line"
 complete -c cidr_join -l network -d "Print the network in place of its value"
 complete -c cidr_join -l tally -d "Print how many lines have each value"
+complete -c cidr_join -l group -x -d "Print the block of one of two lengths, without a list"
 complete -c cidr_join -l last-wins -d "A network that stands twice has its last value"
 complete -c cidr_join -l quiet -d "Show no progress on a terminal"
 complete -c cidr_join -l help -d "Print the help"

@@ -11,6 +11,7 @@ _arguments \
     '*--last[print the value behind a line]' \
     '*--network[print the network in place of its value]' \
     '*--tally[print how many lines have each value]' \
+    '*--group[print the block of one of two lengths, without a list]:lengths: ' \
     '*--last-wins[a network that stands twice has its last value]' \
     '--quiet[show no progress on a terminal]' \
     '(- *)--help[print the help]' '(- *)--version[print the version]' \

@@ -6,7 +6,7 @@ use Rattle.std.specs.String.{string_bytes}
 use Rattle.std.proofs.lemmas.Option.{none-some}
 use Rattle.program.specs.Words.{is}
 use Rattle.program.specs.declared.usage.Subject.TheVariants as about_this
-use Rattle.cidr_join.specs.CommandLines.{Says, AsksNothing, is_plain, is_name, names_in, files_among, inputs_among, crossed_problem}
+use Rattle.cidr_join.specs.CommandLines.{Says, AsksNothing, is_plain, is_name, names_in, files_among, inputs_among, crossed_problem, has_source}
 use Rattle.cidr_join.specs.Laws.{is_option_word, OthersAreNoOptions, OthersAskForNothing, WordsHaveOneFault}
 use Rattle.cidr_join.specs.Options.{begins, is_letter, option_of, said_by}
 use Rattle.cidr_join.specs.Private.Requests.{BeginsWith, behind_dashes}
@@ -117,11 +117,11 @@ module _ {Z : Type 0} (words : List (String Z)) (said : Request) (opens : Begins
     found = rest_right said.files (drop said.files words) right ∙ sym (ap Some files_are)
 
     together_is : (once : Bool) → once ≡ nat_le (said.inputs + inputs_among files) 1
-        → together_by (crossed_problem said) said.has_list once ≡ together_problem (said_by opens.options) files
+        → together_by (crossed_problem said) (has_source said) once ≡ together_problem (said_by opens.options) files
     together_is once e =
-        ap (together_by (crossed_problem said) said.has_list) e ∙ ap (λ (r : Request). together_problem r files) opens.is_said
+        ap (together_by (crossed_problem said) (has_source said)) e ∙ ap (λ (r : Request). together_problem r files) opens.is_said
 
-    pub all_are_wrong : (once : Bool) → once ≡ nat_le (said.inputs + inputs_among files) 1 → (problem : Problem) → together_by (crossed_problem said) said.has_list once ≡ Some problem
+    pub all_are_wrong : (once : Bool) → once ≡ nat_le (said.inputs + inputs_among files) 1 → (problem : Problem) → together_by (crossed_problem said) (has_source said) once ≡ Some problem
         → AsksNothing words × HasFault words (about about_this.CommandLine problem)
     all_are_wrong once e problem is = (
       wrong_together words opens.options (drop said.files words) opens.begin opens.no_more files problem found
@@ -135,10 +135,10 @@ module _ {Z : Type 0} (words : List (String Z)) (said : Request) (opens : Begins
       },
     )
 
-    pub all_are_right : (once : Bool) → once ≡ nat_le (said.inputs + inputs_among files) 1 → together_by (crossed_problem said) said.has_list once ≡ None
+    pub all_are_right : (once : Bool) → once ≡ nat_le (said.inputs + inputs_among files) 1 → together_by (crossed_problem said) (has_source said) once ≡ None
         → (place : ℕ) → drop place words ≡ files → Says words (record said { files = place })
     all_are_right once e is place at =
-        let right = together_right (crossed_problem said) said.has_list once is in
+        let right = together_right (crossed_problem said) (has_source said) once is in
         record {
           options = opens.options;
           rest = drop said.files words;
@@ -147,7 +147,7 @@ module _ {Z : Type 0} (words : List (String Z)) (said : Request) (opens : Begins
           no_more = opens.no_more;
           follow = found;
           said = ap (λ (r : Request). record r { files = place }) opens.is_said;
-          lists = right.1;
+          source = right.1;
           inputs = sym e ∙ right.2;
           together = right.0;
           place = at;
@@ -155,20 +155,21 @@ module _ {Z : Type 0} (words : List (String Z)) (said : Request) (opens : Begins
 
 -- ---- laws
 
-none_of : (a b c d e f j t z g h dash some all : Bool) → ((a || (b || (c || (d || (e || (f || (j || (t || (z || false))))))))) || (g || (h || false)) || (dash && (some && all))) ≡ false
-    → (a ≡ false) × (b ≡ false) × (c ≡ false) × (d ≡ false) × (e ≡ false) × (f ≡ false) × (j ≡ false) × (t ≡ false) × (z ≡ false) × (g ≡ false) × (h ≡ false) × ((dash && (some && all)) ≡ false)
-none_of true b c d e f j t z g h dash some all is = absurd (true≢false is)
-none_of false true c d e f j t z g h dash some all is = absurd (true≢false is)
-none_of false false true d e f j t z g h dash some all is = absurd (true≢false is)
-none_of false false false true e f j t z g h dash some all is = absurd (true≢false is)
-none_of false false false false true f j t z g h dash some all is = absurd (true≢false is)
-none_of false false false false false true j t z g h dash some all is = absurd (true≢false is)
-none_of false false false false false false true t z g h dash some all is = absurd (true≢false is)
-none_of false false false false false false false true z g h dash some all is = absurd (true≢false is)
-none_of false false false false false false false false true g h dash some all is = absurd (true≢false is)
-none_of false false false false false false false false false true h dash some all is = absurd (true≢false is)
-none_of false false false false false false false false false false true dash some all is = absurd (true≢false is)
-none_of false false false false false false false false false false false dash some all is = (refl, refl, refl, refl, refl, refl, refl, refl, refl, refl, refl, is)
+none_of : (a b c d e f j t z y g h dash some all : Bool) → ((a || (b || (c || (d || (e || (f || (j || (t || (z || (y || false)))))))))) || (g || (h || false)) || (dash && (some && all))) ≡ false
+    → (a ≡ false) × (b ≡ false) × (c ≡ false) × (d ≡ false) × (e ≡ false) × (f ≡ false) × (j ≡ false) × (t ≡ false) × (z ≡ false) × (g ≡ false) × (h ≡ false) × ((dash && (some && all)) ≡ false) × (y ≡ false)
+none_of true b c d e f j t z y g h dash some all is = absurd (true≢false is)
+none_of false true c d e f j t z y g h dash some all is = absurd (true≢false is)
+none_of false false true d e f j t z y g h dash some all is = absurd (true≢false is)
+none_of false false false true e f j t z y g h dash some all is = absurd (true≢false is)
+none_of false false false false true f j t z y g h dash some all is = absurd (true≢false is)
+none_of false false false false false true j t z y g h dash some all is = absurd (true≢false is)
+none_of false false false false false false true t z y g h dash some all is = absurd (true≢false is)
+none_of false false false false false false false true z y g h dash some all is = absurd (true≢false is)
+none_of false false false false false false false false true y g h dash some all is = absurd (true≢false is)
+none_of false false false false false false false false false true g h dash some all is = absurd (true≢false is)
+none_of false false false false false false false false false false true h dash some all is = absurd (true≢false is)
+none_of false false false false false false false false false false false true dash some all is = absurd (true≢false is)
+none_of false false false false false false false false false false false false dash some all is = (refl, refl, refl, refl, refl, refl, refl, refl, refl, refl, refl, is, refl)
 
 no_flags : {A : Type 0} (dash some all : Bool) (x none : A) → (dash && (some && all)) ≡ false → cond dash (cond (some && all) x none) none ≡ none
 no_flags false some all x none e = refl
@@ -176,18 +177,18 @@ no_flags true true true x none e = absurd (true≢false e)
 no_flags true true false x none e = refl
 no_flags true false all x none e = refl
 
-none_chosen : {A : Type 0} (a b c d e f j t z g h dash some all : Bool) (next k l m n o p q x none : A)
-    → ((a || (b || (c || (d || (e || (f || (j || (t || (z || false))))))))) || (g || (h || false)) || (dash && (some && all))) ≡ false
-    → cond (a || b || c || z) next (cond g k (cond h l (cond d m (cond e n (cond f o (cond j p (cond t q (cond dash (cond (some && all) x none) none)))))))) ≡ none
-none_chosen a b c d e f j t z g h dash some all next k l m n o p q x none is =
-    let others = none_of a b c d e f j t z g h dash some all is in
-    rw (others.0, others.1, others.2, others.8, others.9, others.10, others.3, others.4, others.5, others.6, others.7) (no_flags dash some all x none others.11)
+none_chosen : {A : Type 0} (a b c d e f j t z y g h dash some all : Bool) (next k l m n o p q x none : A)
+    → ((a || (b || (c || (d || (e || (f || (j || (t || (z || (y || false)))))))))) || (g || (h || false)) || (dash && (some && all))) ≡ false
+    → cond (a || b || c || z || y) next (cond g k (cond h l (cond d m (cond e n (cond f o (cond j p (cond t q (cond dash (cond (some && all) x none) none)))))))) ≡ none
+none_chosen a b c d e f j t z y g h dash some all next k l m n o p q x none is =
+    let others = none_of a b c d e f j t z y g h dash some all is in
+    rw (others.0, others.1, others.2, others.8, others.12, others.9, others.10, others.3, others.4, others.5, others.6, others.7) (no_flags dash some all x none others.11)
 
 no_option : {Z : Type 0} (word : String Z) (others : List (String Z)) → is_option_word (string_bytes word) ≡ false → option_of (word ∷ others) ≡ None
 no_option word others is =
     let w = string_bytes word in
     none_chosen (bytes_eq w (codes "-f")) (bytes_eq w (codes "-k")) (bytes_eq w (codes "-d")) (bytes_eq w (codes "--last")) (bytes_eq w (codes "--last-wins")) (bytes_eq w (codes "--network")) (bytes_eq w (codes "--mapped"))
-    (bytes_eq w (codes "--tally")) (bytes_eq w (codes "--after"))
+    (bytes_eq w (codes "--tally")) (bytes_eq w (codes "--after")) (bytes_eq w (codes "--group"))
     (begins (codes "-k") w) (begins (codes "-d") w) (begins (codes "-") w) (nat_lt 0 (length (drop 1 w))) (list_all is_letter (drop 1 w))
     _ _ _ _ _ _ _ _ _ _ is
 

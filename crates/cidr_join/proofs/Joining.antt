@@ -1,5 +1,5 @@
 -- How a log is joined, line by line.
-use Rattle.std.proofs.Common.{◌≡◌, ℕ, ◌+◌, ◌-◌, ◌*◌, ◌^◌, ◌<◌, ◌≤◌, ◌==◌, ◌&&◌, ◌⊎◌, Bool, true, false, if◌then◌else◌, List, [], ◌∷◌, ◌++◌, length, inl, inr, take, refl, sym, ap, ◌∙◌, subst, true≢false, arith, append_assoc, append-nil, length-append, length-take, length-drop}
+use Rattle.std.proofs.Common.{◌≡◌, ℕ, ◌+◌, ◌-◌, ◌*◌, ◌^◌, ◌<◌, ◌≤◌, ◌==◌, ◌&&◌, ◌||◌, ◌⊎◌, Bool, true, false, if◌then◌else◌, List, [], ◌∷◌, ◌++◌, length, inl, inr, take, refl, sym, ap, ◌∙◌, subst, true≢false, arith, append_assoc, append-nil, length-append, length-take, length-drop}
 use Rattle.std.specs.Prelude.{Option, Result, Ok, Err, OnOk}
 use Rattle.std.specs.Io.KnownBytes.{Appends}
 use Rattle.std.specs.List.{list_all}
@@ -17,47 +17,53 @@ use Rattle.lines.proofs.HandingOut.{has_no}
 use Rattle.lines.proofs.Putting.{puts_nothing, puts_out, puts_more}
 use Rattle.cidr_join.specs.Joins.{address_in, Finds, output_of}
 use Rattle.program.specs.LogLines.{LogLine, log_lines, content, printed, feed_behind, log_line}
-use Rattle.cidr_join.specs.Stands.{Stand, Goes}
-use Rattle.program.specs.Counts.{Counts}
-use Rattle.ipnetwork.specs.declared.ip_network.IpNetwork.{IpNetwork}
+use Rattle.cidr_join.specs.Addressed.{is_addressed, any_addressed}
+use Rattle.cidr_join.specs.Stands.{Stand, Sees, Goes}
 use Rattle.cidr_join.specs.Private.Progress.{shown, JoinsLine, JoinsSoFar}
 use Rattle.program.specs.LogReaders.{AreFirst}
+use Rattle.cidr_join.specs.declared.found.Found.{Found}
 use Rattle.cidr_join.specs.declared.join.Join.{Join}
-use Rattle.cidr_join.specs.declared.value.Value.{Value}
-use Rattle.program.proofs.Counts.{counts_more, counts_none}
+use Rattle.cidr_join.specs.declared.seen.Seen.{Seen}
 use Rattle.program.proofs.HandedLines.{printed_is, IsFirstOf, handed_first}
+use Rattle.cidr_join.proofs.Addressed.{sees_nothing, sees_more, any_more}
+use Rattle.cidr_join.proofs.Failing.{none_or}
 use Rattle.cidr_join.proofs.LogParts.{both}
 
 -- ---- stands
 
-pub goes_nowhere : (old : Stand) → Goes old old [] 0
+pub goes_nowhere : (old : Stand) → Goes old old [] 0 false
 goes_nowhere old = (
   puts_nothing old.holds old.waits,
-  counts_none old.lines old.lines refl,
+  sees_nothing old.seen,
 )
 
-pub goes_on : (old mid new : Stand) (first second : List ℕ) (m n : ℕ) → Goes old mid first m
-    → Goes mid new second n → Goes old new (first ++ second) (m + n)
-goes_on old mid new first second m n p q = (
+pub goes_on : (old mid new : Stand) (first second : List ℕ) (m n : ℕ) (a b : Bool)
+    → Goes old mid first m a → Goes mid new second n b
+    → Goes old new (first ++ second) (m + n) (a || b)
+goes_on old mid new first second m n a b p q = (
   puts_more old.holds mid.holds new.holds old.waits mid.waits new.waits first second p.0 q.0,
-  counts_more old.lines mid.lines new.lines m n p.1 q.1,
+  sees_more old.seen mid.seen new.seen m n a b p.1 q.1,
 )
 
 -- what waited is handed on
-pub goes_out : (mid new : Stand) → new.lines ≡ mid.lines
-    → new.waits ≡ [] → Appends mid.holds new.holds mid.waits → Goes mid new [] 0
-goes_out mid new lines none h = (
+pub goes_out : (mid new : Stand) → new.seen ≡ mid.seen
+    → new.waits ≡ [] → Appends mid.holds new.holds mid.waits → Goes mid new [] 0 false
+goes_out mid new same none h = (
   puts_out mid.holds new.holds mid.waits new.waits none h,
-  counts_none mid.lines new.lines lines,
+  subst (λ (s : Seen). Sees mid.seen s 0 false) (sym same) (sees_nothing mid.seen),
 )
 
 -- behind what was put
-pub goes_still : (old mid new : Stand) (added : List ℕ) (lines : ℕ)
-    → Goes old mid added lines → Goes mid new [] 0 → Goes old new added lines
-goes_still old mid new added lines p q =
-    let more = goes_on old mid new added [] lines 0 p q in (
+pub goes_still : (old mid new : Stand) (added : List ℕ) (lines : ℕ) (addressed : Bool)
+    → Goes old mid added lines addressed → Goes mid new [] 0 false
+    → Goes old new added lines addressed
+goes_still old mid new added lines addressed p q =
+    let more = goes_on old mid new added [] lines 0 addressed false p q in
+    let same : lines + 0 ≡ lines = omega arith in (
       subst (Puts old.holds old.waits new.holds new.waits) (append-nil added) more.0,
-      subst (Counts old.lines new.lines) (omega arith) more.1,
+      subst (λ (b : Bool). Sees old.seen new.seen lines b)
+          (none_or addressed (addressed || false) refl)
+          (subst (λ (n : ℕ). Sees old.seen new.seen n (addressed || false)) same more.1),
     )
 
 pub put_two_ok : {T E : Type 0} (result : Result T E) (held mid holds : Option (List ℕ))
@@ -127,10 +133,10 @@ module _ (join : Join) where
     still_first = subst (λ (e : Bool). AreFirst e s.read s.first s.pending) (sym same) s.lines
 
     -- a line more, whose output was put
-    one_more : (new : Stand) (line : List ℕ) (end : LineEnd) (found : Option (IpNetwork × Value))
+    one_more : (new : Stand) (line : List ℕ) (end : LineEnd) (found : Found)
         → HandsOut now s.pending line end → length line ≤ 1048576
         → Finds join (address_in join line) found
-        → Goes mid new (output_of join found (log_line line end)) 1
+        → Goes mid new (output_of join found (log_line line end)) 1 (is_addressed join line)
         → JoinsSoFar join room now remained remains old new
     one_more new line end found hands short finds goes =
         let next = log_line line end in
@@ -158,9 +164,13 @@ module _ (join : Join) where
             refl,
             sym (append-nil added),
           );
-          goes = subst (λ (n : ℕ). Goes old new (s.added ++ added) n)
+          goes = subst (λ (n : ℕ). Goes old new (s.added ++ added) n
+              (any_addressed join (s.first ++ next ∷ [])))
               (sym (length-append s.first (next ∷ [])))
-              (goes_on old mid new s.added added (length s.first) 1 s.goes goes);
+              (subst (λ (b : Bool). Goes old new (s.added ++ added) (length s.first + 1) b)
+              (any_more join s.first next line is.is)
+              (goes_on old mid new s.added added (length s.first) 1 (any_addressed join s.first)
+              (is_addressed join line) s.goes goes));
         }
 
     -- the line that was handed out was joined
@@ -176,12 +186,15 @@ module _ (join : Join) where
         let handed = handed_first now s.pending now.line end given.0 in
         one_more new now.line end f.0 given.0 (omega (arith, given.1, limit))
         (subst (λ (l : List ℕ). Finds join (address_in join l) f.0) is f.1)
-        (subst (λ (t : List ℕ). Goes mid new (shown join f.0 (content (log_line now.line end)) t) 1) text
-        (subst (λ (l : List ℕ). Goes mid new (shown join f.0 l (whole ++ feed_behind end)) 1)
-        (is ∙ sym handed.is) f.2))
+        (subst (λ (t : List ℕ). Goes mid new (shown join f.0 (content (log_line now.line end)) t) 1
+        (is_addressed join now.line)) text
+        (subst (λ (l : List ℕ). Goes mid new (shown join f.0 l (whole ++ feed_behind end)) 1
+        (is_addressed join now.line)) (is ∙ sym handed.is)
+        (subst (λ (l : List ℕ). Goes mid new (shown join f.0 line (whole ++ feed_behind end)) 1
+        (is_addressed join l)) is f.2)))
 
     -- what waited was written
-    pub handed_on : (new : Stand) → IsPending now s.pending → Goes mid new [] 0
+    pub handed_on : (new : Stand) → IsPending now s.pending → Goes mid new [] 0 false
         → JoinsSoFar join room now remained remains old new
     handed_on new holds goes = record {
       read = s.read;
@@ -195,7 +208,8 @@ module _ (join : Join) where
       ended = λ e. s.ended (sym same ∙ e);
       added = s.added;
       joins = s.joins;
-      goes = goes_still old mid new s.added (length s.first) s.goes goes;
+      goes = goes_still old mid new s.added (length s.first) (any_addressed join s.first) s.goes
+          goes;
     }
 
   -- what was read before the device is asked: no line of what is pending is whole
@@ -208,7 +222,7 @@ module _ (join : Join) where
   pub before_asking : (room : ℕ) (was now : Buffered) (remained remains : Option (List ℕ))
       (old mid new : Stand) → JoinsSoFar join room was remained remains old mid
       → ((pending : List ℕ) → IsPending was pending → Gives now pending Ask) → now.ended ≡ was.ended
-      → Goes mid new [] 0 → Idle room now remained remains old new
+      → Goes mid new [] 0 false → Idle room now remained remains old new
   unfolding handed_on
   before_asking room was now remained remains old mid new s gives same goes =
       let given = gives s.pending s.holds in

@@ -66,11 +66,11 @@ not_behind_an_option flag word others law f w =
     law (choices.Letters (letters true false) ∷ []) word others (rw f, rw f) (ap is_option_word w) (ap (begins_with (codes "-")) w) (ap (is_one_of (codes "-" ∷ codes "--" ∷ [])) w)
 
 -- the law leaves out the words of options, and no others
-pub words_of_options : list_all is_option_word (codes "-f" ∷ codes "-k" ∷ codes "-k3" ∷ codes "-d" ∷ codes "-d," ∷ codes "--last" ∷ codes "--last-wins" ∷ codes "--network" ∷ codes "--mapped" ∷ codes "--tally" ∷ codes "--after" ∷ codes "-a" ∷ codes "-w" ∷ codes "-aw" ∷ []) ≡ true
+pub words_of_options : list_all is_option_word (codes "-f" ∷ codes "-k" ∷ codes "-k3" ∷ codes "-d" ∷ codes "-d," ∷ codes "--last" ∷ codes "--last-wins" ∷ codes "--network" ∷ codes "--mapped" ∷ codes "--tally" ∷ codes "--after" ∷ codes "--group" ∷ codes "-a" ∷ codes "-w" ∷ codes "-aw" ∷ []) ≡ true
 words_of_options = refl
 
 pub words_of_none :
-    list_any is_option_word ([] ∷ codes "-" ∷ codes "--" ∷ codes "f" ∷ codes "-fx" ∷ codes "-e" ∷ codes "-K" ∷ codes "--last-win" ∷ codes "--network=" ∷ codes "--map" ∷ codes "--tall" ∷ codes "--after=x" ∷ codes "--help" ∷ codes "-ax" ∷ codes "-v" ∷ []) ≡ false
+    list_any is_option_word ([] ∷ codes "-" ∷ codes "--" ∷ codes "f" ∷ codes "-fx" ∷ codes "-e" ∷ codes "-K" ∷ codes "--last-win" ∷ codes "--network=" ∷ codes "--map" ∷ codes "--tall" ∷ codes "--after=x" ∷ codes "--group=24,64" ∷ codes "--grou" ∷ codes "--help" ∷ codes "-ax" ∷ codes "-v" ∷ []) ≡ false
 words_of_none = refl
 
 -- ---- one fault

@@ -1,5 +1,8 @@
+pub mod Addressed
+pub mod Examples
 pub mod Failing
 pub mod Faults
+pub mod JoinedWords
 pub mod Joining
 pub mod LawExamples
 pub mod LogParts
@@ -19,3 +22,4 @@ pub mod TallyParts
 pub mod TallyRows
 pub mod Tallying
 pub mod Trims
+pub mod WordOrder

@@ -15,12 +15,17 @@ use Rattle.cidr_join.specs.Joins.{Joins}
 use Rattle.cidr_join.specs.Logs.{JoinsLogs, RefusesAfter, HaltsBy}
 use Rattle.program.specs.Logs.{IsAllOf, IsFirstOf}
 use Rattle.cidr_join.specs.Stands.{Stand, stand}
+use Rattle.program.specs.Messages.{Tells}
 use Rattle.program.proofs.Counts.{counts_from_none}
+use Rattle.program.proofs.Told.{tells_more, tells_nothing, tells_same}
+use Rattle.cidr_join.specs.Addressed.{any_addressed, lacking_by, lacking_text}
 use Rattle.cidr_join.specs.Stops.{Ends, EndsAtLine, Stops}
 use Rattle.cidr_join.specs.Private.Runs.{JoinsNames}
 use Rattle.cidr_join.specs.declared.join.Join.{Join}
 use Rattle.cidr_join.specs.declared.log.LogFault.{LogFault}
 use Rattle.cidr_join.specs.declared.log.LogFault.TheVariants as faults
+use Rattle.cidr_join.specs.declared.seen.Seen.{Seen}
+use Rattle.cidr_join.proofs.Addressed.{nothing_seen, lacking_same}
 
 -- ---- what was read of a log
 
@@ -46,11 +51,11 @@ first_part read last input b = (last ++ b.0, b.1 ∙ append_assoc read last b.0)
 -- the output of the first lines was put, of which there were this many, or the writer failed, which took a beginning of
 -- it
 abbrev pub PutsBy : LogFault → Bool → Stand → Stand → List ℕ → ℕ → Type 0
-PutsBy (faults.Open cause) failed old new added lines = Puts old.holds old.waits new.holds new.waits added × (new.lines ≡ min lines (2 ^ 64 - 1))
-PutsBy faults.Read failed old new added lines = Puts old.holds old.waits new.holds new.waits added × (new.lines ≡ min lines (2 ^ 64 - 1))
+PutsBy (faults.Open cause) failed old new added lines = Puts old.holds old.waits new.holds new.waits added × (new.seen.lines ≡ min lines (2 ^ 64 - 1))
+PutsBy faults.Read failed old new added lines = Puts old.holds old.waits new.holds new.waits added × (new.seen.lines ≡ min lines (2 ^ 64 - 1))
 PutsBy faults.Write failed old new added lines = IsTrue failed × AppendsBeginning old.holds new.holds (old.waits ++ added)
-PutsBy faults.Length failed old new added lines = Puts old.holds old.waits new.holds new.waits added × (new.lines ≡ min lines (2 ^ 64 - 1))
-PutsBy faults.Endless failed old new added lines = Puts old.holds old.waits new.holds new.waits added × (new.lines ≡ min lines (2 ^ 64 - 1))
+PutsBy faults.Length failed old new added lines = Puts old.holds old.waits new.holds new.waits added × (new.seen.lines ≡ min lines (2 ^ 64 - 1))
+PutsBy faults.Endless failed old new added lines = Puts old.holds old.waits new.holds new.waits added × (new.seen.lines ≡ min lines (2 ^ 64 - 1))
 
 -- the log of this name was not joined to its end, by the fault
 pub record NameStops (join : Join) (known : KnownLists) (name : List ℕ) (failed : Bool) (old new : Stand) (fault : LogFault) : Type 0 where
@@ -117,7 +122,7 @@ module _ (join : Join) (known : KnownLists) where
     }
 
     -- a log that was not joined to its end
-    pub stops_by : (read_failed write_failed : Bool) (old new : Stand) (fault : LogFault) → (IsTrue read_failed → known.may_fail name) → old.lines ≡ 0 → Stops join remained remains read_failed write_failed old new fault
+    pub stops_by : (read_failed write_failed : Bool) (old new : Stand) (fault : LogFault) → (IsTrue read_failed → known.may_fail name) → old.seen.lines ≡ 0 → Stops join remained remains read_failed write_failed old new fault
         → NameStops join known name write_failed old new fault
     stops_by read_failed write_failed old new (faults.Open cause) fails zero h = absurd h
     stops_by read_failed write_failed old new faults.Read fails zero h = record {
@@ -125,7 +130,7 @@ module _ (join : Join) (known : KnownLists) where
       added = h.3.added;
       joins = h.3.joins;
       halts = (h.1, first_of h.1 h.2, refl, opened, fails h.0);
-      puts = (h.3.goes.0, counts_from_none old.lines new.lines _ zero h.3.goes.1);
+      puts = (h.3.goes.0, counts_from_none old.seen.lines new.seen.lines _ zero h.3.goes.1.0);
     }
     stops_by read_failed write_failed old new faults.Write fails zero h = record {
       lines = h.1.first;
@@ -139,18 +144,18 @@ module _ (join : Join) (known : KnownLists) where
       added = h.added;
       joins = h.joins;
       halts = (line_halts old new h, opened);
-      puts = (h.goes.0, counts_from_none old.lines new.lines _ zero h.goes.1);
+      puts = (h.goes.0, counts_from_none old.seen.lines new.seen.lines _ zero h.goes.1.0);
     }
     stops_by read_failed write_failed old new faults.Endless fails zero h = record {
       lines = ended_lines h.0;
       added = h.4.added;
       joins = h.4.joins;
       halts = (h.0, h.1, first_of (h.0 ++ h.1) h.2, h.3, refl, opened);
-      puts = (h.4.goes.0, counts_from_none old.lines new.lines _ zero h.4.goes.1);
+      puts = (h.4.goes.0, counts_from_none old.seen.lines new.seen.lines _ zero h.4.goes.1.0);
     }
 
   -- a log that was not opened
-  pub name_closed : (name : List ℕ) (cause : OpenFault) (failed : Bool) (old : Stand) → old.lines ≡ 0 → known.may_open name false → known.may_miss name cause → NameStops join known name failed old old (faults.Open cause)
+  pub name_closed : (name : List ℕ) (cause : OpenFault) (failed : Bool) (old : Stand) → old.seen.lines ≡ 0 → known.may_open name false → known.may_miss name cause → NameStops join known name failed old old (faults.Open cause)
   name_closed name cause failed old zero closed missed = record {
     lines = [];
     added = [];
@@ -161,40 +166,53 @@ module _ (join : Join) (known : KnownLists) where
 
   -- ---- logs in turn
 
-  pub names_none : {W : Type 0} (old : Written W) → JoinsNames join known [] old old
-  names_none old = record {
+  pub names_none : {W E : Type 0} (old : Written W) (errors : Written E) → JoinsNames join known [] old old errors errors
+  names_none old errors = record {
     output = [];
-    joins = refl;
+    text = [];
+    joins = (refl, refl);
+    tells = tells_nothing errors;
     puts = puts_nothing old.holds old.waits;
   }
 
-  pub joins_both : (first second : List (List ℕ)) (a b : List ℕ) → JoinsLogs join known first a → JoinsLogs join known second b
-      → JoinsLogs join known (first ++ second) (a ++ b)
-  joins_both [] second a b f g = subst (λ (t : List ℕ). JoinsLogs join known second (t ++ b)) (sym f) g
-  joins_both (name ∷ first) second a b f g = (
+  pub joins_both : (first second : List (List ℕ)) (a b s t : List ℕ) → JoinsLogs join known first a s → JoinsLogs join known second b t
+      → JoinsLogs join known (first ++ second) (a ++ b) (s ++ t)
+  joins_both [] second a b s t f g =
+      subst (λ (l : List ℕ). JoinsLogs join known second (a ++ b) (l ++ t)) (sym f.1)
+      (subst (λ (l : List ℕ). JoinsLogs join known second (l ++ b) t) (sym f.0) g)
+  joins_both (name ∷ first) second a b s t f g = (
     f.0,
     f.1,
     f.2 ++ b,
-    f.3,
+    f.3 ++ t,
     f.4,
-    joins_both first second f.2 b f.5 g,
-    ap (λ t. t ++ b) f.6 ∙ append_assoc f.1 f.2 b,
+    f.5,
+    joins_both first second f.2 b f.3 t f.6 g,
+    ap (λ (l : List ℕ). l ++ b) f.7 ∙ append_assoc f.1 f.2 b,
+    ap (λ (l : List ℕ). l ++ t) f.8 ∙ append_assoc (lacking_text join name (log_lines f.0)) f.3 t,
   )
 
   -- the one log, of which this was the output
-  pub name_joined : {W : Type 0} (name : List ℕ) (remained remains : Option (List ℕ)) (has : (input : List ℕ) → known.bytes_of name ≡ Some input → remained ≡ Some input)
-      → known.may_open name true → (old new : Written W) (m n : ℕ) → Ends join remained remains (stand old m) (stand new n) → JoinsNames join known (name ∷ []) old new
-  name_joined name remained remains has opened old new m n h = record {
+  pub name_joined : {W E : Type 0} (name : List ℕ) (remained remains : Option (List ℕ)) (has : (input : List ℕ) → known.bytes_of name ≡ Some input → remained ≡ Some input)
+      → known.may_open name true → (old new : Written W) (errors told : Written E) (seen : Seen) → Ends join remained remains (stand old nothing_seen) (stand new seen)
+      → Tells errors told (lacking_by join.place name seen.lines seen.is_addressed) → JoinsNames join known (name ∷ []) old new errors told
+  name_joined name remained remains has opened old new errors told seen h tells = record {
     output = h.added ++ [];
-    joins = (h.read, h.added, [], all_of name remained remains has opened h.read h.reads h.end, h.joins, refl, refl);
+    text = lacking_text join name (log_lines h.read) ++ [];
+    joins = (h.read, h.added, [], [], all_of name remained remains has opened h.read h.reads h.end, h.joins, (refl, refl), refl, refl);
+    tells = tells_same errors told _ _
+        (lacking_same join.place name seen.lines (length (log_lines h.read)) seen.is_addressed (any_addressed join (log_lines h.read)) (counts_from_none 0 seen.lines _ refl h.goes.1.0) h.goes.1.1
+        ∙ sym (append-nil (lacking_text join name (log_lines h.read)))) tells;
     puts = subst (λ (t : List ℕ). Prints old new t) (sym (append-nil h.added)) h.goes.0;
   }
 
-  pub names_both : {W : Type 0} (first second : List (List ℕ)) (old mid new : Written W) → JoinsNames join known first old mid → JoinsNames join known second mid new
-      → JoinsNames join known (first ++ second) old new
-  names_both first second old mid new f g = record {
+  pub names_both : {W E : Type 0} (first second : List (List ℕ)) (old mid new : Written W) (errors between told : Written E) → JoinsNames join known first old mid errors between
+      → JoinsNames join known second mid new between told → JoinsNames join known (first ++ second) old new errors told
+  names_both first second old mid new errors between told f g = record {
     output = f.output ++ g.output;
-    joins = joins_both first second f.output g.output f.joins g.joins;
+    text = f.text ++ g.text;
+    joins = joins_both first second f.output g.output f.text g.text f.joins g.joins;
+    tells = tells_more errors between told f.text g.text f.tells g.tells;
     puts = puts_more old.holds mid.holds new.holds old.waits mid.waits new.waits f.output g.output f.puts g.puts;
   }
 

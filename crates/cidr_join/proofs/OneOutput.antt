@@ -9,10 +9,14 @@ use Rattle.ipnetwork.specs.declared.ip_network.IpNetwork.TheVariants as networks
 use Rattle.ipnetwork_family.specs.Network.{Network, HostBitsAreZero}
 use Rattle.ipnetwork_table.specs.Laws.{BlocksOfAnyWidthThatMeet}
 use Rattle.ipnetwork_table.specs.Table.{IsLongest, NoneHolds}
-use Rattle.cidr_join.specs.Joins.{Finds, output_of, Joins}
+use Rattle.cidr_join.specs.Joins.{FindsBy, Finds, output_of, Joins}
 use Rattle.cidr_join.specs.Laws.{LogsHaveOneOutput}
 use Rattle.program.specs.LogLines.{LogLine, log_lines}
 use Rattle.cidr_join.specs.Routes.{Values, IsLongestRoute, NoRouteHolds}
+use Rattle.cidr_join.specs.declared.answers.Answers.{Answers}
+use Rattle.cidr_join.specs.declared.answers.Answers.TheVariants as answers
+use Rattle.cidr_join.specs.declared.found.Found.{Found}
+use Rattle.cidr_join.specs.declared.found.Found.TheVariants as founds
 use Rattle.cidr_join.specs.declared.join.Join.{Join}
 use Rattle.cidr_join.specs.declared.routes.Routes.{Routes}
 use Rattle.cidr_join.specs.declared.value.Value.{Value}
@@ -56,19 +60,43 @@ apart routes (addresses.V4 a) (networks.V6 n) v p none = p
 apart routes (addresses.V6 a) (networks.V4 n) v p none = p
 apart routes (addresses.V6 a) (networks.V6 n) v p none = not_both 128 routes.v6 a n v p.0 none
 
-pub one_found : BlocksOfAnyWidthThatMeet → (join : Join) (address : Option IpAddr) (a b : Option (IpNetwork × Value)) → Finds join address a → Finds join address b → a ≡ b
+network_of : Option (IpNetwork × Value) → Found
+network_of None = founds.Nothing
+network_of (Some found) = founds.Network found.0
+
+value_of : Option (IpNetwork × Value) → Found
+value_of None = founds.Nothing
+value_of (Some found) = founds.Value found.1
+
+-- one address has one answer
+one_answer : BlocksOfAnyWidthThatMeet → (by : Answers) (address : IpAddr) (a b : Found) → FindsBy by address a → FindsBy by address b → a ≡ b
+unfolding network_of value_of
+one_answer meet (answers.Values routes) address (founds.Network m) b p q = absurd p
+one_answer meet (answers.Values routes) address (founds.Value v) (founds.Network n) p q = absurd q
+one_answer meet (answers.Values routes) address (founds.Value v) (founds.Value u) p q = ap value_of (one_route meet routes address p.0 q.0 v u p.1 q.1)
+one_answer meet (answers.Values routes) address (founds.Value v) founds.Nothing p q = absurd (apart routes address p.0 v p.1 q)
+one_answer meet (answers.Values routes) address founds.Nothing (founds.Network n) p q = absurd q
+one_answer meet (answers.Values routes) address founds.Nothing (founds.Value u) p q = absurd (apart routes address q.0 u q.1 p)
+one_answer meet (answers.Values routes) address founds.Nothing founds.Nothing p q = refl
+one_answer meet (answers.Networks routes) address (founds.Value v) b p q = absurd p
+one_answer meet (answers.Networks routes) address (founds.Network m) (founds.Value u) p q = absurd q
+one_answer meet (answers.Networks routes) address (founds.Network m) (founds.Network n) p q = ap network_of (one_route meet routes address m n p.0 q.0 p.1 q.1)
+one_answer meet (answers.Networks routes) address (founds.Network m) founds.Nothing p q = absurd (apart routes address m p.0 p.1 q)
+one_answer meet (answers.Networks routes) address founds.Nothing (founds.Value u) p q = absurd q
+one_answer meet (answers.Networks routes) address founds.Nothing (founds.Network n) p q = absurd (apart routes address n q.0 q.1 p)
+one_answer meet (answers.Networks routes) address founds.Nothing founds.Nothing p q = refl
+one_answer meet (answers.Blocks lengths) address a b p q = p ∙ sym q
+
+pub one_found : BlocksOfAnyWidthThatMeet → (join : Join) (address : Option IpAddr) (a b : Found) → Finds join address a → Finds join address b → a ≡ b
 one_found meet join None a b p q = p ∙ sym q
-one_found meet join (Some address) None None p q = refl
-one_found meet join (Some address) None (Some (n, u)) p q = absurd (apart join.routes address n u q p)
-one_found meet join (Some address) (Some (m, v)) None p q = absurd (apart join.routes address m v p q)
-one_found meet join (Some address) (Some (m, v)) (Some (n, u)) p q = one_route meet join.routes address m n v u p q
+one_found meet join (Some address) a b p q = one_answer meet join.answers address a b p q
 
 one_of_lines : BlocksOfAnyWidthThatMeet → (join : Join) (lines : List LogLine) (a b : List ℕ) → Joins join lines a → Joins join lines b → a ≡ b
 one_of_lines meet join [] a b p q = p ∙ sym q
 one_of_lines meet join (line ∷ lines) a b p q =
     let same : p.0 ≡ q.0 = one_found meet join _ p.0 q.0 p.3 q.3 in
     let others = one_of_lines meet join lines p.1 q.1 p.4 q.4 in
-    p.5 ∙ ap (λ (f : Option (IpNetwork × Value)). output_of join f line ++ p.1) same ∙ ap (λ t. output_of join q.0 line ++ t) others ∙ sym q.5
+    p.5 ∙ ap (λ (f : Found). output_of join f line ++ p.1) same ∙ ap (λ t. output_of join q.0 line ++ t) others ∙ sym q.5
 
 pub one_output : BlocksOfAnyWidthThatMeet → LogsHaveOneOutput
 one_output meet join log a b p q = one_of_lines meet join (log_lines log) a b p q

@@ -5,7 +5,7 @@ use Rattle.std.proofs.lemmas.Bool.{cases_lt}
 use Rattle.std.proofs.lemmas.List.{drop-drop, drop_all}
 use Rattle.std.proofs.lemmas.List.Sums.{fold-append}
 use Rattle.std.proofs.lemmas.Option.{none-some}
-use Rattle.cidr_join.specs.CommandLines.{Begin, files_among, crossed_problem, AsksNothing}
+use Rattle.cidr_join.specs.CommandLines.{Begin, files_among, crossed_problem, has_source, AsksNothing}
 use Rattle.cidr_join.specs.Options.{option_of, behind_option, takes_next, said_by}
 use Rattle.cidr_join.specs.Usage.{together_by, together_problem}
 use Rattle.cidr_join.specs.declared.command_line.Request.{Request}
@@ -78,6 +78,6 @@ module _ {Z : Type 0} (words : List (String Z)) (options : List Choice) (rest : 
   wrong_together files problem found wrong request s =
       let same = one_reading words options s.options rest s.rest begin none s.begin s.no_more in
       let file : s.files ≡ files = same_value s.files files (sym s.follow ∙ ap files_among same.1 ∙ found) in
-      none-some problem (sym (right_together (crossed_problem request) request.has_list _ s.together s.lists s.inputs)
+      none-some problem (sym (right_together (crossed_problem request) (has_source request) _ s.together s.source s.inputs)
       ∙ ap (λ (r : Request). together_problem r s.files) s.said
       ∙ ap (λ o. together_problem (said_by o) s.files) same.0 ∙ ap (together_problem (said_by options)) file ∙ wrong)

@@ -1,13 +1,14 @@
 -- How a run ends.
 use Rattle.std.proofs.Common.{◌≡◌, ◌==◌, ◌+◌, ◌-◌, ◌^◌, ◌<◌, ◌≤◌, ◌++◌, ◌∷◌, ◌∙◌, [], ◌||◌, ℕ, List, Bool, true, false, true≢false, refl, sym, ap, subst, inl, inr, arith, length, min, map, take, drop, take-append-drop, get_or, append_assoc, append-nil, decimal, codes}
-use Rattle.std.specs.Prelude.{Result, Ok, Err, OnOk, OnErr, IsTrue, is_err, String}
+use Rattle.std.specs.Prelude.{Option, None, Result, Ok, Err, OnOk, OnErr, IsTrue, is_err, String}
+use Rattle.std.specs.List.{slice_split}
 use Rattle.std.specs.String.{string_bytes}
 use Rattle.std.specs.Io.KnownBytes.{Appends}
 use Rattle.std.proofs.lemmas.Bool.{ne_eqb}
 use Rattle.std.proofs.lemmas.List.{take_all, take_more, map_push}
 use Rattle.lines.specs.Outputs.{Written, AppendsBeginning, Prints, Writes, FailsIn}
 use Rattle.lines.proofs.Putting.{begins_after_puts}
-use Rattle.program.proofs.Told.{tells_same}
+use Rattle.program.proofs.Told.{tells_more, tells_same}
 use Rattle.program.specs.Endings.{Ending, ending, Refuses, HasTold, HasWritten, status_of, end_text}
 use Rattle.program.specs.Messages.{Tells}
 use Rattle.lists.specs.KnownLists.{KnownLists}
@@ -15,20 +16,24 @@ use Rattle.cidr_join.specs.Joins.{Joins}
 use Rattle.program.specs.LogLines.{LogLine}
 use Rattle.cidr_join.specs.Logs.{HaltsBy}
 use Rattle.program.specs.Logs.{logs_of, IsAllOf}
-use Rattle.cidr_join.specs.Routes.{Values}
-use Rattle.cidr_join.specs.Runs.{FailsWriting, Wrote, StopsAtLog, JoinsAll, EndsLogs, EndsAsked, list_name, EndsJoining, EndsRequest}
+use Rattle.cidr_join.specs.Routes.{Values, no_networks}
+use Rattle.cidr_join.specs.Runs.{FailsWriting, Wrote, StopsAtLog, JoinsAll, EndsLogs, EndsAsked, EndsWords, EndsFinding, EndsGrouping, EndsJoining, EndsRequest, answers_of, join_of, list_name}
 use Rattle.cidr_join.specs.TallyRuns.{EndsTally}
 use Rattle.cidr_join.specs.Stands.{stand}
+use Rattle.cidr_join.specs.Takes.{TakesLines}
 use Rattle.cidr_join.specs.Texts.{TextStops}
 use Rattle.cidr_join.specs.Told.{text_fault_text, log_fault_text}
 use Rattle.program.specs.LogFaults.{line_text}
 use Rattle.cidr_join.specs.Private.Runs.{JoinsNames, HandsOn, StopsBy}
+use Rattle.cidr_join.specs.declared.answers.Answers.{Answers}
 use Rattle.cidr_join.specs.declared.command_line.Request.{Request}
 use Rattle.cidr_join.specs.declared.join.Join.{Join}
+use Rattle.cidr_join.specs.declared.lengths.Lengths.{Lengths}
 use Rattle.cidr_join.specs.declared.log.LogFault.{LogFault}
 use Rattle.cidr_join.specs.declared.log.LogFault.TheVariants as faults
 use Rattle.cidr_join.specs.declared.routes.Networks.{Networks}
 use Rattle.cidr_join.specs.declared.routes.Routes.{Routes}
+use Rattle.cidr_join.specs.declared.seen.Seen.{Seen}
 use Rattle.cidr_join.specs.declared.text.TextFault.{TextFault}
 use Rattle.cidr_join.proofs.LogsInTurn.{PutsBy, NameStops, names_both, some_first, joins_both, puts_then_all}
 use Rattle.cidr_join.proofs.Stopping.{failed_now}
@@ -57,11 +62,12 @@ at_log join known name fault lines added end two joined halts wrote told = recor
   name = name;
   behind = [];
   output = [];
+  texts = [];
   lines = lines;
   added = added;
   fault = fault;
   logs = refl;
-  joins = refl;
+  joins = (refl, refl);
   first = joined;
   halts = halts;
   wrote = wrote;
@@ -106,7 +112,7 @@ module _ {W E : Type 0} (join : Join) (known : KnownLists) (name : List ℕ) (li
       at_log join known name faults.Write lines added end two joined halts
       (subst (λ (o : Written W). (o.failed ≡ true) × FailsIn end.output o added) (sym stops.0) p) stops.1
 
-  stops_now : (fault : LogFault) (old new : ℕ) → new ≡ told → HaltsBy known name lines fault
+  stops_now : (fault : LogFault) (old new : Seen) → new.lines ≡ told → HaltsBy known name lines fault
       → PutsBy fault mid.failed (stand end.output old) (stand mid new) added (length lines)
       → StopsBy name told fault (record end { output = mid }) → StopsAtLog join known (name ∷ []) end
   stops_now (faults.Open cause) old new same halts puts stops = handed (faults.Open cause) halts (λ text h. h) (puts.0, sym same ∙ puts.1) stops
@@ -116,45 +122,47 @@ module _ {W E : Type 0} (join : Join) (known : KnownLists) (name : List ℕ) (li
   stops_now faults.Endless old new same halts puts stops = handed faults.Endless halts (λ text h. h) (puts.0, sym same ∙ puts.1) stops
 
 -- a log that was not joined to its end
-pub name_stops : {W E : Type 0} (join : Join) (known : KnownLists) (name : List ℕ) (end : Ending W E) → end.status ≡ 2 → (mid : Written W) (fault : LogFault) (old new : ℕ)
-    → NameStops join known name mid.failed (stand end.output old) (stand mid new) fault → StopsBy name new fault (record end { output = mid })
+pub name_stops : {W E : Type 0} (join : Join) (known : KnownLists) (name : List ℕ) (end : Ending W E) → end.status ≡ 2 → (mid : Written W) (fault : LogFault) (old new : Seen)
+    → NameStops join known name mid.failed (stand end.output old) (stand mid new) fault → StopsBy name new.lines fault (record end { output = mid })
     → StopsAtLog join known (name ∷ []) end
 name_stops join known name end two mid fault old new s stops =
-    stops_now join known name s.lines s.added s.joins end two mid new fault old new refl s.halts s.puts stops
+    stops_now join known name s.lines s.added s.joins end two mid new.lines fault old new refl s.halts s.puts stops
 
 -- ---- logs in turn
 
-wrote_behind : {W E : Type 0} (fault : LogFault) (end : Ending W E) (mid : Written W) (output text : List ℕ)
+wrote_behind : {W E : Type 0} (fault : LogFault) (end : Ending W E) (mid : Written W) (between : Written E) (output text : List ℕ)
     → Prints end.output mid output
-    → Wrote fault (record end { output = mid }) text → Wrote fault end (output ++ text)
-wrote_behind (faults.Open cause) end mid output text p h = puts_then_all _ _ _ _ _ output text p h
-wrote_behind faults.Read end mid output text p h = puts_then_all _ _ _ _ _ output text p h
-wrote_behind faults.Write end mid output text p h = (h.0, begins_after_puts _ _ _ _ _ output text p h.1)
-wrote_behind faults.Length end mid output text p h = puts_then_all _ _ _ _ _ output text p h
-wrote_behind faults.Endless end mid output text p h = puts_then_all _ _ _ _ _ output text p h
+    → Wrote fault (record end { output = mid; errors = between }) text → Wrote fault end (output ++ text)
+wrote_behind (faults.Open cause) end mid between output text p h = puts_then_all _ _ _ _ _ output text p h
+wrote_behind faults.Read end mid between output text p h = puts_then_all _ _ _ _ _ output text p h
+wrote_behind faults.Write end mid between output text p h = (h.0, begins_after_puts _ _ _ _ _ output text p h.1)
+wrote_behind faults.Length end mid between output text p h = puts_then_all _ _ _ _ _ output text p h
+wrote_behind faults.Endless end mid between output text p h = puts_then_all _ _ _ _ _ output text p h
 
 wrote_same : {W E : Type 0} (fault : LogFault) (end : Ending W E) (text other : List ℕ) → text ≡ other → Wrote fault end text → Wrote fault end other
 wrote_same fault end text other e h = subst (λ (t : List ℕ). Wrote fault end t) e h
 
 -- a log that stops behind others that were joined
-pub stops_behind_names : {W E : Type 0} (join : Join) (known : KnownLists) (done more rest names : List (List ℕ)) (end : Ending W E) (mid : Written W)
+pub stops_behind_names : {W E : Type 0} (join : Join) (known : KnownLists) (done more rest names : List (List ℕ)) (end : Ending W E) (mid : Written W) (between : Written E)
     → names ≡ done ++ (more ++ rest)
-    → JoinsNames join known done end.output mid
-    → StopsAtLog join known more (record end { output = mid }) → StopsAtLog join known names end
-stops_behind_names join known done more rest names end mid e f s = record {
+    → JoinsNames join known done end.output mid end.errors between
+    → StopsAtLog join known more (record end { output = mid; errors = between }) → StopsAtLog join known names end
+stops_behind_names join known done more rest names end mid between e f s = record {
   before = done ++ s.before;
   name = s.name;
   behind = s.behind ++ rest;
   output = f.output ++ s.output;
+  texts = f.text ++ s.texts;
   lines = s.lines;
   added = s.added;
   fault = s.fault;
   logs = e ∙ ap (λ l. done ++ (l ++ rest)) s.logs ∙ ap (λ l. done ++ l) (append_assoc s.before (s.name ∷ s.behind) rest) ∙ sym (append_assoc done s.before (s.name ∷ (s.behind ++ rest)));
-  joins = joins_both join known done s.before f.output s.output f.joins s.joins;
+  joins = joins_both join known done s.before f.output s.output f.text s.texts f.joins s.joins;
   first = s.first;
   halts = s.halts;
-  wrote = wrote_same s.fault end _ _ (sym (append_assoc f.output s.output s.added)) (wrote_behind s.fault end mid f.output (s.output ++ s.added) f.puts s.wrote);
-  told = s.told;
+  wrote = wrote_same s.fault end _ _ (sym (append_assoc f.output s.output s.added)) (wrote_behind s.fault end mid between f.output (s.output ++ s.added) f.puts s.wrote);
+  told = tells_same end.errors end.errors_after _ _ (sym (append_assoc f.text s.texts (log_fault_text s.name (length s.lines) s.fault)))
+      (tells_more end.errors between end.errors_after f.text (s.texts ++ log_fault_text s.name (length s.lines) s.fault) f.tells s.told);
   status = s.status;
 }
 
@@ -185,59 +193,61 @@ names_apart files i name e =
 
 -- ---- one file more
 
-module _ {Z W : Type 0} (join : Join) (known : KnownLists) (files : List (String Z)) where
+module _ {Z W E : Type 0} (join : Join) (known : KnownLists) (files : List (String Z)) where
   -- there is none
-  pub input_named : (old new : Written W) → (length files == 0) ≡ true → JoinsNames join known (codes "-" ∷ []) old new → JoinsNames join known (logs_of files) old new
-  input_named old new none h = subst (λ (n : List (List ℕ)). JoinsNames join known n old new) (sym (logs_none files none)) h
+  pub input_named : (old new : Written W) (errors told : Written E) → (length files == 0) ≡ true → JoinsNames join known (codes "-" ∷ []) old new errors told → JoinsNames join known (logs_of files) old new errors told
+  input_named old new errors told none h = subst (λ (n : List (List ℕ)). JoinsNames join known n old new errors told) (sym (logs_none files none)) h
 
-  pub input_stops : {E : Type 0} (end : Ending W E) → (length files == 0) ≡ true → StopsAtLog join known (codes "-" ∷ []) end → StopsAtLog join known (logs_of files) end
+  pub input_stops : (end : Ending W E) → (length files == 0) ≡ true → StopsAtLog join known (codes "-" ∷ []) end → StopsAtLog join known (logs_of files) end
   input_stops end none h = subst (λ (n : List (List ℕ)). StopsAtLog join known n end) (sym (logs_none files none)) h
 
   -- the one at a place was joined too
-  pub one_more : (i : ℕ) (name : List ℕ) (old mid new : Written W) → map string_bytes (take (i + 1) files) ≡ map string_bytes (take i files) ++ name ∷ []
-      → JoinsNames join known (map string_bytes (take i files)) old mid → JoinsNames join known (name ∷ []) mid new
-      → JoinsNames join known (map string_bytes (take (i + 1) files)) old new
-  one_more i name old mid new e f g =
-      subst (λ (n : List (List ℕ)). JoinsNames join known n old new) (sym e) (names_both join known (map string_bytes (take i files)) (name ∷ []) old mid new f g)
+  pub one_more : (i : ℕ) (name : List ℕ) (old mid new : Written W) (errors between told : Written E) → map string_bytes (take (i + 1) files) ≡ map string_bytes (take i files) ++ name ∷ []
+      → JoinsNames join known (map string_bytes (take i files)) old mid errors between → JoinsNames join known (name ∷ []) mid new between told
+      → JoinsNames join known (map string_bytes (take (i + 1) files)) old new errors told
+  one_more i name old mid new errors between told e f g =
+      subst (λ (n : List (List ℕ)). JoinsNames join known n old new errors told) (sym e)
+      (names_both join known (map string_bytes (take i files)) (name ∷ []) old mid new errors between told f g)
 
   -- all were
-  pub all_named : (i : ℕ) (old new : Written W) → (length files == 0) ≡ false → length files ≤ i → JoinsNames join known (map string_bytes (take i files)) old new
-      → JoinsNames join known (logs_of files) old new
-  all_named i old new some past h =
-      subst (λ (n : List (List ℕ)). JoinsNames join known n old new) (ap (map string_bytes) (take_all i files past) ∙ sym (logs_some files some)) h
+  pub all_named : (i : ℕ) (old new : Written W) (errors told : Written E) → (length files == 0) ≡ false → length files ≤ i → JoinsNames join known (map string_bytes (take i files)) old new errors told
+      → JoinsNames join known (logs_of files) old new errors told
+  all_named i old new errors told some past h =
+      subst (λ (n : List (List ℕ)). JoinsNames join known n old new errors told) (ap (map string_bytes) (take_all i files past) ∙ sym (logs_some files some)) h
 
   -- the one at a place stopped
-  pub one_stops : {E : Type 0} (i : ℕ) (name : List ℕ) (output mid after : Written W) (errors silent told : Written E)
-      → silent ≡ errors → (length files == 0) ≡ false → map string_bytes (take (i + 1) files) ≡ map string_bytes (take i files) ++ name ∷ []
-      → JoinsNames join known (map string_bytes (take i files)) output mid
-      → StopsAtLog join known (name ∷ []) (ending mid after silent told 2)
+  pub one_stops : (i : ℕ) (name : List ℕ) (output mid after : Written W) (errors between told : Written E)
+      → (length files == 0) ≡ false → map string_bytes (take (i + 1) files) ≡ map string_bytes (take i files) ++ name ∷ []
+      → JoinsNames join known (map string_bytes (take i files)) output mid errors between
+      → StopsAtLog join known (name ∷ []) (ending mid after between told 2)
       → StopsAtLog join known (logs_of files) (ending output after errors told 2)
-  one_stops {E} i name output mid after errors silent told same some more f s =
+  one_stops i name output mid after errors between told some more f s =
       let end : Ending W E = ending output after errors told 2 in
       subst (λ (n : List (List ℕ)). StopsAtLog join known n end) (sym (logs_some files some))
-      (stops_behind_names join known (map string_bytes (take i files)) (name ∷ []) (map string_bytes (drop (i + 1) files)) (map string_bytes files) end mid (names_apart files i name more) f
-      (subst (λ (o : Written E). StopsAtLog join known (name ∷ []) (ending mid after o told 2)) same s))
+      (stops_behind_names join known (map string_bytes (take i files)) (name ∷ []) (map string_bytes (drop (i + 1) files)) (map string_bytes files) end mid between (names_apart files i name more) f s)
 
 -- ---- all logs
 
-module _ {W E T F : Type 0} (join : Join) (known : KnownLists) (names : List (List ℕ)) (end : Ending W E) (mid : Written W) where
-  all_ended : (written : Result T F) → JoinsNames join known names end.output mid
+module _ {W E T F : Type 0} (join : Join) (known : KnownLists) (names : List (List ℕ)) (end : Ending W E) (mid : Written W) (between : Written E) where
+  all_ended : (written : Result T F) → JoinsNames join known names end.output mid end.errors between
       → OnOk written (Appends mid.holds end.output_after.holds mid.waits)
       → OnErr written (AppendsBeginning mid.holds end.output_after.holds mid.waits)
       → end.output_after.failed ≡ (mid.failed || is_err written) → end.status ≡ status_of written 0
-      → HasTold end (end_text written) → JoinsAll join known names end
+      → Tells between end.errors_after (end_text written) → JoinsAll join known names end
   all_ended (Ok done) f ok err failed two tells = record {
     output = f.output;
+    texts = f.text;
     joins = f.joins;
     ends = inl (
       subst (λ (t : List ℕ). Writes end.output end.output_after t) (append-nil f.output)
           (puts_then_all _ _ _ _ _ f.output [] f.puts (subst (Appends mid.holds end.output_after.holds) (sym (append-nil mid.waits)) ok)),
-      tells,
+      tells_same end.errors end.errors_after (f.text ++ []) f.text (append-nil f.text) (tells_more end.errors between end.errors_after f.text [] f.tells tells),
       two,
     );
   }
   all_ended (Err fault) f ok err failed two tells = record {
     output = f.output;
+    texts = f.text;
     joins = f.joins;
     ends = inr (
       (
@@ -245,23 +255,22 @@ module _ {W E T F : Type 0} (join : Join) (known : KnownLists) (names : List (Li
         subst (λ (t : List ℕ). FailsIn end.output end.output_after t) (append-nil f.output)
             (begins_after_puts _ _ _ _ _ f.output [] f.puts (subst (AppendsBeginning mid.holds end.output_after.holds) (sym (append-nil mid.waits)) err)),
       ),
-      tells,
+      tells_more end.errors between end.errors_after f.text (codes "write error\n") f.tells tells,
       two,
     );
   }
 
--- nothing was told before
+-- how all logs ended
 pub all_by : {W E T F : Type 0} (join : Join) (known : KnownLists) (names : List (List ℕ))
-    (output mid after : Written W) (errors silent told_errors : Written E) (status : ℕ) → silent ≡ errors → (written : Result T F)
-    → JoinsNames join known names output mid
+    (output mid after : Written W) (errors between told_errors : Written E) (status : ℕ) (written : Result T F)
+    → JoinsNames join known names output mid errors between
     → OnOk written (Appends mid.holds after.holds mid.waits)
     → OnErr written (AppendsBeginning mid.holds after.holds mid.waits)
     → after.failed ≡ (mid.failed || is_err written) → status ≡ status_of written 0
-    → Tells silent told_errors (end_text written)
+    → Tells between told_errors (end_text written)
     → JoinsAll join known names (ending output after errors told_errors status)
-all_by {W} {E} join known names output mid after errors silent told_errors status same written f ok err failed two text =
-    all_ended join known names (ending output after errors told_errors status) mid
-    written f ok err failed two (subst (λ (o : Written E). Tells o told_errors (end_text written)) same text)
+all_by join known names output mid after errors between told_errors status written f ok err failed two text =
+    all_ended join known names (ending output after errors told_errors status) mid between written f ok err failed two text
 
 -- ---- what was written when a log stopped
 
@@ -291,12 +300,12 @@ handed_some name lines fault end failed h told =
 
 module _ {Z W E : Type 0} (known : KnownLists) (words : List (String Z)) (request : Request) (end : Ending W E) (name : List ℕ) (same : name ≡ list_name words request) where
   -- the list was read
-  pub joined_to : (text : List ℕ) → IsAllOf known name text → EndsJoining known words request name text end → EndsRequest known words request end
+  pub joined_to : (text : List ℕ) → IsAllOf known name text → EndsJoining known words request name text end → EndsGrouping None known words request end
   joined_to text all h =
       inr (text, subst (λ (n : List ℕ). IsAllOf known n text) same all, subst (λ (n : List ℕ). EndsJoining known words request n text end) same h)
 
   -- it was not
-  pub not_read : (fault : TextFault) → TextStops known name fault → Refuses (text_fault_text name fault) end → EndsRequest known words request end
+  pub not_read : (fault : TextFault) → TextStops known name fault → Refuses (text_fault_text name fault) end → EndsGrouping None known words request end
   not_read fault stops h =
       inl (fault, subst (λ (n : List ℕ). TextStops known n fault) same stops, subst (λ (n : List ℕ). Refuses (text_fault_text n fault) end) same h)
 
@@ -305,6 +314,18 @@ same_routes routes networks a b =
     ap (λ (t : Values). with_both t routes.v6) a ∙ ap (λ (t : Values). with_both networks.v4 t) b where
       with_both : Values → Values → Routes
       with_both v4 v6 = record { v4 = v4; v6 = v6 }
+
+-- what is printed of addresses was found, and the logs were joined by it
+pub taken : {Z W E : Type 0} (known : KnownLists) (words : List (String Z)) (request : Request) (name text : List ℕ) (end : Ending W E) (networks : Networks) (by : Answers) → by ≡ answers_of request networks
+    → TakesLines request.last_wins no_networks (slice_split (λ b. b == 10) text) networks → EndsFinding known words request by end → EndsJoining known words request name text end
+taken known words request name text end networks by same takes (inl h) = inr (inl h)
+taken known words request name text end networks by same takes (inr h) =
+    inr (inr (networks, takes, subst (λ (a : Answers). EndsAsked request.tally (join_of words request a) known (logs_of (drop request.files words)) end) same h))
+
+-- whether lines are grouped
+pub by_group : {Z W E : Type 0} (known : KnownLists) (words : List (String Z)) (request : Request) (end : Ending W E) (group : Option Lengths) → request.group ≡ group → EndsGrouping group known words request end
+    → EndsRequest known words request end
+by_group known words request end group is h = subst (λ (o : Option Lengths). EndsGrouping o known words request end) (sym is) h
 
 -- ---- what is asked of the logs
 
@@ -316,3 +337,8 @@ module _ {W E : Type 0} (join : Join) (known : KnownLists) (names : List (List �
   pub asked_lines : (tally : Bool) → tally ≡ false → EndsLogs join known names end → EndsAsked tally join known names end
   asked_lines true is h = absurd (true≢false is)
   asked_lines false is h = h
+
+-- ---- the words with the options in front
+
+pub asked_same : {Z W E : Type 0} (program usage : List ℕ) (known : KnownLists) (a b : List (String Z)) (end : Ending W E) → a ≡ b → EndsWords program usage known a end → EndsWords program usage known b end
+asked_same {Z} program usage known a b end e h = subst (λ (ws : List (String Z)). EndsWords program usage known ws end) e h

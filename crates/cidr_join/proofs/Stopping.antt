@@ -9,14 +9,14 @@ use Rattle.lines.specs.Outputs.{Puts, AppendsBeginning}
 use Rattle.lines.specs.declared.line_buffer.NextLine.TheVariants.{Line, TooLong, End}
 use Rattle.lines.specs.declared.line_end.LineEnd.{LineEnd}
 use Rattle.lines.proofs.Putting.{begins_after_puts}
-use Rattle.ipnetwork.specs.declared.ip_network.IpNetwork.{IpNetwork}
+use Rattle.cidr_join.specs.Addressed.{any_addressed}
 use Rattle.cidr_join.specs.Joins.{address_in, Finds, output_of, Joins}
 use Rattle.program.specs.LogLines.{LogLine, log_lines, ended_lines, content, printed, feed_behind, log_line, unended}
 use Rattle.cidr_join.specs.Stands.{Stand, Goes}
 use Rattle.cidr_join.specs.Stops.{Ends, JoinsEnded, WritesBeginning, EndsAtLine, Stops}
 use Rattle.cidr_join.specs.Private.Progress.{shown, LineStops, JoinsSoFar}
+use Rattle.cidr_join.specs.declared.found.Found.{Found}
 use Rattle.cidr_join.specs.declared.join.Join.{Join}
-use Rattle.cidr_join.specs.declared.value.Value.{Value}
 use Rattle.cidr_join.specs.declared.log.LogFault.{LogFault}
 use Rattle.cidr_join.specs.declared.log.LogFault.TheVariants as faults
 use Rattle.cidr_join.proofs.Joining.{goes_still, all_lines, Idle}
@@ -109,7 +109,7 @@ module _ (join : Join) where
         }
 
     -- or the writer failed at it
-    writes_at : (new : Stand) (line : List ℕ) (end : LineEnd) (found : Option (IpNetwork × Value))
+    writes_at : (new : Stand) (line : List ℕ) (end : LineEnd) (found : Found)
         → HandsOut now s.pending line end → length line ≤ 1048576
         → Finds join (address_in join line) found
         → AppendsBeginning mid.holds new.holds
@@ -182,7 +182,7 @@ module _ (join : Join) where
     -- ---- at the end of the log
 
     pub log_ends : (new : Stand) → ((pending : List ℕ) → IsPending was pending
-        → Gives now pending End) → Goes mid new [] 0
+        → Gives now pending End) → Goes mid new [] 0 false
         → Ends join remained remains old new
     log_ends new gives goes =
         let given = gives s.pending s.holds in
@@ -195,8 +195,10 @@ module _ (join : Join) where
           end = s.at_end (sym same ∙ given.2);
           joins = subst (λ (ls : List LogLine). Joins join ls s.added)
               (sym lines) s.joins;
-          goes = subst (λ (ls : List LogLine). Goes old new s.added (length ls)) (sym lines)
-              (goes_still old mid new s.added (length s.first) s.goes goes);
+          goes = subst (λ (ls : List LogLine). Goes old new s.added (length ls)
+              (any_addressed join ls)) (sym lines)
+              (goes_still old mid new s.added (length s.first) (any_addressed join s.first) s.goes
+              goes);
         }
 
   -- ---- a writer that fails to take what waits
@@ -234,8 +236,8 @@ module _ (join : Join) where
           added = s.added;
           joins = subst (λ (ls : List LogLine). Joins join ls s.added)
               (sym lines) s.joins;
-          goes = subst (λ (ls : List LogLine). Goes old now s.added (length ls))
-              (sym lines) s.goes;
+          goes = subst (λ (ls : List LogLine). Goes old now s.added (length ls)
+              (any_addressed join ls)) (sym lines) s.goes;
         }
 
     -- a read failed

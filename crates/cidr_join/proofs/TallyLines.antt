@@ -1,15 +1,17 @@
 -- What lines and logs are counted.
-use Rattle.std.proofs.Common.{◌≡◌, ℕ, ◌≤◌, List, [], ◌∷◌, ◌++◌, length, refl, sym, ap, subst, append_assoc, append-nil, length-append}
+use Rattle.std.proofs.Common.{◌≡◌, ℕ, ◌+◌, ◌≤◌, Bool, List, [], ◌∷◌, ◌++◌, length, refl, sym, ap, subst, append_assoc, append-nil, length-append}
 use Rattle.std.specs.Prelude.{Vec}
 use Rattle.std.specs.HashMap.{HashMap}
 use Rattle.cidr_join.specs.Joins.{Finds, address_in, mark_of}
 use Rattle.program.specs.LogLines.{LogLine, content}
-use Rattle.program.specs.Counts.{Counts}
+use Rattle.cidr_join.specs.Addressed.{is_addressed, any_addressed}
+use Rattle.cidr_join.specs.Stands.{Sees}
 use Rattle.cidr_join.specs.TallyRuns.{Marks}
 use Rattle.cidr_join.specs.Private.Counting.{Counted}
 use Rattle.cidr_join.specs.Private.TallyProgress.{CountsLine, CountsAll, CountsLines}
 use Rattle.cidr_join.specs.declared.join.Join.{Join}
-use Rattle.program.proofs.Counts.{counts_more, counts_none}
+use Rattle.cidr_join.specs.declared.seen.Seen.{Seen}
+use Rattle.cidr_join.proofs.Addressed.{sees_nothing, sees_more, any_more}
 
 pub marks_both : (join : Join) (lines more : List LogLine) (a b : List (List ℕ)) → Marks join lines a → Marks join more b → Marks join (lines ++ more) (a ++ b)
 marks_both join [] more a b p q = subst (λ (t : List (List ℕ)). Marks join more t) (ap (λ t. t ++ b) (sym p)) q
@@ -23,14 +25,14 @@ module _ {Z S : Type 0} where
   counts_both old mid new first second p q texts counted =
       subst (λ (t : List (List ℕ)). Counted t new) (append_assoc texts first second) (q (texts ++ first) (p texts counted))
 
-  pub no_lines : (join : Join) (counts : HashMap (Vec ℕ Z) ℕ S) (lines : ℕ) → CountsLines join counts counts lines lines []
-  no_lines join counts lines = ([], refl, counts_nothing counts, counts_none lines lines refl)
+  pub no_lines : (join : Join) (counts : HashMap (Vec ℕ Z) ℕ S) (seen : Seen) → CountsLines join counts counts seen seen []
+  no_lines join counts seen = ([], refl, counts_nothing counts, sees_nothing seen)
 
-  pub line_more : (join : Join) (old mid new : HashMap (Vec ℕ Z) ℕ S) (was among is : ℕ) (line : List ℕ) → CountsLine join line mid new among is
+  pub line_more : (join : Join) (old mid new : HashMap (Vec ℕ Z) ℕ S) (was among is : Seen) (line : List ℕ) → CountsLine join line mid new among is
       → (first : List LogLine) (next : LogLine) → content next ≡ line → length line ≤ 1048576 → CountsLines join old mid was among first
       → CountsLines join old new was is (first ++ next ∷ [])
   line_more join old mid new was among is line f first next same short d =
-      let mark = mark_of join.network f.0 in (
+      let mark = mark_of f.0 in (
         d.0 ++ mark ∷ [],
         marks_both join first (next ∷ []) d.0 (mark ∷ []) d.1 (
           f.0,
@@ -41,5 +43,7 @@ module _ {Z S : Type 0} where
           refl,
         ),
         counts_both old mid new d.0 (mark ∷ []) d.2 f.2,
-        subst (λ (n : ℕ). Counts was is n) (sym (length-append first (next ∷ []))) (counts_more was among is (length first) 1 d.3 f.3),
+        subst (λ (n : ℕ). Sees was is n (any_addressed join (first ++ next ∷ []))) (sym (length-append first (next ∷ [])))
+            (subst (λ (b : Bool). Sees was is (length first + 1) b) (any_more join first next line same)
+            (sees_more was among is (length first) 1 (any_addressed join first) (is_addressed join line) d.3 f.3)),
       )

@@ -1,14 +1,15 @@
 -- How a tally is written.
-use Rattle.std.proofs.Common.{◌≡◌, ℕ, ◌+◌, ◌<◌, ◌≤◌, ◌||◌, Bool, List, [], ◌∷◌, ◌++◌, ◌∙◌, length, map, take, drop, take-append-drop, get_or, inl, inr, refl, sym, ap, subst, append_assoc, append-nil}
+use Rattle.std.proofs.Common.{◌≡◌, ℕ, ◌+◌, ◌<◌, ◌≤◌, ◌||◌, Bool, List, [], ◌∷◌, ◌++◌, ◌∙◌, length, map, take, drop, take-append-drop, get_or, inl, inr, refl, sym, ap, subst, append_assoc, append-nil, codes}
 use Rattle.std.specs.Prelude.{Result, Ok, Err, OnOk, OnErr, is_err}
 use Rattle.std.specs.Io.KnownBytes.{Appends}
 use Rattle.std.proofs.lemmas.List.{take_all, take_more, map_push}
 use Rattle.lines.specs.Outputs.{Written, AppendsBeginning, Prints, Writes, FailsIn}
 use Rattle.lines.proofs.Putting.{begins_within, begins_after_puts}
-use Rattle.program.specs.Endings.{Ending, HasTold, status_of, end_text}
+use Rattle.program.specs.Endings.{Ending, status_of, end_text}
 use Rattle.program.specs.Messages.{Tells}
 use Rattle.cidr_join.specs.Tallies.{Row, row_text, rows_text}
 use Rattle.cidr_join.specs.TallyRuns.{EndsWith}
+use Rattle.program.proofs.Told.{tells_more, tells_same}
 use Rattle.cidr_join.proofs.LogsInTurn.{puts_then_all}
 use Rattle.cidr_join.proofs.Stopping.{failed_now}
 
@@ -62,12 +63,10 @@ failed_all (Err fault) old mid new text p h =
     subst (λ (t : List ℕ). FailsIn old new t) (append-nil text) (begins_after_puts _ _ _ _ _ text [] p (subst (AppendsBeginning mid.holds new.holds) (sym (append-nil mid.waits)) h))
 
 -- how a run ends that writes a text
-pub ends_with : {W E T F : Type 0} (written : Result T F) (end : Ending W E) (text : List ℕ) (was : Bool) → OnOk written (Writes end.output end.output_after text)
+pub ends_with : {W E T F : Type 0} (written : Result T F) (end : Ending W E) (text : List ℕ) (was : Bool) (between : Written E) (told : List ℕ) → OnOk written (Writes end.output end.output_after text)
     → OnErr written (FailsIn end.output end.output_after text) → end.output_after.failed ≡ (was || is_err written) → end.status ≡ status_of written 0
-    → HasTold end (end_text written) → EndsWith text end
-ends_with (Ok done) end text was ok err failed two told = inl (ok, told, two)
-ends_with (Err fault) end text was ok err failed two told = inr (failed_now end.output_after.failed was failed, err, told, two)
-
--- nothing was told before
-pub told_from : {E : Type 0} (old mid new : Written E) (text : List ℕ) → mid ≡ old → Tells mid new text → Tells old new text
-told_from {E} old mid new text same h = subst (λ (o : Written E). Tells o new text) same h
+    → Tells end.errors between told → Tells between end.errors_after (end_text written) → EndsWith text told end
+ends_with (Ok done) end text was between told ok err failed two before tells =
+    inl (ok, tells_same end.errors end.errors_after (told ++ []) told (append-nil told) (tells_more end.errors between end.errors_after told [] before tells), two)
+ends_with (Err fault) end text was between told ok err failed two before tells =
+    inr (failed_now end.output_after.failed was failed, err, tells_more end.errors between end.errors_after told (codes "write error\n") before tells, two)

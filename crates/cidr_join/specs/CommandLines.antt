@@ -41,8 +41,16 @@ inputs_among (file ∷ files) = count (codes "-") (file ∷ files)
 abbrev pub is_placed : Request → Bool
 is_placed request = request.letters.words || is_some request.field || is_some request.separator
 
+-- a list is among the options, or one that says something of it
+abbrev pub asks_of_list : Request → Bool
+asks_of_list request = request.has_list || request.network || request.last_wins
+
+-- an option says what is printed of addresses: a list, or lengths of blocks
+abbrev pub has_source : Request → Bool
+has_source request = request.has_list || is_some request.group
+
 -- which options are given that do not go together: `-a` with `-k`, `-d` or `-w`, `--after` with one of these or `-a`,
--- `-w` with `-d`, `--tally` with `--last`, and a second `-f`
+-- `-w` with `-d`, `--tally` with `--last`, a second `-f`, and `--group` with `-f` or what says something of its list
 abbrev pub crossed_problem : Request → Option Problem
 crossed_problem request =
     if request.letters.anywhere && is_placed request then Some problems.Anywhere
@@ -50,9 +58,10 @@ crossed_problem request =
     else if request.letters.words && is_some request.separator then Some problems.Words
     else if request.tally && request.last then Some problems.Tally
     else if request.has_lists then Some problems.Lists
+    else if is_some request.group && asks_of_list request then Some problems.Group
     else None
 
--- the words are options, as many as there are, and FILEs. There is a list, standard input is named at most once, and
+-- the words are options, as many as there are, and FILEs. There is a list or `--group`, standard input is named at most once, and
 -- all options go together. The request is what the options say, and its FILEs begin after
 -- the options
 pub record Says {Z : Type 0} (words : List (String Z)) (request : Request) : Type 0 where
@@ -63,7 +72,7 @@ pub record Says {Z : Type 0} (words : List (String Z)) (request : Request) : Typ
   pub no_more : option_of rest ≡ None
   pub follow : files_among rest ≡ Some files
   pub said : request ≡ record (said_by options) { files = request.files }
-  pub lists : request.has_list ≡ true
+  pub source : has_source request ≡ true
   pub inputs : nat_le (request.inputs + inputs_among files) 1 ≡ true
   pub together : crossed_problem request ≡ None
   pub place : drop request.files words ≡ files

@@ -9,7 +9,12 @@ use Rattle.line_addresses.specs.Mapped.{unmapped}
 use Rattle.line_addresses.specs.Words.{words_of}
 use Rattle.cidr_join.specs.Fields.{field_of}
 use Rattle.program.specs.LogLines.{LogLine, content, printed}
+use Rattle.cidr_join.specs.Groups.{block_in}
 use Rattle.cidr_join.specs.Routes.{IsLongestRoute, NoRouteHolds}
+use Rattle.cidr_join.specs.declared.answers.Answers.{Answers}
+use Rattle.cidr_join.specs.declared.answers.Answers.TheVariants as answers
+use Rattle.cidr_join.specs.declared.found.Found.{Found}
+use Rattle.cidr_join.specs.declared.found.Found.TheVariants as founds
 use Rattle.cidr_join.specs.declared.join.Join.{Join}
 use Rattle.cidr_join.specs.declared.join.Place.{Place}
 use Rattle.cidr_join.specs.declared.join.Place.TheVariants as places
@@ -41,7 +46,7 @@ found_in (places.Word number) line = of_part (slice_get (words_of line) (number 
 found_in places.Anywhere line = first_in line
 found_in (places.After text) line = of_rest (following text line)
 
--- the address for which the list is asked: of an IPv4-mapped one its IPv4 one, if the option says so
+-- the address that counts: for an IPv4-mapped one its IPv4 one, if the option says so
 abbrev pub asked : Bool → IpAddr → IpAddr
 asked mapped address = if mapped then unmapped address else address
 
@@ -53,27 +58,38 @@ asked_of mapped (Some address) = Some (asked mapped address)
 abbrev pub address_in : Join → List ℕ → Option IpAddr
 address_in join line = asked_of join.mapped (found_in join.place line)
 
--- what is found for it: the longest network of the list that has it, and its value, or nothing
-abbrev pub Finds : Join → Option IpAddr → Option (IpNetwork × Value) → Type 0
-Finds join None found = found ≡ None
-Finds join (Some address) None = NoRouteHolds join.routes address
-Finds join (Some address) (Some found) = IsLongestRoute join.routes address found.0 found.1
+-- what is found for an address: the value of the longest network of the list that has it, or that network, or nothing; or
+-- the block of one length that has it
+abbrev pub FindsBy : Answers → IpAddr → Found → Type 0
+FindsBy (answers.Values routes) address (founds.Network network) = ⊥
+FindsBy (answers.Values routes) address (founds.Value value) = (network : IpNetwork) × IsLongestRoute routes address network value
+FindsBy (answers.Values routes) address founds.Nothing = NoRouteHolds routes address
+FindsBy (answers.Networks routes) address (founds.Network network) = (value : Value) × IsLongestRoute routes address network value
+FindsBy (answers.Networks routes) address (founds.Value value) = ⊥
+FindsBy (answers.Networks routes) address founds.Nothing = NoRouteHolds routes address
+FindsBy (answers.Blocks lengths) address found = found ≡ founds.Network (block_in lengths address)
 
--- what is printed of that: the value, or the network's canonical text, or a minus sign for nothing
-abbrev pub mark_of : Bool → Option (IpNetwork × Value) → List ℕ
-mark_of network None = codes "-"
-mark_of network (Some found) = if network then ip_network_text found.0 else found.1.bytes.now
+-- and for that of a line, if there is one
+abbrev pub Finds : Join → Option IpAddr → Found → Type 0
+Finds join None found = found ≡ founds.Nothing
+Finds join (Some address) found = FindsBy join.answers address found
+
+-- what is printed of that: the network's canonical text, or the value, or a minus sign for nothing
+abbrev pub mark_of : Found → List ℕ
+mark_of (founds.Network network) = ip_network_text network
+mark_of (founds.Value value) = value.bytes.now
+mark_of founds.Nothing = codes "-"
 
 -- a line with that and a tab before it, or with a tab and that behind it. The line is given without its end too, which
 -- follows all of it
 abbrev pub shown_of : Bool → List ℕ → List ℕ → List ℕ → List ℕ
 shown_of last mark line text = if last then line ++ 9 ∷ (mark ++ drop (length line) text) else mark ++ 9 ∷ text
 
-abbrev pub output_of : Join → Option (IpNetwork × Value) → LogLine → List ℕ
-output_of join found line = shown_of join.last (mark_of join.network found) (content line) (printed line)
+abbrev pub output_of : Join → Found → LogLine → List ℕ
+output_of join found line = shown_of join.last (mark_of found) (content line) (printed line)
 
 -- this is written for these lines, each of which has at most 1,048,576 bytes without its end
 abbrev pub Joins : Join → List LogLine → List ℕ → Type 0
 Joins join [] output = output ≡ []
-Joins join (line ∷ lines) output = (found : Option (IpNetwork × Value)) × (others : List ℕ) × (length (content line) ≤ 1048576)
+Joins join (line ∷ lines) output = (found : Found) × (others : List ℕ) × (length (content line) ≤ 1048576)
     × Finds join (address_in join (content line)) found × Joins join lines others × (output ≡ output_of join found line ++ others)

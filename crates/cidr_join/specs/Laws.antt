@@ -49,7 +49,7 @@ are_flags word = begins_with (codes "-") word && (nat_lt 0 (length (drop 1 word)
 -- a word of an option
 abbrev pub is_option_word : List ℕ → Bool
 is_option_word word =
-    is_one_of (codes "-f" ∷ codes "-k" ∷ codes "-d" ∷ codes "--last" ∷ codes "--last-wins" ∷ codes "--network" ∷ codes "--mapped" ∷ codes "--tally" ∷ codes "--after" ∷ []) word
+    is_one_of (codes "-f" ∷ codes "-k" ∷ codes "-d" ∷ codes "--last" ∷ codes "--last-wins" ∷ codes "--network" ∷ codes "--mapped" ∷ codes "--tally" ∷ codes "--after" ∷ codes "--group" ∷ []) word
     || begins_with_one_of (codes "-k" ∷ codes "-d" ∷ []) word || are_flags word
 
 -- every other word is no option, whatever follows it

@@ -1,6 +1,7 @@
 -- Logs that are joined in turn.
 use Rattle.std.specs.Prelude.{◌≡◌, ℕ, ◌-◌, ◌^◌, ◌<◌, true, false, List, [], ◌∷◌, ◌++◌, length}
 use Rattle.lists.specs.KnownLists.{KnownLists}
+use Rattle.cidr_join.specs.Addressed.{lacking_text}
 use Rattle.cidr_join.specs.Joins.{Joins}
 use Rattle.program.specs.LogLines.{LogLine, log_lines, ended_lines, content, IsWhole}
 use Rattle.program.specs.Logs.{IsAllOf, IsFirstOf}
@@ -8,11 +9,13 @@ use Rattle.cidr_join.specs.declared.join.Join.{Join}
 use Rattle.cidr_join.specs.declared.log.LogFault.{LogFault}
 use Rattle.cidr_join.specs.declared.log.LogFault.TheVariants as faults
 
--- the logs of these names were read to their ends: this is the output of their lines, one log after the other
-abbrev pub JoinsLogs : Join → KnownLists → List (List ℕ) → List ℕ → Type 0
-JoinsLogs join known [] output = output ≡ []
-JoinsLogs join known (name ∷ names) output = (read : List ℕ) × (added : List ℕ) × (others : List ℕ)
-    × IsAllOf known name read × Joins join (log_lines read) added × JoinsLogs join known names others × (output ≡ added ++ others)
+-- the logs of these names were read to their ends: this is the output of their lines, one log after the other, and this
+-- is reported of those in which no line has an address
+abbrev pub JoinsLogs : Join → KnownLists → List (List ℕ) → List ℕ → List ℕ → Type 0
+JoinsLogs join known [] output told = (output ≡ []) × (told ≡ [])
+JoinsLogs join known (name ∷ names) output told = (read : List ℕ) × (added : List ℕ) × (others : List ℕ) × (texts : List ℕ)
+    × IsAllOf known name read × Joins join (log_lines read) added × JoinsLogs join known names others texts × (output ≡ added ++ others)
+    × (told ≡ lacking_text join name (log_lines read) ++ texts)
 
 -- of the log of this name some bytes were read; after these first lines of them comes one that is too long, which is a
 -- line whatever comes after it

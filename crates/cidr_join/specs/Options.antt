@@ -4,6 +4,7 @@ use Rattle.std.specs.List.{list_all, list_any}
 use Rattle.std.specs.String.{string_bytes}
 use Rattle.std.specs.Char.{is_ascii_digit}
 use Rattle.program.specs.Words.{is}
+use Rattle.cidr_join.specs.Fields.{field_of}
 use Rattle.cidr_join.specs.declared.command_line.Request.{Request}
 use Rattle.cidr_join.specs.declared.options.Choice.{Choice}
 use Rattle.cidr_join.specs.declared.options.Choice.TheVariants as choices
@@ -41,6 +42,28 @@ file_option name = if length name == 0 then None else if bytes_eq name (codes "-
 abbrev pub after_option : List ℕ → Option Choice
 after_option text = if length text == 0 then None else Some choices.After
 
+-- `--group`: the lengths of blocks, in digits, with a comma (byte 44) between them: one of at most 32 for IPv4, and one of
+-- at most 128 for IPv6
+abbrev pub is_length : ℕ → List ℕ → Bool
+is_length greatest text = nat_lt 0 (length text) && list_all is_ascii_digit text && nat_le (number_of text) greatest
+
+abbrev pub length_of : ℕ → List ℕ → Option ℕ
+length_of greatest text = if is_length greatest text then Some (number_of text) else None
+
+abbrev pub lengths_by : Option ℕ → Option ℕ → Option Choice
+lengths_by None v6 = None
+lengths_by (Some v4) None = None
+lengths_by (Some v4) (Some v6) = Some (choices.Group (record { v4 = v4; v6 = v6 }))
+
+abbrev pub lengths_in : Option (List ℕ) → Option (List ℕ) → Option (List ℕ) → Option Choice
+lengths_in None second third = None
+lengths_in (Some first) None third = None
+lengths_in (Some first) (Some second) (Some third) = None
+lengths_in (Some first) (Some second) None = lengths_by (length_of 32 first) (length_of 128 second)
+
+abbrev pub group_option : List ℕ → Option Choice
+group_option text = lengths_in (field_of 1 44 text) (field_of 2 44 text) (field_of 3 44 text)
+
 -- `-a` and `-w`: their letters after one `-`, in any order
 abbrev pub is_letter : ℕ → Bool
 is_letter letter = letter == 97 || letter == 119
@@ -56,13 +79,14 @@ letters_option text = if nat_lt 0 (length text) && list_all is_letter text then 
 
 -- the value of such an option is the next word
 abbrev pub takes_next : {Z : Type 0} → String Z → Bool
-takes_next word = is (codes "-f") word || is (codes "-k") word || is (codes "-d") word || is (codes "--after") word
+takes_next word = is (codes "-f") word || is (codes "-k") word || is (codes "-d") word || is (codes "--after") word || is (codes "--group") word
 
 abbrev pub in_two_words : {Z : Type 0} → String Z → List ℕ → Option Choice
 in_two_words name value =
     if is (codes "-f") name then file_option value
     else if is (codes "-k") name then field_option value
     else if is (codes "-d") name then separator_option value
+    else if is (codes "--group") name then group_option value
     else after_option value
 
 -- others are one word, in which the value of `-k` and of `-d` may stand after the letter
@@ -109,6 +133,7 @@ with_option request choices.LastWins = record request { last_wins = true }
 with_option request choices.Network = record request { network = true }
 with_option request choices.Mapped = record request { mapped = true }
 with_option request choices.Tally = record request { tally = true }
+with_option request (choices.Group lengths) = record request { group = Some lengths }
 with_option request choices.After = record request { after = true }
 with_option request choices.File = record request { has_list = true; has_lists = request.has_list }
 with_option request choices.Input = record request { has_list = true; has_lists = request.has_list; inputs = request.inputs + 1 }
@@ -125,6 +150,7 @@ no_options = record {
   last_wins = false;
   network = false;
   tally = false;
+  group = None;
   has_list = false;
   has_lists = false;
   inputs = 0;

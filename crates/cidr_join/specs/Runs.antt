@@ -1,12 +1,14 @@
 -- How a run ends: its exit status, what was written, and what was reported.
-use Rattle.std.specs.Prelude.{◌≡◌, ℕ, Bool, List, [], ◌∷◌, ◌++◌, true, false, ◌⊎◌, if◌then◌else◌, length, take, drop, codes, String, ◌==◌}
+use Rattle.std.specs.Prelude.{◌≡◌, ℕ, Bool, List, ◌∷◌, ◌++◌, true, false, ◌⊎◌, if◌then◌else◌, Option, None, Some, length, map, take, drop, codes, String, ◌==◌}
 use Rattle.std.specs.List.{slice_split}
 use Rattle.std.specs.Option.{unwrap_or}
+use Rattle.std.specs.String.{string_bytes}
 use Rattle.lines.specs.Outputs.{FailsIn}
 use Rattle.lists.specs.KnownLists.{KnownLists}
 use Rattle.program.specs.Endings.{Ending, Refuses, HasTold, HasWritten}
 use Rattle.program.specs.Runs.{EndsRun}
 use Rattle.program.specs.Usage.{usage_text}
+use Rattle.cidr_join.specs.Arranged.{arranged}
 use Rattle.cidr_join.specs.CommandLines.{Says, AsksNothing}
 use Rattle.cidr_join.specs.Joins.{Joins}
 use Rattle.program.specs.LogLines.{LogLine}
@@ -19,14 +21,18 @@ use Rattle.cidr_join.specs.Takes.{TakesLines, StopsTaking}
 use Rattle.cidr_join.specs.Texts.{TextStops}
 use Rattle.cidr_join.specs.Told.{text_fault_text, take_fault_text, log_fault_text}
 use Rattle.cidr_join.specs.Usage.{problem_text, HasFault}
+use Rattle.cidr_join.specs.declared.answers.Answers.{Answers}
+use Rattle.cidr_join.specs.declared.answers.Answers.TheVariants as answers
 use Rattle.cidr_join.specs.declared.command_line.Request.{Request}
 use Rattle.cidr_join.specs.declared.join.Join.{Join}
 use Rattle.cidr_join.specs.declared.join.Place.{Place}
 use Rattle.cidr_join.specs.declared.join.Place.TheVariants as places
+use Rattle.cidr_join.specs.declared.lengths.Lengths.{Lengths}
 use Rattle.cidr_join.specs.declared.list.TakeFault.{TakeFault}
 use Rattle.cidr_join.specs.declared.log.LogFault.{LogFault}
 use Rattle.cidr_join.specs.declared.log.LogFault.TheVariants as faults
 use Rattle.cidr_join.specs.declared.routes.Networks.{Networks}
+use Rattle.cidr_join.specs.declared.routes.Routes.{Routes}
 use Rattle.cidr_join.specs.declared.text.TextFault.{TextFault}
 use Rattle.cidr_join.specs.declared.usage.UsageFault.{UsageFault}
 
@@ -44,30 +50,33 @@ Wrote faults.Length end text = HasWritten end text
 Wrote faults.Endless end text = HasWritten end text
 
 -- a log was not joined to its end, and ended the run: those before it were joined, and its first lines; their outputs
--- were written, the cause was reported, and the status is 2
+-- were written, the cause was reported after what there is to report of those before it, and the status is 2
 pub record StopsAtLog {W E : Type 0} (join : Join) (known : KnownLists) (names : List (List ℕ)) (end : Ending W E) : Type 0 where
   pub before : List (List ℕ)
   pub name : List ℕ
   pub behind : List (List ℕ)
   pub output : List ℕ
+  pub texts : List ℕ
   pub lines : List LogLine
   pub added : List ℕ
   pub fault : LogFault
   pub logs : names ≡ before ++ name ∷ behind
-  pub joins : JoinsLogs join known before output
+  pub joins : JoinsLogs join known before output texts
   pub first : Joins join lines added
   pub halts : HaltsBy known name lines fault
   pub wrote : Wrote fault end (output ++ added)
-  pub told : HasTold end (log_fault_text name (length lines) fault)
+  pub told : HasTold end (texts ++ log_fault_text name (length lines) fault)
   pub status : end.status ≡ 2
 
 -- all logs were joined to their ends
 pub record JoinsAll {W E : Type 0} (join : Join) (known : KnownLists) (names : List (List ℕ)) (end : Ending W E) : Type 0 where
   pub output : List ℕ
-  pub joins : JoinsLogs join known names output
-  -- their output was written and nothing reported, and the status is 0; or the writer failed, and that was reported
-  pub ends : (HasWritten end output × HasTold end [] × (end.status ≡ 0))
-      ⊎ (FailsWriting end output × HasTold end (codes "write error\n") × (end.status ≡ 2))
+  pub texts : List ℕ
+  pub joins : JoinsLogs join known names output texts
+  -- their output was written, what there is to report of them was reported, and the status is 0; or the writer failed, and
+  -- that was reported after it
+  pub ends : (HasWritten end output × HasTold end texts × (end.status ≡ 0))
+      ⊎ (FailsWriting end output × HasTold end (texts ++ codes "write error\n") × (end.status ≡ 2))
 
 -- the logs were joined, in turn
 abbrev pub EndsLogs : {W E : Type 0} → Join → KnownLists → List (List ℕ) → Ending W E → Type 0
@@ -86,14 +95,21 @@ place_of words request =
 abbrev pub list_name : {Z : Type 0} → List (String Z) → Request → List ℕ
 list_name words request = value_of (codes "-f") (take request.files words)
 
+-- what is printed of addresses by the routes of a list: networks or values
+abbrev pub answers_by : Bool → Routes → Answers
+answers_by network routes = if network then answers.Networks routes else answers.Values routes
+
 -- what it asks for of these networks
-abbrev pub join_of : {Z : Type 0} → List (String Z) → Request → Networks → Join
-join_of words request networks = record {
-  routes = record { v4 = networks.v4; v6 = networks.v6 };
+abbrev pub answers_of : Request → Networks → Answers
+answers_of request networks = answers_by request.network (record { v4 = networks.v4; v6 = networks.v6 })
+
+-- and of lines, if this is printed of addresses
+abbrev pub join_of : {Z : Type 0} → List (String Z) → Request → Answers → Join
+join_of words request by = record {
+  answers = by;
   place = place_of words request;
   mapped = request.mapped;
   last = request.last;
-  network = request.network;
 }
 
 -- what it asks for of the logs: that what the list gives their lines is counted, or that they are joined to the list
@@ -108,19 +124,36 @@ EndsJoining known words request name text end =
     ((fault : TakeFault) × StopsTaking request.last_wins no_networks (slice_split (λ b. b == 10) text) fault × Refuses (take_fault_text name fault) end)
     ⊎ (Refuses (codes "out of memory\n") end
     ⊎ ((networks : Networks) × TakesLines request.last_wins no_networks (slice_split (λ b. b == 10) text) networks
-    × EndsAsked request.tally (join_of words request networks) known (logs_of (drop request.files words)) end))
+    × EndsAsked request.tally (join_of words request (answers_of request networks)) known (logs_of (drop request.files words)) end))
 
--- the list was not read, nothing was written, and the cause was reported; or it was, and the logs were joined to it
-abbrev pub EndsRequest : {Z W E : Type 0} → KnownLists → List (String Z) → Request → Ending W E → Type 0
-EndsRequest known words request end =
+-- this is printed of addresses: memory runs out, or the logs are joined or counted by it
+abbrev pub EndsFinding : {Z W E : Type 0} → KnownLists → List (String Z) → Request → Answers → Ending W E → Type 0
+EndsFinding known words request by end =
+    Refuses (codes "out of memory\n") end
+    ⊎ EndsAsked request.tally (join_of words request by) known (logs_of (drop request.files words)) end
+
+-- lines are grouped in blocks of these lengths. Or else the list was not read, nothing was written, and the cause was
+-- reported; or it was, and the logs were joined to it
+abbrev pub EndsGrouping : {Z W E : Type 0} → Option Lengths → KnownLists → List (String Z) → Request → Ending W E → Type 0
+EndsGrouping (Some lengths) known words request end = EndsFinding known words request (answers.Blocks lengths) end
+EndsGrouping None known words request end =
     ((fault : TextFault) × TextStops known (list_name words request) fault × Refuses (text_fault_text (list_name words request) fault) end)
     ⊎ ((text : List ℕ) × IsAllOf known (list_name words request) text × EndsJoining known words request (list_name words request) text end)
 
+abbrev pub EndsRequest : {Z W E : Type 0} → KnownLists → List (String Z) → Request → Ending W E → Type 0
+EndsRequest known words request end = EndsGrouping request.group known words request end
+
+-- the words say a request, which is done, or something is wrong with them, and that and the usage are reported
+abbrev pub EndsWords : {Z W E : Type 0} → List ℕ → List ℕ → KnownLists → List (String Z) → Ending W E → Type 0
+EndsWords program usage known words end =
+    ((request : Request) × Says words request × EndsRequest known words request end)
+    ⊎ ((fault : UsageFault) × AsksNothing words × HasFault words fault
+    × Refuses (usage_text program usage words fault.subject (problem_text fault.problem)) end)
+
 -- how a run ends of a program of this name, help, version and usage: with the help or the version, if the words ask for
--- it. Else they say a request, which is done, or something is wrong with them, and that and the usage are reported
+-- it. Else they are read with the options in front, unless there is no memory for that
 abbrev pub EndsAs : {Z W E : Type 0} → List ℕ → List ℕ → List ℕ → List ℕ → KnownLists
     → List (String Z) → Ending W E → Type 0
-EndsAs program help version usage known words end = EndsRun help version words
-    (((request : Request) × Says words request × EndsRequest known words request end)
-    ⊎ ((fault : UsageFault) × AsksNothing words × HasFault words fault
-    × Refuses (usage_text program usage words fault.subject (problem_text fault.problem)) end)) end
+EndsAs {Z} program help version usage known words end = EndsRun help version words
+    (Refuses (codes "out of memory\n") end
+    ⊎ ((asked : List (String Z)) × (map string_bytes asked ≡ arranged words) × EndsWords program usage known asked end)) end

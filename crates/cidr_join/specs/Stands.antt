@@ -1,17 +1,23 @@
 -- Where a log stands.
-use Rattle.std.specs.Prelude.{ℕ, List, Option}
+use Rattle.std.specs.Prelude.{◌≡◌, ◌||◌, ℕ, Bool, List, Option}
 use Rattle.lines.specs.Outputs.{Written, Puts}
 use Rattle.program.specs.Counts.{Counts}
+use Rattle.cidr_join.specs.declared.seen.Seen.{Seen}
 
--- what the writer holds, what waits, and how many lines were joined
+-- this many lines more were read, and whether one of them has an address
+abbrev pub Sees : Seen → Seen → ℕ → Bool → Type 0
+Sees old new lines addressed = Counts old.lines new.lines lines × (new.is_addressed ≡ (old.is_addressed || addressed))
+
+-- what the writer holds, what waits, and what was seen of the lines that were joined
 pub record Stand : Type 0 where
   pub holds : Option (List ℕ)
   pub waits : List ℕ
-  pub lines : ℕ
+  pub seen : Seen
 
-abbrev pub stand : {W : Type 0} → Written W → ℕ → Stand
-stand output lines = record { holds = output.holds; waits = output.waits; lines = lines }
+abbrev pub stand : {W : Type 0} → Written W → Seen → Stand
+stand output seen = record { holds = output.holds; waits = output.waits; seen = seen }
 
--- from one stand to the next these bytes were added to the output, and this many lines joined
-abbrev pub Goes : Stand → Stand → List ℕ → ℕ → Type 0
-Goes old new added lines = Puts old.holds old.waits new.holds new.waits added × Counts old.lines new.lines lines
+-- from one stand to the next these bytes were added to the output, this many lines joined, and whether one of these has
+-- an address
+abbrev pub Goes : Stand → Stand → List ℕ → ℕ → Bool → Type 0
+Goes old new added lines addressed = Puts old.holds old.waits new.holds new.waits added × Sees old.seen new.seen lines addressed

@@ -2,6 +2,7 @@
 use Rattle.std.specs.Prelude.{◌≡◌, ℕ, ◌-◌, ◌^◌, ◌<◌, Bool, true, false, IsTrue, List, ◌∷◌, ◌++◌, length, Option, Result, Ok, Err}
 use Rattle.std.specs.Io.KnownBytes.{Consumes, IsAtEnd}
 use Rattle.lines.specs.Outputs.{AppendsBeginning}
+use Rattle.cidr_join.specs.Addressed.{any_addressed}
 use Rattle.cidr_join.specs.Joins.{Joins}
 use Rattle.program.specs.LogLines.{LogLine, log_lines, ended_lines, content, IsWhole}
 use Rattle.cidr_join.specs.Stands.{Stand, Goes}
@@ -16,13 +17,13 @@ pub record Ends (join : Join) (remained remains : Option (List ℕ)) (old new : 
   pub reads : Consumes remained remains read
   pub end : IsAtEnd remains
   pub joins : Joins join (log_lines read) added
-  pub goes : Goes old new added (length (log_lines read))
+  pub goes : Goes old new added (length (log_lines read)) (any_addressed join (log_lines read))
 
 -- of these bytes the lines were joined whose line feed is there
 pub record JoinsEnded (join : Join) (old new : Stand) (bytes : List ℕ) : Type 0 where
   pub added : List ℕ
   pub joins : Joins join (ended_lines bytes) added
-  pub goes : Goes old new added (length (ended_lines bytes))
+  pub goes : Goes old new added (length (ended_lines bytes)) (any_addressed join (ended_lines bytes))
 
 -- of what was read the first lines were joined, and the writer, which failed, took a beginning of their output
 pub record WritesBeginning (join : Join) (remained remains : Option (List ℕ)) (old new : Stand) : Type 0 where
@@ -45,7 +46,7 @@ pub record EndsAtLine (join : Join) (remained remains : Option (List ℕ)) (old 
   pub reads : Consumes remained remains read
   pub lines : log_lines read ≡ first ++ line ∷ others
   pub joins : Joins join first added
-  pub goes : Goes old new added (length first)
+  pub goes : Goes old new added (length first) (any_addressed join first)
   pub is_line : IsWhole (IsAtEnd remains) line
   pub long : 1048576 < length (content line)
 

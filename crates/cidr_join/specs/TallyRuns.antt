@@ -1,31 +1,33 @@
 -- The tally of a run.
-use Rattle.std.specs.Prelude.{◌≡◌, ◌≤◌, ◌⊎◌, ℕ, true, List, [], ◌∷◌, ◌++◌, Option, length, codes}
-use Rattle.ipnetwork.specs.declared.ip_network.IpNetwork.{IpNetwork}
+use Rattle.std.specs.Prelude.{◌≡◌, ◌≤◌, ◌⊎◌, ℕ, true, List, [], ◌∷◌, ◌++◌, length, codes}
 use Rattle.lines.specs.Outputs.{FailsIn}
 use Rattle.lists.specs.KnownLists.{KnownLists}
 use Rattle.program.specs.Endings.{Ending, Refuses, HasTold, HasWritten}
+use Rattle.cidr_join.specs.Addressed.{lacking_text}
 use Rattle.cidr_join.specs.Joins.{Finds, address_in, mark_of}
 use Rattle.program.specs.LogLines.{LogLine, log_lines, content}
 use Rattle.cidr_join.specs.Logs.{HaltsBy}
 use Rattle.program.specs.Logs.{IsAllOf}
 use Rattle.cidr_join.specs.Tallies.{Row, IsTally, rows_text}
 use Rattle.cidr_join.specs.Told.{log_fault_text}
+use Rattle.cidr_join.specs.declared.found.Found.{Found}
 use Rattle.cidr_join.specs.declared.join.Join.{Join}
 use Rattle.cidr_join.specs.declared.log.LogFault.{LogFault}
 use Rattle.cidr_join.specs.declared.log.LogFault.TheVariants as faults
-use Rattle.cidr_join.specs.declared.value.Value.{Value}
 
 -- what is printed before each of these lines, each of which has at most 1,048,576 bytes without its end
 abbrev pub Marks : Join → List LogLine → List (List ℕ) → Type 0
 Marks join [] marks = marks ≡ []
-Marks join (line ∷ lines) marks = (found : Option (IpNetwork × Value)) × (others : List (List ℕ)) × (length (content line) ≤ 1048576)
-    × Finds join (address_in join (content line)) found × Marks join lines others × (marks ≡ mark_of join.network found ∷ others)
+Marks join (line ∷ lines) marks = (found : Found) × (others : List (List ℕ)) × (length (content line) ≤ 1048576)
+    × Finds join (address_in join (content line)) found × Marks join lines others × (marks ≡ mark_of found ∷ others)
 
--- what is printed before the lines of the logs of these names, which were read to their ends
-abbrev pub MarksLogs : Join → KnownLists → List (List ℕ) → List (List ℕ) → Type 0
-MarksLogs join known [] marks = marks ≡ []
-MarksLogs join known (name ∷ names) marks = (read : List ℕ) × (first : List (List ℕ)) × (others : List (List ℕ))
-    × IsAllOf known name read × Marks join (log_lines read) first × MarksLogs join known names others × (marks ≡ first ++ others)
+-- what is printed before the lines of the logs of these names, which were read to their ends, and what is reported of
+-- those in which no line has an address
+abbrev pub MarksLogs : Join → KnownLists → List (List ℕ) → List (List ℕ) → List ℕ → Type 0
+MarksLogs join known [] marks told = (marks ≡ []) × (told ≡ [])
+MarksLogs join known (name ∷ names) marks told = (read : List ℕ) × (first : List (List ℕ)) × (others : List (List ℕ)) × (texts : List ℕ)
+    × IsAllOf known name read × Marks join (log_lines read) first × MarksLogs join known names others texts × (marks ≡ first ++ others)
+    × (told ≡ lacking_text join name (log_lines read) ++ texts)
 
 -- nothing is written before all logs are read, so that no write ends the reading
 abbrev pub IsOfReading : LogFault → Type 0
@@ -35,33 +37,46 @@ IsOfReading faults.Write = ⊥
 IsOfReading faults.Length = Unit {0}
 IsOfReading faults.Endless = Unit {0}
 
--- a log was not read to its end: those before it were, and its first lines; this is what is reported
+-- a log was not read to its end: those before it were, and its first lines; this is what is reported, after what there is
+-- to report of those before it
 pub record StopsAtName (join : Join) (known : KnownLists) (names : List (List ℕ)) (text : List ℕ) : Type 0 where
   pub before : List (List ℕ)
   pub name : List ℕ
   pub behind : List (List ℕ)
   pub earlier : List (List ℕ)
+  pub texts : List ℕ
   pub lines : List LogLine
   pub marks : List (List ℕ)
   pub fault : LogFault
   pub logs : names ≡ before ++ name ∷ behind
-  pub are : MarksLogs join known before earlier
+  pub are : MarksLogs join known before earlier texts
   pub first : Marks join lines marks
   pub halts : HaltsBy known name lines fault
   pub of_reading : IsOfReading fault
-  pub is : text ≡ log_fault_text name (length lines) fault
+  pub is : text ≡ texts ++ log_fault_text name (length lines) fault
+
+-- memory ran out behind some of the logs; this is what is reported, after what there is to report of these
+pub record RunsOut (join : Join) (known : KnownLists) (names : List (List ℕ)) (text : List ℕ) : Type 0 where
+  pub before : List (List ℕ)
+  pub behind : List (List ℕ)
+  pub earlier : List (List ℕ)
+  pub texts : List ℕ
+  pub logs : names ≡ before ++ behind
+  pub are : MarksLogs join known before earlier texts
+  pub is : text ≡ texts ++ codes "out of memory\n"
 
 -- why nothing is counted: a log was not read to its end, or memory ran out
 abbrev pub StopsTally : Join → KnownLists → List (List ℕ) → List ℕ → Type 0
-StopsTally join known names text = StopsAtName join known names text ⊎ (text ≡ codes "out of memory\n")
+StopsTally join known names text = StopsAtName join known names text ⊎ RunsOut join known names text
 
--- the text was written and nothing reported, and the status is 0; or the writer failed, which took a beginning of what
--- waited and the text, and that was reported
-abbrev pub EndsWith : {W E : Type 0} → List ℕ → Ending W E → Type 0
-EndsWith text end = (HasWritten end text × HasTold end [] × (end.status ≡ 0))
-    ⊎ ((end.output_after.failed ≡ true) × FailsIn end.output end.output_after text × HasTold end (codes "write error\n") × (end.status ≡ 2))
+-- the text was written and the other one reported, and the status is 0; or the writer failed, which took a beginning of
+-- what waited and the text, and that was reported after the other one
+abbrev pub EndsWith : {W E : Type 0} → List ℕ → List ℕ → Ending W E → Type 0
+EndsWith text told end = (HasWritten end text × HasTold end told × (end.status ≡ 0))
+    ⊎ ((end.output_after.failed ≡ true) × FailsIn end.output end.output_after text × HasTold end (told ++ codes "write error\n") × (end.status ≡ 2))
 
--- nothing was written, and the cause reported; or the tally of what is printed before the lines of the logs was written
+-- nothing was written, and the cause reported; or the tally of what is printed before the lines of the logs was written,
+-- and what there is to report of them was reported
 abbrev pub EndsTally : {W E : Type 0} → Join → KnownLists → List (List ℕ) → Ending W E → Type 0
 EndsTally join known names end = ((text : List ℕ) × StopsTally join known names text × Refuses text end)
-    ⊎ ((marks : List (List ℕ)) × (rows : List Row) × MarksLogs join known names marks × IsTally marks rows × EndsWith (rows_text rows) end)
+    ⊎ ((marks : List (List ℕ)) × (told : List ℕ) × (rows : List Row) × MarksLogs join known names marks told × IsTally marks rows × EndsWith (rows_text rows) told end)

@@ -4,7 +4,7 @@ use Rattle.std.specs.String.{string_bytes}
 use Rattle.program.specs.Words.{is}
 use Rattle.program.specs.declared.usage.Subject.{Subject}
 use Rattle.program.specs.declared.usage.Subject.TheVariants as about_this
-use Rattle.cidr_join.specs.CommandLines.{Begin, is_plain, is_name, files_among, inputs_among, crossed_problem}
+use Rattle.cidr_join.specs.CommandLines.{Begin, is_plain, is_name, files_among, inputs_among, crossed_problem, has_source}
 use Rattle.cidr_join.specs.Options.{begins, takes_next, option_of, said_by}
 use Rattle.cidr_join.specs.declared.command_line.Request.{Request}
 use Rattle.cidr_join.specs.declared.options.Choice.{Choice}
@@ -19,6 +19,7 @@ problem_text problems.Field = codes "is no field number"
 problem_text problems.Separator = codes "is not one ASCII byte other than LF, CR and NUL"
 problem_text problems.Name = codes "is no file name"
 problem_text problems.Empty = codes "is no text"
+problem_text problems.Lengths = codes "is not N,M with N up to 32 and M up to 128"
 problem_text problems.NotAlone = codes "is not the only argument"
 problem_text problems.NoOption = codes "is no option"
 problem_text problems.AfterFile = codes "comes after a FILE"
@@ -27,7 +28,8 @@ problem_text problems.After = codes "--after goes with none of -a, -k, -d and -w
 problem_text problems.Words = codes "-w does not go with -d"
 problem_text problems.Tally = codes "--last does not go with --tally"
 problem_text problems.Lists = codes "-f is given more than once"
-problem_text problems.NoList = codes "-f is not given"
+problem_text problems.Group = codes "--group goes with none of -f, --network and --last-wins"
+problem_text problems.NoList = codes "neither -f nor --group is given"
 problem_text problems.InputTwice = codes "-: standard input can be read only once"
 
 -- this fault
@@ -40,6 +42,7 @@ value_problem name =
     if is (codes "-f") name then problems.Name
     else if is (codes "-k") name then problems.Field
     else if is (codes "-d") name then problems.Separator
+    else if is (codes "--group") name then problems.Lengths
     else problems.Empty
 
 -- what is wrong with a word that is no option by itself
@@ -83,12 +86,12 @@ rest_fault place (word ∷ words) =
 
 -- what is wrong with options and FILEs, each of which is right by itself
 abbrev pub together_by : Option Problem → Bool → Bool → Option Problem
-together_by (Some problem) has_list is_read_once = Some problem
-together_by None has_list is_read_once = if has_list then if is_read_once then None else Some problems.InputTwice else Some problems.NoList
+together_by (Some problem) has_source is_read_once = Some problem
+together_by None has_source is_read_once = if has_source then if is_read_once then None else Some problems.InputTwice else Some problems.NoList
 
 abbrev pub together_problem : {Z : Type 0} → Request → List (String Z) → Option Problem
 together_problem said files =
-    together_by (crossed_problem said) said.has_list (nat_le (said.inputs + inputs_among files) 1)
+    together_by (crossed_problem said) (has_source said) (nat_le (said.inputs + inputs_among files) 1)
 
 -- this is wrong with the words. It is the first wrong word, or the first option with a wrong value; if there is none, it
 -- is what the words are together

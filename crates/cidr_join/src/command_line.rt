@@ -1,10 +1,11 @@
 //! What the arguments ask for.
 ghost use Rattle.std.specs.Prelude.{◌≡◌, ◌+◌, ◌^◌, ◌<◌, ◌≤◌, drop, length, nat_le, IfOk, IfErr};
-ghost use Rattle.cidr_join.specs.CommandLines.{crossed_problem, is_placed, inputs_among, Says, AsksNothing};
+ghost use Rattle.cidr_join.specs.CommandLines.{crossed_problem, is_placed, asks_of_list, has_source, inputs_among, Says, AsksNothing};
 ghost use Rattle.cidr_join.specs.Options.{with_option, either};
 ghost use Rattle.cidr_join.specs.Private.Requests.{BeginsWith, behind_dashes};
 ghost use Rattle.cidr_join.specs.Usage.{HasFault, together_by};
 
+use crate::lengths::Lengths;
 use crate::options::{Choice, Letters, behind, choice_at};
 use crate::usage::{Problem, UsageFault, about, rest_fault};
 use program::usage::Subject;
@@ -31,6 +32,8 @@ pub struct Request {
     pub network: bool,
     /// Whether the lines are counted, and not printed.
     pub tally: bool,
+    /// The lengths of the blocks in which lines are grouped, if an option says them.
+    pub group: Option<Lengths>,
     /// Whether a list is among the options.
     pub has_list: bool,
     /// Whether more than one is.
@@ -54,7 +57,7 @@ pub(crate) fn request_of(words: &[String]) -> Result<Request, UsageFault>
     }
     let files = files_from(words, said.files);
     let is_read_once = at_most_one(said.inputs, inputs_among(&words[files..]));
-    match together_problem(crossed_problem(said), said.has_list, is_read_once) {
+    match together_problem(crossed_problem(said), has_source(said), is_read_once) {
         Some(problem) => Err(about(Subject::CommandLine, problem)),
         None => Ok(Request { files, ..said }),
     }
@@ -77,6 +80,7 @@ fn options_of(words: &[String]) -> Request
         last_wins: false,
         network: false,
         tally: false,
+        group: None,
         has_list: false,
         has_lists: false,
         inputs: 0,
@@ -93,15 +97,19 @@ fn options_of(words: &[String]) -> Request
     }
 }
 
-// What is wrong with words that are right by themselves, by which options do not go together, whether there is a list,
-// and whether standard input is read once at the most.
-fn together_problem(crossed: Option<Problem>, has_list: bool, is_read_once: bool) -> Option<Problem>
-    ensures { result ≡ together_by crossed has_list is_read_once }
+// What is wrong with words that are right by themselves, by which options do not go together, whether an option says what
+// is printed of addresses, and whether standard input is read once at the most.
+fn together_problem(
+    crossed: Option<Problem>,
+    has_source: bool,
+    is_read_once: bool,
+) -> Option<Problem>
+    ensures { result ≡ together_by crossed has_source is_read_once }
 {
     match crossed {
         Some(problem) => Some(problem),
         None => {
-            if !has_list {
+            if !has_source {
                 Some(Problem::NoList)
             } else if !is_read_once {
                 Some(Problem::InputTwice)
@@ -126,9 +134,25 @@ fn crossed_problem(request: Request) -> Option<Problem>
         Some(Problem::Tally)
     } else if request.has_lists {
         Some(Problem::Lists)
+    } else if request.group.is_some() && asks_of_list(request) {
+        Some(Problem::Group)
     } else {
         None
     }
+}
+
+// Whether a list is among the options, or one that says something of it.
+fn asks_of_list(request: Request) -> bool
+    ensures { result ≡ asks_of_list request }
+{
+    request.has_list || request.network || request.last_wins
+}
+
+// Whether an option says what is printed of addresses: a list, or lengths of blocks.
+fn has_source(request: Request) -> bool
+    ensures { result ≡ has_source request }
+{
+    request.has_list || request.group.is_some()
 }
 
 // Whether an option says which field a line's address is, or how fields are separated.
@@ -179,6 +203,10 @@ fn with_choice(request: Request, choice: Choice) -> Request
         },
         Choice::Tally => Request {
             tally: true,
+            ..request
+        },
+        Choice::Group(lengths) => Request {
+            group: Some(lengths),
             ..request
         },
         Choice::File => Request {

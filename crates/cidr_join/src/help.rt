@@ -5,6 +5,7 @@ pub(crate) const HELP: &str = "\
 Prints each line of logs behind the value that a list gives its address.
 
     cidr_join [OPTION..] -f LIST [FILE..]
+    cidr_join [OPTION..] --group N,M [FILE..]
 
     -f LIST         networks (10.0.0.0/8, 10.0.0.1, 2001:db8::/32) and ranges (A - B), one a line, each with a value
                     behind it, after a tab, a comma or blanks. A line that begins with # or ; is a comment. - is
@@ -23,14 +24,20 @@ Prints each line of logs behind the value that a list gives its address.
     --tally         print no line: print how many lines have each value, and a tab and the value, most first, and those of
                     one count in the order of their bytes. Lines that would have a minus sign count as one. Not with
                     --last
+    --group N,M     no list: before a line print the block of length N that has its address, or of
+                    length M if that is of IPv6: --group 24,64. Not with -f, --network or --last-wins
     --quiet         as the first word: do not show on a terminal how much was read
     --help          print this text
     --version       print the version
 
-Before each line the program prints the value of the longest network of the list that has the address of the line, and a
-tab; a minus sign if no network has it, or the line has no address. A FILE is a name, or - for standard input, as is no
-FILE at all. A line is printed as it was; a last line without a line feed gets one. A line has at most 1,048,576 bytes; a
-longer one ends the program. A line of the list has at most 1,024 bytes, and the list 1,073,741,824.
+Before each line the program prints the value of the longest network of the list that has the
+address of the line, and a tab; a minus sign if no network has it, or the line has no address.
+Options may stand behind FILEs; what follows a -- are FILEs. Options of one letter may be one word,
+with the value of the last behind it: -wk1, -flist. A FILE is a name, or - for standard input, as is
+no FILE at all. A line is printed as it was; a last line without a line feed gets one. A line has at
+most 1,048,576 bytes; a longer one ends the program. A line of the list has at most 1,024 bytes, and
+the list 1,073,741,824. A FILE with lines of which none has an address where it is looked for is
+reported.
 
 Status: 0, or 2 on wrong usage, a refused line, a file that cannot be read, a failed write or out of memory.
 
@@ -38,6 +45,7 @@ Examples:
     cidr_join -f teams.txt access.log
     cidr_join -a -f countries.csv auth.log
     cidr_join --tally -f countries.csv access.log
+    cidr_join --group 24,64 --tally access.log
     tail -f access.log | cidr_join --last --network -f networks.txt
 ";
 
@@ -49,4 +57,4 @@ pub(crate) const PROGRAM: &str = "cidr_join";
 
 /// How the program is used: what is reported for arguments that are not a command, after what is wrong with them.
 pub(crate) const USAGE: &str =
-    "usage: cidr_join [-a | --after TEXT | [-k N] [-d CHAR | -w]] [--mapped] [--last | --tally] [--network] [--last-wins] -f LIST [FILE..]; try --help\n";
+    "usage: cidr_join [-a | --after TEXT | [-k N] [-d CHAR | -w]] [--mapped] [--last | --tally] (-f LIST [--network] [--last-wins] | --group N,M) [FILE..]; try --help\n";

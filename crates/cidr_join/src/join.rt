@@ -2,10 +2,10 @@
 ghost use Rattle.std.specs.Prelude.{◌≡◌, None, Some};
 ghost use Rattle.cidr_join.specs.Joins.{Finds, asked, first_in, found_in, address_in};
 
+use crate::answers::Answers;
 use crate::field::field_of;
-use crate::routes::Routes;
-use crate::value::Value;
-use ipnetwork::{IpAddr, IpNetwork};
+use crate::found::Found;
+use ipnetwork::IpAddr;
 use line_addresses::{address_of, following, next_address, unmapped, word_of};
 use std::marker::Model;
 
@@ -64,30 +64,28 @@ impl<'a> Text<'a> {
 /// What decides what is printed of a line.
 #[derive(Drop)]
 pub struct Join<'a> {
-    pub(crate) routes: Routes<'a>,
+    /// What is printed of its address.
+    pub(crate) answers: Answers<'a>,
     pub(crate) place: Place<'a>,
     /// Whether an IPv4-mapped address of a line counts as its IPv4 one.
     pub(crate) mapped: bool,
-    /// Whether the value stands behind the line, and not before it.
+    /// Whether that stands behind the line, and not before it.
     pub(crate) last: bool,
-    /// Whether the network is printed in place of its value.
-    pub(crate) network: bool,
 }
 
 impl<'a> Join<'a> {
-    /// The longest network of the list that has the address of a line, and its value. The line is given without its
-    /// end. Does not allocate.
-    pub(crate) fn find(&self, line: &[u8]) -> Option<(IpNetwork, Value<'a>)>
-        ensures { Finds self.now (address_in self.now line.now) result }
+    /// What is printed of the address of a line. Does not allocate.
+    pub(crate) fn find(&self, address: Option<IpAddr>) -> Found<'a>
+        ensures { Finds self.now address result }
     {
-        match self.address_in(line) {
-            Some(address) => self.routes.longest(address),
-            None => None,
+        match address {
+            Some(address) => self.answers.find(address),
+            None => Found::Nothing,
         }
     }
 
-    // The address for which the list is asked.
-    fn address_in(&self, line: &[u8]) -> Option<IpAddr>
+    /// The address of a line of which this is printed. The line is given without its end.
+    pub(crate) fn address_in(&self, line: &[u8]) -> Option<IpAddr>
         ensures { result ≡ address_in self.now line.now }
     {
         match self.found_in(line) {
@@ -117,7 +115,7 @@ impl<'a> Join<'a> {
         }
     }
 
-    // The address for which the list is asked.
+    // The address that counts as an address of a line.
     fn asked(&self, address: IpAddr) -> IpAddr
         ensures { result ≡ asked self.now.mapped address }
     {

@@ -8,6 +8,7 @@ ghost use Rattle.program.specs.LogLines.{feed_behind};
 
 use crate::join::{Join, LINE_MAX};
 use crate::printing::print_line;
+use crate::seen::Seen;
 use lines::line_buffer::{LineBuffer, NextLine};
 use lines::line_end::LineEnd;
 use lines::output::Output;
@@ -30,7 +31,7 @@ pub enum LogFault {
     Endless,
 }
 
-/// Writes each line of a log with the value of its address, and adds how many these are to `count`.
+/// Writes each line of a log with the value of its address, and counts it.
 ///
 /// What is written for the lines that a read completes is written before the next read. After a failed read nothing is
 /// written. A line that is too long ends the run even if its end was not read.
@@ -39,20 +40,20 @@ pub fn join_log<R: Read, W: Write>(
     buffer: &mut [u8],
     reader: &mut Watched<R>,
     output: &mut Output<'_, W>,
-    count: &mut u64,
+    seen: &mut Seen,
 ) -> Result<(), LogFault>
     requires room { 1048578 ≤ length buffer.old }
     ensures ok { OnOk result
         (Ends join.now (R.remaining (device_of reader.old))
         (R.remaining (device_of reader.new))
-        (stand output.old count.old)
-        (stand output.new count.new)) }
+        (stand output.old seen.old)
+        (stand output.new seen.new)) }
     ensures err { IfErr result
         (Stops join.now (R.remaining (device_of reader.old))
         (R.remaining (device_of reader.new))
         (has_failed reader.new) output.new.failed
-        (stand output.old count.old)
-        (stand output.new count.new)) }
+        (stand output.old seen.old)
+        (stand output.new seen.new)) }
     // A device has failed exactly if it had failed before, or its failure ended the log. So nothing is written after a
     // read that failed.
     ensures reader_failed { has_failed reader.new ≡ (has_failed reader.old || ended_by_read result) }
@@ -67,7 +68,7 @@ pub fn join_log<R: Read, W: Write>(
             NextLine::Line(end) => {
                 let line = lines.line();
                 let whole = lines.whole_line();
-                if let Err(fault) = join_line(join, line, whole, end, output, count) {
+                if let Err(fault) = join_line(join, line, whole, end, output, seen) {
                     return Err(fault);
                 }
             }
@@ -103,18 +104,19 @@ fn join_line<W: Write>(
     whole: &[u8],
     end: LineEnd,
     output: &mut Output<'_, W>,
-    count: &mut u64,
+    seen: &mut Seen,
 ) -> Result<(), LogFault>
     requires { length line.now ≤ length whole.now }
     ensures ok { OnOk result (JoinsLine join.now line.now (whole.now ++ feed_behind end)
-        (stand output.old count.old) (stand output.new count.new)) }
+        (stand output.old seen.old) (stand output.new seen.new)) }
     ensures err { IfErr result (LineStops join.now line.now (whole.now ++ feed_behind end)
         output.new.failed
-        (stand output.old count.old) (stand output.new count.new)) }
+        (stand output.old seen.old) (stand output.new seen.new)) }
     ensures writer_failed { output.new.failed ≡ (output.old.failed || ended_by_write result) }
 {
-    let found = join.find(line);
-    *count = count.saturating_add(1);
+    let address = join.address_in(line);
+    seen.add(address.is_some());
+    let found = join.find(address);
     match print_line(join, &found, line, whole, end, output) {
         Ok(()) => Ok(()),
         Err(_) => Err(LogFault::Write),

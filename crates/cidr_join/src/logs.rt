@@ -7,7 +7,8 @@ ghost use Rattle.cidr_join.specs.Private.Runs.{JoinsNames, StopsBy};
 
 use crate::join::Join;
 use crate::log::{LogFault, join_log};
-use crate::telling::tell_log_fault;
+use crate::seen::Seen;
+use crate::telling::{tell_lacking, tell_log_fault};
 use lines::output::Output;
 use lines::watched::Watched;
 use lists::{OpenFault, OpenLists};
@@ -35,7 +36,7 @@ pub(crate) fn join_logs<L: OpenLists, W: Write, E: Write>(
 }
 
 // Joins the logs of these names, or standard input, and returns whether all came to their ends. If not, the cause is
-// reported.
+// reported. So is each log in which no line has an address.
 fn join_each<L: OpenLists, W: Write, E: Write>(
     join: &Join<'_>,
     files: &[String],
@@ -45,9 +46,8 @@ fn join_each<L: OpenLists, W: Write, E: Write>(
     errors: &mut Output<'_, E>,
 ) -> bool
     requires { 1048578 ≤ length buffer.old }
-    ensures all { result ≡ true → (errors.new ≡ errors.old)
-        × JoinsNames join.now (L.known lists.now) (logs_of files.now)
-        output.old output.new }
+    ensures all { result ≡ true → JoinsNames join.now (L.known lists.now) (logs_of files.now)
+        output.old output.new errors.old errors.new }
     ensures stopped { result ≡ false
         → StopsAtLog join.now (L.known lists.now) (logs_of files.now)
         (ending output.old output.new errors.old errors.new 2) }
@@ -65,7 +65,8 @@ fn join_each<L: OpenLists, W: Write, E: Write>(
     true
 }
 
-// Opens the log of this name and joins its lines, and returns whether it came to its end. If not, the cause is reported.
+// Opens the log of this name and joins its lines, and returns whether it came to its end. If not, the cause is reported,
+// and else it is if no line has an address.
 fn join_one<L: OpenLists, W: Write, E: Write>(
     join: &Join<'_>,
     name: &str,
@@ -75,29 +76,34 @@ fn join_one<L: OpenLists, W: Write, E: Write>(
     errors: &mut Output<'_, E>,
 ) -> bool
     requires { 1048578 ≤ length buffer.old }
-    ensures all { result ≡ true → (errors.new ≡ errors.old)
-        × JoinsNames join.now (L.known lists.now) (name.now ∷ [])
-        output.old output.new }
+    ensures all { result ≡ true → JoinsNames join.now (L.known lists.now) (name.now ∷ [])
+        output.old output.new errors.old errors.new }
     ensures stopped { result ≡ false
         → StopsAtLog join.now (L.known lists.now) (name.now ∷ [])
         (ending output.old output.new errors.old errors.new 2) }
 {
-    let mut count = 0;
+    let mut seen = Seen {
+        lines: 0,
+        is_addressed: false,
+    };
     let log = match lists.open(name) {
         Ok(log) => log,
         Err(error) => {
             let cause = OpenFault::of(error.kind());
-            stop(name, LogFault::Open(cause), count, output, errors);
+            stop(name, LogFault::Open(cause), seen.lines, output, errors);
             return false;
         }
     };
     let mut log = Watched::new(log);
-    let end = join_log(join, buffer, &mut log, output, &mut count);
+    let end = join_log(join, buffer, &mut log, output, &mut seen);
     lists.close(name, log);
     match end {
-        Ok(()) => true,
+        Ok(()) => {
+            tell_lacking(&join.place, name, seen.lines, seen.is_addressed, errors);
+            true
+        }
         Err(fault) => {
-            stop(name, fault, count, output, errors);
+            stop(name, fault, seen.lines, output, errors);
             false
         }
     }

@@ -1,11 +1,16 @@
 //! The lines of logs, each with the value that a list gives its address.
 #![tactic(auto)]
 
+mod answers;
+mod arranging;
 mod command_line;
 mod field;
+mod found;
 mod help;
 mod join;
+mod joined;
 mod laws;
+mod lengths;
 mod line;
 mod list;
 mod log;
@@ -14,6 +19,7 @@ mod options;
 mod printing;
 mod routes;
 mod run;
+mod seen;
 mod tally;
 mod tally_log;
 mod tally_logs;

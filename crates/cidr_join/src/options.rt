@@ -2,8 +2,10 @@
 ghost use Rattle.std.specs.Prelude.{◌≡◌, ◌-◌, ◌^◌, ◌<◌, ◌≤◌, drop, length, min};
 ghost use Rattle.std.specs.List.{list_all};
 ghost use Rattle.std.specs.Char.{is_ascii_digit};
-ghost use Rattle.cidr_join.specs.Options.{is_letter, number_of, takes_next, behind_option, option_of, in_one_word, in_two_words, letters_option, letters_in, file_option, field_option, separator_option, after_option, value_of, said_at, or_last};
+ghost use Rattle.cidr_join.specs.Options.{is_letter, number_of, takes_next, behind_option, option_of, in_one_word, in_two_words, letters_option, letters_in, file_option, field_option, separator_option, after_option, group_option, length_of, lengths_by, value_of, said_at, or_last};
 
+use crate::field::field_of;
+use crate::lengths::Lengths;
 use program::words::is;
 
 /// Which letters are among those of options.
@@ -34,6 +36,8 @@ pub enum Choice {
     Mapped,
     /// `--tally`.
     Tally,
+    /// `--group`, and two lengths.
+    Group(Lengths),
     /// `--after`, and a text.
     After,
     /// `-f`, and the name of a list.
@@ -78,7 +82,7 @@ pub(crate) fn choice_at(words: &[String], at: usize) -> Option<Choice>
 pub(crate) fn takes_next(word: &String) -> bool
     ensures { result ≡ takes_next word.now }
 {
-    is(word, "-f") || is(word, "-k") || is(word, "-d") || is(word, "--after")
+    is(word, "-f") || is(word, "-k") || is(word, "-d") || is(word, "--after") || is(word, "--group")
 }
 
 // The option of this name with this value.
@@ -91,6 +95,8 @@ fn choice_with(name: &String, value: &[u8]) -> Option<Choice>
         field_choice(value)
     } else if is(name, "-d") {
         separator_choice(value)
+    } else if is(name, "--group") {
+        group_choice(value)
     } else {
         after_choice(value)
     }
@@ -159,8 +165,8 @@ fn are_letters(letters: &[u8]) -> bool
     true
 }
 
-// Whether this is the letter of an option.
-fn is_letter(letter: u8) -> bool
+/// Whether this is the letter of an option.
+pub(crate) fn is_letter(letter: u8) -> bool
     ensures { result ≡ is_letter letter }
 {
     letter == b'a' || letter == b'w'
@@ -246,6 +252,49 @@ fn after_choice(value: &[u8]) -> Option<Choice>
         return None;
     }
     Some(Choice::After)
+}
+
+// `--group` with this value: two lengths, with a comma between them.
+fn group_choice(value: &[u8]) -> Option<Choice>
+    ensures { result ≡ group_option value.now }
+{
+    let Some(first) = field_of(value, 1, b',') else {
+        return None;
+    };
+    let Some(second) = field_of(value, 2, b',') else {
+        return None;
+    };
+    if field_of(value, 3, b',').is_some() {
+        return None;
+    }
+    lengths_choice(length_of(first, 32), length_of(second, 128))
+}
+
+// The lengths of blocks that a text names, up to the greatest.
+fn length_of(text: &[u8], greatest: u8) -> Option<u8>
+    ensures { result ≡ length_of greatest text.now }
+{
+    if text.is_empty() || !are_digits(text) {
+        return None;
+    }
+    let number = number_of(text);
+    if number > u64::from(greatest) {
+        return None;
+    }
+    match u8::try_from(number) {
+        Ok(number) => Some(number),
+        Err(_) => None,
+    }
+}
+
+// `--group` with these lengths.
+fn lengths_choice(v4: Option<u8>, v6: Option<u8>) -> Option<Choice>
+    ensures { result ≡ lengths_by v4 v6 }
+{
+    match (v4, v6) {
+        (Some(v4), Some(v6)) => Some(Choice::Group(Lengths { v4, v6 })),
+        _ => None,
+    }
 }
 
 /// The value of the last option of this name among options, or an empty text if there is none.

@@ -4,9 +4,8 @@ ghost use Rattle.lines.specs.Outputs.{Prints, FailsIn};
 ghost use Rattle.cidr_join.specs.Joins.{mark_of, shown_of};
 ghost use Rattle.program.specs.LogLines.{feed_behind};
 
+use crate::found::Found;
 use crate::join::Join;
-use crate::value::Value;
-use ipnetwork::IpNetwork;
 use lines::fault::RunFault;
 use lines::line_end::LineEnd;
 use lines::output::Output;
@@ -17,7 +16,7 @@ use std::io::Write;
 /// for none. `line` is the line without its end, and `whole` as it was read; if no line feed ends it, one is written.
 pub(crate) fn print_line<W: Write>(
     join: &Join<'_>,
-    found: &Option<(IpNetwork, Value<'_>)>,
+    found: &Found<'_>,
     line: &[u8],
     whole: &[u8],
     end: LineEnd,
@@ -25,30 +24,27 @@ pub(crate) fn print_line<W: Write>(
 ) -> Result<(), RunFault>
     requires { length line.now ≤ length whole.now }
     ensures ok { OnOk result (Prints output.old output.new
-        (shown_of join.now.last (mark_of join.now.network found.now) line.now
+        (shown_of join.now.last (mark_of found.now) line.now
         (whole.now ++ feed_behind end))) }
     ensures failed { output.new.failed ≡ (output.old.failed || is_err result) }
     ensures beginning { OnErr result (FailsIn output.old output.new
-        (shown_of join.now.last (mark_of join.now.network found.now) line.now
+        (shown_of join.now.last (mark_of found.now) line.now
         (whole.now ++ feed_behind end))) }
 {
     match found {
-        Some((network, value)) => {
-            if join.network {
-                let text = network.canonical();
-                print_with(
-                    join.last,
-                    text.as_str().as_bytes(),
-                    line,
-                    whole,
-                    end,
-                    output,
-                )
-            } else {
-                print_with(join.last, value.bytes(), line, whole, end, output)
-            }
+        Found::Network(network) => {
+            let text = network.canonical();
+            print_with(
+                join.last,
+                text.as_str().as_bytes(),
+                line,
+                whole,
+                end,
+                output,
+            )
         }
-        None => print_with(join.last, b"-", line, whole, end, output),
+        Found::Value(value) => print_with(join.last, value.bytes(), line, whole, end, output),
+        Found::Nothing => print_with(join.last, b"-", line, whole, end, output),
     }
 }
 

@@ -3,8 +3,10 @@ ghost use Rattle.std.specs.Prelude.{◌≡◌, ◌≤◌, length, codes, take};
 ghost use Rattle.program.specs.Endings.{ending};
 ghost use Rattle.program.specs.Messages.{Tells};
 ghost use Rattle.program.specs.Logs.{logs_of};
-ghost use Rattle.cidr_join.specs.Runs.{EndsRequest, EndsAs, EndsAsked, EndsJoining, place_of, list_name};
+ghost use Rattle.cidr_join.specs.Runs.{EndsRequest, EndsAs, EndsAsked, EndsWords, EndsFinding, EndsJoining, answers_by, place_of, list_name};
 
+use crate::answers::Answers;
+use crate::arranging::arranged;
 use crate::command_line::{Request, request_of};
 use crate::help::{HELP, PROGRAM, USAGE, VERSION};
 use crate::join::{Join, LINE_MAX, Place, Text};
@@ -41,6 +43,23 @@ pub(crate) fn run<L: OpenLists, W: Write, E: Write>(
     if let Some(text) = text_asked(HELP, VERSION, words) {
         return print_text(text, output, errors);
     }
+    let Ok(asked) = arranged(alloc, words) else {
+        return refuse_memory(errors);
+    };
+    obey(alloc, asked.as_slice(), lists, output, errors)
+}
+
+// Does what the words ask for, of which the options come first, and returns the exit status.
+fn obey<L: OpenLists, W: Write, E: Write>(
+    alloc: Global,
+    words: &[String],
+    lists: &L,
+    output: &mut Output<'_, W>,
+    errors: &mut Output<'_, E>,
+) -> u8
+    ensures { EndsWords PROGRAM.now USAGE.now (L.known lists.now) words.now
+        (ending output.old output.new errors.old errors.new result) }
+{
     match request_of(words) {
         Ok(request) => join(alloc, request, words, lists, output, errors),
         Err(fault) => {
@@ -50,7 +69,7 @@ pub(crate) fn run<L: OpenLists, W: Write, E: Write>(
     }
 }
 
-// Reads the list, and then joins the logs to it.
+// Reads the list, and then joins the logs to it, if their lines are not grouped in blocks.
 fn join<L: OpenLists, W: Write, E: Write>(
     alloc: Global,
     request: Request,
@@ -63,6 +82,10 @@ fn join<L: OpenLists, W: Write, E: Write>(
     ensures { EndsRequest (L.known lists.now) words.now request
         (ending output.old output.new errors.old errors.new result) }
 {
+    if let Some(lengths) = request.group {
+        let answers = Answers::Blocks(lengths);
+        return join_by(alloc, request, words, answers, lists, output, errors);
+    }
     let name = value_of(&words[..request.files], "-f");
     match text_of(alloc, lists, name) {
         Ok(text) => join_to(
@@ -107,15 +130,43 @@ fn join_to<L: OpenLists, W: Write, E: Write>(
     let Ok(routes) = Routes::of(alloc, networks) else {
         return refuse_memory(errors);
     };
+    let answers = answers_by(request.network, routes);
+    join_by(alloc, request, words, answers, lists, output, errors)
+}
+
+// What is printed of addresses by the routes of a list: networks or values.
+fn answers_by(network: bool, routes: Routes<'_>) -> Answers<'_>
+    ensures { result ≡ answers_by network routes.entry }
+{
+    if network {
+        Answers::Networks(routes)
+    } else {
+        Answers::Values(routes)
+    }
+}
+
+// Joins the logs, or counts their lines, where this is printed of addresses.
+fn join_by<'a, L: OpenLists, W: Write, E: Write>(
+    alloc: Global,
+    request: Request,
+    words: &'a [String],
+    answers: Answers<'a>,
+    lists: &L,
+    output: &mut Output<'_, W>,
+    errors: &mut Output<'_, E>,
+) -> u8
+    requires { request.files ≤ length words.now }
+    ensures { EndsFinding (L.known lists.now) words.now request answers.entry
+        (ending output.old output.new errors.old errors.new result) }
+{
     let Ok(mut buffer) = vec![in alloc; 0u8; BUFFER_LEN] else {
         return refuse_memory(errors);
     };
     let join = Join {
-        routes,
+        answers,
         place: place_of(words, request),
         mapped: request.mapped,
         last: request.last,
-        network: request.network,
     };
     let files = &words[request.files..];
     let buffer = buffer.as_mut_slice();

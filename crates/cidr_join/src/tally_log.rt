@@ -1,15 +1,13 @@
 //! Counts what a list gives the lines of a log.
 ghost use Rattle.std.specs.Prelude.{◌≡◌, ◌||◌, ◌≤◌, length, OnOk, IfErr};
 ghost use Rattle.lines.specs.Watched.{device_of, has_failed};
-ghost use Rattle.cidr_join.specs.Joins.{mark_of};
-ghost use Rattle.cidr_join.specs.Private.Counting.{CountsOne};
 ghost use Rattle.cidr_join.specs.Private.TallyProgress.{CountsLine, CountsLines, ReadsAll, StopsReading, ended_by_read};
 
+use crate::found::Found;
 use crate::join::{Join, LINE_MAX};
 use crate::log::LogFault;
+use crate::seen::Seen;
 use crate::tally::Tally;
-use crate::value::Value;
-use ipnetwork::IpNetwork;
 use lines::line_buffer::{LineBuffer, NextLine};
 use lines::watched::Watched;
 use std::alloc::{AllocError, Global};
@@ -24,7 +22,7 @@ pub enum TallyFault {
     OutOfMemory,
 }
 
-/// Counts for each line of a log what the list gives its address, and adds how many lines these are to `count`.
+/// Counts for each line of a log what the list gives its address, and the line.
 ///
 /// A line that is too long ends the run even if its end was not read.
 pub(crate) fn tally_log<R: Read>(
@@ -33,15 +31,15 @@ pub(crate) fn tally_log<R: Read>(
     buffer: &mut [u8],
     reader: &mut Watched<R>,
     tally: &mut Tally,
-    count: &mut u64,
+    seen: &mut Seen,
 ) -> Result<(), TallyFault>
     requires room { 1048578 ≤ length buffer.old }
     ensures ok { OnOk result
-        (ReadsAll (CountsLines join.now tally.old.counts tally.new.counts count.old count.new)
+        (ReadsAll (CountsLines join.now tally.old.counts tally.new.counts seen.old seen.new)
         (R.remaining (device_of reader.old))
         (R.remaining (device_of reader.new))) }
     ensures err { IfErr result
-        (StopsReading (CountsLines join.now tally.old.counts tally.new.counts count.old count.new)
+        (StopsReading (CountsLines join.now tally.old.counts tally.new.counts seen.old seen.new)
         (R.remaining (device_of reader.old))
         (R.remaining (device_of reader.new))
         (has_failed reader.new)) }
@@ -53,7 +51,7 @@ pub(crate) fn tally_log<R: Read>(
         match lines.next() {
             NextLine::Line(_) => {
                 let line = lines.line();
-                if let Err(_) = count_line(alloc, join, line, tally, count) {
+                if let Err(_) = count_line(alloc, join, line, tally, seen) {
                     return Err(TallyFault::OutOfMemory);
                 }
             }
@@ -75,40 +73,22 @@ pub(crate) fn tally_log<R: Read>(
     }
 }
 
-// Counts what the list gives the address of a line within the limit, and the line.
+// Counts what is printed of the address of a line within the limit, and the line.
 fn count_line(
     alloc: Global,
     join: &Join<'_>,
     line: &[u8],
     tally: &mut Tally,
-    count: &mut u64,
+    seen: &mut Seen,
 ) -> Result<(), AllocError>
     ensures { OnOk result
-        (CountsLine join.now line.now tally.old.counts tally.new.counts count.old count.new) }
+        (CountsLine join.now line.now tally.old.counts tally.new.counts seen.old seen.new) }
 {
-    let found = join.find(line);
-    *count = count.saturating_add(1);
-    count_found(alloc, join.network, &found, tally)
-}
-
-// Counts what was found: the value, or the network, or a minus sign for none.
-fn count_found(
-    alloc: Global,
-    network: bool,
-    found: &Option<(IpNetwork, Value<'_>)>,
-    tally: &mut Tally,
-) -> Result<(), AllocError>
-    ensures { OnOk result
-        (CountsOne (mark_of network found.now) tally.old.counts tally.new.counts) }
-{
-    match found {
-        Some((block, value)) => {
-            if network {
-                tally.count(alloc, block.canonical().as_str().as_bytes())
-            } else {
-                tally.count(alloc, value.bytes())
-            }
-        }
-        None => tally.count(alloc, b"-"),
+    let address = join.address_in(line);
+    seen.add(address.is_some());
+    match join.find(address) {
+        Found::Network(network) => tally.count(alloc, network.canonical().as_str().as_bytes()),
+        Found::Value(value) => tally.count(alloc, value.bytes()),
+        Found::Nothing => tally.count(alloc, b"-"),
     }
 }

@@ -12,9 +12,10 @@ ghost use Rattle.cidr_join.specs.Private.TallyProgress.{CountsNames, TellsStop, 
 use crate::join::Join;
 use crate::log::LogFault;
 use crate::printing::put_both;
+use crate::seen::Seen;
 use crate::tally::{Row, Tally};
 use crate::tally_log::{TallyFault, tally_log};
-use crate::telling::tell_log_fault;
+use crate::telling::{tell_lacking, tell_log_fault};
 use lines::fault::RunFault;
 use lines::output::Output;
 use lines::watched::Watched;
@@ -52,7 +53,7 @@ pub(crate) fn tally_logs<L: OpenLists, W: Write, E: Write>(
 }
 
 // Counts the lines of the logs of these names, or of standard input, and returns whether all came to their ends. If
-// not, the cause is reported.
+// not, the cause is reported. So is each log in which no line has an address.
 fn tally_each<L: OpenLists, E: Write>(
     alloc: Global,
     join: &Join<'_>,
@@ -63,9 +64,8 @@ fn tally_each<L: OpenLists, E: Write>(
     errors: &mut Output<'_, E>,
 ) -> bool
     requires { 1048578 ≤ length buffer.old }
-    ensures all { result ≡ true → (errors.new ≡ errors.old)
-        × CountsNames join.now (L.known lists.now) (logs_of files.now)
-        tally.old.counts tally.new.counts }
+    ensures all { result ≡ true → CountsNames join.now (L.known lists.now) (logs_of files.now)
+        tally.old.counts tally.new.counts errors.old errors.new }
     ensures stopped { result ≡ false
         → TellsStop join.now (L.known lists.now) (logs_of files.now) errors.old errors.new }
 {
@@ -83,7 +83,7 @@ fn tally_each<L: OpenLists, E: Write>(
 }
 
 // Opens the log of this name and counts its lines, and returns whether it came to its end. If not, the cause is
-// reported.
+// reported, and else it is if no line has an address.
 fn tally_one<L: OpenLists, E: Write>(
     alloc: Global,
     join: &Join<'_>,
@@ -94,28 +94,34 @@ fn tally_one<L: OpenLists, E: Write>(
     errors: &mut Output<'_, E>,
 ) -> bool
     requires { 1048578 ≤ length buffer.old }
-    ensures all { result ≡ true → (errors.new ≡ errors.old)
-        × CountsNames join.now (L.known lists.now) (name.now ∷ [])
-        tally.old.counts tally.new.counts }
+    ensures all { result ≡ true → CountsNames join.now (L.known lists.now) (name.now ∷ [])
+        tally.old.counts tally.new.counts errors.old errors.new }
     ensures stopped { result ≡ false
         → TellsStop join.now (L.known lists.now) (name.now ∷ []) errors.old errors.new }
 {
-    let mut count = 0;
+    let mut seen = Seen {
+        lines: 0,
+        is_addressed: false,
+    };
     let log = match lists.open(name) {
         Ok(log) => log,
         Err(error) => {
             let cause = OpenFault::of(error.kind());
-            tell_stop(name, TallyFault::Log(LogFault::Open(cause)), count, errors);
+            let fault = TallyFault::Log(LogFault::Open(cause));
+            tell_stop(name, fault, seen.lines, errors);
             return false;
         }
     };
     let mut log = Watched::new(log);
-    let end = tally_log(alloc, join, buffer, &mut log, tally, &mut count);
+    let end = tally_log(alloc, join, buffer, &mut log, tally, &mut seen);
     lists.close(name, log);
     match end {
-        Ok(()) => true,
+        Ok(()) => {
+            tell_lacking(&join.place, name, seen.lines, seen.is_addressed, errors);
+            true
+        }
         Err(fault) => {
-            tell_stop(name, fault, count, errors);
+            tell_stop(name, fault, seen.lines, errors);
             false
         }
     }

@@ -20,6 +20,8 @@ pub enum Problem {
     Name,
     /// Not a text: empty.
     Empty,
+    /// Not the lengths of blocks.
+    Lengths,
     /// `--help` or `--version` beside other words.
     NotAlone,
     /// Not an option, though it begins with a `-`.
@@ -36,7 +38,9 @@ pub enum Problem {
     Tally,
     /// More than one list.
     Lists,
-    /// No list.
+    /// `--group` together with `-f`, `--network` or `--last-wins`.
+    Group,
+    /// Neither a list nor `--group`.
     NoList,
     /// Standard input is to be read twice.
     InputTwice,
@@ -53,6 +57,7 @@ impl Problem {
             Problem::Separator => "is not one ASCII byte other than LF, CR and NUL",
             Problem::Name => "is no file name",
             Problem::Empty => "is no text",
+            Problem::Lengths => "is not N,M with N up to 32 and M up to 128",
             Problem::NotAlone => "is not the only argument",
             Problem::NoOption => "is no option",
             Problem::AfterFile => "comes after a FILE",
@@ -61,7 +66,8 @@ impl Problem {
             Problem::Words => "-w does not go with -d",
             Problem::Tally => "--last does not go with --tally",
             Problem::Lists => "-f is given more than once",
-            Problem::NoList => "-f is not given",
+            Problem::Group => "--group goes with none of -f, --network and --last-wins",
+            Problem::NoList => "neither -f nor --group is given",
             Problem::InputTwice => "-: standard input can be read only once",
         }
     }
@@ -131,6 +137,8 @@ fn value_problem(name: &String) -> Problem
         Problem::Field
     } else if is(name, "-d") {
         Problem::Separator
+    } else if is(name, "--group") {
+        Problem::Lengths
     } else {
         Problem::Empty
     }
@@ -192,8 +200,8 @@ fn is_name(word: &String) -> bool
     !word.as_bytes().is_empty()
 }
 
-// Whether a word is `-`, or does not begin with a `-`.
-fn is_plain(word: &String) -> bool
+/// Whether a word is `-`, or does not begin with a `-`.
+pub(crate) fn is_plain(word: &String) -> bool
     ensures { result ≡ is_plain word.now }
 {
     is(word, "-") || !word.as_bytes().starts_with(b"-".as_slice())

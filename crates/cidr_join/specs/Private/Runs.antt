@@ -3,6 +3,7 @@ use Rattle.std.specs.Prelude.{◌≡◌, ℕ, ◌⊎◌, List, []}
 use Rattle.lines.specs.Outputs.{Written, Prints}
 use Rattle.lists.specs.KnownLists.{KnownLists}
 use Rattle.cidr_join.specs.Logs.{JoinsLogs}
+use Rattle.program.specs.Messages.{Tells}
 use Rattle.program.specs.Endings.{Ending, HasTold, HasWritten}
 use Rattle.cidr_join.specs.Runs.{FailsWriting}
 use Rattle.cidr_join.specs.Told.{log_fault_text}
@@ -10,10 +11,12 @@ use Rattle.cidr_join.specs.declared.join.Join.{Join}
 use Rattle.cidr_join.specs.declared.log.LogFault.{LogFault}
 use Rattle.cidr_join.specs.declared.log.LogFault.TheVariants as faults
 
--- the logs of these names were joined to their ends, in turn
-pub record JoinsNames {W : Type 0} (join : Join) (known : KnownLists) (names : List (List ℕ)) (old new : Written W) : Type 0 where
+-- the logs of these names were joined to their ends, in turn, and what there is to report of them was reported
+pub record JoinsNames {W E : Type 0} (join : Join) (known : KnownLists) (names : List (List ℕ)) (old new : Written W) (errors told : Written E) : Type 0 where
   pub output : List ℕ
-  pub joins : JoinsLogs join known names output
+  pub text : List ℕ
+  pub joins : JoinsLogs join known names output text
+  pub tells : Tells errors told text
   pub puts : Prints old new output
 
 -- what waited was written, and the fault reported; or the writer failed, and that was reported

@@ -3,23 +3,24 @@ use Rattle.std.specs.Prelude.{◌≡◌, ℕ, ◌+◌, ◌-◌, ◌^◌, ◌<◌
 use Rattle.std.specs.HashMap.{HashMap}
 use Rattle.std.specs.Io.KnownBytes.{Consumes, IsAtEnd}
 use Rattle.std.specs.List.{list_all}
-use Rattle.ipnetwork.specs.declared.ip_network.IpNetwork.{IpNetwork}
 use Rattle.lines.specs.LineBuffers.{Buffered, IsPending}
 use Rattle.lines.specs.Outputs.{Written}
 use Rattle.lists.specs.KnownLists.{KnownLists}
 use Rattle.program.specs.Messages.{Tells}
+use Rattle.cidr_join.specs.Addressed.{is_addressed, any_addressed}
 use Rattle.cidr_join.specs.Joins.{address_in, Finds, mark_of}
 use Rattle.program.specs.LogLines.{LogLine, log_lines, ended_lines, content, IsWhole}
-use Rattle.program.specs.Counts.{Counts}
+use Rattle.cidr_join.specs.Stands.{Sees}
 use Rattle.cidr_join.specs.TallyRuns.{Marks, MarksLogs, StopsTally}
 use Rattle.cidr_join.specs.Told.{log_fault_text}
 use Rattle.cidr_join.specs.Private.Counting.{Counted, CountsOne}
 use Rattle.program.specs.LogReaders.{AreFirst}
+use Rattle.cidr_join.specs.declared.found.Found.{Found}
 use Rattle.cidr_join.specs.declared.join.Join.{Join}
 use Rattle.cidr_join.specs.declared.log.LogFault.TheVariants as faults
+use Rattle.cidr_join.specs.declared.seen.Seen.{Seen}
 use Rattle.cidr_join.specs.declared.tally_log.TallyFault.{TallyFault}
 use Rattle.cidr_join.specs.declared.tally_log.TallyFault.TheVariants as tallies
-use Rattle.cidr_join.specs.declared.value.Value.{Value}
 
 -- ---- lines of a log, of which something was done
 
@@ -79,20 +80,20 @@ pub record ReadsSoFar (done : List LogLine → Type 0) (room : ℕ) (held : Buff
 
 module _ {Z S : Type 0} where
   -- what the list gives a line was counted, and the line
-  abbrev pub CountsLine : Join → List ℕ → HashMap (Vec ℕ Z) ℕ S → HashMap (Vec ℕ Z) ℕ S → ℕ → ℕ → Type 0
-  CountsLine join line old new was is = (found : Option (IpNetwork × Value)) × Finds join (address_in join line) found × CountsOne (mark_of join.network found) old new × Counts was is 1
+  abbrev pub CountsLine : Join → List ℕ → HashMap (Vec ℕ Z) ℕ S → HashMap (Vec ℕ Z) ℕ S → Seen → Seen → Type 0
+  CountsLine join line old new was is = (found : Found) × Finds join (address_in join line) found × CountsOne (mark_of found) old new × Sees was is 1 (is_addressed join line)
 
   -- these texts were counted
   abbrev pub CountsAll : List (List ℕ) → HashMap (Vec ℕ Z) ℕ S → HashMap (Vec ℕ Z) ℕ S → Type 0
   CountsAll marks old new = (texts : List (List ℕ)) → Counted texts old → Counted (texts ++ marks) new
 
   -- what it gives these lines was, and the lines
-  abbrev pub CountsLines : Join → HashMap (Vec ℕ Z) ℕ S → HashMap (Vec ℕ Z) ℕ S → ℕ → ℕ → List LogLine → Type 0
-  CountsLines join old new was is lines = (marks : List (List ℕ)) × Marks join lines marks × CountsAll marks old new × Counts was is (length lines)
+  abbrev pub CountsLines : Join → HashMap (Vec ℕ Z) ℕ S → HashMap (Vec ℕ Z) ℕ S → Seen → Seen → List LogLine → Type 0
+  CountsLines join old new was is lines = (marks : List (List ℕ)) × Marks join lines marks × CountsAll marks old new × Sees was is (length lines) (any_addressed join lines)
 
-  -- what it gives the lines of the logs of these names was
-  abbrev pub CountsNames : Join → KnownLists → List (List ℕ) → HashMap (Vec ℕ Z) ℕ S → HashMap (Vec ℕ Z) ℕ S → Type 0
-  CountsNames join known names old new = (marks : List (List ℕ)) × MarksLogs join known names marks × CountsAll marks old new
+  -- what it gives the lines of the logs of these names was, and what there is to report of these was reported
+  abbrev pub CountsNames : {E : Type 0} → Join → KnownLists → List (List ℕ) → HashMap (Vec ℕ Z) ℕ S → HashMap (Vec ℕ Z) ℕ S → Written E → Written E → Type 0
+  CountsNames join known names old new errors told = (marks : List (List ℕ)) × (text : List ℕ) × MarksLogs join known names marks text × CountsAll marks old new × Tells errors told text
 
 -- what is reported if the lines of a log were not counted to its end
 abbrev pub tally_fault_text : List ℕ → ℕ → TallyFault → List ℕ

@@ -1,7 +1,7 @@
 use Rattle.std.proofs.Common.{◌+◌, ◌∙◌, refl, sym, ap, subst, drop}
 use Rattle.std.specs.Prelude.{nat_le}
 use Rattle.std.proofs.lemmas.List.{take_rest}
-use Rattle.cidr_join.specs.CommandLines.{inputs_among}
+use Rattle.cidr_join.specs.CommandLines.{has_source, inputs_among}
 use Rattle.cidr_join.specs.Usage.{HasFault, together_by}
 use Rattle.cidr_join.specs.declared.usage.UsageFault.{UsageFault}
 use Rattle.cidr_join.proofs.Faults.{one_is_wrong, all_are_wrong, all_are_right}
@@ -23,7 +23,7 @@ returns-in-Some-together_problem-clause-nothing c =
     (all_are_wrong words said c.options_of-said.ensures (sym c.rest_fault.ensures ∙ c.in_default.is) (drop c.files_from-files.result words) c.files_from-files.ensures.files once
     (c.at_most_one-is_read_once.ensures ∙ ap (λ n. nat_le (said.inputs + n) 1) (c.inputs_among.ensures ∙ ap inputs_among (take_rest words c.files_from-files.result)))
     c.in-Some-together_problem.problem
-    (ap (λ b. together_by b said.has_list once) (sym c.crossed_problem.ensures) ∙ sym c.together_problem.ensures ∙ c.in-Some-together_problem.is)).0
+    (ap (λ b. together_by b (has_source said) once) (sym c.crossed_problem.ensures) ∙ ap (λ b. together_by c.crossed_problem.result b once) (sym c.has_source.ensures) ∙ sym c.together_problem.ensures ∙ c.in-Some-together_problem.is)).0
 
 pub returns-in-Some-together_problem-clause-wrong : goal.returns-in-Some-together_problem-clause-wrong
 returns-in-Some-together_problem-clause-wrong c =
@@ -34,7 +34,7 @@ returns-in-Some-together_problem-clause-wrong c =
     (all_are_wrong words said c.options_of-said.ensures (sym c.rest_fault.ensures ∙ c.in_default.is) (drop c.files_from-files.result words) c.files_from-files.ensures.files once
     (c.at_most_one-is_read_once.ensures ∙ ap (λ n. nat_le (said.inputs + n) 1) (c.inputs_among.ensures ∙ ap inputs_among (take_rest words c.files_from-files.result)))
     c.in-Some-together_problem.problem
-    (ap (λ b. together_by b said.has_list once) (sym c.crossed_problem.ensures) ∙ sym c.together_problem.ensures ∙ c.in-Some-together_problem.is)).1
+    (ap (λ b. together_by b (has_source said) once) (sym c.crossed_problem.ensures) ∙ ap (λ b. together_by c.crossed_problem.result b once) (sym c.has_source.ensures) ∙ sym c.together_problem.ensures ∙ c.in-Some-together_problem.is)).1
 
 pub returns-in-None-clause-asked : goal.returns-in-None-clause-asked
 returns-in-None-clause-asked c =
@@ -43,4 +43,4 @@ returns-in-None-clause-asked c =
     let once = c.at_most_one-is_read_once.result in
     all_are_right words said c.options_of-said.ensures (sym c.rest_fault.ensures ∙ c.in_default.is) (drop c.files_from-files.result words) c.files_from-files.ensures.files once
     (c.at_most_one-is_read_once.ensures ∙ ap (λ n. nat_le (said.inputs + n) 1) (c.inputs_among.ensures ∙ ap inputs_among (take_rest words c.files_from-files.result)))
-    (ap (λ b. together_by b said.has_list once) (sym c.crossed_problem.ensures) ∙ sym c.together_problem.ensures ∙ c.in-None.is) c.files_from-files.result refl
+    (ap (λ b. together_by b (has_source said) once) (sym c.crossed_problem.ensures) ∙ ap (λ b. together_by c.crossed_problem.result b once) (sym c.has_source.ensures) ∙ sym c.together_problem.ensures ∙ c.in-None.is) c.files_from-files.result refl

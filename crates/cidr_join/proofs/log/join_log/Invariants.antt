@@ -9,8 +9,8 @@ abbrev pub invariant-lines : goal.invariant-lines
 invariant-lines g l = record {
   sofar : JoinsSoFar l.join l.room l.lines
       (g.R.Read.remaining (device_of l.initial.reader)) (g.R.Read.remaining (device_of l.reader))
-      (stand l.initial.output l.initial.count)
-      (stand l.output l.count);
+      (stand l.initial.output l.initial.seen)
+      (stand l.output l.seen);
   limit : l.lines.limit ≡ 1048576;
   size : length l.lines.bytes ≡ length l.initial.lines.bytes;
   reads : has_failed l.reader ≡ has_failed l.initial.reader;

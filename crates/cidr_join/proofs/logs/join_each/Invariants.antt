@@ -1,4 +1,4 @@
-use Rattle.std.proofs.Common.{◌≡◌, ◌≤◌, length, map, take}
+use Rattle.std.proofs.Common.{◌≤◌, length, map, take}
 use Rattle.std.specs.String.{string_bytes}
 use Rattle.cidr_join.specs.Private.Runs.{JoinsNames}
 use Rattle.cidr_join.proofs.logs.join_each.Given as goal
@@ -6,6 +6,5 @@ use Rattle.cidr_join.proofs.logs.join_each.Given as goal
 abbrev pub invariant-loop-file : goal.invariant-loop-file
 invariant-loop-file g l = record {
   room : 1048578 ≤ length l.buffer;
-  silent : l.errors ≡ l.initial.errors;
-  names : JoinsNames l.join (g.L.OpenLists.known l.lists) (map string_bytes (take l.file-index l.files)) l.initial.output l.output;
+  names : JoinsNames l.join (g.L.OpenLists.known l.lists) (map string_bytes (take l.file-index l.files)) l.initial.output l.output l.initial.errors l.errors;
 }

@@ -7,7 +7,6 @@ returns-then-not-join_each g c = inr (c.join_each.ensures.stopped c.if-not-join_
 
 pub returns : goal.returns
 returns g c =
-    let all = c.join_each.ensures.all c.if-not-join_each.false in
     inl (all_by c.args.join.now (g.L.OpenLists.known c.args.lists.now) _ c.args.output.now c.join_each.new.output c.finish-written.new.self
-    c.args.errors.now c.join_each.new.errors c.end.new.errors c.end.result all.0 c.finish-written.result all.1
+    c.args.errors.now c.join_each.new.errors c.end.new.errors c.end.result c.finish-written.result (c.join_each.ensures.all c.if-not-join_each.false)
     c.finish-written.ensures.ok c.finish-written.ensures.err c.finish-written.ensures.failed c.end.ensures.status c.end.ensures.told)

@@ -1,6 +1,7 @@
-use Rattle.std.proofs.Common.{inl, inr, refl}
-use Rattle.std.proofs.lemmas.List.{take_rest}
-use Rattle.cidr_join.proofs.Runs.{same_routes}
+use Rattle.std.proofs.Common.{◌∙◌, inl, refl, ap}
+use Rattle.program.specs.Endings.{ending}
+use Rattle.cidr_join.specs.Runs.{answers_by}
+use Rattle.cidr_join.proofs.Runs.{same_routes, taken}
 use Rattle.cidr_join.proofs.run.join_to.Goals as goal
 
 pub returns-in-Err : goal.returns-in-Err
@@ -8,4 +9,7 @@ returns-in-Err g c = inl (c.in-Err.fault, c.in-Err.ensures.err, ((refl, refl), c
 
 pub returns : goal.returns
 returns g c =
-    inr (inr (c.in-Ok.networks, c.in-Ok.ensures.ok, rw (take_rest, c.place_of.ensures, same_routes c.in-Ok-of.routes c.in-Ok.networks c.in-Ok-of.ensures.v4 c.in-Ok-of.ensures.v6) at c.run_logs.ensures))
+    taken (g.L.OpenLists.known c.args.lists.now) c.args.words.now c.args.request c.args.name.now c.args.text.now
+    (ending c.args.output.now c.join_by.new.output c.args.errors.now c.join_by.new.errors c.join_by.result) c.in-Ok.networks c.answers_by-answers.result
+    (c.answers_by-answers.ensures ∙ ap (answers_by c.args.request.network) (same_routes c.in-Ok-of.routes c.in-Ok.networks c.in-Ok-of.ensures.v4 c.in-Ok-of.ensures.v6))
+    c.in-Ok.ensures.ok c.join_by.ensures

@@ -1,12 +1,12 @@
-use Rattle.std.proofs.Common.{◌∙◌, refl, sym, arith}
+use Rattle.std.proofs.Common.{◌∙◌, sym, arith}
 use Rattle.cidr_join.proofs.Runs.{names_more}
 use Rattle.cidr_join.proofs.TallyNames.{names_none, input_counted, input_stops, one_more, all_counted, one_stops}
 use Rattle.cidr_join.proofs.tally_logs.tally_each.Goals as goal
 
 pub returns-then-is_empty-clause-all : goal.returns-then-is_empty-clause-all
 returns-then-is_empty-clause-all g c = λ yes.
-    let all = c.tally_one.ensures.all yes in
-    (all.0, input_counted c.args.join.now (g.L.OpenLists.known c.args.lists.now) c.args.files.now c.args.tally.now.counts c.tally_one.new.tally.counts (sym c.is_empty.ensures ∙ c.if-is_empty.true) all.1)
+    input_counted c.args.join.now (g.L.OpenLists.known c.args.lists.now) c.args.files.now c.args.tally.now.counts c.tally_one.new.tally.counts _ _
+    (sym c.is_empty.ensures ∙ c.if-is_empty.true) (c.tally_one.ensures.all yes)
 
 pub returns-then-is_empty-clause-stopped : goal.returns-then-is_empty-clause-stopped
 returns-then-is_empty-clause-stopped g c = λ no.
@@ -15,21 +15,18 @@ returns-then-is_empty-clause-stopped g c = λ no.
 pub loop-file-init : goal.loop-file-init
 loop-file-init g c = record {
   room = c.requires;
-  silent = refl;
-  names = names_none c.args.join.now (g.L.OpenLists.known c.args.lists.now) c.args.tally.now.counts;
+  names = names_none c.args.join.now (g.L.OpenLists.known c.args.lists.now) c.args.tally.now.counts _;
 }
 
 pub loop-file-preserved : goal.loop-file-preserved
 loop-file-preserved g c =
     let files = c.args.files.now in
     let i = c.loop-file.file-index in
-    let all = c.tally_one-in-loop-file.ensures.all c.if-not-tally_one.false in
     let name = c.as_str-name.result.now in
     record {
       room = omega (arith, c.loop-file.invariant.room, c.tally_one-in-loop-file.auto.buffer);
-      silent = all.0 ∙ c.loop-file.invariant.silent;
-      names = one_more c.args.join.now (g.L.OpenLists.known c.args.lists.now) files i name c.args.tally.now.counts c.loop-file.tally.counts c.tally_one-in-loop-file.new.tally.counts (names_more files i c.file-item.result name (omega arith) c.file-item.is c.as_str-name.ensures.value)
-          c.loop-file.invariant.names all.1;
+      names = one_more c.args.join.now (g.L.OpenLists.known c.args.lists.now) files i name c.args.tally.now.counts c.loop-file.tally.counts c.tally_one-in-loop-file.new.tally.counts _ _ _ (names_more files i c.file-item.result name (omega arith) c.file-item.is c.as_str-name.ensures.value)
+          c.loop-file.invariant.names (c.tally_one-in-loop-file.ensures.all c.if-not-tally_one.false);
     }
 
 pub returns-then-not-tally_one-clause-stopped : goal.returns-then-not-tally_one-clause-stopped
@@ -38,13 +35,11 @@ returns-then-not-tally_one-clause-stopped g c = λ no.
     let i = c.loop-file.file-index in
     let name = c.as_str-name.result.now in
     one_stops c.args.join.now (g.L.OpenLists.known c.args.lists.now) files i name c.args.tally.now.counts c.loop-file.tally.counts
-    c.args.errors.now c.loop-file.errors c.tally_one-in-loop-file.new.errors c.loop-file.invariant.silent
+    c.args.errors.now c.loop-file.errors c.tally_one-in-loop-file.new.errors
     (sym c.is_empty.ensures ∙ c.if-is_empty.false) (names_more files i c.file-item.result name (omega arith) c.file-item.is c.as_str-name.ensures.value) c.loop-file.invariant.names
     (c.tally_one-in-loop-file.ensures.stopped c.if-not-tally_one.true)
 
 pub returns-clause-all : goal.returns-clause-all
-returns-clause-all g c = λ yes. (
-  c.loop-file.invariant.silent,
-  all_counted c.args.join.now (g.L.OpenLists.known c.args.lists.now) c.args.files.now c.loop-file.file-index c.args.tally.now.counts c.loop-file.tally.counts (sym c.is_empty.ensures ∙ c.if-is_empty.false) (omega arith)
-      c.loop-file.invariant.names,
-)
+returns-clause-all g c = λ yes.
+    all_counted c.args.join.now (g.L.OpenLists.known c.args.lists.now) c.args.files.now c.loop-file.file-index c.args.tally.now.counts c.loop-file.tally.counts _ _ (sym c.is_empty.ensures ∙ c.if-is_empty.false) (omega arith)
+    c.loop-file.invariant.names

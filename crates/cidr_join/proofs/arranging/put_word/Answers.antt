@@ -1,0 +1,10 @@
+use Rattle.std.proofs.Common.{◌∙◌, sym, ap}
+use Rattle.cidr_join.specs.Arranged.{words_at}
+use Rattle.cidr_join.proofs.WordOrder.{put_in, put_none}
+use Rattle.cidr_join.proofs.arranging.put_word.Goals as goal
+
+pub returns-then-belongs : goal.returns-then-belongs
+returns-then-belongs c = put_in c.put_at.result _ _ _ _ _ (sym c.belongs.ensures ∙ c.if-belongs.true) (ap (words_at c.args.mode) c.as_str.ensures.value) c.put_at.ensures
+
+pub returns : goal.returns
+returns c = put_none _ _ _ (sym c.belongs.ensures ∙ c.if-belongs.false)
