@@ -25,21 +25,21 @@ use Rattle.cidr_merge.specs.declared.usage.UsageFault.{UsageFault}
 
 -- ---- what was found is written
 
-status_is : (findings : List (List ℕ)) (found : Bool) → IsFound findings found → (if found then 1 else 0) ≡ findings_status findings
+pub status_is : (findings : List (List ℕ)) (found : Bool) → IsFound findings found → (if found then 1 else 0) ≡ findings_status findings
 status_is [] found e = ap (λ (b : Bool). if b then 1 else 0) e
 status_is (one ∷ findings) found e =
     let some = eqb-suc-zero (length findings) in
     ap (λ (b : Bool). if b then 1 else 0) (e ∙ ap not some) ∙ sym (ap (λ (b : Bool). if b then 0 else 1) some)
 
-works_before : (mid after : Bool) → after ≡ (mid || false) → IsFalse after → IsFalse mid
+pub works_before : (mid after : Bool) → after ≡ (mid || false) → IsFalse after → IsFalse mid
 works_before false after e works = refl
 works_before true after e works = sym e ∙ works
 
-fails_now : (mid after : Bool) → after ≡ (mid || true) → after ≡ true
+pub fails_now : (mid after : Bool) → after ≡ (mid || true) → after ≡ true
 fails_now false after e = e
 fails_now true after e = e
 
-written_all : (held mid holds : Option (List ℕ)) (waited waits text : List ℕ) → Puts held waited mid waits text → Appends mid holds waits → Appends held holds (waited ++ text)
+pub written_all : (held mid holds : Option (List ℕ)) (waited waits text : List ℕ) → Puts held waited mid waits text → Appends mid holds waits → Appends held holds (waited ++ text)
 written_all held mid holds waited waits text p h = subst (λ (t : List ℕ). Appends held holds t) (sym p.2) (Appends-trans held mid holds p.0 waits p.1 h)
 
 pub checked : {Z W E T : Type 0} (names : List (String Z)) (texts : List (List ℕ)) (end : Ending W E) (mid : Written W) (written : Result T RunFault) (found : Bool) (status : ℕ)

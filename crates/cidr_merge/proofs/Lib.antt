@@ -16,6 +16,9 @@ pub mod Putting
 pub mod ReadInTurn
 pub mod Requests
 pub mod Runs
+pub mod SearchEnds
+pub mod Searches
+pub mod SoughtWords
 pub mod SplitFaults
 pub mod Splitting
 pub mod Stopping

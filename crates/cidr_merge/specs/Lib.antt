@@ -3,7 +3,10 @@ pub mod Answers
 pub mod CommandLines
 pub mod Endings
 pub mod Exports
+pub mod FindRuns
+pub mod FindWords
 pub mod Findings
+pub mod Finds
 pub mod InspectionRuns
 pub mod Inspections
 pub mod Laws

@@ -34,6 +34,8 @@ problem_text problems.EmptySecondSide = codes "no FILE after it"
 problem_text problems.StrictAlone = codes "only together with --json"
 problem_text problems.NoPrefix = codes "no --prefix"
 problem_text problems.NotALength = codes "not a prefix length"
+problem_text problems.NoAddress = codes "no ADDRESS before it"
+problem_text problems.NotAnAddress = codes "not an address"
 
 -- there is no word
 abbrev pub no_operation : UsageFault

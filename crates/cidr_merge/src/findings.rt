@@ -36,8 +36,8 @@ pub(crate) fn tell_place<W: Write>(name: &str, number: usize, output: &mut Outpu
     tell_number(number as u64, output);
 }
 
-// Tells these bytes. If that fails, now or earlier, they are lost, and nothing else happens.
-fn tell_bytes<W: Write>(bytes: &[u8], output: &mut Output<'_, W>)
+/// Tells these bytes. If that fails, now or earlier, they are lost, and nothing else happens.
+pub(crate) fn tell_bytes<W: Write>(bytes: &[u8], output: &mut Output<'_, W>)
     ensures { Tells output.old output.new bytes.now }
 {
     let _ = output.put(bytes);

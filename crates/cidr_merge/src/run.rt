@@ -12,6 +12,7 @@ ghost use Rattle.cidr_merge.specs.Stopping.{StopsInSides};
 ghost use Rattle.program.specs.Endings.{ending};
 
 use crate::command_line::{Operation, Request, request_of};
+use crate::find::find;
 use crate::help::{HELP, PROGRAM, USAGE, VERSION};
 use crate::inspecting::inspect;
 use crate::inspections::inspection_of;
@@ -54,6 +55,9 @@ pub(crate) fn run<L: OpenLists, W: Write, E: Write>(
     }
     if stands(words, 0, "split") {
         return split(alloc, words, lists, output, errors);
+    }
+    if stands(words, 0, "find") {
+        return find(alloc, words, lists, output, errors);
     }
     operate(alloc, words, lists, output, errors)
 }

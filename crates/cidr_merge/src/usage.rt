@@ -49,6 +49,10 @@ pub enum Problem {
     NoPrefix,
     /// The word after `--prefix` is not a prefix length.
     NotALength,
+    /// No address stands before the `--` of a `find`.
+    NoAddress,
+    /// A word before it is not an address.
+    NotAnAddress,
 }
 
 impl Problem {
@@ -76,6 +80,8 @@ impl Problem {
             Problem::EmptySecondSide => "no FILE after it",
             Problem::NoPrefix => "no --prefix",
             Problem::NotALength => "not a prefix length",
+            Problem::NoAddress => "no ADDRESS before it",
+            Problem::NotAnAddress => "not an address",
         }
     }
 }
@@ -302,8 +308,8 @@ pub(crate) fn union_fault(lists: &[String], first: usize) -> Option<UsageFault>
     None
 }
 
-// What is wrong with the sides of another operation; the first word of them is that at the index `first`.
-fn sides_fault(lists: &[String], first: usize) -> Option<UsageFault>
+/// What is wrong with the sides of another operation; the first word of them is that at the index `first`.
+pub(crate) fn sides_fault(lists: &[String], first: usize) -> Option<UsageFault>
     requires { first + length lists.now < 2 ^ 64 }
     ensures { result ≡ sides_fault first lists.now }
 {

@@ -17,9 +17,16 @@ returns-then-stands g c =
     not_asked HELP.now VERSION.now c.args.words.now _ end c.in_default.ensures
     (inl (sym c.stands.ensures ∙ c.if-stands.true, c.split.ensures))
 
+pub returns-then-stands-2 : goal.returns-then-stands-2
+returns-then-stands-2 g c =
+    let end = ending c.args.output.now c.find.new.output
+    c.args.errors.now c.find.new.errors c.find.result in
+    not_asked HELP.now VERSION.now c.args.words.now _ end c.in_default.ensures
+    (inr (inl (sym c.stands-2.ensures ∙ c.if-stands-2.true, c.find.ensures)))
+
 pub returns : goal.returns
 returns g c =
     let end = ending c.args.output.now c.operate.new.output
     c.args.errors.now c.operate.new.errors c.operate.result in
     not_asked HELP.now VERSION.now c.args.words.now _ end c.in_default.ensures
-    (inr (sym c.stands.ensures ∙ c.if-stands.false, c.operate.ensures))
+    (inr (inr (sym c.stands.ensures ∙ c.if-stands.false, sym c.stands-2.ensures ∙ c.if-stands-2.false, c.operate.ensures)))

@@ -1,0 +1,49 @@
+-- What the words of a `find` say: addresses, and lists in which they are sought.
+use Rattle.std.specs.Prelude.{◌≡◌, ℕ, ◌+◌, List, [], ◌∷◌, ◌++◌, Option, Some, length, drop, if◌then◌else◌, codes, String}
+use Rattle.std.specs.String.{string_bytes}
+use Rattle.ipnetwork_addr.specs.Either.{NamesIp}
+use Rattle.ipnetwork_addr.specs.declared.ip.IpAddr.{IpAddr}
+use Rattle.cidr_merge.specs.CommandLines.{stands, before_dashes, behind_dashes}
+use Rattle.cidr_merge.specs.Usage.{at_word, first_of, lists_fault, sides_fault}
+use Rattle.cidr_merge.specs.declared.sought.SoughtFault.{SoughtFault}
+use Rattle.cidr_merge.specs.declared.sought.SoughtFault.TheVariants.{NotAnAddress, OutOfMemory}
+use Rattle.cidr_merge.specs.declared.usage.Problem.TheVariants as problems
+use Rattle.cidr_merge.specs.declared.usage.UsageFault.{UsageFault}
+
+-- the words for addresses stand after `find` and before the first `--`
+abbrev pub sought_of : {Z : Type 0} → List (String Z) → List (String Z)
+sought_of words = before_dashes (drop 1 words)
+
+-- the names of the lists stand after it
+abbrev pub searched_of : {Z : Type 0} → List (String Z) → List (String Z)
+searched_of words = behind_dashes (drop 1 words)
+
+-- what is wrong with the words after `find`, whatever the addresses are: none stands before the `--`, or there is not
+-- one `--`, or no list behind it, or a list has no name
+abbrev pub find_fault : {Z : Type 0} → List (String Z) → Option UsageFault
+find_fault others =
+    if stands (codes "--") others 0 then Some (at_word 1 problems.NoAddress)
+    else first_of (sides_fault 1 others) (lists_fault (2 + length (before_dashes others)) (behind_dashes others))
+
+-- the words are the texts of these addresses
+abbrev pub AreAddresses : {Z : Type 0} → List (String Z) → List IpAddr → Type 0
+AreAddresses [] [] = Unit {0}
+AreAddresses [] (address ∷ addresses) = ⊥
+AreAddresses (word ∷ words) [] = ⊥
+AreAddresses (word ∷ words) (address ∷ addresses) = NamesIp (string_bytes word) address × AreAddresses words addresses
+
+-- of these words, of which the first has this index, the one at the other is the first that is not the text of an address
+pub record IsFirstWrong {Z : Type 0} (first : ℕ) (words : List (String Z)) (place : ℕ) : Type 0 where
+  pub before : List (String Z)
+  pub word : String Z
+  pub behind : List (String Z)
+  pub addresses : List IpAddr
+  pub cut : words ≡ before ++ word ∷ behind
+  pub count : place ≡ first + length before
+  pub right : AreAddresses before addresses
+  pub wrong : (address : IpAddr) → ¬ (NamesIp (string_bytes word) address)
+
+-- the words are not taken: one is wrong, or memory ran out
+abbrev pub StopsAtWord : {Z : Type 0} → ℕ → List (String Z) → SoughtFault → Type 0
+StopsAtWord first words (NotAnAddress place) = IsFirstWrong first words place
+StopsAtWord first words OutOfMemory = Unit {0}

@@ -1,0 +1,130 @@
+//! The run of a `find`.
+ghost use Rattle.std.specs.Prelude.{◌≡◌, ◌<◌, None, drop, length, map, if◌then◌else◌};
+ghost use Rattle.program.specs.Endings.{ending};
+ghost use Rattle.program.specs.Messages.{Tells};
+ghost use Rattle.cidr_merge.specs.CommandLines.{before_dashes};
+ghost use Rattle.cidr_merge.specs.FindRuns.{sought_fault_text, EndsFind, EndsReadingAll, EndsSearching};
+ghost use Rattle.cidr_merge.specs.FindWords.{find_fault, AreAddresses};
+
+use crate::find_words::{before_dashes, behind_dashes, find_fault};
+use crate::help::{PROGRAM, USAGE};
+use crate::searching::search_lists;
+use crate::sought::{Sought, SoughtFault, addresses_of};
+use crate::texts::texts_of;
+use crate::usage::Problem;
+use ipnetwork::IpAddr;
+use lines::output::Output;
+use lists::{OpenLists, ReadFault};
+use program::ending::{FAILED, end};
+use program::telling::tell_fault;
+use program::usage::{Subject, refuse_usage};
+use std::alloc::Global;
+use std::io::Write;
+
+/// The exit status if an entry was printed.
+const FOUND: u8 = 0;
+
+/// The exit status if no entry has an address that is sought.
+const NOTHING_FOUND: u8 = 1;
+
+/// Does what the words after the program's name ask for, of which the first is `find`, and returns the exit status.
+pub(crate) fn find<L: OpenLists, W: Write, E: Write>(
+    alloc: Global,
+    words: &[String],
+    lists: &L,
+    output: &mut Output<'_, W>,
+    errors: &mut Output<'_, E>,
+) -> u8
+    requires { 0 < length words.now }
+    ensures { EndsFind PROGRAM.now USAGE.now (L.known lists.now) words.now
+        (ending output.old output.new errors.old errors.new result) }
+{
+    let others = &words[1..];
+    if let Some(fault) = find_fault(others) {
+        let problem = fault.problem.text();
+        return refuse_usage(PROGRAM, USAGE, words, fault.subject, problem, errors);
+    }
+    match addresses_of(alloc, before_dashes(others), 1) {
+        Ok(addresses) => find_all(alloc, words, addresses.as_slice(), lists, output, errors),
+        Err(fault) => refuse_sought(fault, words, errors),
+    }
+}
+
+// Reports why words are not taken as addresses, and returns the exit status.
+fn refuse_sought<E: Write>(fault: SoughtFault, words: &[String], errors: &mut Output<'_, E>) -> u8
+    ensures status { result ≡ 2 }
+    ensures told { Tells errors.old errors.new
+        (sought_fault_text PROGRAM.now USAGE.now words.now fault) }
+{
+    match fault {
+        SoughtFault::NotAnAddress(place) => {
+            let problem = Problem::NotAnAddress.text();
+            refuse_usage(PROGRAM, USAGE, words, Subject::Word(place), problem, errors)
+        }
+        SoughtFault::OutOfMemory => {
+            tell_fault(words, ReadFault::OutOfMemory, errors);
+            FAILED
+        }
+    }
+}
+
+// Reads the lists, and prints their entries that have one of these addresses.
+fn find_all<L: OpenLists, W: Write, E: Write>(
+    alloc: Global,
+    words: &[String],
+    addresses: &[IpAddr],
+    lists: &L,
+    output: &mut Output<'_, W>,
+    errors: &mut Output<'_, E>,
+) -> u8
+    requires words { 0 < length words.now }
+    requires addresses { AreAddresses (before_dashes (drop 1 words.now)) addresses.now }
+    ensures { EndsReadingAll (L.known lists.now) words.now
+        (ending output.old output.new errors.old errors.new result) }
+{
+    let others = &words[1..];
+    let sought = Sought {
+        words: before_dashes(others),
+        addresses,
+    };
+    let names = behind_dashes(others);
+    match texts_of(alloc, lists, names, 2 + sought.words.len()) {
+        Ok(texts) => search(&sought, names, texts.as_slice(), output, errors),
+        Err(fault) => {
+            tell_fault(words, fault, errors);
+            FAILED
+        }
+    }
+}
+
+// Searches lists with these names and bytes, and returns the exit status.
+fn search<W: Write, E: Write>(
+    sought: &Sought<'_>,
+    names: &[String],
+    texts: &[Vec<u8>],
+    output: &mut Output<'_, W>,
+    errors: &mut Output<'_, E>,
+) -> u8
+    requires sought { AreAddresses sought.now.words.now sought.now.addresses.now }
+    requires texts { length texts.now ≡ length names.now }
+    ensures { EndsSearching sought.now.words.now names.now (map (λ text. text.items) texts.now)
+        (ending output.old output.new errors.old errors.new result) }
+{
+    let reported = search_lists(sought, names, texts, output, errors);
+    let written = output.finish();
+    let status = status(reported.printed, reported.told);
+    end(written, status, errors)
+}
+
+// The exit status by whether an entry was printed, and whether a refused line was told.
+fn status(printed: bool, told: bool) -> u8
+    ensures { result ≡ (if told then 2 else if printed then 0 else 1) }
+{
+    if told {
+        FAILED
+    } else if printed {
+        FOUND
+    } else {
+        NOTHING_FOUND
+    }
+}

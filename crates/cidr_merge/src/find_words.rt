@@ -1,0 +1,41 @@
+//! The words of a `find`, and what is wrong with them, whatever its addresses are.
+ghost use Rattle.std.specs.Prelude.{◌≡◌, ◌+◌, ◌^◌, ◌<◌, length};
+ghost use Rattle.cidr_merge.specs.CommandLines.{before_dashes, behind_dashes};
+ghost use Rattle.cidr_merge.specs.FindWords.{find_fault};
+
+use crate::usage::{Problem, UsageFault, fault_of_word, lists_fault, sides_fault};
+use crate::words::{place_of, stands};
+
+/// What is wrong with the words after `find`: those before the first `--` are addresses, and those after it lists.
+pub(crate) fn find_fault(others: &[String]) -> Option<UsageFault>
+    requires { 2 + length others.now < 2 ^ 64 }
+    ensures { result ≡ find_fault others.now }
+{
+    if stands(others, 0, "--") {
+        return Some(fault_of_word(1, Problem::NoAddress));
+    }
+    if let Some(fault) = sides_fault(others, 1) {
+        return Some(fault);
+    }
+    let first = 2 + before_dashes(others).len();
+    lists_fault(behind_dashes(others), first)
+}
+
+/// The words before the first `--`.
+pub(crate) fn before_dashes(words: &[String]) -> &[String]
+    ensures { result.now ≡ before_dashes words.now }
+{
+    &words[..place_of(words, "--")]
+}
+
+/// The words after the first `--`.
+pub(crate) fn behind_dashes(words: &[String]) -> &[String]
+    ensures { result.now ≡ behind_dashes words.now }
+{
+    let place = place_of(words, "--");
+    if place < words.len() {
+        &words[place + 1..]
+    } else {
+        &words[place..]
+    }
+}

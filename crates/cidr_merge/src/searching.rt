@@ -1,0 +1,202 @@
+//! Searches lists for addresses.
+ghost use Rattle.std.specs.Prelude.{◌≡◌, ◌||◌, ℕ, List as Texts, length, map};
+ghost use Rattle.std.specs.List.{concat};
+ghost use Rattle.std.specs.Str.Lines.{lines};
+ghost use Rattle.program.specs.Messages.{Tells};
+ghost use Rattle.cidr_merge.specs.FindWords.{AreAddresses};
+ghost use Rattle.cidr_merge.specs.Findings.{IsFound};
+ghost use Rattle.cidr_merge.specs.Finds.{has_text, AddressReport, AddressesReport, LineReport, LinesReport, ListsReport};
+ghost use Rattle.cidr_merge.specs.Private.Reported.{Reports};
+
+use crate::findings::{tell_bytes, tell_place, tell_wrong};
+use crate::named::{entry_of, has_address};
+use crate::sought::Sought;
+use crate::text_lines::TextLines;
+use ipnetwork::IpAddr;
+use lines::output::Output;
+use lists::Entry;
+use program::messages::tell;
+use std::io::Write;
+
+/// A line of a list.
+#[derive(Clone, Copy, Debug)]
+pub(crate) struct Line<'a> {
+    /// The name of the list.
+    pub name: &'a str,
+    /// The number of the line, from 1 on.
+    pub number: usize,
+    /// The line, without its line end.
+    pub text: &'a [u8],
+}
+
+/// What a search wrote.
+#[derive(Clone, Copy, Debug, PartialEq, Eq)]
+pub(crate) struct Reported {
+    /// Whether a line was printed.
+    pub printed: bool,
+    /// Whether a refused line was told.
+    pub told: bool,
+}
+
+/// Prints the entries with the addresses sought of lists with these names and bytes, and tells the refused lines.
+pub(crate) fn search_lists<W: Write, E: Write>(
+    sought: &Sought<'_>,
+    names: &[String],
+    texts: &[Vec<u8>],
+    output: &mut Output<'_, W>,
+    errors: &mut Output<'_, E>,
+) -> Reported
+    requires sought { AreAddresses sought.now.words.now sought.now.addresses.now }
+    requires texts { length texts.now ≡ length names.now }
+    ensures { Reports (ListsReport sought.now.words.now names.now
+        (map (λ text. text.items) texts.now))
+        output.old output.new errors.old errors.new result.printed result.told }
+{
+    let mut printed = false;
+    let mut told = false;
+    for place in 0..names.len() {
+        let more = search_list(
+            sought,
+            names[place].as_str(),
+            texts[place].as_slice(),
+            output,
+            errors,
+        );
+        printed = either(printed, more.printed);
+        told = either(told, more.told);
+    }
+    Reported { printed, told }
+}
+
+// Searches a list.
+fn search_list<W: Write, E: Write>(
+    sought: &Sought<'_>,
+    name: &str,
+    text: &[u8],
+    output: &mut Output<'_, W>,
+    errors: &mut Output<'_, E>,
+) -> Reported
+    requires { AreAddresses sought.now.words.now sought.now.addresses.now }
+    ensures { Reports (LinesReport sought.now.words.now name.now 1 (lines text.now))
+        output.old output.new errors.old errors.new result.printed result.told }
+{
+    let mut printed = false;
+    let mut told = false;
+    let mut number = 0;
+    let mut lines = TextLines::of(text);
+    // A text has at most as many lines as bytes.
+    'lines: while number < text.len() {
+        let Some(text_line) = lines.next() else {
+            return Reported { printed, told };
+        };
+        number += 1;
+        let line = Line {
+            name,
+            number,
+            text: text_line,
+        };
+        let more = search_line(sought, &line, output, errors);
+        printed = either(printed, more.printed);
+        told = either(told, more.told);
+    }
+    Reported { printed, told }
+}
+
+// Searches a line, or tells why it is refused.
+fn search_line<W: Write, E: Write>(
+    sought: &Sought<'_>,
+    line: &Line<'_>,
+    output: &mut Output<'_, W>,
+    errors: &mut Output<'_, E>,
+) -> Reported
+    requires { AreAddresses sought.now.words.now sought.now.addresses.now }
+    ensures { Reports (LineReport sought.now.words.now line.now.name.now line.now.number
+        line.now.text.now)
+        output.old output.new errors.old errors.new result.printed result.told }
+{
+    match entry_of(line.text) {
+        Ok(None) => Reported {
+            printed: false,
+            told: false,
+        },
+        Ok(Some(entry)) => Reported {
+            printed: print_matches(sought, line, &entry, output),
+            told: false,
+        },
+        Err(fault) => {
+            tell_wrong(line.name, line.number, fault, line.text, errors);
+            Reported {
+                printed: false,
+                told: true,
+            }
+        }
+    }
+}
+
+// Prints a line for each of the addresses sought that the entry of a line has.
+fn print_matches<W: Write>(
+    sought: &Sought<'_>,
+    line: &Line<'_>,
+    entry: &Entry,
+    output: &mut Output<'_, W>,
+) -> bool
+    requires { AreAddresses sought.now.words.now sought.now.addresses.now }
+    ensures { (printed : Texts (Texts ℕ))
+        × AddressesReport line.now.name.now line.now.number line.now.text.now entry.now
+        sought.now.words.now printed
+        × Tells output.old output.new (concat printed) × IsFound printed result }
+{
+    let mut printed = false;
+    for place in 0..sought.words.len() {
+        let more = print_match(
+            sought.words[place].as_str(),
+            &sought.addresses[place],
+            line,
+            entry,
+            output,
+        );
+        printed = either(printed, more);
+    }
+    printed
+}
+
+// Prints a line if the entry of a line has the address that a word names.
+fn print_match<W: Write>(
+    word: &str,
+    address: &IpAddr,
+    line: &Line<'_>,
+    entry: &Entry,
+    output: &mut Output<'_, W>,
+) -> bool
+    ensures { (printed : Texts (Texts ℕ))
+        × AddressReport line.now.name.now line.now.number line.now.text.now entry.now word.now
+        address.now printed
+        × Tells output.old output.new (concat printed) × IsFound printed result }
+{
+    if has_address(entry, address) {
+        print_line(word, line, output);
+        true
+    } else {
+        false
+    }
+}
+
+// Prints that the entry of a line has the address that a word names.
+fn print_line<W: Write>(word: &str, line: &Line<'_>, output: &mut Output<'_, W>)
+    ensures { Tells output.old output.new
+        (has_text line.now.name.now line.now.number word.now line.now.text.now) }
+{
+    tell_place(line.name, line.number, output);
+    tell(": has ", output);
+    tell(word, output);
+    tell(": ", output);
+    tell_bytes(line.text, output);
+    tell("\n", output);
+}
+
+// Whether one of two is so.
+fn either(first: bool, second: bool) -> bool
+    ensures { result ≡ (first || second) }
+{
+    first || second
+}

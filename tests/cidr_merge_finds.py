@@ -1,0 +1,79 @@
+"""Rows of `tests/cidr_merge` for `find`, beside Python's `ipaddress`: a name, what a run gave and what is wanted, which is
+the status, standard output and standard error."""
+
+import ipaddress
+import os
+import random
+import subprocess
+
+SECONDS = 60
+KINDS = {4: ipaddress.IPv4Address, 6: ipaddress.IPv6Address}
+
+
+def run(program, words, folder):
+    pipes = {"stdout": subprocess.PIPE, "stderr": subprocess.PIPE}
+    done = subprocess.run([program, *words], input=b"", cwd=folder, timeout=SECONDS, **pipes)
+    return done.returncode, done.stdout, done.stderr
+
+
+def some_address(dice):
+    """An address of either family, close to others or at an end."""
+    version = dice.choice((4, 6))
+    bits = KINDS[version](0).max_prefixlen
+    near = dice.choice((0, 2**bits - 256, 2 ** (bits - 1) - 128, 10 << (bits - 8)))
+    return KINDS[version](near + dice.randrange(256))
+
+
+def some_line(dice):
+    """A line of a list, and the first and last address of its entry; nothing if it has none, `False` if it is wrong."""
+    address = some_address(dice)
+    kind = dice.randrange(8)
+    if kind == 0:
+        return dice.choice(("", " \t", "# 10.0.0.1", ";")), None
+    if kind == 1:
+        return dice.choice((f"{address}.", f"{address}/", f"{address}/1/2", "x", f"{address} {address}")), False
+    ends = address, address
+    text = str(address)
+    if kind < 5:
+        net = ipaddress.ip_network(f"{address}/{dice.randrange(address.max_prefixlen + 1)}", strict=False)
+        ends = net[0], net[-1]
+        text = f"{address}/{net.prefixlen}"
+    elif kind < 7:
+        last = KINDS[address.version](min(int(address) + dice.randrange(64), 2**address.max_prefixlen - 1))
+        ends = address, last
+        text = f"{address}{dice.choice(('-', ' - '))}{last}"
+    return dice.choice(("", " ")) + text + dice.choice(("", "\t", " # 10.0.0.1", ";x")), ends
+
+
+def has(ends, address):
+    """Whether an entry with these ends has an address."""
+    return ends[0].version == address.version and ends[0] <= address <= ends[1]
+
+
+def cause(line):
+    """Why a wrong line is refused."""
+    address = line.split("/")[0]
+    if line.count("/") > 1:
+        return "format"
+    return "prefix" if line.endswith("/") and address[-1] != " " else "address"
+
+
+def finds(program, folder):
+    """Made-up lists that are searched for made-up addresses."""
+    for seed in range(200):
+        dice = random.Random(seed)
+        sought = [some_address(dice) for _ in range(dice.randrange(1, 6))]
+        output = error = ""
+        names = ["one", "two", "three"][: dice.randrange(1, 4)]
+        for name in names:
+            lines = [some_line(dice) for _ in range(dice.randrange(30))]
+            with open(os.path.join(folder, name), "w", newline="") as file:
+                file.write("".join(line + dice.choice(("\n", "\r\n")) for line, _ in lines))
+            for number, (line, ends) in enumerate(lines, 1):
+                if ends is False:
+                    error += f"{name}:{number}: refused {cause(line)}: {line}\n"
+                elif ends:
+                    output += "".join(f"{name}:{number}: has {address}: {line}\n" for address in sought if has(ends, address))
+        words = ["find", *map(str, sought), "--", *names]
+        status = 2 if error else 0 if output else 1
+        yield f"find, seed {seed}", run(program, words, folder), (status, output.encode(), error.encode())
