@@ -7,5 +7,6 @@ pub mod LawExamples
 pub mod RangeCounts
 pub mod Searching
 pub mod Starting
+pub mod Sweeping
 pub mod Telling
 pub mod Turning

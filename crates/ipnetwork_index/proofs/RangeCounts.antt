@@ -1,5 +1,5 @@
 -- How many ranges the blocks of a table cut the numbers of w bits into.
-use Rattle.std.proofs.Common.{◌≡◌, ◌≢◌, ℕ, zero, suc, ◌+◌, ◌-◌, ◌*◌, ◌^◌, ◌<◌, ◌≤◌, ◌⊎◌, List, [], ◌∷◌, ◌++◌, length, get_or, slice_index_or, take, arith, sym, subst, ◌∙◌, ⊎_elim, length-append}
+use Rattle.std.proofs.Common.{◌≡◌, ◌≢◌, ℕ, zero, suc, ◌+◌, ◌-◌, ◌*◌, ◌^◌, ◌<◌, ◌≤◌, List, [], ◌∷◌, ◌++◌, length, get_or, slice_index_or, take, arith, sym, subst, ◌∙◌, ⊎_elim, length-append}
 use Rattle.std.specs.List.{Contains, AllPairs}
 use Rattle.std.specs.FinMap.{FinMap, get, entries, len, len-entries}
 use Rattle.std.proofs.lemmas.Bool.{cases_eq}

@@ -1,5 +1,5 @@
 -- The search for a number among ascending ones.
-use Rattle.std.proofs.Common.{◌≡◌, ◌↔◌, Bool, IsTrue, false, true≢false, ◌∙◌, ℕ, zero, suc, [], ◌∷◌, map, ap, ◌+◌, ◌-◌, ◌*◌, ◌^◌, ◌<◌, ◌≤◌, List, length, get_or, min, arith, sym, subst, ⊎_elim}
+use Rattle.std.proofs.Common.{◌≡◌, ◌↔◌, Bool, IsTrue, false, true≢false, ◌∙◌, ℕ, zero, suc, [], ◌∷◌, map, ap, ◌+◌, ◌-◌, ◌*◌, ◌^◌, ◌<◌, ◌≤◌, List, length, get_or, arith, sym, subst, ⊎_elim}
 use Rattle.std.proofs.lemmas.Bool.{cases_lt}
 use Rattle.ipnetwork_index.specs.Parts.{IsPart}
 use Rattle.ipnetwork_index.specs.Searches.{Ascends, IsSearchable, IsWithin, IsPlaceOf}

@@ -6,3 +6,4 @@ pub mod Halved
 pub mod Padded
 pub mod Partitions
 pub mod Steps
+pub mod Sweeps

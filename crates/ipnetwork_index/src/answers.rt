@@ -1,13 +1,17 @@
 //! What a look-up finds in each range.
 ghost use Rattle.std.specs.Prelude.{◌≡◌, ◌<◌, IfOk, length, map, get_or};
-ghost use Rattle.ipnetwork_index.specs.Private.Answers.{AreAnswers, AreAnswersUpTo, IsMadeOf, Tells};
+ghost use Rattle.std.specs.FinMap as finite_map;
+ghost use Rattle.ipnetwork_table.specs.Table.{HasOnlyBlocks, by_pair};
+ghost use Rattle.ipnetwork_index.specs.Private.Answers.{AreAnswers, IsMadeOf};
+ghost use Rattle.ipnetwork_index.specs.Private.Partitions.{IsPartition};
 
 use crate::indexed_network::IndexedNetwork;
+use crate::sweep::answers_by_sweep;
 use ipnetwork_table::{PrefixTable, laws};
 use std::alloc::{AllocError, Global};
 
 // In place of a prefix length: no block has the addresses of the range.
-const NO_BLOCK: u8 = 255;
+pub(crate) const NO_BLOCK: u8 = 255;
 
 /// What a look-up finds in each range, without the address of the block: that is made of the
 /// address that is looked up. There is nothing if the table is empty.
@@ -56,49 +60,33 @@ pub(crate) fn answers_of<N: IndexedNetwork, V: Copy>(
     table: &PrefixTable<N, V>,
     lasts: &[N::Addr],
 ) -> Result<Answers<V>, AllocError>
+    requires { IsPartition N.WIDTH (map N.number lasts.now) }
     ensures { IfOk result (λ answers. AreAnswers N.WIDTH table.now (map N.number lasts.now)
         answers.prefixes.items answers.values.items) }
 {
     laws::listing::<V>();
-    match table.iter().next() {
-        Some((_, value)) => each_answer(alloc, table, lasts, value),
-        None => Ok(Answers {
+    let entries = entries_of(alloc, table)?;
+    if entries.is_empty() {
+        return Ok(Answers {
             prefixes: Vec::new(alloc),
             values: Vec::new(alloc),
-        }),
+        });
     }
+    answers_by_sweep(alloc, entries.as_slice(), lasts)
 }
 
-// The same, with this value where the table finds none.
-fn each_answer<N: IndexedNetwork, V: Copy>(
+// The entries of the table, in their order.
+fn entries_of<N: IndexedNetwork, V: Copy>(
     alloc: Global,
     table: &PrefixTable<N, V>,
-    lasts: &[N::Addr],
-    other: V,
-) -> Result<Answers<V>, AllocError>
-    ensures { IfOk result (λ answers. AreAnswersUpTo N.WIDTH table.now (map N.number lasts.now)
-        answers.prefixes.items answers.values.items (length lasts.now)) }
+) -> Result<Vec<(N, V)>, AllocError>
+    ensures { IfOk result (λ entries. HasOnlyBlocks N.WIDTH table.now
+        × (by_pair N.pair entries.items ≡ finite_map.entries table.now)) }
 {
-    let mut prefixes = Vec::with_capacity(alloc, lasts.len())?;
-    let mut values = Vec::with_capacity(alloc, lasts.len())?;
-    for last in lasts {
-        let (prefix, value) = answer_of(table, *last, other);
-        prefixes.push(prefix)?;
-        values.push(value)?;
+    let mut entries = Vec::with_capacity(alloc, table.len())?;
+    let mut left = table.iter();
+    'listing: while let Some(entry) = left.next() {
+        entries.push(entry)?;
     }
-    Ok(Answers { prefixes, values })
-}
-
-// The prefix length of the block that the table finds, and its value.
-fn answer_of<N: IndexedNetwork, V: Copy>(
-    table: &PrefixTable<N, V>,
-    addr: N::Addr,
-    other: V,
-) -> (u8, V)
-    ensures { Tells N.WIDTH table.now (N.number addr) result.0 result.1 }
-{
-    match table.lookup(addr) {
-        Some((block, value)) => (block.prefix(), value),
-        None => (NO_BLOCK, other),
-    }
+    Ok(entries)
 }

@@ -19,6 +19,7 @@ mod partition;
 mod route_index;
 mod search;
 mod starts;
+mod sweep;
 
 pub use address_index::AddressIndex;
 pub use indexed_network::IndexedNetwork;

@@ -51,8 +51,8 @@ impl<N: IndexedNetwork, V: Copy> Model for RouteIndex<N, V> {
 }
 
 impl<N: IndexedNetwork, V: Copy> RouteIndex<N, V> {
-    /// The index over a table. Sorts where its blocks begin and end, and asks the table once for
-    /// each range between. If memory runs out, the table is dropped.
+    /// The index over a table. Sorts where its blocks begin and end, and goes over the blocks and
+    /// the ranges between in their order. If memory runs out, the table is dropped.
     ///
     /// ```
     /// let mut table = PrefixTable::new(rt.alloc());
@@ -146,8 +146,8 @@ impl<N: IndexedNetwork, V: Copy> RouteIndex<N, V> {
     /// The number of ranges that the table's blocks cut the addresses into, where one begins or ends:
     /// what a look-up finds is the same for all addresses of one. There are at most one more than
     /// twice the blocks (`laws::few_routed_ranges`). Beside what an `AddressIndex` has of so many
-    /// ranges, the index has the table, and of each range a byte and a value. From 2^17 ranges on it
-    /// has fewer places of 4 bytes: at most one for each range, and no more than 2^20 of them.
+    /// ranges, the index has the table, and of each range a byte and a value. From 2^17 ranges on
+    /// it has fewer places of 4 bytes: at most one for each range, and no more than 2^20 of them.
     ///
     /// ```
     /// let mut table = PrefixTable::new(rt.alloc());

@@ -2,6 +2,9 @@ use Rattle.std.proofs.Common.{map}
 use Rattle.ipnetwork_index.proofs.Answering.{answered}
 use Rattle.ipnetwork_index.proofs.route_index.RouteIndex.from_table.Goals as goal
 
+pub answers_of-requires : goal.answers_of-requires
+answers_of-requires g c = rw c.as_slice.ensures.value c.in_ok-lasts.ensures.partition
+
 pub new-requires-clause-partition : goal.new-requires-clause-partition
 new-requires-clause-partition g c = rw c.as_slice-2.ensures.value c.in_ok-lasts.ensures.partition
 

@@ -1,5 +1,4 @@
-use Rattle.std.proofs.Common.{◌≡◌, ℕ, subst}
-use Rattle.ipnetwork_table.specs.Table.{Finds}
+use Rattle.std.proofs.Common.{ℕ, subst}
 use Rattle.ipnetwork_index.specs.Private.Partitions.{LiesAt}
 use Rattle.ipnetwork_index.proofs.Answering.{made_finds}
 use Rattle.ipnetwork_index.proofs.route_index.RouteIndex.lookup.Goals as goal

@@ -1,0 +1,12 @@
+use Rattle.std.proofs.Common.{map}
+use Rattle.ipnetwork_table.specs.Table.{by_pair}
+use Rattle.ipnetwork_index.specs.Private.Sweeps.{AreSwept, OpenFrom}
+use Rattle.ipnetwork_index.proofs.sweep.answers_by_sweep.Given as goal
+
+abbrev pub invariant-loop-last : goal.invariant-loop-last
+invariant-loop-last g l = record {
+  from : OpenFrom g.N.CidrNetwork.WIDTH (by_pair g.N.CidrNetwork.pair l.entries)
+      (map g.N.CidrNetwork.number l.lasts) l.last-index l.count l.opened.items;
+  swept : AreSwept g.N.CidrNetwork.WIDTH (by_pair g.N.CidrNetwork.pair l.entries)
+      (map g.N.CidrNetwork.number l.lasts) l.prefixes.items l.values.items l.last-index;
+}

@@ -1,0 +1,57 @@
+-- The blocks of a table that are open while the numbers are swept.
+use Rattle.std.specs.Prelude.{◌≡◌, ℕ, ◌+◌, ◌<◌, ◌≤◌, List, length, Some, slice_get}
+use Rattle.std.proofs.Common.{get_or}
+use Rattle.std.specs.List.{Contains}
+use Rattle.std.specs.FinMap.{FinMap, entries}
+use Rattle.ipnetwork_family.specs.Network.{Network, low, high, network_cmp}
+use Rattle.ipnetwork_table.specs.Table.{HasOnlyBlocks}
+use Rattle.ipnetwork_index.specs.Private.Answers.{AreAnswersUpTo}
+
+-- the sweep has come to x, and the first `count` blocks begin there or before. Those of them that
+-- end there or later are at the places of `opened`, which ascend
+pub record AreOpen {V : Type 0} (w : ℕ) (es : List (Network × V)) (count x : ℕ) (opened : List ℕ)
+    : Type 0 where
+  pub within : count ≤ length es
+  pub begun : (j : ℕ) (e : Network × V) → j < count → slice_get es j ≡ Some e → low w e.0 ≤ x
+  pub each : (k : ℕ) → k < length opened → get_or opened k 0 < count
+  pub ascending : (k m : ℕ) → k < m → m < length opened
+      → get_or opened k 0 < get_or opened m 0
+  pub kept : (j : ℕ) (e : Network × V) → j < count → slice_get es j ≡ Some e → x ≤ high w e.0
+      → Contains opened j
+
+-- the block after the first `count` begins after x, if there is one
+abbrev pub NextIsAfter : {V : Type 0} → ℕ → List (Network × V) → ℕ → ℕ → Type 0
+NextIsAfter {V} w es count x = (e : Network × V) → slice_get es count ≡ Some e → x < low w e.0
+
+-- the last of these places is that of a block that ends at x or later, if there is one
+abbrev pub LastEndsFrom : {V : Type 0} → ℕ → List (Network × V) → ℕ → List ℕ → Type 0
+LastEndsFrom {V} w es x opened = (k : ℕ) (e : Network × V) → k + 1 ≡ length opened
+    → slice_get es (get_or opened k 0) ≡ Some e → x ≤ high w e.0
+
+-- each is the place of a block
+abbrev pub ArePlaces : {V : Type 0} → List (Network × V) → List ℕ → Type 0
+ArePlaces es opened = (k : ℕ) → k < length opened → get_or opened k 0 < length es
+
+-- those of the places that blocks may have that end at x or later are kept
+abbrev pub KeepsOpen : {V : Type 0} → ℕ → List (Network × V) → ℕ → List ℕ → List ℕ → Type 0
+KeepsOpen w es x old new = (count y : ℕ) → x ≤ y → AreOpen w es count y old
+    → AreOpen w es count y new
+
+-- the prefix length and the value of the block at the last place; the prefix length 255 if there is
+-- none
+pub record IsInnermost {V : Type 0} (es : List (Network × V)) (opened : List ℕ) (prefix : ℕ)
+    (value : V) : Type 0 where
+  pub none : length opened ≡ 0 → prefix ≡ 255
+  pub some : (k : ℕ) → k + 1 ≡ length opened → (n : Network)
+      × (slice_get es (get_or opened k 0) ≡ Some (n, value)) × (n.prefix ≡ prefix)
+
+-- the answers are those of each table with these entries
+abbrev pub AreSwept : {V : Type 0} → ℕ → List (Network × V) → List ℕ → List ℕ → List V → ℕ → Type 0
+AreSwept {V} w es lasts prefixes values count = (t : FinMap network_cmp V) → HasOnlyBlocks w t
+    → es ≡ entries t → AreAnswersUpTo w t lasts prefixes values count
+
+-- and after `come` of the last numbers of ranges, so many blocks have begun at each number from
+-- these on
+abbrev pub OpenFrom : {V : Type 0} → ℕ → List (Network × V) → List ℕ → ℕ → ℕ → List ℕ → Type 0
+OpenFrom w es lasts come count opened = (x : ℕ) → ((k : ℕ) → k < come → get_or lasts k 0 ≤ x)
+    → AreOpen w es count x opened
