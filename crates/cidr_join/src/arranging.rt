@@ -20,9 +20,8 @@ pub enum Mode {
     Files,
 }
 
-/// The words with the options and their values in front, in their order, each a word of its own, and then, behind a `--`,
-/// the FILEs in theirs.
-/// If the last option has no value, the FILEs are left out.
+/// The words with the options and their values in front, in their order, each a word of its own, and
+/// then, behind a `--`, the FILEs in theirs. If the last option has no value, the FILEs are left out.
 pub(crate) fn arranged(alloc: Global, words: &[String]) -> Result<Vec<String>, AllocError>
     ensures { IfOk result (λ all. map string_bytes all.items ≡ arranged words.now) }
 {
@@ -36,7 +35,8 @@ pub(crate) fn arranged(alloc: Global, words: &[String]) -> Result<Vec<String>, A
     Ok(all)
 }
 
-// Adds the options with their values, or the FILEs, and returns where a word behind all words would stand.
+// Adds the options with their values, or the FILEs, and returns where a word behind all words would
+// stand.
 fn put_part(
     alloc: Global,
     words: &[String],
@@ -64,7 +64,8 @@ fn put_word(
     all: &mut Vec<String>,
 ) -> Result<(), AllocError>
     ensures { OnOk result (map string_bytes all.new.items
-        ≡ (if belongs options mode word.now then map string_bytes all.old.items ++ words_at mode (string_bytes word.now)
+        ≡ (if belongs options mode word.now
+        then map string_bytes all.old.items ++ words_at mode (string_bytes word.now)
         else map string_bytes all.old.items)) }
 {
     if belongs(options, mode, word) {

@@ -97,8 +97,8 @@ fn options_of(words: &[String]) -> Request
     }
 }
 
-// What is wrong with words that are right by themselves, by which options do not go together, whether an option says what
-// is printed of addresses, and whether standard input is read once at the most.
+// What is wrong with words that are right by themselves, by which options do not go together, whether
+// an option says what is printed of addresses, and whether standard input is read once at the most.
 fn together_problem(
     crossed: Option<Problem>,
     has_source: bool,

@@ -25,7 +25,8 @@ Prints each line of logs behind the value that a list gives its address.
                     one count in the order of their bytes. Lines that would have a minus sign count as one. Not with
                     --last
     --group N,M     no list: before a line print the block of length N that has its address, or of
-                    length M if that is of IPv6: --group 24,64. Not with -f, --network or --last-wins
+                    length M if that is of IPv6: --group 24,64. Not with -f, --network or
+                    --last-wins
     --quiet         as the first word: do not show on a terminal how much was read
     --help          print this text
     --version       print the version

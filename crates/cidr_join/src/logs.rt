@@ -65,8 +65,8 @@ fn join_each<L: OpenLists, W: Write, E: Write>(
     true
 }
 
-// Opens the log of this name and joins its lines, and returns whether it came to its end. If not, the cause is reported,
-// and else it is if no line has an address.
+// Opens the log of this name and joins its lines, and returns whether it came to its end. If not,
+// the cause is reported, and else it is if no line has an address.
 fn join_one<L: OpenLists, W: Write, E: Write>(
     join: &Join<'_>,
     name: &str,

@@ -54,7 +54,8 @@ pub(crate) fn tell_log_fault<E: Write>(
     }
 }
 
-/// Reports that the log of this name has lines, and none of them an address where it is looked for, if that is so.
+/// Reports that the log of this name has lines, and none of them an address where it is looked for,
+/// if that is so.
 pub(crate) fn tell_lacking<E: Write>(
     place: &Place<'_>,
     name: &str,
