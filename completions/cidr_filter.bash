@@ -7,7 +7,7 @@ _cidr_filter() {
         -f) ;;
         *)
             if [[ "$word" == -* ]]; then
-                COMPREPLY=($(compgen -W "-f -e -k -d -w -a --after -o --mapped -v -c -l -q -m -H -h --longest --bad --quiet --help --version -- -" -- "$word"))
+                COMPREPLY=($(compgen -W "-f -e -k -d -w -a --after -o --mapped -v -c -l -q -m -n -H -h --longest --bad --quiet --help --version -- -" -- "$word"))
             fi
             ;;
     esac

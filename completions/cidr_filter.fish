@@ -14,6 +14,7 @@ complete -c cidr_filter -s l -d "Print the names of files that have a selected l
 complete -c cidr_filter -s q -d "Print nothing, and end at the first selected line"
 complete -c cidr_filter -s m -x -d "At most so many lines of each file are selected"
 complete -c cidr_filter -s H -d "Print the name of its file before a line"
+complete -c cidr_filter -s n -d "Print its number before a line"
 complete -c cidr_filter -s h -d "Print no name before a line"
 complete -c cidr_filter -l longest -d "Print the longest network before a line"
 complete -c cidr_filter -l bad -x -a "drop keep stop" -d "A line without an address"

@@ -15,6 +15,7 @@ _arguments \
     '*-l[print the names of files that have a selected line]' \
     '*-q[print nothing, and end at the first selected line]' \
     '*-m[at most so many lines of each file are selected]:number: ' \
+    '*-n[print its number before a line]' \
     '*-H[print the name of its file before a line]' '*-h[print no name before a line]' \
     '*--longest[print the longest network before a line]' \
     '*--bad[a line without an address]:what happens to it:(drop keep stop)' \

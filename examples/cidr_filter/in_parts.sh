@@ -7,7 +7,7 @@
 #
 # The options are those of cidr_filter, also joined in one word. With `-c` the numbers of the parts
 # are added up. `--bad keep` and `--bad stop` are refused: a line would end its part only; and so are
-# `-m`, `-l` and `-q`. Without GNU parallel, the parts are filtered one after the other.
+# `-m`, `-l`, `-q` and `-n`. Without GNU parallel, the parts are filtered one after the other.
 set -eu -o pipefail
 program=$(cd "$(dirname "$0")/../.." && pwd)/crates/cidr_filter/out/cidr_filter
 
@@ -26,11 +26,12 @@ check_bad() {
 # That option and its value, if they are joined, are the text `value`; or the value is the next word.
 letters() {
     local text=${1#-}
-    local before=${text%%[!vcawoHhlq]*}
+    local before=${text%%[!vcawoHhlqn]*}
     value=${text#"$before"}
     case $value in
     "" | [fekdm]*)
         [[ $before != *[lq]* ]] || refuse "-l, -q: a line would end its part only"
+        [[ $before != *n* ]] || refuse "-n: each part would be numbered from 1"
         [[ $before != *c* ]] || counts=1
         ;;
     esac

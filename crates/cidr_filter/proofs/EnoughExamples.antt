@@ -55,10 +55,10 @@ named_without_another_option = refl
 abbrev naming : Filter
 naming = record (by false without.Drop) { most = Some 1; shows = shows.Names; named = true; name = codes "log" }
 
-pub name_of_a_log : output_of naming (verdicts.Inside None) (ended (codes "10.0.0.1")) ≡ codes "log\n"
+pub name_of_a_log : output_of naming 1 (verdicts.Inside None) (ended (codes "10.0.0.1")) ≡ codes "log\n"
 name_of_a_log = refl
 
-pub no_name_of_a_log : output_of naming verdicts.Outside (ended (codes "10.0.0.1")) ≡ []
+pub no_name_of_a_log : output_of naming 1 verdicts.Outside (ended (codes "10.0.0.1")) ≡ []
 no_name_of_a_log = refl
 
 pub no_number_beside_names : total_text false 2 ≡ []

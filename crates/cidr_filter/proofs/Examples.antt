@@ -1,5 +1,5 @@
 -- Values at which a misreading of the definitions would show.
-use Rattle.std.proofs.Common.{◌≡◌, ℕ, length, List, [], ◌∷◌, ◌++◌, Bool, true, false, inl, inr, refl, arith}
+use Rattle.std.proofs.Common.{◌≡◌, ℕ, length, List, [], ◌∷◌, ◌++◌, Bool, true, false, inl, inr, refl, ap, append-nil, arith}
 use Rattle.std.specs.Prelude.{codes, bytes_eq, String, Some, None}
 use Rattle.std.specs.Fmt.{digits}
 use Rattle.std.specs.String.{string_bytes}
@@ -86,7 +86,7 @@ printed_with_an_end = refl
 -- ---- what a line is to a list
 
 abbrev pub by : Bool → WithoutAddress → Filter
-by inverts bad = record { listed = Addresses (record { v4 = []; v6 = [] }); place = places.Field 1 32; mapped = false; inverts = inverts; bad = bad; most = None; shows = shows.Lines; named = false; name = [] }
+by inverts bad = record { listed = Addresses (record { v4 = []; v6 = [] }); place = places.Field 1 32; mapped = false; inverts = inverts; bad = bad; most = None; shows = shows.Lines; named = false; numbered = false; name = [] }
 
 -- one that only counts
 abbrev pub counting : WithoutAddress → Filter
@@ -210,17 +210,17 @@ block_before_a_line tables = refl
 pub no_block : (tables : Tables) → mark_of (Blocks tables) verdicts.NoAddress ≡ codes "-\t"
 no_block tables = refl
 
-pub line_selected : output_of (by false without.Drop) (verdicts.Inside None) (ended (codes "a\r")) ≡ codes "a\r\n"
+pub line_selected : output_of (by false without.Drop) 1 (verdicts.Inside None) (ended (codes "a\r")) ≡ codes "a\r\n"
 line_selected = refl
 
-pub line_counted : output_of (counting without.Drop) (verdicts.Inside None) (ended (codes "a")) ≡ []
+pub line_counted : output_of (counting without.Drop) 1 (verdicts.Inside None) (ended (codes "a")) ≡ []
 line_counted = refl
 
 -- with `-H` the name of the log stands first, whatever it is; and nothing without it
-pub line_named : (byte : ℕ) (name : List ℕ) → output_of (record (by false without.Drop) { name = byte ∷ name }) (verdicts.Inside None) (ended (codes "a")) ≡ (byte ∷ name ++ codes ":") ++ codes "a\n"
-line_named byte name = refl
+pub line_named : (byte : ℕ) (name : List ℕ) → output_of (record (by false without.Drop) { name = byte ∷ name }) 1 (verdicts.Inside None) (ended (codes "a")) ≡ (byte ∷ name ++ codes ":") ++ codes "a\n"
+line_named byte name = ap (λ (h : List ℕ). h ++ codes "a\n") (append-nil (byte ∷ name ++ codes ":"))
 
-pub longest_named : (tables : Tables) → output_of (record (by false without.Keep) { listed = Blocks tables; name = codes "log" }) verdicts.NoAddress (ended (codes "a")) ≡ codes "log:-\ta\n"
+pub longest_named : (tables : Tables) → output_of (record (by false without.Keep) { listed = Blocks tables; name = codes "log" }) 1 verdicts.NoAddress (ended (codes "a")) ≡ codes "log:-\ta\n"
 longest_named tables = refl
 
 pub standard_input_named : label_of true (codes "-") ≡ codes "(standard input)"
@@ -239,15 +239,15 @@ addresses_of_ten = record (looking places.Anywhere false) {
   shows = shows.Addresses;
 }
 
-pub addresses_selected : output_of addresses_of_ten (verdicts.Inside None) (ended (codes "a=10.0.0.1:80 b=11.0.0.1,10.0.0.2.")) ≡ codes "10.0.0.1\n10.0.0.2\n"
+pub addresses_selected : output_of addresses_of_ten 1 (verdicts.Inside None) (ended (codes "a=10.0.0.1:80 b=11.0.0.1,10.0.0.2.")) ≡ codes "10.0.0.1\n10.0.0.2\n"
 unfolding address_in before_port address_of digits v6_of gap_below
 addresses_selected = refl
 
-pub addresses_named : output_of (record addresses_of_ten { name = codes "log" }) (verdicts.Inside None) (ended (codes "10.0.0.1 10.0.0.2")) ≡ codes "log:10.0.0.1\nlog:10.0.0.2\n"
+pub addresses_named : output_of (record addresses_of_ten { name = codes "log" }) 1 (verdicts.Inside None) (ended (codes "10.0.0.1 10.0.0.2")) ≡ codes "log:10.0.0.1\nlog:10.0.0.2\n"
 unfolding address_in before_port address_of digits v6_of gap_below
 addresses_named = refl
 
-pub no_addresses_counted : output_of (record addresses_of_ten { shows = shows.Count }) (verdicts.Inside None) (ended (codes "10.0.0.1")) ≡ []
+pub no_addresses_counted : output_of (record addresses_of_ten { shows = shows.Count }) 1 (verdicts.Inside None) (ended (codes "10.0.0.1")) ≡ []
 no_addresses_counted = refl
 
 -- ---- what is told

@@ -1,6 +1,6 @@
 -- How a log is filtered, line by line.
-use Rattle.std.proofs.Common.{◌≡◌, ℕ, ◌+◌, ◌||◌, Bool, true, false, List, [], ◌∷◌, ◌++◌, length, refl, sym, ap, ◌∙◌, subst, arith, append-nil, length-append}
-use Rattle.std.specs.Prelude.{Option}
+use Rattle.std.proofs.Common.{◌≡◌, ℕ, ◌+◌, ◌-◌, ◌^◌, ◌≤◌, ◌||◌, Bool, true, false, List, [], ◌∷◌, ◌++◌, length, min, refl, sym, ap, ◌∙◌, subst, arith, append-nil, length-append}
+use Rattle.std.specs.Prelude.{Option, if◌then◌else◌}
 use Rattle.lines.specs.Outputs.{Puts}
 use Rattle.lines.specs.declared.line_end.LineEnd.{LineEnd}
 use Rattle.lines.proofs.Putting.{puts_nothing, puts_more}
@@ -11,7 +11,7 @@ use Rattle.program.specs.LogReaders.{HandsFirst, GivesNext, line_of, whole_of, h
 use Rattle.program.specs.declared.log_reader.LogReader.{LogReader}
 use Rattle.program.specs.declared.log_reader.NextLogLine.TheVariants.{Line, TooLong}
 use Rattle.cidr_filter.specs.Addressed.{is_addressed_by}
-use Rattle.cidr_filter.specs.Filters.{IsVerdict, is_refused, is_selected, one_if, is_below, output_of, Filters}
+use Rattle.cidr_filter.specs.Filters.{IsVerdict, is_refused, is_selected, one_if, is_below, shown_of, output_of, Filters}
 use Rattle.cidr_filter.specs.Stands.{Stand, Goes}
 use Rattle.cidr_filter.specs.Private.Leaving.{less, is_spent}
 use Rattle.cidr_filter.specs.Private.Progress.{shown, FiltersLine, FiltersSoFar, FiltersWith}
@@ -20,6 +20,7 @@ use Rattle.cidr_filter.specs.declared.filter.Verdict.{Verdict}
 use Rattle.cidr_filter.specs.declared.filter.Verdict.TheVariants as verdicts
 use Rattle.cidr_filter.proofs.Addressed.{addressed_more}
 use Rattle.cidr_filter.proofs.Failing.{or_none}
+use Rattle.cidr_filter.proofs.Heads.{heads_same}
 use Rattle.cidr_filter.proofs.LogParts.{both}
 use Rattle.cidr_filter.proofs.Spent.{none_below, none_less, less_more, still_below}
 
@@ -60,16 +61,26 @@ goes_still old mid new added count lines p q =
       subst (Counts old.lines new.lines) (omega arith) more.2,
     )
 
+-- the number of a line, as it is counted
+pub numbers_same : (old mid between new lines : ℕ) → old ≤ 2 ^ 64 - 1 → Counts old mid lines → Counts mid between 0 → Counts between new 1
+    → min new (2 ^ 64 - 1) ≡ min (old + lines + 1) (2 ^ 64 - 1)
+numbers_same old mid between new lines fits first idle last =
+    let a = first fits in
+    let b = idle (omega (arith, a)) in
+    let c = last (omega (arith, a, b)) in
+    omega (arith, a, b, c)
+
 -- ---- what was read, so far
 
 module _ (filter : Filter) where
   pub begins : (reader : LogReader) (remained : Option (List ℕ)) (old : Stand)
-      → HandsFirst reader remained remained [] → is_below filter.most 0 ≡ true → FiltersSoFar filter reader remained remained old old
-  begins reader remained old hands below = record {
+      → old.lines ≤ 2 ^ 64 - 1 → HandsFirst reader remained remained [] → is_below filter.most 0 ≡ true → FiltersSoFar filter reader remained remained old old
+  begins reader remained old fits hands below = record {
     first = [];
     hands = hands;
     added = [];
     count = 0;
+    fits = fits;
     filters = (refl, refl);
     below = below;
     goes = goes_nowhere old;
@@ -77,32 +88,32 @@ module _ (filter : Filter) where
   }
 
   pub begins_with : (reader : LogReader) (remained : Option (List ℕ)) (old : Stand)
-      → HandsFirst reader remained remained [] → is_spent filter.most ≡ false → FiltersWith filter reader remained remained old old filter.most
+      → old.lines ≤ 2 ^ 64 - 1 → HandsFirst reader remained remained [] → is_spent filter.most ≡ false → FiltersWith filter reader remained remained old old filter.most
   unfolding begins
-  begins_with reader remained old hands some = (begins reader remained old hands (none_below filter.most some), none_less filter.most)
+  begins_with reader remained old fits hands some = (begins reader remained old fits hands (none_below filter.most some), none_less filter.most)
 
   module _ (was now : LogReader) (remained before after : Option (List ℕ)) (old mid between : Stand)
       (s : FiltersSoFar filter was remained before old mid) (idle : Goes mid between [] 0 0)
       (still : between.addressed ≡ mid.addressed) where
     -- a line more, whose output was put
     pub more_filters : (line : LogLine) (verdict : Verdict) → IsVerdict filter (content line) verdict → is_refused filter verdict ≡ false
-        → Filters filter (s.first ++ line ∷ []) (s.added ++ output_of filter verdict line) (s.count + one_if (is_selected filter verdict))
+        → Filters filter old.lines (s.first ++ line ∷ []) (s.added ++ output_of filter (old.lines + length s.first + 1) verdict line) (s.count + one_if (is_selected filter verdict))
     more_filters line verdict judges passes =
-        both filter s.first (line ∷ []) s.added (output_of filter verdict line) s.count (one_if (is_selected filter verdict)) s.filters (
+        both filter old.lines s.first (line ∷ []) s.added (output_of filter (old.lines + length s.first + 1) verdict line) s.count (one_if (is_selected filter verdict)) s.filters (
           verdict,
           [],
           0,
           judges,
           passes,
           (refl, refl),
-          sym (append-nil (output_of filter verdict line)),
+          sym (append-nil (output_of filter (old.lines + length s.first + 1) verdict line)),
           omega arith,
         )
 
-    pub more_goes : (new : Stand) (line : LogLine) (verdict : Verdict) → Goes between new (output_of filter verdict line) (one_if (is_selected filter verdict)) 1
-        → Goes old new (s.added ++ output_of filter verdict line) (s.count + one_if (is_selected filter verdict)) (length (s.first ++ line ∷ []))
+    pub more_goes : (new : Stand) (line : LogLine) (verdict : Verdict) → Goes between new (output_of filter (old.lines + length s.first + 1) verdict line) (one_if (is_selected filter verdict)) 1
+        → Goes old new (s.added ++ output_of filter (old.lines + length s.first + 1) verdict line) (s.count + one_if (is_selected filter verdict)) (length (s.first ++ line ∷ []))
     more_goes new line verdict goes =
-        let added = output_of filter verdict line in
+        let added = output_of filter (old.lines + length s.first + 1) verdict line in
         let count = one_if (is_selected filter verdict) in
         subst (λ (n : ℕ). Goes old new (s.added ++ added) (s.count + count) n)
         (sym (length-append s.first (line ∷ [])))
@@ -113,7 +124,7 @@ module _ (filter : Filter) where
         → HandsFirst now remained after (s.first ++ line ∷ [])
         → IsVerdict filter (content line) verdict
         → is_refused filter verdict ≡ false
-        → Goes between new (output_of filter verdict line)
+        → Goes between new (output_of filter (old.lines + length s.first + 1) verdict line)
         (one_if (is_selected filter verdict)) 1
         → new.addressed ≡ (between.addressed || is_addressed_by verdict)
         → is_below filter.most (s.count + one_if (is_selected filter verdict)) ≡ true
@@ -122,8 +133,9 @@ module _ (filter : Filter) where
         record {
           first = s.first ++ line ∷ [];
           hands = hands;
-          added = s.added ++ output_of filter verdict line;
+          added = s.added ++ output_of filter (old.lines + length s.first + 1) verdict line;
           count = s.count + one_if (is_selected filter verdict);
+          fits = s.fits;
           filters = more_filters line verdict judges passes;
           below = below;
           goes = more_goes new line verdict goes;
@@ -137,14 +149,17 @@ module _ (filter : Filter) where
       pub line_judged : IsVerdict filter (content (log_line (line_of now) end)) f.0
       line_judged = subst (λ l. IsVerdict filter l f.0) (is ∙ sym given.is_content) f.1
 
-      pub line_goes : Goes between new (output_of filter f.0 (log_line (line_of now) end)) (one_if (is_selected filter f.0)) 1
+      pub line_goes : Goes between new (output_of filter (old.lines + length s.first + 1) f.0 (log_line (line_of now) end)) (one_if (is_selected filter f.0)) 1
       line_goes =
           let next = log_line (line_of now) end in
           let text : whole ++ feed_behind end ≡ printed next = ap (λ l. l ++ feed_behind end) all ∙ sym given.is_printed in
           let same : line ≡ content next = is ∙ sym given.is_content in
-          subst (λ t. Goes between new (shown filter f.0 (content next) t) (one_if (is_selected filter f.0)) 1) text
-          (subst (λ l. Goes between new (shown filter f.0 l (whole ++ feed_behind end)) (one_if (is_selected filter f.0)) 1)
-          same f.3)
+          let number = numbers_same old.lines mid.lines between.lines new.lines (length s.first) s.fits s.goes.2 idle.2 f.3.2 in
+          subst (λ (h : List ℕ). Goes between new (if is_selected filter f.0 then shown_of filter h f.0 (content next) (printed next) else []) (one_if (is_selected filter f.0)) 1)
+          (heads_same filter new.lines (old.lines + length s.first + 1) number)
+          (subst (λ t. Goes between new (shown filter new.lines f.0 (content next) t) (one_if (is_selected filter f.0)) 1) text
+          (subst (λ l. Goes between new (shown filter new.lines f.0 l (whole ++ feed_behind end)) (one_if (is_selected filter f.0)) 1)
+          same f.3))
 
       pub after_line : is_below filter.most (s.count + one_if selected) ≡ true → FiltersSoFar filter now remained after old new
       after_line below =

@@ -7,7 +7,7 @@ use Rattle.ipnetwork.specs.declared.ip_network.IpNetwork.TheVariants.{V4, V6}
 use Rattle.program.specs.declared.usage.Subject.TheVariants as subjects
 use Rattle.cidr_filter.specs.CommandLines.{AsksNothing}
 use Rattle.cidr_filter.specs.Filters.{IsVerdict, Filters}
-use Rattle.cidr_filter.specs.Laws.{LinesHaveOneVerdict, LogsHaveOneOutput, OutputsOfPartsFollow, LinesThatEndRunsAreWhole, is_one_of, begins_with, is_option_word, OthersAreNoOptions, OthersAskForNothing, WordsHaveOneFault}
+use Rattle.cidr_filter.specs.Laws.{LinesHaveOneVerdict, LogsHaveOneOutput, OutputsOfPartsFollow, NumbersAreNotShown, LinesThatEndRunsAreWhole, is_one_of, begins_with, is_option_word, OthersAreNoOptions, OthersAskForNothing, WordsHaveOneFault}
 use Rattle.program.specs.LogLines.{LogLine, log_lines, content}
 use Rattle.cidr_filter.specs.Options.{option_of}
 use Rattle.cidr_filter.specs.Usage.{about, HasFault}
@@ -55,30 +55,36 @@ not_two_blocks law filter line p q =
 -- ---- one output
 
 -- not one line is selected and two, whatever is written
-pub not_two_counts : LogsHaveOneOutput → (filter : Filter) (log a b : List ℕ) → Filters filter (log_lines log) a 1 → Filters filter (log_lines log) b 2 → ⊥
-not_two_counts law filter log a b p q = omega (arith, (law filter log a b 1 2 p q).1)
+pub not_two_counts : LogsHaveOneOutput → (filter : Filter) (before : ℕ) (log a b : List ℕ) → Filters filter before (log_lines log) a 1 → Filters filter before (log_lines log) b 2 → ⊥
+not_two_counts law filter before log a b p q = omega (arith, (law filter before log a b 1 2 p q).1)
 
 -- a line is not both written and left out, however many are selected
-pub not_two_outputs : LogsHaveOneOutput → (filter : Filter) (log : List ℕ) (m n : ℕ) → Filters filter (log_lines log) (codes "x\n") m
-    → Filters filter (log_lines log) [] n → ⊥
-not_two_outputs law filter log m n p q = omega (arith, ap length (law filter log (codes "x\n") [] m n p q).0)
+pub not_two_outputs : LogsHaveOneOutput → (filter : Filter) (before : ℕ) (log : List ℕ) (m n : ℕ) → Filters filter before (log_lines log) (codes "x\n") m
+    → Filters filter before (log_lines log) [] n → ⊥
+not_two_outputs law filter before log m n p q = omega (arith, ap length (law filter before log (codes "x\n") [] m n p q).0)
 
 -- ---- parts
 
--- parts that both have lines, output and lines that are selected
-pub parts_with_lines : OutputsOfPartsFollow → (filter : Filter) → Filters filter (log_lines (codes "x\n")) (codes "x\n") 1 → Filters filter (log_lines (codes "y\nz")) (codes "y\nz\n") 2
-    → Filters filter (log_lines (codes "x\ny\nz")) (codes "x\ny\nz\n") 3
-parts_with_lines law filter p q = law filter (codes "x") (codes "y\nz") (codes "x\n") (codes "y\nz\n") 1 2 p q
+-- parts that both have lines, output and lines that are selected: the lines of the second have the numbers from 2 on
+pub parts_with_lines : OutputsOfPartsFollow → (filter : Filter) → Filters filter 0 (log_lines (codes "x\n")) (codes "x\n") 1 → Filters filter 1 (log_lines (codes "y\nz")) (codes "y\nz\n") 2
+    → Filters filter 0 (log_lines (codes "x\ny\nz")) (codes "x\ny\nz\n") 3
+parts_with_lines law filter p q = law filter 0 (codes "x") (codes "y\nz") (codes "x\n") (codes "y\nz\n") 1 2 p q
+
+-- or any numbers, if none is shown
+pub parts_without_numbers : OutputsOfPartsFollow → NumbersAreNotShown → (filter : Filter) → filter.numbered ≡ false → Filters filter 0 (log_lines (codes "x\n")) (codes "x\n") 1
+    → Filters filter 0 (log_lines (codes "y\nz")) (codes "y\nz\n") 2 → Filters filter 0 (log_lines (codes "x\ny\nz")) (codes "x\ny\nz\n") 3
+parts_without_numbers law same filter none p q =
+    law filter 0 (codes "x") (codes "y\nz") (codes "x\n") (codes "y\nz\n") 1 2 p (same filter 0 1 (log_lines (codes "y\nz")) (codes "y\nz\n") 2 none q)
 
 -- so the whole does not have the output of its second part alone, nor the lines of one part counted alone
-pub parts_are_not_left_out : OutputsOfPartsFollow → LogsHaveOneOutput → (filter : Filter) → Filters filter (log_lines (codes "x\n")) (codes "x\n") 1
-    → Filters filter (log_lines (codes "y")) (codes "y\n") 1 → Filters filter (log_lines (codes "x\ny")) (codes "y\n") 1 → ⊥
+pub parts_are_not_left_out : OutputsOfPartsFollow → LogsHaveOneOutput → (filter : Filter) → Filters filter 0 (log_lines (codes "x\n")) (codes "x\n") 1
+    → Filters filter 1 (log_lines (codes "y")) (codes "y\n") 1 → Filters filter 0 (log_lines (codes "x\ny")) (codes "y\n") 1 → ⊥
 parts_are_not_left_out law one filter p q whole =
-    omega (arith, (one filter (codes "x\ny") (codes "x\ny\n") (codes "y\n") 2 1 (law filter (codes "x") (codes "y") (codes "x\n") (codes "y\n") 1 1 p q) whole).1)
+    omega (arith, (one filter 0 (codes "x\ny") (codes "x\ny\n") (codes "y\n") 2 1 (law filter 0 (codes "x") (codes "y") (codes "x\n") (codes "y\n") 1 1 p q) whole).1)
 
-pub counts_of_parts_are_summed : OutputsOfPartsFollow → LogsHaveOneOutput → (filter : Filter) → Filters filter (log_lines (codes "x\n")) [] 1
-    → Filters filter (log_lines (codes "y")) [] 1 → Filters filter (log_lines (codes "x\ny")) [] 1 → ⊥
-counts_of_parts_are_summed law one filter p q whole = omega (arith, (one filter (codes "x\ny") [] [] 2 1 (law filter (codes "x") (codes "y") [] [] 1 1 p q) whole).1)
+pub counts_of_parts_are_summed : OutputsOfPartsFollow → LogsHaveOneOutput → (filter : Filter) → Filters filter 0 (log_lines (codes "x\n")) [] 1
+    → Filters filter 1 (log_lines (codes "y")) [] 1 → Filters filter 0 (log_lines (codes "x\ny")) [] 1 → ⊥
+counts_of_parts_are_summed law one filter p q whole = omega (arith, (one filter 0 (codes "x\ny") [] [] 2 1 (law filter 0 (codes "x") (codes "y") [] [] 1 1 p q) whole).1)
 
 -- ---- lines that end runs
 
@@ -121,7 +127,7 @@ not_behind_an_option flag word others law f w =
     law (choices.Letters (letters true false false false) ∷ []) word others (rw f, rw f) (ap is_option_word w) (ap (begins_with (codes "-")) w) (ap (is_one_of (codes "-" ∷ codes "--" ∷ [])) w)
 
 -- the law leaves out the words of options, and no others
-pub words_of_options : list_all is_option_word (codes "-f" ∷ codes "-e" ∷ codes "-k" ∷ codes "-k3" ∷ codes "-d" ∷ codes "-d," ∷ codes "--bad" ∷ codes "--bad=drop" ∷ codes "--longest" ∷ codes "--mapped" ∷ codes "--after" ∷ codes "-v" ∷ codes "-c" ∷ codes "-vc" ∷ codes "-aw" ∷ codes "-o" ∷ codes "-lq" ∷ []) ≡ true
+pub words_of_options : list_all is_option_word (codes "-f" ∷ codes "-e" ∷ codes "-k" ∷ codes "-k3" ∷ codes "-d" ∷ codes "-d," ∷ codes "--bad" ∷ codes "--bad=drop" ∷ codes "--longest" ∷ codes "--mapped" ∷ codes "--after" ∷ codes "-v" ∷ codes "-c" ∷ codes "-vc" ∷ codes "-aw" ∷ codes "-o" ∷ codes "-lqn" ∷ []) ≡ true
 words_of_options = refl
 
 pub words_of_none :

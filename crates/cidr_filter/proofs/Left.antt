@@ -72,7 +72,7 @@ module _ {W : Type 0} (filter : Filter) (was now : LogReader) (remained before a
     (s : FiltersSoFar filter was remained before old mid) (idle : Goes mid between [] 0 0) (still : between.addressed ≡ mid.addressed)
     (output output_after : Written W) (tally : Tally) (end : LineEnd) (line whole : List ℕ) (given : GivesNext now remained after s.first (Line end))
     (is : line ≡ line_of now) (all : whole ≡ whole_of now) (selected : Bool) (f : FiltersLine filter line (whole ++ feed_behind end) selected between (stand output tally)) where
-  goes : Goes old (stand output tally) (s.added ++ output_of filter f.0 (log_line (line_of now) end)) (s.count + one_if (is_selected filter f.0)) (length (s.first ++ log_line (line_of now) end ∷ []))
+  goes : Goes old (stand output tally) (s.added ++ output_of filter (old.lines + length s.first + 1) f.0 (log_line (line_of now) end)) (s.count + one_if (is_selected filter f.0)) (length (s.first ++ log_line (line_of now) end ∷ []))
   goes =
       more_goes filter was now remained before after old mid between s idle still (stand output tally) (log_line (line_of now) end) f.0
       (line_goes filter was now remained before after old mid between s idle still (stand output tally) end line whole given is all selected f)
@@ -81,7 +81,7 @@ module _ {W : Type 0} (filter : Filter) (was now : LogReader) (remained before a
       → Leaves filter now remained after old (stand output_after tally)
   leaves_line most chosen put = record {
     first = s.first ++ log_line (line_of now) end ∷ [];
-    added = s.added ++ output_of filter f.0 (log_line (line_of now) end);
+    added = s.added ++ output_of filter (old.lines + length s.first + 1) f.0 (log_line (line_of now) end);
     count = s.count + one_if (is_selected filter f.0);
     hands = given.hands;
     filters = more_filters filter was now remained before after old mid between s idle still (log_line (line_of now) end) f.0
@@ -106,15 +106,15 @@ module _ {W : Type 0} (filter : Filter) (was now : LogReader) (remained before a
     read = given.next.read;
     first = s.first ++ log_line (line_of now) end ∷ [];
     others = given.next.others;
-    added = s.added ++ output_of filter f.0 (log_line (line_of now) end);
+    added = s.added ++ output_of filter (old.lines + length s.first + 1) f.0 (log_line (line_of now) end);
     count = s.count + one_if (is_selected filter f.0);
     reads = given.next.reads;
     lines = given.next.lines ∙ sym (append_assoc s.first (log_line (line_of now) end ∷ []) given.next.others);
     filters = more_filters filter was now remained before after old mid between s idle still (log_line (line_of now) end) f.0
         (line_judged filter was now remained before after old mid between s idle still (stand output tally) end line whole given is all selected f) f.2;
     within = within_more filter.most s.count (is_selected filter f.0) s.below;
-    beginning = subst (λ (t : List ℕ). AppendsBeginning old.holds output_after.holds (old.waits ++ t)) (append-nil (s.added ++ output_of filter f.0 (log_line (line_of now) end)))
-        (begins_after_puts old.holds output.holds output_after.holds old.waits output.waits (s.added ++ output_of filter f.0 (log_line (line_of now) end)) [] goes.0 took);
+    beginning = subst (λ (t : List ℕ). AppendsBeginning old.holds output_after.holds (old.waits ++ t)) (append-nil (s.added ++ output_of filter (old.lines + length s.first + 1) f.0 (log_line (line_of now) end)))
+        (begins_after_puts old.holds output.holds output_after.holds old.waits output.waits (s.added ++ output_of filter (old.lines + length s.first + 1) f.0 (log_line (line_of now) end)) [] goes.0 took);
   }
 
   pub line_left : (result : Result Reached LogFault) → filter.most ≡ Some (s.count + one_if selected) → selected ≡ true → IfOk result (λ r. r ≡ reached.Last)

@@ -15,6 +15,7 @@ pub mod Left
 pub mod LeftExamples
 pub mod LogParts
 pub mod LogsInTurn
+pub mod NumberExamples
 pub mod OneOutput
 pub mod OptionExamples
 pub mod ReadInTurn

@@ -48,7 +48,7 @@ pub record NameStops (filter : Filter) (known : KnownLists) (name : List ℕ) (f
   pub lines : List LogLine
   pub added : List ℕ
   pub count : ℕ
-  pub filters : Filters (filter_for filter name) lines added count
+  pub filters : Filters (filter_for filter name) 0 lines added count
   pub short : is_short fault filter.most count ≡ true
   pub halts : HaltsBy (EndsRunBy filter) known name lines fault
   pub puts : PutsBy fault failed old new added (length lines)

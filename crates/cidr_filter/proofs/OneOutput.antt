@@ -66,14 +66,14 @@ one_verdict meet filter line verdicts.TooLong verdicts.Outside p q = absurd (ome
 one_verdict meet filter line verdicts.TooLong verdicts.NoAddress p q = absurd (omega (arith, p, q.0))
 one_verdict meet filter line verdicts.TooLong verdicts.TooLong p q = refl
 
-one_of_lines : BlocksOfAnyWidthThatMeet → (filter : Filter) (lines : List LogLine) (a b : List ℕ) (m n : ℕ) → Filters filter lines a m → Filters filter lines b n → (a ≡ b) × (m ≡ n)
-one_of_lines meet filter [] a b m n p q = (p.0 ∙ sym q.0, p.1 ∙ sym q.1)
-one_of_lines meet filter (line ∷ lines) a b m n p q =
+one_of_lines : BlocksOfAnyWidthThatMeet → (filter : Filter) (before : ℕ) (lines : List LogLine) (a b : List ℕ) (m n : ℕ) → Filters filter before lines a m → Filters filter before lines b n → (a ≡ b) × (m ≡ n)
+one_of_lines meet filter before [] a b m n p q = (p.0 ∙ sym q.0, p.1 ∙ sym q.1)
+one_of_lines meet filter before (line ∷ lines) a b m n p q =
     let same : p.0 ≡ q.0 = one_verdict meet filter _ p.0 q.0 p.3 q.3 in
-    let others = one_of_lines meet filter lines p.1 q.1 p.2 q.2 p.5 q.5 in (
-      p.6 ∙ ap (λ v. output_of filter v line ++ p.1) same ∙ ap (λ t. output_of filter q.0 line ++ t) others.0 ∙ sym q.6,
+    let others = one_of_lines meet filter (before + 1) lines p.1 q.1 p.2 q.2 p.5 q.5 in (
+      p.6 ∙ ap (λ v. output_of filter (before + 1) v line ++ p.1) same ∙ ap (λ t. output_of filter (before + 1) q.0 line ++ t) others.0 ∙ sym q.6,
       p.7 ∙ ap (λ v. one_if (is_selected filter v) + p.2) same ∙ ap (λ k. one_if (is_selected filter q.0) + k) others.1 ∙ sym q.7,
     )
 
 pub one_output : BlocksOfAnyWidthThatMeet → LogsHaveOneOutput
-one_output meet filter log a b m n p q = one_of_lines meet filter (log_lines log) a b m n p q
+one_output meet filter before log a b m n p q = one_of_lines meet filter before (log_lines log) a b m n p q

@@ -80,7 +80,7 @@ no_fourth_bad_word text drop keep stop = rw (drop, keep, stop)
 
 -- letters, of which these are given
 abbrev pub letters : Bool → Bool → Bool → Bool → Letters
-letters inverts counts anywhere words = record { inverts = inverts; counts = counts; anywhere = anywhere; words = words; only = false; named = false; unnamed = false; names = false; quiet = false }
+letters inverts counts anywhere words = record { inverts = inverts; counts = counts; anywhere = anywhere; words = words; only = false; named = false; unnamed = false; numbered = false; names = false; quiet = false }
 
 pub letters_together : letters_option (codes "vc") ≡ Some (choices.Letters (letters true true false false))
 letters_together = refl
@@ -96,6 +96,9 @@ other_letter = refl
 
 pub letters_of_answers : letters_option (codes "ql") ≡ Some (choices.Letters (record (letters false false false false) { names = true; quiet = true }))
 letters_of_answers = refl
+
+pub letter_of_numbers : letters_option (codes "n") ≡ Some (choices.Letters (record (letters false false false false) { numbered = true }))
+letter_of_numbers = refl
 
 pub letter_of_addresses : letters_option (codes "oa") ≡ Some (choices.Letters (record (letters false false true false) { only = true }))
 letter_of_addresses = refl

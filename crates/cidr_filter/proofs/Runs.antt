@@ -53,7 +53,7 @@ short_within faults.Endless most count e = below_within most count e
 
 -- the first lines of a log were filtered, and then it stopped
 at_log : {W E : Type 0} (filter : Filter) (known : KnownLists) (name : List ℕ) (fault : LogFault) (lines : List LogLine) (added : List ℕ) (more : ℕ) (end : Ending W E)
-    → end.status ≡ 2 → Filters (filter_for filter name) lines added more → is_short fault filter.most more ≡ true → HaltsBy (EndsRunBy filter) known name lines fault
+    → end.status ≡ 2 → Filters (filter_for filter name) 0 lines added more → is_short fault filter.most more ≡ true → HaltsBy (EndsRunBy filter) known name lines fault
     → Wrote fault end ([] ++ added)
     → HasTold end (log_fault_text name (length lines) fault) → StopsAtLog filter known (name ∷ []) end
 at_log filter known name fault lines added more end two filters short halts wrote told = record {
@@ -80,7 +80,7 @@ at_log filter known name fault lines added more end two filters short halts wrot
 }
 
 module _ {W E : Type 0} (filter : Filter) (known : KnownLists) (name : List ℕ) (lines : List LogLine) (added : List ℕ) (more : ℕ)
-    (filters : Filters (filter_for filter name) lines added more) (end : Ending W E) (two : end.status ≡ 2) (mid : Written W) (told : ℕ) where
+    (filters : Filters (filter_for filter name) 0 lines added more) (end : Ending W E) (two : end.status ≡ 2) (mid : Written W) (told : ℕ) where
   -- the output of these lines was put, and then what waited was written or not
   handed : (fault : LogFault) → is_short fault filter.most more ≡ true → HaltsBy (EndsRunBy filter) known name lines fault → ((text : List ℕ) → HasWritten end text → Wrote fault end text)
       → Prints end.output mid added × (told ≡ min (length lines) (2 ^ 64 - 1))

@@ -1,6 +1,6 @@
 -- How the filtering of a log ends.
 use Rattle.std.proofs.Common.{◌≡◌, ℕ, ◌+◌, ◌||◌, Bool, true, false, List, [], ◌∷◌, ◌++◌, length, refl, sym, ap, ◌∙◌, subst, arith, append_assoc, append-nil}
-use Rattle.std.specs.Prelude.{Option}
+use Rattle.std.specs.Prelude.{Option, if◌then◌else◌}
 use Rattle.lines.specs.Outputs.{Written, AppendsBeginning}
 use Rattle.lines.specs.declared.line_end.LineEnd.{LineEnd}
 use Rattle.lines.proofs.Putting.{begins_after_puts}
@@ -11,7 +11,7 @@ use Rattle.program.specs.declared.log_fault.LogFault.TheVariants as faults
 use Rattle.program.specs.declared.log_reader.LogReader.{LogReader}
 use Rattle.program.specs.declared.log_reader.NextLogLine.TheVariants.{Line, TooLong, End}
 use Rattle.cidr_filter.specs.Addressed.{any_addressed}
-use Rattle.cidr_filter.specs.Filters.{IsVerdict, is_refused, is_selected, one_if, output_of, Filters}
+use Rattle.cidr_filter.specs.Filters.{IsVerdict, is_refused, is_selected, one_if, shown_of, output_of, Filters}
 use Rattle.cidr_filter.specs.Stands.{Stand, stand, Goes}
 use Rattle.cidr_filter.specs.Stops.{Ends, FiltersEnded, WritesBeginning, EndsAtLine, Stops}
 use Rattle.cidr_filter.specs.Private.Progress.{shown, RefusesLine, LineStops, FiltersSoFar}
@@ -19,7 +19,8 @@ use Rattle.cidr_filter.specs.declared.filter.Filter.{Filter}
 use Rattle.cidr_filter.specs.declared.filter.Verdict.{Verdict}
 use Rattle.cidr_filter.specs.declared.filter.Verdict.TheVariants as verdicts
 use Rattle.cidr_filter.specs.declared.log.Tally.{Tally}
-use Rattle.cidr_filter.proofs.Filtering.{goes_idle, goes_still}
+use Rattle.cidr_filter.proofs.Filtering.{goes_idle, goes_still, numbers_same}
+use Rattle.cidr_filter.proofs.Heads.{heads_same}
 use Rattle.cidr_filter.proofs.Spent.{below_within, within_more}
 use Rattle.cidr_filter.proofs.LogParts.{both}
 
@@ -54,10 +55,10 @@ module _ (filter : Filter) (was now : LogReader) (remained before after : Option
   -- or the writer failed at it
   writes_at : (new : Stand) (line : LogLine) (verdict : Verdict) → ComesNext remained after s.first line
       → IsVerdict filter (content line) verdict → is_refused filter verdict ≡ false
-      → AppendsBeginning between.holds new.holds (between.waits ++ output_of filter verdict line)
+      → AppendsBeginning between.holds new.holds (between.waits ++ output_of filter (old.lines + length s.first + 1) verdict line)
       → WritesBeginning filter remained after old new
   writes_at new line verdict next judges passes took =
-      let added = output_of filter verdict line in
+      let added = output_of filter (old.lines + length s.first + 1) verdict line in
       let count = one_if (is_selected filter verdict) in
       record {
         read = next.read;
@@ -67,7 +68,7 @@ module _ (filter : Filter) (was now : LogReader) (remained before after : Option
         count = s.count + count;
         reads = next.reads;
         lines = next.lines ∙ sym (append_assoc s.first (line ∷ []) next.others);
-        filters = both filter s.first (line ∷ []) s.added added s.count count s.filters (
+        filters = both filter old.lines s.first (line ∷ []) s.added added s.count count s.filters (
           verdict,
           [],
           0,
@@ -109,10 +110,13 @@ module _ (filter : Filter) (was now : LogReader) (remained before after : Option
     line_stops read_failed write_failed faults.Write h = (
       h.0,
       writes_at new (log_line (line_of now) end) h.1 given.next (subst (λ l. IsVerdict filter l h.1) same h.2) h.3
+          (subst (λ (t : List ℕ). AppendsBeginning between.holds new.holds
+          (between.waits ++ (if is_selected filter h.1 then shown_of filter t h.1 (content (log_line (line_of now) end)) (printed (log_line (line_of now) end)) else [])))
+          (heads_same filter new.lines (old.lines + length s.first + 1) (numbers_same old.lines mid.lines between.lines new.lines (length s.first) s.fits s.goes.2 idle.2 h.5))
           (subst (λ t. AppendsBeginning between.holds new.holds
-          (between.waits ++ shown filter h.1 (content (log_line (line_of now) end)) t)) text
+          (between.waits ++ shown filter new.lines h.1 (content (log_line (line_of now) end)) t)) text
           (subst (λ l. AppendsBeginning between.holds new.holds
-          (between.waits ++ shown filter h.1 l (whole ++ feed_behind end))) same h.4)),
+          (between.waits ++ shown filter new.lines h.1 l (whole ++ feed_behind end))) same h.4))),
     )
     line_stops read_failed write_failed faults.Address h = refused_at verdicts.NoAddress h
     line_stops read_failed write_failed faults.Length h = refused_at verdicts.TooLong h
@@ -133,7 +137,7 @@ module _ (filter : Filter) (was now : LogReader) (remained before after : Option
     count = s.count;
     reads = given.1;
     end = given.2;
-    filters = subst (λ (ls : List LogLine). Filters filter ls s.added s.count) (sym given.3) s.filters;
+    filters = subst (λ (ls : List LogLine). Filters filter old.lines ls s.added s.count) (sym given.3) s.filters;
     below = s.below;
     goes = subst (λ (ls : List LogLine). Goes old between s.added s.count (length ls)) (sym given.3) still;
     addressed = seen ∙ s.addressed
@@ -149,7 +153,7 @@ module _ {W : Type 0} (filter : Filter) (was : LogReader) (remained before after
   ended_so read are idle = record {
     added = s.added;
     count = s.count;
-    filters = subst (λ (ls : List LogLine). Filters filter ls s.added s.count) (sym are) s.filters;
+    filters = subst (λ (ls : List LogLine). Filters filter old.lines ls s.added s.count) (sym are) s.filters;
     below = s.below;
     goes = subst (λ (ls : List LogLine). Goes old (stand new tally) s.added s.count (length ls)) (sym are)
         (goes_still old (stand mid tally) (stand new tally) s.added s.count (length s.first) s.goes idle);

@@ -17,9 +17,9 @@ use Rattle.cidr_filter.specs.declared.filter.Filter.{Filter}
 use Rattle.line_addresses.specs.declared.place.Place.TheVariants as places
 
 -- the text of the next address, and those after it
-pub next_text : (filter : Filter) (line : List ℕ) (at : ℕ) (found : Found) → IsNextAddress line at found
-    → texts_of filter (addresses_of (drop at line)) ≡ text_of filter found.address (slice_range line found.start found.end) ++ texts_of filter (addresses_of (drop found.next line))
-next_text filter line at found next = ap (texts_of filter) next.first
+pub next_text : (filter : Filter) (head line : List ℕ) (at : ℕ) (found : Found) → IsNextAddress line at found
+    → texts_of filter head (addresses_of (drop at line)) ≡ text_of filter head found.address (slice_range line found.start found.end) ++ texts_of filter head (addresses_of (drop found.next line))
+next_text filter head line at found next = ap (texts_of filter head) next.first
 
 -- one text more was put
 pub one_more : (all done text rest left : List ℕ) → all ≡ done ++ left → left ≡ text ++ rest → all ≡ (done ++ text) ++ rest
@@ -34,41 +34,41 @@ fails_at held mid holds waited between all done text rest left p e f b =
     (subst (λ (t : List ℕ). AppendsBeginning mid holds t) (append_assoc between text rest) (begins_within mid holds (between ++ text) rest b)))
 
 -- all texts were put
-pub all_put : (filter : Filter) (line : List ℕ) (at : ℕ) (held holds : Option (List ℕ)) (waited waits : List ℕ) (done : List ℕ) → Puts held waited holds waits done
-    → texts_of filter (addresses_of line) ≡ done ++ texts_of filter (addresses_of (drop at line)) → addresses_of (drop at line) ≡ [] → Puts held waited holds waits (texts_of filter (addresses_of line))
-all_put filter line at held holds waited waits done p e none =
-    subst (λ (t : List ℕ). Puts held waited holds waits t) (sym (e ∙ ap (λ l. done ++ texts_of filter l) none ∙ append-nil done)) p
+pub all_put : (filter : Filter) (head line : List ℕ) (at : ℕ) (held holds : Option (List ℕ)) (waited waits : List ℕ) (done : List ℕ) → Puts held waited holds waits done
+    → texts_of filter head (addresses_of line) ≡ done ++ texts_of filter head (addresses_of (drop at line)) → addresses_of (drop at line) ≡ [] → Puts held waited holds waits (texts_of filter head (addresses_of line))
+all_put filter head line at held holds waited waits done p e none =
+    subst (λ (t : List ℕ). Puts held waited holds waits t) (sym (e ∙ ap (λ l. done ++ texts_of filter head l) none ∙ append-nil done)) p
 
 -- ---- what is printed, by where addresses are looked for
 
-module _ (filter : Filter) (line : List ℕ) where
+module _ (filter : Filter) (head line : List ℕ) where
   pub of_field : (number separator : ℕ) (part : Option (List ℕ)) → filter.place ≡ places.Field number separator → field_of number separator line ≡ part
-      → texts_of filter (of_part part) ≡ texts_of filter (spelled_at filter.place line)
-  of_field number separator part is e = sym (ap (λ p. texts_of filter (spelled_at p line)) is ∙ ap (λ o. texts_of filter (of_part o)) e)
+      → texts_of filter head (of_part part) ≡ texts_of filter head (spelled_at filter.place line)
+  of_field number separator part is e = sym (ap (λ p. texts_of filter head (spelled_at p line)) is ∙ ap (λ o. texts_of filter head (of_part o)) e)
 
   pub of_word : (number : ℕ) (part : Option (List ℕ)) → filter.place ≡ places.Word number → slice_get (words_of line) (number - 1) ≡ part
-      → texts_of filter (of_part part) ≡ texts_of filter (spelled_at filter.place line)
-  of_word number part is e = sym (ap (λ p. texts_of filter (spelled_at p line)) is ∙ ap (λ o. texts_of filter (of_part o)) e)
+      → texts_of filter head (of_part part) ≡ texts_of filter head (spelled_at filter.place line)
+  of_word number part is e = sym (ap (λ p. texts_of filter head (spelled_at p line)) is ∙ ap (λ o. texts_of filter head (of_part o)) e)
 
   pub of_text : (text : List ℕ) (rest : Option (List ℕ)) → filter.place ≡ places.After text → following text line ≡ rest
-      → texts_of filter (of_rest rest) ≡ texts_of filter (spelled_at filter.place line)
-  of_text text rest is e = sym (ap (λ p. texts_of filter (spelled_at p line)) is ∙ ap (λ o. texts_of filter (of_rest o)) e)
+      → texts_of filter head (of_rest rest) ≡ texts_of filter head (spelled_at filter.place line)
+  of_text text rest is e = sym (ap (λ p. texts_of filter head (spelled_at p line)) is ∙ ap (λ o. texts_of filter head (of_rest o)) e)
 
-  pub of_all : filter.place ≡ places.Anywhere → texts_of filter (addresses_of line) ≡ texts_of filter (spelled_at filter.place line)
-  of_all is = sym (ap (λ p. texts_of filter (spelled_at p line)) is)
+  pub of_all : filter.place ≡ places.Anywhere → texts_of filter head (addresses_of line) ≡ texts_of filter head (spelled_at filter.place line)
+  of_all is = sym (ap (λ p. texts_of filter head (spelled_at p line)) is)
 
 -- a part, and the first address of a rest
-pub of_address : (filter : Filter) (part : List ℕ) (address : IpAddr) → address_of part ≡ Some address → text_of filter address part ≡ texts_of filter (of_part (Some part))
-of_address filter part address is = sym (ap (λ o. texts_of filter (option_to_list (with_text part o))) is ∙ append-nil (text_of filter address part))
+pub of_address : (filter : Filter) (head part : List ℕ) (address : IpAddr) → address_of part ≡ Some address → text_of filter head address part ≡ texts_of filter head (of_part (Some part))
+of_address filter head part address is = sym (ap (λ o. texts_of filter head (option_to_list (with_text part o))) is ∙ append-nil (text_of filter head address part))
 
-pub of_no_address : (filter : Filter) (part : List ℕ) → address_of part ≡ None → [] ≡ texts_of filter (of_part (Some part))
-of_no_address filter part is = sym (ap (λ o. texts_of filter (option_to_list (with_text part o))) is)
+pub of_no_address : (filter : Filter) (head part : List ℕ) → address_of part ≡ None → [] ≡ texts_of filter head (of_part (Some part))
+of_no_address filter head part is = sym (ap (λ o. texts_of filter head (option_to_list (with_text part o))) is)
 
-pub of_first : (filter : Filter) (rest : List ℕ) (found : Found) → IsNextAddress rest 0 found → text_of filter found.address (slice_range rest found.start found.end) ≡ texts_of filter (of_rest (Some rest))
-of_first filter rest found next = sym (ap (λ l. texts_of filter (take 1 l)) next.first ∙ append-nil (text_of filter found.address (slice_range rest found.start found.end)))
+pub of_first : (filter : Filter) (head rest : List ℕ) (found : Found) → IsNextAddress rest 0 found → text_of filter head found.address (slice_range rest found.start found.end) ≡ texts_of filter head (of_rest (Some rest))
+of_first filter head rest found next = sym (ap (λ l. texts_of filter head (take 1 l)) next.first ∙ append-nil (text_of filter head found.address (slice_range rest found.start found.end)))
 
-pub of_no_first : (filter : Filter) (rest : List ℕ) → addresses_of rest ≡ [] → [] ≡ texts_of filter (of_rest (Some rest))
-of_no_first filter rest none = sym (ap (λ l. texts_of filter (take 1 l)) none)
+pub of_no_first : (filter : Filter) (head rest : List ℕ) → addresses_of rest ≡ [] → [] ≡ texts_of filter head (of_rest (Some rest))
+of_no_first filter head rest none = sym (ap (λ l. texts_of filter head (take 1 l)) none)
 
 -- ---- with what is printed by another name
 

@@ -1,5 +1,5 @@
 -- Which lines of a log are selected.
-use Rattle.std.specs.Prelude.{◌≡◌, ℕ, ◌+◌, ◌-◌, ◌<◌, ◌≤◌, ◌⊎◌, Bool, true, false, not, List, [], ◌∷◌, ◌++◌, Option, None, Some, length, take, map, flat_map, slice_get, codes, nat_lt, nat_le, if◌then◌else◌}
+use Rattle.std.specs.Prelude.{◌≡◌, ℕ, ◌+◌, ◌-◌, ◌^◌, ◌<◌, ◌≤◌, ◌⊎◌, Bool, true, false, not, List, [], ◌∷◌, ◌++◌, Option, None, Some, length, take, map, flat_map, slice_get, codes, decimal, min, nat_lt, nat_le, if◌then◌else◌}
 use Rattle.std.specs.List.{AllByRecursion}
 use Rattle.std.specs.Option.{option_to_list}
 use Rattle.ipnetwork_addr.specs.declared.ip.IpAddr.{IpAddr}
@@ -141,17 +141,24 @@ abbrev pub is_listed : Listed → IpAddr → Bool
 is_listed (Addresses sets) address = has_address sets address
 is_listed (Blocks tables) address = false
 
--- what stands first: the name of the log and a colon, with `-H`
-abbrev pub head_of : List ℕ → List ℕ
-head_of [] = []
-head_of (byte ∷ name) = byte ∷ name ++ 58 ∷ []
+-- what stands first: the name of the log and a colon, with `-H`; and the number of the line and a colon, with `-n`, up to
+-- the greatest number of 64 bits
+abbrev pub name_head : List ℕ → List ℕ
+name_head [] = []
+name_head (byte ∷ name) = byte ∷ name ++ 58 ∷ []
 
--- with `-o`: the text of an address and a line feed, if it is in the lists
-abbrev pub text_of : Filter → IpAddr → List ℕ → List ℕ
-text_of filter address text = if is_listed filter.listed (asked filter.mapped address) then head_of filter.name ++ (text ++ 10 ∷ []) else []
+abbrev pub number_head : Bool → ℕ → List ℕ
+number_head numbered number = if numbered then decimal (min number (2 ^ 64 - 1)) ++ 58 ∷ [] else []
 
-abbrev pub texts_of : Filter → List Spelled → List ℕ
-texts_of filter found = flat_map (λ one. text_of filter one.address one.text) found
+abbrev pub head_of : Filter → ℕ → List ℕ
+head_of filter number = name_head filter.name ++ number_head filter.numbered number
+
+-- with `-o`: the text of an address and a line feed, if it is in the lists, behind what stands first
+abbrev pub text_of : Filter → List ℕ → IpAddr → List ℕ → List ℕ
+text_of filter head address text = if is_listed filter.listed (asked filter.mapped address) then head ++ (text ++ 10 ∷ []) else []
+
+abbrev pub texts_of : Filter → List ℕ → List Spelled → List ℕ
+texts_of filter head found = flat_map (λ one. text_of filter head one.address one.text) found
 
 -- lines are only counted
 abbrev pub is_count : Shown → Bool
@@ -172,19 +179,19 @@ is_silent shows.Nothing = true
 -- what is printed of a selected line, which is given without its end, and as it is written: its mark and the line, or
 -- with `-o` those of its addresses that are in the lists, what stands first before each; or with `-l` the name of its
 -- log; or nothing, with `-c` and with `-q`
-abbrev pub shown_by : Shown → Filter → Verdict → List ℕ → List ℕ → List ℕ
-shown_by shows.Lines filter verdict line text = head_of filter.name ++ (mark_of filter.listed verdict ++ text)
-shown_by shows.Addresses filter verdict line text = texts_of filter (spelled_at filter.place line)
-shown_by shows.Count filter verdict line text = []
-shown_by shows.Names filter verdict line text = filter.name ++ 10 ∷ []
-shown_by shows.Nothing filter verdict line text = []
+abbrev pub shown_by : Shown → Filter → List ℕ → Verdict → List ℕ → List ℕ → List ℕ
+shown_by shows.Lines filter head verdict line text = head ++ (mark_of filter.listed verdict ++ text)
+shown_by shows.Addresses filter head verdict line text = texts_of filter head (spelled_at filter.place line)
+shown_by shows.Count filter head verdict line text = []
+shown_by shows.Names filter head verdict line text = filter.name ++ 10 ∷ []
+shown_by shows.Nothing filter head verdict line text = []
 
-abbrev pub shown_of : Filter → Verdict → List ℕ → List ℕ → List ℕ
-shown_of filter verdict line text = shown_by filter.shows filter verdict line text
+abbrev pub shown_of : Filter → List ℕ → Verdict → List ℕ → List ℕ → List ℕ
+shown_of filter head verdict line text = shown_by filter.shows filter head verdict line text
 
--- what is written for a line: that, if it is selected
-abbrev pub output_of : Filter → Verdict → LogLine → List ℕ
-output_of filter verdict line = if is_selected filter verdict then shown_of filter verdict (content line) (printed line) else []
+-- what is written for the line of this number: that, if it is selected
+abbrev pub output_of : Filter → ℕ → Verdict → LogLine → List ℕ
+output_of filter number verdict line = if is_selected filter verdict then shown_of filter (head_of filter number) verdict (content line) (printed line) else []
 
 -- fewer lines are selected than may be, or as many at the most
 abbrev pub is_below : Option ℕ → ℕ → Bool
@@ -199,12 +206,13 @@ is_within (Some most) count = nat_le count most
 abbrev pub one_if : Bool → ℕ
 one_if selected = if selected then 1 else 0
 
--- for these lines in turn this is written, this many are selected, and none ends the run
-abbrev pub Filters : Filter → List LogLine → List ℕ → ℕ → Type 0
-Filters filter [] output count = (output ≡ []) × (count ≡ 0)
-Filters filter (line ∷ lines) output count = (verdict : Verdict) × (others : List ℕ) × (more : ℕ) × IsVerdict filter (content line) verdict
-    × (is_refused filter verdict ≡ false) × Filters filter lines others more
-    × (output ≡ output_of filter verdict line ++ others) × (count ≡ one_if (is_selected filter verdict) + more)
+-- for these lines in turn, which come behind so many others of their log, this is written, this many are selected, and
+-- none ends the run
+abbrev pub Filters : Filter → ℕ → List LogLine → List ℕ → ℕ → Type 0
+Filters filter before [] output count = (output ≡ []) × (count ≡ 0)
+Filters filter before (line ∷ lines) output count = (verdict : Verdict) × (others : List ℕ) × (more : ℕ) × IsVerdict filter (content line) verdict
+    × (is_refused filter verdict ≡ false) × Filters filter (before + 1) lines others more
+    × (output ≡ output_of filter (before + 1) verdict line ++ others) × (count ≡ one_if (is_selected filter verdict) + more)
 
 -- there are no lines, or the last of them is selected, and is a line whatever comes after it
 abbrev pub LastIsSelected : Filter → Type 0 → List LogLine → Type 0

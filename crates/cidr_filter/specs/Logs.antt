@@ -24,13 +24,13 @@ filter_for filter name = record filter { name = label_of filter.named name }
 -- the log of this name was read to its end: this is the output of its lines, this many of them were selected, and it is
 -- reported if none of them has an address
 abbrev pub ReadsLog : Filter → KnownLists → List ℕ → List ℕ → ℕ → List ℕ → Type 0
-ReadsLog filter known name output selected told = (read : List ℕ) × IsAllOf known name read × Filters (filter_for filter name) (log_lines read) output selected
+ReadsLog filter known name output selected told = (read : List ℕ) × IsAllOf known name read × Filters (filter_for filter name) 0 (log_lines read) output selected
     × (told ≡ lacking_text filter name (log_lines read)) × (is_below filter.most selected ≡ true)
 
 -- or it was read up to the last line that may be selected, and nothing is reported of it
 abbrev pub LeavesLog : Filter → KnownLists → List ℕ → List ℕ → ℕ → List ℕ → Type 0
 LeavesLog filter known name output selected told = (read : List ℕ) × (lines : List LogLine) × (others : List LogLine) × known.may_open name true × IsFirstOf known name read
-    × (log_lines read ≡ lines ++ others) × Filters (filter_for filter name) lines output selected × AreAll (filter_for filter name) (IsAllOf known name read) lines selected × (told ≡ [])
+    × (log_lines read ≡ lines ++ others) × Filters (filter_for filter name) 0 lines output selected × AreAll (filter_for filter name) (IsAllOf known name read) lines selected × (told ≡ [])
 
 -- or it cannot be opened, which is reported with the cause
 abbrev pub MissesLog : KnownLists → List ℕ → List ℕ → ℕ → List ℕ → Type 0

@@ -58,10 +58,11 @@ text_option text = if length text == 0 then None else Some choices.Text
 abbrev pub after_option : List ℕ → Option Choice
 after_option text = if length text == 0 then None else Some choices.After
 
--- `-v`, `-c`, `-a`, `-w`, `-o`, `-H`, `-h`, `-l` and `-q`: their letters after one `-`, in any order
+-- `-v`, `-c`, `-a`, `-w`, `-o`, `-H`, `-h`, `-n`, `-l` and `-q`: their letters after one `-`, in any order
 abbrev pub is_letter : ℕ → Bool
 is_letter letter =
-    letter == 118 || letter == 99 || letter == 97 || letter == 119 || letter == 111 || letter == 72 || letter == 104 || letter == 108
+    letter == 118 || letter == 99 || letter == 97 || letter == 119 || letter == 111 || letter == 72 || letter == 104 || letter == 110
+    || letter == 108
     || letter == 113
 
 abbrev pub letters_in : List ℕ → Letters
@@ -73,6 +74,7 @@ letters_in text = record {
   only = list_any (λ letter. letter == 111) text;
   named = list_any (λ letter. letter == 72) text;
   unnamed = list_any (λ letter. letter == 104) text;
+  numbered = list_any (λ letter. letter == 110) text;
   names = list_any (λ letter. letter == 108) text;
   quiet = list_any (λ letter. letter == 113) text;
 }
@@ -132,6 +134,7 @@ either first second = record {
   only = first.only || second.only;
   named = first.named || second.named;
   unnamed = first.unnamed || second.unnamed;
+  numbered = first.numbered || second.numbered;
   names = first.names || second.names;
   quiet = first.quiet || second.quiet;
 }
@@ -161,6 +164,7 @@ no_options = record {
     only = false;
     named = false;
     unnamed = false;
+    numbered = false;
     names = false;
     quiet = false;
   };

@@ -51,7 +51,7 @@ pub record StopsAtLog {W E : Type 0} (filter : Filter) (known : KnownLists) (nam
   pub logs : names ≡ before ++ name ∷ behind
   pub filters : FiltersLogs filter known before output selected texts missed
   pub few : is_enough filter.shows selected ≡ false
-  pub first : Filters (filter_for filter name) lines added more
+  pub first : Filters (filter_for filter name) 0 lines added more
   pub short : is_short fault filter.most more ≡ true
   pub halts : HaltsBy (EndsRunBy filter) known name lines fault
   pub wrote : Wrote fault end (output ++ added)
@@ -125,6 +125,7 @@ filter_of words request listed = record {
   most = most_of request.letters request.most;
   shows = shows_of request.letters;
   named = is_named request.letters;
+  numbered = request.letters.numbered;
   name = [];
 }
 

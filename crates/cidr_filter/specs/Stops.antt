@@ -23,7 +23,7 @@ pub record Ends (filter : Filter) (remained remains : Option (List ℕ)) (old ne
   pub count : ℕ
   pub reads : Consumes remained remains read
   pub end : IsAtEnd remains
-  pub filters : Filters filter (log_lines read) added count
+  pub filters : Filters filter old.lines (log_lines read) added count
   pub below : is_below filter.most count ≡ true
   pub goes : Goes old new added count (length (log_lines read))
   pub addressed : new.addressed ≡ (old.addressed || any_addressed filter (log_lines read))
@@ -35,7 +35,7 @@ pub record Leaves (filter : Filter) (log : LogReader) (remained remains : Option
   pub added : List ℕ
   pub count : ℕ
   pub hands : HandsFirst log remained remains first
-  pub filters : Filters filter first added count
+  pub filters : Filters filter old.lines first added count
   pub all : AreAll filter (IsAtEnd remains) first count
   pub goes : Goes old new added count (length first)
 
@@ -48,7 +48,7 @@ EndsBy Last filter log remained remains old new = Leaves filter log remained rem
 pub record FiltersEnded (filter : Filter) (old new : Stand) (bytes : List ℕ) : Type 0 where
   pub added : List ℕ
   pub count : ℕ
-  pub filters : Filters filter (ended_lines bytes) added count
+  pub filters : Filters filter old.lines (ended_lines bytes) added count
   pub below : is_below filter.most count ≡ true
   pub goes : Goes old new added count (length (ended_lines bytes))
 
@@ -61,7 +61,7 @@ pub record WritesBeginning (filter : Filter) (remained remains : Option (List �
   pub count : ℕ
   pub reads : Consumes remained remains read
   pub lines : log_lines read ≡ first ++ others
-  pub filters : Filters filter first added count
+  pub filters : Filters filter old.lines first added count
   pub within : is_within filter.most count ≡ true
   pub beginning : AppendsBeginning old.holds new.holds (old.waits ++ added)
 
@@ -75,7 +75,7 @@ pub record EndsAtLine (filter : Filter) (remained remains : Option (List ℕ)) (
   pub count : ℕ
   pub reads : Consumes remained remains read
   pub lines : log_lines read ≡ first ++ line ∷ others
-  pub filters : Filters filter first added count
+  pub filters : Filters filter old.lines first added count
   pub below : is_below filter.most count ≡ true
   pub goes : Goes old new added count (length first)
   pub is_line : IsWhole (IsAtEnd remains) line

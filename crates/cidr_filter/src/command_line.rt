@@ -70,6 +70,7 @@ fn options_of(words: &[String]) -> Request
             only: false,
             named: false,
             unnamed: false,
+            numbered: false,
             names: false,
             quiet: false,
         },
@@ -202,6 +203,7 @@ fn either(first: Letters, second: Letters) -> Letters
         only: one_of(first.only, second.only),
         named: one_of(first.named, second.named),
         unnamed: one_of(first.unnamed, second.unnamed),
+        numbered: one_of(first.numbered, second.numbered),
         names: one_of(first.names, second.names),
         quiet: one_of(first.quiet, second.quiet),
     }

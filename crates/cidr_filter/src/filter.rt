@@ -88,7 +88,9 @@ pub struct Filter<'a> {
     pub(crate) shows: Shown,
     /// Whether the name of its log is printed of a line.
     pub(crate) named: bool,
-    /// That name, if it is. It is empty if it is not.
+    /// Whether the number of a line stands before what is printed of it.
+    pub(crate) numbered: bool,
+    /// The name of its log, if it is printed. It is empty if it is not.
     pub(crate) name: Text<'a>,
 }
 

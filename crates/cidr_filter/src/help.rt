@@ -31,6 +31,8 @@ Prints the lines of logs whose address is in a list of IP networks.
     -m N            at most N lines of each FILE are selected: behind the last no more of it is read
     -H              before a line print the name of its FILE, or (standard input), and a colon. Not
                     with -c or -h
+    -n              before a line print its number in its FILE and a colon, behind the name of -H;
+                    with -o before each address
     -h              print no name before a line (this is the default, also with several FILEs)
     --longest       before a line print the longest network that holds its address (with -a the
                     first of its addresses that is in one), and a tab; a range counts as the fewest
@@ -69,4 +71,4 @@ pub(crate) const PROGRAM: &str = "cidr_filter";
 /// How the program is used: what is reported for arguments that are not a command, after what is
 /// wrong with them.
 pub(crate) const USAGE: &str =
-    "usage: cidr_filter [-v] [-c | -H] [-h] [-l] [-q] [-o] [-m N] [-a | --after TEXT | [-k N] [-d CHAR | -w]] [--mapped] [--bad drop|keep|stop] [--longest] (-f LIST | -e TEXT).. [FILE..]; try --help\n";
+    "usage: cidr_filter [-v] [-c | -H] [-h] [-n] [-l] [-q] [-o] [-m N] [-a | --after TEXT | [-k N] [-d CHAR | -w]] [--mapped] [--bad drop|keep|stop] [--longest] (-f LIST | -e TEXT).. [FILE..]; try --help\n";

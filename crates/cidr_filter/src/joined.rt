@@ -155,6 +155,7 @@ fn word_of(letter: u8) -> Option<&'static str>
         b'o' => Some("-o"),
         b'H' => Some("-H"),
         b'h' => Some("-h"),
+        b'n' => Some("-n"),
         b'l' => Some("-l"),
         b'q' => Some("-q"),
         _ => None,

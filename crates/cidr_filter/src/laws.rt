@@ -1,6 +1,6 @@
 //! What follows from the clauses of a command line and of a log. Each function's contract is a law:
 //! it does nothing, and a proof that calls it may use the law.
-ghost use Rattle.cidr_filter.specs.Laws.{OthersAreNoOptions, OthersAskForNothing, WordsHaveOneFault, LinesHaveOneVerdict, LogsHaveOneOutput, OutputsOfPartsFollow, LinesThatEndRunsAreWhole};
+ghost use Rattle.cidr_filter.specs.Laws.{OthersAreNoOptions, OthersAskForNothing, WordsHaveOneFault, LinesHaveOneVerdict, LogsHaveOneOutput, OutputsOfPartsFollow, NumbersAreNotShown, LinesThatEndRunsAreWhole};
 
 use ipnetwork_table::laws::blocks_of_any_width_that_meet;
 
@@ -14,9 +14,11 @@ pub fn a_log_has_one_output()
 }
 
 /// If a log is cut directly after a line feed, its output is that of the first part and then that
-/// of the second.
+/// of the second, whose lines have the numbers that follow those of the first. Where lines are not
+/// numbered, that makes no difference.
 pub fn outputs_of_parts_follow()
-    ensures { OutputsOfPartsFollow }
+    ensures parts { OutputsOfPartsFollow }
+    ensures numbers { NumbersAreNotShown }
 {}
 
 /// A line that ends a run ends it whatever comes after what was read: it is a line of the log, in

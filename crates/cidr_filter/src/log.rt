@@ -1,11 +1,11 @@
 //! Filters the lines of a log.
-ghost use Rattle.std.specs.Prelude.{◌≡◌, ◌||◌, ◌≤◌, ◌++◌, [], ℕ, List, Option, IsTrue, OnOk, OnErr, IfErr, IfOk, IsOkUnless, Err};
+ghost use Rattle.std.specs.Prelude.{◌≡◌, ◌||◌, ◌≤◌, ◌-◌, ◌^◌, ◌++◌, [], ℕ, List, Option, IsTrue, OnOk, OnErr, IfErr, IfOk, IsOkUnless, Err};
 ghost use Rattle.lines.specs.Outputs.{AppendsBeginning};
 ghost use Rattle.lines.specs.Watched.{device_of, has_failed};
 ghost use Rattle.program.specs.LogFaults.{ended_by_read, ended_by_write};
 ghost use Rattle.program.specs.LogLines.{feed_behind};
 ghost use Rattle.program.specs.LogReaders.{HandsFirst, hurries_of};
-ghost use Rattle.cidr_filter.specs.Filters.{is_refused, shown_of};
+ghost use Rattle.cidr_filter.specs.Filters.{head_of, is_refused, shown_of};
 ghost use Rattle.cidr_filter.specs.Stands.{stand, stand, Goes};
 ghost use Rattle.cidr_filter.specs.Stops.{EndsBy, Stops};
 ghost use Rattle.cidr_filter.specs.Private.Judging.{fault_of};
@@ -75,6 +75,7 @@ pub fn filter_log<R: Read, W: Write>(
     ensures written { OnOk result (output.new.waits ≡ []) }
     ensures handed_on { result ≡ Err LogFault.Read → output.old.waits ≡ [] → output.new.waits ≡ [] }
 {
+    let _ = counted(tally.lines);
     let refuses_long_lines = filter.refuses(&Verdict::TooLong);
     let mut left = filter.most;
     if is_spent(left) {
@@ -152,20 +153,30 @@ fn select_line<W: Write>(
 ) -> Result<(), LogFault>
     ensures ok { OnOk result (Goes
         (stand output.old tally.old) (stand output.new tally.new)
-        (shown_of filter.now verdict.now line.now (whole.now ++ feed_behind end)) 1 0) }
+        (shown_of filter.now (head_of filter.now tally.new.lines) verdict.now line.now (whole.now ++ feed_behind end)) 1 0) }
     ensures err { OnErr result (IsTrue output.new.failed) }
     ensures beginning { OnErr result (AppendsBeginning
         output.old.holds output.new.holds (output.old.waits
-        ++ shown_of filter.now verdict.now line.now (whole.now ++ feed_behind end))) }
+        ++ shown_of filter.now (head_of filter.now tally.new.lines) verdict.now line.now (whole.now ++ feed_behind end))) }
     ensures fault { IsOkUnless result LogFault.Write }
+    ensures lines { tally.new.lines ≡ tally.old.lines }
     ensures addressed { tally.new.is_addressed ≡ tally.old.is_addressed }
     ensures writer_failed { output.new.failed ≡ (output.old.failed || ended_by_write result) }
 {
     tally.selected = tally.selected.saturating_add(1);
-    match print_selected(filter, verdict, line, whole, end, output) {
+    match print_selected(filter, tally.lines, verdict, line, whole, end, output) {
         Ok(()) => Ok(()),
         Err(_) => Err(LogFault::Write),
     }
+}
+
+// A number of lines, which 64 bits count: so that it is known of those before a log.
+#[inline(always)]
+fn counted(lines: u64) -> u64
+    ensures same { result ≡ lines }
+    ensures fits { lines ≤ 2 ^ 64 - 1 }
+{
+    lines
 }
 
 // Why a line of this verdict is refused.

@@ -1,12 +1,13 @@
-//! The name of a log before what is printed of its lines.
-ghost use Rattle.std.specs.Prelude.{◌≡◌, ◌||◌, ◌++◌, ◌∷◌, [], OnOk, OnErr, is_err};
+//! What stands before what is printed of a line: the name of its log, and its number.
+ghost use Rattle.std.specs.Prelude.{◌≡◌, ◌||◌, ◌++◌, ◌∷◌, [], decimal, OnOk, OnErr, is_err};
 ghost use Rattle.lines.specs.Outputs.{Prints, FailsIn};
-ghost use Rattle.cidr_filter.specs.Filters.{head_of};
+ghost use Rattle.cidr_filter.specs.Filters.{head_of, name_head, number_head};
 ghost use Rattle.cidr_filter.specs.Logs.{label_of};
 
 use crate::filter::Filter;
 use lines::fault::RunFault;
 use lines::output::Output;
+use program::messages::number_text;
 use std::io::Write;
 
 /// What the log of this name is called before its lines; nothing, if it is not named there.
@@ -22,20 +23,56 @@ pub(crate) fn label_of(named: bool, name: &str) -> &[u8]
     name.as_bytes()
 }
 
-/// Writes what stands first: what the log is called, and a colon, or nothing if it is not named.
+/// Writes what stands first before a line of this number.
 pub(crate) fn put_head<W: Write>(
     filter: &Filter,
+    number: u64,
     output: &mut Output<'_, W>,
 ) -> Result<(), RunFault>
-    ensures ok { OnOk result (Prints output.old output.new (head_of filter.now.name)) }
+    ensures ok { OnOk result (Prints output.old output.new (head_of filter.now number)) }
     ensures failed { output.new.failed ≡ (output.old.failed || is_err result) }
-    ensures beginning { OnErr result (FailsIn output.old output.new (head_of filter.now.name)) }
+    ensures beginning { OnErr result (FailsIn output.old output.new (head_of filter.now number)) }
+{
+    put_name(filter, output)?;
+    put_number(filter.numbered, number, output)
+}
+
+// Writes what the log is called, and a colon, or nothing if it is not named.
+fn put_name<W: Write>(filter: &Filter, output: &mut Output<'_, W>) -> Result<(), RunFault>
+    ensures ok { OnOk result (Prints output.old output.new (name_head filter.now.name)) }
+    ensures failed { output.new.failed ≡ (output.old.failed || is_err result) }
+    ensures beginning { OnErr result (FailsIn output.old output.new (name_head filter.now.name)) }
 {
     let name = filter.name.bytes();
     if name.is_empty() {
         return Ok(());
     }
     put_label(name, output)
+}
+
+// Writes the number of a line and a colon, if lines are numbered.
+fn put_number<W: Write>(
+    numbered: bool,
+    number: u64,
+    output: &mut Output<'_, W>,
+) -> Result<(), RunFault>
+    ensures ok { OnOk result (Prints output.old output.new (number_head numbered number)) }
+    ensures failed { output.new.failed ≡ (output.old.failed || is_err result) }
+    ensures beginning { OnErr result (FailsIn output.old output.new (number_head numbered number)) }
+{
+    if !numbered {
+        return Ok(());
+    }
+    put_decimal(number, output)
+}
+
+// Writes a number and a colon.
+fn put_decimal<W: Write>(number: u64, output: &mut Output<'_, W>) -> Result<(), RunFault>
+    ensures ok { OnOk result (Prints output.old output.new (decimal number ++ 58 ∷ [])) }
+    ensures failed { output.new.failed ≡ (output.old.failed || is_err result) }
+    ensures beginning { OnErr result (FailsIn output.old output.new (decimal number ++ 58 ∷ [])) }
+{
+    put_label(number_text(number).as_str().as_bytes(), output)
 }
 
 // Writes a text and a colon.

@@ -24,6 +24,8 @@ pub struct Letters {
     pub named: bool,
     /// `h`: it does not, as without an option.
     pub unnamed: bool,
+    /// `n`: the number of a line stands before it.
+    pub numbered: bool,
     /// `l`: the names of FILEs are printed in place of their lines.
     pub names: bool,
     /// `q`: nothing is printed.
@@ -173,6 +175,7 @@ fn letters_in(letters: &[u8]) -> Letters
         only: has(letters, b'o'),
         named: has(letters, b'H'),
         unnamed: has(letters, b'h'),
+        numbered: has(letters, b'n'),
         names: has(letters, b'l'),
         quiet: has(letters, b'q'),
     }
@@ -208,6 +211,7 @@ pub(crate) fn is_letter(letter: u8) -> bool
         || letter == b'o'
         || letter == b'H'
         || letter == b'h'
+        || letter == b'n'
         || letter == b'l'
         || letter == b'q'
 }

@@ -15,9 +15,11 @@ use lines::output::Output;
 use program::log_reader::put_feed;
 use std::io::Write;
 
-/// Writes what is printed of a line of this verdict, which is given without its end too.
+/// Writes what is printed of the line of this number and verdict, which is given without its end
+/// too.
 pub(crate) fn print_selected<W: Write>(
     filter: &Filter,
+    number: u64,
     verdict: &Verdict,
     line: &[u8],
     whole: &[u8],
@@ -27,15 +29,15 @@ pub(crate) fn print_selected<W: Write>(
     ensures ok { OnOk result (Puts
         output.old.holds output.old.waits
         output.new.holds output.new.waits
-        (shown_of filter.now verdict.now line.now (whole.now ++ feed_behind end))) }
+        (shown_of filter.now (head_of filter.now number) verdict.now line.now (whole.now ++ feed_behind end))) }
     ensures failed { output.new.failed ≡ (output.old.failed || is_err result) }
     ensures beginning { OnErr result (AppendsBeginning
         output.old.holds output.new.holds (output.old.waits
-        ++ shown_of filter.now verdict.now line.now (whole.now ++ feed_behind end))) }
+        ++ shown_of filter.now (head_of filter.now number) verdict.now line.now (whole.now ++ feed_behind end))) }
 {
     match filter.shows {
-        Shown::Lines => print_named(filter, verdict, whole, end, output),
-        Shown::Addresses => print_addresses(filter, line, output),
+        Shown::Lines => print_named(filter, number, verdict, whole, end, output),
+        Shown::Addresses => print_addresses(filter, number, line, output),
         Shown::Names => put_text(filter.name.bytes(), output),
         Shown::Count | Shown::Nothing => Ok(()),
     }
@@ -44,6 +46,7 @@ pub(crate) fn print_selected<W: Write>(
 // Writes what stands first, and then a line of this verdict.
 fn print_named<W: Write>(
     filter: &Filter,
+    number: u64,
     verdict: &Verdict,
     whole: &[u8],
     end: LineEnd,
@@ -52,13 +55,13 @@ fn print_named<W: Write>(
     ensures ok { OnOk result (Puts
         output.old.holds output.old.waits
         output.new.holds output.new.waits
-        (head_of filter.now.name ++ (mark_of filter.now.listed verdict.now ++ (whole.now ++ feed_behind end)))) }
+        (head_of filter.now number ++ (mark_of filter.now.listed verdict.now ++ (whole.now ++ feed_behind end)))) }
     ensures failed { output.new.failed ≡ (output.old.failed || is_err result) }
     ensures beginning { OnErr result (AppendsBeginning
         output.old.holds output.new.holds (output.old.waits
-        ++ (head_of filter.now.name ++ (mark_of filter.now.listed verdict.now ++ (whole.now ++ feed_behind end))))) }
+        ++ (head_of filter.now number ++ (mark_of filter.now.listed verdict.now ++ (whole.now ++ feed_behind end))))) }
 {
-    put_head(filter, output)?;
+    put_head(filter, number, output)?;
     print_line(&filter.listed, verdict, whole, end, output)
 }
 

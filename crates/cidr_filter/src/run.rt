@@ -103,6 +103,7 @@ fn filter<L: OpenLists, W: Write, E: Write>(
         most: most_of(request.letters, request.most),
         shows: shows_of(request.letters),
         named: is_named(request.letters),
+        numbered: request.letters.numbered,
         name: no_name(),
     };
     let buffer = buffer.as_mut_slice();

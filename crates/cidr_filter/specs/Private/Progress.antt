@@ -1,8 +1,9 @@
 -- How far a log is filtered.
-use Rattle.std.specs.Prelude.{◌≡◌, ℕ, Bool, true, false, ◌||◌, IsTrue, List, [], ◌++◌, length, Option, if◌then◌else◌}
+use Rattle.std.specs.Prelude.{◌≡◌, ℕ, ◌-◌, ◌^◌, ◌≤◌, Bool, true, false, ◌||◌, IsTrue, List, [], ◌++◌, length, Option, if◌then◌else◌}
 use Rattle.lines.specs.Outputs.{AppendsBeginning}
+use Rattle.program.specs.Counts.{Counts}
 use Rattle.cidr_filter.specs.Addressed.{is_addressed_by, any_addressed}
-use Rattle.cidr_filter.specs.Filters.{IsVerdict, is_refused, is_selected, shown_of, one_if, is_below, Filters}
+use Rattle.cidr_filter.specs.Filters.{IsVerdict, is_refused, is_selected, head_of, shown_of, one_if, is_below, Filters}
 use Rattle.program.specs.LogLines.{LogLine}
 use Rattle.program.specs.LogReaders.{HandsFirst}
 use Rattle.program.specs.declared.log_reader.LogReader.{LogReader}
@@ -14,16 +15,16 @@ use Rattle.cidr_filter.specs.declared.filter.Verdict.TheVariants as verdicts
 use Rattle.program.specs.declared.log_fault.LogFault.{LogFault}
 use Rattle.program.specs.declared.log_fault.LogFault.TheVariants as faults
 
--- what is written for a line of this verdict, given without its end and as it is written
-abbrev pub shown : Filter → Verdict → List ℕ → List ℕ → List ℕ
-shown filter verdict line text =
-    if is_selected filter verdict then shown_of filter verdict line text else []
+-- what is written for the line of this number and verdict, given without its end and as it is written
+abbrev pub shown : Filter → ℕ → Verdict → List ℕ → List ℕ → List ℕ
+shown filter number verdict line text =
+    if is_selected filter verdict then shown_of filter (head_of filter number) verdict line text else []
 
 -- a line, given without its end and as it is written, was filtered, and is selected or not
 abbrev pub FiltersLine : Filter → List ℕ → List ℕ → Bool → Stand → Stand → Type 0
 FiltersLine filter line text selected old new = (verdict : Verdict) × IsVerdict filter line verdict
     × (is_refused filter verdict ≡ false)
-    × Goes old new (shown filter verdict line text) (one_if (is_selected filter verdict)) 1
+    × Goes old new (shown filter new.lines verdict line text) (one_if (is_selected filter verdict)) 1
     × (new.addressed ≡ (old.addressed || is_addressed_by verdict))
     × (selected ≡ is_selected filter verdict)
 
@@ -38,7 +39,8 @@ LineStops filter line text write_failed old new faults.Open = ⊥
 LineStops filter line text write_failed old new faults.Read = ⊥
 LineStops filter line text write_failed old new faults.Write =
     IsTrue write_failed × (verdict : Verdict) × IsVerdict filter line verdict × (is_refused filter verdict ≡ false)
-    × AppendsBeginning old.holds new.holds (old.waits ++ shown filter verdict line text)
+    × AppendsBeginning old.holds new.holds (old.waits ++ shown filter new.lines verdict line text)
+    × Counts old.lines new.lines 1
 LineStops filter line text write_failed old new faults.Address =
     RefusesLine filter line old new verdicts.NoAddress
 LineStops filter line text write_failed old new faults.Length =
@@ -51,7 +53,8 @@ pub record FiltersSoFar (filter : Filter) (reader : LogReader) (remained remains
   pub hands : HandsFirst reader remained remains first
   pub added : List ℕ
   pub count : ℕ
-  pub filters : Filters filter first added count
+  pub fits : old.lines ≤ 2 ^ 64 - 1
+  pub filters : Filters filter old.lines first added count
   pub below : is_below filter.most count ≡ true
   pub goes : Goes old new added count (length first)
   pub addressed : new.addressed ≡ (old.addressed || any_addressed filter first)

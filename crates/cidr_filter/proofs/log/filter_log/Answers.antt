@@ -35,7 +35,7 @@ returns-then-is_spent-clause-handed_on g c = λ is. absurd (no_read c.leave.resu
 
 pub lines-init : goal.lines-init
 lines-init g c = record {
-  sofar = begins_with c.args.filter.now c.args.log.now _ _ (c.requires.unread _) (sym c.is_spent.ensures ∙ c.if-is_spent.false);
+  sofar = begins_with c.args.filter.now c.args.log.now _ (stand c.args.output.now c.args.tally.now) c.counted.ensures.fits (c.requires.unread _) (sym c.is_spent.ensures ∙ c.if-is_spent.false);
   hurries = c.requires.hurries ∙ sym c.refuses-refuses_long_lines.ensures;
   reads = refl;
   writes = refl;

@@ -1,19 +1,26 @@
-use Rattle.std.proofs.Common.{sym, ap, ◌∙◌}
-use Rattle.cidr_filter.specs.Filters.{head_of}
-use Rattle.cidr_filter.proofs.Heads.{no_head, some_head}
-use Rattle.cidr_filter.proofs.Texts.{prints_it, fails_in_it, prints_nothing}
+use Rattle.std.proofs.Common.{◌++◌, List, ℕ, subst, append_assoc}
+use Rattle.lines.specs.Outputs.{AppendsBeginning}
+use Rattle.lines.proofs.Putting.{begins_within}
+use Rattle.cidr_filter.specs.Filters.{name_head, number_head}
+use Rattle.program.proofs.Puts.{put_two_ok, on_err, begins_after_ok}
 use Rattle.cidr_filter.proofs.naming.put_head.Goals as goal
-
-pub returns-then-is_empty-clause-ok : goal.returns-then-is_empty-clause-ok
-returns-then-is_empty-clause-ok g c =
-    prints_nothing c.args.output.now _ (no_head c.bytes-name.result.now (sym c.is_empty.ensures ∙ c.if-is_empty.true) ∙ ap head_of c.bytes-name.ensures)
 
 pub returns-clause-ok : goal.returns-clause-ok
 returns-clause-ok g c =
-    prints_it c.put_label.result c.args.output.now c.put_label.new.output _ _
-    (some_head c.bytes-name.result.now (sym c.is_empty.ensures ∙ c.if-is_empty.false) ∙ ap head_of c.bytes-name.ensures) c.put_label.ensures.ok
+    put_two_ok c.put_number.result c.args.output.now.holds c.put_name.new.output.holds c.put_number.new.output.holds c.args.output.now.waits c.put_name.new.output.waits
+    c.put_number.new.output.waits (name_head c.args.filter.now.name) (number_head c.args.filter.now.numbered c.args.number) c.in_ok-put_name.ensures.ok c.put_number.ensures.ok
+
+pub returns-in_err-put_name-clause-beginning : goal.returns-in_err-put_name-clause-beginning
+returns-in_err-put_name-clause-beginning g c =
+    let held = c.args.output.now.holds in
+    let holds = c.put_name.new.output.holds in
+    let head = name_head c.args.filter.now.name in
+    let text = number_head c.args.filter.now.numbered c.args.number in
+    on_err c.from_residual.result _
+    (subst (λ (t : List ℕ). AppendsBeginning held holds t) (append_assoc c.args.output.now.waits head text)
+    (begins_within held holds (c.args.output.now.waits ++ head) text c.in_err-put_name.ensures.beginning))
 
 pub returns-clause-beginning : goal.returns-clause-beginning
 returns-clause-beginning g c =
-    fails_in_it c.put_label.result c.args.output.now c.put_label.new.output _ _
-    (some_head c.bytes-name.result.now (sym c.is_empty.ensures ∙ c.if-is_empty.false) ∙ ap head_of c.bytes-name.ensures) c.put_label.ensures.beginning
+    begins_after_ok c.put_number.result c.args.output.now.holds c.put_name.new.output.holds c.put_number.new.output.holds c.args.output.now.waits c.put_name.new.output.waits
+    (name_head c.args.filter.now.name) (number_head c.args.filter.now.numbered c.args.number) c.in_ok-put_name.ensures.ok c.put_number.ensures.beginning

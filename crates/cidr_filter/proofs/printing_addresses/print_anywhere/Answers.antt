@@ -3,7 +3,7 @@ use Rattle.std.specs.List.{slice_range}
 use Rattle.lines.proofs.Putting.{puts_nothing, puts_more}
 use Rattle.lines.proofs.Writes.{still_works}
 use Rattle.line_addresses.specs.Addresses.{addresses_of}
-use Rattle.cidr_filter.specs.Filters.{text_of, texts_of}
+use Rattle.cidr_filter.specs.Filters.{head_of, text_of, texts_of}
 use Rattle.program.proofs.Puts.{on_err}
 use Rattle.cidr_filter.proofs.Texts.{next_text, one_more, fails_at, all_put}
 use Rattle.cidr_filter.proofs.printing_addresses.print_anywhere.Goals as goal
@@ -15,15 +15,16 @@ pub addresses-preserved : goal.addresses-preserved
 addresses-preserved g c =
     let filter = c.args.filter.now in
     let line = c.args.line.now in
+    let head = head_of filter c.args.number in
     let found = c.in-Some.found in
     let put = c.addresses.invariant.put in
-    let text = text_of filter found.address (slice_range line found.start found.end) in
+    let text = text_of filter head found.address (slice_range line found.start found.end) in
     record {
       within = c.in-Some.ensures.within;
       put = (
         put.0 ++ text,
         puts_more _ _ _ _ _ _ put.0 text put.1 c.in_ok-print_found.ensures.ok,
-        one_more (texts_of filter (addresses_of line)) put.0 text (texts_of filter (addresses_of (drop found.next line))) _ put.2 (next_text filter line c.addresses.at found c.in-Some.ensures),
+        one_more (texts_of filter head (addresses_of line)) put.0 text (texts_of filter head (addresses_of (drop found.next line))) _ put.2 (next_text filter head line c.addresses.at found c.in-Some.ensures),
       );
       failed = still_works _ _ _ c.in_ok-print_found.ensures.failed c.addresses.invariant.failed;
     }
@@ -32,11 +33,12 @@ pub returns-in_err-print_found-clause-beginning : goal.returns-in_err-print_foun
 returns-in_err-print_found-clause-beginning g c =
     let filter = c.args.filter.now in
     let line = c.args.line.now in
+    let head = head_of filter c.args.number in
     let found = c.in-Some.found in
     let put = c.addresses.invariant.put in
     on_err c.from_residual.result _
-    (fails_at _ _ _ _ _ (texts_of filter (addresses_of line)) put.0 (text_of filter found.address (slice_range line found.start found.end)) (texts_of filter (addresses_of (drop found.next line))) _ put.1 put.2
-    (next_text filter line c.addresses.at found c.in-Some.ensures) c.in_err-print_found.ensures.beginning)
+    (fails_at _ _ _ _ _ (texts_of filter head (addresses_of line)) put.0 (text_of filter head found.address (slice_range line found.start found.end)) (texts_of filter head (addresses_of (drop found.next line))) _ put.1 put.2
+    (next_text filter head line c.addresses.at found c.in-Some.ensures) c.in_err-print_found.ensures.beginning)
 
 pub returns-clause-ok : goal.returns-clause-ok
-returns-clause-ok g c = all_put c.args.filter.now c.args.line.now c.addresses.at _ _ _ _ c.addresses.invariant.put.0 c.addresses.invariant.put.1 c.addresses.invariant.put.2 c.in_default.ensures
+returns-clause-ok g c = all_put c.args.filter.now (head_of c.args.filter.now c.args.number) c.args.line.now c.addresses.at _ _ _ _ c.addresses.invariant.put.0 c.addresses.invariant.put.1 c.addresses.invariant.put.2 c.in_default.ensures
