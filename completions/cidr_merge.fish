@@ -1,6 +1,6 @@
 # Completion of fish for cidr_merge: the operation, its options, and files.
 set -l operations union common minus differ list
-set -l commands $operations split check find
+set -l commands $operations split check overlaps find
 complete -c cidr_merge -n "not __fish_seen_subcommand_from $commands" -f -a "$commands"
 complete -c cidr_merge -n "not __fish_seen_subcommand_from $commands" -l quiet -d "Show no progress on a terminal"
 complete -c cidr_merge -n "not __fish_seen_subcommand_from $commands" -l help -d "Print the help"

@@ -9,12 +9,13 @@ if (( CURRENT == 2 )); then
         'list[each address of any list]' \
         'split[the networks of any list, cut to a length]' \
         'check[the wrong entries of the lists]' \
+        'overlaps[the entries that overlap]' \
         'find[the entries that have an address]' \
         '--quiet[show no progress on a terminal]' '--help[print the help]' '--version[print the version]'
 elif [[ $words[2] == split ]]; then
     _arguments '--prefix[the prefix length]:length:' '*--skip-bad[pass over refused lines]' \
         '--json[read documents of JSON]' '--strict[refuse strings that are no entries]' '*:list:_files'
-elif [[ $words[2] == (check|find) ]]; then
+elif [[ $words[2] == (check|overlaps|find) ]]; then
     _files
 else
     _arguments '*--ranges[print ranges]' '*--count[print how many addresses]' \

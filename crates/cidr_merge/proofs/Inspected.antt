@@ -20,7 +20,6 @@ use Rattle.cidr_merge.specs.Inspections.{inspection_fault}
 use Rattle.cidr_merge.specs.Texts.{AreTexts, TextsStop}
 use Rattle.cidr_merge.specs.Usage.{problem_text}
 use Rattle.cidr_merge.specs.declared.inspections.Inspection.{Inspection}
-use Rattle.cidr_merge.specs.declared.inspections.Inspection.TheVariants.{Check}
 use Rattle.cidr_merge.specs.declared.usage.UsageFault.{UsageFault}
 
 -- ---- what was found is written
@@ -50,10 +49,6 @@ checked names texts end mid (Ok done) found status h s wrote works failed is tol
     let prints = h.2.told (works_before mid.failed end.output_after.failed failed works) in
     inr (h.0, h.1, (written_all end.output.holds mid.holds end.output_after.holds end.output.waits mid.waits (concat h.0) prints wrote, told, is ∙ s ∙ status_is h.0 found h.3))
 checked names texts end mid (Err fault) found status h s wrote works failed is told = inl (fails_now mid.failed end.output_after.failed failed, told, is)
-
--- there is one way to look lists over
-pub looked_over : {Z W E : Type 0} (inspection : Inspection) (names : List (String Z)) (texts : List (List ℕ)) (end : Ending W E) → EndsChecking names texts end → EndsFinding inspection names texts end
-looked_over Check names texts end h = h
 
 -- ---- what the words say
 

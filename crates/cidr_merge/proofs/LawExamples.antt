@@ -5,7 +5,8 @@ use Rattle.std.proofs.lemmas.Bool.{true≢false}
 use Rattle.std.proofs.lemmas.Slice.Eq.{bytes_eq-Decides}
 use Rattle.std.specs.Str.Lines.{lines}
 use Rattle.cidr_merge.specs.CommandLines.{operation_called, form_called, is_option_text}
-use Rattle.cidr_merge.specs.Laws.{NoOtherForm, NoOtherOperation, NoOtherOption}
+use Rattle.cidr_merge.specs.Inspections.{inspection_called}
+use Rattle.cidr_merge.specs.Laws.{NoOtherForm, NoOtherInspection, NoOtherOperation, NoOtherOption}
 use Rattle.cidr_merge.specs.Parts.{UnionPrints, HaveLines, AreShort, UnionsOfPartsPrintTheSame}
 
 -- a list may be cut into two parts, and into three
@@ -53,3 +54,9 @@ counts_is_no_option law = law (codes "--counts") (other _ _ refl) (other _ _ ref
 pub ranges_are_no_form : NoOtherForm → form_called (codes "ranges") ≡ None
 ranges_are_no_form law =
     law (codes "ranges") (other _ _ refl) (other _ _ refl) (other _ _ refl) (other _ _ refl) (other _ _ refl) (other _ _ refl) (other _ _ refl) (other _ _ refl) (other _ _ refl)
+
+pub overlap_is_no_inspection : NoOtherInspection → inspection_called (codes "overlap") ≡ None
+overlap_is_no_inspection law = law (codes "overlap") (other _ _ refl) (other _ _ refl)
+
+pub union_is_no_inspection : NoOtherInspection → inspection_called (codes "union") ≡ None
+union_is_no_inspection law = law (codes "union") (other _ _ refl) (other _ _ refl)

@@ -1,5 +1,5 @@
 -- What no other text is.
-use Rattle.std.proofs.Common.{◌≡◌, ◌≢◌, ℕ, List, false, codes, refl}
+use Rattle.std.proofs.Common.{◌≡◌, ◌≢◌, ℕ, List, false, codes}
 use Rattle.std.specs.Prelude.{bytes_eq}
 use Rattle.std.proofs.lemmas.Bool.{false_from_ne_true}
 use Rattle.std.proofs.lemmas.Slice.Eq.{bytes_eq-Decides}
@@ -38,4 +38,4 @@ no_other_form text plain range netmask wildcard csv nft ipset json addresses =
     )
 
 pub no_other_inspection : NoOtherInspection
-no_other_inspection text check = rw (apart text (codes "check") check) refl
+no_other_inspection text check overlaps = rw (apart text (codes "check") check, apart text (codes "overlaps") overlaps)

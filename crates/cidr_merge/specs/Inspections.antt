@@ -3,12 +3,12 @@ use Rattle.std.specs.Prelude.{ℕ, ◌+◌, List, [], ◌∷◌, Option, None, S
 use Rattle.std.specs.String.{string_bytes}
 use Rattle.cidr_merge.specs.Usage.{at_word, first_of, option_problem, lists_fault, union_fault}
 use Rattle.cidr_merge.specs.declared.inspections.Inspection.{Inspection}
-use Rattle.cidr_merge.specs.declared.inspections.Inspection.TheVariants.{Check}
+use Rattle.cidr_merge.specs.declared.inspections.Inspection.TheVariants.{Check, Overlaps}
 use Rattle.cidr_merge.specs.declared.usage.UsageFault.{UsageFault}
 
 -- how lists are looked over by the command of this name
 abbrev pub inspection_called : List ℕ → Option Inspection
-inspection_called text = if bytes_eq text (codes "check") then Some Check else None
+inspection_called text = if bytes_eq text (codes "check") then Some Check else if bytes_eq text (codes "overlaps") then Some Overlaps else None
 
 -- the first word names the command
 abbrev pub inspection_of : {Z : Type 0} → List (String Z) → Option Inspection

@@ -17,6 +17,6 @@ abbrev pub NoOtherForm : Type 0
 NoOtherForm = (text : List ℕ) → text ≢ codes "plain" → text ≢ codes "range" → text ≢ codes "netmask" → text ≢ codes "wildcard"
     → text ≢ codes "csv" → text ≢ codes "nft" → text ≢ codes "ipset" → text ≢ codes "json" → text ≢ codes "addresses" → form_called text ≡ None
 
--- no text but this one says to look lists over
+-- no text but these two says to look lists over
 abbrev pub NoOtherInspection : Type 0
-NoOtherInspection = (text : List ℕ) → text ≢ codes "check" → inspection_called text ≡ None
+NoOtherInspection = (text : List ℕ) → text ≢ codes "check" → text ≢ codes "overlaps" → inspection_called text ≡ None

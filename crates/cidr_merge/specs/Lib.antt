@@ -10,6 +10,7 @@ pub mod Finds
 pub mod InspectionRuns
 pub mod Inspections
 pub mod Laws
+pub mod Overlaps
 pub mod Parts
 pub mod Pieces
 pub mod Private

@@ -3,7 +3,8 @@ ghost use Rattle.std.specs.Prelude.{◌≡◌, ◌<◌, None, drop, length, map,
 ghost use Rattle.program.specs.Endings.{ending};
 ghost use Rattle.program.specs.Messages.{Tells};
 ghost use Rattle.cidr_merge.specs.CommandLines.{before_dashes};
-ghost use Rattle.cidr_merge.specs.FindRuns.{sought_fault_text, EndsFind, EndsReadingAll, EndsSearching};
+ghost use Rattle.cidr_merge.specs.FindRuns.{EndsFind, EndsReadingAll, EndsSearching};
+ghost use Rattle.cidr_merge.specs.FindRuns.{sought_fault_text};
 ghost use Rattle.cidr_merge.specs.FindWords.{find_fault, AreAddresses};
 
 use crate::find_words::{before_dashes, behind_dashes, find_fault};
@@ -27,7 +28,8 @@ const FOUND: u8 = 0;
 /// The exit status if no entry has an address that is sought.
 const NOTHING_FOUND: u8 = 1;
 
-/// Does what the words after the program's name ask for, of which the first is `find`, and returns the exit status.
+/// Does what the words after the program's name ask for, of which the first is `find`, and returns
+/// the exit status.
 pub(crate) fn find<L: OpenLists, W: Write, E: Write>(
     alloc: Global,
     words: &[String],

@@ -6,7 +6,8 @@ ghost use Rattle.cidr_merge.specs.FindWords.{find_fault};
 use crate::usage::{Problem, UsageFault, fault_of_word, lists_fault, sides_fault};
 use crate::words::{place_of, stands};
 
-/// What is wrong with the words after `find`: those before the first `--` are addresses, and those after it lists.
+/// What is wrong with the words after `find`: those before the first `--` are addresses, and those
+/// after it lists.
 pub(crate) fn find_fault(others: &[String]) -> Option<UsageFault>
     requires { 2 + length others.now < 2 ^ 64 }
     ensures { result ≡ find_fault others.now }

@@ -11,6 +11,7 @@ Merges lists of IP networks, and prints the shortest list with exactly the addre
     cidr_merge list   [OPTION..] FILE..             each address of any of the files
     cidr_merge split --prefix N [OPTION..] FILE..   the networks of union, cut into those of length N
     cidr_merge check  FILE..                        the wrong entries, each with its file and line
+    cidr_merge overlaps FILE..                      those, and each pair of entries that overlap
     cidr_merge find   ADDRESS.. -- FILE..           the entries that have one of the addresses
 
     --ranges       print FIRST - LAST for each run of addresses
@@ -28,11 +29,10 @@ the second has. A refused line is reported as FILE:LINE: refused format, address
 that for each, and the line; find FILE:LINE: has ADDRESS, and the line. split leaves longer networks whole, and those
 of IPv4 if N is above 32, and prints a million at most. Its options are --skip-bad, --json and --strict, in this order.
 
-Status: 0; 1 if the sides of differ are not equal, check found something or find nothing; 2 on wrong usage, a refused
-line, a file that cannot be read, too many networks of split, a failed write or out of memory; 3 if lines were skipped.
+Status: 0; 1 if the sides of differ are not equal, check or overlaps found something or find nothing; 2 on wrong usage,
+a refused line, a file not read, too many networks of split, a failed write or no memory; 3 if lines were skipped.
 
 Examples:
-    cidr_merge union office.txt vpn.txt
     sort -u today.txt | cidr_merge differ --count yesterday.txt -- -
 ";
 
@@ -44,4 +44,4 @@ pub(crate) const PROGRAM: &str = "cidr_merge";
 
 /// What is reported for arguments that are not a command, after what is wrong with them.
 pub(crate) const USAGE: &str =
-    "usage: cidr_merge union|common|minus|differ|list|split|check [OPTION..] FILE.. [-- FILE..], or find ADDRESS.. -- FILE..; try --help\n";
+    "usage: cidr_merge union|common|minus|differ|list|split|check|overlaps [OPTION..] FILE.. [-- FILE..], or find ADDRESS.. -- FILE..; try --help\n";

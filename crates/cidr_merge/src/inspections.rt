@@ -9,6 +9,8 @@ use crate::usage::{UsageFault, fault_of_word, lists_fault, option_problem, union
 pub enum Inspection {
     /// Their wrong entries are printed.
     Check,
+    /// Those are, and then the entries that overlap.
+    Overlaps,
 }
 
 /// How the first word says to look lists over, if it does.
@@ -28,6 +30,8 @@ fn inspection_called(text: &str) -> Option<Inspection>
 {
     if text == "check" {
         Some(Inspection::Check)
+    } else if text == "overlaps" {
+        Some(Inspection::Overlaps)
     } else {
         None
     }

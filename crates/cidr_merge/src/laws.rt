@@ -31,7 +31,7 @@ pub fn no_other_forms()
     ensures { NoOtherForm }
 {}
 
-/// No word but `check` says to look lists over.
+/// No word but `check` and `overlaps` says to look lists over.
 pub fn no_other_inspections()
     ensures { NoOtherInspection }
 {}

@@ -17,6 +17,8 @@ mod inspecting;
 mod inspections;
 mod laws;
 mod named;
+mod overlapping;
+mod placed;
 mod printing;
 mod reading;
 mod run;

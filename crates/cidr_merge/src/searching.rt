@@ -5,7 +5,8 @@ ghost use Rattle.std.specs.Str.Lines.{lines};
 ghost use Rattle.program.specs.Messages.{Tells};
 ghost use Rattle.cidr_merge.specs.FindWords.{AreAddresses};
 ghost use Rattle.cidr_merge.specs.Findings.{IsFound};
-ghost use Rattle.cidr_merge.specs.Finds.{has_text, AddressReport, AddressesReport, LineReport, LinesReport, ListsReport};
+ghost use Rattle.cidr_merge.specs.Finds.{has_text, AddressReport, AddressesReport};
+ghost use Rattle.cidr_merge.specs.Finds.{LineReport, LinesReport, ListsReport};
 ghost use Rattle.cidr_merge.specs.Private.Reported.{Reports};
 
 use crate::findings::{tell_bytes, tell_place, tell_wrong};
@@ -38,7 +39,8 @@ pub(crate) struct Reported {
     pub told: bool,
 }
 
-/// Prints the entries with the addresses sought of lists with these names and bytes, and tells the refused lines.
+/// Prints the entries with the addresses sought of lists with these names and bytes, and tells the
+/// refused lines.
 pub(crate) fn search_lists<W: Write, E: Write>(
     sought: &Sought<'_>,
     names: &[String],

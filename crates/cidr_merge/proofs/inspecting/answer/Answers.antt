@@ -1,9 +1,14 @@
-use Rattle.std.proofs.Common.{map}
+use Rattle.std.proofs.Common.{map, sym, subst}
 use Rattle.program.specs.Endings.{ending}
-use Rattle.cidr_merge.proofs.Inspected.{looked_over}
+use Rattle.cidr_merge.specs.InspectionRuns.{EndsFinding}
 use Rattle.cidr_merge.proofs.inspecting.answer.Goals as goal
 
-pub returns : goal.returns
-returns g c =
-    looked_over c.args.inspection c.args.names.now (map (λ text. text.items) c.args.texts.now)
-    (ending c.args.output.now c.check.new.output c.args.errors.now c.check.new.errors c.check.result) c.check.ensures
+pub returns-in-Check : goal.returns-in-Check
+returns-in-Check g c =
+    subst (λ i. EndsFinding i c.args.names.now (map (λ text. text.items) c.args.texts.now)
+    (ending c.args.output.now c.check.new.output c.args.errors.now c.check.new.errors c.check.result)) (sym c.in-Check.is) c.check.ensures
+
+pub returns-in-Overlaps : goal.returns-in-Overlaps
+returns-in-Overlaps g c =
+    subst (λ i. EndsFinding i c.args.names.now (map (λ text. text.items) c.args.texts.now)
+    (ending c.args.output.now c.overlaps.new.output c.args.errors.now c.overlaps.new.errors c.overlaps.result)) (sym c.in-Overlaps.is) c.overlaps.ensures

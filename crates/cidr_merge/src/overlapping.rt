@@ -1,0 +1,135 @@
+//! Tells which entries of lists overlap.
+ghost use Rattle.std.specs.Prelude.{◌≡◌, ◌≤◌, ◌<◌, ◌==◌, ◌||◌, ℕ, List as Texts, []};
+ghost use Rattle.std.specs.Prelude.{not, length, map};
+ghost use Rattle.std.specs.List.{concat};
+ghost use Rattle.std.specs.List.Sorted.{IsSorted};
+ghost use Rattle.program.specs.Messages.{Tells};
+ghost use Rattle.cidr_merge.specs.Findings.{IsFound};
+ghost use Rattle.cidr_merge.specs.Overlaps.{is_up_to, relation, pair_text, pairs_after, listed_cmp};
+ghost use Rattle.cidr_merge.specs.Private.Entries.{address_of, listed_as, KeepsReaching, Overlaps};
+
+use crate::findings::tell_place;
+use crate::placed::{Key, Placed};
+use lines::output::Output;
+use program::messages::tell;
+use program::words::text_at;
+use std::io::Write;
+
+/// Tells each pair of entries that overlap, of entries in order, and returns whether there is one.
+/// Leaves the entries in another order.
+pub(crate) fn tell_pairs<W: Write>(
+    names: &[String],
+    entries: &mut [Placed],
+    output: &mut Output<'_, W>,
+) -> bool
+    requires { IsSorted listed_cmp (map listed_as entries.old) }
+    ensures { (findings : Texts (Texts ℕ))
+        × (findings ≡ pairs_after names.now [] (map listed_as entries.old))
+        × Tells output.old output.new (concat findings) × IsFound findings result }
+{
+    let mut found = false;
+    // Those of the earlier entries that may overlap one to come stand first.
+    let mut kept = 0;
+    for place in 0..entries.len() {
+        let count = keep_reaching(entries, kept, place);
+        let all = &entries[..];
+        let more = tell_with(names, &all[..count], &all[place], output);
+        found = either(found, more);
+        entries.swap(count, place);
+        kept = count + 1;
+    }
+    found
+}
+
+// Puts those of the first entries that overlap the one at a place first, in their order, and
+// returns how many they are.
+fn keep_reaching(entries: &mut [Placed], kept: usize, place: usize) -> usize
+    requires within { kept ≤ place }
+    requires place { place < length entries.old }
+    ensures { KeepsReaching entries.old entries.new kept place result }
+{
+    let mut count = 0;
+    for index in 0..kept {
+        if overlaps(entries, place, index) {
+            entries.swap(count, index);
+            count += 1;
+        }
+    }
+    count
+}
+
+// Whether the entry at a place overlaps an earlier one.
+fn overlaps(entries: &[Placed], place: usize, earlier: usize) -> bool
+    requires place { place < length entries.now }
+    requires earlier { earlier < length entries.now }
+    ensures { Overlaps entries.now place earlier result }
+{
+    is_up_to(&entries[place].first, &entries[earlier].last.0)
+}
+
+// Tells an entry with each of these earlier ones, and returns whether there is one.
+fn tell_with<W: Write>(
+    names: &[String],
+    before: &[Placed],
+    later: &Placed,
+    output: &mut Output<'_, W>,
+) -> bool
+    ensures told { Tells output.old output.new
+        (concat (map (pair_text names.now (listed_as later.now)) (map listed_as before.now))) }
+    ensures found { result ≡ not (length before.now == 0) }
+{
+    for index in 0..before.len() {
+        tell_pair(names, later, &before[index], output);
+    }
+    !before.is_empty()
+}
+
+// Tells an entry with an earlier one.
+fn tell_pair<W: Write>(
+    names: &[String],
+    later: &Placed,
+    earlier: &Placed,
+    output: &mut Output<'_, W>,
+)
+    ensures { Tells output.old output.new
+        (pair_text names.now (listed_as later.now) (listed_as earlier.now)) }
+{
+    tell_place(text_at(names, later.list), later.number, output);
+    tell(": ", output);
+    tell(relation(later, earlier), output);
+    tell(" ", output);
+    tell_place(text_at(names, earlier.list), earlier.number, output);
+    tell("\n", output);
+}
+
+// What an entry is to an earlier one that it overlaps.
+fn relation(later: &Placed, earlier: &Placed) -> &'static str
+    ensures { result.now ≡ relation (listed_as later.now) (listed_as earlier.now) }
+{
+    if !is_up_to(&later.last.0, &earlier.last.0) {
+        return "overlaps";
+    }
+    if is_up_to(&later.first, &earlier.first) && is_up_to(&earlier.last.0, &later.last.0) {
+        "same as"
+    } else {
+        "in"
+    }
+}
+
+// Whether the first address is not after the last.
+fn is_up_to(first: &Key, last: &Key) -> bool
+    ensures { result ≡ is_up_to (address_of first.now) (address_of last.now) }
+{
+    if first.0 == last.0 {
+        first.1 <= last.1
+    } else {
+        last.0
+    }
+}
+
+// Whether one of two is so.
+fn either(first: bool, second: bool) -> bool
+    ensures { result ≡ (first || second) }
+{
+    first || second
+}

@@ -1,0 +1,104 @@
+//! The entries of lists, in order.
+ghost use Rattle.std.specs.Prelude.{◌≡◌, List as Entries, map, IfOk, OnOk};
+ghost use Rattle.std.specs.Str.Lines.{lines};
+ghost use Rattle.cidr_merge.specs.Overlaps.{ends_of, Listed, IsInOrder};
+ghost use Rattle.cidr_merge.specs.Overlaps.{LineEntries, LinesEntries, ListsEntries};
+ghost use Rattle.cidr_merge.specs.Private.Entries.{address_of, listed_as, Adds};
+
+use crate::named::entry_of;
+use crate::text_lines::TextLines;
+use ipnetwork::IpAddr;
+use lists::Entry;
+use std::alloc::{AllocError, Global};
+use std::cmp::Reverse;
+
+/// An address: whether it is an IPv6 address, and its number. The order is that of addresses.
+pub(crate) type Key = (bool, u128);
+
+/// An entry. The derived order is by the first address, the last address from the greatest on, the
+/// list, the line.
+#[derive(Clone, Copy, Debug, PartialEq, Eq, PartialOrd, Ord)]
+pub(crate) struct Placed {
+    /// The first address.
+    pub first: Key,
+    /// The last address.
+    pub last: Reverse<Key>,
+    /// The index of the list among the lists.
+    pub list: usize,
+    /// The number of the line, from 1 on.
+    pub number: usize,
+}
+
+/// The entries of lists with these bytes, in order.
+pub(crate) fn entries_of(alloc: Global, texts: &[Vec<u8>]) -> Result<Vec<Placed>, AllocError>
+    ensures { IfOk result (λ entries. (found : Entries Listed)
+        × ListsEntries 0 (map (λ text. text.items) texts.now) found
+        × IsInOrder found (map listed_as entries.items)) }
+{
+    let mut entries = Vec::new(alloc);
+    for list in 0..texts.len() {
+        add_list(list, texts[list].as_slice(), &mut entries)?;
+    }
+    entries.sort_unstable();
+    Ok(entries)
+}
+
+// Adds the entries of a list.
+fn add_list(list: usize, text: &[u8], entries: &mut Vec<Placed>) -> Result<(), AllocError>
+    ensures { OnOk result
+        (Adds (LinesEntries list 1 (lines text.now)) entries.old.items entries.new.items) }
+{
+    let mut number = 0;
+    let mut lines = TextLines::of(text);
+    // A text has at most as many lines as bytes.
+    'lines: while number < text.len() {
+        let Some(line) = lines.next() else {
+            return Ok(());
+        };
+        number += 1;
+        add_line(list, number, line, entries)?;
+    }
+    Ok(())
+}
+
+// Adds the entry of a line, if it has one.
+fn add_line(
+    list: usize,
+    number: usize,
+    line: &[u8],
+    entries: &mut Vec<Placed>,
+) -> Result<(), AllocError>
+    ensures { OnOk result
+        (Adds (LineEntries list number line.now) entries.old.items entries.new.items) }
+{
+    if let Ok(Some(entry)) = entry_of(line) {
+        let (first, last) = ends_of(&entry);
+        entries.push(Placed {
+            first: key_of(&first),
+            last: Reverse(key_of(&last)),
+            list,
+            number,
+        })?;
+    }
+    Ok(())
+}
+
+// The first and the last address of an entry.
+fn ends_of(entry: &Entry) -> (IpAddr, IpAddr)
+    ensures { result ≡ ends_of entry.now }
+{
+    match entry {
+        Entry::Network(network) => (network.network(), network.broadcast()),
+        Entry::Range { first, last } => (*first, *last),
+    }
+}
+
+// An address as a key.
+fn key_of(address: &IpAddr) -> Key
+    ensures { address_of result ≡ address.now }
+{
+    match address {
+        IpAddr::V4(address) => (false, u128::from(u32::from(*address))),
+        IpAddr::V6(address) => (true, u128::from(*address)),
+    }
+}

@@ -1,0 +1,48 @@
+"""Rows of `tests/cidr_merge` for `overlaps`, beside Python's `ipaddress`: a name, what a run gave and what is wanted, which is
+the status, standard output and standard error."""
+
+import os
+import random
+
+from cidr_merge_finds import cause, run, some_line
+
+
+def relation(later, earlier):
+    """What the later of two entries that overlap is to the earlier."""
+    if later == earlier:
+        return "same as"
+    return "in" if later[1] <= earlier[1] else "overlaps"
+
+
+def pairs(entries):
+    """The lines of all pairs of these entries that overlap, found by comparing each with each."""
+    order = sorted(entries, key=lambda it: (it[1][0].version, it[1][0], -int(it[1][1]), it[2]))
+    for at, (place, ends, _) in enumerate(order):
+        for other, wider, _ in order[:at]:
+            if wider[0].version == ends[0].version and ends[0] <= wider[1]:
+                yield f"{place}: {relation(ends, wider)} {other}\n"
+
+
+def overlaps(program, folder):
+    """Made-up lists, with many entries that overlap and with few."""
+    for seed in range(200):
+        dice = random.Random(seed)
+        wanted = ""
+        entries = []
+        names = ["one", "two", "three"][: dice.randrange(1, 4)]
+        for name in names:
+            lines = [some_line(dice) for _ in range(dice.choice((0, 3, 30)))]
+            with open(os.path.join(folder, name), "w", newline="") as file:
+                file.write("".join(line + dice.choice(("\n", "\r\n")) for line, _ in lines))
+            for number, (line, ends) in enumerate(lines, 1):
+                if ends is False:
+                    wanted += f"{name}:{number}: refused {cause(line)}: {line}\n"
+                elif ends:
+                    entries.append((f"{name}:{number}", ends, len(entries)))
+        wanted += "".join(pairs(entries))
+        yield f"overlaps, seed {seed}", run(program, ["overlaps", *names], folder), (1 if wanted else 0, wanted.encode(), b"")
+    lines = "".join(f"10.{n >> 16}.{n >> 8 & 255}.{n & 255}\n" for n in range(300000))
+    with open(os.path.join(folder, "one"), "w") as file:
+        file.write(lines + "10.0.0.0/32\n")
+    wanted = (1, b"one:300001: same as one:1\n", b"")
+    yield "overlaps of 300,000 addresses", run(program, ["overlaps", "one"], folder), wanted
