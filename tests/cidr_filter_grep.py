@@ -12,7 +12,8 @@ SECONDS = 60
 PIPES = {"stdout": subprocess.PIPE, "stderr": subprocess.PIPE}
 LOGS = ("one", "two", "none_of_ten", "three", "nothing")
 # The options of a run, of each kind one or none.
-KINDS = (("", "-v"), ("", "-m 1", "-m 2", "-m 7", "-m 0", "-m 1000"), ("", "-H", "-c"), ("", "-l", "-q", "-l -q"), ("", "-n"))
+KINDS = (("", "-v"), ("", "-m 1", "-m 2", "-m 7", "-m 0", "-m 1000"), ("", "-H", "-c"))
+KINDS += (("", "-l", "-q", "-l -q"), ("", "-n"))
 
 
 def run(words, folder, given=b""):

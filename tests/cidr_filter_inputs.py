@@ -202,7 +202,8 @@ WHOLE = (
     "-hc -fmade",
     "-Hfmade",
 )
-REFUSED = ("--bad stop -f made", "--bad=keep -f made", "-f -", "-f-", "-vf -", "-f made made_log", "-f made -", "-m1 -f made", "-l -f made", "-vqf made", "-nf made")
+REFUSED = ("--bad stop -f made", "--bad=keep -f made", "-f -", "-f-", "-vf -", "-f made made_log", "-f made -")
+REFUSED += ("-m1 -f made", "-l -f made", "-vqf made", "-nf made")
 
 
 def of_made_log(words, folder, **others):

@@ -6,8 +6,8 @@
 # usage: examples/cidr_filter/in_parts.sh OPTION .. < LOG > SELECTED
 #
 # The options are those of cidr_filter, also joined in one word. With `-c` the numbers of the parts
-# are added up. `--bad keep` and `--bad stop` are refused: a line would end its part only; and so are
-# `-m`, `-l`, `-q` and `-n`. Without GNU parallel, the parts are filtered one after the other.
+# are added up. `--bad keep` and `--bad stop` are refused: a line would end its part only; and so
+# are `-m`, `-l`, `-q` and `-n`. Without GNU parallel, the parts are filtered one after the other.
 set -eu -o pipefail
 program=$(cd "$(dirname "$0")/../.." && pwd)/crates/cidr_filter/out/cidr_filter
 

@@ -141,8 +141,8 @@ abbrev pub is_listed : Listed → IpAddr → Bool
 is_listed (Addresses sets) address = has_address sets address
 is_listed (Blocks tables) address = false
 
--- what stands first: the name of the log and a colon, with `-H`; and the number of the line and a colon, with `-n`, up to
--- the greatest number of 64 bits
+-- what stands first: the name of the log and a colon, with `-H`; and the number of the line and a
+-- colon, with `-n`, up to the greatest number of 64 bits
 abbrev pub name_head : List ℕ → List ℕ
 name_head [] = []
 name_head (byte ∷ name) = byte ∷ name ++ 58 ∷ []
@@ -176,9 +176,9 @@ is_silent shows.Count = false
 is_silent shows.Names = false
 is_silent shows.Nothing = true
 
--- what is printed of a selected line, which is given without its end, and as it is written: its mark and the line, or
--- with `-o` those of its addresses that are in the lists, what stands first before each; or with `-l` the name of its
--- log; or nothing, with `-c` and with `-q`
+-- what is printed of a selected line, which is given without its end, and as it is written: its
+-- mark and the line, or with `-o` those of its addresses that are in the lists, what stands first
+-- before each; or with `-l` the name of its log; or nothing, with `-c` and with `-q`
 abbrev pub shown_by : Shown → Filter → List ℕ → Verdict → List ℕ → List ℕ → List ℕ
 shown_by shows.Lines filter head verdict line text = head ++ (mark_of filter.listed verdict ++ text)
 shown_by shows.Addresses filter head verdict line text = texts_of filter head (spelled_at filter.place line)
@@ -206,8 +206,8 @@ is_within (Some most) count = nat_le count most
 abbrev pub one_if : Bool → ℕ
 one_if selected = if selected then 1 else 0
 
--- for these lines in turn, which come behind so many others of their log, this is written, this many are selected, and
--- none ends the run
+-- for these lines in turn, which come behind so many others of their log, this is written, this
+-- many are selected, and none ends the run
 abbrev pub Filters : Filter → ℕ → List LogLine → List ℕ → ℕ → Type 0
 Filters filter before [] output count = (output ≡ []) × (count ≡ 0)
 Filters filter before (line ∷ lines) output count = (verdict : Verdict) × (others : List ℕ) × (more : ℕ) × IsVerdict filter (content line) verdict

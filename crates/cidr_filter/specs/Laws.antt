@@ -16,13 +16,14 @@ use Rattle.cidr_filter.specs.declared.usage.UsageFault.{UsageFault}
 abbrev pub LinesHaveOneVerdict : Type 0
 LinesHaveOneVerdict = (filter : Filter) (line : List ℕ) (a b : Verdict) → IsVerdict filter line a → IsVerdict filter line b → a ≡ b
 
--- for the lines of a log, or of a part of it behind so many lines, at most one output is written, and as many are selected
+-- for the lines of a log, or of a part of it behind so many lines, at most one output is written,
+-- and as many are selected
 abbrev pub LogsHaveOneOutput : Type 0
 LogsHaveOneOutput = (filter : Filter) (before : ℕ) (log : List ℕ) (a b : List ℕ) (m n : ℕ) → Filters filter before (log_lines log) a m
     → Filters filter before (log_lines log) b n → (a ≡ b) × (m ≡ n)
 
--- a log that is cut after a line feed gives what its two parts give, one after the other, if the numbers of the second go
--- on from those of the first
+-- a log that is cut after a line feed gives what its two parts give, one after the other, if the
+-- numbers of the second go on from those of the first
 abbrev pub OutputsOfPartsFollow : Type 0
 OutputsOfPartsFollow = (filter : Filter) (before : ℕ) (first second a b : List ℕ) (m n : ℕ) → Filters filter before (log_lines (first ++ 10 ∷ [])) a m
     → Filters filter (before + length (log_lines (first ++ 10 ∷ []))) (log_lines second) b n
@@ -51,8 +52,8 @@ is_one_of texts word = list_any (bytes_eq word) texts
 abbrev pub begins_with_one_of : List (List ℕ) → List ℕ → Bool
 begins_with_one_of texts word = list_any (λ text. begins_with text word) texts
 
--- the word is a `-` and letters `v` (byte 118), `c` (99), `a` (97), `w` (119), `o` (111), `H` (72), `h` (104), `n` (110),
--- `l` (108) and `q` (113), one or more
+-- the word is a `-` and letters `v` (byte 118), `c` (99), `a` (97), `w` (119), `o` (111), `H` (72),
+-- `h` (104), `n` (110), `l` (108) and `q` (113), one or more
 abbrev pub are_flags : List ℕ → Bool
 are_flags word = begins_with (codes "-") word && (nat_lt 0 (length (drop 1 word)) && list_all (λ letter. letter == 118 || letter == 99 || letter == 97 || letter == 119 || letter == 111 || letter == 72 || letter == 104 || letter == 110 || letter == 108 || letter == 113) (drop 1 word))
 

@@ -49,9 +49,9 @@ abbrev pub GoesOn : Bool → Type 0 → List ℕ → ℕ → List ℕ → Bool �
 GoesOn true goes output selected told missed = NoLogs output selected told missed
 GoesOn false goes output selected told missed = goes
 
--- the logs of these names were read to their ends, or left, or could not be opened, one after the other, up to the first
--- that is enough: this is the output of their lines, this many of them were selected, this is reported, and whether one
--- could not be opened
+-- the logs of these names were read to their ends, or left, or could not be opened, one after the
+-- other, up to the first that is enough: this is the output of their lines, this many of them were
+-- selected, this is reported, and whether one could not be opened
 abbrev pub FiltersLogs : Filter → KnownLists → List (List ℕ) → List ℕ → ℕ → List ℕ → Bool → Type 0
 FiltersLogs filter known [] output selected told missed = NoLogs output selected told missed
 FiltersLogs filter known (name ∷ names) output selected told missed = (added : List ℕ) × (others : List ℕ) × (one : ℕ) × (more : ℕ) × (text : List ℕ) × (texts : List ℕ)

@@ -62,8 +62,8 @@ pub record StopsAtLog {W E : Type 0} (filter : Filter) (known : KnownLists) (nam
 abbrev pub total_text : Bool → ℕ → List ℕ
 total_text counts selected = if counts then decimal (min selected (2 ^ 64 - 1)) ++ codes "\n" else []
 
--- the status is 0 if a line was selected with `-q`. Else it is 2 if a log could not be opened, and else 0 if a line was
--- selected, and 1 if none was
+-- the status is 0 if a line was selected with `-q`. Else it is 2 if a log could not be opened, and
+-- else 0 if a line was selected, and 1 if none was
 abbrev pub status_by : Bool → Bool → ℕ → ℕ
 status_by enough missed selected = if enough then 0 else if missed then 2 else if nat_lt 0 selected then 0 else 1
 

@@ -153,11 +153,13 @@ fn select_line<W: Write>(
 ) -> Result<(), LogFault>
     ensures ok { OnOk result (Goes
         (stand output.old tally.old) (stand output.new tally.new)
-        (shown_of filter.now (head_of filter.now tally.new.lines) verdict.now line.now (whole.now ++ feed_behind end)) 1 0) }
+        (shown_of filter.now (head_of filter.now tally.new.lines) verdict.now line.now
+        (whole.now ++ feed_behind end)) 1 0) }
     ensures err { OnErr result (IsTrue output.new.failed) }
     ensures beginning { OnErr result (AppendsBeginning
         output.old.holds output.new.holds (output.old.waits
-        ++ shown_of filter.now (head_of filter.now tally.new.lines) verdict.now line.now (whole.now ++ feed_behind end))) }
+        ++ shown_of filter.now (head_of filter.now tally.new.lines) verdict.now line.now
+        (whole.now ++ feed_behind end))) }
     ensures fault { IsOkUnless result LogFault.Write }
     ensures lines { tally.new.lines ≡ tally.old.lines }
     ensures addressed { tally.new.is_addressed ≡ tally.old.is_addressed }

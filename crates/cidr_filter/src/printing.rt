@@ -29,11 +29,13 @@ pub(crate) fn print_selected<W: Write>(
     ensures ok { OnOk result (Puts
         output.old.holds output.old.waits
         output.new.holds output.new.waits
-        (shown_of filter.now (head_of filter.now number) verdict.now line.now (whole.now ++ feed_behind end))) }
+        (shown_of filter.now (head_of filter.now number) verdict.now line.now
+        (whole.now ++ feed_behind end))) }
     ensures failed { output.new.failed ≡ (output.old.failed || is_err result) }
     ensures beginning { OnErr result (AppendsBeginning
         output.old.holds output.new.holds (output.old.waits
-        ++ shown_of filter.now (head_of filter.now number) verdict.now line.now (whole.now ++ feed_behind end))) }
+        ++ shown_of filter.now (head_of filter.now number) verdict.now line.now
+        (whole.now ++ feed_behind end))) }
 {
     match filter.shows {
         Shown::Lines => print_named(filter, number, verdict, whole, end, output),
@@ -55,11 +57,13 @@ fn print_named<W: Write>(
     ensures ok { OnOk result (Puts
         output.old.holds output.old.waits
         output.new.holds output.new.waits
-        (head_of filter.now number ++ (mark_of filter.now.listed verdict.now ++ (whole.now ++ feed_behind end)))) }
+        (head_of filter.now number
+        ++ (mark_of filter.now.listed verdict.now ++ (whole.now ++ feed_behind end)))) }
     ensures failed { output.new.failed ≡ (output.old.failed || is_err result) }
     ensures beginning { OnErr result (AppendsBeginning
         output.old.holds output.new.holds (output.old.waits
-        ++ (head_of filter.now number ++ (mark_of filter.now.listed verdict.now ++ (whole.now ++ feed_behind end))))) }
+        ++ (head_of filter.now number
+        ++ (mark_of filter.now.listed verdict.now ++ (whole.now ++ feed_behind end))))) }
 {
     put_head(filter, number, output)?;
     print_line(&filter.listed, verdict, whole, end, output)

@@ -21,10 +21,12 @@ pub(crate) fn print_addresses<W: Write>(
     output: &mut Output<'_, W>,
 ) -> Result<(), RunFault>
     ensures ok { OnOk result (Prints output.old output.new
-        (texts_of filter.now (head_of filter.now line_number) (spelled_at filter.now.place line.now))) }
+        (texts_of filter.now (head_of filter.now line_number)
+        (spelled_at filter.now.place line.now))) }
     ensures failed { output.new.failed ≡ (output.old.failed || is_err result) }
     ensures beginning { OnErr result (FailsIn output.old output.new
-        (texts_of filter.now (head_of filter.now line_number) (spelled_at filter.now.place line.now))) }
+        (texts_of filter.now (head_of filter.now line_number)
+        (spelled_at filter.now.place line.now))) }
 {
     match &filter.place {
         Place::Field { number, separator } => match field_of(line, *number, *separator) {
@@ -114,10 +116,12 @@ fn print_found<W: Write>(
     text: &[u8],
     output: &mut Output<'_, W>,
 ) -> Result<(), RunFault>
-    ensures ok { OnOk result (Prints output.old output.new (text_of filter.now (head_of filter.now number) address text.now)) }
+    ensures ok { OnOk result (Prints output.old output.new
+        (text_of filter.now (head_of filter.now number) address text.now)) }
     ensures failed { output.new.failed ≡ (output.old.failed || is_err result) }
     ensures beginning { OnErr result
-        (FailsIn output.old output.new (text_of filter.now (head_of filter.now number) address text.now)) }
+        (FailsIn output.old output.new
+        (text_of filter.now (head_of filter.now number) address text.now)) }
 {
     if !filter.prints(address) {
         return Ok(());
@@ -132,7 +136,8 @@ fn print_named<W: Write>(
     text: &[u8],
     output: &mut Output<'_, W>,
 ) -> Result<(), RunFault>
-    ensures ok { OnOk result (Prints output.old output.new (head_of filter.now number ++ (text.now ++ 10 ∷ []))) }
+    ensures ok { OnOk result (Prints output.old output.new
+        (head_of filter.now number ++ (text.now ++ 10 ∷ []))) }
     ensures failed { output.new.failed ≡ (output.old.failed || is_err result) }
     ensures beginning { OnErr result
         (FailsIn output.old output.new (head_of filter.now number ++ (text.now ++ 10 ∷ []))) }
