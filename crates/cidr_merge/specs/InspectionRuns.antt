@@ -1,5 +1,5 @@
 -- How a run ends that looks lists over.
-use Rattle.std.specs.Prelude.{◌≡◌, ◌==◌, ◌⊎◌, ℕ, ◌+◌, Option, None, Some, List, [], ◌++◌, length, if◌then◌else◌, codes, String}
+use Rattle.std.specs.Prelude.{◌≡◌, ◌==◌, ◌⊎◌, ℕ, ◌+◌, true, false, Option, None, Some, List, [], ◌++◌, length, if◌then◌else◌, codes, String}
 use Rattle.std.specs.List.{concat}
 use Rattle.lists.specs.KnownLists.{KnownLists}
 use Rattle.lists.specs.declared.named.ReadFault.{ReadFault}
@@ -9,12 +9,13 @@ use Rattle.program.specs.Usage.{usage_text}
 use Rattle.cidr_merge.specs.CommandLines.{options_of, lists_of}
 use Rattle.cidr_merge.specs.Findings.{ListsFindings}
 use Rattle.cidr_merge.specs.Inspections.{inspection_fault}
-use Rattle.cidr_merge.specs.Overlaps.{OverlapFindings}
+use Rattle.cidr_merge.specs.Overlaps.{Listed, OrderedFindings}
+use Rattle.cidr_merge.specs.Repetitions.{found_among}
 use Rattle.cidr_merge.specs.Texts.{AreTexts, TextsStop}
 use Rattle.cidr_merge.specs.Usage.{problem_text}
 use Rattle.cidr_merge.specs.Writing.{FailsToWrite}
 use Rattle.cidr_merge.specs.declared.inspections.Inspection.{Inspection}
-use Rattle.cidr_merge.specs.declared.inspections.Inspection.TheVariants.{Check, Overlaps}
+use Rattle.cidr_merge.specs.declared.inspections.Inspection.TheVariants.{Check, Strict, Overlaps}
 use Rattle.cidr_merge.specs.declared.usage.UsageFault.{UsageFault}
 
 -- the exit status: 1 if there is a finding, and 0 if there is none
@@ -29,15 +30,16 @@ WritesFindings findings end = HasWritten end (concat findings) × HasTold end []
 abbrev pub EndsChecking : {Z W E : Type 0} → List (String Z) → List (List ℕ) → Ending W E → Type 0
 EndsChecking names texts end = FailsToWrite end ⊎ ((findings : List (List ℕ)) × ListsFindings names texts findings × WritesFindings findings end)
 
--- the wrong entries and then those that overlap were, or memory ran out before anything was written
-abbrev pub EndsOverlaps : {Z W E : Type 0} → List (String Z) → List (List ℕ) → Ending W E → Type 0
-EndsOverlaps names texts end = Refuses (codes "out of memory\n") end
-    ⊎ (FailsToWrite end ⊎ ((findings more : List (List ℕ)) × ListsFindings names texts findings × OverlapFindings names texts more × WritesFindings (findings ++ more) end))
+-- the wrong entries and then what is found in the others, in order, were, or memory ran out before anything was written
+abbrev pub EndsOrdered : {Z W E : Type 0} → (List Listed → List (List ℕ)) → List (String Z) → List (List ℕ) → Ending W E → Type 0
+EndsOrdered finds names texts end = Refuses (codes "out of memory\n") end
+    ⊎ (FailsToWrite end ⊎ ((findings more : List (List ℕ)) × ListsFindings names texts findings × OrderedFindings finds texts more × WritesFindings (findings ++ more) end))
 
 -- what there is to say of them was
 abbrev pub EndsFinding : {Z W E : Type 0} → Inspection → List (String Z) → List (List ℕ) → Ending W E → Type 0
 EndsFinding Check names texts end = EndsChecking names texts end
-EndsFinding Overlaps names texts end = EndsOverlaps names texts end
+EndsFinding Strict names texts end = EndsOrdered (found_among true names) names texts end
+EndsFinding Overlaps names texts end = EndsOrdered (found_among false names) names texts end
 
 -- a list was not read, nothing was written, and the cause was reported; or all were read
 abbrev pub EndsReading : {Z W E : Type 0} → KnownLists → List (String Z) → Inspection → Ending W E → Type 0
@@ -52,4 +54,4 @@ EndsUnless program usage known words inspection (Some fault) end = Refuses (usag
 
 abbrev pub EndsInspecting : {Z W E : Type 0} → List ℕ → List ℕ → KnownLists → List (String Z) → Inspection → Ending W E → Type 0
 EndsInspecting program usage known words inspection end =
-    EndsUnless program usage known words inspection (inspection_fault (options_of words) (lists_of words)) end
+    EndsUnless program usage known words inspection (inspection_fault inspection (options_of words) (lists_of words)) end
