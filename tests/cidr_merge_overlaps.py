@@ -1,6 +1,7 @@
 """Rows of `tests/cidr_merge` for `overlaps`, beside Python's `ipaddress`: a name, what a run gave and what is wanted, which is
 the status, standard output and standard error."""
 
+import ipaddress
 import os
 import random
 
@@ -36,11 +37,21 @@ def one_each(entries):
             yield f"{place}: {relation(ends, other[1])} {other[0]}\n"
 
 
+def has_host_bits(line):
+    """Whether the entry of a line is a network that `ipaddress` refuses for its host bits."""
+    text = line.split("#")[0].split(";")[0].strip()
+    try:
+        ipaddress.ip_network(text)
+    except ValueError as error:
+        return str(error).endswith("has host bits set")
+    return False
+
+
 def overlaps(program, folder):
     """Made-up lists, with many entries that overlap and with few."""
     for seed in range(200):
         dice = random.Random(seed)
-        wanted = ""
+        wanted = strictly = ""
         entries = []
         names = ["one", "two", "three"][: dice.randrange(1, 4)]
         for name in names:
@@ -50,11 +61,16 @@ def overlaps(program, folder):
             for number, (line, ends) in enumerate(lines, 1):
                 if ends is False:
                     wanted += f"{name}:{number}: refused {cause(line)}: {line}\n"
+                    strictly += f"{name}:{number}: refused {cause(line)}: {line}\n"
                 elif ends:
+                    if has_host_bits(line):
+                        strictly += f"{name}:{number}: host bits: {line}\n"
                     entries.append((f"{name}:{number}", ends, len(entries)))
-        for words, lines in (["overlaps"], pairs(entries)), (["check", "--strict"], one_each(entries)):
-            told = wanted + "".join(lines)
-            yield f"{words}, seed {seed}", run(program, [*words, *names], folder), (1 if told else 0, told.encode(), b"")
+        told = wanted + "".join(pairs(entries))
+        yield f"overlaps, seed {seed}", run(program, ["overlaps", *names], folder), (1 if told else 0, told.encode(), b"")
+        told = strictly + "".join(one_each(entries))
+        words = ["check", "--strict", *names]
+        yield f"check --strict, seed {seed}", run(program, words, folder), (1 if told else 0, told.encode(), b"")
     lines = "".join(f"10.{n >> 16}.{n >> 8 & 255}.{n & 255}\n" for n in range(300000))
     with open(os.path.join(folder, "one"), "w") as file:
         file.write(lines + "10.0.0.0/32\n")

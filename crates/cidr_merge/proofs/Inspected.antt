@@ -42,7 +42,7 @@ pub written_all : (held mid holds : Option (List ℕ)) (waited waits text : List
 written_all held mid holds waited waits text p h = subst (λ (t : List ℕ). Appends held holds t) (sym p.2) (Appends-trans held mid holds p.0 waits p.1 h)
 
 pub checked : {Z W E T : Type 0} (names : List (String Z)) (texts : List (List ℕ)) (end : Ending W E) (mid : Written W) (written : Result T RunFault) (found : Bool) (status : ℕ)
-    → ((findings : List (List ℕ)) × ListsFindings names texts findings × Tells end.output mid (concat findings) × IsFound findings found) → status ≡ (if found then 1 else 0)
+    → ((findings : List (List ℕ)) × ListsFindings false names texts findings × Tells end.output mid (concat findings) × IsFound findings found) → status ≡ (if found then 1 else 0)
     → OnOk written (Appends mid.holds end.output_after.holds mid.waits) → OnOk written (IsFalse end.output_after.failed) → end.output_after.failed ≡ (mid.failed || is_err written)
     → end.status ≡ status_of written status → Tells end.errors end.errors_after (end_text written) → EndsChecking names texts end
 checked names texts end mid (Ok done) found status h s wrote works failed is told =

@@ -1,5 +1,5 @@
 -- How a run ends that looks lists over.
-use Rattle.std.specs.Prelude.{◌≡◌, ◌==◌, ◌⊎◌, ℕ, ◌+◌, true, false, Option, None, Some, List, [], ◌++◌, length, if◌then◌else◌, codes, String}
+use Rattle.std.specs.Prelude.{◌≡◌, ◌==◌, ◌⊎◌, ℕ, ◌+◌, Bool, true, false, Option, None, Some, List, [], ◌++◌, length, if◌then◌else◌, codes, String}
 use Rattle.std.specs.List.{concat}
 use Rattle.lists.specs.KnownLists.{KnownLists}
 use Rattle.lists.specs.declared.named.ReadFault.{ReadFault}
@@ -9,7 +9,7 @@ use Rattle.program.specs.Usage.{usage_text}
 use Rattle.cidr_merge.specs.CommandLines.{options_of, lists_of}
 use Rattle.cidr_merge.specs.Findings.{ListsFindings}
 use Rattle.cidr_merge.specs.Inspections.{inspection_fault}
-use Rattle.cidr_merge.specs.Overlaps.{Listed, OrderedFindings}
+use Rattle.cidr_merge.specs.Overlaps.{OrderedFindings}
 use Rattle.cidr_merge.specs.Repetitions.{found_among}
 use Rattle.cidr_merge.specs.Texts.{AreTexts, TextsStop}
 use Rattle.cidr_merge.specs.Usage.{problem_text}
@@ -26,20 +26,20 @@ findings_status findings = if length findings == 0 then 0 else 1
 abbrev pub WritesFindings : {W E : Type 0} → List (List ℕ) → Ending W E → Type 0
 WritesFindings findings end = HasWritten end (concat findings) × HasTold end [] × (end.status ≡ findings_status findings)
 
--- the wrong entries of lists of these names and bytes were, or the writer failed
+-- what is found in the lines of lists of these names and bytes was, or the writer failed
 abbrev pub EndsChecking : {Z W E : Type 0} → List (String Z) → List (List ℕ) → Ending W E → Type 0
-EndsChecking names texts end = FailsToWrite end ⊎ ((findings : List (List ℕ)) × ListsFindings names texts findings × WritesFindings findings end)
+EndsChecking names texts end = FailsToWrite end ⊎ ((findings : List (List ℕ)) × ListsFindings false names texts findings × WritesFindings findings end)
 
--- the wrong entries and then what is found in the others, in order, were, or memory ran out before anything was written
-abbrev pub EndsOrdered : {Z W E : Type 0} → (List Listed → List (List ℕ)) → List (String Z) → List (List ℕ) → Ending W E → Type 0
-EndsOrdered finds names texts end = Refuses (codes "out of memory\n") end
-    ⊎ (FailsToWrite end ⊎ ((findings more : List (List ℕ)) × ListsFindings names texts findings × OrderedFindings finds texts more × WritesFindings (findings ++ more) end))
+-- that and then what is found in their entries in order was, or memory ran out before anything was written
+abbrev pub EndsOrdered : {Z W E : Type 0} → Bool → List (String Z) → List (List ℕ) → Ending W E → Type 0
+EndsOrdered strictly names texts end = Refuses (codes "out of memory\n") end
+    ⊎ (FailsToWrite end ⊎ ((findings more : List (List ℕ)) × ListsFindings strictly names texts findings × OrderedFindings (found_among strictly names) texts more × WritesFindings (findings ++ more) end))
 
 -- what there is to say of them was
 abbrev pub EndsFinding : {Z W E : Type 0} → Inspection → List (String Z) → List (List ℕ) → Ending W E → Type 0
 EndsFinding Check names texts end = EndsChecking names texts end
-EndsFinding Strict names texts end = EndsOrdered (found_among true names) names texts end
-EndsFinding Overlaps names texts end = EndsOrdered (found_among false names) names texts end
+EndsFinding Strict names texts end = EndsOrdered true names texts end
+EndsFinding Overlaps names texts end = EndsOrdered false names texts end
 
 -- a list was not read, nothing was written, and the cause was reported; or all were read
 abbrev pub EndsReading : {Z W E : Type 0} → KnownLists → List (String Z) → Inspection → Ending W E → Type 0

@@ -11,8 +11,7 @@ use Rattle.lists.specs.declared.entry.Entry.{Entry}
 use Rattle.lists.specs.declared.entry.Entry.TheVariants as entries
 use Rattle.lists.specs.declared.fault.LineFault.{LineFault}
 use Rattle.program.specs.Told.{name_at}
-use Rattle.cidr_merge.specs.Findings.{place_text, IsWrong}
-use Rattle.cidr_merge.specs.Finds.{LineSays}
+use Rattle.cidr_merge.specs.Findings.{place_text, IsWrong, LineSays}
 
 -- an entry: its first and its last address, and the numbers of its list, from 0 on, and of its line, from 1 on
 pub record Listed : Type 0 where

@@ -10,8 +10,8 @@ Merges lists of IP networks, and prints the shortest list with exactly the addre
     cidr_merge differ [OPTION..] FILE.. -- FILE..   what one side has and the other has not
     cidr_merge list   [OPTION..] FILE..             each address of any of the files
     cidr_merge split --prefix N [OPTION..] FILE..   the networks of union, cut into those of length N
-    cidr_merge check  [--strict] FILE..             the wrong entries, each with its file and line
-    cidr_merge overlaps FILE..                      those, and each pair of entries that overlap
+    cidr_merge check  [--strict] FILE..             the wrong entries; --strict: also host bits, and one overlap of each
+    cidr_merge overlaps FILE..                      the wrong entries, and each pair of entries that overlap
     cidr_merge find   ADDRESS.. -- FILE..           the entries that have one of the addresses
 
     --ranges       print FIRST - LAST for each run of addresses
@@ -26,7 +26,7 @@ A FILE is a name, or - for standard input. A line has a network (10.0.0.0/8, 10.
 or nothing, and at most 1,024 bytes; # and ; begin a comment. Host bits are dropped.
 The result is in ascending order, IPv4 first. differ puts < before what only the first side has, and > before what only
 the second has. A refused line is reported as FILE:LINE: refused format, address, prefix, range or length. check prints
-that for each, and the line, and with --strict of each entry that overlaps others one, as overlaps does; find FILE:LINE: has ADDRESS, and the line. split leaves longer networks whole, and those
+that for each, and the line; find FILE:LINE: has ADDRESS, and the line. split leaves longer networks whole, and those
 of IPv4 if N is above 32, and prints a million at most. Its options are --skip-bad, --json and --strict, in this order.
 
 Status: 0; 1 if the sides of differ are not equal, check or overlaps found something or find nothing; 2 on wrong usage,

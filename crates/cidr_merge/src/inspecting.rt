@@ -95,7 +95,7 @@ fn check<W: Write, E: Write>(
     ensures { EndsChecking names.now (map (λ text. text.items) texts.now)
         (ending output.old output.new errors.old errors.new result) }
 {
-    let found = check_lists(names, texts, output);
+    let found = check_lists(false, names, texts, output);
     let written = output.finish();
     end(written, status(found), errors)
 }
@@ -111,7 +111,7 @@ fn check_ordered<W: Write, E: Write>(
     errors: &mut Output<'_, E>,
 ) -> u8
     requires { length texts.now ≡ length names.now }
-    ensures { EndsOrdered (found_among strictly names.now) names.now
+    ensures { EndsOrdered strictly names.now
         (map (λ text. text.items) texts.now)
         (ending output.old output.new errors.old errors.new result) }
 {
@@ -122,7 +122,7 @@ fn check_ordered<W: Write, E: Write>(
             return FAILED;
         }
     };
-    let wrong = check_lists(names, texts, output);
+    let wrong = check_lists(strictly, names, texts, output);
     let more = tell_ordered(strictly, names, entries.as_mut_slice(), output);
     let written = output.finish();
     end(written, status(either(wrong, more)), errors)
