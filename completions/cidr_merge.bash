@@ -8,6 +8,8 @@ _cidr_merge() {
         COMPREPLY=($(compgen -W "plain range netmask wildcard csv nft ipset json addresses" -- "$word"))
     elif [ "${COMP_WORDS[at]}" = split ] && [[ "$word" == -* ]]; then
         COMPREPLY=($(compgen -W "--prefix --skip-bad --json --strict -" -- "$word"))
+    elif [ "${COMP_WORDS[at]}" = check ] && [[ "$word" == -* ]]; then
+        COMPREPLY=($(compgen -W "--strict -" -- "$word"))
     elif [[ "${COMP_WORDS[at]}" == @(check|overlaps|find) ]]; then
         :
     elif [[ "$word" == -* ]]; then

@@ -10,5 +10,6 @@ complete -c cidr_merge -n "__fish_seen_subcommand_from $operations" -l count -d 
 complete -c cidr_merge -n "__fish_seen_subcommand_from $operations" -l format -x -a "plain range netmask wildcard csv nft ipset json addresses" -d "Print as another program reads it"
 complete -c cidr_merge -n "__fish_seen_subcommand_from $operations split" -l json -d "Read documents of JSON"
 complete -c cidr_merge -n "__fish_seen_subcommand_from $operations split" -l strict -d "Refuse strings that are no entries"
+complete -c cidr_merge -n "__fish_seen_subcommand_from check" -l strict -d "Tell host bits and repeated entries too"
 complete -c cidr_merge -n "__fish_seen_subcommand_from split" -l prefix -x -d "The prefix length"
 complete -c cidr_merge -n "__fish_seen_subcommand_from $operations split" -l skip-bad -d "Pass over refused lines"

@@ -15,7 +15,9 @@ if (( CURRENT == 2 )); then
 elif [[ $words[2] == split ]]; then
     _arguments '--prefix[the prefix length]:length:' '*--skip-bad[pass over refused lines]' \
         '--json[read documents of JSON]' '--strict[refuse strings that are no entries]' '*:list:_files'
-elif [[ $words[2] == (check|overlaps|find) ]]; then
+elif [[ $words[2] == check ]]; then
+    _arguments '--strict[tell host bits and repeated entries too]' '*:list:_files'
+elif [[ $words[2] == (overlaps|find) ]]; then
     _files
 else
     _arguments '*--ranges[print ranges]' '*--count[print how many addresses]' \

@@ -42,7 +42,7 @@ pub written_all : (held mid holds : Option (List ℕ)) (waited waits text : List
 written_all held mid holds waited waits text p h = subst (λ (t : List ℕ). Appends held holds t) (sym p.2) (Appends-trans held mid holds p.0 waits p.1 h)
 
 pub checked : {Z W E T : Type 0} (names : List (String Z)) (texts : List (List ℕ)) (end : Ending W E) (mid : Written W) (written : Result T RunFault) (found : Bool) (status : ℕ)
-    → ((findings : List (List ℕ)) × ListsFindings names texts findings × Tells end.output mid (concat findings) × IsFound findings found) → status ≡ (if found then 1 else 0)
+    → ((findings : List (List ℕ)) × ListsFindings false names texts findings × Tells end.output mid (concat findings) × IsFound findings found) → status ≡ (if found then 1 else 0)
     → OnOk written (Appends mid.holds end.output_after.holds mid.waits) → OnOk written (IsFalse end.output_after.failed) → end.output_after.failed ≡ (mid.failed || is_err written)
     → end.status ≡ status_of written status → Tells end.errors end.errors_after (end_text written) → EndsChecking names texts end
 checked names texts end mid (Ok done) found status h s wrote works failed is told =
@@ -59,14 +59,14 @@ module _ {Z : Type 0} (words others options names : List (String Z)) (count : �
   names_are : names ≡ lists_of words
   names_are = q ∙ ap (λ k. drop k others) n ∙ ap (λ l. drop (options_len false l) l) o
 
-  fault_is : inspection_fault (options_of words) (lists_of words) ≡ inspection_fault options names
-  fault_is = sym (ap (λ os. inspection_fault os (lists_of words)) options_are) ∙ sym (ap (λ ns. inspection_fault options ns) names_are)
+  fault_is : (inspection : Inspection) → inspection_fault inspection (options_of words) (lists_of words) ≡ inspection_fault inspection options names
+  fault_is inspection = sym (ap (λ os. inspection_fault inspection os (lists_of words)) options_are) ∙ sym (ap (λ ns. inspection_fault inspection options ns) names_are)
 
-  module _ {W E : Type 0} (program usage : List ℕ) (known : KnownLists) (inspection : Inspection) (end : Ending W E) (result : Option UsageFault) (r : result ≡ inspection_fault options names) where
+  module _ {W E : Type 0} (program usage : List ℕ) (known : KnownLists) (inspection : Inspection) (end : Ending W E) (result : Option UsageFault) (r : result ≡ inspection_fault inspection options names) where
     -- something is wrong with them
     pub refused : (fault : UsageFault) → result ≡ Some fault → Refuses (usage_text program usage words fault.subject (problem_text fault.problem)) end
         → EndsInspecting program usage known words inspection end
-    refused fault e h = subst (λ f. EndsUnless program usage known words inspection f end) (sym e ∙ r ∙ sym fault_is) h
+    refused fault e h = subst (λ f. EndsUnless program usage known words inspection f end) (sym e ∙ r ∙ sym (fault_is inspection)) h
 
     number_is : count ≤ length others → 1 + count ≡ 1 + length (options_of words)
     number_is l = omega (arith, l, length-take count others, ap length p, ap length options_are)
@@ -75,11 +75,11 @@ module _ {Z : Type 0} (words others options names : List (String Z)) (count : �
     pub stopped : (fault : ReadFault) → result ≡ None → count ≤ length others → TextsStop known (1 + count) names fault → Refuses (fault_text words fault) end
         → EndsInspecting program usage known words inspection end
     stopped fault e l stops h =
-        subst (λ f. EndsUnless program usage known words inspection f end) (sym e ∙ r ∙ sym fault_is)
+        subst (λ f. EndsUnless program usage known words inspection f end) (sym e ∙ r ∙ sym (fault_is inspection))
         (inl (fault, subst (λ ns. TextsStop known (1 + length (options_of words)) ns fault) names_are (subst (λ (k : ℕ). TextsStop known k names fault) (number_is l) stops), h))
 
     -- all were
     pub read : (texts : List (List ℕ)) → result ≡ None → AreTexts known names texts → EndsFinding inspection names texts end → EndsInspecting program usage known words inspection end
     read texts e are h =
-        subst (λ f. EndsUnless program usage known words inspection f end) (sym e ∙ r ∙ sym fault_is)
+        subst (λ f. EndsUnless program usage known words inspection f end) (sym e ∙ r ∙ sym (fault_is inspection))
         (inr (texts, subst (λ ns. AreTexts known ns texts) names_are are, subst (λ ns. EndsFinding inspection ns texts end) names_are h))

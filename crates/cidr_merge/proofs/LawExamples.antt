@@ -1,5 +1,5 @@
 -- What the laws let one conclude, where weaker laws would not.
-use Rattle.std.proofs.Common.{◌≡◌, ◌≢◌, ◌∙◌, ℕ, List, [], ◌∷◌, false, ap, sym, arith, length, refl}
+use Rattle.std.proofs.Common.{◌≡◌, ◌≢◌, ◌∙◌, ℕ, List, [], ◌∷◌, true, false, ap, sym, arith, length, refl}
 use Rattle.std.specs.Prelude.{bytes_eq, codes, None}
 use Rattle.std.proofs.lemmas.Bool.{true≢false}
 use Rattle.std.proofs.lemmas.Slice.Eq.{bytes_eq-Decides}
@@ -55,8 +55,8 @@ pub ranges_are_no_form : NoOtherForm → form_called (codes "ranges") ≡ None
 ranges_are_no_form law =
     law (codes "ranges") (other _ _ refl) (other _ _ refl) (other _ _ refl) (other _ _ refl) (other _ _ refl) (other _ _ refl) (other _ _ refl) (other _ _ refl) (other _ _ refl)
 
-pub overlap_is_no_inspection : NoOtherInspection → inspection_called (codes "overlap") ≡ None
-overlap_is_no_inspection law = law (codes "overlap") (other _ _ refl) (other _ _ refl)
+pub overlap_is_no_inspection : NoOtherInspection → inspection_called (codes "overlap") false ≡ None
+overlap_is_no_inspection law = law (codes "overlap") false (other _ _ refl) (other _ _ refl)
 
-pub union_is_no_inspection : NoOtherInspection → inspection_called (codes "union") ≡ None
-union_is_no_inspection law = law (codes "union") (other _ _ refl) (other _ _ refl)
+pub union_is_no_inspection : NoOtherInspection → inspection_called (codes "union") true ≡ None
+union_is_no_inspection law = law (codes "union") true (other _ _ refl) (other _ _ refl)

@@ -20,6 +20,7 @@ pub mod PartExamples
 pub mod Parts
 pub mod Putting
 pub mod ReadInTurn
+pub mod RepeatedEntries
 pub mod Requests
 pub mod Runs
 pub mod SearchEnds

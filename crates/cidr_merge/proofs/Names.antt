@@ -38,4 +38,4 @@ no_other_form text plain range netmask wildcard csv nft ipset json addresses =
     )
 
 pub no_other_inspection : NoOtherInspection
-no_other_inspection text check overlaps = rw (apart text (codes "check") check, apart text (codes "overlaps") overlaps)
+no_other_inspection text strictly check overlaps = rw (apart text (codes "check") check, apart text (codes "overlaps") overlaps)

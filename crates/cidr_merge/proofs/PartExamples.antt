@@ -121,9 +121,9 @@ pub what_an_operation_does : {Z W E : Type 0} (program usage : List ℕ) (known 
 what_an_operation_does program usage known words end f h = subst (λ i. EndsCommand program usage known words i end) f h
 
 pub what_a_check_does : {Z W E : Type 0} (program usage : List ℕ) (known : KnownLists) (words : List (String Z)) (end : Ending W E)
-    → inspection_of words ≡ Some Check → inspection_fault (options_of words) (lists_of words) ≡ None → EndsCommand program usage known words (inspection_of words) end
+    → inspection_of words ≡ Some Check → inspection_fault Check (options_of words) (lists_of words) ≡ None → EndsCommand program usage known words (inspection_of words) end
     → ((fault : ReadFault) × TextsStop known (1 + length (options_of words)) (lists_of words) fault × (((end.output_after ≡ end.output) × (end.status ≡ 2)) × HasTold end (fault_text words fault)))
-    ⊎ ((texts : List (List ℕ)) × AreTexts known (lists_of words) texts × (FailsToWrite end ⊎ ((findings : List (List ℕ)) × ListsFindings (lists_of words) texts findings
+    ⊎ ((texts : List (List ℕ)) × AreTexts known (lists_of words) texts × (FailsToWrite end ⊎ ((findings : List (List ℕ)) × ListsFindings false (lists_of words) texts findings
     × (HasWritten end (concat findings) × HasTold end [] × (end.status ≡ (if length findings == 0 then 0 else 1))))))
 what_a_check_does program usage known words end f g h =
     subst (λ r. EndsUnless program usage known words Check r end) g (subst (λ i. EndsCommand program usage known words i end) f h)

@@ -1,10 +1,14 @@
 -- What is found in lists that are looked over. A finding is a line of the output.
-use Rattle.std.specs.Prelude.{◌≡◌, ◌==◌, ◌<◌, ◌≤◌, ◌⊎◌, ℕ, ◌+◌, Bool, not, List, [], ◌∷◌, ◌++◌, length, Option, Ok, Err, if◌then◌else◌, codes, decimal, String}
+use Rattle.std.specs.Prelude.{◌≡◌, ◌==◌, ◌<◌, ◌≤◌, ◌⊎◌, ◌&&◌, ℕ, ◌+◌, Bool, false, not, List, [], ◌∷◌, ◌++◌, length, Option, None, Some, Ok, Err, if◌then◌else◌, codes, decimal, String}
+use Rattle.std.specs.Ordering.{is_le}
 use Rattle.std.specs.Str.Lines.{lines}
 use Rattle.std.specs.String.{string_bytes}
+use Rattle.ipnetwork.specs.IpNetworks.{address_of, ip_low}
+use Rattle.ipnetwork_addr.specs.Either.{ip_cmp}
 use Rattle.lists.specs.Entries.{ReadsEntry}
 use Rattle.lists.specs.Faults.{line_fault_text}
 use Rattle.lists.specs.declared.entry.Entry.{Entry}
+use Rattle.lists.specs.declared.entry.Entry.TheVariants as entries
 use Rattle.lists.specs.declared.fault.LineFault.{LineFault}
 use Rattle.lists.specs.declared.fault.LineFault.TheVariants as faults
 
@@ -26,32 +30,46 @@ abbrev pub refusal_text : List ℕ → ℕ → LineFault → List ℕ → List �
 refusal_text name number fault line =
     place_text name number ++ codes ": refused " ++ line_fault_text fault ++ separator (shown fault line) ++ shown fault line ++ codes "\n"
 
--- the line says nothing, or names an entry
-abbrev pub IsRight : List ℕ → Type 0
-IsRight line = (length line ≤ 1024) × ((said : Option Entry) × ReadsEntry line (Ok said))
+-- the line is not too long, and names this entry, or says nothing
+abbrev pub LineSays : List ℕ → Option Entry → Type 0
+LineSays line said = (length line ≤ 1024) × ReadsEntry line (Ok said)
 
 -- it is refused for this reason
 abbrev pub IsWrong : List ℕ → LineFault → Type 0
 IsWrong line (faults.Entry fault) = (length line ≤ 1024) × ReadsEntry line (Err fault)
 IsWrong line faults.Length = 1024 < length line
 
--- the findings of the line of this number in the list of this name
-abbrev pub LineFindings : List ℕ → ℕ → List ℕ → List (List ℕ) → Type 0
-LineFindings name number line findings = (IsRight line × (findings ≡ []))
+-- the entry is a network whose address is behind its first: that has host bits
+abbrev pub has_host_bits : Option Entry → Bool
+has_host_bits None = false
+has_host_bits (Some (entries.Network n)) = not (is_le (ip_cmp (address_of n) (ip_low n)))
+has_host_bits (Some (entries.Range first last)) = false
+
+-- strictly it is a finding: `FILE:LINE: host bits: TEXT`
+abbrev pub host_bits_text : List ℕ → ℕ → List ℕ → List ℕ
+host_bits_text name number line = place_text name number ++ codes ": host bits: " ++ line ++ codes "\n"
+
+abbrev pub host_findings : Bool → List ℕ → ℕ → List ℕ → List (List ℕ)
+host_findings is_loose name number line = if is_loose then host_bits_text name number line ∷ [] else []
+
+-- the findings of the line of this number in the list of this name, strictly or not
+abbrev pub LineFindings : Bool → List ℕ → ℕ → List ℕ → List (List ℕ) → Type 0
+LineFindings strictly name number line findings =
+    ((said : Option Entry) × LineSays line said × (findings ≡ host_findings (strictly && has_host_bits said) name number line))
     ⊎ ((fault : LineFault) × IsWrong line fault × (findings ≡ refusal_text name number fault line ∷ []))
 
 -- those of these lines, of which the first has this number
-abbrev pub LinesFindings : List ℕ → ℕ → List (List ℕ) → List (List ℕ) → Type 0
-LinesFindings name number [] findings = findings ≡ []
-LinesFindings name number (line ∷ lines) findings = (one : List (List ℕ)) × (others : List (List ℕ)) × LineFindings name number line one
-    × LinesFindings name (1 + number) lines others × (findings ≡ one ++ others)
+abbrev pub LinesFindings : Bool → List ℕ → ℕ → List (List ℕ) → List (List ℕ) → Type 0
+LinesFindings strictly name number [] findings = findings ≡ []
+LinesFindings strictly name number (line ∷ lines) findings = (one : List (List ℕ)) × (others : List (List ℕ)) × LineFindings strictly name number line one
+    × LinesFindings strictly name (1 + number) lines others × (findings ≡ one ++ others)
 
 -- those of the lists of these names, which have these bytes
-abbrev pub ListsFindings : {Z : Type 0} → List (String Z) → List (List ℕ) → List (List ℕ) → Type 0
-ListsFindings [] texts findings = findings ≡ []
-ListsFindings (name ∷ names) [] findings = findings ≡ []
-ListsFindings (name ∷ names) (text ∷ texts) findings = (one : List (List ℕ)) × (others : List (List ℕ)) × LinesFindings (string_bytes name) 1 (lines text) one
-    × ListsFindings names texts others × (findings ≡ one ++ others)
+abbrev pub ListsFindings : {Z : Type 0} → Bool → List (String Z) → List (List ℕ) → List (List ℕ) → Type 0
+ListsFindings strictly [] texts findings = findings ≡ []
+ListsFindings strictly (name ∷ names) [] findings = findings ≡ []
+ListsFindings strictly (name ∷ names) (text ∷ texts) findings = (one : List (List ℕ)) × (others : List (List ℕ)) × LinesFindings strictly (string_bytes name) 1 (lines text) one
+    × ListsFindings strictly names texts others × (findings ≡ one ++ others)
 
 -- whether there is one
 abbrev pub IsFound : List (List ℕ) → Bool → Type 0

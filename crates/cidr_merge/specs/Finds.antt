@@ -8,15 +8,11 @@ use Rattle.lists.specs.Entries.{ReadsEntry}
 use Rattle.lists.specs.Lists.{Names}
 use Rattle.lists.specs.declared.entry.Entry.{Entry}
 use Rattle.lists.specs.declared.fault.LineFault.{LineFault}
-use Rattle.cidr_merge.specs.Findings.{place_text, refusal_text, IsWrong}
+use Rattle.cidr_merge.specs.Findings.{place_text, refusal_text, IsWrong, LineSays}
 
 -- an entry has an address: `FILE:LINE: has ADDRESS: TEXT`
 abbrev pub has_text : List ℕ → ℕ → List ℕ → List ℕ → List ℕ
 has_text name number word line = place_text name number ++ codes ": has " ++ word ++ codes ": " ++ line ++ codes "\n"
-
--- the line is not too long, and names this entry, or says nothing
-abbrev pub LineSays : List ℕ → Option Entry → Type 0
-LineSays line said = (length line ≤ 1024) × ReadsEntry line (Ok said)
 
 -- what is printed of the entry of a line for the address that a word names: a line if the entry has it, else nothing
 abbrev pub AddressReport : List ℕ → ℕ → List ℕ → Entry → List ℕ → IpAddr → List (List ℕ) → Type 0

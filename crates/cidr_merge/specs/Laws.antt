@@ -1,5 +1,5 @@
 -- What no other text is.
-use Rattle.std.specs.Prelude.{◌≡◌, ◌≢◌, ℕ, List, None, false, codes}
+use Rattle.std.specs.Prelude.{◌≡◌, ◌≢◌, ℕ, Bool, List, None, false, codes}
 use Rattle.cidr_merge.specs.CommandLines.{operation_called, form_called, is_option_text}
 use Rattle.cidr_merge.specs.Inspections.{inspection_called}
 
@@ -17,6 +17,6 @@ abbrev pub NoOtherForm : Type 0
 NoOtherForm = (text : List ℕ) → text ≢ codes "plain" → text ≢ codes "range" → text ≢ codes "netmask" → text ≢ codes "wildcard"
     → text ≢ codes "csv" → text ≢ codes "nft" → text ≢ codes "ipset" → text ≢ codes "json" → text ≢ codes "addresses" → form_called text ≡ None
 
--- no text but these two says to look lists over
+-- no text but these two says to look lists over, strictly or not
 abbrev pub NoOtherInspection : Type 0
-NoOtherInspection = (text : List ℕ) → text ≢ codes "check" → text ≢ codes "overlaps" → inspection_called text ≡ None
+NoOtherInspection = (text : List ℕ) → (strictly : Bool) → text ≢ codes "check" → text ≢ codes "overlaps" → inspection_called text strictly ≡ None

@@ -15,6 +15,7 @@ pub mod Parts
 pub mod Pieces
 pub mod Private
 pub mod Reading
+pub mod Repetitions
 pub mod Runs
 pub mod Shapes
 pub mod SplitWords

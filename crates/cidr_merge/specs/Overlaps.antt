@@ -11,8 +11,7 @@ use Rattle.lists.specs.declared.entry.Entry.{Entry}
 use Rattle.lists.specs.declared.entry.Entry.TheVariants as entries
 use Rattle.lists.specs.declared.fault.LineFault.{LineFault}
 use Rattle.program.specs.Told.{name_at}
-use Rattle.cidr_merge.specs.Findings.{place_text, IsWrong}
-use Rattle.cidr_merge.specs.Finds.{LineSays}
+use Rattle.cidr_merge.specs.Findings.{place_text, IsWrong, LineSays}
 
 -- an entry: its first and its last address, and the numbers of its list, from 0 on, and of its line, from 1 on
 pub record Listed : Type 0 where
@@ -85,7 +84,7 @@ abbrev pub pairs_after : {Z : Type 0} → List (String Z) → List Listed → Li
 pairs_after names before [] = []
 pairs_after names before (entry ∷ others) = pairs_with names before entry ++ pairs_after names (before ++ entry ∷ []) others
 
--- of lists with these names and bytes: of each entry, in order, those with the earlier ones
-abbrev pub OverlapFindings : {Z : Type 0} → List (String Z) → List (List ℕ) → List (List ℕ) → Type 0
-OverlapFindings names texts findings = (found sorted : List Listed) × ListsEntries 0 texts found × IsInOrder found sorted
-    × (findings ≡ pairs_after names [] sorted)
+-- the findings of lists with these bytes, by what is found in entries in order
+abbrev pub OrderedFindings : (List Listed → List (List ℕ)) → List (List ℕ) → List (List ℕ) → Type 0
+OrderedFindings finds texts findings = (found sorted : List Listed) × ListsEntries 0 texts found × IsInOrder found sorted
+    × (findings ≡ finds sorted)

@@ -1,38 +1,50 @@
-//! Tells the wrong entries of lists.
-ghost use Rattle.std.specs.Prelude.{◌≡◌, ◌||◌, ℕ, List as Texts, length, map, MatchOption};
+//! Tells the wrong entries of lists, and strictly those with host bits too.
+ghost use Rattle.std.specs.Prelude.{◌≡◌, ◌&&◌, ◌||◌, ℕ, List as Texts, length, map};
 ghost use Rattle.std.specs.List.{concat};
 ghost use Rattle.std.specs.Str.Lines.{lines};
 ghost use Rattle.program.specs.Messages.{Tells};
-ghost use Rattle.cidr_merge.specs.Findings.{IsRight, IsWrong, LineFindings, LinesFindings, ListsFindings, IsFound};
+ghost use Rattle.cidr_merge.specs.Findings.{LineFindings, LinesFindings, ListsFindings};
+ghost use Rattle.cidr_merge.specs.Findings.{IsFound, has_host_bits, host_findings};
 
-use crate::findings::tell_wrong;
+use crate::findings::{tell_host_bits, tell_wrong};
+use crate::named::entry_of;
+use crate::overlapping::is_up_to;
+use crate::placed::key_of;
 use crate::text_lines::TextLines;
 use lines::output::Output;
-use lists::{LINE_MAX, LineFault, read_entry};
+use lists::Entry;
 use std::io::Write;
 
-/// Tells the wrong entries of lists with these names and bytes, and returns whether there is one.
+/// Tells what is found in the lines of lists with these names and bytes, strictly or not, and
+/// returns whether anything is.
 pub(crate) fn check_lists<W: Write>(
+    strictly: bool,
     names: &[String],
     texts: &[Vec<u8>],
     output: &mut Output<'_, W>,
 ) -> bool
     requires { length texts.now ≡ length names.now }
     ensures { (findings : Texts (Texts ℕ))
-        × ListsFindings names.now (map (λ text. text.items) texts.now) findings
+        × ListsFindings strictly names.now (map (λ text. text.items) texts.now) findings
         × Tells output.old output.new (concat findings) × IsFound findings result }
 {
     let mut found = false;
     for place in 0..names.len() {
-        let more = check_list(names[place].as_str(), texts[place].as_slice(), output);
+        let more = check_list(
+            strictly,
+            names[place].as_str(),
+            texts[place].as_slice(),
+            output,
+        );
         found = either(found, more);
     }
     found
 }
 
-// Tells the wrong entries of a list, and returns whether there is one.
-fn check_list<W: Write>(name: &str, text: &[u8], output: &mut Output<'_, W>) -> bool
-    ensures { (findings : Texts (Texts ℕ)) × LinesFindings name.now 1 (lines text.now) findings
+// Tells what is found in the lines of a list, strictly or not, and returns whether anything is.
+fn check_list<W: Write>(strictly: bool, name: &str, text: &[u8], output: &mut Output<'_, W>) -> bool
+    ensures { (findings : Texts (Texts ℕ))
+        × LinesFindings strictly name.now 1 (lines text.now) findings
         × Tells output.old output.new (concat findings) × IsFound findings result }
 {
     let mut found = false;
@@ -44,36 +56,71 @@ fn check_list<W: Write>(name: &str, text: &[u8], output: &mut Output<'_, W>) -> 
             return found;
         };
         number += 1;
-        let more = check_line(name, number, line, output);
+        let more = check_line(strictly, name, number, line, output);
         found = either(found, more);
     }
     found
 }
 
-// Tells what is wrong with a line, and returns whether anything is.
-fn check_line<W: Write>(name: &str, number: usize, line: &[u8], output: &mut Output<'_, W>) -> bool
-    ensures { (findings : Texts (Texts ℕ)) × LineFindings name.now number line.now findings
+// Tells what is found in a line, strictly or not, and returns whether anything is.
+fn check_line<W: Write>(
+    strictly: bool,
+    name: &str,
+    number: usize,
+    line: &[u8],
+    output: &mut Output<'_, W>,
+) -> bool
+    ensures { (findings : Texts (Texts ℕ))
+        × LineFindings strictly name.now number line.now findings
         × Tells output.old output.new (concat findings) × IsFound findings result }
 {
-    match fault_of(line) {
-        Some(fault) => {
+    match entry_of(line) {
+        Ok(said) => tell_if_loose(is_loose(strictly, said), name, number, line, output),
+        Err(fault) => {
             tell_wrong(name, number, fault, line, output);
             true
         }
-        None => false,
     }
 }
 
-// What is wrong with a line, if anything is.
-fn fault_of(line: &[u8]) -> Option<LineFault>
-    ensures { MatchOption result (IsRight line.now) (IsWrong line.now) }
+// Tells a line if its entry has host bits that are to be told, and returns whether it has.
+fn tell_if_loose<W: Write>(
+    is_loose: bool,
+    name: &str,
+    number: usize,
+    line: &[u8],
+    output: &mut Output<'_, W>,
+) -> bool
+    ensures { (findings : Texts (Texts ℕ))
+        × (findings ≡ host_findings is_loose name.now number line.now)
+        × Tells output.old output.new (concat findings) × IsFound findings result }
 {
-    if line.len() > LINE_MAX {
-        return Some(LineFault::Length);
+    if is_loose {
+        tell_host_bits(name, number, line, output);
+        return true;
     }
-    match read_entry(line) {
-        Ok(_) => None,
-        Err(fault) => Some(LineFault::Entry(fault)),
+    false
+}
+
+// Whether host bits of an entry, if there are any, are to be told.
+fn is_loose(strictly: bool, said: Option<Entry>) -> bool
+    ensures { result ≡ (strictly && has_host_bits said) }
+{
+    strictly && has_host_bits(said)
+}
+
+// Whether an entry has host bits.
+fn has_host_bits(said: Option<Entry>) -> bool
+    ensures { result ≡ has_host_bits said }
+{
+    match said {
+        Some(Entry::Network(network)) => {
+            let address = key_of(&network.ip());
+            let first = key_of(&network.network());
+            !is_up_to(&address, &first)
+        }
+        Some(Entry::Range { .. }) => false,
+        None => false,
     }
 }
 

@@ -1,7 +1,8 @@
 //! The lines that tell what was found in lists.
 ghost use Rattle.std.specs.Prelude.{◌≡◌};
 ghost use Rattle.program.specs.Messages.{Tells};
-ghost use Rattle.cidr_merge.specs.Findings.{place_text, refusal_text, shown, separator};
+ghost use Rattle.cidr_merge.specs.Findings.{place_text, refusal_text, host_bits_text};
+ghost use Rattle.cidr_merge.specs.Findings.{shown, separator};
 
 use lines::output::Output;
 use lists::LineFault;
@@ -23,6 +24,21 @@ pub(crate) fn tell_wrong<W: Write>(
     tell(": refused ", output);
     tell(fault.text(), output);
     tell(separator(line), output);
+    tell_bytes(line, output);
+    tell("\n", output);
+}
+
+/// Tells that the entry of a line of the list of this name has host bits, and the line.
+pub(crate) fn tell_host_bits<W: Write>(
+    name: &str,
+    number: usize,
+    line: &[u8],
+    output: &mut Output<'_, W>,
+)
+    ensures { Tells output.old output.new (host_bits_text name.now number line.now) }
+{
+    tell_place(name, number, output);
+    tell(": host bits: ", output);
     tell_bytes(line, output);
     tell("\n", output);
 }

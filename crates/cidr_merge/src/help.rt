@@ -10,8 +10,8 @@ Merges lists of IP networks, and prints the shortest list with exactly the addre
     cidr_merge differ [OPTION..] FILE.. -- FILE..   what one side has and the other has not
     cidr_merge list   [OPTION..] FILE..             each address of any of the files
     cidr_merge split --prefix N [OPTION..] FILE..   the networks of union, cut into those of length N
-    cidr_merge check  FILE..                        the wrong entries, each with its file and line
-    cidr_merge overlaps FILE..                      those, and each pair of entries that overlap
+    cidr_merge check  [--strict] FILE..             the wrong entries; --strict: also host bits, and one overlap of each
+    cidr_merge overlaps FILE..                      the wrong entries, and each pair of entries that overlap
     cidr_merge find   ADDRESS.. -- FILE..           the entries that have one of the addresses
 
     --ranges       print FIRST - LAST for each run of addresses

@@ -1,13 +1,23 @@
 //! The run that looks lists over.
-ghost use Rattle.std.specs.Prelude.{◌≡◌, ◌<◌, ◌||◌, length, map, if◌then◌else◌};
+ghost use Rattle.std.specs.Prelude.{◌≡◌, ◌<◌, ◌||◌, ℕ, List as Texts, length, map};
+ghost use Rattle.std.specs.Prelude.{if◌then◌else◌};
+ghost use Rattle.std.specs.List.{concat};
+ghost use Rattle.std.specs.List.Sorted.{IsSorted};
 ghost use Rattle.program.specs.Endings.{ending};
-ghost use Rattle.cidr_merge.specs.InspectionRuns.{EndsChecking, EndsFinding, EndsInspecting, EndsOverlaps};
+ghost use Rattle.program.specs.Messages.{Tells};
+ghost use Rattle.cidr_merge.specs.Findings.{IsFound};
+ghost use Rattle.cidr_merge.specs.InspectionRuns.{EndsChecking, EndsFinding};
+ghost use Rattle.cidr_merge.specs.InspectionRuns.{EndsInspecting, EndsOrdered};
+ghost use Rattle.cidr_merge.specs.Overlaps.{listed_cmp};
+ghost use Rattle.cidr_merge.specs.Private.Entries.{listed_as};
+ghost use Rattle.cidr_merge.specs.Repetitions.{found_among};
 
 use crate::checking::check_lists;
 use crate::help::{PROGRAM, USAGE};
 use crate::inspections::{Inspection, inspection_fault};
 use crate::overlapping::tell_pairs;
-use crate::placed::entries_of;
+use crate::placed::{Placed, entries_of};
+use crate::repeating::tell_repetitions;
 use crate::texts::texts_of;
 use crate::words::options_count;
 use lines::output::Output;
@@ -41,7 +51,7 @@ pub(crate) fn inspect<L: OpenLists, W: Write, E: Write>(
     let others = &words[1..];
     let count = options_count(others);
     let names = &others[count..];
-    if let Some(fault) = inspection_fault(&others[..count], names) {
+    if let Some(fault) = inspection_fault(inspection, &others[..count], names) {
         let problem = fault.problem.text();
         return refuse_usage(PROGRAM, USAGE, words, fault.subject, problem, errors);
     }
@@ -69,7 +79,8 @@ fn answer<W: Write, E: Write>(
 {
     match inspection {
         Inspection::Check => check(names, texts, output, errors),
-        Inspection::Overlaps => overlaps(alloc, names, texts, output, errors),
+        Inspection::Strict => check_ordered(alloc, true, names, texts, output, errors),
+        Inspection::Overlaps => check_ordered(alloc, false, names, texts, output, errors),
     }
 }
 
@@ -84,22 +95,24 @@ fn check<W: Write, E: Write>(
     ensures { EndsChecking names.now (map (λ text. text.items) texts.now)
         (ending output.old output.new errors.old errors.new result) }
 {
-    let found = check_lists(names, texts, output);
+    let found = check_lists(false, names, texts, output);
     let written = output.finish();
     end(written, status(found), errors)
 }
 
-// Prints the wrong entries of lists of these names and bytes, and then those that overlap, and
-// returns the exit status.
-fn overlaps<W: Write, E: Write>(
+// Prints the wrong entries of lists of these names and bytes, and then what there is to say of the
+// others in order, and returns the exit status.
+fn check_ordered<W: Write, E: Write>(
     alloc: Global,
+    strictly: bool,
     names: &[String],
     texts: &[Vec<u8>],
     output: &mut Output<'_, W>,
     errors: &mut Output<'_, E>,
 ) -> u8
     requires { length texts.now ≡ length names.now }
-    ensures { EndsOverlaps names.now (map (λ text. text.items) texts.now)
+    ensures { EndsOrdered strictly names.now
+        (map (λ text. text.items) texts.now)
         (ending output.old output.new errors.old errors.new result) }
 {
     let mut entries = match entries_of(alloc, texts) {
@@ -109,10 +122,30 @@ fn overlaps<W: Write, E: Write>(
             return FAILED;
         }
     };
-    let wrong = check_lists(names, texts, output);
-    let more = tell_pairs(names, entries.as_mut_slice(), output);
+    let wrong = check_lists(strictly, names, texts, output);
+    let more = tell_ordered(strictly, names, entries.as_mut_slice(), output);
     let written = output.finish();
     end(written, status(either(wrong, more)), errors)
+}
+
+// Tells what there is to say of entries in order, and returns whether there is anything. Leaves the
+// entries in any order.
+fn tell_ordered<W: Write>(
+    strictly: bool,
+    names: &[String],
+    entries: &mut [Placed],
+    output: &mut Output<'_, W>,
+) -> bool
+    requires { IsSorted listed_cmp (map listed_as entries.old) }
+    ensures { (findings : Texts (Texts ℕ))
+        × (findings ≡ found_among strictly names.now (map listed_as entries.old))
+        × Tells output.old output.new (concat findings) × IsFound findings result }
+{
+    if strictly {
+        tell_repetitions(names, entries, output)
+    } else {
+        tell_pairs(names, entries, output)
+    }
 }
 
 // Whether one of two is so.

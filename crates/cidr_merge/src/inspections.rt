@@ -1,35 +1,41 @@
 //! Commands that look lists over and merge nothing, and what is wrong with their words.
-ghost use Rattle.std.specs.Prelude.{◌≡◌, ◌+◌, ◌^◌, ◌<◌, length, IfSome};
-ghost use Rattle.cidr_merge.specs.Inspections.{inspection_called, inspection_of, options_problem, inspection_fault};
+ghost use Rattle.std.specs.Prelude.{◌≡◌, ◌+◌, ◌^◌, ◌<◌, length};
+ghost use Rattle.std.specs.Prelude.{if◌then◌else◌, IfSome};
+ghost use Rattle.cidr_merge.specs.Inspections.{inspection_called, inspection_of};
+ghost use Rattle.cidr_merge.specs.Inspections.{options_taken, options_problem, inspection_fault};
 
 use crate::usage::{UsageFault, fault_of_word, lists_fault, option_problem, union_fault};
+use crate::words::stands;
+use program::words::text_at;
 
 /// How lists are looked over.
 #[derive(Clone, Copy, Debug, PartialEq, Eq)]
 pub enum Inspection {
     /// Their wrong entries are printed.
     Check,
-    /// Those are, and then the entries that overlap.
+    /// Those are, and then each entry that has addresses of another, with that.
+    Strict,
+    /// Those are, and then the pairs of entries that overlap.
     Overlaps,
 }
 
-/// How the first word says to look lists over, if it does.
+/// How the first words say to look lists over, if they do.
 pub(crate) fn inspection_of(words: &[String]) -> Option<Inspection>
     ensures asked { result ≡ inspection_of words.now }
     ensures some { IfSome result (λ inspection. 0 < length words.now) }
 {
     match words.first() {
-        Some(name) => inspection_called(name.as_str()),
+        Some(name) => inspection_called(name.as_str(), stands(words, 1, "--strict")),
         None => None,
     }
 }
 
-// How lists are looked over by the command of this name.
-fn inspection_called(text: &str) -> Option<Inspection>
-    ensures { result ≡ inspection_called text.now }
+// How lists are looked over by the command of this name, strictly or not.
+fn inspection_called(text: &str, strictly: bool) -> Option<Inspection>
+    ensures { result ≡ inspection_called text.now strictly }
 {
     if text == "check" {
-        Some(Inspection::Check)
+        Some(check_of(strictly))
     } else if text == "overlaps" {
         Some(Inspection::Overlaps)
     } else {
@@ -37,12 +43,27 @@ fn inspection_called(text: &str) -> Option<Inspection>
     }
 }
 
-/// What is wrong with the options and the names of lists, which are all words after the first.
-pub(crate) fn inspection_fault(options: &[String], names: &[String]) -> Option<UsageFault>
-    requires { 1 + length options.now + length names.now < 2 ^ 64 }
-    ensures { result ≡ inspection_fault options.now names.now }
+// How entries are checked.
+fn check_of(strictly: bool) -> Inspection
+    ensures { result ≡ (if strictly then Inspection.Strict else Inspection.Check) }
 {
-    if let Some(fault) = options_problem(options) {
+    if strictly {
+        Inspection::Strict
+    } else {
+        Inspection::Check
+    }
+}
+
+/// What is wrong with the options and the names of lists, which are all words after the first.
+pub(crate) fn inspection_fault(
+    inspection: Inspection,
+    options: &[String],
+    names: &[String],
+) -> Option<UsageFault>
+    requires { 1 + length options.now + length names.now < 2 ^ 64 }
+    ensures { result ≡ inspection_fault inspection options.now names.now }
+{
+    if let Some(fault) = options_problem(options_taken(inspection), options) {
         return Some(fault);
     }
     let first = 1 + options.len();
@@ -52,12 +73,25 @@ pub(crate) fn inspection_fault(options: &[String], names: &[String]) -> Option<U
     union_fault(names, first)
 }
 
-// That there is an option, which is the second word.
-fn options_problem(options: &[String]) -> Option<UsageFault>
-    ensures { result ≡ options_problem options.now }
+// How many options an inspection takes.
+fn options_taken(inspection: Inspection) -> usize
+    ensures { result ≡ options_taken inspection }
 {
-    match options.first() {
-        Some(word) => Some(fault_of_word(1, option_problem(word.as_str()))),
-        None => None,
+    match inspection {
+        Inspection::Check => 0,
+        Inspection::Strict => 1,
+        Inspection::Overlaps => 0,
     }
+}
+
+// That there is an option more than this many, of which the first is the second word.
+fn options_problem(taken: usize, options: &[String]) -> Option<UsageFault>
+    requires { 1 + length options.now < 2 ^ 64 }
+    ensures { result ≡ options_problem taken options.now }
+{
+    if taken < options.len() {
+        let problem = option_problem(text_at(options, taken));
+        return Some(fault_of_word(1 + taken, problem));
+    }
+    None
 }

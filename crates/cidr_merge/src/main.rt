@@ -21,6 +21,7 @@ mod overlapping;
 mod placed;
 mod printing;
 mod reading;
+mod repeating;
 mod run;
 mod searching;
 mod shapes;

@@ -2,8 +2,7 @@
 ghost use Rattle.std.specs.Prelude.{◌↔◌, IsTrue, MatchResult};
 ghost use Rattle.lists.specs.Entries.{IsRange};
 ghost use Rattle.lists.specs.Lists.{Names};
-ghost use Rattle.cidr_merge.specs.Findings.{IsWrong};
-ghost use Rattle.cidr_merge.specs.Finds.{LineSays};
+ghost use Rattle.cidr_merge.specs.Findings.{IsWrong, LineSays};
 
 use ipnetwork::IpAddr;
 use lists::{Entry, LINE_MAX, LineFault, read_entry};

@@ -84,8 +84,8 @@ fn tell_with<W: Write>(
     !before.is_empty()
 }
 
-// Tells an entry with an earlier one.
-fn tell_pair<W: Write>(
+/// Tells an entry with an earlier one.
+pub(crate) fn tell_pair<W: Write>(
     names: &[String],
     later: &Placed,
     earlier: &Placed,
@@ -116,8 +116,8 @@ fn relation(later: &Placed, earlier: &Placed) -> &'static str
     }
 }
 
-// Whether the first address is not after the last.
-fn is_up_to(first: &Key, last: &Key) -> bool
+/// Whether the first address is not after the last.
+pub(crate) fn is_up_to(first: &Key, last: &Key) -> bool
     ensures { result ≡ is_up_to (address_of first.now) (address_of last.now) }
 {
     if first.0 == last.0 {

@@ -93,8 +93,8 @@ fn ends_of(entry: &Entry) -> (IpAddr, IpAddr)
     }
 }
 
-// An address as a key.
-fn key_of(address: &IpAddr) -> Key
+/// An address as a key.
+pub(crate) fn key_of(address: &IpAddr) -> Key
     ensures { address_of result ≡ address.now }
 {
     match address {

@@ -3,7 +3,7 @@ use Rattle.std.specs.Prelude.{Option}
 use Rattle.std.proofs.lemmas.List.{map_push}
 use Rattle.ipnetwork_addr.specs.declared.ip.IpAddr.{IpAddr}
 use Rattle.lists.specs.declared.entry.Entry.{Entry}
-use Rattle.cidr_merge.specs.Finds.{LineSays}
+use Rattle.cidr_merge.specs.Findings.{LineSays}
 use Rattle.cidr_merge.specs.Overlaps.{listed}
 use Rattle.cidr_merge.specs.Private.Entries.{address_of, listed_as}
 use Rattle.cidr_merge.proofs.placed.add_line.Goals as goal

@@ -3,7 +3,7 @@ use Rattle.std.specs.Prelude.{Option}
 use Rattle.lists.specs.declared.entry.Entry.{Entry}
 use Rattle.program.proofs.Told.{tells_nothing, tells_same}
 use Rattle.cidr_merge.specs.Findings.{refusal_text}
-use Rattle.cidr_merge.specs.Finds.{LineSays}
+use Rattle.cidr_merge.specs.Findings.{LineSays}
 use Rattle.cidr_merge.proofs.searching.search_line.Goals as goal
 
 pub returns-in-Ok-None : goal.returns-in-Ok-None

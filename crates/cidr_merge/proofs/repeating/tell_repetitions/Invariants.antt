@@ -1,0 +1,9 @@
+use Rattle.std.proofs.Common.{map, drop}
+use Rattle.cidr_merge.specs.Private.Entries.{listed_as}
+use Rattle.cidr_merge.specs.Repetitions.{repetitions}
+use Rattle.cidr_merge.proofs.RepeatedEntries.{RepetitionsTold}
+use Rattle.cidr_merge.proofs.repeating.tell_repetitions.Given as goal
+
+abbrev pub invariant-loop-place : goal.invariant-loop-place
+invariant-loop-place g l =
+    RepetitionsTold l.names (repetitions l.names (map listed_as l.entries)) l.previous l.furthest (drop l.place l.others) l.initial.output l.output l.found
