@@ -3,6 +3,7 @@ pub mod Checks
 pub mod Cuts
 pub mod EntryLists
 pub mod Examples
+pub mod OverlapExamples
 pub mod ExportExamples
 pub mod ExportTexts
 pub mod Faults

@@ -82,7 +82,27 @@ fn put_found(found: usize, place: &mut usize) -> u32
     ensures { Unless (IsFault no_member (found ≡ no_place))
         (Writes (λ put. (put < no_place) × (put ≡ found))) place.old place.new result }
 {
-    let (put, fault) = found_or_before(found, *place);
+    if found == NO_PLACE {
+        return NO_MEMBER;
+    }
+    *place = found;
+    OK
+}
+
+/// The same for a row of a column: what stood there is read, and written again if nothing is found,
+/// so that no branch depends on the address.
+#[inline(always)]
+pub(crate) fn row_at<N: AddressSpace, H: Guessed<N>>(
+    ranges: &[H],
+    places: &[usize],
+    index: &[u32],
+    number: H::Number,
+    place: &mut usize,
+) -> u32
+    ensures { RangeQuery H.held ranges.now places.now (H.value number) place.old place.new result }
+{
+    let count = begun::<N, H>(ranges, index, number);
+    let (put, fault) = found_or_before(found_before(places, count), *place);
     *place = put;
     fault
 }
@@ -94,9 +114,9 @@ fn found_or_before(found: usize, before: usize) -> (usize, u32)
     ensures { Unless (IsFault no_member (found ≡ no_place))
         (Writes (λ put. (put < no_place) × (put ≡ found))) before result.0 result.1 }
 {
-    if found == NO_PLACE {
-        (before, NO_MEMBER)
-    } else {
+    if found != NO_PLACE {
         (found, OK)
+    } else {
+        (before, NO_MEMBER)
     }
 }

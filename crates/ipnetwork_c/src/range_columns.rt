@@ -3,8 +3,9 @@ ghost use Rattle.ipnetwork_c.specs.Held.{v4_in, v6_in, number_of_octets};
 ghost use Rattle.ipnetwork_c.specs.Ranges.{RangeQuery, RangeRows};
 
 use crate::fault::{OK, SHORT_BUFFER};
-use crate::range_calls::{ipnetwork_v4_ranges_find, ipnetwork_v6_ranges_find};
-use crate::structs::{Ipv4InC, Ipv6InC};
+use crate::range_calls::row_at;
+use crate::structs::{Ipv4InC, Ipv6InC, number_of, number_of_four};
+use ipnetwork::{Ipv4Network, Ipv6Network};
 
 /// For each of these addresses the place that the ranges of a table tell: place i and fault i are
 /// what `ipnetwork_v4_ranges_find` leaves and returns of address i, so that an address without a
@@ -43,7 +44,13 @@ fn v4_find(
     ensures { RangeQuery v4_in ranges.now range_places.now
         (number_of_octets address.now) place.old place.new result }
 {
-    ipnetwork_v4_ranges_find(ranges, range_places, index, address, place) as u8
+    row_at::<Ipv4Network, Ipv4InC>(
+        ranges,
+        range_places,
+        index,
+        number_of_four(address),
+        place,
+    ) as u8
 }
 
 /// The same of IPv6, as `ipnetwork_v6_ranges_find` finds places.
@@ -80,5 +87,5 @@ fn v6_find(
     ensures { RangeQuery v6_in ranges.now range_places.now
         (number_of_octets address.now) place.old place.new result }
 {
-    ipnetwork_v6_ranges_find(ranges, range_places, index, address, place) as u8
+    row_at::<Ipv6Network, Ipv6InC>(ranges, range_places, index, number_of(address), place) as u8
 }

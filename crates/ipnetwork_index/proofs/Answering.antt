@@ -10,7 +10,7 @@ use Rattle.ipnetwork_family.proofs.BlocksAt.{block_at_is}
 use Rattle.ipnetwork_table.specs.Table.{HasOnlyBlocks, IsLongest, NoneHolds, Finds}
 use Rattle.ipnetwork_index.specs.Private.Partitions.{IsPartition, LiesAt}
 use Rattle.ipnetwork_index.specs.Private.Edges.{IsCutOut, CutsOut}
-use Rattle.ipnetwork_index.specs.Private.Answers.{IsFound, Tells, TellsAt, IsMadeOf, AreAnswersUpTo, AreNone, AreAnswers, AreWholeUpTo, IsAnswered}
+use Rattle.ipnetwork_index.specs.Private.Answers.{IsFound, Tells, TellsAt, IsMadeOf, AreAnswersUpTo, AreNone, AreAnswers, IsAnswered}
 use Rattle.ipnetwork_index.proofs.RangeCounts.{cut_by_blocks}
 
 -- ---- the last number of a range is in the same networks as its others
@@ -128,72 +128,31 @@ told_moves w t prefixes values at x y blocks same h = record {
       };
 }
 
--- each range of those that are told on its last number
-tells_last : {V : Type 0} (w : ℕ) (t : FinMap network_cmp V) (lasts prefixes : List ℕ)
-    (values : List V) (at x : ℕ)
-    → AreAnswers w t lasts prefixes values → at < length lasts → x ≡ get_or lasts at 0
-    → TellsAt w t prefixes values at x
-tells_last w t lasts prefixes values at x a one is =
+pub answered : {V : Type 0} (w : ℕ) (t : FinMap network_cmp V) (lasts prefixes : List ℕ)
+    (values : List V)
+    → HasOnlyBlocks w t → CutsOut w t lasts → AreAnswers w t lasts prefixes values
+    → IsAnswered w t lasts prefixes values
+answered w t lasts prefixes values blocks c a =
     ⊎_elim
     (λ (n : AreNone w t prefixes values). record {
-      none = λ _. n.all x;
-      found = λ other ne.
-          absurd (ne (get_or_past prefixes at 255 (omega (arith, n.prefix_count))));
+      blocks = blocks;
+      size = n.prefix_count ∙ sym n.value_count;
+      all = λ x at h. record {
+        none = λ _. n.all x;
+        found = λ other ne.
+            absurd (ne (get_or_past prefixes at 255 (omega (arith, n.prefix_count))));
+      };
+      cut = cut_by_blocks w t lasts c;
     })
-    (λ (e : AreAnswersUpTo w t lasts prefixes values (length lasts)).
-    subst (λ (y : ℕ). TellsAt w t prefixes values at y) (sym is) (e.all at one))
+    (λ (e : AreAnswersUpTo w t lasts prefixes values (length lasts)). record {
+      blocks = blocks;
+      size = e.prefix_count ∙ sym e.value_count;
+      all = λ x at h. told_moves w t prefixes values at x (get_or lasts at 0) blocks
+          (λ n s. same_members w lasts x at n c.partition h (c.blocks n s) (blocks n s).network)
+          (e.all at h.one);
+      cut = cut_by_blocks w t lasts c;
+    })
     a
-
-pub same_sizes : {V : Type 0} (w : ℕ) (t : FinMap network_cmp V) (lasts prefixes : List ℕ)
-    (values : List V) → AreAnswers w t lasts prefixes values → length prefixes ≡ length values
-same_sizes w t lasts prefixes values a =
-    ⊎_elim
-    (λ (n : AreNone w t prefixes values). n.prefix_count ∙ sym n.value_count)
-    (λ (e : AreAnswersUpTo w t lasts prefixes values (length lasts)).
-    e.prefix_count ∙ sym e.value_count)
-    a
-
-pub answered : {N V : Type 0} (pair : N → Network) (w : ℕ) (t : FinMap network_cmp V)
-    (lasts prefixes : List ℕ) (values : List V) (whole : List (Option (N × V)))
-    → HasOnlyBlocks w t → CutsOut w t lasts → AreAnswers w t lasts prefixes values
-    → length whole ≡ 0 → IsAnswered pair w t lasts prefixes values whole
-answered pair w t lasts prefixes values whole blocks c a none = record {
-  blocks = blocks;
-  size = same_sizes w t lasts prefixes values a;
-  told = λ x at h _. told_moves w t prefixes values at x (get_or lasts at 0) blocks
-      (λ n s. same_members w lasts x at n c.partition h (c.blocks n s) (blocks n s).network)
-      (tells_last w t lasts prefixes values at (get_or lasts at 0) a h.one refl);
-  found = λ x at h l. absurd (omega arith);
-  cut = cut_by_blocks w t lasts c;
-}
-
--- ---- whole answers
-
-whole_moves : {N V : Type 0} (pair : N → Network) (w : ℕ) (t : FinMap network_cmp V) (x y : ℕ)
-    (found : Option (N × V))
-    → ((n : Network) → IsSome (get t n) → Member w n x ↔ Member w n y) → Finds pair w t y found
-    → Finds pair w t x found
-whole_moves pair w t x y None same h = λ n s m. h n s ((same n s).0 m)
-whole_moves pair w t x y (Some f) same h = record {
-  stored = h.stored;
-  holds = (same (pair f.0) (ap is_some h.stored)).1 h.holds;
-  longest = λ m s k. h.longest m s ((same m s).0 k);
-}
-
-pub answered_whole : {N V : Type 0} (pair : N → Network) (w : ℕ) (t : FinMap network_cmp V)
-    (lasts prefixes : List ℕ) (values : List V) (whole : List (Option (N × V)))
-    → HasOnlyBlocks w t → CutsOut w t lasts → AreWholeUpTo pair w t lasts whole (length lasts)
-    → length prefixes ≡ 0 → length values ≡ 0
-    → IsAnswered pair w t lasts prefixes values whole
-answered_whole pair w t lasts prefixes values whole blocks c a p v = record {
-  blocks = blocks;
-  size = p ∙ sym v;
-  told = λ x at h l. let one = h.one in let size = a.size in absurd (omega arith);
-  found = λ x at h l. whole_moves pair w t x (get_or lasts at 0) (get_or whole at None)
-      (λ n s. same_members w lasts x at n c.partition h (c.blocks n s) (blocks n s).network)
-      (a.all at h.one);
-  cut = cut_by_blocks w t lasts c;
-}
 
 -- ---- and an answer that is made of it is what a look-up finds
 
@@ -210,32 +169,6 @@ made_finds pair w t prefixes values x at (Some f) h m =
     let is : block_at w x p ≡ pair f.0 = ap (block_at w x) (sym least) ∙ sym m.1 in
     subst (λ (n : Network). IsLongest w t x n f.1) is
     (subst (λ v. IsLongest w t x (block_at w x p) v) m.2 found.longest)
-
--- ---- one whole answer more
-
-pub whole_more : {N V : Type 0} (pair : N → Network) (w : ℕ) (t : FinMap network_cmp V)
-    (lasts prefixes : List ℕ) (values : List V) (whole : List (Option (N × V))) (count x : ℕ)
-    (answer : Option (N × V))
-    → AreAnswers w t lasts prefixes values → count < length lasts → x ≡ get_or lasts count 0
-    → IsMadeOf pair w prefixes values count x answer → AreWholeUpTo pair w t lasts whole count
-    → AreWholeUpTo pair w t lasts (whole ++ answer ∷ []) (count + 1)
-whole_more pair w t lasts prefixes values whole count x answer answers one is made a =
-    let size = a.size in
-    let h : Finds pair w t (get_or lasts count 0) answer
-    = subst (λ (y : ℕ). Finds pair w t y answer) is
-    (made_finds pair w t prefixes values x count answer
-    (tells_last w t lasts prefixes values count x answers one is) made) in
-    record {
-      size = omega (arith, length-append whole (answer ∷ []));
-      all = λ k l. ⊎_elim
-          (λ (early : k < count). rw (get_or_append_left whole (answer ∷ []) None k (omega arith))
-          (a.all k early))
-          (λ (here : count ≤ k).
-          let q : count ≡ k = omega arith in
-          rw (get_or_push whole answer None k (omega arith))
-          (subst (λ (j : ℕ). Finds pair w t (get_or lasts j 0) answer) q h))
-          (cases_lt k count);
-    }
 
 -- ---- one answer more
 

@@ -2,7 +2,7 @@
 ghost use Rattle.std.specs.Prelude.{◌≡◌, ◌<◌, IfOk, length, map, get_or};
 ghost use Rattle.std.specs.FinMap as finite_map;
 ghost use Rattle.ipnetwork_table.specs.Table.{HasOnlyBlocks, by_pair};
-ghost use Rattle.ipnetwork_index.specs.Private.Answers.{AreAnswers, AreTheWhole, IsMadeOf};
+ghost use Rattle.ipnetwork_index.specs.Private.Answers.{AreAnswers, IsMadeOf};
 ghost use Rattle.ipnetwork_index.specs.Private.Partitions.{IsPartition};
 
 use crate::indexed_network::IndexedNetwork;
@@ -52,41 +52,6 @@ impl<V: Copy> Answers<V> {
     {
         (self.prefixes[place], self.values[place])
     }
-}
-
-/// No answers.
-pub(crate) fn no_answers<V: Copy>(alloc: Global) -> Answers<V>
-    ensures prefixes { length result.prefixes.items ≡ 0 }
-    ensures values { length result.values.items ≡ 0 }
-{
-    Answers {
-        prefixes: Vec::new(alloc),
-        values: Vec::new(alloc),
-    }
-}
-
-/// No whole answers.
-pub(crate) fn no_wholes<N: IndexedNetwork, V: Copy>(alloc: Global) -> Vec<Option<(N, V)>>
-    ensures { length result.items ≡ 0 }
-{
-    Vec::new(alloc)
-}
-
-/// The whole answers for the last addresses of ranges.
-pub(crate) fn wholes_of<N: IndexedNetwork, V: Copy>(
-    alloc: Global,
-    answers: &Answers<V>,
-    lasts: &[N::Addr],
-) -> Result<Vec<Option<(N, V)>>, AllocError>
-    requires { length answers.now.prefixes.items ≡ length answers.now.values.items }
-    ensures { IfOk result (λ whole. AreTheWhole N.pair N.WIDTH (map N.number lasts.now)
-        answers.now.prefixes.items answers.now.values.items whole.items (length lasts.now)) }
-{
-    let mut whole = Vec::with_capacity(alloc, lasts.len())?;
-    for place in 0..lasts.len() {
-        whole.push(answers.of::<N>(place, lasts[place]))?;
-    }
-    Ok(whole)
 }
 
 /// What the table finds for the last address of each range.

@@ -4,7 +4,7 @@ ghost use Rattle.ipnetwork_table.specs.Table.{HasOnlyBlocks, Finds};
 ghost use Rattle.ipnetwork_index.specs.Columns.{AreFound};
 ghost use Rattle.ipnetwork_index.specs.Turns.{CutByBlocks};
 
-use crate::answers::{Answers, answers_of, no_answers, no_wholes, wholes_of};
+use crate::answers::{Answers, answers_of};
 use crate::edges::ranges_of;
 use crate::indexed_network::IndexedNetwork;
 use crate::partition::Partition;
@@ -12,10 +12,6 @@ use crate::starts::route_bits;
 use ipnetwork_table::PrefixTable;
 use std::alloc::{AllocError, Global};
 use std::marker::Model;
-
-// For so many ranges the whole answers are kept: they take more memory, but one read that misses the
-// caches in place of two.
-const VERY_MANY: usize = 1 << 20;
 
 /// A table that is asked for the longest block of addresses, and does not change meanwhile: the
 /// index takes it over, and `into_table` gives it back. The answers are copied, so a look-up does
@@ -33,10 +29,8 @@ pub struct RouteIndex<N: IndexedNetwork, V: Copy> {
     table: PrefixTable<N, V>,
     // The addresses, cut where a block begins or ends.
     partition: Partition<N>,
-    // What the table finds for the addresses of each range, in two reads.
+    // What the table finds for the addresses of each range.
     answers: Answers<V>,
-    // If there are very many ranges, the same in one read, and the answers are none.
-    whole: Vec<Option<(N, V)>>,
 }
 
 // A contract sees the finite map of the table.
@@ -52,8 +46,8 @@ impl<N: IndexedNetwork, V: Copy> Model for RouteIndex<N, V> {
 
     ghost view = { λ i. i.table };
 
-    ghost invariant = { λ i. IsAnswered N.pair N.WIDTH i.table i.partition
-        i.answers.prefixes.items i.answers.values.items i.whole.items };
+    ghost invariant = { λ i. IsAnswered N.WIDTH i.table i.partition i.answers.prefixes.items
+        i.answers.values.items };
 }
 
 impl<N: IndexedNetwork, V: Copy> RouteIndex<N, V> {
@@ -75,20 +69,10 @@ impl<N: IndexedNetwork, V: Copy> RouteIndex<N, V> {
         let answers = answers_of(alloc, &table, lasts.as_slice())?;
         let bits = route_bits(lasts.len());
         let partition = Partition::new(alloc, lasts.as_slice(), bits)?;
-        if lasts.len() < VERY_MANY {
-            return Ok(RouteIndex {
-                table,
-                partition,
-                answers,
-                whole: no_wholes(alloc),
-            });
-        }
-        let whole = wholes_of::<N, V>(alloc, &answers, lasts.as_slice())?;
         Ok(RouteIndex {
             table,
             partition,
-            answers: no_answers(alloc),
-            whole,
+            answers,
         })
     }
 
@@ -108,10 +92,6 @@ impl<N: IndexedNetwork, V: Copy> RouteIndex<N, V> {
         ensures blocks { HasOnlyBlocks N.WIDTH self.now }
     {
         let place = self.partition.place_of(N::number_of(addr));
-        let whole = self.whole.as_slice();
-        if place < whole.len() {
-            return whole[place];
-        }
         self.answers.of(place, addr)
     }
 
@@ -168,7 +148,6 @@ impl<N: IndexedNetwork, V: Copy> RouteIndex<N, V> {
     /// twice the blocks (`laws::few_routed_ranges`). Beside what an `AddressIndex` has of so many
     /// ranges, the index has the table, and of each range a byte and a value. From 2^17 ranges on
     /// it has fewer places of 4 bytes: at most one for each range, and no more than 2^20 of them.
-    /// From 2^20 ranges on it has what a look-up finds in place of a byte and a value.
     ///
     /// ```
     /// let mut table = PrefixTable::new(rt.alloc());

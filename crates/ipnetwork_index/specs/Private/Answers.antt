@@ -1,9 +1,9 @@
 -- One answer for all numbers of a range.
-use Rattle.std.specs.Prelude.{◌≡◌, ◌≢◌, ℕ, ◌<◌, ◌≤◌, ◌⊎◌, min, List, length, Option, None, MatchOption}
+use Rattle.std.specs.Prelude.{◌≡◌, ◌≢◌, ℕ, ◌<◌, ◌≤◌, ◌⊎◌, min, List, length, Option, MatchOption}
 use Rattle.std.proofs.Common.{get_or}
 use Rattle.std.specs.FinMap.{FinMap}
 use Rattle.ipnetwork_family.specs.Network.{Network, block_at, network_cmp}
-use Rattle.ipnetwork_table.specs.Table.{HasOnlyBlocks, IsLongest, NoneHolds, Finds}
+use Rattle.ipnetwork_table.specs.Table.{HasOnlyBlocks, IsLongest, NoneHolds}
 use Rattle.ipnetwork_index.specs.Turns.{CutByBlocks}
 use Rattle.ipnetwork_index.specs.Private.Partitions.{LiesAt}
 
@@ -55,24 +55,10 @@ abbrev pub AreAnswers : {V : Type 0} → ℕ → FinMap network_cmp V → List �
 AreAnswers w t lasts prefixes values = AreNone w t prefixes values
     ⊎ AreAnswersUpTo w t lasts prefixes values (length lasts)
 
--- so many answers are what look-ups of the last numbers of the first ranges find
-pub record AreWholeUpTo {N V : Type 0} (pair : N → Network) (w : ℕ) (t : FinMap network_cmp V)
-    (lasts : List ℕ) (whole : List (Option (N × V))) (count : ℕ) : Type 0 where
-  pub size : length whole ≡ count
-  pub all : (k : ℕ) → k < count → Finds pair w t (get_or lasts k 0) (get_or whole k None)
-
--- so it is in each table of which the answers are told
-abbrev pub AreTheWhole : {N V : Type 0} → (N → Network) → ℕ → List ℕ → List ℕ → List V
-    → List (Option (N × V)) → ℕ → Type 0
-AreTheWhole {N} {V} pair w lasts prefixes values whole count = (t : FinMap network_cmp V)
-    → AreAnswers w t lasts prefixes values → AreWholeUpTo pair w t lasts whole count
-
--- what is told of a range, or its whole answer, is what a look-up of any of its numbers finds
-pub record IsAnswered {N V : Type 0} (pair : N → Network) (w : ℕ) (t : FinMap network_cmp V)
-    (lasts prefixes : List ℕ) (values : List V) (whole : List (Option (N × V))) : Type 0 where
+-- and it tells what a look-up of any number of its range finds
+pub record IsAnswered {V : Type 0} (w : ℕ) (t : FinMap network_cmp V) (lasts prefixes : List ℕ)
+    (values : List V) : Type 0 where
   pub blocks : HasOnlyBlocks w t
   pub size : length prefixes ≡ length values
-  pub told : (x at : ℕ) → LiesAt lasts x at → length whole ≤ at → TellsAt w t prefixes values at x
-  pub found : (x at : ℕ) → LiesAt lasts x at → at < length whole
-      → Finds pair w t x (get_or whole at None)
+  pub all : (x at : ℕ) → LiesAt lasts x at → TellsAt w t prefixes values at x
   pub cut : CutByBlocks w t (length lasts)
