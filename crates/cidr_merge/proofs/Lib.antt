@@ -1,3 +1,4 @@
+pub mod CheckExamples
 pub mod Checks
 pub mod Cuts
 pub mod EntryLists
