@@ -9,9 +9,15 @@ use crate::colons_at_once::read_at_once;
 use crate::group::read_part;
 
 /// The number of the address that a text names.
+///
+/// Inlined, so that a short text pays for nothing of what long ones need.
+#[inline(always)]
 pub(crate) fn read_address(text: &[u8]) -> Option<u128>
     ensures { MatchOption result (NamesNoV6 text.now) (λ address. NamesV6 text.now address) }
 {
+    if text.len() < 16 {
+        return read_from_left(text);
+    }
     match read_at_once(text) {
         Some(address) => Some(address),
         None => read_from_left(text),
