@@ -123,7 +123,8 @@ fn host_ones(prefix: u8) -> u32
     requires { prefix ≤ 32 }
     ensures { result ≡ 2 ^ (32 - prefix) - 1 }
 {
-    u32::MAX.checked_shr(u32::from(prefix)).unwrap_or(0)
+    // In 64 bits a shift by 32 needs no case of its own.
+    (u64::from(u32::MAX) >> prefix) as u32
 }
 
 impl Network<Ipv4Addr> {

@@ -1,6 +1,6 @@
-use Rattle.std.proofs.Common.{◌∙◌}
-use Rattle.ipnetwork_family.proofs.Bits.{host_ones_are}
+use Rattle.std.proofs.Common.{◌/◌, ◌^◌, ap, ◌∙◌}
+use Rattle.std.proofs.lemmas.Nat.Bits.{ones_shr}
 use Rattle.ipnetwork_family.proofs.ipv4.host_ones.Goals as goal
 
 pub returns : goal.returns
-returns c = c.unwrap_or.ensures ∙ host_ones_are 32 c.args.prefix c.checked_shr.result c.requires (rw c.from.ensures at c.checked_shr.ensures)
+returns c = ap (λ n. n / 2 ^ c.args.prefix) c.from.ensures ∙ ones_shr 32 c.args.prefix c.requires
