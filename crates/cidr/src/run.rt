@@ -32,8 +32,10 @@ pub fn run<R: Read, W: Write>(
     ensures ran { Ran u32.MAX
         (R.remaining (device_of reader.old)) (R.remaining (device_of reader.new))
         (W.contents (device_of writer.old)) (W.contents (device_of writer.new)) result }
-    ensures reader_failed { has_failed reader.new ≡ (has_failed reader.old || ended_by_read result) }
-    ensures writer_failed { has_failed writer.new ≡ (has_failed writer.old || ended_by_write result) }
+    ensures reader_failed { has_failed reader.new
+        ≡ (has_failed reader.old || ended_by_read result) }
+    ensures writer_failed { has_failed writer.new
+        ≡ (has_failed writer.old || ended_by_write result) }
     ensures reader_first { IsTrue (has_failed reader.old) → result ≡ Err RunFault.Read }
     ensures writer_next { IsFalse (has_failed reader.old) → IsTrue (has_failed writer.old)
         → result ≡ Err RunFault.Write }
@@ -88,8 +90,10 @@ pub fn run_limited<R: Read, W: Write>(
         (W.contents (device_of writer.old)) (W.contents (device_of writer.new)) result }
 
     // A device has failed exactly if it had failed before, or its failure ended the run.
-    ensures reader_failed { has_failed reader.new ≡ (has_failed reader.old || ended_by_read result) }
-    ensures writer_failed { has_failed writer.new ≡ (has_failed writer.old || ended_by_write result) }
+    ensures reader_failed { has_failed reader.new
+        ≡ (has_failed reader.old || ended_by_read result) }
+    ensures writer_failed { has_failed writer.new
+        ≡ (has_failed writer.old || ended_by_write result) }
 
     // If the reader had failed before, it is `Read`, whatever the writer; else, if the writer had, it is `Write`; and
     // no call is made if one of them had.
@@ -131,8 +135,10 @@ fn answer_all<R: Read, W: Write>(
     ensures ran { Ran limit
         (R.remaining (device_of reader.old)) (R.remaining (device_of reader.new))
         (W.contents (device_of writer.old)) (W.contents (device_of writer.new)) result }
-    ensures reader_failed { has_failed reader.new ≡ (has_failed reader.old || ended_by_read result) }
-    ensures writer_failed { has_failed writer.new ≡ (has_failed writer.old || ended_by_write result) }
+    ensures reader_failed { has_failed reader.new
+        ≡ (has_failed reader.old || ended_by_read result) }
+    ensures writer_failed { has_failed writer.new
+        ≡ (has_failed writer.old || ended_by_write result) }
 {
     // Does nothing: the proof of this body needs the law.
     laws::answer_is_computed::<u32>();

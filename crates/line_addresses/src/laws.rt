@@ -15,7 +15,8 @@ use ipnetwork_addr::laws::{
 
 /// The address of a text is the one that it names.
 pub fn named_address()
-    ensures { (text : List ℕ) (address : IpAddr) → NamesIp text address ↔ (address_of text ≡ Some address) }
+    ensures { (text : List ℕ) (address : IpAddr)
+        → NamesIp text address ↔ (address_of text ≡ Some address) }
 {
     ip_reading_is_computed();
 }
