@@ -1,9 +1,11 @@
 pub mod Answering
 pub mod Cutting
 pub mod Edging
+pub mod Eights
 pub mod Halving
 pub mod Inside
 pub mod LawExamples
+pub mod Lowering
 pub mod RangeCounts
 pub mod Searching
 pub mod Starting

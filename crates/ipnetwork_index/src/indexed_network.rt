@@ -1,5 +1,5 @@
 //! What an index needs of a family of addresses.
-ghost use Rattle.std.specs.Prelude.{◌≡◌, ℕ, ◌+◌, ◌/◌, ◌^◌, ◌<◌, ◌≤◌, IsTrue};
+ghost use Rattle.std.specs.Prelude.{◌≡◌, ℕ, ◌+◌, ◌/◌, ◌%◌, ◌^◌, ◌<◌, ◌≤◌, IsTrue};
 ghost use Rattle.ipnetwork_index.specs.Halves.{IsLastOf, halves_ascend};
 
 use crate::key::Key;
@@ -58,6 +58,15 @@ pub trait IndexedNetwork: AddressSpace {
     fn ends_high(number: Self::Number) -> bool
         ensures { IsTrue result → IsLastOf high (Self.Number.value number) };
 
+    /// The last 32 bits of a number: all that the number of an IPv4 address has.
+    ///
+    /// ```
+    /// assert_eq!(rt; Ipv6Network::low_word(5 << 32 | 7), 7);
+    /// assert_eq!(rt; Ipv4Network::low_word(7), 7);
+    /// ```
+    fn low_word(number: Self::Number) -> u32
+        ensures { result ≡ Self.Number.value number % 2 ^ 32 };
+
     /// Whether numbers are to be compared by halves: those of an IPv6 address are, since most
     /// networks end where a high half does.
     ///
@@ -93,6 +102,10 @@ impl IndexedNetwork for Ipv4Network {
         true
     }
 
+    fn low_word(number: u32) -> u32 {
+        number
+    }
+
     fn has_halves() -> bool {
         false
     }
@@ -121,6 +134,10 @@ impl IndexedNetwork for Ipv6Network {
 
     fn ends_high(number: u128) -> bool {
         number % (1 << 64) == (1 << 64) - 1
+    }
+
+    fn low_word(number: u128) -> u32 {
+        (number % (1 << 32)) as u32
     }
 
     fn has_halves() -> bool {

@@ -7,8 +7,7 @@ ghost use Rattle.ipnetwork_index.specs.Turns.{CutByBlocks};
 use crate::answers::{Answers, answers_of};
 use crate::edges::ranges_of;
 use crate::indexed_network::IndexedNetwork;
-use crate::partition::Partition;
-use crate::starts::route_bits;
+use crate::places::Places;
 use ipnetwork_table::PrefixTable;
 use std::alloc::{AllocError, Global};
 use std::marker::Model;
@@ -28,7 +27,7 @@ use std::marker::Model;
 pub struct RouteIndex<N: IndexedNetwork, V: Copy> {
     table: PrefixTable<N, V>,
     // The addresses, cut where a block begins or ends.
-    partition: Partition<N>,
+    places: Places<N>,
     // What the table finds for the addresses of each range.
     answers: Answers<V>,
 }
@@ -38,7 +37,7 @@ impl<N: IndexedNetwork, V: Copy> Model for RouteIndex<N, V> {
     ghost use Rattle.std.specs.FinMap as finite_map;
     ghost use Rattle.ipnetwork_family.specs.Network.{network_cmp};
     ghost use Rattle.ipnetwork_table.specs.Table.{network_code};
-    ghost use Rattle.ipnetwork_index.specs.Private.Answers.{IsAnswered};
+    ghost use Rattle.ipnetwork_index.specs.Private.Answers.{IsIndexed};
 
     ghost Value = { finite_map.FinMap network_cmp V };
 
@@ -46,8 +45,9 @@ impl<N: IndexedNetwork, V: Copy> Model for RouteIndex<N, V> {
 
     ghost view = { λ i. i.table };
 
-    ghost invariant = { λ i. IsAnswered N.WIDTH i.table i.partition i.answers.prefixes.items
-        i.answers.values.items };
+    ghost invariant = { λ i. IsIndexed N.WIDTH i.table i.places.partition
+        i.places.halves.lows.items i.places.halves.starts.items i.places.halves.shift
+        i.answers.prefixes.items i.answers.values.items };
 }
 
 impl<N: IndexedNetwork, V: Copy> RouteIndex<N, V> {
@@ -67,11 +67,10 @@ impl<N: IndexedNetwork, V: Copy> RouteIndex<N, V> {
         let _ = table.len();
         let lasts = ranges_of(alloc, &table)?;
         let answers = answers_of(alloc, &table, lasts.as_slice())?;
-        let bits = route_bits(lasts.len());
-        let partition = Partition::new(alloc, lasts.as_slice(), bits)?;
+        let places = Places::new(alloc, lasts.as_slice())?;
         Ok(RouteIndex {
             table,
-            partition,
+            places,
             answers,
         })
     }
@@ -91,7 +90,7 @@ impl<N: IndexedNetwork, V: Copy> RouteIndex<N, V> {
         ensures answer { Finds N.pair N.WIDTH self.now (N.number addr) result }
         ensures blocks { HasOnlyBlocks N.WIDTH self.now }
     {
-        let place = self.partition.place_of(N::number_of(addr));
+        let place = self.places.place_of(addr);
         self.answers.of(place, addr)
     }
 
@@ -148,6 +147,8 @@ impl<N: IndexedNetwork, V: Copy> RouteIndex<N, V> {
     /// twice the blocks (`laws::few_routed_ranges`). Beside what an `AddressIndex` has of so many
     /// ranges, the index has the table, and of each range a byte and a value. From 2^17 ranges on
     /// it has fewer places of 4 bytes: at most one for each range, and no more than 2^20 of them.
+    /// In IPv4 it then has of each range 2 bytes in place of 4, if all but a 32nd of them reach over
+    /// a fourth of the addresses, and one place for two to eight ranges.
     ///
     /// ```
     /// let mut table = PrefixTable::new(rt.alloc());
@@ -157,6 +158,6 @@ impl<N: IndexedNetwork, V: Copy> RouteIndex<N, V> {
     pub fn range_count(&self) -> usize
         ensures { CutByBlocks N.WIDTH self.now result }
     {
-        self.partition.len()
+        self.places.len()
     }
 }

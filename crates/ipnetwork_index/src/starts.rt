@@ -29,6 +29,15 @@ pub(crate) fn route_bits(ranges: usize) -> u32
     (bits - 1).min(20)
 }
 
+// How large the parts are, as a power of two, in which numbers of 32 bits that end ranges are known
+// by their low halves: from 2^17 ranges on a part has two to eight of them, up to 2^23.
+pub(crate) fn low_shift(ranges: usize) -> u32
+    ensures { result ≤ 16 }
+{
+    let bits = usize::BITS - ranges.leading_zeros();
+    35u32.saturating_sub(bits).max(12).min(16)
+}
+
 // From which of so many parts on, and how large they are: from the first key to the last of a range
 // but one, so that the first bits that all of them share are left out; or, if that makes them much
 // smaller, from the first to the last of those in the middle, without a 64th at either end. The

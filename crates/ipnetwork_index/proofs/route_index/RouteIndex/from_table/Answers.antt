@@ -5,14 +5,16 @@ use Rattle.ipnetwork_index.proofs.route_index.RouteIndex.from_table.Goals as goa
 pub answers_of-requires : goal.answers_of-requires
 answers_of-requires g c = rw c.as_slice.ensures.value c.in_ok-lasts.ensures.partition
 
-pub new-requires-clause-partition : goal.new-requires-clause-partition
-new-requires-clause-partition g c = rw c.as_slice-2.ensures.value c.in_ok-lasts.ensures.partition
+pub new-requires : goal.new-requires
+new-requires g c = rw c.as_slice-2.ensures.value c.in_ok-lasts.ensures.partition
 
 pub invariant_of-result : goal.invariant_of-result
-invariant_of-result g c =
-    rw (c.in_ok-partition.ensures, c.as_slice-2.ensures.value)
-    (answered g.N.CidrNetwork.WIDTH c.args.table
-    (map g.N.CidrNetwork.number c.in_ok-lasts.lasts.items) c.in_ok-answers.answers.prefixes.items
-    c.in_ok-answers.answers.values.items
-    c.len.ensures.blocks c.in_ok-lasts.ensures (rw (← c.as_slice.ensures.value)
-    c.in_ok-answers.ensures))
+invariant_of-result g c = record {
+  lasts = map g.N.CidrNetwork.number c.in_ok-lasts.lasts.items;
+  placed = rw c.as_slice-2.ensures.value at c.in_ok-places.ensures;
+  answered = answered g.N.CidrNetwork.WIDTH c.args.table
+      (map g.N.CidrNetwork.number c.in_ok-lasts.lasts.items)
+      c.in_ok-answers.answers.prefixes.items c.in_ok-answers.answers.values.items
+      c.len.ensures.blocks c.in_ok-lasts.ensures
+      (rw (← c.as_slice.ensures.value) c.in_ok-answers.ensures);
+}

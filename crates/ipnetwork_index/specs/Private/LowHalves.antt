@@ -1,0 +1,99 @@
+-- Numbers known by the part that they lie in and by their last 16 bits.
+use Rattle.std.specs.Prelude.{◌≡◌, ℕ, ◌+◌, ◌/◌, ◌%◌, ◌^◌, ◌<◌, ◌≤◌, List, length, Option, MatchOption}
+use Rattle.std.proofs.Common.{get_or}
+use Rattle.ipnetwork_index.specs.Private.Partitions.{IsPartition}
+
+-- each number is greater than those before it
+abbrev pub AreAscending : List ℕ → Type 0
+AreAscending numbers =
+    (i j : ℕ) → i < j → j < length numbers → get_or numbers i 0 < get_or numbers j 0
+
+-- the first numbers, so many, lie before the part
+abbrev pub AreBefore : List ℕ → ℕ → ℕ → ℕ → Type 0
+AreBefore numbers shift part count =
+    (k : ℕ) → k < count → get_or numbers k 0 / 2 ^ shift < part
+
+-- so they do, and the others lie in it or after it
+pub record IsFirstOf (numbers : List ℕ) (shift part at : ℕ) : Type 0 where
+  pub within : at ≤ length numbers
+  pub before : AreBefore numbers shift part at
+  pub from : (k : ℕ) → at ≤ k → k < length numbers → part ≤ get_or numbers k 0 / 2 ^ shift
+
+-- for each part these tell how many
+abbrev pub AreFirsts : List ℕ → List ℕ → ℕ → Type 0
+AreFirsts numbers starts shift = (part : ℕ) → part < length starts
+    → IsFirstOf numbers shift part (get_or starts part 0)
+
+-- and so they do for the first parts, and before the next one so many numbers lie at least
+pub record AreFirstsSoFar (numbers starts : List ℕ) (shift part at : ℕ) : Type 0 where
+  pub all : (h : ℕ) → h < part → IsFirstOf numbers shift h (get_or starts h 0)
+  pub within : at ≤ length numbers
+  pub before : AreBefore numbers shift part at
+
+-- there is a start for the part of each number of 32 bits, and for the next part
+abbrev pub ReachAll : List ℕ → ℕ → Type 0
+ReachAll starts shift = (x : ℕ) → x < 2 ^ 32 → x / 2 ^ shift + 1 < length starts
+
+-- these are the last 16 bits of the numbers, and eight more
+pub record AreLows (numbers lows : List ℕ) : Type 0 where
+  pub room : length lows ≡ length numbers + 8
+  pub all : (k : ℕ) → k < length numbers → get_or lows k 0 ≡ get_or numbers k 0 % 65536
+
+-- the numbers are known by these
+pub record AreKnownBy (numbers lows starts : List ℕ) (shift : ℕ) : Type 0 where
+  pub narrow : shift ≤ 16
+  pub lows_are : AreLows numbers lows
+  pub reach : ReachAll starts shift
+  pub firsts : AreFirsts numbers starts shift
+
+-- the numbers, with which ranges of the numbers of w bits end, at most 32, are known by these
+pub record AreLowHalvesOf (w : ℕ) (lows starts : List ℕ) (shift : ℕ) (numbers : List ℕ) : Type 0
+  where
+    pub short : w ≤ 32
+    pub partition : IsPartition w numbers
+    pub known : AreKnownBy numbers lows starts shift
+
+-- so some numbers are
+pub record AreLowHalves (lows starts : List ℕ) (shift : ℕ) : Type 0 where
+  pub w : ℕ
+  pub numbers : List ℕ
+  pub of : AreLowHalvesOf w lows starts shift numbers
+
+-- of the eight from this place on so many are less than `low`, and the next one is not
+pub record IsRunOfLess (lows : List ℕ) (at low less : ℕ) : Type 0 where
+  pub few : less ≤ 8
+  pub before : (k : ℕ) → at ≤ k → k < at + less → get_or lows k 0 < low
+  pub next : less < 8 → low ≤ get_or lows (at + less) 0
+
+-- none of those from `from` up to `end` is less than one before it
+abbrev pub AreRising : List ℕ → ℕ → ℕ → Type 0
+AreRising lows from end =
+    (i j : ℕ) → from ≤ i → i ≤ j → j < end → get_or lows i 0 ≤ get_or lows j 0
+
+-- of these the first that is not less than `low` stands at this place, which is `end` if there is
+-- none
+pub record IsFirstFrom (lows : List ℕ) (from end low at : ℕ) : Type 0 where
+  pub after : from ≤ at
+  pub within : at ≤ end
+  pub before : (k : ℕ) → from ≤ k → k < at → get_or lows k 0 < low
+  pub next : at < end → low ≤ get_or lows at 0
+
+-- while it is searched for: the place is one of those from `at` to `to`
+pub record IsNarrowedTo (lows : List ℕ) (from end low at to : ℕ) : Type 0 where
+  pub after : from ≤ at
+  pub ordered : at ≤ to
+  pub within : to ≤ end
+  pub before : (k : ℕ) → from ≤ k → k < at → get_or lows k 0 < low
+  pub next : to < end → low ≤ get_or lows to 0
+
+-- where the ranges with these last numbers are looked up: in the partition, or in the low halves if
+-- there is none
+abbrev pub ArePlacesOf : ℕ → Option (List ℕ) → List ℕ → List ℕ → ℕ → List ℕ → Type 0
+ArePlacesOf w partition lows starts shift lasts =
+    MatchOption partition (AreLowHalvesOf w lows starts shift lasts) (λ own. own ≡ lasts)
+
+-- so some are
+pub record HavePlaces (w : ℕ) (partition : Option (List ℕ)) (lows starts : List ℕ) (shift : ℕ)
+    : Type 0 where
+  pub lasts : List ℕ
+  pub of : ArePlacesOf w partition lows starts shift lasts
