@@ -19,34 +19,58 @@ pub(crate) fn begun<N: AddressSpace, H: Guessed<N>>(
     ensures within { result ≤ length list.now }
     ensures stands { StandsAt (map H.held list.now) (H.value number) result }
 {
-    if let Some(count) = begun_at_once::<N, H>(list, index, number) {
+    begun_near::<N, H>(list, index, number, guess::<N, H>(list, index, number))
+}
+
+/// The same, with a guess of the result, which is it mostly.
+#[inline(always)]
+pub(crate) fn begun_near<N: AddressSpace, H: Guessed<N>>(
+    list: &[H],
+    index: &[u32],
+    number: H::Number,
+    guess: usize,
+) -> usize
+    ensures within { result ≤ length list.now }
+    ensures stands { StandsAt (map H.held list.now) (H.value number) result }
+{
+    if let Some(count) = begun_at_once::<N, H>(list, number, guess) {
         return count;
     }
     begun_by_halves::<N, H>(list, index, number)
 }
 
-/// The same, if the search ends before or after the last struct of the part of the number, where it
-/// mostly does. No branch depends on whether this one begins up to the number: only then is looked
-/// whether the search ends there.
+/// A guess of how many begin up to the number: of the first three structs of its part those that
+/// seem to, and all before the part. No branch depends on how many these are.
 #[inline(always)]
-pub(crate) fn begun_at_once<N: AddressSpace, H: Guessed<N>>(
+pub(crate) fn guess<N: AddressSpace, H: Guessed<N>>(
     list: &[H],
     index: &[u32],
     number: H::Number,
+) -> usize {
+    if list.len() < 3 || index.is_empty() {
+        return 0;
+    }
+    let part = part_of::<N, H>(list, index, number);
+    let from = start_of(index, part).min(list.len() - 3);
+    from + three_up_to::<N, H>(list, from, number)
+}
+
+/// How many begin up to the number, if that is the guess.
+#[inline(always)]
+pub(crate) fn begun_at_once<N: AddressSpace, H: Numbered<N>>(
+    list: &[H],
+    number: H::Number,
+    guess: usize,
 ) -> Option<usize>
     ensures { IfSome result (StandsAt (map H.held list.now) (H.value number)) }
 {
-    if list.len() < 2 || index.is_empty() {
+    if guess > list.len() {
         return None;
     }
-    let part = part_of::<N, H>(list, index, number);
-    let end = part_end(index, part, list.len()).min(list.len());
-    let last = end.max(1) - 1;
-    let place = last + one_up_to::<N, H>(list, last, number);
-    if !next_is_after::<N, H>(list, place, number) || !last_is_up_to::<N, H>(list, place, number) {
+    if !next_is_after::<N, H>(list, guess, number) || !last_is_up_to::<N, H>(list, guess, number) {
         return None;
     }
-    Some(place)
+    Some(guess)
 }
 
 /// The same by halves: of the part of the number, and of the whole list if that is not in the
@@ -131,7 +155,6 @@ fn start_of(index: &[u32], part: usize) -> usize
 }
 
 // Where the part ends, as the index says, and the last one with the list.
-#[inline(always)]
 fn part_end(index: &[u32], part: usize, count: usize) -> usize
     requires { part < length index.now }
     ensures last { part + 1 ≡ length index.now → result ≡ count }
@@ -143,13 +166,15 @@ fn part_end(index: &[u32], part: usize, count: usize) -> usize
     index[part + 1] as usize
 }
 
-// 1 if the struct there seems to begin up to the number, and 0 if not.
+// How many of the three structs from `from` on seem to begin up to the number.
 #[inline(always)]
-fn one_up_to<N: AddressSpace, H: Guessed<N>>(list: &[H], place: usize, number: H::Number) -> usize
-    requires { place < length list.now }
-    ensures { result ≤ 1 }
+fn three_up_to<N: AddressSpace, H: Guessed<N>>(list: &[H], from: usize, number: H::Number) -> usize
+    requires { from + 3 ≤ length list.now }
+    ensures { result ≤ 3 }
 {
-    usize::from(list[place].seems_up_to(number))
+    let first = usize::from(list[from].seems_up_to(number));
+    let second = usize::from(list[from + 1].seems_up_to(number));
+    first + second + usize::from(list[from + 2].seems_up_to(number))
 }
 
 // Whether the struct after so many begins after the number, or there is none.
