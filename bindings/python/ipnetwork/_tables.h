@@ -147,14 +147,15 @@ static ipnetwork_fault numbers_of(const searched_list *ranges, const int64_t *nu
     size_t places[AT_ONCE], count = asked->count;
     uint8_t faults[AT_ONCE];
     memset(places, 0xff, sizeof places);
+    const size_t *beside = (const size_t *)numbers;
     ipnetwork_fault fault =
         ranges->width == 4
-            ? ipnetwork_v4_ranges_find_column((const ipnetwork_v4 *)ranges->structs, ranges->count, (const size_t *)numbers,
-                                              ranges->count, ranges->index, ranges->index_length, asked->octets, count,
-                                              places, count, faults, count)
-            : ipnetwork_v6_ranges_find_column((const ipnetwork_v6 *)ranges->structs, ranges->count, (const size_t *)numbers,
-                                              ranges->count, ranges->index, ranges->index_length, asked->octets, count,
-                                              places, count, faults, count);
+            ? ipnetwork_v4_ranges_find_column((const ipnetwork_v4 *)ranges->structs, ranges->count, beside, ranges->count,
+                                              ranges->index, ranges->index_length, asked->octets, count, places, count,
+                                              faults, count)
+            : ipnetwork_v6_ranges_find_column((const ipnetwork_v6 *)ranges->structs, ranges->count, beside, ranges->count,
+                                              ranges->index, ranges->index_length, asked->octets, count, places, count,
+                                              faults, count);
     for (size_t at = 0; at < count; at++) told[asked->rows[at]] = (int64_t)places[at];
     return fault;
 }

@@ -19,7 +19,12 @@ pub(crate) fn begun<N: AddressSpace, H: Guessed<N>>(
     ensures within { result ≤ length list.now }
     ensures stands { StandsAt (map H.held list.now) (H.value number) result }
 {
-    begun_near::<N, H>(list, index, number, guess::<N, H>(list, index, number))
+    begun_near::<N, H>(
+        list,
+        index,
+        number,
+        guess_by_last::<N, H>(list, index, number),
+    )
 }
 
 /// The same, with a guess of the result, which is it mostly.
@@ -39,10 +44,26 @@ pub(crate) fn begun_near<N: AddressSpace, H: Guessed<N>>(
     begun_by_halves::<N, H>(list, index, number)
 }
 
-/// A guess of how many begin up to the number: of the first three structs of its part those that
-/// seem to, and all before the part. No branch depends on how many these are.
+/// A guess of how many begin up to the number, by the last struct of its part: for lists of which a
+/// part mostly has one. No branch depends on whether it begins up to the number.
 #[inline(always)]
-pub(crate) fn guess<N: AddressSpace, H: Guessed<N>>(
+pub(crate) fn guess_by_last<N: AddressSpace, H: Guessed<N>>(
+    list: &[H],
+    index: &[u32],
+    number: H::Number,
+) -> usize {
+    if list.len() < 2 || index.is_empty() {
+        return 0;
+    }
+    let part = part_of::<N, H>(list, index, number);
+    let end = part_end(index, part, list.len()).min(list.len());
+    let last = end.max(1) - 1;
+    last + one_up_to::<N, H>(list, last, number)
+}
+
+/// The same by the first three of its part: for lists of which a part often has several.
+#[inline(always)]
+pub(crate) fn guess_by_three<N: AddressSpace, H: Guessed<N>>(
     list: &[H],
     index: &[u32],
     number: H::Number,
@@ -52,7 +73,9 @@ pub(crate) fn guess<N: AddressSpace, H: Guessed<N>>(
     }
     let part = part_of::<N, H>(list, index, number);
     let from = start_of(index, part).min(list.len() - 3);
-    from + three_up_to::<N, H>(list, from, number)
+    let first = one_up_to::<N, H>(list, from, number);
+    let second = one_up_to::<N, H>(list, from + 1, number);
+    from + first + second + one_up_to::<N, H>(list, from + 2, number)
 }
 
 /// How many begin up to the number, if that is the guess.
@@ -155,6 +178,7 @@ fn start_of(index: &[u32], part: usize) -> usize
 }
 
 // Where the part ends, as the index says, and the last one with the list.
+#[inline(always)]
 fn part_end(index: &[u32], part: usize, count: usize) -> usize
     requires { part < length index.now }
     ensures last { part + 1 ≡ length index.now → result ≡ count }
@@ -166,15 +190,13 @@ fn part_end(index: &[u32], part: usize, count: usize) -> usize
     index[part + 1] as usize
 }
 
-// How many of the three structs from `from` on seem to begin up to the number.
+// 1 if the struct there seems to begin up to the number, and 0 if not.
 #[inline(always)]
-fn three_up_to<N: AddressSpace, H: Guessed<N>>(list: &[H], from: usize, number: H::Number) -> usize
-    requires { from + 3 ≤ length list.now }
-    ensures { result ≤ 3 }
+fn one_up_to<N: AddressSpace, H: Guessed<N>>(list: &[H], place: usize, number: H::Number) -> usize
+    requires { place < length list.now }
+    ensures { result ≤ 1 }
 {
-    let first = usize::from(list[from].seems_up_to(number));
-    let second = usize::from(list[from + 1].seems_up_to(number));
-    first + second + usize::from(list[from + 2].seems_up_to(number))
+    usize::from(list[place].seems_up_to(number))
 }
 
 // Whether the struct after so many begins after the number, or there is none.

@@ -2,7 +2,7 @@
 //! guess waits for another one, and no search for what the list or its index has there.
 ghost use Rattle.std.specs.Prelude.{◌<◌, length};
 
-use crate::begun::guess;
+use crate::begun::guess_by_three;
 use crate::structs::{Ipv4InC, Ipv6InC, number_of, number_of_four};
 use ipnetwork::{Ipv4Network, Ipv6Network};
 
@@ -66,7 +66,7 @@ fn guess_v4_rows(
     guesses: &mut [usize; ROWS],
 ) {
     for (row, address) in addresses.iter().take(ROWS).enumerate() {
-        guesses[row] = guess::<Ipv4Network, Ipv4InC>(list, index, number_of_four(address));
+        guesses[row] = guess_by_three::<Ipv4Network, Ipv4InC>(list, index, number_of_four(address));
     }
 }
 
@@ -79,6 +79,6 @@ fn guess_v6_rows(
     guesses: &mut [usize; ROWS],
 ) {
     for (row, address) in addresses.iter().take(ROWS).enumerate() {
-        guesses[row] = guess::<Ipv6Network, Ipv6InC>(list, index, number_of(address));
+        guesses[row] = guess_by_three::<Ipv6Network, Ipv6InC>(list, index, number_of(address));
     }
 }

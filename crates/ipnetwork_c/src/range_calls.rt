@@ -6,7 +6,7 @@ ghost use Rattle.ipnetwork_c.specs.Ranges.{RangeQuery, no_place, place_before};
 ghost use Rattle.ipnetwork_c.specs.Numbers.{no_member};
 ghost use Rattle.ipnetwork_c.specs.Outcomes.{IsFault, Unless, Writes};
 
-use crate::begun::{begun_near, guess};
+use crate::begun::{begun_near, guess_by_three};
 use crate::fault::{NO_MEMBER, OK};
 use crate::guessed::Guessed;
 use crate::range_making::NO_PLACE;
@@ -32,7 +32,7 @@ pub extern "C" fn ipnetwork_v4_ranges_find(
         (number_of_octets address.now) place.old place.new result }
 {
     let number = number_of_four(address);
-    let guess = guess::<Ipv4Network, Ipv4InC>(ranges, index, number);
+    let guess = guess_by_three::<Ipv4Network, Ipv4InC>(ranges, index, number);
     place_near::<Ipv4Network, Ipv4InC>(ranges, places, index, number, guess, place)
 }
 
@@ -50,7 +50,7 @@ pub extern "C" fn ipnetwork_v6_ranges_find(
         (number_of_octets address.now) place.old place.new result }
 {
     let number = number_of(address);
-    let guess = guess::<Ipv6Network, Ipv6InC>(ranges, index, number);
+    let guess = guess_by_three::<Ipv6Network, Ipv6InC>(ranges, index, number);
     place_near::<Ipv6Network, Ipv6InC>(ranges, places, index, number, guess, place)
 }
 
@@ -91,19 +91,41 @@ fn put_found(found: usize, place: &mut usize) -> u32
     put_or_pass(found != NO_PLACE, found, place, &mut beside)
 }
 
-// Puts the number at `place` if one was found, and else beside it. Not inlined, so that it is
-// compiled to one store at either, and to no branch, which random addresses make hard to guess: a
-// compiler that sees that nothing reads what is put beside leaves that out, by a branch.
+// Puts the number at `place` if one was found, and else beside it, by one store, so that no branch
+// depends on the address. Not inlined: a compiler that sees that nothing reads what is put beside
+// leaves that out, by a branch that is often guessed wrong. What is read at last is not compiled:
+// it tells the proof of which of the two `place` is how it ends.
 #[inline(never)]
 fn put_or_pass(is_found: bool, number: usize, place: &mut usize, beside: &mut usize) -> u32
     requires { IsTrue is_found ↔ (number < no_place) }
     ensures { Unless (IsFault no_member (number ≡ no_place))
         (Writes (λ put. (put < no_place) × (put ≡ number))) place.old place.new result }
 {
+    let (target, other) = in_order(is_found, place, beside);
+    *target = number;
     if is_found {
-        *place = number;
+        let _put = *target;
         return OK;
     }
-    *beside = number;
+    let _kept = *other;
     NO_MEMBER
+}
+
+// Both, the first one first if this holds, and else last.
+#[inline(always)]
+fn in_order<'a>(
+    is_in_order: bool,
+    first: &'a mut usize,
+    second: &'a mut usize,
+) -> (&'a mut usize, &'a mut usize)
+    ensures kept { IsTrue is_in_order → (result.0.ghost_name ≡ first.entry.ghost_name)
+        × (result.1.ghost_name ≡ second.entry.ghost_name) }
+    ensures turned { ¬ IsTrue is_in_order → (result.0.ghost_name ≡ second.entry.ghost_name)
+        × (result.1.ghost_name ≡ first.entry.ghost_name) × (result.1.now ≡ first.old) }
+{
+    if is_in_order {
+        (first, second)
+    } else {
+        (second, first)
+    }
 }
