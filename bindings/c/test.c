@@ -45,6 +45,14 @@ static void leave_edge(void *bytes, size_t length) {
         abort();
 }
 
+/* A page that can be read, of zeros, and not written. */
+static void *read_only_page(void) {
+    void *page = mmap(NULL, (size_t)sysconf(_SC_PAGESIZE), PROT_READ, MAP_PRIVATE | MAP_ANONYMOUS, -1, 0);
+    if (page == MAP_FAILED)
+        abort();
+    return page;
+}
+
 /* Bytes, and NULL if there are none, as malloc may give. */
 static char *somewhere(char *bytes, size_t length) { return length == 0 ? NULL : bytes; }
 
@@ -1043,6 +1051,22 @@ static ipnetwork_fault column_by(const struct ranges_of_table *of, const uint8_t
     return ipnetwork_v6_ranges_find_column((const ipnetwork_v6 *)of->structs, of->count, of->places, of->count, of->index, of->index_length, addresses, asked, places, room, faults, fault_room);
 }
 
+/* Where no block has the address, its place may be one that cannot be written. */
+static void nothing_is_written(const struct ranges_of_table *of, const uint8_t *blocks, size_t count, const uint8_t *addresses, size_t asked) {
+    uint8_t without[300 * 16], faults[300];
+    size_t *place = read_only_page(), rows = 0;
+    for (size_t i = 0; i < asked; i++) {
+        const uint8_t *address = addresses + i * of->width;
+        if (plain_longest(blocks, count, of->width, address) != IPNETWORK_NO_PLACE) continue;
+        CHECK("ranges", found_by(of, of->count, address, place) == IPNETWORK_NO_MEMBER);
+        memcpy(without + rows++ * of->width, address, of->width);
+    }
+    CHECK("ranges", column_by(of, without, rows, place, rows, faults, rows) == YES);
+    for (size_t i = 0; i < rows; i++) CHECK("ranges", faults[i] == IPNETWORK_NO_MEMBER);
+    if (munmap(place, (size_t)sysconf(_SC_PAGESIZE)) != 0)
+        abort();
+}
+
 /* The ranges of a table cut it where they have to, and each address has the place that a linear search of the table finds,
  * by itself and in a column, whatever the index holds. */
 static void asked_ranges(const uint8_t *blocks, size_t count, size_t width, const uint8_t *addresses, size_t asked) {
@@ -1089,6 +1113,7 @@ static void asked_ranges(const uint8_t *blocks, size_t count, size_t width, cons
                                   : ipnetwork_v6_ranges_make((const ipnetwork_v6 *)blocks, count, (ipnetwork_v6 *)of.structs, room, of.places, 2 * count - 1, &told)) == IPNETWORK_SHORT_BUFFER && told == 77);
         CHECK("room", column_by(&of, addresses, 2, found, 1, faults, 2) == IPNETWORK_SHORT_BUFFER && column_by(&of, addresses, 2, found, 2, faults, 1) == IPNETWORK_SHORT_BUFFER);
     }
+    nothing_is_written(&of, blocks, count, addresses, asked);
     leave_edge(of.structs, room * stride);
     leave_edge(of.places, room * sizeof *of.places);
     leave_edge(of.index, 80);

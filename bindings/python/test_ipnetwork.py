@@ -226,9 +226,9 @@ class Questions(unittest.TestCase):
         good = bytes([10, 1, 2, 3, *bytes(12), 4])
         self.assertEqual(list(which.contains_column(good + bytes(17))), [1, 0])
         for length in (1, 3, 5, 15, 17, 32, 255):
-            for call in (which.contains_column, table.find_column):
-                with self.assertRaisesRegex(ValueError, f"row 1 .* {length}$"):
-                    call(good + bytes(16) + bytes([length]) + good)
+            for call, row in itertools.product((which.contains_column, table.find_column), (1, 300)):
+                with self.assertRaisesRegex(ValueError, f"row {row} .* {length}$"):
+                    call(good * row + bytes(16) + bytes([length]) + good)
 
     def test_a_network_does_not_change(self):
         for network, other in ((IPv4Network("10.1.9.32/16"), "::"), (IPv6Network("2001:db8::1/32"), b"")):

@@ -125,6 +125,58 @@ static PyObject *table_find(PyObject *module, PyObject *arguments) {
     return answered(table_has(&table, &address, &number)) ? PyLong_FromLongLong(number) : NULL;
 }
 
+/* How many rows of a column are asked in one call of the library. */
+enum { AT_ONCE = 128 };
+
+/* The addresses of one family among some rows, one after the other, and which rows these are. */
+typedef struct {
+    size_t count, rows[AT_ONCE];
+    uint8_t octets[AT_ONCE * 16];
+} Asked;
+
+/* Adds the address of a row, of `width` octets, which is known where it is compiled. */
+static inline void ask(Asked *asked, size_t row, const uint8_t *octets, size_t width) {
+    memcpy(asked->octets + asked->count * width, octets, width);
+    asked->rows[asked->count++] = row;
+}
+
+/* Puts into these rows the numbers of the longest networks that have their addresses, or -1, which is
+ * IPNETWORK_NO_PLACE as a place. */
+static ipnetwork_fault numbers_of(const searched_list *ranges, const int64_t *numbers, const Asked *asked,
+                                  int64_t *told) {
+    size_t places[AT_ONCE], count = asked->count;
+    uint8_t faults[AT_ONCE];
+    memset(places, 0xff, sizeof places);
+    const size_t *beside = (const size_t *)numbers;
+    ipnetwork_fault fault =
+        ranges->width == 4
+            ? ipnetwork_v4_ranges_find_column((const ipnetwork_v4 *)ranges->structs, ranges->count, beside, ranges->count,
+                                              ranges->index, ranges->index_length, asked->octets, count, places, count,
+                                              faults, count)
+            : ipnetwork_v6_ranges_find_column((const ipnetwork_v6 *)ranges->structs, ranges->count, beside, ranges->count,
+                                              ranges->index, ranges->index_length, asked->octets, count, places, count,
+                                              faults, count);
+    for (size_t at = 0; at < count; at++) told[asked->rows[at]] = (int64_t)places[at];
+    return fault;
+}
+
+/* The number of the longest network of each of so many rows, at most AT_ONCE, or -1; a row without an address has none.
+ * IPNETWORK_NO_FAMILY where there is neither an address of 4 or 16 octets nor none, in the row that is told. */
+static ipnetwork_fault table_has_rows(const Table *table, const ipnetwork_address *addresses, size_t count,
+                                      int64_t *told, size_t *row) {
+    Asked fours, sixes;
+    fours.count = sixes.count = 0;
+    for (*row = 0; *row < count; ++*row) {
+        const ipnetwork_address *address = &addresses[*row];
+        told[*row] = -1;
+        if (address->length == 4) ask(&fours, *row, address->octets, 4);
+        else if (address->length == 16) ask(&sixes, *row, address->octets, 16);
+        else if (address->length != 0) return IPNETWORK_NO_FAMILY;
+    }
+    ipnetwork_fault fault = numbers_of(&table->fours, table->four_numbers, &fours, told);
+    return fault != IPNETWORK_OK ? fault : numbers_of(&table->sixes, table->six_numbers, &sixes, told);
+}
+
 /* table_find_column(search, addresses): a number for each of the addresses, which are as `read_rows` leaves them. */
 static PyObject *table_find_column(PyObject *module, PyObject *arguments) {
     (void)module;
@@ -134,22 +186,23 @@ static PyObject *table_find_column(PyObject *module, PyObject *arguments) {
     if (!PyArg_UnpackTuple(arguments, "table_find_column", 2, 2, &search, &given) || !parse_table(search, &table)
         || !bytes_of(given, &column))
         return NULL;
-    Py_ssize_t count = column.len / (Py_ssize_t)sizeof(ipnetwork_address);
-    if (column.len % (Py_ssize_t)sizeof(ipnetwork_address) != 0) {
+    size_t count = (size_t)column.len / sizeof(ipnetwork_address);
+    if ((size_t)column.len % sizeof(ipnetwork_address) != 0) {
         PyErr_Format(PyExc_ValueError, "%zd bytes are no column of addresses of 17 bytes", column.len);
-    } else if ((numbers = PyByteArray_FromStringAndSize(NULL, count * (Py_ssize_t)sizeof(int64_t))) != NULL) {
+    } else if ((numbers = PyByteArray_FromStringAndSize(NULL, (Py_ssize_t)(count * sizeof(int64_t)))) != NULL) {
         const ipnetwork_address *addresses = column.buf;
         char *room = PyByteArray_AsString(numbers);
         ipnetwork_fault fault = IPNETWORK_OK;
-        Py_ssize_t row = 0;
-        int64_t number;
+        size_t from = 0, row = 0;
         Py_BEGIN_ALLOW_THREADS
-        for (; row < count; row++) {
-            if ((fault = table_has(&table, &addresses[row], &number)) != IPNETWORK_OK) break;
-            memcpy(room + (size_t)row * sizeof number, &number, sizeof number);
+        for (; from < count; from += AT_ONCE) {
+            size_t asked = count - from < AT_ONCE ? count - from : AT_ONCE;
+            int64_t told[AT_ONCE];
+            if ((fault = table_has_rows(&table, addresses + from, asked, told, &row)) != IPNETWORK_OK) break;
+            memcpy(room + from * sizeof *told, told, asked * sizeof *told);
         }
         Py_END_ALLOW_THREADS
-        if (fault == IPNETWORK_NO_FAMILY) no_such_row(row, addresses[row].length);
+        if (fault == IPNETWORK_NO_FAMILY) no_such_row((Py_ssize_t)(from + row), addresses[from + row].length);
         if (fault == IPNETWORK_NO_FAMILY || !answered(fault)) Py_CLEAR(numbers);
     }
     PyBuffer_Release(&column);

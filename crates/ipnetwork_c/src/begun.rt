@@ -19,34 +19,81 @@ pub(crate) fn begun<N: AddressSpace, H: Guessed<N>>(
     ensures within { result ≤ length list.now }
     ensures stands { StandsAt (map H.held list.now) (H.value number) result }
 {
-    if let Some(count) = begun_at_once::<N, H>(list, index, number) {
+    begun_near::<N, H>(
+        list,
+        index,
+        number,
+        guess_by_last::<N, H>(list, index, number),
+    )
+}
+
+/// The same, with a guess of the result, which is it mostly.
+#[inline(always)]
+pub(crate) fn begun_near<N: AddressSpace, H: Guessed<N>>(
+    list: &[H],
+    index: &[u32],
+    number: H::Number,
+    guess: usize,
+) -> usize
+    ensures within { result ≤ length list.now }
+    ensures stands { StandsAt (map H.held list.now) (H.value number) result }
+{
+    if let Some(count) = begun_at_once::<N, H>(list, number, guess) {
         return count;
     }
     begun_by_halves::<N, H>(list, index, number)
 }
 
-/// The same, if the search ends before or after the last struct of the part of the number, where it
-/// mostly does. No branch depends on whether this one begins up to the number: only then is looked
-/// whether the search ends there.
+/// A guess of how many begin up to the number, by the last struct of its part: for lists of which a
+/// part mostly has one. No branch depends on whether it begins up to the number.
 #[inline(always)]
-pub(crate) fn begun_at_once<N: AddressSpace, H: Guessed<N>>(
+pub(crate) fn guess_by_last<N: AddressSpace, H: Guessed<N>>(
     list: &[H],
     index: &[u32],
     number: H::Number,
-) -> Option<usize>
-    ensures { IfSome result (StandsAt (map H.held list.now) (H.value number)) }
-{
+) -> usize {
     if list.len() < 2 || index.is_empty() {
-        return None;
+        return 0;
     }
     let part = part_of::<N, H>(list, index, number);
     let end = part_end(index, part, list.len()).min(list.len());
     let last = end.max(1) - 1;
-    let place = last + one_up_to::<N, H>(list, last, number);
-    if !next_is_after::<N, H>(list, place, number) || !last_is_up_to::<N, H>(list, place, number) {
+    last + one_up_to::<N, H>(list, last, number)
+}
+
+/// The same by the first three of its part: for lists of which a part often has several.
+#[inline(always)]
+pub(crate) fn guess_by_three<N: AddressSpace, H: Guessed<N>>(
+    list: &[H],
+    index: &[u32],
+    number: H::Number,
+) -> usize {
+    if list.len() < 3 || index.is_empty() {
+        return 0;
+    }
+    let part = part_of::<N, H>(list, index, number);
+    let from = start_of(index, part).min(list.len() - 3);
+    let first = one_up_to::<N, H>(list, from, number);
+    let second = one_up_to::<N, H>(list, from + 1, number);
+    from + first + second + one_up_to::<N, H>(list, from + 2, number)
+}
+
+/// How many begin up to the number, if that is the guess.
+#[inline(always)]
+pub(crate) fn begun_at_once<N: AddressSpace, H: Numbered<N>>(
+    list: &[H],
+    number: H::Number,
+    guess: usize,
+) -> Option<usize>
+    ensures { IfSome result (StandsAt (map H.held list.now) (H.value number)) }
+{
+    if guess > list.len() {
         return None;
     }
-    Some(place)
+    if !next_is_after::<N, H>(list, guess, number) || !last_is_up_to::<N, H>(list, guess, number) {
+        return None;
+    }
+    Some(guess)
 }
 
 /// The same by halves: of the part of the number, and of the whole list if that is not in the

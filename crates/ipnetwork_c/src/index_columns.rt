@@ -4,13 +4,15 @@ ghost use Rattle.ipnetwork_c.specs.Indexes.{SetRows};
 ghost use Rattle.ipnetwork_c.specs.Lists.{SetQuery};
 ghost use Rattle.ipnetwork_c.specs.Tables.{TableQuery, TableRows};
 
-use crate::fault::{OK, SHORT_BUFFER};
+use crate::fault::{OK, PREFIX, SHORT_BUFFER};
+use crate::guesses::Guesses;
 use crate::halves::{self, Parts};
 use crate::index_calls::{
-    ipnetwork_v4_index_contains, ipnetwork_v4_index_find, ipnetwork_v6_index_contains,
-    ipnetwork_v6_index_find,
+    ipnetwork_v4_index_find, ipnetwork_v6_index_contains, ipnetwork_v6_index_find,
 };
-use crate::structs::{Ipv4InC, Ipv6InC};
+use crate::sets;
+use crate::structs::{Ipv4InC, Ipv6InC, number_of_four};
+use ipnetwork::Ipv4Network;
 
 /// For each of these addresses whether it is in the set of a list, by an index of the list: answer i and fault i are what
 /// `ipnetwork_v4_index_contains` leaves and returns of address i, so that a refusal stops nothing. What comes after them
@@ -29,19 +31,34 @@ pub extern "C" fn ipnetwork_v4_index_contains_column(
     if answers.len() < addresses.len() || faults.len() < addresses.len() {
         return SHORT_BUFFER;
     }
+    let mut guesses = Guesses::new();
     for (row, address) in addresses.iter().enumerate() {
-        faults[row] = v4_contains(blocks, index, address, &mut answers[row]);
+        let guess = guesses.v4(blocks, index, addresses, row);
+        faults[row] = v4_contains(blocks, index, address, guess, &mut answers[row]);
     }
     OK
 }
 
 // The fault of the call for one address, as a byte.
 #[inline(always)]
-fn v4_contains(blocks: &[Ipv4InC], index: &[u32], address: &[u8; 4], answer: &mut u8) -> u8
+fn v4_contains(
+    blocks: &[Ipv4InC],
+    index: &[u32],
+    address: &[u8; 4],
+    guess: usize,
+    answer: &mut u8,
+) -> u8
     ensures { SetQuery 32 v4_in blocks.now
         (number_of_octets address.now) answer.old answer.new result }
 {
-    ipnetwork_v4_index_contains(blocks, index, address, answer) as u8
+    let number = number_of_four(address);
+    match sets::contains_near::<Ipv4Network, Ipv4InC>(blocks, index, number, guess) {
+        Some(found) => {
+            *answer = found;
+            OK as u8
+        }
+        None => PREFIX as u8,
+    }
 }
 
 /// The same of IPv6, as `ipnetwork_v6_index_contains` answers.

@@ -16,6 +16,7 @@ mod columns;
 mod either;
 mod fault;
 mod guessed;
+mod guesses;
 mod halves;
 mod holding;
 mod index_calls;

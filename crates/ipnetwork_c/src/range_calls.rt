@@ -1,12 +1,12 @@
 //! Ranges in the caller's memory, asked for the longest block with an address: one search, whatever
 //! lies in what.
-ghost use Rattle.std.specs.Prelude.{◌≡◌, ◌<◌};
+ghost use Rattle.std.specs.Prelude.{◌≡◌, ◌↔◌, ◌<◌, IsTrue};
 ghost use Rattle.ipnetwork_c.specs.Held.{v4_in, v6_in, number_of_octets};
 ghost use Rattle.ipnetwork_c.specs.Ranges.{RangeQuery, no_place, place_before};
 ghost use Rattle.ipnetwork_c.specs.Numbers.{no_member};
 ghost use Rattle.ipnetwork_c.specs.Outcomes.{IsFault, Unless, Writes};
 
-use crate::begun::begun;
+use crate::begun::{begun_near, guess_by_three};
 use crate::fault::{NO_MEMBER, OK};
 use crate::guessed::Guessed;
 use crate::range_making::NO_PLACE;
@@ -31,7 +31,9 @@ pub extern "C" fn ipnetwork_v4_ranges_find(
     ensures { RangeQuery v4_in ranges.now places.now
         (number_of_octets address.now) place.old place.new result }
 {
-    place_at::<Ipv4Network, Ipv4InC>(ranges, places, index, number_of_four(address), place)
+    let number = number_of_four(address);
+    let guess = guess_by_three::<Ipv4Network, Ipv4InC>(ranges, index, number);
+    place_near::<Ipv4Network, Ipv4InC>(ranges, places, index, number, guess, place)
 }
 
 /// The same for IPv6, of what `ipnetwork_v6_ranges_make` makes.
@@ -47,21 +49,24 @@ pub extern "C" fn ipnetwork_v6_ranges_find(
     ensures { RangeQuery v6_in ranges.now places.now
         (number_of_octets address.now) place.old place.new result }
 {
-    place_at::<Ipv6Network, Ipv6InC>(ranges, places, index, number_of(address), place)
+    let number = number_of(address);
+    let guess = guess_by_three::<Ipv6Network, Ipv6InC>(ranges, index, number);
+    place_near::<Ipv6Network, Ipv6InC>(ranges, places, index, number, guess, place)
 }
 
-// The same for the number of an address.
+/// The same for the number of an address, with a guess of how many ranges begin up to it.
 #[inline(always)]
-fn place_at<N: AddressSpace, H: Guessed<N>>(
+pub(crate) fn place_near<N: AddressSpace, H: Guessed<N>>(
     ranges: &[H],
     places: &[usize],
     index: &[u32],
     number: H::Number,
+    guess: usize,
     place: &mut usize,
 ) -> u32
     ensures { RangeQuery H.held ranges.now places.now (H.value number) place.old place.new result }
 {
-    let count = begun::<N, H>(ranges, index, number);
+    let count = begun_near::<N, H>(ranges, index, number, guess);
     put_found(found_before(places, count), place)
 }
 
@@ -82,41 +87,45 @@ fn put_found(found: usize, place: &mut usize) -> u32
     ensures { Unless (IsFault no_member (found ≡ no_place))
         (Writes (λ put. (put < no_place) × (put ≡ found))) place.old place.new result }
 {
-    if found == NO_PLACE {
-        return NO_MEMBER;
-    }
-    *place = found;
-    OK
+    let mut beside = 0;
+    put_or_pass(found != NO_PLACE, found, place, &mut beside)
 }
 
-/// The same for a row of a column: what stood there is read, and written again if nothing is found,
-/// so that no branch depends on the address.
-#[inline(always)]
-pub(crate) fn row_at<N: AddressSpace, H: Guessed<N>>(
-    ranges: &[H],
-    places: &[usize],
-    index: &[u32],
-    number: H::Number,
-    place: &mut usize,
-) -> u32
-    ensures { RangeQuery H.held ranges.now places.now (H.value number) place.old place.new result }
-{
-    let count = begun::<N, H>(ranges, index, number);
-    let (put, fault) = found_or_before(found_before(places, count), *place);
-    *place = put;
-    fault
-}
-
-// What is put, and the fault: what was found, or what stood there before. Not inlined: a compiler
-// that sees where it is put leaves that out for the latter, by a branch that is often guessed wrong.
+// Puts the number at `place` if one was found, and else beside it, by one store, so that no branch
+// depends on the address. Not inlined: a compiler that sees that nothing reads what is put beside
+// leaves that out, by a branch that is often guessed wrong. What is read at last is not compiled:
+// it tells the proof of which of the two `place` is how it ends.
 #[inline(never)]
-fn found_or_before(found: usize, before: usize) -> (usize, u32)
-    ensures { Unless (IsFault no_member (found ≡ no_place))
-        (Writes (λ put. (put < no_place) × (put ≡ found))) before result.0 result.1 }
+fn put_or_pass(is_found: bool, number: usize, place: &mut usize, beside: &mut usize) -> u32
+    requires { IsTrue is_found ↔ (number < no_place) }
+    ensures { Unless (IsFault no_member (number ≡ no_place))
+        (Writes (λ put. (put < no_place) × (put ≡ number))) place.old place.new result }
 {
-    if found != NO_PLACE {
-        (found, OK)
+    let (target, other) = in_order(is_found, place, beside);
+    *target = number;
+    if is_found {
+        let _put = *target;
+        return OK;
+    }
+    let _kept = *other;
+    NO_MEMBER
+}
+
+// Both, the first one first if this holds, and else last.
+#[inline(always)]
+fn in_order<'a>(
+    is_in_order: bool,
+    first: &'a mut usize,
+    second: &'a mut usize,
+) -> (&'a mut usize, &'a mut usize)
+    ensures kept { IsTrue is_in_order → (result.0.ghost_name ≡ first.entry.ghost_name)
+        × (result.1.ghost_name ≡ second.entry.ghost_name) }
+    ensures turned { ¬ IsTrue is_in_order → (result.0.ghost_name ≡ second.entry.ghost_name)
+        × (result.1.ghost_name ≡ first.entry.ghost_name) × (result.1.now ≡ first.old) }
+{
+    if is_in_order {
+        (first, second)
     } else {
-        (before, NO_MEMBER)
+        (second, first)
     }
 }

@@ -3,7 +3,8 @@ ghost use Rattle.ipnetwork_c.specs.Held.{v4_in, v6_in, number_of_octets};
 ghost use Rattle.ipnetwork_c.specs.Ranges.{RangeQuery, RangeRows};
 
 use crate::fault::{OK, SHORT_BUFFER};
-use crate::range_calls::row_at;
+use crate::guesses::Guesses;
+use crate::range_calls::place_near;
 use crate::structs::{Ipv4InC, Ipv6InC, number_of, number_of_four};
 use ipnetwork::{Ipv4Network, Ipv6Network};
 
@@ -26,8 +27,10 @@ pub extern "C" fn ipnetwork_v4_ranges_find_column(
     if places.len() < addresses.len() || faults.len() < addresses.len() {
         return SHORT_BUFFER;
     }
+    let mut guesses = Guesses::new();
     for (row, address) in addresses.iter().enumerate() {
-        faults[row] = v4_find(ranges, range_places, index, address, &mut places[row]);
+        let near = guesses.v4(ranges, index, addresses, row);
+        faults[row] = v4_find(ranges, range_places, index, address, near, &mut places[row]);
     }
     OK
 }
@@ -39,18 +42,14 @@ fn v4_find(
     range_places: &[usize],
     index: &[u32],
     address: &[u8; 4],
+    guess: usize,
     place: &mut usize,
 ) -> u8
     ensures { RangeQuery v4_in ranges.now range_places.now
         (number_of_octets address.now) place.old place.new result }
 {
-    row_at::<Ipv4Network, Ipv4InC>(
-        ranges,
-        range_places,
-        index,
-        number_of_four(address),
-        place,
-    ) as u8
+    let number = number_of_four(address);
+    place_near::<Ipv4Network, Ipv4InC>(ranges, range_places, index, number, guess, place) as u8
 }
 
 /// The same of IPv6, as `ipnetwork_v6_ranges_find` finds places.
@@ -69,8 +68,10 @@ pub extern "C" fn ipnetwork_v6_ranges_find_column(
     if places.len() < addresses.len() || faults.len() < addresses.len() {
         return SHORT_BUFFER;
     }
+    let mut guesses = Guesses::new();
     for (row, address) in addresses.iter().enumerate() {
-        faults[row] = v6_find(ranges, range_places, index, address, &mut places[row]);
+        let near = guesses.v6(ranges, index, addresses, row);
+        faults[row] = v6_find(ranges, range_places, index, address, near, &mut places[row]);
     }
     OK
 }
@@ -82,10 +83,12 @@ fn v6_find(
     range_places: &[usize],
     index: &[u32],
     address: &[u8; 16],
+    guess: usize,
     place: &mut usize,
 ) -> u8
     ensures { RangeQuery v6_in ranges.now range_places.now
         (number_of_octets address.now) place.old place.new result }
 {
-    row_at::<Ipv6Network, Ipv6InC>(ranges, range_places, index, number_of(address), place) as u8
+    let number = number_of(address);
+    place_near::<Ipv6Network, Ipv6InC>(ranges, range_places, index, number, guess, place) as u8
 }

@@ -6,7 +6,7 @@ ghost use Rattle.ipnetwork_c.specs.Lists.{FindsIn};
 ghost use Rattle.ipnetwork_c.specs.Searches.{StandsAt};
 ghost use Rattle.ipnetwork_c.specs.Private.Sets.{EndFits, EndDoesNotFit};
 
-use crate::begun::{begun_at_once, begun_by_halves};
+use crate::begun::{begun_at_once, begun_by_halves, guess_by_last};
 use crate::guessed::Guessed;
 use crate::numbered::Numbered;
 use ipnetwork_blocks::{AddressSpace, laws};
@@ -25,7 +25,28 @@ pub(crate) fn contains<N: AddressSpace, H: Guessed<N>>(
     ensures fits { MatchOption result (EndDoesNotFit N.WIDTH (map H.held list.now) (H.value number))
         (λ _. EndFits N.WIDTH (map H.held list.now) (H.value number)) }
 {
-    if let Some(count) = begun_at_once::<N, H>(list, index, number) {
+    contains_near::<N, H>(
+        list,
+        index,
+        number,
+        guess_by_last::<N, H>(list, index, number),
+    )
+}
+
+/// The same, with a guess of how many blocks begin up to the number.
+#[inline(always)]
+pub(crate) fn contains_near<N: AddressSpace, H: Guessed<N>>(
+    list: &[H],
+    index: &[u32],
+    number: H::Number,
+    guess: usize,
+) -> Option<u8>
+    ensures answered { MatchOption result (¬ (All H.holds list.now))
+        (λ answer. FindsIn N.WIDTH (map H.held list.now) (H.value number) answer) }
+    ensures fits { MatchOption result (EndDoesNotFit N.WIDTH (map H.held list.now) (H.value number))
+        (λ _. EndFits N.WIDTH (map H.held list.now) (H.value number)) }
+{
+    if let Some(count) = begun_at_once::<N, H>(list, number, guess) {
         return answer_after::<N, H>(list, count, number);
     }
     contains_by_halves::<N, H>(list, index, number)

@@ -1,4 +1,4 @@
-use Rattle.std.proofs.Common.{◌+◌, ◌-◌, ℕ, map, arith}
+use Rattle.std.proofs.Common.{map, arith}
 use Rattle.std.proofs.lemmas.List.{length-map}
 use Rattle.ipnetwork_c.proofs.Indexed.{ends_at}
 use Rattle.ipnetwork_c.proofs.begun.begun_at_once.Goals as goal
@@ -8,6 +8,5 @@ returns g c =
     let held = g.H.HoldsNetwork.held in
     let list = c.args.list.now in
     let size = length-map list held in
-    let place : ℕ = c.max-last.result - 1 + c.one_up_to.result in
-    ends_at (map held list) (g.H.Numbered.value c.args.number) place (omega arith)
+    ends_at (map held list) (g.H.Numbered.value c.args.number) c.args.guess (omega arith)
     (c.last_is_up_to.ensures.0 c.if-not-last_is_up_to.false) (c.next_is_after.ensures.0 c.if-not-next_is_after.false)

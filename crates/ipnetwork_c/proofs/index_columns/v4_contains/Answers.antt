@@ -1,7 +1,9 @@
-use Rattle.std.proofs.Common.{arith}
 use Rattle.ipnetwork_c.specs.Held.{v4_in}
-use Rattle.ipnetwork_c.proofs.Searching.{set_fault_is_byte}
+use Rattle.ipnetwork_c.proofs.Searching.{set_answered, set_refused}
 use Rattle.ipnetwork_c.proofs.index_columns.v4_contains.Goals as goal
 
-pub overflow_cast-result : goal.overflow_cast-result
-overflow_cast-result c = let small = set_fault_is_byte 32 v4_in c.args.blocks.now _ c.ipnetwork_v4_index_contains.ensures in omega arith
+pub returns-in-Some : goal.returns-in-Some
+returns-in-Some c = set_answered 32 v4_in c.args.blocks.now _ _ _ _ c.number_of_four-number.ensures c.in-Some.ensures.fits c.in-Some.ensures.answered
+
+pub returns-in-None : goal.returns-in-None
+returns-in-None c = set_refused 32 v4_in c.args.blocks.now _ _ _ c.number_of_four-number.ensures c.in-None.ensures.fits

@@ -5,7 +5,7 @@ use Rattle.ipnetwork_c.proofs.Cutting.{range_fault_is_byte}
 use Rattle.ipnetwork_c.proofs.range_columns.v6_find.Goals as goal
 
 pub overflow_cast-result : goal.overflow_cast-result
-overflow_cast-result c = let small = range_fault_is_byte v6_in c.args.ranges.now c.args.range_places.now _ c.row_at.ensures in omega arith
+overflow_cast-result c = let small = range_fault_is_byte v6_in c.args.ranges.now c.args.range_places.now _ c.place_near.ensures in omega arith
 
 pub returns : goal.returns
-returns c = subst (λ (x : ℕ). RangeQuery v6_in c.args.ranges.now c.args.range_places.now x c.args.place.now c.row_at.new.place c.row_at.result) c.number_of.ensures c.row_at.ensures
+returns c = subst (λ (x : ℕ). RangeQuery v6_in c.args.ranges.now c.args.range_places.now x c.args.place.now c.place_near.new.place c.place_near.result) c.number_of-number.ensures c.place_near.ensures
