@@ -8,10 +8,12 @@ pub mod LawExamples
 pub mod LogParts
 pub mod LogsInTurn
 pub mod Marks
+pub mod Numbering
 pub mod OneOutput
 pub mod OptionValues
 pub mod Parts
 pub mod Reading
+pub mod Repeated
 pub mod Requests
 pub mod Runs
 pub mod Stopping

@@ -1,14 +1,16 @@
 -- What lines and logs are counted.
 use Rattle.std.proofs.Common.{◌≡◌, ℕ, ◌+◌, ◌≤◌, Bool, List, [], ◌∷◌, ◌++◌, length, refl, sym, ap, subst, append_assoc, append-nil, length-append}
-use Rattle.std.specs.Prelude.{Vec}
-use Rattle.std.specs.HashMap.{HashMap}
+use Rattle.std.specs.Prelude.{Option, Result, Ok, Err, OnOk}
+use Rattle.std.specs.Option.{is_some}
+use Rattle.ipnetwork_addr.specs.declared.ip.IpAddr.{IpAddr}
 use Rattle.cidr_join.specs.Joins.{Finds, address_in, mark_of}
 use Rattle.program.specs.LogLines.{LogLine, content}
 use Rattle.cidr_join.specs.Addressed.{is_addressed, any_addressed}
 use Rattle.cidr_join.specs.Stands.{Sees}
 use Rattle.cidr_join.specs.TallyRuns.{Marks}
-use Rattle.cidr_join.specs.Private.Counting.{Counted}
-use Rattle.cidr_join.specs.Private.TallyProgress.{CountsLine, CountsAll, CountsLines}
+use Rattle.cidr_join.specs.Private.TallyProgress.{IsCounted, CountsLine, CountsAll, CountsLines}
+use Rattle.cidr_join.specs.declared.counts.Counts.{Counts}
+use Rattle.cidr_join.specs.declared.found.Found.{Found}
 use Rattle.cidr_join.specs.declared.join.Join.{Join}
 use Rattle.cidr_join.specs.declared.seen.Seen.{Seen}
 use Rattle.cidr_join.proofs.Addressed.{sees_nothing, sees_more, any_more}
@@ -17,20 +19,36 @@ pub marks_both : (join : Join) (lines more : List LogLine) (a b : List (List ℕ
 marks_both join [] more a b p q = subst (λ (t : List (List ℕ)). Marks join more t) (ap (λ t. t ++ b) (sym p)) q
 marks_both join (line ∷ lines) more a b p q = (p.0, p.1 ++ b, p.2, p.3, marks_both join lines more p.1 b p.4 q, ap (λ t. t ++ b) p.5)
 
-module _ {Z S : Type 0} where
-  pub counts_nothing : (counts : HashMap (Vec ℕ Z) ℕ S) → CountsAll [] counts counts
-  counts_nothing counts texts counted = subst (λ (t : List (List ℕ)). Counted t counts) (sym (append-nil texts)) counted
+module _ (founds : List Found) where
+  pub counts_nothing : (counts : Counts) → CountsAll founds [] counts counts
+  counts_nothing counts texts counted = subst (λ (t : List (List ℕ)). IsCounted founds t counts) (sym (append-nil texts)) counted
 
-  pub counts_both : (old mid new : HashMap (Vec ℕ Z) ℕ S) (first second : List (List ℕ)) → CountsAll first old mid → CountsAll second mid new → CountsAll (first ++ second) old new
+  pub counts_both : (old mid new : Counts) (first second : List (List ℕ)) → CountsAll founds first old mid → CountsAll founds second mid new → CountsAll founds (first ++ second) old new
   counts_both old mid new first second p q texts counted =
-      subst (λ (t : List (List ℕ)). Counted t new) (append_assoc texts first second) (q (texts ++ first) (p texts counted))
+      subst (λ (t : List (List ℕ)). IsCounted founds t new) (append_assoc texts first second) (q (texts ++ first) (p texts counted))
 
-  pub no_lines : (join : Join) (counts : HashMap (Vec ℕ Z) ℕ S) (seen : Seen) → CountsLines join counts counts seen seen []
+  -- what is found for the address of a line was counted
+  pub line_counted : (join : Join) (old new : Counts) (was is : Seen) (line : List ℕ) (address : Option IpAddr) (found : Found) → address ≡ address_in join line → Finds join address found
+      → CountsAll founds (mark_of found ∷ []) old new → Sees was is 1 (is_some address) → CountsLine founds join line old new was is
+  line_counted join old new was is line address found same finds counts sees = (
+    found,
+    subst (λ (a : Option IpAddr). Finds join a found) same finds,
+    counts,
+    subst (λ (a : Option IpAddr). Sees was is 1 (is_some a)) same sees,
+  )
+
+  pub line_counted_if : {T E : Type 0} (result : Result T E) (join : Join) (old new : Counts) (was is : Seen) (line text : List ℕ) (address : Option IpAddr) (found : Found) → address ≡ address_in join line
+      → Finds join address found → mark_of found ≡ text → OnOk result ((all : List Found) → CountsAll all (text ∷ []) old new) → Sees was is 1 (is_some address) → OnOk result (CountsLine founds join line old new was is)
+  line_counted_if (Ok done) join old new was is line text address found same finds mark counts sees =
+      line_counted join old new was is line address found same finds (subst (λ (t : List ℕ). CountsAll founds (t ∷ []) old new) (sym mark) (counts founds)) sees
+  line_counted_if (Err fault) join old new was is line text address found same finds mark counts sees = tt
+
+  pub no_lines : (join : Join) (counts : Counts) (seen : Seen) → CountsLines founds join counts counts seen seen []
   no_lines join counts seen = ([], refl, counts_nothing counts, sees_nothing seen)
 
-  pub line_more : (join : Join) (old mid new : HashMap (Vec ℕ Z) ℕ S) (was among is : Seen) (line : List ℕ) → CountsLine join line mid new among is
-      → (first : List LogLine) (next : LogLine) → content next ≡ line → length line ≤ 1048576 → CountsLines join old mid was among first
-      → CountsLines join old new was is (first ++ next ∷ [])
+  pub line_more : (join : Join) (old mid new : Counts) (was among is : Seen) (line : List ℕ) → CountsLine founds join line mid new among is
+      → (first : List LogLine) (next : LogLine) → content next ≡ line → length line ≤ 1048576 → CountsLines founds join old mid was among first
+      → CountsLines founds join old new was is (first ++ next ∷ [])
   line_more join old mid new was among is line f first next same short d =
       let mark = mark_of f.0 in (
         d.0 ++ mark ∷ [],

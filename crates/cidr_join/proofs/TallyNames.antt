@@ -1,7 +1,6 @@
 -- Logs whose lines are counted in turn.
 use Rattle.std.proofs.Common.{◌≡◌, ◌==◌, ◌+◌, ◌≤◌, ◌++◌, ◌∷◌, ◌∙◌, [], ℕ, List, Bool, true, false, inl, inr, refl, sym, ap, subst, length, map, take, drop, append_assoc, append-nil, codes}
-use Rattle.std.specs.Prelude.{Option, Some, IsTrue, String, Vec}
-use Rattle.std.specs.HashMap.{HashMap}
+use Rattle.std.specs.Prelude.{Option, Some, IsTrue, String}
 use Rattle.std.specs.String.{string_bytes}
 use Rattle.std.specs.Io.KnownBytes.{Consumes, IsAtEnd}
 use Rattle.std.proofs.lemmas.List.{take_all}
@@ -16,6 +15,8 @@ use Rattle.cidr_join.specs.Addressed.{any_addressed, lacking_by, lacking_text}
 use Rattle.cidr_join.specs.TallyRuns.{MarksLogs, RunsOut, StopsTally}
 use Rattle.cidr_join.specs.Told.{log_fault_text}
 use Rattle.cidr_join.specs.Private.TallyProgress.{CountsLines, CountsNames, ReadsAll, ReadsToLine, StopsReading, TellsStop, tally_fault_text}
+use Rattle.cidr_join.specs.declared.counts.Counts.{Counts}
+use Rattle.cidr_join.specs.declared.found.Found.{Found}
 use Rattle.cidr_join.specs.declared.join.Join.{Join}
 use Rattle.cidr_join.specs.declared.log.LogFault.TheVariants as faults
 use Rattle.cidr_join.specs.declared.seen.Seen.{Seen}
@@ -68,9 +69,9 @@ module _ (join : Join) (known : KnownLists) where
       long = h.long;
     }
 
-    pub name_counted : {Z S E : Type 0} (old new : HashMap (Vec ℕ Z) ℕ S) (seen : Seen) (errors told : Written E) → ReadsAll (CountsLines join old new nothing_seen seen) remained remains
-        → Tells errors told (lacking_by join.place name seen.lines seen.is_addressed) → CountsNames join known (name ∷ []) old new errors told
-    name_counted old new seen errors told h tells =
+    pub name_counted : {E : Type 0} (founds : List Found) (old new : Counts) (seen : Seen) (errors told : Written E) → ReadsAll (CountsLines founds join old new nothing_seen seen) remained remains
+        → Tells errors told (lacking_by join.place name seen.lines seen.is_addressed) → CountsNames founds join known (name ∷ []) old new errors told
+    name_counted founds old new seen errors told h tells =
         let d = h.is_done in (
           d.0,
           lacking_text join name (log_lines h.read) ++ [],
@@ -81,10 +82,10 @@ module _ (join : Join) (known : KnownLists) where
               ∙ sym (append-nil (lacking_text join name (log_lines h.read)))) tells,
         )
 
-    pub name_stops : {Z S : Type 0} (old new : HashMap (Vec ℕ Z) ℕ S) (seen : Seen) (failed : Bool) (fault : TallyFault) → (IsTrue failed → known.may_fail name) → StopsReading (CountsLines join old new nothing_seen seen) remained remains failed fault
+    pub name_stops : (founds : List Found) (old new : Counts) (seen : Seen) (failed : Bool) (fault : TallyFault) → (IsTrue failed → known.may_fail name) → StopsReading (CountsLines founds join old new nothing_seen seen) remained remains failed fault
         → StopsTally join known (name ∷ []) (tally_fault_text name seen.lines fault)
-    name_stops old new seen failed (tallies.Log (faults.Open cause)) fails h = absurd h
-    name_stops old new seen failed (tallies.Log faults.Read) fails h = inl (record {
+    name_stops founds old new seen failed (tallies.Log (faults.Open cause)) fails h = absurd h
+    name_stops founds old new seen failed (tallies.Log faults.Read) fails h = inl (record {
       before = [];
       name = name;
       behind = [];
@@ -100,8 +101,8 @@ module _ (join : Join) (known : KnownLists) where
       of_reading = tt;
       is = refl;
     })
-    name_stops old new seen failed (tallies.Log faults.Write) fails h = absurd h
-    name_stops old new seen failed (tallies.Log faults.Length) fails h = inl (record {
+    name_stops founds old new seen failed (tallies.Log faults.Write) fails h = absurd h
+    name_stops founds old new seen failed (tallies.Log faults.Length) fails h = inl (record {
       before = [];
       name = name;
       behind = [];
@@ -117,7 +118,7 @@ module _ (join : Join) (known : KnownLists) where
       of_reading = tt;
       is = told_log name seen.lines (length h.first) faults.Length (counts_from_none 0 seen.lines _ refl h.is_done.3.0);
     })
-    name_stops old new seen failed (tallies.Log faults.Endless) fails h = inl (record {
+    name_stops founds old new seen failed (tallies.Log faults.Endless) fails h = inl (record {
       before = [];
       name = name;
       behind = [];
@@ -133,7 +134,7 @@ module _ (join : Join) (known : KnownLists) where
       of_reading = tt;
       is = refl;
     })
-    name_stops old new seen failed tallies.OutOfMemory fails h = inr (ran_out [] (name ∷ []) [] [] (refl, refl))
+    name_stops founds old new seen failed tallies.OutOfMemory fails h = inr (ran_out [] (name ∷ []) [] [] (refl, refl))
 
   -- a log that was not opened
   pub name_closed : (name : List ℕ) (cause : OpenFault) → known.may_open name false → known.may_miss name cause → StopsTally join known (name ∷ []) (log_fault_text name 0 (faults.Open cause))
@@ -156,8 +157,8 @@ module _ (join : Join) (known : KnownLists) where
 
   -- ---- logs in turn
 
-  pub names_none : {Z S E : Type 0} (old : HashMap (Vec ℕ Z) ℕ S) (errors : Written E) → CountsNames join known [] old old errors errors
-  names_none old errors = ([], [], (refl, refl), counts_nothing old, tells_nothing errors)
+  pub names_none : {E : Type 0} (founds : List Found) (old : Counts) (errors : Written E) → CountsNames founds join known [] old old errors errors
+  names_none founds old errors = ([], [], (refl, refl), counts_nothing founds old, tells_nothing errors)
 
   pub marks_logs_both : (first second : List (List ℕ)) (a b : List (List ℕ)) (s t : List ℕ) → MarksLogs join known first a s → MarksLogs join known second b t
       → MarksLogs join known (first ++ second) (a ++ b) (s ++ t)
@@ -176,10 +177,10 @@ module _ (join : Join) (known : KnownLists) where
     ap (λ (l : List ℕ). l ++ t) f.8 ∙ append_assoc (lacking_text join name (log_lines f.0)) f.3 t,
   )
 
-  pub names_both : {Z S E : Type 0} (first second : List (List ℕ)) (old mid new : HashMap (Vec ℕ Z) ℕ S) (errors between told : Written E) → CountsNames join known first old mid errors between
-      → CountsNames join known second mid new between told → CountsNames join known (first ++ second) old new errors told
-  names_both first second old mid new errors between told f g =
-      (f.0 ++ g.0, f.1 ++ g.1, marks_logs_both first second f.0 g.0 f.1 g.1 f.2 g.2, counts_both old mid new f.0 g.0 f.3 g.3, tells_more errors between told f.1 g.1 f.4 g.4)
+  pub names_both : {E : Type 0} (founds : List Found) (first second : List (List ℕ)) (old mid new : Counts) (errors between told : Written E) → CountsNames founds join known first old mid errors between
+      → CountsNames founds join known second mid new between told → CountsNames founds join known (first ++ second) old new errors told
+  names_both founds first second old mid new errors between told f g =
+      (f.0 ++ g.0, f.1 ++ g.1, marks_logs_both first second f.0 g.0 f.1 g.1 f.2 g.2, counts_both founds old mid new f.0 g.0 f.3 g.3, tells_more errors between told f.1 g.1 f.4 g.4)
 
   -- a log that stops behind others that were counted
   stops_behind : (done more rest names : List (List ℕ)) (marks : List (List ℕ)) (told text : List ℕ) → names ≡ done ++ (more ++ rest) → MarksLogs join known done marks told
@@ -211,28 +212,28 @@ module _ (join : Join) (known : KnownLists) where
   })
 
   module _ {Y : Type 0} (files : List (String Y)) where
-    pub input_counted : {Z S E : Type 0} (old new : HashMap (Vec ℕ Z) ℕ S) (errors told : Written E) → (length files == 0) ≡ true → CountsNames join known (codes "-" ∷ []) old new errors told
-        → CountsNames join known (logs_of files) old new errors told
-    input_counted old new errors told none h = subst (λ (n : List (List ℕ)). CountsNames join known n old new errors told) (sym (logs_none files none)) h
+    pub input_counted : {E : Type 0} (founds : List Found) (old new : Counts) (errors told : Written E) → (length files == 0) ≡ true → CountsNames founds join known (codes "-" ∷ []) old new errors told
+        → CountsNames founds join known (logs_of files) old new errors told
+    input_counted founds old new errors told none h = subst (λ (n : List (List ℕ)). CountsNames founds join known n old new errors told) (sym (logs_none files none)) h
 
     pub input_stops : {E : Type 0} (old new : Written E) → (length files == 0) ≡ true → TellsStop join known (codes "-" ∷ []) old new → TellsStop join known (logs_of files) old new
     input_stops old new none h = subst (λ (n : List (List ℕ)). TellsStop join known n old new) (sym (logs_none files none)) h
 
-    pub one_more : {Z S E : Type 0} (i : ℕ) (name : List ℕ) (old mid new : HashMap (Vec ℕ Z) ℕ S) (errors between told : Written E) → map string_bytes (take (i + 1) files) ≡ map string_bytes (take i files) ++ name ∷ []
-        → CountsNames join known (map string_bytes (take i files)) old mid errors between → CountsNames join known (name ∷ []) mid new between told
-        → CountsNames join known (map string_bytes (take (i + 1) files)) old new errors told
-    one_more i name old mid new errors between told more f g =
-        subst (λ (n : List (List ℕ)). CountsNames join known n old new errors told) (sym more) (names_both (map string_bytes (take i files)) (name ∷ []) old mid new errors between told f g)
+    pub one_more : {E : Type 0} (founds : List Found) (i : ℕ) (name : List ℕ) (old mid new : Counts) (errors between told : Written E) → map string_bytes (take (i + 1) files) ≡ map string_bytes (take i files) ++ name ∷ []
+        → CountsNames founds join known (map string_bytes (take i files)) old mid errors between → CountsNames founds join known (name ∷ []) mid new between told
+        → CountsNames founds join known (map string_bytes (take (i + 1) files)) old new errors told
+    one_more founds i name old mid new errors between told more f g =
+        subst (λ (n : List (List ℕ)). CountsNames founds join known n old new errors told) (sym more) (names_both founds (map string_bytes (take i files)) (name ∷ []) old mid new errors between told f g)
 
-    pub all_counted : {Z S E : Type 0} (i : ℕ) (old new : HashMap (Vec ℕ Z) ℕ S) (errors told : Written E) → (length files == 0) ≡ false → length files ≤ i
-        → CountsNames join known (map string_bytes (take i files)) old new errors told → CountsNames join known (logs_of files) old new errors told
-    all_counted i old new errors told some all f =
-        subst (λ (n : List (List ℕ)). CountsNames join known n old new errors told) (ap (map string_bytes) (take_all i files all) ∙ sym (logs_some files some)) f
+    pub all_counted : {E : Type 0} (founds : List Found) (i : ℕ) (old new : Counts) (errors told : Written E) → (length files == 0) ≡ false → length files ≤ i
+        → CountsNames founds join known (map string_bytes (take i files)) old new errors told → CountsNames founds join known (logs_of files) old new errors told
+    all_counted founds i old new errors told some all f =
+        subst (λ (n : List (List ℕ)). CountsNames founds join known n old new errors told) (ap (map string_bytes) (take_all i files all) ∙ sym (logs_some files some)) f
 
-    pub one_stops : {Z S E : Type 0} (i : ℕ) (name : List ℕ) (old mid : HashMap (Vec ℕ Z) ℕ S) (errors between told : Written E) → (length files == 0) ≡ false
-        → map string_bytes (take (i + 1) files) ≡ map string_bytes (take i files) ++ name ∷ [] → CountsNames join known (map string_bytes (take i files)) old mid errors between
+    pub one_stops : {E : Type 0} (founds : List Found) (i : ℕ) (name : List ℕ) (old mid : Counts) (errors between told : Written E) → (length files == 0) ≡ false
+        → map string_bytes (take (i + 1) files) ≡ map string_bytes (take i files) ++ name ∷ [] → CountsNames founds join known (map string_bytes (take i files)) old mid errors between
         → TellsStop join known (name ∷ []) between told → TellsStop join known (logs_of files) errors told
-    one_stops i name old mid errors between told some more f s = (
+    one_stops founds i name old mid errors between told some more f s = (
       f.1 ++ s.0,
       subst (λ (n : List (List ℕ)). StopsTally join known n (f.1 ++ s.0)) (sym (logs_some files some))
           (stops_behind (map string_bytes (take i files)) (name ∷ []) (map string_bytes (drop (i + 1) files)) (map string_bytes files) f.0 f.1 s.0 (names_apart files i name more) f.2 s.1),
@@ -240,9 +241,9 @@ module _ (join : Join) (known : KnownLists) where
     )
 
     -- memory ran out when all were
-    pub rows_lack : {Z S E : Type 0} (old new : HashMap (Vec ℕ Z) ℕ S) (errors between told : Written E) → CountsNames join known (logs_of files) old new errors between
+    pub rows_lack : {E : Type 0} (founds : List Found) (old new : Counts) (errors between told : Written E) → CountsNames founds join known (logs_of files) old new errors between
         → Tells between told (codes "out of memory\n") → TellsStop join known (logs_of files) errors told
-    rows_lack old new errors between told f tells = (
+    rows_lack founds old new errors between told f tells = (
       f.1 ++ codes "out of memory\n",
       inr (record {
         before = logs_of files;

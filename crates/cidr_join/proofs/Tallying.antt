@@ -1,5 +1,5 @@
--- How a tally counts one text more.
-use Rattle.std.proofs.Common.{◌≡◌, ℕ, zero, suc, ◌+◌, ◌-◌, ◌^◌, ◌<◌, ◌≤◌, ◌==◌, Bool, true, false, cond, List, [], ◌∷◌, ◌++◌, inl, inr, refl, sym, ap, subst, ◌∙◌, arith, min}
+-- How a tally counts a text so often.
+use Rattle.std.proofs.Common.{◌≡◌, ℕ, zero, suc, ◌+◌, ◌-◌, ◌*◌, ◌^◌, ◌<◌, ◌≤◌, ◌==◌, Bool, true, false, cond, List, [], ◌∷◌, ◌++◌, inl, inr, refl, sym, ap, subst, ◌∙◌, arith, min, replicate}
 use Rattle.std.specs.Prelude.{Option, None, Some, Vec, nat_eq, IfSome, map, length}
 use Rattle.std.specs.Cmp.Lexicographic.{pointwise, bytes_decides, nat_list_eq_equiv}
 use Rattle.std.specs.HashMap.{HashMap, UpdatesBy}
@@ -16,11 +16,12 @@ use Rattle.std.proofs.lemmas.Bool.{ne_eqb}
 use Rattle.std.proofs.lemmas.List.{get_or-map, length-map}
 use Rattle.std.proofs.lemmas.List.Elements.{All-head, All-tail}
 use Rattle.std.proofs.lemmas.List.Sorted.{IsPermutation-map, sum_by-IsPermutation}
-use Rattle.std.proofs.lemmas.List.Sums.{sum_by_push, sum_by-cons}
+use Rattle.std.proofs.lemmas.List.Folds.{sum_by-replicate}
+use Rattle.std.proofs.lemmas.List.Sums.{sum_by-append, sum_by-cons}
 use Rattle.std.proofs.lemmas.Map.Views.{All-values_from_lookup}
 use Rattle.std.proofs.lemmas.Option.{none-some}
 use Rattle.cidr_join.specs.Tallies.{Row, count_of, counted_by, rows_of, row_cmp, IsTally}
-use Rattle.cidr_join.specs.Private.Counting.{found_for, some_count, row_of, Counted, CountsOne}
+use Rattle.cidr_join.specs.Private.Counting.{found_for, some_count, row_of, Counted, CountsTexts}
 
 -- an entry of the map as a row
 abbrev pub entry_row : {Z : Type 0} → Vec ℕ Z × ℕ → Row
@@ -62,48 +63,48 @@ some_at : (number : ℕ) → 0 < number → some_count number ≡ Some number
 some_at zero h = absurd (omega (arith, h))
 some_at (suc number) h = refl
 
-one_if : Bool → ℕ
-one_if b = cond b 1 0
+count_more : (other text : List ℕ) (texts : List (List ℕ)) (n : ℕ) → count_by (bytes_eq other) (texts ++ replicate n text) ≡ count_by (bytes_eq other) texts + n * cond (bytes_eq other text) 1 0
+count_more other text texts n =
+    sum_by-append _ texts (replicate n text) ∙ ap (λ k. count_by (bytes_eq other) texts + k) (sum_by-replicate (λ mark. cond (bytes_eq other mark) 1 0) n text)
 
-count_push : (other text : List ℕ) (texts : List (List ℕ)) → count_by (bytes_eq other) (texts ++ text ∷ []) ≡ count_by (bytes_eq other) texts + cond (bytes_eq other text) 1 0
-count_push other text texts = sum_by_push _ texts text
+same_here : (text : List ℕ) (texts : List (List ℕ)) (n : ℕ) → count_by (bytes_eq text) (texts ++ replicate n text) ≡ count_by (bytes_eq text) texts + n
+same_here text texts n =
+    let more = count_more text text texts n ∙ ap (λ b. count_by (bytes_eq text) texts + n * cond b 1 0) (nat_list_eq_equiv.refl text) in
+    omega (arith, more)
 
-same_here : (text : List ℕ) (texts : List (List ℕ)) → count_by (bytes_eq text) (texts ++ text ∷ []) ≡ count_by (bytes_eq text) texts + 1
-same_here text texts = count_push text text texts ∙ ap (λ b. count_by (bytes_eq text) texts + cond b 1 0) (nat_list_eq_equiv.refl text)
-
-same_else : (other text : List ℕ) (texts : List (List ℕ)) → bytes_eq text other ≡ false → count_by (bytes_eq other) (texts ++ text ∷ []) ≡ count_by (bytes_eq other) texts
-same_else other text texts differ =
-    let none = count_push other text texts ∙ ap (λ b. count_by (bytes_eq other) texts + cond b 1 0) (nat_list_eq_equiv.symm other text ∙ differ) in
+same_else : (other text : List ℕ) (texts : List (List ℕ)) (n : ℕ) → bytes_eq text other ≡ false → count_by (bytes_eq other) (texts ++ replicate n text) ≡ count_by (bytes_eq other) texts
+same_else other text texts n differ =
+    let none = count_more other text texts n ∙ ap (λ b. count_by (bytes_eq other) texts + n * cond b 1 0) (nat_list_eq_equiv.symm other text ∙ differ) in
     omega (arith, none)
 
-module _ {Z S : Type 0} (text : List ℕ) (old new : HashMap (Vec ℕ Z) ℕ S) (count : ℕ)
+module _ {Z S : Type 0} (text : List ℕ) (old new : HashMap (Vec ℕ Z) ℕ S) (n count : ℕ)
     (h : UpdatesBy same_items (λ key. pointwise nat_eq text key.items) old new (Some count)) where
-  counts_one : ((texts : List (List ℕ)) → Counted texts old → some_count (min (count_by (bytes_eq text) texts + 1) (2 ^ 64 - 1)) ≡ Some count) → CountsOne text old new
-  counts_one one texts counted other = elim (cases_Bool (bytes_eq text other)) [
+  counts_so_often : ((texts : List (List ℕ)) → Counted texts old → some_count (min (count_by (bytes_eq text) texts + n) (2 ^ 64 - 1)) ≡ Some count) → CountsTexts (replicate n text) old new
+  counts_so_often one texts counted other = elim (cases_Bool (bytes_eq text other)) [
     | inl same ↦
         let is : text ≡ other = (bytes_decides text other).0 same in
-        subst (λ (t : List ℕ). found_for new t ≡ some_count (count_of t (texts ++ text ∷ []))) is
-        (found_here text old new count h ∙ sym (one texts counted) ∙ ap (λ n. some_count (min n (2 ^ 64 - 1))) (sym (same_here text texts)))
+        subst (λ (t : List ℕ). found_for new t ≡ some_count (count_of t (texts ++ replicate n text))) is
+        (found_here text old new count h ∙ sym (one texts counted) ∙ ap (λ k. some_count (min k (2 ^ 64 - 1))) (sym (same_here text texts n)))
     | inr differ ↦
         found_else text old new count h other differ ∙ counted other
-        ∙ ap (λ n. some_count (min n (2 ^ 64 - 1))) (sym (same_else other text texts differ))
+        ∙ ap (λ k. some_count (min k (2 ^ 64 - 1))) (sym (same_else other text texts n differ))
   ]
 
 -- a text that was counted before
-pub counts_again : {Z S : Type 0} (text : List ℕ) (old new : HashMap (Vec ℕ Z) ℕ S) (was count : ℕ) → found_for old text ≡ Some was
-    → count ≡ min (was + 1) (2 ^ 64 - 1) → UpdatesBy same_items (λ key. pointwise nat_eq text key.items) old new (Some count) → CountsOne text old new
-counts_again text old new was count found one h =
-    counts_one text old new count h (λ texts counted.
+pub counts_again : {Z S : Type 0} (text : List ℕ) (old new : HashMap (Vec ℕ Z) ℕ S) (n was count : ℕ) → 1 ≤ n → found_for old text ≡ Some was
+    → count ≡ min (was + n) (2 ^ 64 - 1) → UpdatesBy same_items (λ key. pointwise nat_eq text key.items) old new (Some count) → CountsTexts (replicate n text) old new
+counts_again text old new n was count some found sum h =
+    counts_so_often text old new n count h (λ texts counted.
     let is = some_is _ was (sym (counted text) ∙ found) in
-    some_at _ (omega arith) ∙ ap Some (omega (arith, is, one)))
+    some_at _ (omega (arith, some)) ∙ ap Some (omega (arith, is, sum)))
 
 -- one that was not
-pub counts_first : {Z S : Type 0} (text : List ℕ) (key : Vec ℕ Z) (old new : HashMap (Vec ℕ Z) ℕ S) → key.items ≡ text → found_for old text ≡ None
-    → UpdatesBy same_items (same_items key) old new (Some 1) → CountsOne text old new
-counts_first {Z} {S} text key old new same none h =
-    subst (λ (t : List ℕ). CountsOne t old new) same (counts_one key.items old new 1 h (λ texts counted.
+pub counts_first : {Z S : Type 0} (text : List ℕ) (key : Vec ℕ Z) (old new : HashMap (Vec ℕ Z) ℕ S) (n : ℕ) → 1 ≤ n → n < 2 ^ 64 → key.items ≡ text → found_for old text ≡ None
+    → UpdatesBy same_items (same_items key) old new (Some n) → CountsTexts (replicate n text) old new
+counts_first {Z} {S} text key old new n some fits same none h =
+    subst (λ (t : List ℕ). CountsTexts (replicate n t) old new) same (counts_so_often key.items old new n n h (λ texts counted.
     let is = none_is _ (sym (counted key.items) ∙ ap (found_for old) same ∙ none) in
-    some_at _ (omega arith) ∙ ap Some (omega (arith, is))))
+    some_at _ (omega (arith, some)) ∙ ap Some (omega (arith, is, fits))))
 
 -- ---- the rows of a map
 

@@ -4,6 +4,7 @@
 mod answers;
 mod arranging;
 mod command_line;
+mod counts;
 mod field;
 mod found;
 mod help;
@@ -15,6 +16,7 @@ mod line;
 mod list;
 mod log;
 mod logs;
+mod numbered;
 mod options;
 mod printing;
 mod routes;

@@ -1,7 +1,7 @@
 //! How often texts were counted.
-ghost use Rattle.std.specs.Prelude.{List, ℕ, [], map, IfOk, OnOk};
+ghost use Rattle.std.specs.Prelude.{List, ℕ, ◌≤◌, [], map, replicate, IfOk, OnOk};
 ghost use Rattle.cidr_join.specs.Tallies.{IsTally};
-ghost use Rattle.cidr_join.specs.Private.Counting.{row_of, Counted, CountsOne};
+ghost use Rattle.cidr_join.specs.Private.Counting.{row_of, Counted, CountsTexts};
 
 use std::alloc::{AllocError, Global};
 use std::cmp::Reverse;
@@ -26,16 +26,18 @@ impl Tally {
         }
     }
 
-    /// Counts a text. Allocates only if it was not counted before.
-    pub(crate) fn count(&mut self, alloc: Global, text: &[u8]) -> Result<(), AllocError>
-        ensures { OnOk result (CountsOne text.now self.old.counts self.new.counts) }
+    /// Counts a text so often. Allocates only if it was not counted before.
+    pub(crate) fn count(&mut self, alloc: Global, text: &[u8], count: u64) -> Result<(), AllocError>
+        requires { 1 ≤ count }
+        ensures { OnOk result
+            (CountsTexts (replicate count text.now) self.old.counts self.new.counts) }
     {
-        if let Some(count) = self.counts.get_mut(text) {
-            *count = count.saturating_add(1);
+        if let Some(before) = self.counts.get_mut(text) {
+            *before = before.saturating_add(count);
             return Ok(());
         }
         let text = Vec::from_slice(alloc, text)?;
-        self.counts.insert(text, 1)?;
+        self.counts.insert(text, count)?;
         Ok(())
     }
 

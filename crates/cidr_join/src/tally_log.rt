@@ -1,13 +1,15 @@
 //! Counts what a list gives the lines of a log.
 ghost use Rattle.std.specs.Prelude.{◌≡◌, ◌||◌, ◌≤◌, length, OnOk, IfErr};
 ghost use Rattle.lines.specs.Watched.{device_of, has_failed};
+ghost use Rattle.cidr_join.specs.Private.Numbering.{IsNumbering};
 ghost use Rattle.cidr_join.specs.Private.TallyProgress.{CountsLine, CountsLines, ReadsAll, StopsReading, ended_by_read};
 
+use crate::counts::Counts;
 use crate::found::Found;
 use crate::join::{Join, LINE_MAX};
 use crate::log::LogFault;
+use crate::numbered::Numbered;
 use crate::seen::Seen;
-use crate::tally::Tally;
 use lines::line_buffer::{LineBuffer, NextLine};
 use lines::watched::Watched;
 use std::alloc::{AllocError, Global};
@@ -28,18 +30,20 @@ pub enum TallyFault {
 pub(crate) fn tally_log<R: Read>(
     alloc: Global,
     join: &Join<'_>,
+    numbered: &Numbered<'_>,
     buffer: &mut [u8],
     reader: &mut Watched<R>,
-    tally: &mut Tally,
+    counts: &mut Counts,
     seen: &mut Seen,
 ) -> Result<(), TallyFault>
     requires room { 1048578 ≤ length buffer.old }
+    requires numbered { IsNumbering join.now.answers numbered.now }
     ensures ok { OnOk result
-        (ReadsAll (CountsLines join.now tally.old.counts tally.new.counts seen.old seen.new)
+        (ReadsAll (CountsLines numbered.now.founds.items join.now counts.old counts.new seen.old seen.new)
         (R.remaining (device_of reader.old))
         (R.remaining (device_of reader.new))) }
     ensures err { IfErr result
-        (StopsReading (CountsLines join.now tally.old.counts tally.new.counts seen.old seen.new)
+        (StopsReading (CountsLines numbered.now.founds.items join.now counts.old counts.new seen.old seen.new)
         (R.remaining (device_of reader.old))
         (R.remaining (device_of reader.new))
         (has_failed reader.new)) }
@@ -51,7 +55,7 @@ pub(crate) fn tally_log<R: Read>(
         match lines.next() {
             NextLine::Line(_) => {
                 let line = lines.line();
-                if let Err(_) = count_line(alloc, join, line, tally, seen) {
+                if let Err(_) = count_line(alloc, join, numbered, line, counts, seen) {
                     return Err(TallyFault::OutOfMemory);
                 }
             }
@@ -77,18 +81,26 @@ pub(crate) fn tally_log<R: Read>(
 fn count_line(
     alloc: Global,
     join: &Join<'_>,
+    numbered: &Numbered<'_>,
     line: &[u8],
-    tally: &mut Tally,
+    counts: &mut Counts,
     seen: &mut Seen,
 ) -> Result<(), AllocError>
+    requires { IsNumbering join.now.answers numbered.now }
     ensures { OnOk result
-        (CountsLine join.now line.now tally.old.counts tally.new.counts seen.old seen.new) }
+        (CountsLine numbered.now.founds.items join.now line.now counts.old counts.new seen.old seen.new) }
 {
     let address = join.address_in(line);
     seen.add(address.is_some());
+    if let Some(number) = numbered.number_of(address) {
+        counts.count_number(number);
+        return Ok(());
+    }
     match join.find(address) {
-        Found::Network(network) => tally.count(alloc, network.canonical().as_str().as_bytes()),
-        Found::Value(value) => tally.count(alloc, value.bytes()),
-        Found::Nothing => tally.count(alloc, b"-"),
+        Found::Network(network) => {
+            counts.count_text(alloc, network.canonical().as_str().as_bytes())
+        }
+        Found::Value(value) => counts.count_text(alloc, value.bytes()),
+        Found::Nothing => counts.count_text(alloc, b"-"),
     }
 }

@@ -7,13 +7,16 @@ ghost use Rattle.program.specs.Logs.{logs_of};
 ghost use Rattle.cidr_join.specs.Tallies.{row_text, rows_text};
 ghost use Rattle.cidr_join.specs.TallyRuns.{EndsTally};
 ghost use Rattle.cidr_join.specs.Private.Counting.{row_of};
+ghost use Rattle.cidr_join.specs.Private.Numbering.{IsNumbering};
 ghost use Rattle.cidr_join.specs.Private.TallyProgress.{CountsNames, TellsStop, tally_fault_text};
 
+use crate::counts::Counts;
 use crate::join::Join;
 use crate::log::LogFault;
+use crate::numbered::Numbered;
 use crate::printing::put_both;
 use crate::seen::Seen;
-use crate::tally::{Row, Tally};
+use crate::tally::Row;
 use crate::tally_log::{TallyFault, tally_log};
 use crate::telling::{tell_lacking, tell_log_fault};
 use lines::fault::RunFault;
@@ -40,11 +43,28 @@ pub(crate) fn tally_logs<L: OpenLists, W: Write, E: Write>(
     ensures { EndsTally join.now (L.known lists.now) (logs_of files.now)
         (ending output.old output.new errors.old errors.new result) }
 {
-    let mut tally = Tally::new(alloc);
-    if !tally_each(alloc, join, files, lists, buffer, &mut tally, errors) {
+    let Ok(numbered) = Numbered::of(alloc, &join.answers) else {
+        tell("out of memory\n", errors);
+        return FAILED;
+    };
+    let founds = numbered.founds();
+    let Ok(mut counts) = Counts::new(alloc, founds.len()) else {
+        tell("out of memory\n", errors);
+        return FAILED;
+    };
+    if !tally_each(
+        alloc,
+        join,
+        &numbered,
+        files,
+        lists,
+        buffer,
+        &mut counts,
+        errors,
+    ) {
         return FAILED;
     }
-    let Ok(rows) = tally.into_rows(alloc) else {
+    let Ok(rows) = counts.into_rows(alloc, founds) else {
         tell("out of memory\n", errors);
         return FAILED;
     };
@@ -57,25 +77,27 @@ pub(crate) fn tally_logs<L: OpenLists, W: Write, E: Write>(
 fn tally_each<L: OpenLists, E: Write>(
     alloc: Global,
     join: &Join<'_>,
+    numbered: &Numbered<'_>,
     files: &[String],
     lists: &L,
     buffer: &mut [u8],
-    tally: &mut Tally,
+    counts: &mut Counts,
     errors: &mut Output<'_, E>,
 ) -> bool
-    requires { 1048578 ≤ length buffer.old }
-    ensures all { result ≡ true → CountsNames join.now (L.known lists.now) (logs_of files.now)
-        tally.old.counts tally.new.counts errors.old errors.new }
+    requires room { 1048578 ≤ length buffer.old }
+    requires numbered { IsNumbering join.now.answers numbered.now }
+    ensures all { result ≡ true → CountsNames numbered.now.founds.items join.now (L.known lists.now) (logs_of files.now)
+        counts.old counts.new errors.old errors.new }
     ensures stopped { result ≡ false
         → TellsStop join.now (L.known lists.now) (logs_of files.now) errors.old errors.new }
 {
     if files.is_empty() {
         let input = "-";
-        return tally_one(alloc, join, input, lists, buffer, tally, errors);
+        return tally_one(alloc, join, numbered, input, lists, buffer, counts, errors);
     }
     for file in files {
         let name = file.as_str();
-        if !tally_one(alloc, join, name, lists, buffer, tally, errors) {
+        if !tally_one(alloc, join, numbered, name, lists, buffer, counts, errors) {
             return false;
         }
     }
@@ -87,15 +109,17 @@ fn tally_each<L: OpenLists, E: Write>(
 fn tally_one<L: OpenLists, E: Write>(
     alloc: Global,
     join: &Join<'_>,
+    numbered: &Numbered<'_>,
     name: &str,
     lists: &L,
     buffer: &mut [u8],
-    tally: &mut Tally,
+    counts: &mut Counts,
     errors: &mut Output<'_, E>,
 ) -> bool
-    requires { 1048578 ≤ length buffer.old }
-    ensures all { result ≡ true → CountsNames join.now (L.known lists.now) (name.now ∷ [])
-        tally.old.counts tally.new.counts errors.old errors.new }
+    requires room { 1048578 ≤ length buffer.old }
+    requires numbered { IsNumbering join.now.answers numbered.now }
+    ensures all { result ≡ true → CountsNames numbered.now.founds.items join.now (L.known lists.now) (name.now ∷ [])
+        counts.old counts.new errors.old errors.new }
     ensures stopped { result ≡ false
         → TellsStop join.now (L.known lists.now) (name.now ∷ []) errors.old errors.new }
 {
@@ -113,7 +137,7 @@ fn tally_one<L: OpenLists, E: Write>(
         }
     };
     let mut log = Watched::new(log);
-    let end = tally_log(alloc, join, buffer, &mut log, tally, &mut seen);
+    let end = tally_log(alloc, join, numbered, buffer, &mut log, counts, &mut seen);
     lists.close(name, log);
     match end {
         Ok(()) => {

@@ -1,9 +1,11 @@
 -- How a tally counts.
-use Rattle.std.specs.Prelude.{◌≡◌, ℕ, zero, suc, List, [], ◌∷◌, ◌++◌, Option, None, Some, Vec, nat_eq}
+use Rattle.std.specs.Prelude.{◌≡◌, ℕ, zero, suc, List, [], ◌∷◌, ◌++◌, replicate, Option, None, Some, Vec, nat_eq}
 use Rattle.std.specs.Cmp.Lexicographic.{pointwise}
 use Rattle.std.specs.HashMap.{HashMap, get_by}
-use Rattle.cidr_join.specs.Tallies.{Row, count_of}
 use Rattle.std.specs.declared.cmp.Reverse.{Reverse}
+use Rattle.cidr_join.specs.Joins.{mark_of}
+use Rattle.cidr_join.specs.Tallies.{Row, count_of}
+use Rattle.cidr_join.specs.declared.found.Found.{Found}
 
 -- a row of the code
 abbrev pub row_of : {Z : Type 0} → Reverse ℕ × Vec ℕ Z → Row
@@ -21,6 +23,12 @@ some_count (suc number) = Some (suc number)
 abbrev pub Counted : {Z S : Type 0} → List (List ℕ) → HashMap (Vec ℕ Z) ℕ S → Type 0
 Counted texts counts = (text : List ℕ) → found_for counts text ≡ some_count (count_of text texts)
 
--- one text more
-abbrev pub CountsOne : {Z S : Type 0} → List ℕ → HashMap (Vec ℕ Z) ℕ S → HashMap (Vec ℕ Z) ℕ S → Type 0
-CountsOne text old new = (texts : List (List ℕ)) → Counted texts old → Counted (texts ++ text ∷ []) new
+-- these texts more
+abbrev pub CountsTexts : {Z S : Type 0} → List (List ℕ) → HashMap (Vec ℕ Z) ℕ S → HashMap (Vec ℕ Z) ℕ S → Type 0
+CountsTexts marks old new = (texts : List (List ℕ)) → Counted texts old → Counted (texts ++ marks) new
+
+-- what the numbers stand for, each as often as it was counted
+abbrev pub repeated : List Found → List ℕ → List (List ℕ)
+repeated [] numbers = []
+repeated (found ∷ founds) [] = []
+repeated (found ∷ founds) (number ∷ numbers) = replicate number (mark_of found) ++ repeated founds numbers

@@ -1,6 +1,5 @@
 -- How far the lines of logs are counted.
-use Rattle.std.specs.Prelude.{◌≡◌, ℕ, ◌+◌, ◌-◌, ◌^◌, ◌<◌, Bool, true, false, IsTrue, List, ◌∷◌, ◌++◌, length, codes, Option, Result, Ok, Err, Vec}
-use Rattle.std.specs.HashMap.{HashMap}
+use Rattle.std.specs.Prelude.{◌≡◌, ℕ, ◌+◌, ◌-◌, ◌^◌, ◌<◌, Bool, true, false, IsTrue, List, [], ◌∷◌, ◌++◌, length, codes, Option, Result, Ok, Err}
 use Rattle.std.specs.Io.KnownBytes.{Consumes, IsAtEnd}
 use Rattle.std.specs.List.{list_all}
 use Rattle.lines.specs.LineBuffers.{Buffered, IsPending}
@@ -11,10 +10,12 @@ use Rattle.cidr_join.specs.Addressed.{is_addressed, any_addressed}
 use Rattle.cidr_join.specs.Joins.{address_in, Finds, mark_of}
 use Rattle.program.specs.LogLines.{LogLine, log_lines, ended_lines, content, IsWhole}
 use Rattle.cidr_join.specs.Stands.{Sees}
+use Rattle.cidr_join.specs.Tallies.{count_of}
 use Rattle.cidr_join.specs.TallyRuns.{Marks, MarksLogs, StopsTally}
 use Rattle.cidr_join.specs.Told.{log_fault_text}
-use Rattle.cidr_join.specs.Private.Counting.{Counted, CountsOne}
+use Rattle.cidr_join.specs.Private.Counting.{Counted, repeated}
 use Rattle.program.specs.LogReaders.{AreFirst}
+use Rattle.cidr_join.specs.declared.counts.Counts.{Counts}
 use Rattle.cidr_join.specs.declared.found.Found.{Found}
 use Rattle.cidr_join.specs.declared.join.Join.{Join}
 use Rattle.cidr_join.specs.declared.log.LogFault.TheVariants as faults
@@ -78,21 +79,29 @@ pub record ReadsSoFar (done : List LogLine → Type 0) (room : ℕ) (held : Buff
 
 -- ---- counts
 
-module _ {Z S : Type 0} where
-  -- what the list gives a line was counted, and the line
-  abbrev pub CountsLine : Join → List ℕ → HashMap (Vec ℕ Z) ℕ S → HashMap (Vec ℕ Z) ℕ S → Seen → Seen → Type 0
-  CountsLine join line old new was is = (found : Found) × Finds join (address_in join line) found × CountsOne (mark_of found) old new × Sees was is 1 (is_addressed join line)
+-- these texts were counted: each is as often among them as among those that were counted by their bytes and those that the
+-- numbers stand for together
+pub record IsCounted (founds : List Found) (texts : List (List ℕ)) (counts : Counts) : Type 0 where
+  pub kept : List (List ℕ)
+  pub is_kept : Counted kept counts.tally.counts
+  pub size : length counts.numbers.items ≡ length founds
+  pub all : (text : List ℕ) → count_of text (kept ++ repeated founds counts.numbers.items) ≡ count_of text texts
 
-  -- these texts were counted
-  abbrev pub CountsAll : List (List ℕ) → HashMap (Vec ℕ Z) ℕ S → HashMap (Vec ℕ Z) ℕ S → Type 0
-  CountsAll marks old new = (texts : List (List ℕ)) → Counted texts old → Counted (texts ++ marks) new
+module _ (founds : List Found) where
+  -- these texts more
+  abbrev pub CountsAll : List (List ℕ) → Counts → Counts → Type 0
+  CountsAll marks old new = (texts : List (List ℕ)) → IsCounted founds texts old → IsCounted founds (texts ++ marks) new
+
+  -- what the list gives a line was counted, and the line
+  abbrev pub CountsLine : Join → List ℕ → Counts → Counts → Seen → Seen → Type 0
+  CountsLine join line old new was is = (found : Found) × Finds join (address_in join line) found × CountsAll (mark_of found ∷ []) old new × Sees was is 1 (is_addressed join line)
 
   -- what it gives these lines was, and the lines
-  abbrev pub CountsLines : Join → HashMap (Vec ℕ Z) ℕ S → HashMap (Vec ℕ Z) ℕ S → Seen → Seen → List LogLine → Type 0
+  abbrev pub CountsLines : Join → Counts → Counts → Seen → Seen → List LogLine → Type 0
   CountsLines join old new was is lines = (marks : List (List ℕ)) × Marks join lines marks × CountsAll marks old new × Sees was is (length lines) (any_addressed join lines)
 
   -- what it gives the lines of the logs of these names was, and what there is to report of these was reported
-  abbrev pub CountsNames : {E : Type 0} → Join → KnownLists → List (List ℕ) → HashMap (Vec ℕ Z) ℕ S → HashMap (Vec ℕ Z) ℕ S → Written E → Written E → Type 0
+  abbrev pub CountsNames : {E : Type 0} → Join → KnownLists → List (List ℕ) → Counts → Counts → Written E → Written E → Type 0
   CountsNames join known names old new errors told = (marks : List (List ℕ)) × (text : List ℕ) × MarksLogs join known names marks text × CountsAll marks old new × Tells errors told text
 
 -- what is reported if the lines of a log were not counted to its end

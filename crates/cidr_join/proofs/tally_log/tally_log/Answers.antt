@@ -9,7 +9,7 @@ use Rattle.cidr_join.proofs.tally_log.tally_log.Goals as goal
 
 pub lines-init : goal.lines-init
 lines-init g c = record {
-  sofar = begins _ _ _ _ refl c.new-lines.ensures.holds c.new-lines.ensures.ended (no_lines c.args.join.now c.args.tally.now.counts c.args.seen.now);
+  sofar = begins _ _ _ _ refl c.new-lines.ensures.holds c.new-lines.ensures.ended (no_lines c.args.numbered.now.founds.items c.args.join.now c.args.counts.now c.args.seen.now);
   limit = c.new-lines.ensures.limit;
   size = refl;
   reads = refl;
@@ -21,7 +21,7 @@ pub lines-preserved-in_default : goal.lines-preserved-in_default
 lines-preserved-in_default g c = record {
   sofar = after_line _ c.lines.room c.lines.lines c.next.new.self _ _ c.lines.invariant.sofar c.next.ensures.ended _ c.line-line.result.now c.in-Line.field-0 c.in-Line.ensures.gives
       c.line-line.ensures (c.next.ensures.limit ∙ c.lines.invariant.limit)
-      (line_more c.args.join.now c.args.tally.now.counts c.lines.tally.counts c.count_line.new.tally.counts c.args.seen.now c.lines.seen c.count_line.new.seen c.line-line.result.now c.in_default.ensures);
+      (line_more c.args.numbered.now.founds.items c.args.join.now c.args.counts.now c.lines.counts c.count_line.new.counts c.args.seen.now c.lines.seen c.count_line.new.seen c.line-line.result.now c.in_default.ensures);
   limit = c.next.ensures.limit ∙ c.lines.invariant.limit;
   size = ap length c.next.ensures.unmoved ∙ c.lines.invariant.size;
   reads = c.lines.invariant.reads;

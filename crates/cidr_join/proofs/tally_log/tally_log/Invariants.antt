@@ -6,7 +6,7 @@ use Rattle.cidr_join.proofs.tally_log.tally_log.Given as goal
 
 abbrev pub invariant-lines : goal.invariant-lines
 invariant-lines g l = record {
-  sofar : ReadsSoFar (CountsLines l.join l.initial.tally.counts l.tally.counts l.initial.seen l.seen) l.room l.lines
+  sofar : ReadsSoFar (CountsLines l.numbered.founds.items l.join l.initial.counts l.counts l.initial.seen l.seen) l.room l.lines
       (g.R.Read.remaining (device_of l.initial.reader)) (g.R.Read.remaining (device_of l.reader));
   limit : l.lines.limit ≡ 1048576;
   size : length l.lines.bytes ≡ length l.initial.lines.bytes;

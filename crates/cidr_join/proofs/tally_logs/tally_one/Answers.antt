@@ -22,7 +22,7 @@ pub returns-in-Ok-end-clause-all : goal.returns-in-Ok-end-clause-all
 returns-in-Ok-end-clause-all g c = λ yes.
     let remaining = g.L.List.Read.remaining in
     name_counted c.args.join.now (g.L.OpenLists.known c.args.lists.now) c.args.name.now (remaining (device_of c.new-log.result)) (remaining (device_of c.tally_log-end.new.reader))
-    (λ input e. ap remaining c.new-log.ensures.device ∙ c.in-Ok.ensures.bytes input e) c.in-Ok.ensures.opened c.args.tally.now.counts c.tally_log-end.new.tally.counts c.tally_log-end.new.seen
+    (λ input e. ap remaining c.new-log.ensures.device ∙ c.in-Ok.ensures.bytes input e) c.in-Ok.ensures.opened c.args.numbered.now.founds.items c.args.counts.now c.tally_log-end.new.counts c.tally_log-end.new.seen
     c.args.errors.now c.tell_lacking.new.errors c.in-Ok-end.ensures.ok c.tell_lacking.ensures
 
 pub returns-in-Err-end-clause-stopped : goal.returns-in-Err-end-clause-stopped
@@ -30,7 +30,7 @@ returns-in-Err-end-clause-stopped g c = λ no.
     let remaining = g.L.List.Read.remaining in (
       tally_fault_text c.args.name.now c.tally_log-end.new.seen.lines c.in-Err-end.fault,
       name_stops c.args.join.now (g.L.OpenLists.known c.args.lists.now) c.args.name.now (remaining (device_of c.new-log.result)) (remaining (device_of c.tally_log-end.new.reader))
-          (λ input e. ap remaining c.new-log.ensures.device ∙ c.in-Ok.ensures.bytes input e) c.in-Ok.ensures.opened c.args.tally.now.counts c.tally_log-end.new.tally.counts c.tally_log-end.new.seen
+          (λ input e. ap remaining c.new-log.ensures.device ∙ c.in-Ok.ensures.bytes input e) c.in-Ok.ensures.opened c.args.numbered.now.founds.items c.args.counts.now c.tally_log-end.new.counts c.tally_log-end.new.seen
           (has_failed c.tally_log-end.new.reader) c.in-Err-end.fault c.close.ensures.failed c.in-Err-end.ensures.err,
       c.tell_stop-in-Err-end.ensures,
     )

@@ -1,0 +1,15 @@
+use Rattle.std.proofs.Common.{◌≡◌, ◌++◌, List, length}
+use Rattle.ipnetwork_table.specs.Table.{by_pair}
+use Rattle.cidr_join.specs.Private.Numbering.{found_by}
+use Rattle.cidr_join.specs.declared.found.Found.{Found}
+use Rattle.cidr_join.proofs.Numbering.{NumbersSoFar}
+use Rattle.cidr_join.proofs.numbered.number_each.Given as goal
+
+abbrev pub invariant-listing : goal.invariant-listing
+invariant-listing g l = record {
+  behind : (added : List Found) × (l.founds.items ≡ l.initial.founds.items ++ added);
+  so_far : NumbersSoFar (found_by l.network g.N.OfEither.either_of) l.table (by_pair g.N.CidrNetwork.pair l.left) l.numbers l.founds.items;
+}
+
+abbrev pub decreases-listing : goal.decreases-listing
+decreases-listing g l = length l.left

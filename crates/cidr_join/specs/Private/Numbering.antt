@@ -1,0 +1,60 @@
+-- The numbers of the networks of a list.
+use Rattle.std.specs.Prelude.{◌≡◌, ℕ, Bool, true, false, List, [], ◌++◌, Option, None, Some, IsSome, slice_get, if◌then◌else◌}
+use Rattle.std.specs.FinMap.{FinMap, get}
+use Rattle.ipnetwork_addr.specs.declared.ip.IpAddr.{IpAddr}
+use Rattle.ipnetwork.specs.declared.ip_network.IpNetwork.{IpNetwork}
+use Rattle.ipnetwork.specs.declared.ip_network.IpNetwork.TheVariants as families
+use Rattle.ipnetwork_family.specs.Network.{Network, network_cmp}
+use Rattle.cidr_join.specs.Joins.{FindsBy}
+use Rattle.cidr_join.specs.Routes.{Values}
+use Rattle.cidr_join.specs.Runs.{answers_by}
+use Rattle.cidr_join.specs.declared.answers.Answers.{Answers}
+use Rattle.cidr_join.specs.declared.answers.Answers.TheVariants as answers
+use Rattle.cidr_join.specs.declared.found.Found.{Found}
+use Rattle.cidr_join.specs.declared.found.Found.TheVariants as prints
+use Rattle.cidr_join.specs.declared.numbered.Numbered.{Numbered}
+use Rattle.cidr_join.specs.declared.routes.Routes.{Routes}
+use Rattle.cidr_join.specs.declared.value.Value.{Value}
+
+-- what is printed where this is the longest network, with this value: the network, as one of either family, or the value
+abbrev pub found_by : Bool → (Network → IpNetwork) → Network → Value → Found
+found_by true either n value = prints.Network (either n)
+found_by false either n value = prints.Value value
+
+-- each network of the table has a number, and no other network has. It stands for what is printed where the network is the
+-- longest
+pub record AreNumbered (by : Network → Value → Found) (table : Values) (numbers : FinMap network_cmp ℕ) (founds : List Found) : Type 0 where
+  pub stored : (n : Network) (number : ℕ) → get numbers n ≡ Some number → (value : Value) × (get table n ≡ Some value) × (slice_get founds number ≡ Some (by n value))
+  pub all : (n : Network) → IsSome (get table n) → IsSome (get numbers n)
+
+-- those of one more table are, behind what the numbers before stand for
+pub record AddsNumbers (by : Network → Value → Found) (table : Values) (numbers : FinMap network_cmp ℕ) (before founds : List Found) : Type 0 where
+  pub behind : (added : List Found) × (founds ≡ before ++ added)
+  pub numbered : AreNumbered by table numbers founds
+
+-- so are those of a list, and 0 stands for no network
+pub record NumbersRoutes (network : Bool) (routes : Routes) (numbered : Numbered) : Type 0 where
+  pub v4 : AreNumbered (found_by network (λ n. families.V4 n)) routes.v4 numbered.v4 numbered.founds.items
+  pub v6 : AreNumbered (found_by network (λ n. families.V6 n)) routes.v6 numbered.v6 numbered.founds.items
+  pub nothing : slice_get numbered.founds.items 0 ≡ Some prints.Nothing
+
+-- the networks by which this is printed of addresses are numbered, if it is not their blocks
+abbrev pub IsNumbering : Answers → Numbered → Type 0
+IsNumbering (answers.Values routes) numbered = NumbersRoutes false routes numbered
+IsNumbering (answers.Networks routes) numbered = NumbersRoutes true routes numbered
+IsNumbering (answers.Blocks lengths) numbered = numbered.founds.items ≡ []
+
+-- the number of what a look-up found, or 0
+abbrev pub number_or_none : Option (Network × ℕ) → ℕ
+number_or_none None = 0
+number_or_none (Some found) = found.1
+
+-- the number stands for what is found for an address
+abbrev pub StandsForRoute : Numbered → IpAddr → ℕ → Type 0
+StandsForRoute numbered address number = (network : Bool) (routes : Routes) → NumbersRoutes network routes numbered
+    → (found : Found) × (slice_get numbered.founds.items number ≡ Some found) × FindsBy (answers_by network routes) address found
+
+-- and for that of a line, if there is one
+abbrev pub StandsFor : Answers → Option IpAddr → List Found → ℕ → Type 0
+StandsFor by None founds number = slice_get founds number ≡ Some prints.Nothing
+StandsFor by (Some address) founds number = (found : Found) × (slice_get founds number ≡ Some found) × FindsBy by address found

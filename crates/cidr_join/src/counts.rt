@@ -1,0 +1,113 @@
+//! How often the texts of lines were counted.
+ghost use Rattle.std.specs.Prelude.{◌≡◌, ◌<◌, ◌+◌, ◌-◌, ◌^◌, ◌∷◌, [], min, length, map, replicate, List, ℕ, IfOk, OnOk, Some, slice_get, slice_set, slice_index_or};
+ghost use Rattle.cidr_join.specs.Joins.{mark_of};
+ghost use Rattle.cidr_join.specs.Tallies.{IsTally};
+ghost use Rattle.cidr_join.specs.Private.Counting.{row_of, repeated, CountsTexts};
+ghost use Rattle.cidr_join.specs.Private.TallyProgress.{IsCounted, CountsAll};
+ghost use Rattle.cidr_join.specs.declared.found.Found.{Found as FoundOf};
+
+use crate::found::Found;
+use crate::tally::{Row, Tally};
+use std::alloc::{AllocError, Global};
+
+/// How often each text was counted: by number, if a number stands for it, or by its bytes.
+#[derive(Drop)]
+pub struct Counts {
+    // How often each number was counted.
+    pub(crate) numbers: Vec<u64>,
+    // How often each other text was.
+    pub(crate) tally: Tally,
+}
+
+impl Counts {
+    /// Nothing was counted. There are so many numbers.
+    pub(crate) fn new(alloc: Global, count: usize) -> Result<Counts, AllocError>
+        ensures { IfOk result (λ counts. (founds : List FoundOf) → count ≡ length founds
+            → IsCounted founds [] counts) }
+    {
+        let numbers = vec![in alloc; 0u64; count]?;
+        let tally = Tally::new(alloc);
+        Ok(Counts { numbers, tally })
+    }
+
+    /// Counts what a number stands for.
+    pub(crate) fn count_number(&mut self, number: usize)
+        ensures { (founds : List FoundOf) (found : FoundOf) → slice_get founds number ≡ Some found
+            → CountsAll founds (mark_of found ∷ []) self.old self.new }
+    {
+        if number >= self.numbers.len() {
+            return;
+        }
+        add_one(self.numbers.as_mut_slice(), number);
+    }
+
+    /// Counts a text by its bytes. Allocates only if these were not counted before.
+    pub(crate) fn count_text(&mut self, alloc: Global, text: &[u8]) -> Result<(), AllocError>
+        ensures { OnOk result ((founds : List FoundOf)
+            → CountsAll founds (text.now ∷ []) self.old self.new) }
+    {
+        self.tally.count(alloc, text, 1)
+    }
+
+    /// The counts and their texts, most first, and those of one count by the bytes of the texts. This
+    /// is what the numbers stand for.
+    pub(crate) fn into_rows(
+        self,
+        alloc: Global,
+        founds: &[Found<'_>],
+    ) -> Result<Vec<Row>, AllocError>
+        ensures { IfOk result (λ rows. (texts : List (List ℕ)) → IsCounted founds.now texts self
+            → IsTally texts (map row_of rows.items)) }
+    {
+        let mut tally = self.tally;
+        count_each(alloc, founds, self.numbers.as_slice(), &mut tally)?;
+        tally.into_rows(alloc)
+    }
+}
+
+// Counts a number once more.
+fn add_one(numbers: &mut [u64], number: usize)
+    requires { number < length numbers.old }
+    ensures { numbers.new ≡ slice_set numbers.old number
+        (min (slice_index_or numbers.old number 0 + 1) (2 ^ 64 - 1)) }
+{
+    numbers[number] = numbers[number].saturating_add(1);
+}
+
+// Counts what each number stands for as often as the number was counted.
+fn count_each(
+    alloc: Global,
+    founds: &[Found<'_>],
+    numbers: &[u64],
+    tally: &mut Tally,
+) -> Result<(), AllocError>
+    ensures { OnOk result (length numbers.now ≡ length founds.now
+        → CountsTexts (repeated founds.now numbers.now) tally.old.counts tally.new.counts) }
+{
+    for place in 0..founds.len().min(numbers.len()) {
+        count_found(alloc, &founds[place], numbers[place], tally)?;
+    }
+    Ok(())
+}
+
+// Counts what is printed of an address so often.
+fn count_found(
+    alloc: Global,
+    found: &Found<'_>,
+    count: u64,
+    tally: &mut Tally,
+) -> Result<(), AllocError>
+    ensures { OnOk result (CountsTexts (replicate count (mark_of found.now))
+        tally.old.counts tally.new.counts) }
+{
+    if count == 0 {
+        return Ok(());
+    }
+    match found {
+        Found::Network(network) => {
+            tally.count(alloc, network.canonical().as_str().as_bytes(), count)
+        }
+        Found::Value(value) => tally.count(alloc, value.bytes(), count),
+        Found::Nothing => tally.count(alloc, b"-", count),
+    }
+}
