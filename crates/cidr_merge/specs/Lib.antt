@@ -14,6 +14,7 @@ pub mod Overlaps
 pub mod Parts
 pub mod Pieces
 pub mod Private
+pub mod Problems
 pub mod Reading
 pub mod Repetitions
 pub mod Runs
