@@ -2,6 +2,7 @@
 pub mod Answers
 pub mod CommandLines
 pub mod Endings
+pub mod EntriesWithin
 pub mod Exports
 pub mod FindRuns
 pub mod FindWords

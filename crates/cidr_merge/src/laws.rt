@@ -1,5 +1,6 @@
 //! What follows from the clauses of a run. The contract of each function is a law: it does nothing,
 //! and a proof that calls it may use the law.
+ghost use Rattle.cidr_merge.specs.EntriesWithin.{EachWithinAnotherIsTold};
 ghost use Rattle.cidr_merge.specs.Laws.{NoOtherForm, NoOtherInspection, NoOtherOperation};
 ghost use Rattle.cidr_merge.specs.Laws.{NoOtherOption};
 ghost use Rattle.cidr_merge.specs.Parts.{UnionsOfPartsPrintTheSame};
@@ -38,3 +39,11 @@ pub fn no_other_forms()
 pub fn no_other_inspections()
     ensures { NoOtherInspection }
 {}
+
+/// A strict check tells an entry of lists as lying in another, or as the same as another before it,
+/// exactly if it is so.
+pub fn each_entry_within_another_is_told(names: &[String])
+    ensures { EachWithinAnotherIsTold names.now }
+{
+    let _names = names;
+}
