@@ -14,30 +14,39 @@ abbrev pub entry : ℕ → ℕ → ℕ → Listed
 entry first last number = record { first = V4 first; last = V4 last; list = 0; number = number }
 
 -- entries in one that is wider, of which the second has no address of the first
-pub both_in_the_widest : {Z : Type 0} (names : List (String Z)) → repetitions names (entry 0 9 1 ∷ entry 1 2 2 ∷ entry 3 4 3 ∷ [])
+pub both_in_the_widest : {Z : Type 0} (names : List (String Z))
+    → repetitions names (entry 0 9 1 ∷ entry 1 2 2 ∷ entry 3 4 3 ∷ [])
     ≡ pair_text names (entry 1 2 2) (entry 0 9 1) ∷ pair_text names (entry 3 4 3) (entry 0 9 1) ∷ []
 both_in_the_widest names = refl
 
 -- the one just before, if it has the same addresses
-pub same_as_the_one_before : {Z : Type 0} (names : List (String Z)) → repetitions names (entry 0 9 1 ∷ entry 1 2 2 ∷ entry 1 2 3 ∷ [])
+pub same_as_the_one_before : {Z : Type 0} (names : List (String Z))
+    → repetitions names (entry 0 9 1 ∷ entry 1 2 2 ∷ entry 1 2 3 ∷ [])
     ≡ pair_text names (entry 1 2 2) (entry 0 9 1) ∷ pair_text names (entry 1 2 3) (entry 1 2 2) ∷ []
 same_as_the_one_before names = refl
 
--- of several with the greatest last address the first; an entry that only touches another is not told
-pub first_of_the_furthest : {Z : Type 0} (names : List (String Z)) → repetitions names (entry 0 9 1 ∷ entry 5 9 2 ∷ entry 9 12 3 ∷ entry 13 14 4 ∷ [])
-    ≡ pair_text names (entry 5 9 2) (entry 0 9 1) ∷ pair_text names (entry 9 12 3) (entry 0 9 1) ∷ []
+-- of several with the greatest last address the first; an entry that only touches another is not
+-- told
+pub first_of_the_furthest : {Z : Type 0} (names : List (String Z))
+    → repetitions names (entry 0 9 1 ∷ entry 5 9 2 ∷ entry 9 12 3 ∷ entry 13 14 4 ∷ [])
+    ≡ pair_text names (entry 5 9 2) (entry 0 9 1) ∷ pair_text names (entry 9 12 3)
+    (entry 0 9 1) ∷ []
 first_of_the_furthest names = refl
 
 -- 10.0.0.1/8 has host bits, 10.0.0.0/8 and 10.0.0.1/32 have none
-pub an_address_in_the_set : has_host_bits (Some (Network (networks.V4 (record { address = 167772161; prefix = 8 })))) ≡ true
+pub an_address_in_the_set : has_host_bits (Some (Network
+    (networks.V4 (record { address = 167772161; prefix = 8 })))) ≡ true
 an_address_in_the_set = refl
 
-pub the_first_address : has_host_bits (Some (Network (networks.V4 (record { address = 167772160; prefix = 8 })))) ≡ false
+pub the_first_address : has_host_bits (Some (Network (networks.V4
+    (record { address = 167772160; prefix = 8 })))) ≡ false
 the_first_address = refl
 
-pub the_only_address : has_host_bits (Some (Network (networks.V4 (record { address = 167772161; prefix = 32 })))) ≡ false
+pub the_only_address : has_host_bits (Some (Network (networks.V4
+    (record { address = 167772161; prefix = 32 })))) ≡ false
 the_only_address = refl
 
-pub host_bits_are_told : host_findings true (codes "f") 12 (codes "10.0.0.1/8") ≡ codes "f:12: host bits: 10.0.0.1/8\n" ∷ []
+pub host_bits_are_told : host_findings true (codes "f") 12
+    (codes "10.0.0.1/8") ≡ codes "f:12: host bits: 10.0.0.1/8\n" ∷ []
 unfolding digits
 host_bits_are_told = refl

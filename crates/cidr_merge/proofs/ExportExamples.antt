@@ -1,9 +1,10 @@
 -- Whole exports of small lists. Each of these computes.
-use Rattle.std.proofs.Common.{◌≡◌, List, [], ◌∷◌, refl, codes}
+use Rattle.std.proofs.Common.{◌≡◌, [], ◌∷◌, refl, codes}
 use Rattle.std.specs.Fmt.{digits}
 use Rattle.ipnetwork_family.specs.Network.{Network, count_up}
 use Rattle.cidr_merge.specs.Exports.{export_text}
-use Rattle.cidr_merge.specs.declared.exports.Export.TheVariants.{Netmask, Wildcard, Csv, Nft, Ipset, Json, Addresses}
+use Rattle.cidr_merge.specs.declared.exports.Export.TheVariants.{Netmask, Wildcard, Csv, Nft, Ipset}
+use Rattle.cidr_merge.specs.declared.exports.Export.TheVariants.{Json, Addresses}
 
 -- 10.0.0.0/8 and 192.0.2.7
 abbrev pub ten : Network
@@ -19,11 +20,13 @@ whole = record { address = 0; prefix = 0 }
 abbrev pub half : Network
 half = record { address = 0; prefix = 1 }
 
-pub masks : export_text Netmask (ten ∷ one ∷ []) (half ∷ []) ≡ codes "10.0.0.0 255.0.0.0\n192.0.2.7 255.255.255.255\n::/1\n"
+pub masks : export_text Netmask (ten ∷ one ∷ [])
+    (half ∷ []) ≡ codes "10.0.0.0 255.0.0.0\n192.0.2.7 255.255.255.255\n::/1\n"
 unfolding digits
 masks = refl
 
-pub wildcards : export_text Wildcard (ten ∷ one ∷ []) [] ≡ codes "10.0.0.0 0.255.255.255\n192.0.2.7 0.0.0.0\n"
+pub wildcards : export_text Wildcard
+    (ten ∷ one ∷ []) [] ≡ codes "10.0.0.0 0.255.255.255\n192.0.2.7 0.0.0.0\n"
 unfolding digits
 wildcards = refl
 
@@ -45,7 +48,8 @@ pub sets : export_text Ipset (ten ∷ []) (whole ∷ [])
 unfolding digits
 sets = refl
 
-pub an_array : export_text Json (ten ∷ one ∷ []) (half ∷ []) ≡ codes "[\n\"10.0.0.0/8\",\n\"192.0.2.7/32\",\n\"::/1\"\n]\n"
+pub an_array : export_text Json (ten ∷ one ∷ [])
+    (half ∷ []) ≡ codes "[\n\"10.0.0.0/8\",\n\"192.0.2.7/32\",\n\"::/1\"\n]\n"
 unfolding digits
 an_array = refl
 
@@ -56,6 +60,10 @@ an_array_of_one_family = refl
 pub an_empty_array : export_text Json [] [] ≡ codes "[\n]\n"
 an_empty_array = refl
 
-pub each_address : export_text Addresses (one ∷ record { address = 167772160; prefix = 31 } ∷ []) [] ≡ codes "192.0.2.7\n10.0.0.0\n10.0.0.1\n"
+pub each_address : export_text Addresses (one ∷ record {
+  address = 167772160;
+  prefix =
+      31;
+} ∷ []) [] ≡ codes "192.0.2.7\n10.0.0.0\n10.0.0.1\n"
 unfolding digits count_up
 each_address = refl

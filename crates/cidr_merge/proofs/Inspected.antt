@@ -1,6 +1,9 @@
 -- How a run ends that looks lists over.
-use Rattle.std.proofs.Common.{◌≡◌, ◌+◌, ◌||◌, ◌≤◌, ◌∙◌, ℕ, Bool, true, false, not, List, [], ◌∷◌, ◌++◌, refl, sym, ap, subst, arith, inl, inr, length, take, drop, length-take}
-use Rattle.std.specs.Prelude.{if◌then◌else◌, Option, None, Some, Result, Ok, Err, OnOk, IsFalse, is_err, String}
+use Rattle.std.proofs.Common.{◌≡◌, ◌+◌, ◌||◌, ◌≤◌, ◌∙◌, ℕ, Bool, true, false, not, List, [], ◌∷◌}
+use Rattle.std.proofs.Common.{◌++◌, refl, sym, ap, subst, arith, inl, inr, length, take, drop}
+use Rattle.std.proofs.Common.{length-take}
+use Rattle.std.specs.Prelude.{if◌then◌else◌, Option, None, Some, Result, Ok, Err, OnOk, IsFalse}
+use Rattle.std.specs.Prelude.{is_err, String}
 use Rattle.std.specs.List.{concat}
 use Rattle.std.specs.Io.KnownBytes.{Appends}
 use Rattle.std.proofs.KnownBytes.{Appends-trans}
@@ -11,24 +14,27 @@ use Rattle.lists.specs.KnownLists.{KnownLists}
 use Rattle.lists.specs.declared.named.ReadFault.{ReadFault}
 use Rattle.program.specs.Endings.{Ending, Refuses, status_of, end_text}
 use Rattle.program.specs.Messages.{Tells}
-use Rattle.program.specs.Told.{fault_text}
+use Rattle.program.specs.Told.{name_at, fault_text}
 use Rattle.program.specs.Usage.{usage_text}
 use Rattle.cidr_merge.specs.CommandLines.{options_len, options_of, lists_of}
 use Rattle.cidr_merge.specs.Findings.{ListsFindings, IsFound}
-use Rattle.cidr_merge.specs.InspectionRuns.{findings_status, EndsChecking, EndsFinding, EndsUnless, EndsInspecting}
+use Rattle.cidr_merge.specs.InspectionRuns.{findings_status, EndsChecking, EndsFinding, EndsUnless}
+use Rattle.cidr_merge.specs.InspectionRuns.{EndsInspecting}
 use Rattle.cidr_merge.specs.Inspections.{inspection_fault}
 use Rattle.cidr_merge.specs.Texts.{AreTexts, TextsStop}
-use Rattle.cidr_merge.specs.Usage.{problem_text}
+use Rattle.cidr_merge.specs.Problems.{problem_text}
 use Rattle.cidr_merge.specs.declared.inspections.Inspection.{Inspection}
 use Rattle.cidr_merge.specs.declared.usage.UsageFault.{UsageFault}
 
 -- ---- what was found is written
 
-pub status_is : (findings : List (List ℕ)) (found : Bool) → IsFound findings found → (if found then 1 else 0) ≡ findings_status findings
+pub status_is : (findings : List (List ℕ)) (found : Bool) → IsFound findings found
+    → (if found then 1 else 0) ≡ findings_status findings
 status_is [] found e = ap (λ (b : Bool). if b then 1 else 0) e
 status_is (one ∷ findings) found e =
     let some = eqb-suc-zero (length findings) in
-    ap (λ (b : Bool). if b then 1 else 0) (e ∙ ap not some) ∙ sym (ap (λ (b : Bool). if b then 0 else 1) some)
+    ap (λ (b : Bool). if b then 1 else 0) (e ∙ ap not some)
+    ∙ sym (ap (λ (b : Bool). if b then 0 else 1) some)
 
 pub works_before : (mid after : Bool) → after ≡ (mid || false) → IsFalse after → IsFalse mid
 works_before false after e works = refl
@@ -38,48 +44,95 @@ pub fails_now : (mid after : Bool) → after ≡ (mid || true) → after ≡ tru
 fails_now false after e = e
 fails_now true after e = e
 
-pub written_all : (held mid holds : Option (List ℕ)) (waited waits text : List ℕ) → Puts held waited mid waits text → Appends mid holds waits → Appends held holds (waited ++ text)
-written_all held mid holds waited waits text p h = subst (λ (t : List ℕ). Appends held holds t) (sym p.2) (Appends-trans held mid holds p.0 waits p.1 h)
+pub written_all : (held mid holds : Option (List ℕ)) (waited waits text : List ℕ)
+    → Puts held waited mid waits text → Appends mid holds waits
+    → Appends held holds (waited ++ text)
+written_all held mid holds waited waits text p h =
+    subst (λ (t : List ℕ). Appends held holds t) (sym p.2)
+    (Appends-trans held mid holds p.0 waits p.1 h)
 
-pub checked : {Z W E T : Type 0} (names : List (String Z)) (texts : List (List ℕ)) (end : Ending W E) (mid : Written W) (written : Result T RunFault) (found : Bool) (status : ℕ)
-    → ((findings : List (List ℕ)) × ListsFindings false names texts findings × Tells end.output mid (concat findings) × IsFound findings found) → status ≡ (if found then 1 else 0)
-    → OnOk written (Appends mid.holds end.output_after.holds mid.waits) → OnOk written (IsFalse end.output_after.failed) → end.output_after.failed ≡ (mid.failed || is_err written)
-    → end.status ≡ status_of written status → Tells end.errors end.errors_after (end_text written) → EndsChecking names texts end
+pub checked : {Z W E T : Type 0} (names : List (String Z)) (texts : List (List ℕ))
+    (end : Ending W E) (mid : Written W) (written : Result T RunFault) (found : Bool) (status : ℕ)
+    → ((findings : List (List ℕ)) × ListsFindings false names texts findings
+    × Tells end.output mid (concat findings) × IsFound findings found)
+    → status ≡ (if found then 1 else 0)
+    → OnOk written (Appends mid.holds end.output_after.holds mid.waits)
+    → OnOk written (IsFalse end.output_after.failed)
+    → end.output_after.failed ≡ (mid.failed || is_err written)
+    → end.status ≡ status_of written status → Tells end.errors end.errors_after (end_text written)
+    → EndsChecking names texts end
 checked names texts end mid (Ok done) found status h s wrote works failed is told =
     let prints = h.2.told (works_before mid.failed end.output_after.failed failed works) in
-    inr (h.0, h.1, (written_all end.output.holds mid.holds end.output_after.holds end.output.waits mid.waits (concat h.0) prints wrote, told, is ∙ s ∙ status_is h.0 found h.3))
-checked names texts end mid (Err fault) found status h s wrote works failed is told = inl (fails_now mid.failed end.output_after.failed failed, told, is)
+    inr (
+      h.0,
+      h.1,
+      (
+        written_all end.output.holds mid.holds end.output_after.holds end.output.waits mid.waits
+            (concat h.0) prints wrote,
+        told,
+        is ∙ s ∙ status_is h.0 found h.3,
+      ),
+    )
+checked names texts end mid (Err fault) found status h s wrote works failed is told =
+    inl (fails_now mid.failed end.output_after.failed failed, told, is)
 
 -- ---- what the words say
 
-module _ {Z : Type 0} (words others options names : List (String Z)) (count : ℕ) (o : others ≡ drop 1 words) (n : count ≡ options_len false others) (p : options ≡ take count others) (q : names ≡ drop count others) where
+module _ {Z : Type 0} (words others options names : List (String Z)) (count : ℕ)
+    (o : others ≡ drop 1 words) (n : count ≡ options_len false others)
+    (p : options ≡ take count others) (q : names ≡ drop count others) where
   options_are : options ≡ options_of words
   options_are = p ∙ ap (λ k. take k others) n ∙ ap (λ l. take (options_len false l) l) o
 
   names_are : names ≡ lists_of words
   names_are = q ∙ ap (λ k. drop k others) n ∙ ap (λ l. drop (options_len false l) l) o
 
-  fault_is : (inspection : Inspection) → inspection_fault inspection (options_of words) (lists_of words) ≡ inspection_fault inspection options names
-  fault_is inspection = sym (ap (λ os. inspection_fault inspection os (lists_of words)) options_are) ∙ sym (ap (λ ns. inspection_fault inspection options ns) names_are)
+  fault_is : (inspection : Inspection)
+      → inspection_fault inspection (options_of words)
+      (lists_of words) ≡ inspection_fault inspection options names
+  fault_is inspection =
+      sym (ap (λ os. inspection_fault inspection os (lists_of words)) options_are)
+      ∙ sym (ap (λ ns. inspection_fault inspection options ns) names_are)
 
-  module _ {W E : Type 0} (program usage : List ℕ) (known : KnownLists) (inspection : Inspection) (end : Ending W E) (result : Option UsageFault) (r : result ≡ inspection_fault inspection options names) where
+  module _ {W E : Type 0} (program usage : List ℕ) (known : KnownLists) (inspection : Inspection)
+      (end : Ending W E) (result : Option UsageFault)
+      (r : result ≡ inspection_fault inspection options names) where
     -- something is wrong with them
-    pub refused : (fault : UsageFault) → result ≡ Some fault → Refuses (usage_text program usage words fault.subject (problem_text fault.problem)) end
+    pub refused : (fault : UsageFault) → result ≡ Some fault
+        → Refuses (usage_text program usage words fault.subject
+        (problem_text (name_at words 0) fault.problem)) end
         → EndsInspecting program usage known words inspection end
-    refused fault e h = subst (λ f. EndsUnless program usage known words inspection f end) (sym e ∙ r ∙ sym (fault_is inspection)) h
+    refused fault e h =
+        subst (λ f. EndsUnless program usage known words inspection f end)
+        (sym e ∙ r ∙ sym (fault_is inspection)) h
 
     number_is : count ≤ length others → 1 + count ≡ 1 + length (options_of words)
     number_is l = omega (arith, l, length-take count others, ap length p, ap length options_are)
 
     -- a list was not read
-    pub stopped : (fault : ReadFault) → result ≡ None → count ≤ length others → TextsStop known (1 + count) names fault → Refuses (fault_text words fault) end
+    pub stopped : (fault : ReadFault) → result ≡ None → count ≤ length others
+        → TextsStop known (1 + count) names fault → Refuses (fault_text words fault) end
         → EndsInspecting program usage known words inspection end
     stopped fault e l stops h =
-        subst (λ f. EndsUnless program usage known words inspection f end) (sym e ∙ r ∙ sym (fault_is inspection))
-        (inl (fault, subst (λ ns. TextsStop known (1 + length (options_of words)) ns fault) names_are (subst (λ (k : ℕ). TextsStop known k names fault) (number_is l) stops), h))
+        subst (λ f. EndsUnless program usage known words inspection f end)
+        (sym e ∙ r ∙ sym (fault_is inspection))
+        (inl (
+          fault,
+          subst (λ ns. TextsStop known (1 + length
+              (options_of words)) ns fault) names_are (subst
+              (λ (k : ℕ). TextsStop known k names fault) (number_is l) stops),
+          h,
+        ))
 
     -- all were
-    pub read : (texts : List (List ℕ)) → result ≡ None → AreTexts known names texts → EndsFinding inspection names texts end → EndsInspecting program usage known words inspection end
+    pub read : (texts : List (List ℕ)) → result ≡ None → AreTexts known names texts
+        → EndsFinding inspection names texts end
+        → EndsInspecting program usage known words inspection end
     read texts e are h =
-        subst (λ f. EndsUnless program usage known words inspection f end) (sym e ∙ r ∙ sym (fault_is inspection))
-        (inr (texts, subst (λ ns. AreTexts known ns texts) names_are are, subst (λ ns. EndsFinding inspection ns texts end) names_are h))
+        subst (λ f. EndsUnless program usage known words inspection f end)
+        (sym e ∙ r ∙ sym (fault_is inspection))
+        (inr (
+          texts,
+          subst (λ ns. AreTexts known ns texts) names_are are,
+          subst (λ ns. EndsFinding inspection ns texts end) names_are h,
+        ))

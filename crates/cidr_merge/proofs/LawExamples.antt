@@ -1,30 +1,53 @@
 -- What the laws let one conclude, where weaker laws would not.
-use Rattle.std.proofs.Common.{◌≡◌, ◌≢◌, ◌∙◌, ℕ, List, [], ◌∷◌, true, false, ap, sym, arith, length, refl}
-use Rattle.std.specs.Prelude.{bytes_eq, codes, None}
+use Rattle.std.proofs.Common.{◌≡◌, ◌≢◌, ◌∙◌, ℕ, List, [], ◌∷◌, ◌++◌, true, false, ap, sym, subst}
+use Rattle.std.proofs.Common.{arith, inl, inr, length, refl}
+use Rattle.std.specs.Prelude.{◌⊎◌, bytes_eq, codes, None, String}
 use Rattle.std.proofs.lemmas.Bool.{true≢false}
 use Rattle.std.proofs.lemmas.Slice.Eq.{bytes_eq-Decides}
+use Rattle.std.specs.List.{Contains}
 use Rattle.std.specs.Str.Lines.{lines}
+use Rattle.ipnetwork_addr.specs.declared.ip.IpAddr.TheVariants.{V4, V6}
+use Rattle.ipnetwork_blocks.proofs.LeastLists.{contains_cons, contains_head, contains_nil}
 use Rattle.cidr_merge.specs.CommandLines.{operation_called, form_called, is_option_text}
+use Rattle.cidr_merge.specs.EntriesWithin.{HasAllOf, LiesInAnother, TellsWithin, TellsNotWithin}
+use Rattle.cidr_merge.specs.EntriesWithin.{IsToldWithin, EachWithinAnotherIsTold}
 use Rattle.cidr_merge.specs.Inspections.{inspection_called}
 use Rattle.cidr_merge.specs.Laws.{NoOtherForm, NoOtherInspection, NoOtherOperation, NoOtherOption}
+use Rattle.cidr_merge.specs.Overlaps.{Listed, ListsEntries, IsInOrder}
 use Rattle.cidr_merge.specs.Parts.{UnionPrints, HaveLines, AreShort, UnionsOfPartsPrintTheSame}
+use Rattle.cidr_merge.specs.Repetitions.{repetitions}
+use Rattle.cidr_merge.proofs.CheckExamples.{entry}
 
 -- a list may be cut into two parts, and into three
-pub of_two_parts : UnionsOfPartsPrintTheSame → (one other whole joined : List (List ℕ)) (first second text again : List ℕ) → HaveLines (one ∷ other ∷ []) whole → UnionPrints one first → UnionPrints other second
-    → HaveLines (lines first ∷ lines second ∷ []) joined → AreShort joined → UnionPrints whole text → UnionPrints joined again → again ≡ text
+pub of_two_parts : UnionsOfPartsPrintTheSame
+    → (one other whole joined : List (List ℕ)) (first second text again : List ℕ)
+    → HaveLines (one ∷ other ∷ []) whole → UnionPrints one first → UnionPrints other second
+    → HaveLines (lines first ∷ lines second ∷ []) joined → AreShort joined → UnionPrints whole text
+    → UnionPrints joined again → again ≡ text
 of_two_parts law one other whole joined first second text again parts a b have short all prints =
-    law whole joined (one ∷ other ∷ []) (first ∷ second ∷ []) text again parts (a, (b, tt)) have short all prints
+    law whole joined (one ∷ other ∷ []) (first ∷ second ∷ []) text again parts
+    (a, (b, tt)) have short all prints
 
-pub of_three_parts : UnionsOfPartsPrintTheSame → (one other third whole joined : List (List ℕ)) (first second last text again : List ℕ) → HaveLines (one ∷ other ∷ third ∷ []) whole → UnionPrints one first
-    → UnionPrints other second → UnionPrints third last → HaveLines (lines first ∷ lines second ∷ lines last ∷ []) joined → AreShort joined → UnionPrints whole text → UnionPrints joined again → again ≡ text
-of_three_parts law one other third whole joined first second last text again parts a b c have short all prints =
-    law whole joined (one ∷ other ∷ third ∷ []) (first ∷ second ∷ last ∷ []) text again parts (a, (b, (c, tt))) have short all prints
+pub of_three_parts : UnionsOfPartsPrintTheSame
+    → (one other third whole joined : List (List ℕ)) (first second last text again : List ℕ)
+    → HaveLines (one ∷ other ∷ third ∷ []) whole → UnionPrints one first
+    → UnionPrints other second → UnionPrints third last
+    → HaveLines (lines first ∷ lines second ∷ lines last ∷ []) joined → AreShort joined
+    → UnionPrints whole text → UnionPrints joined again → again ≡ text
+of_three_parts law one other third whole joined first second last text again parts a b c have short
+    all prints =
+    law whole joined (one ∷ other ∷ third ∷ []) (first ∷ second ∷ last ∷ []) text again parts
+    (a, (b, (c, tt))) have short all prints
 
 -- so that no other text is printed
-pub no_other_text : UnionsOfPartsPrintTheSame → (one other whole joined : List (List ℕ)) (first second : List ℕ) → HaveLines (one ∷ other ∷ []) whole → UnionPrints one first → UnionPrints other second
-    → HaveLines (lines first ∷ lines second ∷ []) joined → AreShort joined → UnionPrints whole (codes "10.0.0.0/8\n") → ¬ (UnionPrints joined (codes "::/0\n"))
+pub no_other_text : UnionsOfPartsPrintTheSame
+    → (one other whole joined : List (List ℕ)) (first second : List ℕ)
+    → HaveLines (one ∷ other ∷ []) whole → UnionPrints one first → UnionPrints other second
+    → HaveLines (lines first ∷ lines second ∷ []) joined → AreShort joined
+    → UnionPrints whole (codes "10.0.0.0/8\n") → ¬ (UnionPrints joined (codes "::/0\n"))
 no_other_text law one other whole joined first second parts a b have short all prints =
-    let e : 5 ≡ 11 = ap length (of_two_parts law one other whole joined first second (codes "10.0.0.0/8\n") (codes "::/0\n") parts a b have short all prints) in
+    let e : 5 ≡ 11 = ap length (of_two_parts law one other whole joined first second
+    (codes "10.0.0.0/8\n") (codes "::/0\n") parts a b have short all prints) in
     omega (arith, e)
 
 -- ---- names
@@ -34,29 +57,98 @@ other text name e same = true≢false (sym ((bytes_eq-Decides text name).1 same)
 
 -- a word that is shorter than a name by a letter or two, and one that differs from it by a letter
 pub diff_is_no_operation : NoOtherOperation → operation_called (codes "diff") ≡ None
-diff_is_no_operation law = law (codes "diff") (other _ _ refl) (other _ _ refl) (other _ _ refl) (other _ _ refl) (other _ _ refl)
+diff_is_no_operation law =
+    law (codes "diff") (other _ _ refl) (other _ _ refl) (other _ _ refl) (other _ _ refl)
+    (other _ _ refl)
 
 pub common_in_capitals_is_no_operation : NoOtherOperation → operation_called (codes "COMMON") ≡ None
-common_in_capitals_is_no_operation law = law (codes "COMMON") (other _ _ refl) (other _ _ refl) (other _ _ refl) (other _ _ refl) (other _ _ refl)
+common_in_capitals_is_no_operation law =
+    law (codes "COMMON") (other _ _ refl) (other _ _ refl) (other _ _ refl) (other _ _ refl)
+    (other _ _ refl)
 
 pub an_empty_word_is_no_operation : NoOtherOperation → operation_called [] ≡ None
-an_empty_word_is_no_operation law = law [] (other _ _ refl) (other _ _ refl) (other _ _ refl) (other _ _ refl) (other _ _ refl)
+an_empty_word_is_no_operation law =
+    law [] (other _ _ refl) (other _ _ refl) (other _ _ refl) (other _ _ refl) (other _ _ refl)
 
 pub skip_is_no_option : NoOtherOption → is_option_text (codes "--skip") ≡ false
-skip_is_no_option law = law (codes "--skip") (other _ _ refl) (other _ _ refl) (other _ _ refl) (other _ _ refl) (other _ _ refl) (other _ _ refl)
+skip_is_no_option law =
+    law (codes "--skip") (other _ _ refl) (other _ _ refl) (other _ _ refl) (other _ _ refl)
+    (other _ _ refl) (other _ _ refl)
 
 pub dashes_are_no_option : NoOtherOption → is_option_text (codes "--") ≡ false
-dashes_are_no_option law = law (codes "--") (other _ _ refl) (other _ _ refl) (other _ _ refl) (other _ _ refl) (other _ _ refl) (other _ _ refl)
+dashes_are_no_option law =
+    law (codes "--") (other _ _ refl) (other _ _ refl) (other _ _ refl) (other _ _ refl)
+    (other _ _ refl) (other _ _ refl)
 
 pub counts_is_no_option : NoOtherOption → is_option_text (codes "--counts") ≡ false
-counts_is_no_option law = law (codes "--counts") (other _ _ refl) (other _ _ refl) (other _ _ refl) (other _ _ refl) (other _ _ refl) (other _ _ refl)
+counts_is_no_option law =
+    law (codes "--counts") (other _ _ refl) (other _ _ refl) (other _ _ refl) (other _ _ refl)
+    (other _ _ refl) (other _ _ refl)
 
 pub ranges_are_no_form : NoOtherForm → form_called (codes "ranges") ≡ None
 ranges_are_no_form law =
-    law (codes "ranges") (other _ _ refl) (other _ _ refl) (other _ _ refl) (other _ _ refl) (other _ _ refl) (other _ _ refl) (other _ _ refl) (other _ _ refl) (other _ _ refl)
+    law (codes "ranges") (other _ _ refl) (other _ _ refl) (other _ _ refl) (other _ _ refl)
+    (other _ _ refl) (other _ _ refl) (other _ _ refl) (other _ _ refl) (other _ _ refl)
 
 pub overlap_is_no_inspection : NoOtherInspection → inspection_called (codes "overlap") false ≡ None
 overlap_is_no_inspection law = law (codes "overlap") false (other _ _ refl) (other _ _ refl)
 
 pub union_is_no_inspection : NoOtherInspection → inspection_called (codes "union") true ≡ None
 union_is_no_inspection law = law (codes "union") true (other _ _ refl) (other _ _ refl)
+
+-- ---- entries that lie in another
+
+-- of three entries the second and the third have no address in common, and both lie in the first
+
+lies_in_the_first : LiesInAnother (entry 0 9 1 ∷ entry 1 2 2 ∷ []) (entry 3 4 3) []
+lies_in_the_first = inl (entry 0 9 1, contains_head (entry 0 9 1) (entry 1 2 2 ∷ []), has_all) where
+  has_all : HasAllOf (entry 0 9 1) (entry 3 4 3)
+  has_all (V4 address) h = let l = h.1 in (omega arith, omega (arith, l))
+  has_all (V6 address) h = absurd h.1
+
+pub the_third_is_told : {Z : Type 0} (names : List (String Z)) → EachWithinAnotherIsTold names
+    → (texts : List (List ℕ)) (found : List Listed)
+    → ListsEntries 0 texts found → IsInOrder found (entry 0 9 1 ∷ entry 1 2 2 ∷ entry 3 4 3 ∷ [])
+    → (own others : List (List ℕ)) × (repetitions names
+    (entry 0 9 1 ∷ entry 1 2 2 ∷ entry 3 4 3 ∷ [])
+    ≡ repetitions names (entry 0 9 1 ∷ entry 1 2 2 ∷ []) ++ own ++ others)
+    × TellsWithin names (entry 0 9 1 ∷ entry 1 2 2 ∷ []) (entry 3 4 3) own
+the_third_is_told {Z} names law texts found h sorted =
+    let r = law texts found (entry 0 9 1 ∷ entry 1 2 2 ∷ []) (entry 3 4 3) [] h sorted in
+    (r.0, r.1, r.2, within r.0 r.3)
+  where
+    within : (own : List (List ℕ))
+        → IsToldWithin names (entry 0 9 1 ∷ entry 1 2 2 ∷ []) (entry 3 4 3) [] own
+        → TellsWithin names (entry 0 9 1 ∷ entry 1 2 2 ∷ []) (entry 3 4 3) own
+    within own (inl k) = k.1
+    within own (inr k) = absurd (k.0 lies_in_the_first)
+
+-- so that a check which compares each entry only with the one just before it is none
+pub no_finding_of_the_third : {Z : Type 0} (names : List (String Z))
+    → ¬ (IsToldWithin names (entry 0 9 1 ∷ entry 1 2 2 ∷ []) (entry 3 4 3) [] [])
+no_finding_of_the_third names (inl h) = let e : 0 ≡ 1 = ap length h.1.3 in omega (arith, e)
+no_finding_of_the_third names (inr h) = h.0 lies_in_the_first
+
+-- of two entries with the same addresses the first is not told
+pub the_first_of_two_is_not_told : {Z : Type 0} (names : List (String Z))
+    → EachWithinAnotherIsTold names → (texts : List (List ℕ)) (found : List Listed)
+    → ListsEntries 0 texts found → IsInOrder found (entry 1 2 1 ∷ entry 1 2 2 ∷ [])
+    → (own others : List (List ℕ)) × (repetitions names (entry 1 2 1 ∷ entry 1 2 2 ∷ []) ≡ own
+    ++ others) × TellsNotWithin names [] (entry 1 2 1) own
+the_first_of_two_is_not_told {Z} names law texts found h sorted =
+    let r = law texts found [] (entry 1 2 1) (entry 1 2 2 ∷ []) h sorted in
+    (r.0, r.1, r.2, apart r.0 r.3)
+  where
+    same : (other : Listed) → ((entry 1 2 2 ≡ other) ⊎ Contains [] other)
+        → HasAllOf (entry 1 2 1) other
+    same other (inl e) = subst (λ (y : Listed). HasAllOf (entry 1 2 1) y) e (λ address a. a)
+    same other (inr c) = absurd (contains_nil other c)
+
+    lies : ¬ (LiesInAnother [] (entry 1 2 1) (entry 1 2 2 ∷ []))
+    lies (inl l) = contains_nil l.0 l.1
+    lies (inr l) = l.3 (same l.0 (contains_cons (entry 1 2 2) [] l.0 l.1))
+
+    apart : (own : List (List ℕ)) → IsToldWithin names [] (entry 1 2 1) (entry 1 2 2 ∷ []) own
+        → TellsNotWithin names [] (entry 1 2 1) own
+    apart own (inl k) = absurd (lies k.0)
+    apart own (inr k) = k.1

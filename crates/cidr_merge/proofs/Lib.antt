@@ -1,6 +1,7 @@
 pub mod CheckExamples
 pub mod Checks
 pub mod Cuts
+pub mod EntriesWithin
 pub mod EntryLists
 pub mod Examples
 pub mod OverlapExamples

@@ -6,11 +6,18 @@ use Rattle.std.proofs.lemmas.Slice.Eq.{bytes_eq-Decides}
 use Rattle.cidr_merge.specs.Laws.{NoOtherForm, NoOtherInspection, NoOtherOperation, NoOtherOption}
 
 apart : (text other : List ℕ) → text ≢ other → bytes_eq text other ≡ false
-apart text other ne = false_from_ne_true (bytes_eq text other) (λ e. ne ((bytes_eq-Decides text other).0 e))
+apart text other ne =
+    false_from_ne_true (bytes_eq text other) (λ e. ne ((bytes_eq-Decides text other).0 e))
 
 pub no_other_operation : NoOtherOperation
 no_other_operation text union list common minus differ =
-    rw (apart text (codes "union") union, apart text (codes "list") list, apart text (codes "common") common, apart text (codes "minus") minus, apart text (codes "differ") differ)
+    rw (
+      apart text (codes "union") union,
+      apart text (codes "list") list,
+      apart text (codes "common") common,
+      apart text (codes "minus") minus,
+      apart text (codes "differ") differ,
+    )
 
 pub no_other_option : NoOtherOption
 no_other_option text ranges count format skip json strict =
@@ -38,4 +45,5 @@ no_other_form text plain range netmask wildcard csv nft ipset json addresses =
     )
 
 pub no_other_inspection : NoOtherInspection
-no_other_inspection text strictly check overlaps = rw (apart text (codes "check") check, apart text (codes "overlaps") overlaps)
+no_other_inspection text strictly check overlaps =
+    rw (apart text (codes "check") check, apart text (codes "overlaps") overlaps)

@@ -18,24 +18,61 @@ use Rattle.cidr_merge.proofs.Checks.{tells_findings, found_more}
 use Rattle.cidr_merge.proofs.Inspected.{works_before, fails_now, written_all, status_is}
 
 -- what was found is written
-pub findings_written : {W E T : Type 0} (findings : List (List ℕ)) (end : Ending W E) (mid : Written W) (written : Result T RunFault) (found : Bool) (status : ℕ) → Tells end.output mid (concat findings)
-    → IsFound findings found → status ≡ (if found then 1 else 0) → OnOk written (Appends mid.holds end.output_after.holds mid.waits) → OnOk written (IsFalse end.output_after.failed)
-    → end.output_after.failed ≡ (mid.failed || is_err written) → end.status ≡ status_of written status → Tells end.errors end.errors_after (end_text written)
+pub findings_written : {W E T : Type 0} (findings : List (List ℕ)) (end : Ending W E)
+    (mid : Written W) (written : Result T RunFault) (found : Bool) (status : ℕ)
+    → Tells end.output mid (concat findings)
+    → IsFound findings found → status ≡ (if found then 1 else 0)
+    → OnOk written (Appends mid.holds end.output_after.holds mid.waits)
+    → OnOk written (IsFalse end.output_after.failed)
+    → end.output_after.failed ≡ (mid.failed || is_err written)
+    → end.status ≡ status_of written status → Tells end.errors end.errors_after (end_text written)
     → FailsToWrite end ⊎ WritesFindings findings end
 findings_written findings end mid (Ok done) found status tells f s wrote works failed is told =
     let prints = tells.told (works_before mid.failed end.output_after.failed failed works) in
-    inr (written_all end.output.holds mid.holds end.output_after.holds end.output.waits mid.waits (concat findings) prints wrote, told, is ∙ s ∙ status_is findings found f)
-findings_written findings end mid (Err fault) found status tells f s wrote works failed is told = inl (fails_now mid.failed end.output_after.failed failed, told, is)
+    inr (
+      written_all end.output.holds mid.holds end.output_after.holds end.output.waits mid.waits
+          (concat findings) prints wrote,
+      told,
+      is ∙ s ∙ status_is findings found f,
+    )
+findings_written findings end mid (Err fault) found status tells f s wrote works failed is told =
+    inl (fails_now mid.failed end.output_after.failed failed, told, is)
 
-module _ {Z W E T : Type 0} (strictly : Bool) (names : List (String Z)) (texts : List (List ℕ)) (entries held : List Placed) (is_held : held ≡ entries) (end : Ending W E) (before mid : Written W) (written : Result T RunFault) (wrong more found : Bool) (status : ℕ)
-    (e : (listed : List Listed) × ListsEntries 0 texts listed × IsInOrder listed (map listed_as entries))
-    (h : (findings : List (List ℕ)) × ListsFindings strictly names texts findings × Tells end.output before (concat findings) × IsFound findings wrong)
-    (k : (findings : List (List ℕ)) × (findings ≡ found_among strictly names (map listed_as held)) × Tells before mid (concat findings) × IsFound findings more) (b : found ≡ (wrong || more)) where
+module _ {Z W E T : Type 0} (strictly : Bool) (names : List (String Z)) (texts : List (List ℕ))
+    (entries held : List Placed) (is_held : held ≡ entries) (end : Ending W E)
+    (before mid : Written W) (written : Result T RunFault) (wrong more found : Bool) (status : ℕ)
+    (e : (listed : List Listed) × ListsEntries 0 texts listed
+    × IsInOrder listed (map listed_as entries))
+    (h : (findings : List (List ℕ)) × ListsFindings strictly names texts findings
+    × Tells end.output before (concat findings) × IsFound findings wrong)
+    (k : (findings : List (List ℕ)) × (findings ≡ found_among strictly names (map listed_as held))
+    × Tells before mid (concat findings) × IsFound findings more)
+    (b : found ≡ (wrong || more)) where
   ends : (FailsToWrite end ⊎ WritesFindings (h.0 ++ k.0) end) → EndsOrdered strictly names texts end
   ends (inl fails) = inr (inl fails)
-  ends (inr writes) = inr (inr (h.0, k.0, h.1, (e.0, map listed_as entries, e.1, e.2, k.1 ∙ ap (λ es. found_among strictly names (map listed_as es)) is_held), writes))
+  ends (inr writes) =
+      inr (inr (
+        h.0,
+        k.0,
+        h.1,
+        (
+          e.0,
+          map listed_as entries,
+          e.1,
+          e.2,
+          k.1
+              ∙ ap (λ es. found_among strictly names (map listed_as es)) is_held,
+        ),
+        writes,
+      ))
 
-  pub ordered_ended : status ≡ (if found then 1 else 0) → OnOk written (Appends mid.holds end.output_after.holds mid.waits) → OnOk written (IsFalse end.output_after.failed)
-      → end.output_after.failed ≡ (mid.failed || is_err written) → end.status ≡ status_of written status → Tells end.errors end.errors_after (end_text written) → EndsOrdered strictly names texts end
+  pub ordered_ended : status ≡ (if found then 1 else 0)
+      → OnOk written (Appends mid.holds end.output_after.holds mid.waits)
+      → OnOk written (IsFalse end.output_after.failed)
+      → end.output_after.failed ≡ (mid.failed || is_err written)
+      → end.status ≡ status_of written status → Tells end.errors end.errors_after (end_text written)
+      → EndsOrdered strictly names texts end
   ordered_ended s wrote works failed is told =
-      ends (findings_written (h.0 ++ k.0) end mid written found status (tells_findings end.output before mid h.0 k.0 h.2 k.2) (found_more h.0 k.0 wrong more found h.3 k.3 b) s wrote works failed is told)
+      ends (findings_written (h.0 ++ k.0) end mid written found status
+      (tells_findings end.output before mid h.0 k.0 h.2 k.2)
+      (found_more h.0 k.0 wrong more found h.3 k.3 b) s wrote works failed is told)

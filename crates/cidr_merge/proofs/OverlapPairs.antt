@@ -1,5 +1,7 @@
 -- The pairs of entries that overlap, entry by entry.
-use Rattle.std.proofs.Common.{◌≡◌, ◌==◌, ◌+◌, ◌||◌, ◌<◌, ◌∙◌, ℕ, Bool, true, false, not, List, [], ◌∷◌, ◌++◌, refl, sym, ap, subst, arith, cond, length, map, take, get_or, filter, append_assoc, append-nil}
+use Rattle.std.proofs.Common.{◌≡◌, ◌==◌, ◌+◌, ◌||◌, ◌<◌, ◌∙◌, ℕ, Bool, true, false, not, List, []}
+use Rattle.std.proofs.Common.{◌∷◌, ◌++◌, refl, sym, ap, subst, arith, cond, length, map, take}
+use Rattle.std.proofs.Common.{get_or, filter, append_assoc, append-nil}
 use Rattle.std.specs.Prelude.{String}
 use Rattle.std.specs.List.{concat, SwappedAt}
 use Rattle.std.specs.List.Sorted.{IsSorted}
@@ -8,7 +10,8 @@ use Rattle.lines.specs.Outputs.{Written}
 use Rattle.program.specs.Messages.{Tells}
 use Rattle.program.proofs.Told.{tells_same}
 use Rattle.cidr_merge.specs.Findings.{IsFound}
-use Rattle.cidr_merge.specs.Overlaps.{Listed, reaches, pair_text, pairs_with, pairs_after, listed_cmp}
+use Rattle.cidr_merge.specs.Overlaps.{Listed, reaches, pair_text, pairs_with, pairs_after}
+use Rattle.cidr_merge.specs.Overlaps.{listed_cmp}
 use Rattle.cidr_merge.specs.Private.Entries.{listed_as, overlaps, KeepsReaching}
 use Rattle.cidr_merge.specs.declared.placed.Placed.{Placed}
 use Rattle.cidr_merge.proofs.Checks.{tells_findings, found_more}
@@ -16,84 +19,150 @@ use Rattle.cidr_merge.proofs.KeptEntries.{Swept, swept_more, as_it_was, same_fur
 use Rattle.cidr_merge.proofs.ListedOrder.{overlaps_falls}
 
 -- an entry more
-pub pairs_more : {Z : Type 0} (names : List (String Z)) (before entries : List Listed) (entry : Listed)
-    → pairs_after names before (entries ++ entry ∷ []) ≡ pairs_after names before entries ++ pairs_with names (before ++ entries) entry
-pairs_more names before [] entry = append-nil (pairs_with names before entry) ∙ ap (λ b. pairs_with names b entry) (sym (append-nil before))
+pub pairs_more : {Z : Type 0} (names : List (String Z)) (before entries : List Listed)
+    (entry : Listed)
+    → pairs_after names before (entries ++ entry ∷ []) ≡ pairs_after names before entries
+    ++ pairs_with names (before ++ entries) entry
+pairs_more names before [] entry =
+    append-nil (pairs_with names before entry) ∙ ap (λ b. pairs_with names b entry)
+    (sym (append-nil before))
 pairs_more names before (next ∷ entries) entry =
-    ap (λ l. pairs_with names before next ++ l) (pairs_more names (before ++ next ∷ []) entries entry)
-    ∙ sym (append_assoc (pairs_with names before next) (pairs_after names (before ++ next ∷ []) entries) (pairs_with names ((before ++ next ∷ []) ++ entries) entry))
-    ∙ ap (λ b. (pairs_with names before next ++ pairs_after names (before ++ next ∷ []) entries) ++ pairs_with names b entry) (append_assoc before (next ∷ []) entries)
+    ap (λ l. pairs_with names before next ++ l) (pairs_more names
+    (before ++ next ∷ []) entries entry)
+    ∙ sym (append_assoc (pairs_with names before next) (pairs_after names
+    (before ++ next ∷ []) entries) (pairs_with names ((before ++ next ∷ []) ++ entries) entry))
+    ∙ ap (λ b. (pairs_with names before next ++ pairs_after names (before ++ next ∷ []) entries)
+    ++ pairs_with names b entry) (append_assoc before (next ∷ []) entries)
 
-filter_map_is : {X Y : Type 0} (f : X → Y) (p : Y → Bool) (xs : List X) → filter p (map f xs) ≡ map f (filter (λ x. p (f x)) xs)
+filter_map_is : {X Y : Type 0} (f : X → Y) (p : Y → Bool) (xs : List X)
+    → filter p (map f xs) ≡ map f (filter (λ x. p (f x)) xs)
 filter_map_is f p [] = refl
 filter_map_is f p (x ∷ xs) = by (filter_map_is f p xs) (p (f x)) refl where
-  by : filter p (map f xs) ≡ map f (filter (λ y. p (f y)) xs) → (b : Bool) → p (f x) ≡ b → filter p (map f (x ∷ xs)) ≡ map f (filter (λ y. p (f y)) (x ∷ xs))
-  by k true e = ap (λ c. cond c (f x ∷ filter p (map f xs)) (filter p (map f xs))) e ∙ ap (λ l. f x ∷ l) k
+  by : filter p (map f xs) ≡ map f (filter (λ y. p (f y)) xs) → (b : Bool) → p (f x) ≡ b
+      → filter p (map f (x ∷ xs)) ≡ map f (filter (λ y. p (f y)) (x ∷ xs))
+  by k true e =
+      ap (λ c. cond c (f x ∷ filter p (map f xs)) (filter p (map f xs))) e ∙ ap (λ l. f x ∷ l) k
       ∙ sym (ap (λ c. map f (cond c (x ∷ filter (λ y. p (f y)) xs) (filter (λ y. p (f y)) xs))) e)
   by k false e = ap (λ c. cond c (f x ∷ filter p (map f xs)) (filter p (map f xs))) e ∙ k
       ∙ sym (ap (λ c. map f (cond c (x ∷ filter (λ y. p (f y)) xs) (filter (λ y. p (f y)) xs))) e)
 
 -- an earlier entry more was told
-pairs_with_more : {Z W : Type 0} (names : List (String Z)) (later : Placed) (before : List Placed) (index : ℕ) (one : Placed) (old mid new : Written W) → index < length before → one ≡ get_or before index one
-    → Tells old mid (concat (map (pair_text names (listed_as later)) (map listed_as (take index before)))) → Tells mid new (pair_text names (listed_as later) (listed_as one))
-    → Tells old new (concat (map (pair_text names (listed_as later)) (map listed_as (take (index + 1) before))))
+pairs_with_more : {Z W : Type 0} (names : List (String Z)) (later : Placed) (before : List Placed)
+    (index : ℕ) (one : Placed) (old mid new : Written W) → index < length before
+    → one ≡ get_or before index one
+    → Tells old mid (concat (map (pair_text names (listed_as later))
+    (map listed_as (take index before)))) → Tells mid new
+    (pair_text names (listed_as later) (listed_as one))
+    → Tells old new (concat (map (pair_text names (listed_as later))
+    (map listed_as (take (index + 1) before))))
 pairs_with_more names later before index one old mid new l is h k =
     let text = pair_text names (listed_as later) in
     let done = map listed_as (take index before) in
-    let more : take (index + 1) before ≡ take index before ++ one ∷ [] = take_more before index one l ∙ ap (λ y. take index before ++ y ∷ []) (sym is) in
-    tells_same old new (concat (map text done ++ text (listed_as one) ∷ [])) (concat (map text (map listed_as (take (index + 1) before))))
-    (ap concat (sym (map_push text done (listed_as one)) ∙ ap (map text) (sym (map_push listed_as (take index before) one) ∙ ap (map listed_as) (sym more))))
-    (tells_findings old mid new (map text done) (text (listed_as one) ∷ []) h (tells_same mid new (text (listed_as one)) (concat (text (listed_as one) ∷ [])) (sym (append-nil (text (listed_as one)))) k))
+    let more : take (index + 1) before ≡ take index before ++ one ∷ [] =
+    take_more before index one l ∙ ap (λ y. take index before ++ y ∷ []) (sym is) in
+    tells_same old new (concat (map text done ++ text (listed_as one) ∷ []))
+    (concat (map text (map listed_as (take (index + 1) before))))
+    (ap concat (sym (map_push text done (listed_as one))
+    ∙ ap (map text) (sym (map_push listed_as (take index before) one)
+    ∙ ap (map listed_as) (sym more))))
+    (tells_findings old mid new (map text done) (text (listed_as one) ∷ []) h
+    (tells_same mid new (text (listed_as one)) (concat (text (listed_as one) ∷ []))
+    (sym (append-nil (text (listed_as one)))) k))
 
-pub pairs_with_next : {Z W : Type 0} (names : List (String Z)) (later : Placed) (before : List Placed) (index : ℕ) (other : Placed) (old mid new : Written W) → index < length before
-    → Tells old mid (concat (map (pair_text names (listed_as later)) (map listed_as (take index before)))) → Tells mid new (pair_text names (listed_as later) (listed_as (get_or before index other)))
-    → Tells old new (concat (map (pair_text names (listed_as later)) (map listed_as (take (index + 1) before))))
+pub pairs_with_next : {Z W : Type 0} (names : List (String Z)) (later : Placed)
+    (before : List Placed) (index : ℕ) (other : Placed) (old mid new : Written W)
+    → index < length before
+    → Tells old mid (concat (map (pair_text names (listed_as later))
+    (map listed_as (take index before)))) → Tells mid new
+    (pair_text names (listed_as later) (listed_as (get_or before index other)))
+    → Tells old new (concat (map (pair_text names (listed_as later))
+    (map listed_as (take (index + 1) before))))
 pairs_with_next names later before index other old mid new l h k =
-    pairs_with_more names later before index (get_or before index other) old mid new l (get_or_default before index other (get_or before index other) l) h k
+    pairs_with_more names later before index (get_or before index other) old mid new l
+    (get_or_default before index other (get_or before index other) l) h k
 
 -- the pairs of the entries before a place were told
-abbrev pub PairsTold : {Z W : Type 0} → List (String Z) → List Placed → Written W → Written W → Bool → Type 0
-PairsTold names entries old new found = (findings : List (List ℕ)) × (findings ≡ pairs_after names [] (map listed_as entries))
+abbrev pub PairsTold : {Z W : Type 0} → List (String Z) → List Placed → Written W → Written W → Bool
+    → Type 0
+PairsTold names entries old new found =
+    (findings : List (List ℕ)) × (findings ≡ pairs_after names [] (map listed_as entries))
     × Tells old new (concat findings) × IsFound findings found
 
-pub pairs_told_more : {Z W : Type 0} (names : List (String Z)) (entries now mid kept_ones : List Placed) (kept place count : ℕ) (later : Placed) (old between new : Written W) (found more both : Bool)
-    → place < length entries → Swept overlaps entries now kept place → later ≡ get_or entries place later → kept_ones ≡ filter (overlaps later) (take kept now)
-    → PairsTold names (take place entries) old between found → Tells between new (concat (map (pair_text names (listed_as later)) (map listed_as kept_ones)))
-    → more ≡ not (length kept_ones == 0) → both ≡ (found || more) → PairsTold names (take (place + 1) entries) old new both
-pairs_told_more names entries now mid kept_ones kept place count later old between new found more both l swept is front h told m b =
+pub pairs_told_more : {Z W : Type 0} (names : List (String Z))
+    (entries now mid kept_ones : List Placed) (kept place count : ℕ) (later : Placed)
+    (old between new : Written W) (found more both : Bool)
+    → place < length entries → Swept overlaps entries now kept place
+    → later ≡ get_or entries place later → kept_ones ≡ filter (overlaps later) (take kept now)
+    → PairsTold names (take place entries) old between found
+    → Tells between new (concat (map (pair_text names (listed_as later)) (map listed_as kept_ones)))
+    → more ≡ not (length kept_ones == 0) → both ≡ (found || more)
+    → PairsTold names (take (place + 1) entries) old new both
+pairs_told_more names entries now mid kept_ones kept place count later old between new found more
+    both l swept is front h told m b =
     let texts = map (pair_text names (listed_as later)) (map listed_as kept_ones) in
-    let all : kept_ones ≡ filter (overlaps later) (take place entries) = front ∙ subst (λ y. filter (overlaps y) (take kept now) ≡ filter (overlaps y) (take place entries)) (sym is) (swept.same place later (omega arith) l) in
+    let all : kept_ones ≡ filter (overlaps later) (take place entries) =
+    front ∙ subst (λ y. filter (overlaps y) (take kept now) ≡ filter (overlaps y)
+    (take place entries)) (sym is) (swept.same place later (omega arith) l) in
     let pairs : texts ≡ pairs_with names (map listed_as (take place entries)) (listed_as later) =
-    ap (λ es. map (pair_text names (listed_as later)) es) (ap (map listed_as) all ∙ sym (filter_map_is listed_as (reaches (listed_as later)) (take place entries))) in
-    let some : more ≡ not (length texts == 0) = m ∙ ap (λ n. not (n == 0)) (sym (length-map (map listed_as kept_ones) (pair_text names (listed_as later)) ∙ length-map kept_ones listed_as)) in (
+    ap (λ es. map (pair_text names (listed_as later)) es)
+    (ap (map listed_as) all ∙ sym (filter_map_is listed_as (reaches (listed_as later))
+    (take place entries))) in
+    let some : more ≡ not (length texts == 0) =
+    m ∙ ap (λ n. not (n == 0)) (sym (length-map (map listed_as kept_ones)
+    (pair_text names (listed_as later)) ∙ length-map kept_ones listed_as)) in (
       h.0 ++ texts,
-      ap (λ l. l ++ texts) h.1 ∙ ap (λ l. pairs_after names [] (map listed_as (take place entries)) ++ l) pairs ∙ sym (pairs_more names [] (map listed_as (take place entries)) (listed_as later))
-          ∙ ap (pairs_after names []) (sym (map_push listed_as (take place entries) later) ∙ ap (map listed_as) (ap (λ y. take place entries ++ y ∷ []) is ∙ sym (take_more entries place later l))),
+      ap (λ l. l ++ texts) h.1 ∙ ap (λ l. pairs_after names [] (map listed_as (take place entries))
+          ++ l) pairs ∙ sym (pairs_more names [] (map listed_as (take place entries)) (listed_as later))
+          ∙ ap (pairs_after names []) (sym (map_push listed_as (take place entries) later)
+          ∙ ap (map listed_as) (ap (λ y. take place entries ++ y ∷ []) is
+          ∙ sym (take_more entries place later l))),
       tells_findings old between new h.0 texts h.2 told,
       found_more h.0 texts found more both h.3 some b,
     )
 
 -- an entry more was swept, and told with those that it overlaps
-pairs_step : {Z W : Type 0} (names : List (String Z)) (old now mid new : List Placed) (kept place count : ℕ) (later : Placed) (output between after : Written W) (found more both : Bool)
-    → IsSorted listed_cmp (map listed_as old) → Swept overlaps old now kept place → PairsTold names (take place old) output between found → place < length old → KeepsReaching now mid kept place count
+pairs_step : {Z W : Type 0} (names : List (String Z)) (old now mid new : List Placed)
+    (kept place count : ℕ) (later : Placed) (output between after : Written W)
+    (found more both : Bool)
+    → IsSorted listed_cmp (map listed_as old) → Swept overlaps old now kept place
+    → PairsTold names (take place old) output between found → place < length old
+    → KeepsReaching now mid kept place count
     → later ≡ get_or mid place later → SwappedAt mid new count place → length new ≡ length mid
-    → Tells between after (concat (map (pair_text names (listed_as later)) (map listed_as (take count mid)))) → more ≡ not (length (take count mid) == 0) → both ≡ (found || more)
-    → Swept overlaps old new (count + 1) (place + 1) × PairsTold names (take (place + 1) old) output after both
-pairs_step names old now mid new kept place count later output between after found more both sorted swept told l keeps is swapped len tells m b =
+    → Tells between after (concat (map (pair_text names (listed_as later))
+    (map listed_as (take count mid)))) → more ≡ not (length (take count mid) == 0)
+    → both ≡ (found || more)
+    → Swept overlaps old new (count + 1) (place + 1) × PairsTold names
+    (take (place + 1) old) output after both
+pairs_step names old now mid new kept place count later output between after found more both sorted
+    swept told l keeps is swapped len tells m b =
     let ahead = same_further mid now kept place swept.within keeps.ahead in
-    let now_is : later ≡ get_or now place later = is ∙ as_it_was now mid place place later ahead (omega arith) in
-    let old_is : later ≡ get_or old place later = now_is ∙ as_it_was old now place place later swept.ahead (omega arith) in
+    let now_is : later ≡ get_or now place later =
+    is ∙ as_it_was now mid place place later ahead (omega arith) in
+    let old_is : later ≡ get_or old place later =
+    now_is ∙ as_it_was old now place place later swept.ahead (omega arith) in
     let front = keeps.front later now_is in (
-      swept_more overlaps old now mid new kept place count later (overlaps_falls old sorted) swept l is front ahead keeps.long keeps.fewer swapped len,
-      pairs_told_more names old now mid (take count mid) kept place count later output between after found more both l swept old_is front told tells m b,
+      swept_more overlaps old now mid new kept place count later
+          (overlaps_falls old sorted) swept l is front ahead keeps.long keeps.fewer swapped len,
+      pairs_told_more names old now mid
+          (take count mid) kept place count later output between after found more both l swept old_is
+          front told tells m b,
     )
 
-pub pairs_next : {Z W : Type 0} (names : List (String Z)) (old now mid new : List Placed) (kept place count : ℕ) (other : Placed) (output between after : Written W) (found more both : Bool)
-    → IsSorted listed_cmp (map listed_as old) → Swept overlaps old now kept place → PairsTold names (take place old) output between found → place < length old → KeepsReaching now mid kept place count
+pub pairs_next : {Z W : Type 0} (names : List (String Z)) (old now mid new : List Placed)
+    (kept place count : ℕ) (other : Placed) (output between after : Written W)
+    (found more both : Bool)
+    → IsSorted listed_cmp (map listed_as old) → Swept overlaps old now kept place
+    → PairsTold names (take place old) output between found → place < length old
+    → KeepsReaching now mid kept place count
     → SwappedAt mid new count place → length new ≡ length mid
-    → Tells between after (concat (map (pair_text names (listed_as (get_or mid place other))) (map listed_as (take count mid)))) → more ≡ not (length (take count mid) == 0) → both ≡ (found || more)
-    → Swept overlaps old new (count + 1) (place + 1) × PairsTold names (take (place + 1) old) output after both
-pairs_next names old now mid new kept place count other output between after found more both sorted swept told l keeps swapped len tells m b =
+    → Tells between after (concat (map (pair_text names (listed_as (get_or mid place other)))
+    (map listed_as (take count mid)))) → more ≡ not (length (take count mid) == 0)
+    → both ≡ (found || more)
+    → Swept overlaps old new (count + 1) (place + 1) × PairsTold names
+    (take (place + 1) old) output after both
+pairs_next names old now mid new kept place count other output between after found more both sorted
+    swept told l keeps swapped len tells m b =
     let within : place < length mid = omega (arith, l, keeps.long, swept.long) in
-    pairs_step names old now mid new kept place count (get_or mid place other) output between after found more both sorted swept told l keeps
+    pairs_step names old now mid new kept place count
+    (get_or mid place other) output between after found more both sorted swept told l keeps
     (get_or_default mid place other (get_or mid place other) within) swapped len tells m b

@@ -1,5 +1,7 @@
--- What the definitions promise, part by part: a definition without one of these parts would not give it.
-use Rattle.std.proofs.Common.{◌≡◌, ◌+◌, ◌≤◌, ◌↔◌, ◌⊎◌, inl, inr, ◌++◌, ◌∙◌, ◌==◌, sym, subst, not, ℕ, Bool, List, [], ◌∷◌, true, false, length, drop}
+-- What the definitions promise, part by part: a definition without one of these parts would not
+-- give it.
+use Rattle.std.proofs.Common.{◌≡◌, ◌+◌, ◌≤◌, ◌↔◌, ◌⊎◌, inl, inr, ◌++◌, ◌∙◌, ◌==◌, sym, subst, not}
+use Rattle.std.proofs.Common.{ℕ, Bool, List, [], ◌∷◌, true, false, length, drop}
 use Rattle.std.specs.Prelude.{codes, ◌&&◌, if◌then◌else◌, String, None, Some, slice_range}
 use Rattle.std.specs.List.{Contains, concat}
 use Rattle.std.specs.String.{string_bytes}
@@ -12,27 +14,33 @@ use Rattle.lists.specs.KnownLists.{KnownLists}
 use Rattle.program.specs.Messages.{Tells}
 use Rattle.program.specs.Runs.{text_asked}
 use Rattle.program.proofs.Runs.{otherwise}
-use Rattle.program.specs.Told.{was_refused, fault_text, in_list, refusals_text}
+use Rattle.program.specs.Told.{name_at, was_refused, fault_text, in_list, refusals_text}
 use Rattle.program.specs.Usage.{usage_text}
 use Rattle.ipnetwork_addr.specs.declared.ip.IpAddr.{IpAddr}
 use Rattle.lists.specs.declared.named.ReadFault.{ReadFault}
 use Rattle.cidr_merge.specs.Answers.{IsAnswer}
-use Rattle.cidr_merge.specs.CommandLines.{has, stands, operation_named, options_of, lists_of, before_dashes, behind_dashes, are_options, are_lists, are_sides, usual_of, form_of, shape_of, can_print, AreFor, Says, AreForNone}
+use Rattle.cidr_merge.specs.CommandLines.{has, stands, operation_named, options_of, lists_of}
+use Rattle.cidr_merge.specs.CommandLines.{before_dashes, behind_dashes, are_options, are_lists}
+use Rattle.cidr_merge.specs.CommandLines.{are_sides, usual_of, form_of, shape_of, can_print, AreFor}
+use Rattle.cidr_merge.specs.CommandLines.{Says, AreForNone}
 use Rattle.cidr_merge.specs.Endings.{EndsAs}
 use Rattle.cidr_merge.specs.FindRuns.{sought_fault_text, EndsFindUnless, EndsFind}
-use Rattle.cidr_merge.specs.FindWords.{sought_of, searched_of, find_fault, AreAddresses, StopsAtWord}
+use Rattle.cidr_merge.specs.FindWords.{sought_of, searched_of, find_fault, AreAddresses}
+use Rattle.cidr_merge.specs.FindWords.{StopsAtWord}
 use Rattle.cidr_merge.specs.Findings.{ListsFindings}
 use Rattle.cidr_merge.specs.Finds.{ListsReport}
 use Rattle.cidr_merge.specs.InspectionRuns.{EndsUnless}
 use Rattle.cidr_merge.specs.Inspections.{inspection_of, inspection_fault}
 use Rattle.cidr_merge.specs.Parts.{UnionPrints, HaveLines, AreShort}
 use Rattle.cidr_merge.specs.Reading.{ReadsLists, ReadsSide, ReadsSides}
-use Rattle.cidr_merge.specs.Runs.{answer_status, WritesAnswer, StopsReading, EndsAnswering, EndsMerging, EndsCommand}
+use Rattle.cidr_merge.specs.Runs.{answer_status, WritesAnswer, StopsReading, EndsAnswering}
+use Rattle.cidr_merge.specs.Runs.{EndsMerging, EndsCommand}
 use Rattle.cidr_merge.specs.Shapes.{Source, source, StopsOne}
 use Rattle.cidr_merge.specs.Splits.{EndsSplit}
 use Rattle.cidr_merge.specs.Stopping.{Stops, StopsInSides}
 use Rattle.cidr_merge.specs.Texts.{AreTexts, TextsStop}
-use Rattle.cidr_merge.specs.Usage.{problem_text, fault_in}
+use Rattle.cidr_merge.specs.Problems.{problem_text}
+use Rattle.cidr_merge.specs.Usage.{fault_in}
 use Rattle.cidr_merge.specs.Writing.{FailsToWrite}
 use Rattle.cidr_merge.specs.declared.command_line.Form.TheVariants.{Blocks}
 use Rattle.cidr_merge.specs.declared.command_line.Operation.{Operation}
@@ -45,107 +53,190 @@ use Rattle.cidr_merge.specs.declared.usage.UsageFault.{UsageFault}
 
 -- ---- command lines
 
-pub what_an_operation_needs : {Z : Type 0} (name : String Z) (others : List (String Z)) (operation : Operation) → AreFor (name ∷ others) operation
-    → (operation_named name ≡ Some operation) × (are_options (options_of (name ∷ others)) ≡ true) × (can_print operation (form_of Blocks (options_of (name ∷ others))) ≡ true)
-    × (are_lists (lists_of (name ∷ others)) ≡ true) × (are_sides operation (lists_of (name ∷ others)) ≡ true)
+pub what_an_operation_needs : {Z : Type 0} (name : String Z) (others : List (String Z))
+    (operation : Operation) → AreFor (name ∷ others) operation
+    → (operation_named name ≡ Some operation) × (are_options (options_of (name ∷ others)) ≡ true)
+    × (can_print operation (form_of Blocks (options_of (name ∷ others))) ≡ true)
+    × (are_lists (lists_of (name ∷ others)) ≡ true) × (are_sides operation
+    (lists_of (name ∷ others)) ≡ true)
 what_an_operation_needs name others operation h = h
 
-pub what_a_request_says : {Z : Type 0} (words : List (String Z)) (request : Request) → Says words request
-    → (request.form ≡ form_of (usual_of words) (options_of words)) × (request.skips_bad ≡ has (codes "--skip-bad") (options_of words))
+pub what_a_request_says : {Z : Type 0} (words : List (String Z)) (request : Request)
+    → Says words request
+    → (request.form ≡ form_of (usual_of words) (options_of words))
+    × (request.skips_bad ≡ has (codes "--skip-bad") (options_of words))
     × (request.shape ≡ shape_of (options_of words))
-    × (slice_range words request.first request.middle ≡ before_dashes (lists_of words)) × (drop request.second words ≡ behind_dashes (lists_of words))
+    × (slice_range words request.first request.middle ≡ before_dashes (lists_of words))
+    × (drop request.second words ≡ behind_dashes (lists_of words))
 what_a_request_says words request h = (h.form, h.skips, h.shape, h.firsts, h.seconds)
 
 -- ---- what was read
 
-pub what_a_side_has : {Z : Type 0} (known : Source) (number : ℕ) (names : List (String Z)) (before refused : Refused) (sets : Sets) → ReadsSide known number names before sets refused
-    → (read : ReadLists) × ReadsLists known number names (nothing_read before) read × (read.is_out_of_memory ≡ false) × IsAggregate 32 read.v4 sets.v4 × IsAggregate 128 read.v6 sets.v6 × (read.refused ≡ refused)
-what_a_side_has known number names before refused sets h = (h.read, h.lists, h.memory, h.v4, h.v6, h.refused_lines)
+pub what_a_side_has : {Z : Type 0} (known : Source) (number : ℕ) (names : List (String Z))
+    (before refused : Refused) (sets : Sets) → ReadsSide known number names before sets refused
+    → (read : ReadLists) × ReadsLists known number names (nothing_read before) read
+    × (read.is_out_of_memory ≡ false) × IsAggregate 32 read.v4 sets.v4
+    × IsAggregate 128 read.v6 sets.v6 × (read.refused ≡ refused)
+what_a_side_has known number names before refused sets h =
+    (h.read, h.lists, h.memory, h.v4, h.v6, h.refused_lines)
 
-pub what_both_sides_have : {Z : Type 0} (known : KnownLists) (words : List (String Z)) (request : Request) (first second : Sets) (refused : Refused) → ReadsSides known words request first second refused
-    → (between : Refused) × ReadsSide (source known request.shape) request.first (slice_range words request.first request.middle) no_refusals first between × ReadsSide (source known request.shape) request.second (drop request.second words) between second refused
+pub what_both_sides_have : {Z : Type 0} (known : KnownLists) (words : List (String Z))
+    (request : Request) (first second : Sets) (refused : Refused)
+    → ReadsSides known words request first second refused
+    → (between : Refused) × ReadsSide (source known request.shape) request.first
+    (slice_range words request.first request.middle) no_refusals first between
+    × ReadsSide (source known request.shape) request.second
+    (drop request.second words) between second refused
 what_both_sides_have known words request first second refused h = (h.between, h.firsts, h.seconds)
 
-pub where_the_reading_stops : {Z : Type 0} (known : Source) (number : ℕ) (names : List (String Z)) (before : ReadLists) (fault : ReadFault) (refused : Refused) (h : Stops known number names before fault refused)
-    → (names ≡ h.first ++ h.name ∷ h.others) × ReadsLists known number h.first before h.between × (h.between.is_out_of_memory ≡ false)
+pub where_the_reading_stops : {Z : Type 0} (known : Source) (number : ℕ) (names : List (String Z))
+    (before : ReadLists) (fault : ReadFault) (refused : Refused)
+    (h : Stops known number names before fault refused)
+    → (names ≡ h.first ++ h.name ∷ h.others) × ReadsLists known number h.first before h.between
+    × (h.between.is_out_of_memory ≡ false)
     × StopsOne known (number + length h.first) (string_bytes h.name) h.between fault refused
-where_the_reading_stops known number names before fault refused h = (h.cut, h.reads, h.memory, h.stops)
+where_the_reading_stops known number names before fault refused h =
+    (h.cut, h.reads, h.memory, h.stops)
 
-pub what_stops_both_sides : {Z : Type 0} (known : KnownLists) (words : List (String Z)) (request : Request) (fault : ReadFault) (refused : Refused) → StopsInSides known words request fault refused
-    → Stops (source known request.shape) request.first (slice_range words request.first request.middle) (nothing_read no_refusals) fault refused
-    ⊎ ((first : Sets) × (between : Refused) × ReadsSide (source known request.shape) request.first (slice_range words request.first request.middle) no_refusals first between
-    × Stops (source known request.shape) request.second (drop request.second words) (nothing_read between) fault refused)
+pub what_stops_both_sides : {Z : Type 0} (known : KnownLists) (words : List (String Z))
+    (request : Request) (fault : ReadFault) (refused : Refused)
+    → StopsInSides known words request fault refused
+    → Stops (source known request.shape) request.first
+    (slice_range words request.first request.middle) (nothing_read no_refusals) fault refused
+    ⊎ ((first : Sets) × (between : Refused) × ReadsSide (source known request.shape) request.first
+    (slice_range words request.first request.middle) no_refusals first between
+    × Stops (source known request.shape) request.second (drop request.second words)
+    (nothing_read between) fault refused)
 what_stops_both_sides known words request fault refused h = h
 
 -- ---- how a run ends
 
-pub what_a_run_tells : {Z W E : Type 0} (known : KnownLists) (words : List (String Z)) (request : Request) (end : Ending W E) → EndsMerging known words request end
-    → (refused : Refused) × (told : Written E) × Tells end.errors told (refusals_text words in_list refused)
+pub what_a_run_tells : {Z W E : Type 0} (known : KnownLists) (words : List (String Z))
+    (request : Request) (end : Ending W E) → EndsMerging known words request end
+    → (refused : Refused) × (told : Written E) × Tells end.errors told
+    (refusals_text words in_list refused)
     × (StopsReading known words request refused (record end { errors = told })
-    ⊎ ((first second : Sets) × ReadsSides known words request first second refused × EndsAnswering request (was_refused refused) first second (record end { errors = told })))
+    ⊎ ((first second : Sets) × ReadsSides known words request first second refused
+    × EndsAnswering request (was_refused refused) first second (record end { errors = told })))
 what_a_run_tells known words request end h = h
 
-pub what_a_reading_that_stops_tells : {Z W E : Type 0} (known : KnownLists) (words : List (String Z)) (request : Request) (refused : Refused) (end : Ending W E) → StopsReading known words request refused end
-    → (fault : ReadFault) × StopsInSides known words request fault refused × (end.output_after ≡ end.output) × (end.status ≡ 2) × HasTold end (fault_text words fault)
+pub what_a_reading_that_stops_tells : {Z W E : Type 0} (known : KnownLists)
+    (words : List (String Z)) (request : Request) (refused : Refused) (end : Ending W E)
+    → StopsReading known words request refused end
+    → (fault : ReadFault) × StopsInSides known words request fault refused
+    × (end.output_after ≡ end.output) × (end.status ≡ 2) × HasTold end (fault_text words fault)
 what_a_reading_that_stops_tells known words request refused end h = (h.0, h.1, h.2.0, h.2.1, h.3)
 
-pub nothing_for_refused_lines : {W E : Type 0} (request : Request) (first second : Sets) (end : Ending W E) → request.skips_bad ≡ false → EndsAnswering request true first second end
+pub nothing_for_refused_lines : {W E : Type 0} (request : Request) (first second : Sets)
+    (end : Ending W E) → request.skips_bad ≡ false → EndsAnswering request true first second end
     → (end.output_after ≡ end.output) × (end.status ≡ 2)
 nothing_for_refused_lines request first second end keeps (inl h) = (h.1.0, h.1.1)
-nothing_for_refused_lines request first second end keeps (inr h) = absurd (let bad : (true && not request.skips_bad) ≡ true = rw keeps in let q = sym bad ∙ h.0 in cc)
+nothing_for_refused_lines request first second end keeps (inr h) =
+    absurd (let bad : (true && not request.skips_bad) ≡ true = rw keeps in
+    let q = sym bad ∙ h.0 in cc)
 
-pub an_answer_or_a_failed_write : {W E : Type 0} (request : Request) (first second : Sets) (end : Ending W E) → EndsAnswering request false first second end
+pub an_answer_or_a_failed_write : {W E : Type 0} (request : Request) (first second : Sets)
+    (end : Ending W E) → EndsAnswering request false first second end
     → FailsToWrite end ⊎ WritesAnswer request false first second end
 an_answer_or_a_failed_write request first second end (inl h) = absurd (let q = h.0 in cc)
 an_answer_or_a_failed_write request first second end (inr h) = h.1
 
-pub what_an_answer_is : {W E : Type 0} (request : Request) (skips : Bool) (first second : Sets) (end : Ending W E) → WritesAnswer request skips first second end
-    → ((text : List ℕ) × IsAnswer request.operation request.form first second text × HasWritten end text) × HasTold end [] × (end.status ≡ answer_status request.operation skips first second)
+pub what_an_answer_is : {W E : Type 0} (request : Request) (skips : Bool) (first second : Sets)
+    (end : Ending W E) → WritesAnswer request skips first second end
+    → ((text : List ℕ) × IsAnswer request.operation request.form first second text
+    × HasWritten end text) × HasTold end []
+    × (end.status ≡ answer_status request.operation skips first second)
 what_an_answer_is request skips first second end h = ((h.0, h.1, h.2), h.3, h.4)
 
-pub what_a_failed_writer_is : {W E : Type 0} (end : Ending W E) → FailsToWrite end → (end.output_after.failed ≡ true) × HasTold end (codes "write error\n") × (end.status ≡ 2)
+pub what_a_failed_writer_is : {W E : Type 0} (end : Ending W E) → FailsToWrite end
+    → (end.output_after.failed ≡ true) × HasTold end (codes "write error\n") × (end.status ≡ 2)
 what_a_failed_writer_is end h = h
 
-pub what_a_run_does : {Z W E : Type 0} (program help version usage : List ℕ) (known : KnownLists) (words : List (String Z)) (end : Ending W E)
+pub what_a_run_does : {Z W E : Type 0} (program help version usage : List ℕ) (known : KnownLists)
+    (words : List (String Z)) (end : Ending W E)
     → text_asked help version words ≡ None → EndsAs program help version usage known words end
     → ((stands (codes "split") words 0 ≡ true) × EndsSplit program usage known words end)
     ⊎ (((stands (codes "find") words 0 ≡ true) × EndsFind program usage known words end)
-    ⊎ ((stands (codes "split") words 0 ≡ false) × (stands (codes "find") words 0 ≡ false) × EndsCommand program usage known words (inspection_of words) end))
-what_a_run_does program help version usage known words end e h = otherwise help version words _ end e h
+    ⊎ ((stands (codes "split") words 0 ≡ false) × (stands (codes "find") words 0 ≡ false)
+    × EndsCommand program usage known words (inspection_of words) end))
+what_a_run_does program help version usage known words end e h =
+    otherwise help version words _ end e h
 
-pub what_an_operation_does : {Z W E : Type 0} (program usage : List ℕ) (known : KnownLists) (words : List (String Z)) (end : Ending W E)
+pub what_an_operation_does : {Z W E : Type 0} (program usage : List ℕ) (known : KnownLists)
+    (words : List (String Z)) (end : Ending W E)
     → inspection_of words ≡ None → EndsCommand program usage known words (inspection_of words) end
-    → ((request : Request) × AreFor words request.operation × Says words request × EndsMerging known words request end)
-    ⊎ ((fault : UsageFault) × AreForNone words × (fault_in words ≡ Some fault) × (((end.output_after ≡ end.output) × (end.status ≡ 2))
-    × HasTold end (usage_text program usage words fault.subject (problem_text fault.problem))))
-what_an_operation_does program usage known words end f h = subst (λ i. EndsCommand program usage known words i end) f h
+    → ((request : Request) × AreFor words request.operation × Says words request
+    × EndsMerging known words request end)
+    ⊎ ((fault : UsageFault) × AreForNone words × (fault_in words ≡ Some fault)
+    × (((end.output_after ≡ end.output) × (end.status ≡ 2))
+    × HasTold end (usage_text program usage words fault.subject
+    (problem_text (name_at words 0) fault.problem))))
+what_an_operation_does program usage known words end f h =
+    subst (λ i. EndsCommand program usage known words i end) f h
 
-pub what_a_check_does : {Z W E : Type 0} (program usage : List ℕ) (known : KnownLists) (words : List (String Z)) (end : Ending W E)
-    → inspection_of words ≡ Some Check → inspection_fault Check (options_of words) (lists_of words) ≡ None → EndsCommand program usage known words (inspection_of words) end
-    → ((fault : ReadFault) × TextsStop known (1 + length (options_of words)) (lists_of words) fault × (((end.output_after ≡ end.output) × (end.status ≡ 2)) × HasTold end (fault_text words fault)))
-    ⊎ ((texts : List (List ℕ)) × AreTexts known (lists_of words) texts × (FailsToWrite end ⊎ ((findings : List (List ℕ)) × ListsFindings false (lists_of words) texts findings
-    × (HasWritten end (concat findings) × HasTold end [] × (end.status ≡ (if length findings == 0 then 0 else 1))))))
+pub what_a_check_does : {Z W E : Type 0} (program usage : List ℕ) (known : KnownLists)
+    (words : List (String Z)) (end : Ending W E)
+    → inspection_of words ≡ Some Check
+    → inspection_fault Check (options_of words) (lists_of words) ≡ None
+    → EndsCommand program usage known words (inspection_of words) end
+    → ((fault : ReadFault) × TextsStop known (1 + length (options_of words)) (lists_of words) fault
+    × (((end.output_after ≡ end.output) × (end.status ≡ 2))
+    × HasTold end (fault_text words fault)))
+    ⊎ ((texts : List (List ℕ)) × AreTexts known (lists_of words) texts
+    × (FailsToWrite end ⊎ ((findings : List (List ℕ))
+    × ListsFindings false (lists_of words) texts findings
+    × (HasWritten end (concat findings) × HasTold end []
+    × (end.status ≡ (if length findings == 0 then 0 else 1))))))
 what_a_check_does program usage known words end f g h =
-    subst (λ r. EndsUnless program usage known words Check r end) g (subst (λ i. EndsCommand program usage known words i end) f h)
+    subst (λ r. EndsUnless program usage known words Check r end) g
+    (subst (λ i. EndsCommand program usage known words i end) f h)
 
-pub what_a_find_does : {Z W E : Type 0} (program usage : List ℕ) (known : KnownLists) (words : List (String Z)) (end : Ending W E) → find_fault (drop 1 words) ≡ None → EndsFind program usage known words end
-    → ((fault : SoughtFault) × StopsAtWord 1 (sought_of words) fault × (((end.output_after ≡ end.output) × (end.status ≡ 2)) × HasTold end (sought_fault_text program usage words fault)))
+pub what_a_find_does : {Z W E : Type 0} (program usage : List ℕ) (known : KnownLists)
+    (words : List (String Z)) (end : Ending W E) → find_fault (drop 1 words) ≡ None
+    → EndsFind program usage known words end
+    → ((fault : SoughtFault) × StopsAtWord 1 (sought_of words) fault
+    × (((end.output_after ≡ end.output) × (end.status ≡ 2))
+    × HasTold end (sought_fault_text program usage words fault)))
     ⊎ ((addresses : List IpAddr) × AreAddresses (sought_of words) addresses
-    × (((fault : ReadFault) × TextsStop known (2 + length (sought_of words)) (searched_of words) fault × (((end.output_after ≡ end.output) × (end.status ≡ 2)) × HasTold end (fault_text words fault)))
-    ⊎ ((texts : List (List ℕ)) × AreTexts known (searched_of words) texts × ((printed told : List (List ℕ)) × (errors : Written E)
-    × ListsReport (sought_of words) (searched_of words) texts printed told × Tells end.errors errors (concat told)
-    × (FailsToWrite (record end { errors = errors }) ⊎ (HasWritten end (concat printed) × Tells errors end.errors_after []
+    × (((fault : ReadFault) × TextsStop known (2 + length (sought_of words))
+    (searched_of words) fault × (((end.output_after ≡ end.output) × (end.status ≡ 2))
+    × HasTold end (fault_text words fault)))
+    ⊎ ((texts : List (List ℕ)) × AreTexts known (searched_of words) texts
+    × ((printed told : List (List ℕ)) × (errors : Written E)
+    × ListsReport (sought_of words) (searched_of words) texts printed told
+    × Tells end.errors errors (concat told)
+    × (FailsToWrite (record end { errors = errors }) ⊎ (HasWritten end (concat printed)
+    × Tells errors end.errors_after []
     × (end.status ≡ (if length told == 0 then (if length printed == 0 then 1 else 0) else 2))))))))
-what_a_find_does program usage known words end f h = subst (λ r. EndsFindUnless program usage known words r end) f h
+what_a_find_does program usage known words end f h =
+    subst (λ r. EndsFindUnless program usage known words r end) f h
 
 -- ---- what the laws take: no more than this
 
-pub a_union_prints : (list : List (List ℕ)) (text : List ℕ) (number : ℕ) (read : ReadLists) (sets others : Sets) → TakesLines (at_list (nothing_read no_refusals) number) list read → read.is_out_of_memory ≡ false
-    → IsAggregate 32 read.v4 sets.v4 → IsAggregate 128 read.v6 sets.v6 → IsAnswer Union Blocks sets others text → UnionPrints list text
-a_union_prints list text number read sets others takes memory v4 v6 answer = record { number = number; read = read; sets = sets; others = others; takes = takes; memory = memory; v4 = v4; v6 = v6; answer = answer }
+pub a_union_prints : (list : List (List ℕ)) (text : List ℕ) (number : ℕ) (read : ReadLists)
+    (sets others : Sets) → TakesLines (at_list (nothing_read no_refusals) number) list read
+    → read.is_out_of_memory ≡ false
+    → IsAggregate 32 read.v4 sets.v4 → IsAggregate 128 read.v6 sets.v6
+    → IsAnswer Union Blocks sets others text → UnionPrints list text
+a_union_prints list text number read sets others takes memory v4 v6 answer =
+    record {
+      number = number;
+      read = read;
+      sets = sets;
+      others = others;
+      takes = takes;
+      memory =
+          memory;
+      v4 = v4;
+      v6 = v6;
+      answer = answer;
+    }
 
-pub lines_of_1024_bytes_are_short : (list : List (List ℕ)) → ((line : List ℕ) → Contains list line → length line ≤ 1024) → AreShort list
+pub lines_of_1024_bytes_are_short : (list : List (List ℕ))
+    → ((line : List ℕ) → Contains list line → length line ≤ 1024) → AreShort list
 lines_of_1024_bytes_are_short list short = short
 
-pub lines_in_any_order : (lists : List (List (List ℕ))) (whole : List (List ℕ)) → ((line : List ℕ) → Contains whole line ↔ ((list : List (List ℕ)) × Contains lists list × Contains list line)) → HaveLines lists whole
+pub lines_in_any_order : (lists : List (List (List ℕ))) (whole : List (List ℕ))
+    → ((line : List ℕ) → Contains whole line ↔ ((list : List (List ℕ)) × Contains lists list
+    × Contains list line)) → HaveLines lists whole
 lines_in_any_order lists whole same = same

@@ -1,5 +1,7 @@
 -- The addresses that words name.
-use Rattle.std.proofs.Common.{◌≡◌, ◌+◌, ◌<◌, ◌≤◌, ◌∙◌, ℕ, zero, suc, List, [], ◌∷◌, ◌++◌, refl, sym, ap, subst, arith, length, take, drop, get_or, append_assoc, length-take}
+use Rattle.std.proofs.Common.{◌≡◌, ◌+◌, ◌<◌, ◌≤◌, ◌∙◌, ℕ, zero, suc, List, [], ◌∷◌, ◌++◌, refl, sym}
+use Rattle.std.proofs.Common.{ap, subst, arith, length, take, drop, get_or, append_assoc}
+use Rattle.std.proofs.Common.{length-take}
 use Rattle.std.specs.Prelude.{String}
 use Rattle.std.specs.String.{string_bytes}
 use Rattle.std.proofs.lemmas.List.{take_more, take_all, take-append-drop}
@@ -8,48 +10,66 @@ use Rattle.ipnetwork_addr.specs.declared.ip.IpAddr.{IpAddr}
 use Rattle.cidr_merge.specs.FindWords.{AreAddresses, IsFirstWrong}
 
 -- there are as many addresses as words
-pub as_many_addresses : {Z : Type 0} (words : List (String Z)) (addresses : List IpAddr) → AreAddresses words addresses → length addresses ≡ length words
+pub as_many_addresses : {Z : Type 0} (words : List (String Z)) (addresses : List IpAddr)
+    → AreAddresses words addresses → length addresses ≡ length words
 as_many_addresses [] [] h = refl
 as_many_addresses [] (address ∷ addresses) h = absurd h
 as_many_addresses (word ∷ words) [] h = absurd h
-as_many_addresses (word ∷ words) (address ∷ addresses) h = let e = as_many_addresses words addresses h.1 in omega (arith, e)
+as_many_addresses (word ∷ words) (address ∷ addresses) h =
+    let e = as_many_addresses words addresses h.1 in omega (arith, e)
 
 -- the address at a place is that of the word at it
-pub address_at : {Z : Type 0} (words : List (String Z)) (addresses : List IpAddr) (place : ℕ) (word : String Z) (address : IpAddr) → place < length words → AreAddresses words addresses
+pub address_at : {Z : Type 0} (words : List (String Z)) (addresses : List IpAddr) (place : ℕ)
+    (word : String Z) (address : IpAddr) → place < length words → AreAddresses words addresses
     → NamesIp (string_bytes (get_or words place word)) (get_or addresses place address)
 address_at [] addresses place word address l h = absurd (omega (arith, l))
 address_at (first ∷ words) [] place word address l h = absurd h
 address_at (first ∷ words) (one ∷ addresses) zero word address l h = h.0
-address_at (first ∷ words) (one ∷ addresses) (suc place) word address l h = address_at words addresses place word address (omega (arith, l)) h.1
+address_at (first ∷ words) (one ∷ addresses) (suc place) word address l h =
+    address_at words addresses place word address (omega (arith, l)) h.1
 
 -- a word more
-addresses_more : {Z : Type 0} (words : List (String Z)) (addresses : List IpAddr) (word : String Z) (address : IpAddr) → AreAddresses words addresses → NamesIp (string_bytes word) address
+addresses_more : {Z : Type 0} (words : List (String Z)) (addresses : List IpAddr) (word : String Z)
+    (address : IpAddr) → AreAddresses words addresses → NamesIp (string_bytes word) address
     → AreAddresses (words ++ word ∷ []) (addresses ++ address ∷ [])
 addresses_more [] [] word address h k = (k, tt)
 addresses_more [] (one ∷ addresses) word address h k = absurd h
 addresses_more (first ∷ words) [] word address h k = absurd h
-addresses_more (first ∷ words) (one ∷ addresses) word address h k = (h.0, addresses_more words addresses word address h.1 k)
+addresses_more (first ∷ words) (one ∷ addresses) word address h k =
+    (h.0, addresses_more words addresses word address h.1 k)
 
 -- the word at a place was read
-pub addresses_on : {Z : Type 0} (words : List (String Z)) (addresses : List IpAddr) (place : ℕ) (word : String Z) (bytes : List ℕ) (address : IpAddr) → place < length words → word ≡ get_or words place word
-    → bytes ≡ string_bytes word → AreAddresses (take place words) addresses → NamesIp bytes address → AreAddresses (take (place + 1) words) (addresses ++ address ∷ [])
+pub addresses_on : {Z : Type 0} (words : List (String Z)) (addresses : List IpAddr) (place : ℕ)
+    (word : String Z) (bytes : List ℕ) (address : IpAddr) → place < length words
+    → word ≡ get_or words place word
+    → bytes ≡ string_bytes word → AreAddresses (take place words) addresses → NamesIp bytes address
+    → AreAddresses (take (place + 1) words) (addresses ++ address ∷ [])
 addresses_on words addresses place word bytes address l is b h k =
-    subst (λ ws. AreAddresses ws (addresses ++ address ∷ [])) (ap (λ w. take place words ++ w ∷ []) is ∙ sym (take_more words place word l))
-    (addresses_more (take place words) addresses word address h (subst (λ (t : List ℕ). NamesIp t address) b k))
+    subst (λ ws. AreAddresses ws (addresses ++ address ∷ []))
+    (ap (λ w. take place words ++ w ∷ []) is ∙ sym (take_more words place word l))
+    (addresses_more (take place words) addresses word address h
+    (subst (λ (t : List ℕ). NamesIp t address) b k))
 
 -- all were
-pub all_addresses : {Z : Type 0} (words : List (String Z)) (addresses : List IpAddr) (place : ℕ) → length words ≤ place → AreAddresses (take place words) addresses → AreAddresses words addresses
-all_addresses words addresses place l h = subst (λ ws. AreAddresses ws addresses) (take_all place words l) h
+pub all_addresses : {Z : Type 0} (words : List (String Z)) (addresses : List IpAddr) (place : ℕ)
+    → length words ≤ place → AreAddresses (take place words) addresses
+    → AreAddresses words addresses
+all_addresses words addresses place l h =
+    subst (λ ws. AreAddresses ws addresses) (take_all place words l) h
 
 -- or that at a place is wrong
-pub first_wrong : {Z : Type 0} (first : ℕ) (words : List (String Z)) (addresses : List IpAddr) (place : ℕ) (word : String Z) (bytes : List ℕ) → place < length words → word ≡ get_or words place word
-    → bytes ≡ string_bytes word → AreAddresses (take place words) addresses → ((address : IpAddr) → ¬ (NamesIp bytes address)) → IsFirstWrong first words (first + place)
+pub first_wrong : {Z : Type 0} (first : ℕ) (words : List (String Z)) (addresses : List IpAddr)
+    (place : ℕ) (word : String Z) (bytes : List ℕ) → place < length words
+    → word ≡ get_or words place word
+    → bytes ≡ string_bytes word → AreAddresses (take place words) addresses
+    → ((address : IpAddr) → ¬ (NamesIp bytes address)) → IsFirstWrong first words (first + place)
 first_wrong first words addresses place word bytes l is b h k = record {
   before = take place words;
   word = word;
   behind = drop (place + 1) words;
   addresses = addresses;
-  cut = sym (take-append-drop (place + 1) words) ∙ ap (λ ws. ws ++ drop (place + 1) words) (take_more words place word l ∙ ap (λ w. take place words ++ w ∷ []) (sym is))
+  cut = sym (take-append-drop (place + 1) words) ∙ ap (λ ws. ws ++ drop (place + 1) words)
+      (take_more words place word l ∙ ap (λ w. take place words ++ w ∷ []) (sym is))
       ∙ append_assoc (take place words) (word ∷ []) (drop (place + 1) words);
   count = omega (arith, l, length-take place words);
   right = h;

@@ -18,39 +18,59 @@ use Rattle.cidr_merge.specs.declared.split_words.SplitRequest.{SplitRequest}
 use Rattle.cidr_merge.proofs.ReadInTurn.{slice_rest}
 
 -- the lists were read
-pub lists_split : {Z W E T F : Type 0} (read : Result T F) (done : T) (known : KnownLists) (words : List (String Z)) (request : SplitRequest) (sets : Sets) (start refused : Refused)
+pub lists_split : {Z W E T F : Type 0} (read : Result T F) (done : T) (known : KnownLists)
+    (words : List (String Z)) (request : SplitRequest) (sets : Sets) (start refused : Refused)
     (is_empty : Bool) (end : Ending W E) (told : Written E) → start ≡ no_refusals → read ≡ Ok done
-    → OnOk read (ReadsSide (source known request.shape) request.first (slice_range words request.first (length words)) start sets refused)
-    → Tells end.errors told (refusals_text words in_list refused) → is_empty ≡ (length refused.kept == 0) → EndsCutting request (not is_empty) sets (record end { errors = told })
+    → OnOk read (ReadsSide (source known request.shape) request.first
+    (slice_range words request.first (length words)) start sets refused)
+    → Tells end.errors told (refusals_text words in_list refused)
+    → is_empty ≡ (length refused.kept == 0) → EndsCutting request (not is_empty) sets
+    (record end { errors = told })
     → EndsSplitting known words request end
-lists_split {Z} {W} {E} {T} {F} read done known words request sets start refused is_empty end told s e side tells f ends =
-    let all = subst (λ (r : Result T F). OnOk r (ReadsSide (source known request.shape) request.first (slice_range words request.first (length words)) start sets refused)) e side in (
+lists_split {Z} {W} {E} {T} {F} read done known words request sets start refused is_empty end told s
+    e side tells f ends =
+    let all = subst (λ (r : Result T F). OnOk r (ReadsSide
+    (source known request.shape) request.first (slice_range words request.first
+    (length words)) start sets refused)) e side in (
       refused,
       told,
       tells,
       inr (
         sets,
-        subst (λ names. ReadsSide (source known request.shape) request.first names no_refusals sets refused) (slice_rest words request.first)
-            (subst (λ (r : Refused). ReadsSide (source known request.shape) request.first (slice_range words request.first (length words)) r sets refused) s all),
-        subst (λ (b : Bool). EndsCutting request (not b) sets (record end { errors = told })) f ends,
+        subst (λ names. ReadsSide
+            (source known request.shape) request.first names no_refusals sets refused)
+            (slice_rest words request.first)
+            (subst (λ (r : Refused). ReadsSide (source known request.shape) request.first
+            (slice_range words request.first (length words)) r sets refused) s all),
+        subst (λ (b : Bool). EndsCutting request (not b) sets
+            (record end { errors = told })) f ends,
       ),
     )
 
 -- or not to their ends
-pub split_stopped : {Z W E T : Type 0} (read : Result T ReadFault) (fault : ReadFault) (known : KnownLists) (words : List (String Z)) (request : SplitRequest) (start refused : Refused)
+pub split_stopped : {Z W E T : Type 0} (read : Result T ReadFault) (fault : ReadFault)
+    (known : KnownLists) (words : List (String Z)) (request : SplitRequest)
+    (start refused : Refused)
     (end : Ending W E) (told : Written E) → start ≡ no_refusals → read ≡ Err fault
-    → IfErr read (λ f. Stops (source known request.shape) request.first (slice_range words request.first (length words)) (nothing_read start) f refused)
-    → Tells end.errors told (refusals_text words in_list refused) → IsSilent end → Tells told end.errors_after (fault_text words fault) → EndsSplitting known words request end
-split_stopped {Z} {W} {E} {T} read fault known words request start refused end told s e stops tells silent why =
+    → IfErr read (λ f. Stops (source known request.shape) request.first
+    (slice_range words request.first (length words)) (nothing_read start) f refused)
+    → Tells end.errors told (refusals_text words in_list refused) → IsSilent end
+    → Tells told end.errors_after (fault_text words fault) → EndsSplitting known words request end
+split_stopped {Z} {W} {E} {T} read fault known words request start refused end told s e stops tells
+    silent why =
     let names = slice_range words request.first (length words) in
-    let at = subst (λ (r : Result T ReadFault). IfErr r (λ f. Stops (source known request.shape) request.first names (nothing_read start) f refused)) e stops in (
+    let at = subst (λ (r : Result T ReadFault). IfErr r
+    (λ f. Stops (source known request.shape) request.first names
+    (nothing_read start) f refused)) e stops in (
       refused,
       told,
       tells,
       inl (
         fault,
-        subst (λ ns. Stops (source known request.shape) request.first ns (nothing_read no_refusals) fault refused) (slice_rest words request.first)
-            (subst (λ (r : Refused). Stops (source known request.shape) request.first names (nothing_read r) fault refused) s at),
+        subst (λ ns. Stops (source known request.shape) request.first ns
+            (nothing_read no_refusals) fault refused) (slice_rest words request.first)
+            (subst (λ (r : Refused). Stops (source known request.shape) request.first names
+            (nothing_read r) fault refused) s at),
         silent,
         why,
       ),

@@ -1,5 +1,6 @@
 -- Where the reading of lists stops.
-use Rattle.std.proofs.Common.{◌≡◌, ◌<◌, ◌≤◌, ◌+◌, ◌-◌, ◌++◌, ◌∷◌, ◌∙◌, [], ℕ, List, false, sym, ap, subst, arith, length, get_or, take, drop, append_assoc}
+use Rattle.std.proofs.Common.{◌≡◌, ◌<◌, ◌≤◌, ◌+◌, ◌-◌, ◌++◌, ◌∷◌, ◌∙◌, [], ℕ, List, false, sym, ap}
+use Rattle.std.proofs.Common.{subst, arith, length, get_or, take, drop, append_assoc}
 use Rattle.std.proofs.Math.Seq.{take-add}
 use Rattle.std.specs.Prelude.{Result, Ok, Err, OnOk, IfErr, String, slice_range}
 use Rattle.std.specs.String.{string_bytes}
@@ -15,21 +16,29 @@ use Rattle.cidr_merge.proofs.ReadInTurn.{slice_more, slice_count, slice_none}
 -- ---- lists in turn
 
 -- the words from one place on up to another, of which one is this
-slice_cut : {X : Type 0} (words : List X) (from place to : ℕ) (word : X) → from ≤ place → place < to → to ≤ length words → word ≡ get_or words place word
-    → slice_range words from to ≡ slice_range words from place ++ word ∷ take (to - (place + 1)) (drop (place + 1 - from) (drop from words))
+slice_cut : {X : Type 0} (words : List X) (from place to : ℕ) (word : X) → from ≤ place → place < to
+    → to ≤ length words → word ≡ get_or words place word
+    → slice_range words from to ≡ slice_range words from place
+    ++ word ∷ take (to - (place + 1)) (drop (place + 1 - from) (drop from words))
 slice_cut words from place to word le l within is =
     let count : to - from ≡ (place + 1 - from) + (to - (place + 1)) = omega (arith, le, l) in
     let others = take (to - (place + 1)) (drop (place + 1 - from) (drop from words)) in
-    ap (λ n. take n (drop from words)) count ∙ take-add (place + 1 - from) (to - (place + 1)) (drop from words)
+    ap (λ n. take n (drop from words)) count ∙ take-add (place + 1 - from) (to - (place + 1))
+    (drop from words)
     ∙ ap (λ ws. ws ++ others) (slice_more words from place word le (omega (arith, l, within)) is)
     ∙ append_assoc (slice_range words from place) (word ∷ []) others
 
 -- the reading of the list at a place stops
-pub stops_in : {Z : Type 0} (known : Source) (words : List (String Z)) (from place to : ℕ) (word : String Z) (start mid : ReadLists) (fault : ReadFault) (refused : Refused) → from ≤ place → place < to
-    → to ≤ length words → word ≡ get_or words place word → ReadsLists known from (slice_range words from place) start mid → mid.is_out_of_memory ≡ false
-    → StopsOne known place (string_bytes word) mid fault refused → Stops known from (slice_range words from to) start fault refused
+pub stops_in : {Z : Type 0} (known : Source) (words : List (String Z)) (from place to : ℕ)
+    (word : String Z) (start mid : ReadLists) (fault : ReadFault) (refused : Refused) → from ≤ place
+    → place < to
+    → to ≤ length words → word ≡ get_or words place word
+    → ReadsLists known from (slice_range words from place) start mid → mid.is_out_of_memory ≡ false
+    → StopsOne known place (string_bytes word) mid fault refused
+    → Stops known from (slice_range words from to) start fault refused
 stops_in known words from place to word start mid fault refused le l within is reads memory stops =
-    let place_of : place ≡ from + length (slice_range words from place) = slice_count words from place le (omega (arith, l, within)) in
+    let place_of : place ≡ from + length (slice_range words from place) =
+    slice_count words from place le (omega (arith, l, within)) in
     record {
       first = slice_range words from place;
       name = word;
@@ -38,33 +47,46 @@ stops_in known words from place to word start mid fault refused le l within is r
       cut = slice_cut words from place to word le l within is;
       reads = reads;
       memory = memory;
-      stops = subst (λ (p : ℕ). StopsOne known p (string_bytes word) mid fault refused) place_of stops;
+      stops = subst (λ (p : ℕ). StopsOne known p
+          (string_bytes word) mid fault refused) place_of stops;
     }
 
 -- ---- sides
 
-pub side_stopped : {Z T : Type 0} (result : Result T ReadFault) (known : Source) (number : ℕ) (names : List (String Z)) (before after : Refused) (start read : ReadLists) → start ≡ nothing_read before
-    → IfErr result (λ fault. Stops known number names start fault read.refused) → after ≡ read.refused → IfErr result (λ fault. Stops known number names (nothing_read before) fault after)
+pub side_stopped : {Z T : Type 0} (result : Result T ReadFault) (known : Source) (number : ℕ)
+    (names : List (String Z)) (before after : Refused) (start read : ReadLists)
+    → start ≡ nothing_read before
+    → IfErr result (λ fault. Stops known number names start fault read.refused)
+    → after ≡ read.refused
+    → IfErr result (λ fault. Stops known number names (nothing_read before) fault after)
 side_stopped (Ok done) known number names before after start read s h e = tt
 side_stopped (Err fault) known number names before after start read s h e =
-    subst (λ (r : Refused). Stops known number names (nothing_read before) fault r) (sym e) (subst (λ (l : ReadLists). Stops known number names l fault read.refused) s h)
+    subst (λ (r : Refused). Stops known number names (nothing_read before) fault r) (sym e)
+    (subst (λ (l : ReadLists). Stops known number names l fault read.refused) s h)
 
 not_cut : {X : Type 0} (first others : List X) (x : X) → [] ≡ first ++ x ∷ others → ⊥
 not_cut [] others x e = cc
 not_cut (y ∷ first) others x e = cc
 
-no_names : {X : Type 0} (names first others : List X) (x : X) → names ≡ [] → names ≡ first ++ x ∷ others → ⊥
+no_names : {X : Type 0} (names first others : List X) (x : X) → names ≡ []
+    → names ≡ first ++ x ∷ others → ⊥
 no_names names first others x e cut = not_cut first others x (sym e ∙ cut)
 
-reads_no_more : {Z : Type 0} (known : Source) (number : ℕ) (names : List (String Z)) (start read : ReadLists) → names ≡ [] → ReadsLists known number names start read → read ≡ start
+reads_no_more : {Z : Type 0} (known : Source) (number : ℕ) (names : List (String Z))
+    (start read : ReadLists) → names ≡ [] → ReadsLists known number names start read → read ≡ start
 reads_no_more known number [] start read e h = h
 reads_no_more known number (name ∷ names) start read e h = absurd (let q = e in cc)
 
 -- where there are no lists, no line is refused
-pub none_refused : {Z T : Type 0} (result : Result T ReadFault) (known : Source) (words : List (String Z)) (place : ℕ) (before : Refused) (sets : Sets) (refused : Refused)
+pub none_refused : {Z T : Type 0} (result : Result T ReadFault) (known : Source)
+    (words : List (String Z)) (place : ℕ) (before : Refused) (sets : Sets) (refused : Refused)
     → OnOk result (ReadsSide known place (slice_range words place place) before sets refused)
-    → IfErr result (λ fault. Stops known place (slice_range words place place) (nothing_read before) fault refused) → refused ≡ before
+    → IfErr result (λ fault. Stops known place (slice_range words place place)
+    (nothing_read before) fault refused) → refused ≡ before
 none_refused (Ok done) known words place before sets refused side stops =
-    sym side.refused_lines ∙ ap (λ (l : ReadLists). l.refused) (reads_no_more known place (slice_range words place place) (nothing_read before) side.read (slice_none words place) side.lists)
+    sym side.refused_lines ∙ ap (λ (l : ReadLists). l.refused)
+    (reads_no_more known place (slice_range words place place) (nothing_read before) side.read
+    (slice_none words place) side.lists)
 none_refused (Err fault) known words place before sets refused side stops =
-    absurd (no_names (slice_range words place place) stops.first stops.others stops.name (slice_none words place) stops.cut)
+    absurd (no_names (slice_range words place place) stops.first stops.others stops.name
+    (slice_none words place) stops.cut)

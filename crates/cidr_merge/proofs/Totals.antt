@@ -1,5 +1,6 @@
 -- How many blocks and addresses there are.
-use Rattle.std.proofs.Common.{◌≡◌, ◌↔◌, ◌<◌, ◌≤◌, ◌+◌, ◌-◌, ◌^◌, ◌++◌, ◌∷◌, [], ℕ, List, sym, ap, ◌∙◌, subst, arith, length, min, codes, decimal, append_assoc, ⊎_elim}
+use Rattle.std.proofs.Common.{◌≡◌, ◌↔◌, ◌<◌, ◌≤◌, ◌+◌, ◌-◌, ◌^◌, ◌++◌, ◌∷◌, [], ℕ, List, sym, ap}
+use Rattle.std.proofs.Common.{◌∙◌, subst, arith, length, min, codes, decimal, append_assoc, ⊎_elim}
 use Rattle.std.proofs.Math.Nat.{min-eq_left, min-eq_right}
 use Rattle.std.proofs.Math.Pow.{pow_mono}
 use Rattle.std.proofs.lemmas.Bool.{cases_lt}
@@ -13,24 +14,30 @@ use Rattle.cidr_merge.specs.Answers.{IsLeft, IsCountLine}
 use Rattle.cidr_merge.specs.Private.Totals.{AddUp}
 use Rattle.cidr_merge.specs.declared.command_line.Operation.{Operation}
 
--- the least list of a set is that of its own union, of which the blocks are fewer than the addresses
-pub adds_up : (w : ℕ) (set : ℕ → Type 0) (blocks : List Network) → IsLeastList w set blocks → ((x : ℕ) → InUnion w blocks x ↔ set x) → SetHasFewerBlocks
+-- the least list of a set is that of its own union, of which the blocks are fewer than the
+-- addresses
+pub adds_up : (w : ℕ) (set : ℕ → Type 0) (blocks : List Network) → IsLeastList w set blocks
+    → ((x : ℕ) → InUnion w blocks x ↔ set x) → SetHasFewerBlocks
     → HasCount set (total w blocks) → total w blocks ≤ 2 ^ w → AddUp w set blocks
 adds_up w set blocks h same fewer count within = record {
   addresses = same;
   count = count;
   within = within;
-  fewer = λ bits. fewer w blocks bits (least_of_same w set (InUnion w blocks) blocks (λ x. ((same x).1, (same x).0)) h);
+  fewer = λ bits. fewer w blocks bits (least_of_same w set (InUnion w blocks) blocks
+      (λ x. ((same x).1, (same x).0)) h);
 }
 
-pub add_up_by : (operation other : Operation) → operation ≡ other → (w : ℕ) (first second blocks : List Network) → AddUp w (IsLeft other w first second) blocks
+pub add_up_by : (operation other : Operation) → operation ≡ other
+    → (w : ℕ) (first second blocks : List Network) → AddUp w (IsLeft other w first second) blocks
     → AddUp w (IsLeft operation w first second) blocks
-add_up_by operation other e w first second blocks h = subst (λ (o : Operation). AddUp w (IsLeft o w first second) blocks) (sym e) h
+add_up_by operation other e w first second blocks h =
+    subst (λ (o : Operation). AddUp w (IsLeft o w first second) blocks) (sym e) h
 
 -- ---- sums that are kept to a greatest number
 
 -- what was counted and what is left are as many as before, with one block more
-pub counted_on : (count next size left whole cap : ℕ) → next ≡ min (count + size) cap → min (count + (size + left)) cap ≡ min whole cap → min (next + left) cap ≡ min whole cap
+pub counted_on : (count next size left whole cap : ℕ) → next ≡ min (count + size) cap
+    → min (count + (size + left)) cap ≡ min whole cap → min (next + left) cap ≡ min whole cap
 counted_on count next size left whole cap e f =
     ⊎_elim
     (λ (l : count + size < cap).
@@ -45,23 +52,31 @@ counted_on count next size left whole cap e f =
     (cases_lt (count + size) cap)
 
 -- so it is with the numbers of addresses
-pub totalled_on : (w count next cap : ℕ) (block : Network) (before after : List Network) (whole : ℕ) → before ≡ block ∷ after → next ≡ min (count + block_size w block.prefix) cap
-    → min (count + total w before) cap ≡ min whole cap → min (next + total w after) cap ≡ min whole cap
+pub totalled_on : (w count next cap : ℕ) (block : Network) (before after : List Network) (whole : ℕ)
+    → before ≡ block ∷ after → next ≡ min (count + block_size w block.prefix) cap
+    → min (count + total w before) cap ≡ min whole cap
+    → min (next + total w after) cap ≡ min whole cap
 totalled_on w count next cap block before after whole e f h =
-    counted_on count next (block_size w block.prefix) (total w after) whole cap f (subst (λ l. min (count + total w l) cap ≡ min whole cap) e h)
+    counted_on count next (block_size w block.prefix) (total w after) whole cap f
+    (subst (λ l. min (count + total w l) cap ≡ min whole cap) e h)
 
 -- and of blocks
-pub listed_on : (count next cap : ℕ) (block : Network) (before after : List Network) (whole : ℕ) → before ≡ block ∷ after → next ≡ min (count + 1) cap
-    → min (count + length before) cap ≡ min whole cap → min (next + length after) cap ≡ min whole cap
+pub listed_on : (count next cap : ℕ) (block : Network) (before after : List Network) (whole : ℕ)
+    → before ≡ block ∷ after → next ≡ min (count + 1) cap
+    → min (count + length before) cap ≡ min whole cap
+    → min (next + length after) cap ≡ min whole cap
 listed_on count next cap block before after whole e f h =
-    let sum : count + length before ≡ count + (1 + length after) = ap (λ n. count + n) (ap length e ∙ omega arith) in
-    counted_on count next 1 (length after) whole cap f (subst (λ n. min n cap ≡ min whole cap) sum h)
+    let sum : count + length before ≡ count + (1 + length after) =
+    ap (λ n. count + n) (ap length e ∙ omega arith) in
+    counted_on count next 1 (length after) whole cap f (subst
+    (λ n. min n cap ≡ min whole cap) sum h)
 
 pub kept_within : (next sum cap : ℕ) → next ≡ min sum cap → next ≤ cap
 kept_within next sum cap e = omega (arith, e)
 
 -- nothing is left
-pub at_end : (count left whole cap : ℕ) → left ≡ 0 → count ≤ cap → min (count + left) cap ≡ min whole cap → count ≡ min whole cap
+pub at_end : (count left whole cap : ℕ) → left ≡ 0 → count ≤ cap
+    → min (count + left) cap ≡ min whole cap → count ≡ min whole cap
 at_end count left whole cap e le h =
     let sum : count + left ≡ count = omega (arith, e) in
     sym (min-eq_left le) ∙ ap (λ n. min n cap) (sym sum) ∙ h
@@ -69,8 +84,10 @@ at_end count left whole cap e le h =
 -- ---- the line of the counts
 
 -- what is counted to a greatest number is all, where that is no more
-pub count_line : (w : ℕ) (name counts : List ℕ) (set : ℕ → Type 0) (blocks : List Network) (count addresses : ℕ) → IsLeastList w set blocks → AddUp w set blocks → 1 ≤ w → w ≤ 128
-    → count ≡ min (length blocks) (2 ^ 128 - 1) → addresses ≡ min (total w blocks) (2 ^ 128) → counts ≡ decimal count ++ codes " " ++ decimal addresses
+pub count_line : (w : ℕ) (name counts : List ℕ) (set : ℕ → Type 0) (blocks : List Network)
+    (count addresses : ℕ) → IsLeastList w set blocks → AddUp w set blocks → 1 ≤ w → w ≤ 128
+    → count ≡ min (length blocks) (2 ^ 128 - 1) → addresses ≡ min (total w blocks) (2 ^ 128)
+    → counts ≡ decimal count ++ codes " " ++ decimal addresses
     → IsCountLine w name set (name ++ counts ++ 10 ∷ [])
 count_line w name counts set blocks count addresses h sum some bits e f g =
     let small : 2 ^ w ≤ 2 ^ 128 = pow_mono bits in
@@ -79,12 +96,15 @@ count_line w name counts set blocks count addresses h sum some bits e f g =
     let all : count ≡ length blocks = e ∙ min-eq_left (omega (arith, small, fewer)) in
     let every : addresses ≡ total w blocks = f ∙ min-eq_left (omega (arith, small, within)) in
     let text : counts ≡ decimal (length blocks) ++ codes " " ++ decimal (total w blocks) =
-    g ∙ ap (λ n. decimal n ++ codes " " ++ decimal addresses) all ∙ ap (λ n. decimal (length blocks) ++ codes " " ++ decimal n) every in (
+    g ∙ ap (λ n. decimal n ++ codes " " ++ decimal addresses) all
+    ∙ ap (λ n. decimal (length blocks) ++ codes " " ++ decimal n) every in (
       blocks,
       total w blocks,
       h,
       sum.count,
       ap (λ t. name ++ t ++ 10 ∷ []) text
           ∙ ap (λ t. t ++ 10 ∷ [])
-          (sym (append_assoc name (decimal (length blocks) ++ codes " ") (decimal (total w blocks))) ∙ ap (λ t. t ++ decimal (total w blocks)) (sym (append_assoc name (decimal (length blocks)) (codes " ")))),
+          (sym (append_assoc name (decimal (length blocks) ++ codes " ") (decimal (total w blocks)))
+          ∙ ap (λ t. t ++ decimal (total w blocks)) (sym
+          (append_assoc name (decimal (length blocks)) (codes " ")))),
     )

@@ -9,12 +9,13 @@ use Rattle.cidr_merge.specs.Inspections.{inspection_of}
 use Rattle.cidr_merge.specs.Runs.{EndsCommand}
 use Rattle.cidr_merge.specs.Splits.{EndsSplit}
 
--- how a run ends of a program of this name, help, version and usage: with the help or the version, if the words ask for
--- it. Else the first word is `split`, and the lists are split, or `find`, and they are searched, or it names another
--- command, or nothing
+-- how a run ends of a program of this name, help, version and usage: with the help or the version,
+-- if the words ask for it. Else the first word is `split`, and the lists are split, or `find`, and
+-- they are searched, or it names another command, or nothing
 abbrev pub EndsAs : {Z W E : Type 0} → List ℕ → List ℕ → List ℕ → List ℕ → KnownLists
     → List (String Z) → Ending W E → Type 0
 EndsAs program help version usage known words end = EndsRun help version words
     (((stands (codes "split") words 0 ≡ true) × EndsSplit program usage known words end)
     ⊎ (((stands (codes "find") words 0 ≡ true) × EndsFind program usage known words end)
-    ⊎ ((stands (codes "split") words 0 ≡ false) × (stands (codes "find") words 0 ≡ false) × EndsCommand program usage known words (inspection_of words) end))) end
+    ⊎ ((stands (codes "split") words 0 ≡ false) × (stands (codes "find") words 0 ≡ false)
+    × EndsCommand program usage known words (inspection_of words) end))) end

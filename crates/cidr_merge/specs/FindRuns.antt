@@ -1,5 +1,6 @@
 -- How a run ends that searches lists for addresses.
-use Rattle.std.specs.Prelude.{◌≡◌, ◌==◌, ◌⊎◌, ℕ, ◌+◌, Option, None, Some, List, [], length, drop, if◌then◌else◌, String}
+use Rattle.std.specs.Prelude.{◌≡◌, ◌==◌, ◌⊎◌, ℕ, ◌+◌, Option, None, Some, List, [], length, drop}
+use Rattle.std.specs.Prelude.{if◌then◌else◌, String}
 use Rattle.std.specs.List.{concat}
 use Rattle.lines.specs.Outputs.{Written}
 use Rattle.lists.specs.KnownLists.{KnownLists}
@@ -8,17 +9,17 @@ use Rattle.lists.specs.declared.named.ReadFault.TheVariants as faults
 use Rattle.ipnetwork_addr.specs.declared.ip.IpAddr.{IpAddr}
 use Rattle.program.specs.Endings.{Ending, Refuses, HasTold, HasWritten}
 use Rattle.program.specs.Messages.{Tells}
-use Rattle.program.specs.Told.{fault_text}
+use Rattle.program.specs.Told.{name_at, fault_text}
 use Rattle.program.specs.Usage.{usage_text}
 use Rattle.program.specs.declared.usage.Subject.TheVariants.{Word}
 use Rattle.cidr_merge.specs.Finds.{ListsReport}
-use Rattle.cidr_merge.specs.FindWords.{sought_of, searched_of, find_fault, AreAddresses, StopsAtWord}
+use Rattle.cidr_merge.specs.FindWords.{sought_of, searched_of, sought_problem, find_fault}
+use Rattle.cidr_merge.specs.FindWords.{AreAddresses, StopsAtWord}
 use Rattle.cidr_merge.specs.Texts.{AreTexts, TextsStop}
-use Rattle.cidr_merge.specs.Usage.{problem_text}
+use Rattle.cidr_merge.specs.Problems.{problem_text}
 use Rattle.cidr_merge.specs.Writing.{FailsToWrite}
 use Rattle.cidr_merge.specs.declared.sought.SoughtFault.{SoughtFault}
 use Rattle.cidr_merge.specs.declared.sought.SoughtFault.TheVariants.{NotAnAddress, OutOfMemory}
-use Rattle.cidr_merge.specs.declared.usage.Problem.TheVariants as problems
 use Rattle.cidr_merge.specs.declared.usage.UsageFault.{UsageFault}
 
 -- the exit status: 2 if a refused line was told, else 0 if a line was printed, and else 1
@@ -27,36 +28,54 @@ search_status printed told = if length told == 0 then (if length printed == 0 th
 
 -- what there is to print was written, and nothing more was told
 abbrev pub WritesReport : {W E : Type 0} → List (List ℕ) → List (List ℕ) → Ending W E → Type 0
-WritesReport printed told end = HasWritten end (concat printed) × HasTold end [] × (end.status ≡ search_status printed told)
+WritesReport printed told end =
+    HasWritten end (concat printed) × HasTold end [] × (end.status ≡ search_status printed told)
 
--- lists of these names and bytes were searched for the addresses of these words: the refused lines were told, and what
--- there is to print was written, or the writer failed
-abbrev pub EndsSearching : {Z W E : Type 0} → List (String Z) → List (String Z) → List (List ℕ) → Ending W E → Type 0
-EndsSearching {Z} {W} {E} words names texts end = (printed told : List (List ℕ)) × (errors : Written E)
+-- lists of these names and bytes were searched for the addresses of these words: the refused lines
+-- were told, and what there is to print was written, or the writer failed
+abbrev pub EndsSearching : {Z W E : Type 0} → List (String Z) → List (String Z) → List (List ℕ)
+    → Ending W E → Type 0
+EndsSearching {Z} {W} {E} words names texts end =
+    (printed told : List (List ℕ)) × (errors : Written E)
     × ListsReport words names texts printed told × Tells end.errors errors (concat told)
-    × (FailsToWrite (record end { errors = errors }) ⊎ WritesReport printed told (record end { errors = errors }))
+    × (FailsToWrite (record end { errors = errors })
+    ⊎ WritesReport printed told (record end { errors = errors }))
 
 -- a list was not read, nothing was written, and the cause was reported; or all were read
 abbrev pub EndsReadingAll : {Z W E : Type 0} → KnownLists → List (String Z) → Ending W E → Type 0
 EndsReadingAll known words end =
-    ((fault : ReadFault) × TextsStop known (2 + length (sought_of words)) (searched_of words) fault × Refuses (fault_text words fault) end)
-    ⊎ ((texts : List (List ℕ)) × AreTexts known (searched_of words) texts × EndsSearching (sought_of words) (searched_of words) texts end)
+    ((fault : ReadFault) × TextsStop known (2 + length (sought_of words)) (searched_of words) fault
+    × Refuses (fault_text words fault) end)
+    ⊎ ((texts : List (List ℕ)) × AreTexts known (searched_of words) texts
+    × EndsSearching (sought_of words) (searched_of words) texts end)
 
--- what is reported of words that are not taken as addresses: the first that is none, and the usage, or that memory ran out
-abbrev pub sought_fault_text : {Z : Type 0} → List ℕ → List ℕ → List (String Z) → SoughtFault → List ℕ
-sought_fault_text program usage words (NotAnAddress place) = usage_text program usage words (Word place) (problem_text problems.NotAnAddress)
+-- what is reported of words that are not taken as addresses: the first that is none, and the usage,
+-- or that memory ran out
+abbrev pub sought_fault_text : {Z : Type 0} → List ℕ → List ℕ → List (String Z) → SoughtFault
+    → List ℕ
+sought_fault_text program usage words (NotAnAddress place) =
+    usage_text program usage words (Word place)
+    (problem_text (name_at words 0) (sought_problem (name_at words place)))
 sought_fault_text program usage words OutOfMemory = fault_text words faults.OutOfMemory
 
 -- that is reported before anything is read, or the words before the `--` name addresses
-abbrev pub EndsTakingWords : {Z W E : Type 0} → List ℕ → List ℕ → KnownLists → List (String Z) → Ending W E → Type 0
+abbrev pub EndsTakingWords : {Z W E : Type 0} → List ℕ → List ℕ → KnownLists → List (String Z)
+    → Ending W E → Type 0
 EndsTakingWords program usage known words end =
-    ((fault : SoughtFault) × StopsAtWord 1 (sought_of words) fault × Refuses (sought_fault_text program usage words fault) end)
-    ⊎ ((addresses : List IpAddr) × AreAddresses (sought_of words) addresses × EndsReadingAll known words end)
+    ((fault : SoughtFault) × StopsAtWord 1 (sought_of words) fault
+    × Refuses (sought_fault_text program usage words fault) end)
+    ⊎ ((addresses : List IpAddr) × AreAddresses (sought_of words) addresses
+    × EndsReadingAll known words end)
 
 -- the lists are searched, unless something is wrong with the words: that and the usage are reported
-abbrev pub EndsFindUnless : {Z W E : Type 0} → List ℕ → List ℕ → KnownLists → List (String Z) → Option UsageFault → Ending W E → Type 0
+abbrev pub EndsFindUnless : {Z W E : Type 0} → List ℕ → List ℕ → KnownLists → List (String Z)
+    → Option UsageFault → Ending W E → Type 0
 EndsFindUnless program usage known words None end = EndsTakingWords program usage known words end
-EndsFindUnless program usage known words (Some fault) end = Refuses (usage_text program usage words fault.subject (problem_text fault.problem)) end
+EndsFindUnless program usage known words (Some fault) end =
+    Refuses (usage_text program usage words fault.subject
+    (problem_text (name_at words 0) fault.problem)) end
 
-abbrev pub EndsFind : {Z W E : Type 0} → List ℕ → List ℕ → KnownLists → List (String Z) → Ending W E → Type 0
-EndsFind program usage known words end = EndsFindUnless program usage known words (find_fault (drop 1 words)) end
+abbrev pub EndsFind : {Z W E : Type 0} → List ℕ → List ℕ → KnownLists → List (String Z) → Ending W E
+    → Type 0
+EndsFind program usage known words end =
+    EndsFindUnless program usage known words (find_fault (drop 1 words)) end

@@ -1,13 +1,16 @@
 -- What the words of a `find` say: addresses, and lists in which they are sought.
-use Rattle.std.specs.Prelude.{◌≡◌, ℕ, ◌+◌, List, [], ◌∷◌, ◌++◌, Option, Some, length, drop, if◌then◌else◌, codes, String}
+use Rattle.std.specs.Prelude.{◌≡◌, ℕ, ◌+◌, List, [], ◌∷◌, ◌++◌, Option, Some, length, drop}
+use Rattle.std.specs.Prelude.{if◌then◌else◌, codes, String}
 use Rattle.std.specs.String.{string_bytes}
 use Rattle.ipnetwork_addr.specs.Either.{NamesIp}
 use Rattle.ipnetwork_addr.specs.declared.ip.IpAddr.{IpAddr}
-use Rattle.cidr_merge.specs.CommandLines.{stands, before_dashes, behind_dashes}
+use Rattle.cidr_merge.specs.CommandLines.{begins_dashed, stands, before_dashes, behind_dashes}
+use Rattle.cidr_merge.specs.Problems.{misplaced}
 use Rattle.cidr_merge.specs.Usage.{at_word, first_of, lists_fault, sides_fault}
 use Rattle.cidr_merge.specs.declared.sought.SoughtFault.{SoughtFault}
 use Rattle.cidr_merge.specs.declared.sought.SoughtFault.TheVariants.{NotAnAddress, OutOfMemory}
-use Rattle.cidr_merge.specs.declared.usage.Problem.TheVariants as problems
+use Rattle.cidr_merge.specs.declared.problems.Problem.{Problem}
+use Rattle.cidr_merge.specs.declared.problems.Problem.TheVariants as problems
 use Rattle.cidr_merge.specs.declared.usage.UsageFault.{UsageFault}
 
 -- the words for addresses stand after `find` and before the first `--`
@@ -18,22 +21,31 @@ sought_of words = before_dashes (drop 1 words)
 abbrev pub searched_of : {Z : Type 0} → List (String Z) → List (String Z)
 searched_of words = behind_dashes (drop 1 words)
 
--- what is wrong with the words after `find`, whatever the addresses are: none stands before the `--`, or there is not
--- one `--`, or no list behind it, or a list has no name
+-- what is wrong with the words after `find`, whatever the addresses are: none stands before the
+-- `--`, or there is not one `--`, or no list behind it, or a list has no name
 abbrev pub find_fault : {Z : Type 0} → List (String Z) → Option UsageFault
 find_fault others =
     if stands (codes "--") others 0 then Some (at_word 1 problems.NoAddress)
-    else first_of (sides_fault 1 others) (lists_fault (2 + length (before_dashes others)) (behind_dashes others))
+    else first_of (sides_fault 1 others)
+    (lists_fault (2 + length (before_dashes others)) (behind_dashes others))
+
+-- what is wrong with the text of a word that is no address: none begins with a `-`, as options do
+abbrev pub sought_problem : List ℕ → Problem
+sought_problem text =
+    if begins_dashed text then misplaced problems.NotAnOption text else problems.NotAnAddress
 
 -- the words are the texts of these addresses
 abbrev pub AreAddresses : {Z : Type 0} → List (String Z) → List IpAddr → Type 0
 AreAddresses [] [] = Unit {0}
 AreAddresses [] (address ∷ addresses) = ⊥
 AreAddresses (word ∷ words) [] = ⊥
-AreAddresses (word ∷ words) (address ∷ addresses) = NamesIp (string_bytes word) address × AreAddresses words addresses
+AreAddresses (word ∷ words) (address ∷ addresses) =
+    NamesIp (string_bytes word) address × AreAddresses words addresses
 
--- of these words, of which the first has this index, the one at the other is the first that is not the text of an address
-pub record IsFirstWrong {Z : Type 0} (first : ℕ) (words : List (String Z)) (place : ℕ) : Type 0 where
+-- of these words, of which the first has this index, the one at the other is the first that is not
+-- the text of an address
+pub record IsFirstWrong {Z : Type 0} (first : ℕ) (words : List (String Z))
+    (place : ℕ) : Type 0 where
   pub before : List (String Z)
   pub word : String Z
   pub behind : List (String Z)

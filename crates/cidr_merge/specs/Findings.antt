@@ -1,5 +1,7 @@
 -- What is found in lists that are looked over. A finding is a line of the output.
-use Rattle.std.specs.Prelude.{◌≡◌, ◌==◌, ◌<◌, ◌≤◌, ◌⊎◌, ◌&&◌, ℕ, ◌+◌, Bool, false, not, List, [], ◌∷◌, ◌++◌, length, Option, None, Some, Ok, Err, if◌then◌else◌, codes, decimal, String}
+use Rattle.std.specs.Prelude.{◌≡◌, ◌==◌, ◌<◌, ◌≤◌, ◌⊎◌, ◌&&◌, ℕ, ◌+◌, Bool, false, not, List, []}
+use Rattle.std.specs.Prelude.{◌∷◌, ◌++◌, length, Option, None, Some, Ok, Err, if◌then◌else◌, codes}
+use Rattle.std.specs.Prelude.{decimal, String}
 use Rattle.std.specs.Ordering.{is_le}
 use Rattle.std.specs.Str.Lines.{lines}
 use Rattle.std.specs.String.{string_bytes}
@@ -28,7 +30,8 @@ separator line = if length line == 0 then [] else codes ": "
 -- a refused line is a finding: `FILE:LINE: refused FAULT: TEXT`
 abbrev pub refusal_text : List ℕ → ℕ → LineFault → List ℕ → List ℕ
 refusal_text name number fault line =
-    place_text name number ++ codes ": refused " ++ line_fault_text fault ++ separator (shown fault line) ++ shown fault line ++ codes "\n"
+    place_text name number ++ codes ": refused " ++ line_fault_text fault
+    ++ separator (shown fault line) ++ shown fault line ++ codes "\n"
 
 -- the line is not too long, and names this entry, or says nothing
 abbrev pub LineSays : List ℕ → Option Entry → Type 0
@@ -47,28 +50,36 @@ has_host_bits (Some (entries.Range first last)) = false
 
 -- strictly it is a finding: `FILE:LINE: host bits: TEXT`
 abbrev pub host_bits_text : List ℕ → ℕ → List ℕ → List ℕ
-host_bits_text name number line = place_text name number ++ codes ": host bits: " ++ line ++ codes "\n"
+host_bits_text name number line =
+    place_text name number ++ codes ": host bits: " ++ line ++ codes "\n"
 
 abbrev pub host_findings : Bool → List ℕ → ℕ → List ℕ → List (List ℕ)
-host_findings is_loose name number line = if is_loose then host_bits_text name number line ∷ [] else []
+host_findings is_loose name number line =
+    if is_loose then host_bits_text name number line ∷ [] else []
 
 -- the findings of the line of this number in the list of this name, strictly or not
 abbrev pub LineFindings : Bool → List ℕ → ℕ → List ℕ → List (List ℕ) → Type 0
 LineFindings strictly name number line findings =
-    ((said : Option Entry) × LineSays line said × (findings ≡ host_findings (strictly && has_host_bits said) name number line))
-    ⊎ ((fault : LineFault) × IsWrong line fault × (findings ≡ refusal_text name number fault line ∷ []))
+    ((said : Option Entry) × LineSays line said
+    × (findings ≡ host_findings (strictly && has_host_bits said) name number line))
+    ⊎ ((fault : LineFault) × IsWrong line fault
+    × (findings ≡ refusal_text name number fault line ∷ []))
 
 -- those of these lines, of which the first has this number
 abbrev pub LinesFindings : Bool → List ℕ → ℕ → List (List ℕ) → List (List ℕ) → Type 0
 LinesFindings strictly name number [] findings = findings ≡ []
-LinesFindings strictly name number (line ∷ lines) findings = (one : List (List ℕ)) × (others : List (List ℕ)) × LineFindings strictly name number line one
+LinesFindings strictly name number (line ∷ lines) findings =
+    (one : List (List ℕ)) × (others : List (List ℕ)) × LineFindings strictly name number line one
     × LinesFindings strictly name (1 + number) lines others × (findings ≡ one ++ others)
 
 -- those of the lists of these names, which have these bytes
-abbrev pub ListsFindings : {Z : Type 0} → Bool → List (String Z) → List (List ℕ) → List (List ℕ) → Type 0
+abbrev pub ListsFindings : {Z : Type 0} → Bool → List (String Z) → List (List ℕ) → List (List ℕ)
+    → Type 0
 ListsFindings strictly [] texts findings = findings ≡ []
 ListsFindings strictly (name ∷ names) [] findings = findings ≡ []
-ListsFindings strictly (name ∷ names) (text ∷ texts) findings = (one : List (List ℕ)) × (others : List (List ℕ)) × LinesFindings strictly (string_bytes name) 1 (lines text) one
+ListsFindings strictly (name ∷ names) (text ∷ texts) findings =
+    (one : List (List ℕ)) × (others : List (List ℕ))
+    × LinesFindings strictly (string_bytes name) 1 (lines text) one
     × ListsFindings strictly names texts others × (findings ≡ one ++ others)
 
 -- whether there is one

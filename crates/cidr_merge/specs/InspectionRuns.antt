@@ -1,10 +1,11 @@
 -- How a run ends that looks lists over.
-use Rattle.std.specs.Prelude.{◌≡◌, ◌==◌, ◌⊎◌, ℕ, ◌+◌, Bool, true, false, Option, None, Some, List, [], ◌++◌, length, if◌then◌else◌, codes, String}
+use Rattle.std.specs.Prelude.{◌≡◌, ◌==◌, ◌⊎◌, ℕ, ◌+◌, Bool, true, false, Option, None, Some, List}
+use Rattle.std.specs.Prelude.{[], ◌++◌, length, if◌then◌else◌, codes, String}
 use Rattle.std.specs.List.{concat}
 use Rattle.lists.specs.KnownLists.{KnownLists}
 use Rattle.lists.specs.declared.named.ReadFault.{ReadFault}
 use Rattle.program.specs.Endings.{Ending, Refuses, HasTold, HasWritten}
-use Rattle.program.specs.Told.{fault_text}
+use Rattle.program.specs.Told.{name_at, fault_text}
 use Rattle.program.specs.Usage.{usage_text}
 use Rattle.cidr_merge.specs.CommandLines.{options_of, lists_of}
 use Rattle.cidr_merge.specs.Findings.{ListsFindings}
@@ -12,7 +13,7 @@ use Rattle.cidr_merge.specs.Inspections.{inspection_fault}
 use Rattle.cidr_merge.specs.Overlaps.{OrderedFindings}
 use Rattle.cidr_merge.specs.Repetitions.{found_among}
 use Rattle.cidr_merge.specs.Texts.{AreTexts, TextsStop}
-use Rattle.cidr_merge.specs.Usage.{problem_text}
+use Rattle.cidr_merge.specs.Problems.{problem_text}
 use Rattle.cidr_merge.specs.Writing.{FailsToWrite}
 use Rattle.cidr_merge.specs.declared.inspections.Inspection.{Inspection}
 use Rattle.cidr_merge.specs.declared.inspections.Inspection.TheVariants.{Check, Strict, Overlaps}
@@ -24,34 +25,53 @@ findings_status findings = if length findings == 0 then 0 else 1
 
 -- the findings were written, and nothing was reported
 abbrev pub WritesFindings : {W E : Type 0} → List (List ℕ) → Ending W E → Type 0
-WritesFindings findings end = HasWritten end (concat findings) × HasTold end [] × (end.status ≡ findings_status findings)
+WritesFindings findings end =
+    HasWritten end (concat findings) × HasTold end [] × (end.status ≡ findings_status findings)
 
 -- what is found in the lines of lists of these names and bytes was, or the writer failed
 abbrev pub EndsChecking : {Z W E : Type 0} → List (String Z) → List (List ℕ) → Ending W E → Type 0
-EndsChecking names texts end = FailsToWrite end ⊎ ((findings : List (List ℕ)) × ListsFindings false names texts findings × WritesFindings findings end)
+EndsChecking names texts end =
+    FailsToWrite end
+    ⊎ ((findings : List (List ℕ)) × ListsFindings false names texts findings
+    × WritesFindings findings end)
 
--- that and then what is found in their entries in order was, or memory ran out before anything was written
-abbrev pub EndsOrdered : {Z W E : Type 0} → Bool → List (String Z) → List (List ℕ) → Ending W E → Type 0
+-- that and then what is found in their entries in order was, or memory ran out before anything was
+-- written
+abbrev pub EndsOrdered : {Z W E : Type 0} → Bool → List (String Z) → List (List ℕ) → Ending W E
+    → Type 0
 EndsOrdered strictly names texts end = Refuses (codes "out of memory\n") end
-    ⊎ (FailsToWrite end ⊎ ((findings more : List (List ℕ)) × ListsFindings strictly names texts findings × OrderedFindings (found_among strictly names) texts more × WritesFindings (findings ++ more) end))
+    ⊎ (FailsToWrite end ⊎ ((findings more : List (List ℕ))
+    × ListsFindings strictly names texts findings
+    × OrderedFindings (found_among strictly names) texts more
+    × WritesFindings (findings ++ more) end))
 
 -- what there is to say of them was
-abbrev pub EndsFinding : {Z W E : Type 0} → Inspection → List (String Z) → List (List ℕ) → Ending W E → Type 0
+abbrev pub EndsFinding : {Z W E : Type 0} → Inspection → List (String Z) → List (List ℕ)
+    → Ending W E → Type 0
 EndsFinding Check names texts end = EndsChecking names texts end
 EndsFinding Strict names texts end = EndsOrdered true names texts end
 EndsFinding Overlaps names texts end = EndsOrdered false names texts end
 
 -- a list was not read, nothing was written, and the cause was reported; or all were read
-abbrev pub EndsReading : {Z W E : Type 0} → KnownLists → List (String Z) → Inspection → Ending W E → Type 0
+abbrev pub EndsReading : {Z W E : Type 0} → KnownLists → List (String Z) → Inspection → Ending W E
+    → Type 0
 EndsReading known words inspection end =
-    ((fault : ReadFault) × TextsStop known (1 + length (options_of words)) (lists_of words) fault × Refuses (fault_text words fault) end)
-    ⊎ ((texts : List (List ℕ)) × AreTexts known (lists_of words) texts × EndsFinding inspection (lists_of words) texts end)
+    ((fault : ReadFault) × TextsStop known (1 + length (options_of words)) (lists_of words) fault
+    × Refuses (fault_text words fault) end)
+    ⊎ ((texts : List (List ℕ)) × AreTexts known (lists_of words) texts
+    × EndsFinding inspection (lists_of words) texts end)
 
--- the lists are looked over, unless something is wrong with the words: that and the usage are reported
-abbrev pub EndsUnless : {Z W E : Type 0} → List ℕ → List ℕ → KnownLists → List (String Z) → Inspection → Option UsageFault → Ending W E → Type 0
+-- the lists are looked over, unless something is wrong with the words: that and the usage are
+-- reported
+abbrev pub EndsUnless : {Z W E : Type 0} → List ℕ → List ℕ → KnownLists → List (String Z)
+    → Inspection → Option UsageFault → Ending W E → Type 0
 EndsUnless program usage known words inspection None end = EndsReading known words inspection end
-EndsUnless program usage known words inspection (Some fault) end = Refuses (usage_text program usage words fault.subject (problem_text fault.problem)) end
+EndsUnless program usage known words inspection (Some fault) end =
+    Refuses (usage_text program usage words fault.subject
+    (problem_text (name_at words 0) fault.problem)) end
 
-abbrev pub EndsInspecting : {Z W E : Type 0} → List ℕ → List ℕ → KnownLists → List (String Z) → Inspection → Ending W E → Type 0
+abbrev pub EndsInspecting : {Z W E : Type 0} → List ℕ → List ℕ → KnownLists → List (String Z)
+    → Inspection → Ending W E → Type 0
 EndsInspecting program usage known words inspection end =
-    EndsUnless program usage known words inspection (inspection_fault inspection (options_of words) (lists_of words)) end
+    EndsUnless program usage known words inspection
+    (inspection_fault inspection (options_of words) (lists_of words)) end

@@ -2,6 +2,7 @@
 pub mod Answers
 pub mod CommandLines
 pub mod Endings
+pub mod EntriesWithin
 pub mod Exports
 pub mod FindRuns
 pub mod FindWords
@@ -14,6 +15,7 @@ pub mod Overlaps
 pub mod Parts
 pub mod Pieces
 pub mod Private
+pub mod Problems
 pub mod Reading
 pub mod Repetitions
 pub mod Runs

@@ -1,5 +1,6 @@
 -- Entries of lists that overlap.
-use Rattle.std.specs.Prelude.{◌≡◌, ◌⊎◌, ◌&&◌, ℕ, ◌+◌, Bool, List, [], ◌∷◌, ◌++◌, map, filter, None, Some, if◌then◌else◌, codes, String}
+use Rattle.std.specs.Prelude.{◌≡◌, ◌⊎◌, ◌&&◌, ℕ, ◌+◌, Bool, List, [], ◌∷◌, ◌++◌, map, filter, None}
+use Rattle.std.specs.Prelude.{Some, if◌then◌else◌, codes, String}
 use Rattle.std.specs.List.Sorted.{IsPermutation, IsSorted}
 use Rattle.std.specs.Ordering.{nat_cmp, ordering_then, is_le}
 use Rattle.std.specs.Str.Lines.{lines}
@@ -13,7 +14,8 @@ use Rattle.lists.specs.declared.fault.LineFault.{LineFault}
 use Rattle.program.specs.Told.{name_at}
 use Rattle.cidr_merge.specs.Findings.{place_text, IsWrong, LineSays}
 
--- an entry: its first and its last address, and the numbers of its list, from 0 on, and of its line, from 1 on
+-- an entry: its first and its last address, and the numbers of its list, from 0 on, and of its
+-- line, from 1 on
 pub record Listed : Type 0 where
   pub first : IpAddr
   pub last : IpAddr
@@ -26,30 +28,36 @@ ends_of (entries.Network n) = (ip_low n, ip_high n)
 ends_of (entries.Range first last) = (first, last)
 
 abbrev pub listed : ℕ → ℕ → Entry → Listed
-listed list number entry = record { first = (ends_of entry).0; last = (ends_of entry).1; list = list; number = number }
+listed list number entry =
+    record { first = (ends_of entry).0; last = (ends_of entry).1; list = list; number = number }
 
 -- the entries of a line: one, or none if it says nothing or is refused
 abbrev pub LineEntries : ℕ → ℕ → List ℕ → List Listed → Type 0
 LineEntries list number line found =
     ((entry : Entry) × LineSays line (Some entry) × (found ≡ listed list number entry ∷ []))
-    ⊎ ((LineSays line None × (found ≡ [])) ⊎ ((fault : LineFault) × IsWrong line fault × (found ≡ [])))
+    ⊎ ((LineSays line None × (found ≡ []))
+    ⊎ ((fault : LineFault) × IsWrong line fault × (found ≡ [])))
 
 -- of these lines, of which the first has this number
 abbrev pub LinesEntries : ℕ → ℕ → List (List ℕ) → List Listed → Type 0
 LinesEntries list number [] found = found ≡ []
-LinesEntries list number (line ∷ lines) found = (one others : List Listed) × LineEntries list number line one
+LinesEntries list number (line ∷ lines) found =
+    (one others : List Listed) × LineEntries list number line one
     × LinesEntries list (1 + number) lines others × (found ≡ one ++ others)
 
 -- of lists with these bytes, of which the first has this number
 abbrev pub ListsEntries : ℕ → List (List ℕ) → List Listed → Type 0
 ListsEntries list [] found = found ≡ []
-ListsEntries list (text ∷ texts) found = (one others : List Listed) × LinesEntries list 1 (lines text) one
+ListsEntries list (text ∷ texts) found =
+    (one others : List Listed) × LinesEntries list 1 (lines text) one
     × ListsEntries (1 + list) texts others × (found ≡ one ++ others)
 
--- the order of entries: by the first address, the last address from the greatest on, the list, the line
+-- the order of entries: by the first address, the last address from the greatest on, the list, the
+-- line
 abbrev pub listed_cmp : Listed → Listed → Ordering
 listed_cmp a b = ordering_then (ip_cmp a.first b.first)
-    (ordering_then (ip_cmp b.last a.last) (ordering_then (nat_cmp a.list b.list) (nat_cmp a.number b.number)))
+    (ordering_then (ip_cmp b.last a.last)
+    (ordering_then (nat_cmp a.list b.list) (nat_cmp a.number b.number)))
 
 -- the same entries in that order
 pub record IsInOrder (found sorted : List Listed) : Type 0 where
@@ -60,20 +68,24 @@ pub record IsInOrder (found sorted : List Listed) : Type 0 where
 abbrev pub is_up_to : IpAddr → IpAddr → Bool
 is_up_to a b = is_le (ip_cmp a b)
 
--- an entry that stands before another in that order overlaps it: its last address is not before the other's first
+-- an entry that stands before another in that order overlaps it: its last address is not before the
+-- other's first
 abbrev pub reaches : Listed → Listed → Bool
 reaches later earlier = is_up_to later.first earlier.last
 
 -- what the later is to the earlier then: of the same addresses, within it, or neither
 abbrev pub relation : Listed → Listed → List ℕ
 relation later earlier =
-    if is_up_to later.last earlier.last then (if is_up_to later.first earlier.first && is_up_to earlier.last later.last then codes "same as" else codes "in")
+    if is_up_to later.last earlier.last
+    then (if is_up_to later.first earlier.first && is_up_to earlier.last later.last
+    then codes "same as" else codes "in")
     else codes "overlaps"
 
 -- two entries that overlap are a finding: `FILE:LINE: in FILE:LINE`
 abbrev pub pair_text : {Z : Type 0} → List (String Z) → Listed → Listed → List ℕ
-pair_text names later earlier = place_text (name_at names later.list) later.number ++ codes ": " ++ relation later earlier ++ codes " "
-    ++ place_text (name_at names earlier.list) earlier.number ++ codes "\n"
+pair_text names later earlier =
+    place_text (name_at names later.list) later.number ++ codes ": " ++ relation later earlier
+    ++ codes " " ++ place_text (name_at names earlier.list) earlier.number ++ codes "\n"
 
 -- the findings of an entry with those of the earlier ones that overlap it
 abbrev pub pairs_with : {Z : Type 0} → List (String Z) → List Listed → Listed → List (List ℕ)
@@ -82,9 +94,11 @@ pairs_with names before later = map (pair_text names later) (filter (reaches lat
 -- those of entries in order, before which these stand
 abbrev pub pairs_after : {Z : Type 0} → List (String Z) → List Listed → List Listed → List (List ℕ)
 pairs_after names before [] = []
-pairs_after names before (entry ∷ others) = pairs_with names before entry ++ pairs_after names (before ++ entry ∷ []) others
+pairs_after names before (entry ∷ others) =
+    pairs_with names before entry ++ pairs_after names (before ++ entry ∷ []) others
 
 -- the findings of lists with these bytes, by what is found in entries in order
 abbrev pub OrderedFindings : (List Listed → List (List ℕ)) → List (List ℕ) → List (List ℕ) → Type 0
-OrderedFindings finds texts findings = (found sorted : List Listed) × ListsEntries 0 texts found × IsInOrder found sorted
+OrderedFindings finds texts findings =
+    (found sorted : List Listed) × ListsEntries 0 texts found × IsInOrder found sorted
     × (findings ≡ finds sorted)

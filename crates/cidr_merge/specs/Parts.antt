@@ -31,14 +31,19 @@ UnionsPrint (list ∷ lists) [] = ⊥
 
 -- these lists have together the lines of one, in any order, and no others
 abbrev pub HaveLines : List (List (List ℕ)) → List (List ℕ) → Type 0
-HaveLines lists whole = (line : List ℕ) → Contains whole line ↔ ((list : List (List ℕ)) × Contains lists list × Contains list line)
+HaveLines lists whole =
+    (line : List ℕ) → Contains whole line
+    ↔ ((list : List (List ℕ)) × Contains lists list × Contains list line)
 
 -- no line of the list has more than 1,024 bytes
 abbrev pub AreShort : List (List ℕ) → Type 0
 AreShort list = (line : List ℕ) → Contains list line → length line ≤ 1024
 
--- if a list is cut into parts, and what the unions of the parts print is joined, in any order, then the union of that
--- prints what the union of the list does
+-- if a list is cut into parts, and what the unions of the parts print is joined, in any order, then
+-- the union of that prints what the union of the list does
 abbrev pub UnionsOfPartsPrintTheSame : Type 0
-UnionsOfPartsPrintTheSame = (whole joined : List (List ℕ)) (parts : List (List (List ℕ))) (texts : List (List ℕ)) (text again : List ℕ) → HaveLines parts whole → UnionsPrint parts texts
-    → HaveLines (map lines texts) joined → AreShort joined → UnionPrints whole text → UnionPrints joined again → again ≡ text
+UnionsOfPartsPrintTheSame =
+    (whole joined : List (List ℕ)) (parts : List (List (List ℕ))) (texts : List (List ℕ))
+    (text again : List ℕ) → HaveLines parts whole → UnionsPrint parts texts
+    → HaveLines (map lines texts) joined → AreShort joined → UnionPrints whole text
+    → UnionPrints joined again → again ≡ text

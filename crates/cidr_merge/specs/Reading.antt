@@ -12,12 +12,14 @@ use Rattle.cidr_merge.specs.declared.reading.Sets.{Sets}
 -- the lists of these names are read, in turn; the first has this number, the next the one after it
 abbrev pub ReadsLists : {Z : Type 0} → Source → ℕ → List (String Z) → ReadLists → ReadLists → Type 0
 ReadsLists from number [] before after = after ≡ before
-ReadsLists from number (name ∷ names) before after = (between : ReadLists) × ReadsOne from number (string_bytes name) before between
+ReadsLists from number (name ∷ names) before after =
+    (between : ReadLists) × ReadsOne from number (string_bytes name) before between
     × ReadsLists from (number + 1) names between after
 
--- the lists of these names were read, after others of which some lines were refused: the sets have the addresses of
--- their networks, and these are the refused lines now
-pub record ReadsSide {Z : Type 0} (from : Source) (number : ℕ) (names : List (String Z)) (before : Refused) (sets : Sets) (refused : Refused) : Type 0 where
+-- the lists of these names were read, after others of which some lines were refused: the sets have
+-- the addresses of their networks, and these are the refused lines now
+pub record ReadsSide {Z : Type 0} (from : Source) (number : ℕ) (names : List (String Z))
+    (before : Refused) (sets : Sets) (refused : Refused) : Type 0 where
   pub read : ReadLists
   pub lists : ReadsLists from number names (nothing_read before) read
   pub memory : read.is_out_of_memory ≡ false
@@ -26,7 +28,10 @@ pub record ReadsSide {Z : Type 0} (from : Source) (number : ℕ) (names : List (
   pub refused_lines : read.refused ≡ refused
 
 -- the lists of both sides were read
-pub record ReadsSides {Z : Type 0} (known : KnownLists) (words : List (String Z)) (request : Request) (first second : Sets) (refused : Refused) : Type 0 where
+pub record ReadsSides {Z : Type 0} (known : KnownLists) (words : List (String Z))
+    (request : Request) (first second : Sets) (refused : Refused) : Type 0 where
   pub between : Refused
-  pub firsts : ReadsSide (source known request.shape) request.first (slice_range words request.first request.middle) no_refusals first between
-  pub seconds : ReadsSide (source known request.shape) request.second (drop request.second words) between second refused
+  pub firsts : ReadsSide (source known request.shape) request.first
+      (slice_range words request.first request.middle) no_refusals first between
+  pub seconds : ReadsSide (source known request.shape) request.second
+      (drop request.second words) between second refused

@@ -1,25 +1,27 @@
 -- How a run ends: its exit status, what was written, and what was reported.
-use Rattle.std.specs.Prelude.{◌≡◌, ℕ, List, [], Bool, true, false, not, ◌&&◌, ◌⊎◌, Option, None, Some, if◌then◌else◌, String}
+use Rattle.std.specs.Prelude.{◌≡◌, ℕ, List, [], Bool, true, false, not, ◌&&◌, ◌⊎◌, Option, None}
+use Rattle.std.specs.Prelude.{Some, if◌then◌else◌, String}
 use Rattle.lists.specs.Refusals.{Refused}
 use Rattle.ipnetwork_sets.specs.Equality.{same_blocks}
 use Rattle.lines.specs.Outputs.{Written}
 use Rattle.program.specs.Endings.{Ending, IsSilent, Refuses, HasTold, HasWritten}
 use Rattle.lists.specs.KnownLists.{KnownLists}
 use Rattle.program.specs.Messages.{Tells}
-use Rattle.program.specs.Told.{was_refused, fault_text, in_list, refusals_text}
+use Rattle.program.specs.Told.{name_at, was_refused, fault_text, in_list, refusals_text}
 use Rattle.lists.specs.declared.named.ReadFault.{ReadFault}
 use Rattle.cidr_merge.specs.Answers.{IsAnswer}
 use Rattle.cidr_merge.specs.CommandLines.{AreFor, AreForNone, Says}
 use Rattle.cidr_merge.specs.InspectionRuns.{EndsInspecting}
-use Rattle.cidr_merge.specs.Inspections.{inspection_of}
+use Rattle.cidr_merge.specs.Problems.{problem_text}
 use Rattle.cidr_merge.specs.Reading.{ReadsSides}
 use Rattle.cidr_merge.specs.Stopping.{StopsInSides}
 use Rattle.program.specs.Usage.{usage_text}
-use Rattle.cidr_merge.specs.Usage.{problem_text, fault_in}
+use Rattle.cidr_merge.specs.Usage.{fault_in}
 use Rattle.cidr_merge.specs.Writing.{FailsToWrite}
 use Rattle.cidr_merge.specs.declared.inspections.Inspection.{Inspection}
 use Rattle.cidr_merge.specs.declared.command_line.Operation.{Operation}
-use Rattle.cidr_merge.specs.declared.command_line.Operation.TheVariants.{Union, Common, Minus, Differ}
+use Rattle.cidr_merge.specs.declared.command_line.Operation.TheVariants.{Union, Common, Minus}
+use Rattle.cidr_merge.specs.declared.command_line.Operation.TheVariants.{Differ}
 use Rattle.cidr_merge.specs.declared.command_line.Request.{Request}
 use Rattle.cidr_merge.specs.declared.reading.Sets.{Sets}
 use Rattle.cidr_merge.specs.declared.usage.UsageFault.{UsageFault}
@@ -29,44 +31,61 @@ abbrev pub are_unequal : Operation → Sets → Sets → Bool
 are_unequal Union first second = false
 are_unequal Common first second = false
 are_unequal Minus first second = false
-are_unequal Differ first second = not (same_blocks first.v4 second.v4 && same_blocks first.v6 second.v6)
+are_unequal Differ first second =
+    not (same_blocks first.v4 second.v4 && same_blocks first.v6 second.v6)
 
--- the exit status of an answer: 3 if lines were skipped, else 1 if the sides of `differ` are not equal, else 0
+-- the exit status of an answer: 3 if lines were skipped, else 1 if the sides of `differ` are not
+-- equal, else 0
 abbrev pub answer_status : Operation → Bool → Sets → Sets → ℕ
-answer_status operation skips first second = if skips then 3 else if are_unequal operation first second then 1 else 0
+answer_status operation skips first second =
+    if skips then 3 else if are_unequal operation first second then 1 else 0
 
 -- the answer was written, and nothing more was reported
 abbrev pub WritesAnswer : {W E : Type 0} → Request → Bool → Sets → Sets → Ending W E → Type 0
-WritesAnswer request skips first second end = (text : List ℕ) × IsAnswer request.operation request.form first second text × HasWritten end text × HasTold end []
+WritesAnswer request skips first second end =
+    (text : List ℕ) × IsAnswer request.operation request.form first second text
+    × HasWritten end text × HasTold end []
     × (end.status ≡ answer_status request.operation skips first second)
 
--- the lists of both sides were read: if lines were refused and are not to be skipped, nothing is written, and else the
--- answer is, unless the writer fails
+-- the lists of both sides were read: if lines were refused and are not to be skipped, nothing is
+-- written, and else the answer is, unless the writer fails
 abbrev pub EndsAnswering : {W E : Type 0} → Request → Bool → Sets → Sets → Ending W E → Type 0
 EndsAnswering request skips first second end =
-    ((skips && not request.skips_bad ≡ true) × IsSilent end × HasTold end []) ⊎ ((skips && not request.skips_bad ≡ false) × (FailsToWrite end ⊎ WritesAnswer request skips first second end))
+    ((skips && not request.skips_bad ≡ true) × IsSilent end × HasTold end [])
+    ⊎ ((skips && not request.skips_bad ≡ false)
+    × (FailsToWrite end ⊎ WritesAnswer request skips first second end))
 
--- the lists were not read to their ends, and these lines were refused before: nothing was written, and the cause was
--- reported
-abbrev pub StopsReading : {Z W E : Type 0} → KnownLists → List (String Z) → Request → Refused → Ending W E → Type 0
-StopsReading known words request refused end = (fault : ReadFault) × StopsInSides known words request fault refused × IsSilent end × HasTold end (fault_text words fault)
+-- the lists were not read to their ends, and these lines were refused before: nothing was written,
+-- and the cause was reported
+abbrev pub StopsReading : {Z W E : Type 0} → KnownLists → List (String Z) → Request → Refused
+    → Ending W E → Type 0
+StopsReading known words request refused end =
+    (fault : ReadFault) × StopsInSides known words request fault refused × IsSilent end
+    × HasTold end (fault_text words fault)
 
 -- the refused lines were reported, and then either why the reading stopped, or the answer was given
-abbrev pub EndsMerging : {Z W E : Type 0} → KnownLists → List (String Z) → Request → Ending W E → Type 0
+abbrev pub EndsMerging : {Z W E : Type 0} → KnownLists → List (String Z) → Request → Ending W E
+    → Type 0
 EndsMerging {Z} {W} {E} known words request end = (refused : Refused) × (told : Written E)
     × Tells end.errors told (refusals_text words in_list refused)
     × (StopsReading known words request refused (record end { errors = told })
-    ⊎ ((first second : Sets) × ReadsSides known words request first second refused × EndsAnswering request (was_refused refused) first second (record end { errors = told })))
+    ⊎ ((first second : Sets) × ReadsSides known words request first second refused
+    × EndsAnswering request (was_refused refused) first second (record end { errors = told })))
 
--- the words say a request, which is done, or something is wrong with them, and that and the usage are reported
-abbrev pub EndsRequest : {Z W E : Type 0} → List ℕ → List ℕ → KnownLists → List (String Z) → Ending W E → Type 0
+-- the words say a request, which is done, or something is wrong with them, and that and the usage
+-- are reported
+abbrev pub EndsRequest : {Z W E : Type 0} → List ℕ → List ℕ → KnownLists → List (String Z)
+    → Ending W E → Type 0
 EndsRequest program usage known words end =
     ((request : Request) × AreFor words request.operation × Says words request
     × EndsMerging known words request end)
     ⊎ ((fault : UsageFault) × AreForNone words × (fault_in words ≡ Some fault)
-    × Refuses (usage_text program usage words fault.subject (problem_text fault.problem)) end)
+    × Refuses (usage_text program usage words fault.subject
+    (problem_text (name_at words 0) fault.problem)) end)
 
 -- the first word says to look lists over, or what to do with them else
-abbrev pub EndsCommand : {Z W E : Type 0} → List ℕ → List ℕ → KnownLists → List (String Z) → Option Inspection → Ending W E → Type 0
+abbrev pub EndsCommand : {Z W E : Type 0} → List ℕ → List ℕ → KnownLists → List (String Z)
+    → Option Inspection → Ending W E → Type 0
 EndsCommand program usage known words None end = EndsRequest program usage known words end
-EndsCommand program usage known words (Some inspection) end = EndsInspecting program usage known words inspection end
+EndsCommand program usage known words (Some inspection) end =
+    EndsInspecting program usage known words inspection end

@@ -23,16 +23,24 @@ abbrev pub ReadsBy : Shape → KnownLists → ℕ → List ℕ → ReadLists →
 ReadsBy Lines known number name before after = ReadsList known number name before after
 -- or the strings of its document
 ReadsBy Json known number name before after = ReadsDocument known false number name before after
-ReadsBy StrictJson known number name before after = ReadsDocument known true number name before after
+ReadsBy StrictJson known number name before after =
+    ReadsDocument known true number name before after
 
 abbrev pub ReadsOne : Source → ℕ → List ℕ → ReadLists → ReadLists → Type 0
-ReadsOne source number name before after = ReadsBy source.shape source.known number name before after
+ReadsOne source number name before after =
+    ReadsBy source.shape source.known number name before after
 
 -- the reading stops at it
 abbrev pub StopsBy : Shape → KnownLists → ℕ → List ℕ → ReadLists → ReadFault → Refused → Type 0
-StopsBy Lines known number name before fault refused = StopsAt known number name before fault refused
-StopsBy Json known number name before fault refused = (after : ReadLists) × StopsAtDocument known false number name before fault after × (refused ≡ after.refused)
-StopsBy StrictJson known number name before fault refused = (after : ReadLists) × StopsAtDocument known true number name before fault after × (refused ≡ after.refused)
+StopsBy Lines known number name before fault refused =
+    StopsAt known number name before fault refused
+StopsBy Json known number name before fault refused =
+    (after : ReadLists) × StopsAtDocument known false number name before fault after
+    × (refused ≡ after.refused)
+StopsBy StrictJson known number name before fault refused =
+    (after : ReadLists) × StopsAtDocument known true number name before fault after
+    × (refused ≡ after.refused)
 
 abbrev pub StopsOne : Source → ℕ → List ℕ → ReadLists → ReadFault → Refused → Type 0
-StopsOne source number name before fault refused = StopsBy source.shape source.known number name before fault refused
+StopsOne source number name before fault refused =
+    StopsBy source.shape source.known number name before fault refused

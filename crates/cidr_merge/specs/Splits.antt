@@ -1,5 +1,6 @@
 -- How a run ends that splits lists.
-use Rattle.std.specs.Prelude.{◌≡◌, ◌<◌, ◌≤◌, ℕ, List, [], Bool, true, false, not, ◌&&◌, ◌⊎◌, drop, if◌then◌else◌, String}
+use Rattle.std.specs.Prelude.{◌≡◌, ◌<◌, ◌≤◌, ℕ, List, [], Bool, true, false, not, ◌&&◌, ◌⊎◌, drop}
+use Rattle.std.specs.Prelude.{if◌then◌else◌, String}
 use Rattle.lines.specs.Outputs.{Written}
 use Rattle.lists.specs.KnownLists.{KnownLists}
 use Rattle.lists.specs.Lists.{nothing_read}
@@ -7,28 +8,32 @@ use Rattle.lists.specs.Refusals.{Refused, no_refusals}
 use Rattle.lists.specs.declared.named.ReadFault.{ReadFault}
 use Rattle.program.specs.Endings.{Ending, IsSilent, Refuses, HasTold, HasWritten}
 use Rattle.program.specs.Messages.{Tells}
-use Rattle.program.specs.Told.{was_refused, fault_text, in_list, refusals_text}
+use Rattle.program.specs.Told.{name_at, was_refused, fault_text, in_list, refusals_text}
 use Rattle.program.specs.Usage.{usage_text}
 use Rattle.cidr_merge.specs.Pieces.{split_text, split_count, split_refusal}
 use Rattle.cidr_merge.specs.Reading.{ReadsSide}
 use Rattle.cidr_merge.specs.Shapes.{source}
 use Rattle.cidr_merge.specs.SplitWords.{SaysSplit, SplitFault}
 use Rattle.cidr_merge.specs.Stopping.{Stops}
-use Rattle.cidr_merge.specs.Usage.{problem_text}
+use Rattle.cidr_merge.specs.Problems.{problem_text}
 use Rattle.cidr_merge.specs.Writing.{FailsToWrite}
 use Rattle.cidr_merge.specs.declared.reading.Sets.{Sets}
 use Rattle.cidr_merge.specs.declared.split_words.SplitRequest.{SplitRequest}
 use Rattle.cidr_merge.specs.declared.usage.UsageFault.{UsageFault}
 
--- the pieces were written, and nothing more was reported; the exit status is 3 if lines were skipped, and else 0
+-- the pieces were written, and nothing more was reported; the exit status is 3 if lines were
+-- skipped, and else 0
 abbrev pub WritesPieces : {W E : Type 0} → ℕ → Bool → Sets → Ending W E → Type 0
-WritesPieces number skips sets end = HasWritten end (split_text number sets) × HasTold end [] × (end.status ≡ (if skips then 3 else 0))
+WritesPieces number skips sets end =
+    HasWritten end (split_text number sets) × HasTold end []
+    × (end.status ≡ (if skips then 3 else 0))
 
 -- more than a million networks are not printed, and how many they would be is reported
 abbrev pub EndsPrintingPieces : {W E : Type 0} → ℕ → Bool → Sets → Ending W E → Type 0
 EndsPrintingPieces number skips sets end =
     ((1000000 < split_count number sets) × Refuses (split_refusal (split_count number sets)) end)
-    ⊎ ((split_count number sets ≤ 1000000) × (FailsToWrite end ⊎ WritesPieces number skips sets end))
+    ⊎ ((split_count number sets ≤ 1000000)
+    × (FailsToWrite end ⊎ WritesPieces number skips sets end))
 
 -- the lists were read: if lines were refused and are not to be skipped, nothing is written
 abbrev pub EndsCutting : {W E : Type 0} → SplitRequest → Bool → Sets → Ending W E → Type 0
@@ -37,22 +42,29 @@ EndsCutting request skips sets end =
     ⊎ ((skips && not request.skips_bad ≡ false) × EndsPrintingPieces request.length skips sets end)
 
 -- the lists were not read to their ends: nothing was written, and the cause was reported
-abbrev pub StopsSplitting : {Z W E : Type 0} → KnownLists → List (String Z) → SplitRequest → Refused → Ending W E → Type 0
+abbrev pub StopsSplitting : {Z W E : Type 0} → KnownLists → List (String Z) → SplitRequest → Refused
+    → Ending W E → Type 0
 StopsSplitting known words request refused end = (fault : ReadFault)
-    × Stops (source known request.shape) request.first (drop request.first words) (nothing_read no_refusals) fault refused × IsSilent end × HasTold end (fault_text words fault)
+    × Stops (source known request.shape) request.first (drop request.first words)
+    (nothing_read no_refusals) fault refused × IsSilent end × HasTold end (fault_text words fault)
 
--- the refused lines were reported, and then either why the reading stopped, or the pieces were printed of the least
--- list of what the lists name
-abbrev pub EndsSplitting : {Z W E : Type 0} → KnownLists → List (String Z) → SplitRequest → Ending W E → Type 0
+-- the refused lines were reported, and then either why the reading stopped, or the pieces were
+-- printed of the least list of what the lists name
+abbrev pub EndsSplitting : {Z W E : Type 0} → KnownLists → List (String Z) → SplitRequest
+    → Ending W E → Type 0
 EndsSplitting {Z} {W} {E} known words request end = (refused : Refused) × (told : Written E)
     × Tells end.errors told (refusals_text words in_list refused)
     × (StopsSplitting known words request refused (record end { errors = told })
-    ⊎ ((sets : Sets) × ReadsSide (source known request.shape) request.first (drop request.first words) no_refusals sets refused
+    ⊎ ((sets : Sets) × ReadsSide (source known request.shape) request.first
+    (drop request.first words) no_refusals sets refused
     × EndsCutting request (was_refused refused) sets (record end { errors = told })))
 
--- the words say a request, which is done, or something is wrong with them, and that and the usage are reported
-abbrev pub EndsSplit : {Z W E : Type 0} → List ℕ → List ℕ → KnownLists → List (String Z) → Ending W E → Type 0
+-- the words say a request, which is done, or something is wrong with them, and that and the usage
+-- are reported
+abbrev pub EndsSplit : {Z W E : Type 0} → List ℕ → List ℕ → KnownLists → List (String Z)
+    → Ending W E → Type 0
 EndsSplit program usage known words end =
     ((request : SplitRequest) × SaysSplit words request × EndsSplitting known words request end)
     ⊎ ((fault : UsageFault) × SplitFault words fault
-    × Refuses (usage_text program usage words fault.subject (problem_text fault.problem)) end)
+    × Refuses (usage_text program usage words fault.subject
+    (problem_text (name_at words 0) fault.problem)) end)

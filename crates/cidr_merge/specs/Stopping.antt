@@ -1,5 +1,6 @@
 -- Where the reading of lists stops.
-use Rattle.std.specs.Prelude.{◌≡◌, ℕ, ◌+◌, List, ◌∷◌, ◌++◌, ◌⊎◌, false, String, length, slice_range, drop}
+use Rattle.std.specs.Prelude.{◌≡◌, ℕ, ◌+◌, List, ◌∷◌, ◌++◌, ◌⊎◌, false, String, length, slice_range}
+use Rattle.std.specs.Prelude.{drop}
 use Rattle.std.specs.String.{string_bytes}
 use Rattle.lists.specs.Lists.{ReadLists, nothing_read}
 use Rattle.lists.specs.Refusals.{Refused, no_refusals}
@@ -10,9 +11,10 @@ use Rattle.cidr_merge.specs.Reading.{ReadsLists, ReadsSide}
 use Rattle.cidr_merge.specs.declared.command_line.Request.{Request}
 use Rattle.cidr_merge.specs.declared.reading.Sets.{Sets}
 
--- of the lists of these names, of which the first has this number, those before one are read in turn, and the reading
--- stops at that one
-pub record Stops {Z : Type 0} (from : Source) (number : ℕ) (names : List (String Z)) (before : ReadLists) (fault : ReadFault) (refused : Refused) : Type 0 where
+-- of the lists of these names, of which the first has this number, those before one are read in
+-- turn, and the reading stops at that one
+pub record Stops {Z : Type 0} (from : Source) (number : ℕ) (names : List (String Z))
+    (before : ReadLists) (fault : ReadFault) (refused : Refused) : Type 0 where
   pub first : List (String Z)
   pub name : String Z
   pub others : List (String Z)
@@ -22,9 +24,14 @@ pub record Stops {Z : Type 0} (from : Source) (number : ℕ) (names : List (Stri
   pub memory : between.is_out_of_memory ≡ false
   pub stops : StopsOne from (number + length first) (string_bytes name) between fault refused
 
--- the reading stops among the lists of the first side, or, if those were read, among those of the second
-abbrev pub StopsInSides : {Z : Type 0} → KnownLists → List (String Z) → Request → ReadFault → Refused → Type 0
+-- the reading stops among the lists of the first side, or, if those were read, among those of the
+-- second
+abbrev pub StopsInSides : {Z : Type 0} → KnownLists → List (String Z) → Request → ReadFault
+    → Refused → Type 0
 StopsInSides known words request fault refused =
-    Stops (source known request.shape) request.first (slice_range words request.first request.middle) (nothing_read no_refusals) fault refused
-    ⊎ ((first : Sets) × (between : Refused) × ReadsSide (source known request.shape) request.first (slice_range words request.first request.middle) no_refusals first between
-    × Stops (source known request.shape) request.second (drop request.second words) (nothing_read between) fault refused)
+    Stops (source known request.shape) request.first
+    (slice_range words request.first request.middle) (nothing_read no_refusals) fault refused
+    ⊎ ((first : Sets) × (between : Refused) × ReadsSide (source known request.shape) request.first
+    (slice_range words request.first request.middle) no_refusals first between
+    × Stops (source known request.shape) request.second (drop request.second words)
+    (nothing_read between) fault refused)

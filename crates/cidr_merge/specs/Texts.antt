@@ -3,33 +3,40 @@ use Rattle.std.specs.Prelude.{◌≡◌, ℕ, ◌+◌, true, false, List, [], �
 use Rattle.std.specs.String.{string_bytes}
 use Rattle.lists.specs.KnownLists.{KnownLists}
 use Rattle.lists.specs.declared.named.ReadFault.{ReadFault}
-use Rattle.lists.specs.declared.named.ReadFault.TheVariants.{Open, Read, Length, NotJson, OutOfMemory}
+use Rattle.lists.specs.declared.named.ReadFault.TheVariants.{Open, Read, Length, NotJson}
+use Rattle.lists.specs.declared.named.ReadFault.TheVariants.{OutOfMemory}
 
 -- the list of this name was opened, and these bytes are all of it, if its bytes are known
 abbrev pub IsTextOf : KnownLists → List ℕ → List ℕ → Type 0
-IsTextOf known name text = known.may_open name true × ((input : List ℕ) → known.bytes_of name ≡ Some input → text ≡ input)
+IsTextOf known name text =
+    known.may_open name true × ((input : List ℕ) → known.bytes_of name ≡ Some input → text ≡ input)
 
 -- those of the lists of these names are these, in their order
 abbrev pub AreTexts : {Z : Type 0} → KnownLists → List (String Z) → List (List ℕ) → Type 0
 AreTexts known [] [] = Unit {0}
-AreTexts known (name ∷ names) (text ∷ texts) = IsTextOf known (string_bytes name) text × AreTexts known names texts
+AreTexts known (name ∷ names) (text ∷ texts) =
+    IsTextOf known (string_bytes name) text × AreTexts known names texts
 AreTexts known [] (text ∷ texts) = ⊥
 AreTexts known (name ∷ names) [] = ⊥
 
 -- the list of this name, which the fault tells by the number, is not read to its end
 abbrev pub TextStops : KnownLists → ℕ → List ℕ → ReadFault → Type 0
 -- it is not opened, for this cause
-TextStops known number name (Open place cause) = (place ≡ number) × known.may_open name false × known.may_miss name cause
+TextStops known number name (Open place cause) =
+    (place ≡ number) × known.may_open name false × known.may_miss name cause
 -- a read of it fails
-TextStops known number name (Read place) = (place ≡ number) × known.may_open name true × known.may_fail name
+TextStops known number name (Read place) =
+    (place ≡ number) × known.may_open name true × known.may_fail name
 -- it may have any length and any text
 TextStops known number name (Length place) = ⊥
 TextStops known number name (NotJson place line) = ⊥
 -- memory runs out for it
 TextStops known number name OutOfMemory = Unit {0}
 
--- of the lists of these names, of which the first has this number, those before one are read, and that one is not
-pub record TextsStop {Z : Type 0} (known : KnownLists) (number : ℕ) (names : List (String Z)) (fault : ReadFault) : Type 0 where
+-- of the lists of these names, of which the first has this number, those before one are read, and
+-- that one is not
+pub record TextsStop {Z : Type 0} (known : KnownLists) (number : ℕ) (names : List (String Z))
+    (fault : ReadFault) : Type 0 where
   pub before : List (String Z)
   pub name : String Z
   pub behind : List (String Z)

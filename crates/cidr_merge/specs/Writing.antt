@@ -4,4 +4,5 @@ use Rattle.program.specs.Endings.{Ending, HasTold}
 
 -- the writer failed
 abbrev pub FailsToWrite : {W E : Type 0} → Ending W E → Type 0
-FailsToWrite end = (end.output_after.failed ≡ true) × HasTold end (codes "write error\n") × (end.status ≡ 2)
+FailsToWrite end =
+    (end.output_after.failed ≡ true) × HasTold end (codes "write error\n") × (end.status ≡ 2)

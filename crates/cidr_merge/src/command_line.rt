@@ -1,12 +1,14 @@
 //! What the arguments ask for.
 ghost use Rattle.std.specs.Prelude.{◌≡◌, ◌+◌, ◌^◌, ◌<◌, Some, length, IfOk, MatchResult};
-ghost use Rattle.cidr_merge.specs.CommandLines.{operation_named, usual_form, form_called, form_of, AreFor, AreForNone, Says};
+ghost use Rattle.cidr_merge.specs.CommandLines.{operation_named, usual_form, form_called, form_of};
+ghost use Rattle.cidr_merge.specs.CommandLines.{AreFor, AreForNone, Says};
 ghost use Rattle.cidr_merge.specs.Private.Words.{IsWithin};
 ghost use Rattle.cidr_merge.specs.Usage.{fault_in};
 
 use crate::exports::Export;
+use crate::problems::Problem;
 use crate::shapes::{Shape, shape_of};
-use crate::usage::{Problem, UsageFault, fault_of, fault_of_word, nothing_said};
+use crate::usage::{UsageFault, fault_of, fault_of_word, nothing_said};
 use crate::words::{has, options_count, place_of};
 use program::words::{is, text_at};
 
@@ -51,11 +53,13 @@ pub struct Request {
     pub first: usize,
     /// The index after the lists of the first side.
     pub middle: usize,
-    /// The index of the first list of the second side: it comes after a `--`; without one it is the number of words.
+    /// The index of the first list of the second side: it comes after a `--`; without one it is the
+    /// number of words.
     pub second: usize,
 }
 
-/// The operation, its options and its lists, which the words after the program's name say. Does not allocate.
+/// The operation, its options and its lists, which the words after the program's name say. Does not
+/// allocate.
 pub(crate) fn request_of(words: &[String]) -> Result<Request, UsageFault>
     ensures within { IfOk result (IsWithin (length words.now)) }
     ensures asked { MatchResult result (λ request. AreFor words.now request.operation

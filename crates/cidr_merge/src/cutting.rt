@@ -2,7 +2,8 @@
 ghost use Rattle.std.specs.Prelude.{◌≡◌, ◌≤◌, ◌-◌, ◌^◌, ◌||◌, min, OnOk, is_err};
 ghost use Rattle.std.specs.List.{flat_map};
 ghost use Rattle.lines.specs.Outputs.{Prints};
-ghost use Rattle.cidr_merge.specs.Pieces.{network_line, pieces_text, piece_count, all_pieces_count, too_many_text};
+ghost use Rattle.cidr_merge.specs.Pieces.{network_line, pieces_text, piece_count, all_pieces_count};
+ghost use Rattle.cidr_merge.specs.Pieces.{too_many_text};
 
 use arrayvec::ArrayString;
 use ipnetwork::{Address, CidrNetwork, Network};
@@ -72,7 +73,8 @@ fn put_network<A: Address, W: Write>(
     output.put(b"\n")
 }
 
-/// How many pieces of this prefix length the blocks of a set have, or the greatest number of 128 bits.
+/// How many pieces of this prefix length the blocks of a set have, or the greatest number of 128
+/// bits.
 pub(crate) fn count_pieces<N: AddressSpace>(length: u8, set: &AddressSet<N>) -> u128
     ensures { result ≡ min (all_pieces_count N.WIDTH length set.now) (2 ^ 128 - 1) }
 {

@@ -3,7 +3,8 @@ ghost use Rattle.std.specs.Prelude.{◌≡◌, ◌≢◌, ◌≤◌, ◌+◌, �
 ghost use Rattle.arrayvec.specs.ArrayString.{array_string_len};
 ghost use Rattle.ipnetwork_family.specs.Family.{text_of};
 ghost use Rattle.ipnetwork_family.specs.Network.{block_size};
-ghost use Rattle.cidr_merge.specs.Exports.{element, with_mask, csv_line, ipset_line, ipset_lines, family_name, set_name, halves};
+ghost use Rattle.cidr_merge.specs.Exports.{element, with_mask, csv_line, ipset_line, ipset_lines};
+ghost use Rattle.cidr_merge.specs.Exports.{family_name, set_name, halves};
 
 use crate::exports::{Export, Version};
 use arrayvec::ArrayString;
@@ -93,7 +94,8 @@ fn csv_line<A: Address>(version: Version, block: Network<A>) -> Element
     text
 }
 
-// What adds a block to a set of ipset: a set cannot have the block of all addresses, but both halves of it.
+// What adds a block to a set of ipset: a set cannot have the block of all addresses, but both
+// halves of it.
 fn ipset_lines<A: Address>(version: Version, block: Network<A>) -> Element
     ensures { result.bytes ≡ ipset_lines version A.family block }
 {

@@ -28,7 +28,8 @@ pub(crate) fn print_export<W: Write>(
     second: &Sets,
     output: &mut Output<'_, W>,
 ) -> Result<(), RunFault>
-    ensures text { OnOk result ((text : List ℕ) × IsExport operation export first.now second.now text
+    ensures text { OnOk result ((text : List ℕ)
+        × IsExport operation export first.now second.now text
         × Prints output.old output.new text) }
     ensures failed { output.new.failed ≡ (output.old.failed || is_err result) }
 {
@@ -40,7 +41,8 @@ pub(crate) fn print_export<W: Write>(
     output.put(foot(export).as_bytes())
 }
 
-// Prints the blocks of a family, which may follow blocks of the other, and tells whether any was printed yet.
+// Prints the blocks of a family, which may follow blocks of the other, and tells whether any was
+// printed yet.
 fn print_family<A: Address, W: Write>(
     export: Export,
     version: Version,

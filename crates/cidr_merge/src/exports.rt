@@ -1,6 +1,7 @@
 //! Forms that other programs read, and the texts that stand around the blocks in each.
 ghost use Rattle.std.specs.Prelude.{◌≡◌};
-ghost use Rattle.cidr_merge.specs.Exports.{head, foot, family_head, family_foot, opening, separator, closing};
+ghost use Rattle.cidr_merge.specs.Exports.{head, foot, family_head, family_foot, opening};
+ghost use Rattle.cidr_merge.specs.Exports.{separator, closing};
 
 /// A form that other programs read.
 #[derive(Clone, Copy, Debug, PartialEq, Eq)]

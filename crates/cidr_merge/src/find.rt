@@ -7,18 +7,18 @@ ghost use Rattle.cidr_merge.specs.FindRuns.{EndsFind, EndsReadingAll, EndsSearch
 ghost use Rattle.cidr_merge.specs.FindRuns.{sought_fault_text};
 ghost use Rattle.cidr_merge.specs.FindWords.{find_fault, AreAddresses};
 
-use crate::find_words::{before_dashes, behind_dashes, find_fault};
+use crate::find_words::{before_dashes, behind_dashes, find_fault, sought_problem};
 use crate::help::{PROGRAM, USAGE};
 use crate::searching::search_lists;
 use crate::sought::{Sought, SoughtFault, addresses_of};
 use crate::texts::texts_of;
-use crate::usage::Problem;
 use ipnetwork::IpAddr;
 use lines::output::Output;
 use lists::{OpenLists, ReadFault};
 use program::ending::{FAILED, end};
 use program::telling::tell_fault;
 use program::usage::{Subject, refuse_usage};
+use program::words::text_at;
 use std::alloc::Global;
 use std::io::Write;
 
@@ -43,7 +43,7 @@ pub(crate) fn find<L: OpenLists, W: Write, E: Write>(
 {
     let others = &words[1..];
     if let Some(fault) = find_fault(others) {
-        let problem = fault.problem.text();
+        let problem = fault.problem.text(words);
         return refuse_usage(PROGRAM, USAGE, words, fault.subject, problem, errors);
     }
     match addresses_of(alloc, before_dashes(others), 1) {
@@ -60,7 +60,7 @@ fn refuse_sought<E: Write>(fault: SoughtFault, words: &[String], errors: &mut Ou
 {
     match fault {
         SoughtFault::NotAnAddress(place) => {
-            let problem = Problem::NotAnAddress.text();
+            let problem = sought_problem(text_at(words, place)).text(words);
             refuse_usage(PROGRAM, USAGE, words, Subject::Word(place), problem, errors)
         }
         SoughtFault::OutOfMemory => {

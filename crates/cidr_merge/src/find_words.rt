@@ -1,10 +1,11 @@
 //! The words of a `find`, and what is wrong with them, whatever its addresses are.
 ghost use Rattle.std.specs.Prelude.{◌≡◌, ◌+◌, ◌^◌, ◌<◌, length};
 ghost use Rattle.cidr_merge.specs.CommandLines.{before_dashes, behind_dashes};
-ghost use Rattle.cidr_merge.specs.FindWords.{find_fault};
+ghost use Rattle.cidr_merge.specs.FindWords.{find_fault, sought_problem};
 
-use crate::usage::{Problem, UsageFault, fault_of_word, lists_fault, sides_fault};
-use crate::words::{place_of, stands};
+use crate::problems::{Problem, misplaced};
+use crate::usage::{UsageFault, fault_of_word, lists_fault, sides_fault};
+use crate::words::{begins_dashed, place_of, stands};
 
 /// What is wrong with the words after `find`: those before the first `--` are addresses, and those
 /// after it lists.
@@ -20,6 +21,17 @@ pub(crate) fn find_fault(others: &[String]) -> Option<UsageFault>
     }
     let first = 2 + before_dashes(others).len();
     lists_fault(behind_dashes(others), first)
+}
+
+/// What is wrong with a text that is no address.
+pub(crate) fn sought_problem(text: &str) -> Problem
+    ensures { result ≡ sought_problem text.now }
+{
+    if begins_dashed(text) {
+        misplaced(Problem::NotAnOption, text)
+    } else {
+        Problem::NotAnAddress
+    }
 }
 
 /// The words before the first `--`.

@@ -44,4 +44,5 @@ pub(crate) const PROGRAM: &str = "cidr_merge";
 
 /// What is reported for arguments that are not a command, after what is wrong with them.
 pub(crate) const USAGE: &str =
-    "usage: cidr_merge union|common|minus|differ|list|split|check|overlaps [OPTION..] FILE.. [-- FILE..], or find ADDRESS.. -- FILE..; try --help\n";
+    "usage: cidr_merge union|common|minus|differ|list|split|check|overlaps \
+     [OPTION..] FILE.. [-- FILE..], or find ADDRESS.. -- FILE..; try --help\n";

@@ -52,7 +52,7 @@ pub(crate) fn inspect<L: OpenLists, W: Write, E: Write>(
     let count = options_count(others);
     let names = &others[count..];
     if let Some(fault) = inspection_fault(inspection, &others[..count], names) {
-        let problem = fault.problem.text();
+        let problem = fault.problem.text(words);
         return refuse_usage(PROGRAM, USAGE, words, fault.subject, problem, errors);
     }
     match texts_of(alloc, lists, names, 1 + count) {

@@ -4,7 +4,8 @@ ghost use Rattle.std.specs.Prelude.{if◌then◌else◌, IfSome};
 ghost use Rattle.cidr_merge.specs.Inspections.{inspection_called, inspection_of};
 ghost use Rattle.cidr_merge.specs.Inspections.{options_taken, options_problem, inspection_fault};
 
-use crate::usage::{UsageFault, fault_of_word, lists_fault, option_problem, union_fault};
+use crate::problems::option_problem;
+use crate::usage::{UsageFault, fault_of_word, lists_fault, union_fault};
 use crate::words::stands;
 use program::words::text_at;
 

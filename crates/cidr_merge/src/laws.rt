@@ -1,13 +1,15 @@
-//! What follows from the clauses of a run. The contract of each function is a law: it does nothing, and a proof that
-//! calls it may use the law.
-ghost use Rattle.cidr_merge.specs.Laws.{NoOtherForm, NoOtherInspection, NoOtherOperation, NoOtherOption};
+//! What follows from the clauses of a run. The contract of each function is a law: it does nothing,
+//! and a proof that calls it may use the law.
+ghost use Rattle.cidr_merge.specs.EntriesWithin.{EachWithinAnotherIsTold};
+ghost use Rattle.cidr_merge.specs.Laws.{NoOtherForm, NoOtherInspection, NoOtherOperation};
+ghost use Rattle.cidr_merge.specs.Laws.{NoOtherOption};
 ghost use Rattle.cidr_merge.specs.Parts.{UnionsOfPartsPrintTheSame};
 
 use ipnetwork_blocks::laws as block_laws;
 use lists::laws as list_laws;
 
-/// A list may be merged in parts, of any number and in any order: the union of what the unions of the parts print
-/// prints what the union of the list does.
+/// A list may be merged in parts, of any number and in any order: the union of what the unions of
+/// the parts print prints what the union of the list does.
 pub fn unions_of_parts_print_the_same()
     ensures { UnionsOfPartsPrintTheSame }
 {
@@ -21,12 +23,14 @@ pub fn no_other_operations()
     ensures { NoOtherOperation }
 {}
 
-/// No word but `--ranges`, `--count`, `--format`, `--skip-bad`, `--json` and `--strict` is an option of an operation.
+/// No word but `--ranges`, `--count`, `--format`, `--skip-bad`, `--json` and `--strict` is an
+/// option of an operation.
 pub fn no_other_options()
     ensures { NoOtherOption }
 {}
 
-/// No word but `plain`, `range`, `netmask`, `wildcard`, `csv`, `nft`, `ipset`, `json` and `addresses` names a form.
+/// No word but `plain`, `range`, `netmask`, `wildcard`, `csv`, `nft`, `ipset`, `json` and
+/// `addresses` names a form.
 pub fn no_other_forms()
     ensures { NoOtherForm }
 {}
@@ -35,3 +39,11 @@ pub fn no_other_forms()
 pub fn no_other_inspections()
     ensures { NoOtherInspection }
 {}
+
+/// A strict check tells an entry of lists as lying in another, or as the same as another before it,
+/// exactly if it is so.
+pub fn each_entry_within_another_is_told(names: &[String])
+    ensures { EachWithinAnotherIsTold names.now }
+{
+    let _names = names;
+}

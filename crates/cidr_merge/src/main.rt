@@ -20,6 +20,7 @@ mod named;
 mod overlapping;
 mod placed;
 mod printing;
+mod problems;
 mod reading;
 mod repeating;
 mod run;

@@ -1,7 +1,8 @@
 //! Prints the answer.
 ghost use Rattle.std.specs.Prelude.{◌≡◌, ◌≤◌, ◌++◌, ◌∷◌, ◌||◌, [], ℕ, List, OnOk, is_err};
 ghost use Rattle.std.specs.List.{flat_map};
-ghost use Rattle.cidr_merge.specs.Answers.{sign_of, merged_by, AreBlockLines, AreRangeLines, IsCountLine, AreCountsLeft, AreCounts, IsAnswer, IsLeft};
+ghost use Rattle.cidr_merge.specs.Answers.{sign_of, merged_by, AreBlockLines, AreRangeLines};
+ghost use Rattle.cidr_merge.specs.Answers.{IsCountLine, AreCountsLeft, AreCounts, IsAnswer, IsLeft};
 ghost use Rattle.cidr_merge.specs.Private.Sweeps.{left_of_second};
 ghost use Rattle.lines.specs.Outputs.{Prints};
 

@@ -79,7 +79,7 @@ fn operate<L: OpenLists, W: Write, E: Write>(
     match request_of(words) {
         Ok(request) => merge(alloc, request, words, lists, output, errors),
         Err(fault) => {
-            let problem = fault.problem.text();
+            let problem = fault.problem.text(words);
             refuse_usage(PROGRAM, USAGE, words, fault.subject, problem, errors)
         }
     }
@@ -166,7 +166,8 @@ fn read_sides<L: OpenLists>(
     }
 }
 
-// Prints what the operation leaves of the sides, unless lines were refused that are not to be skipped.
+// Prints what the operation leaves of the sides, unless lines were refused that are not to be
+// skipped.
 fn answer<W: Write, E: Write>(
     request: Request,
     skips: bool,

@@ -32,7 +32,8 @@ pub(crate) fn shape_of(options: &[String]) -> Shape
     }
 }
 
-/// Opens the list of this name, which is the word at the index `place`, reads it to the end, and closes it.
+/// Opens the list of this name, which is the word at the index `place`, reads it to the end, and
+/// closes it.
 pub(crate) fn read_one<L: OpenLists>(
     alloc: Global,
     lists: &L,

@@ -1,5 +1,6 @@
 //! The parts that an operation leaves of one side: blocks, or ranges of addresses.
-ghost use Rattle.std.specs.Prelude.{◌≡◌, ◌∷◌, ◌↔◌, ◌<◌, ◌||◌, ℕ, List, [], IsTrue, MatchOption, OnOk, is_err};
+ghost use Rattle.std.specs.Prelude.{◌≡◌, ◌∷◌, ◌↔◌, ◌<◌, ◌||◌, ℕ, List, [], IsTrue, MatchOption};
+ghost use Rattle.std.specs.Prelude.{OnOk, is_err};
 ghost use Rattle.ipnetwork_family.specs.Network.{Network};
 ghost use Rattle.lines.specs.Outputs.{Prints};
 ghost use Rattle.cidr_merge.specs.Answers.{Sided, sign_of, block_line, range_line};

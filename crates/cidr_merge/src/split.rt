@@ -22,7 +22,8 @@ use std::io::Write;
 /// The most networks that are printed.
 const PIECES_MAX: u128 = 1_000_000;
 
-/// Does what the words after the program's name ask for, of which the first is `split`, and returns the exit status.
+/// Does what the words after the program's name ask for, of which the first is `split`, and returns
+/// the exit status.
 pub(crate) fn split<L: OpenLists, W: Write, E: Write>(
     alloc: Global,
     words: &[String],
@@ -36,7 +37,7 @@ pub(crate) fn split<L: OpenLists, W: Write, E: Write>(
     match split_request(words) {
         Ok(request) => split_lists(alloc, request, words, lists, output, errors),
         Err(fault) => {
-            let problem = fault.problem.text();
+            let problem = fault.problem.text(words);
             refuse_usage(PROGRAM, USAGE, words, fault.subject, problem, errors)
         }
     }
@@ -74,7 +75,8 @@ fn split_lists<L: OpenLists, W: Write, E: Write>(
     }
 }
 
-// Prints the pieces of the networks, unless lines were refused that are not to be skipped, or there are too many.
+// Prints the pieces of the networks, unless lines were refused that are not to be skipped, or there
+// are too many.
 fn print_split<W: Write, E: Write>(
     request: SplitRequest,
     skips: bool,

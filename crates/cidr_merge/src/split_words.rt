@@ -1,9 +1,13 @@
 //! What the words of a `split` ask for.
-ghost use Rattle.std.specs.Prelude.{◌≡◌, ◌≤◌, ◌+◌, ◌^◌, ◌<◌, length, IfOk, IfErr, IsTrue, MatchResult};
-ghost use Rattle.cidr_merge.specs.SplitWords.{after_shape, after_skip, shape_at, no_prefix, SaysLength, LengthFault, files_fault, SaysSplit, SplitFault};
+ghost use Rattle.std.specs.Prelude.{◌≡◌, ◌≤◌, ◌+◌, ◌^◌, ◌<◌, length, IfOk, IfErr, IsTrue};
+ghost use Rattle.std.specs.Prelude.{MatchResult};
+ghost use Rattle.cidr_merge.specs.SplitWords.{after_shape, after_skip, shape_at, no_prefix};
+ghost use Rattle.cidr_merge.specs.SplitWords.{SaysLength, LengthFault, files_fault, SaysSplit};
+ghost use Rattle.cidr_merge.specs.SplitWords.{SplitFault};
 
+use crate::problems::{Problem, option_problem};
 use crate::shapes::Shape;
-use crate::usage::{Problem, UsageFault, fault_of_word, lists_fault, union_fault};
+use crate::usage::{UsageFault, fault_of_word, lists_fault, union_fault};
 use crate::words::{begins_dashed, stands};
 use ipnetwork::parse::read_number;
 use program::words::text_at;
@@ -24,7 +28,8 @@ pub struct SplitRequest {
     pub first: usize,
 }
 
-/// The prefix length and the lists that the words say, of which the first is `split`. Does not allocate.
+/// The prefix length and the lists that the words say, of which the first is `split`. Does not
+/// allocate.
 pub(crate) fn split_request(words: &[String]) -> Result<SplitRequest, UsageFault>
     ensures within { IfOk result (λ request. request.first ≤ length words.now) }
     ensures asked { MatchResult result (SaysSplit words.now) (SplitFault words.now) }
@@ -100,7 +105,8 @@ fn no_prefix(words: &[String], place: usize) -> UsageFault
     ensures { result ≡ no_prefix words.now place }
 {
     if place < words.len() && begins_dashed(text_at(words, place)) {
-        return fault_of_word(place, Problem::NotAnOption);
+        let problem = option_problem(text_at(words, place));
+        return fault_of_word(place, problem);
     }
     fault_of_word(0, Problem::NoPrefix)
 }

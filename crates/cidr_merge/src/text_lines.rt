@@ -18,7 +18,8 @@ impl<'a> TextLines<'a> {
         TextLines { text }
     }
 
-    /// The next line. One ends with a line feed, or one carriage return and a line feed, or with the text.
+    /// The next line. One ends with a line feed, or one carriage return and a line feed, or with
+    /// the text.
     pub(crate) fn next(&mut self) -> Option<&'a [u8]>
         ensures line { MatchOption result (lines self.old.text.now ≡ [])
             (λ line. lines self.old.text.now ≡ line.now ∷ lines self.new.text.now) }

@@ -1,90 +1,17 @@
 //! What is wrong with words that are not a command.
 ghost use Rattle.std.specs.Prelude.{◌≡◌, ◌+◌, ◌^◌, ◌<◌, false, length, IfSome};
-ghost use Rattle.cidr_merge.specs.CommandLines.{is_option, is_name, names_form, is_exported, named_twice, is_strict_alone};
-ghost use Rattle.cidr_merge.specs.Usage.{problem_text, no_operation, at_word, first_not, word_problem, wrong_option, options_fault, option_problem, form_fault, lists_fault, name_problem, union_fault, no_second_side, sides_fault, fault_among};
+ghost use Rattle.cidr_merge.specs.CommandLines.{is_option, is_name, names_form, is_exported};
+ghost use Rattle.cidr_merge.specs.CommandLines.{named_twice, is_strict_alone};
+ghost use Rattle.cidr_merge.specs.Usage.{no_operation, at_word, first_not, word_problem};
+ghost use Rattle.cidr_merge.specs.Usage.{wrong_option, options_fault, form_fault, lists_fault};
+ghost use Rattle.cidr_merge.specs.Usage.{name_problem, union_fault, no_second_side, sides_fault};
+ghost use Rattle.cidr_merge.specs.Usage.{fault_among};
 
 use crate::command_line::{Form, Operation, form_called, form_of};
+use crate::problems::{Problem, misplaced, option_problem};
 use crate::words::{has, is_dashed, is_repeated, place_of};
 use program::usage::Subject;
 use program::words::{count_of, is, text_at};
-
-/// What is wrong with a word, or with all of them.
-#[derive(Clone, Copy, Debug, PartialEq, Eq)]
-pub enum Problem {
-    /// There is no word.
-    NoOperation,
-    /// The first word is not an operation.
-    NotAnOperation,
-    /// A word before the lists is not an option.
-    NotAnOption,
-    /// The word after `--format` is not a form.
-    NotAForm,
-    /// `--ranges` is given together with `--count`.
-    RangesAndCount,
-    /// `--format` is given twice, or together with `--ranges` or `--count`.
-    AnotherForm,
-    /// `--strict` is given without `--json`.
-    StrictAlone,
-    /// `differ` cannot be printed in this form.
-    FormOfDiffer,
-    /// The name of a list is empty.
-    EmptyName,
-    /// A word that begins with a `-` stands among the lists.
-    OptionAmongLists,
-    /// Standard input is named twice.
-    InputTwice,
-    /// A `--` is given for the union.
-    SecondSideOfUnion,
-    /// There is more than one `--`.
-    ThirdSide,
-    /// No list is named for the union.
-    NoList,
-    /// There is no `--`.
-    OneSide,
-    /// No list stands before the `--`.
-    EmptyFirstSide,
-    /// No list stands after the `--`.
-    EmptySecondSide,
-    /// A `split` has no `--prefix`.
-    NoPrefix,
-    /// The word after `--prefix` is not a prefix length.
-    NotALength,
-    /// No address stands before the `--` of a `find`.
-    NoAddress,
-    /// A word before it is not an address.
-    NotAnAddress,
-}
-
-impl Problem {
-    /// What is reported.
-    pub(crate) fn text(self) -> &'static str
-        ensures { result.now ≡ problem_text self }
-    {
-        match self {
-            Problem::NoOperation => "no operation",
-            Problem::NotAnOperation => "not an operation",
-            Problem::NotAnOption => "not an option of an operation",
-            Problem::NotAForm => "not a form",
-            Problem::RangesAndCount => "not together with --count",
-            Problem::AnotherForm => "given twice, or together with --ranges or --count",
-            Problem::StrictAlone => "only together with --json",
-            Problem::FormOfDiffer => "differ can be printed only as plain or range",
-            Problem::EmptyName => "not the name of a file",
-            Problem::OptionAmongLists => "not a FILE; options stand before the first one",
-            Problem::InputTwice => "standard input can be read only once",
-            Problem::SecondSideOfUnion => "only common, minus, differ and find take a --",
-            Problem::ThirdSide => "only one -- is taken",
-            Problem::NoList => "no FILE",
-            Problem::OneSide => "no -- with a FILE behind it",
-            Problem::EmptyFirstSide => "no FILE before it",
-            Problem::EmptySecondSide => "no FILE after it",
-            Problem::NoPrefix => "no --prefix",
-            Problem::NotALength => "not a prefix length",
-            Problem::NoAddress => "no ADDRESS before it",
-            Problem::NotAnAddress => "not an address",
-        }
-    }
-}
 
 /// Why words are not a command.
 #[derive(Clone, Copy, Debug, PartialEq, Eq)]
@@ -115,7 +42,8 @@ pub(crate) fn fault_of_word(place: usize, problem: Problem) -> UsageFault
     }
 }
 
-/// What is wrong with the options of an operation and its lists, which are all words after the first.
+/// What is wrong with the options of an operation and its lists, which are all words after the
+/// first.
 pub(crate) fn fault_of(
     operation: Operation,
     options: &[String],
@@ -255,17 +183,6 @@ fn is_exported(form: Form) -> bool
     }
 }
 
-/// What is wrong with a text that is no option.
-pub(crate) fn option_problem(text: &str) -> Problem
-    ensures { result ≡ option_problem text.now }
-{
-    if text == "--" {
-        Problem::EmptyFirstSide
-    } else {
-        Problem::NotAnOption
-    }
-}
-
 /// What is wrong with the names of the lists, of which the first is the word at the index `first`.
 pub(crate) fn lists_fault(lists: &[String], first: usize) -> Option<UsageFault>
     requires { first + length lists.now < 2 ^ 64 }
@@ -289,7 +206,7 @@ fn name_problem(text: &str) -> Problem
     if text.is_empty() {
         Problem::EmptyName
     } else {
-        Problem::OptionAmongLists
+        misplaced(Problem::OptionAmongLists, text)
     }
 }
 
@@ -308,7 +225,8 @@ pub(crate) fn union_fault(lists: &[String], first: usize) -> Option<UsageFault>
     None
 }
 
-/// What is wrong with the sides of another operation; the first word of them is that at the index `first`.
+/// What is wrong with the sides of another operation; the first word of them is that at the index
+/// `first`.
 pub(crate) fn sides_fault(lists: &[String], first: usize) -> Option<UsageFault>
     requires { first + length lists.now < 2 ^ 64 }
     ensures { result ≡ sides_fault first lists.now }

@@ -2,7 +2,8 @@
 ghost use Rattle.std.specs.Prelude.{◌≡◌, ◌≤◌, false, length, nat_lt};
 ghost use Rattle.std.specs.List.{position_or_len};
 ghost use Rattle.program.specs.Words.{is, count};
-ghost use Rattle.cidr_merge.specs.CommandLines.{has, stands, begins_dashed, is_dashed, belongs, options_len};
+ghost use Rattle.cidr_merge.specs.CommandLines.{has, stands, begins_dashed, is_dashed, belongs};
+ghost use Rattle.cidr_merge.specs.CommandLines.{options_len};
 
 use program::words::{count_of, is, text_at};
 
@@ -56,8 +57,8 @@ pub(crate) fn begins_dashed(text: &str) -> bool
     }
 }
 
-/// How many of the words are options and their values: those before the first that is `-` or does not begin with `-`.
-/// The word after a `--format` is its value, whatever it is.
+/// How many of the words are options and their values: those before the first that is `-` or does
+/// not begin with `-`. The word after a `--format` is its value, whatever it is.
 #[tactic(auto, using(crate::proofs::Options::option_more, crate::proofs::Options::no_option_more, crate::proofs::Options::no_word_more))]
 pub(crate) fn options_count(words: &[String]) -> usize
     ensures within { result ≤ length words.now }

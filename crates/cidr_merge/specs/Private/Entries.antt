@@ -1,5 +1,6 @@
 -- The entries of lists as the code holds them.
-use Rattle.std.specs.Prelude.{◌≡◌, ◌≤◌, ℕ, Bool, List, ◌++◌, map, filter, length, take, drop, slice_index_or, if◌then◌else◌}
+use Rattle.std.specs.Prelude.{◌≡◌, ◌≤◌, ℕ, Bool, List, ◌++◌, map, filter, length, take, drop}
+use Rattle.std.specs.Prelude.{slice_index_or, if◌then◌else◌}
 use Rattle.ipnetwork_addr.specs.declared.ip.IpAddr.{IpAddr}
 use Rattle.ipnetwork_addr.specs.declared.ip.IpAddr.TheVariants.{V4, V6}
 use Rattle.cidr_merge.specs.Overlaps.{Listed, reaches}
@@ -20,7 +21,8 @@ listed_as placed = record {
 
 -- the entries of a part of the lists were added
 abbrev pub Adds : (List Listed → Type 0) → List Placed → List Placed → Type 0
-Adds Part before after = (found : List Listed) × Part found × (map listed_as after ≡ map listed_as before ++ found)
+Adds Part before after =
+    (found : List Listed) × Part found × (map listed_as after ≡ map listed_as before ++ found)
 
 -- an entry overlaps an earlier one
 abbrev pub overlaps : Placed → Placed → Bool
@@ -28,12 +30,15 @@ overlaps later earlier = reaches (listed_as later) (listed_as earlier)
 
 -- whether the entry at one place overlaps that at another, which stands before it
 abbrev pub Overlaps : List Placed → ℕ → ℕ → Bool → Type 0
-Overlaps entries place earlier answer = (later one : Placed) → later ≡ slice_index_or entries place later → one ≡ slice_index_or entries earlier one → answer ≡ overlaps later one
+Overlaps entries place earlier answer =
+    (later one : Placed) → later ≡ slice_index_or entries place later
+    → one ≡ slice_index_or entries earlier one → answer ≡ overlaps later one
 
--- of the first `kept` entries those that overlap the one at a place stand first, in their order, and nothing behind
--- them has changed
+-- of the first `kept` entries those that overlap the one at a place stand first, in their order,
+-- and nothing behind them has changed
 pub record KeepsReaching (before after : List Placed) (kept place count : ℕ) : Type 0 where
-  pub front : (later : Placed) → later ≡ slice_index_or before place later → take count after ≡ filter (overlaps later) (take kept before)
+  pub front : (later : Placed) → later ≡ slice_index_or before place later
+      → take count after ≡ filter (overlaps later) (take kept before)
   pub ahead : drop kept after ≡ drop kept before
   pub long : length after ≡ length before
   pub fewer : count ≤ kept

@@ -4,7 +4,8 @@ use Rattle.ipnetwork_family.specs.Network.{Network}
 use Rattle.ipnetwork_blocks.specs.Aggregate.{InUnion}
 use Rattle.ipnetwork_sets.specs.Counts.{HasCount, total}
 
--- the blocks have the addresses of the set, together as many, no more than there are, and are fewer than these
+-- the blocks have the addresses of the set, together as many, no more than there are, and are fewer
+-- than these
 pub record AddUp (w : ℕ) (set : ℕ → Type 0) (blocks : List Network) : Type 0 where
   pub addresses : (x : ℕ) → InUnion w blocks x ↔ set x
   pub count : HasCount set (total w blocks)

@@ -4,4 +4,5 @@ use Rattle.cidr_merge.specs.declared.command_line.Request.{Request}
 
 -- the places of a request are places among this many words
 abbrev pub IsWithin : ℕ → Request → Type 0
-IsWithin count request = (request.first ≤ request.middle) × (request.middle ≤ count) × (request.second ≤ count)
+IsWithin count request =
+    (request.first ≤ request.middle) × (request.middle ≤ count) × (request.second ≤ count)

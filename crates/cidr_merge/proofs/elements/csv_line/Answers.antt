@@ -17,10 +17,16 @@ returns g c =
     ∙ ap (λ t. t ++ 44 ∷ [] ++ last ++ 10 ∷ []) c.push_address.ensures.bytes
     ∙ ap (λ t. t ++ first ++ 44 ∷ [] ++ last ++ 10 ∷ []) (c.push-2.ensures.ascii (omega arith))
     ∙ ap (λ t. t ++ 44 ∷ [] ++ first ++ 44 ∷ [] ++ last ++ 10 ∷ []) c.push_network.ensures.bytes
-    ∙ ap (λ t. t ++ network ++ 44 ∷ [] ++ first ++ 44 ∷ [] ++ last ++ 10 ∷ []) (c.push.ensures.ascii (omega arith))
-    ∙ ap (λ t. t ++ 44 ∷ [] ++ network ++ 44 ∷ [] ++ first ++ 44 ∷ [] ++ last ++ 10 ∷ []) c.push_str.ensures.bytes
-    ∙ ap (λ t. t ++ c.family_name.result.now ++ 44 ∷ [] ++ network ++ 44 ∷ [] ++ first ++ 44 ∷ [] ++ last ++ 10 ∷ []) c.new-text.ensures
-    ∙ ap (λ t. t ++ 44 ∷ [] ++ network ++ 44 ∷ [] ++ first ++ 44 ∷ [] ++ last ++ 10 ∷ []) c.family_name.ensures.name
-    ∙ ap (λ n. family_name c.args.version ++ 44 ∷ [] ++ network ++ 44 ∷ [] ++ canonical n ++ 44 ∷ [] ++ last ++ 10 ∷ []) c.network.ensures.least
-    ∙ ap (λ n. family_name c.args.version ++ 44 ∷ [] ++ network ++ 44 ∷ [] ++ canonical (low g.A.Address.WIDTH c.args.block) ++ 44 ∷ [] ++ canonical n ++ 10 ∷ [])
+    ∙ ap (λ t. t ++ network ++ 44 ∷ [] ++ first ++ 44 ∷ [] ++ last ++ 10 ∷ [])
+    (c.push.ensures.ascii (omega arith))
+    ∙ ap (λ t. t ++ 44 ∷ [] ++ network ++ 44 ∷ [] ++ first ++ 44 ∷ [] ++ last
+    ++ 10 ∷ []) c.push_str.ensures.bytes
+    ∙ ap (λ t. t ++ c.family_name.result.now ++ 44 ∷ [] ++ network ++ 44 ∷ [] ++ first ++ 44 ∷ []
+    ++ last ++ 10 ∷ []) c.new-text.ensures
+    ∙ ap (λ t. t ++ 44 ∷ [] ++ network ++ 44 ∷ [] ++ first ++ 44 ∷ [] ++ last
+    ++ 10 ∷ []) c.family_name.ensures.name
+    ∙ ap (λ n. family_name c.args.version ++ 44 ∷ [] ++ network ++ 44 ∷ [] ++ canonical n ++ 44 ∷ []
+    ++ last ++ 10 ∷ []) c.network.ensures.least
+    ∙ ap (λ n. family_name c.args.version ++ 44 ∷ [] ++ network ++ 44 ∷ []
+    ++ canonical (low g.A.Address.WIDTH c.args.block) ++ 44 ∷ [] ++ canonical n ++ 10 ∷ [])
     c.broadcast.ensures

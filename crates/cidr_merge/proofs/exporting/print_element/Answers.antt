@@ -8,9 +8,13 @@ use Rattle.cidr_merge.proofs.exporting.print_element.Goals as goal
 
 pub returns-in-Addresses-clause-text : goal.returns-in-Addresses-clause-text
 returns-in-Addresses-clause-text g c =
-    subst (λ (e : Export). OnOk c.print_addresses.result (Prints c.args.output.now c.print_addresses.new.output (element e c.args.version g.A.Address.family c.args.block)))
+    subst (λ (e : Export). OnOk c.print_addresses.result
+    (Prints c.args.output.now c.print_addresses.new.output
+    (element e c.args.version g.A.Address.family c.args.block)))
     (sym c.in-Addresses.is)
-    (subst (λ (all : List ℕ). OnOk c.print_addresses.result (Prints c.args.output.now c.print_addresses.new.output (flat_map (address_line g.A.Address.family) all)))
+    (subst (λ (all : List ℕ). OnOk c.print_addresses.result
+    (Prints c.args.output.now c.print_addresses.new.output
+    (flat_map (address_line g.A.Address.family) all)))
     c.iter.ensures c.print_addresses.ensures.text)
 
 pub returns-in_default-clause-text : goal.returns-in_default-clause-text

@@ -13,14 +13,18 @@ returns-clause-text g c =
     let v4 = blocks_left c.of-v4.result in
     let v6 = blocks_left c.of-v6.result in
     put_both_ok c.put-2.result (IsExport c.args.operation export c.args.first.now c.args.second.now)
-    c.args.output.now.holds c.put.new.self.holds c.print_family.new.output.holds c.print_family-2.new.output.holds c.put-2.new.self.holds
-    c.args.output.now.waits c.put.new.self.waits c.print_family.new.output.waits c.print_family-2.new.output.waits c.put-2.new.self.waits
+    c.args.output.now.holds c.put.new.self.holds c.print_family.new.output.holds
+    c.print_family-2.new.output.holds c.put-2.new.self.holds
+    c.args.output.now.waits c.put.new.self.waits c.print_family.new.output.waits
+    c.print_family-2.new.output.waits c.put-2.new.self.waits
     c.as_bytes.result.now _ _ c.as_bytes-2.result.now (head export) (foot export)
     (c.as_bytes.ensures.value ∙ c.head.ensures) (c.as_bytes-2.ensures.value ∙ c.foot.ensures)
-    c.in_ok-put.ensures.ok c.in_ok-follows.ensures.text c.in_ok-print_family.ensures.text c.put-2.ensures.ok (
+    c.in_ok-put.ensures.ok c.in_ok-follows.ensures.text c.in_ok-print_family.ensures.text
+    c.put-2.ensures.ok (
       v4,
       v6,
       c.of-v4.ensures.left,
       c.of-v6.ensures.left,
-      ap (λ follows. head export ++ family_text export V4 v4_family false v4 ++ family_text export V6 v6_family follows v6 ++ foot export) c.in_ok-follows.ensures.any,
+      ap (λ follows. head export ++ family_text export V4 v4_family false v4
+          ++ family_text export V6 v6_family follows v6 ++ foot export) c.in_ok-follows.ensures.any,
     )

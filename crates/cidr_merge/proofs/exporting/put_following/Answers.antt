@@ -5,6 +5,8 @@ use Rattle.cidr_merge.proofs.exporting.put_following.Goals as goal
 
 pub returns-clause-text : goal.returns-clause-text
 returns-clause-text g c =
-    put_two_ok c.print_element.result c.args.output.now.holds c.put.new.self.holds c.print_element.new.output.holds
+    put_two_ok c.print_element.result c.args.output.now.holds c.put.new.self.holds
+    c.print_element.new.output.holds
     c.args.output.now.waits c.put.new.self.waits c.print_element.new.output.waits
-    c.as_bytes.result.now _ (separator c.args.export) (c.as_bytes.ensures.value ∙ c.separator.ensures) c.in_ok-put.ensures.ok c.print_element.ensures.text
+    c.as_bytes.result.now _ (separator c.args.export) (c.as_bytes.ensures.value
+    ∙ c.separator.ensures) c.in_ok-put.ensures.ok c.print_element.ensures.text

@@ -6,4 +6,5 @@ returns g c =
     let old = c.args.output.now in
     tells_more old c.tell_bytes.new.output c.tell-2.new.errors _ _
     (tells_more old c.tell.new.errors c.tell_bytes.new.output _ _
-    (tells_more old c.tell_place.new.output c.tell.new.errors _ _ c.tell_place.ensures c.tell.ensures) c.tell_bytes.ensures) c.tell-2.ensures
+    (tells_more old c.tell_place.new.output c.tell.new.errors _ _ c.tell_place.ensures
+    c.tell.ensures) c.tell_bytes.ensures) c.tell-2.ensures

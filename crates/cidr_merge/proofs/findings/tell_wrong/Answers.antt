@@ -10,8 +10,11 @@ returns g c =
     (tells_more old c.tell-3.new.errors c.tell_bytes.new.output _ _
     (tells_more old c.tell-2.new.errors c.tell-3.new.errors _ _
     (tells_more old c.tell.new.errors c.tell-2.new.errors _ _
-    (tells_more old c.tell_place.new.output c.tell.new.errors _ _ c.tell_place.ensures c.tell.ensures)
+    (tells_more old c.tell_place.new.output c.tell.new.errors _ _ c.tell_place.ensures
+    c.tell.ensures)
     (tells_same c.tell.new.errors c.tell-2.new.errors _ _ c.text.ensures c.tell-2.ensures))
-    (tells_same c.tell-2.new.errors c.tell-3.new.errors _ _ (c.separator.ensures ∙ ap separator c.shown-line.ensures) c.tell-3.ensures))
-    (tells_same c.tell-3.new.errors c.tell_bytes.new.output _ _ c.shown-line.ensures c.tell_bytes.ensures))
+    (tells_same c.tell-2.new.errors c.tell-3.new.errors _ _
+    (c.separator.ensures ∙ ap separator c.shown-line.ensures) c.tell-3.ensures))
+    (tells_same c.tell-3.new.errors c.tell_bytes.new.output _ _ c.shown-line.ensures
+    c.tell_bytes.ensures))
     c.tell-4.ensures

@@ -1,4 +1,5 @@
-use Rattle.std.proofs.Common.{◌+◌, ◌<◌, ◌≡◌, ◌∙◌, ℕ, length, arith, ap, get_or, refl, subst, sym, take, drop, filter}
+use Rattle.std.proofs.Common.{◌+◌, ◌<◌, ◌≡◌, ◌∙◌, ℕ, length, arith, ap, get_or, refl, subst, sym}
+use Rattle.std.proofs.Common.{take, drop, filter}
 use Rattle.std.proofs.lemmas.List.{get_or_default}
 use Rattle.std.proofs.lemmas.List.Filters.{FiltersInPlace-more_swap, FiltersInPlace-more_no}
 use Rattle.cidr_merge.specs.Private.Entries.{overlaps}
@@ -7,14 +8,30 @@ use Rattle.cidr_merge.proofs.overlapping.keep_reaching.Goals.{then-overlaps, els
 use Rattle.cidr_merge.proofs.overlapping.keep_reaching.Goals as goal
 
 pub swap-requires-clause-a_in_bounds : goal.swap-requires-clause-a_in_bounds
-swap-requires-clause-a_in_bounds c = omega (arith, c.loop-index.invariant.behind, c.loop-index.invariant.long, c.loop-index-test.true, c.requires.within, c.requires.place)
+swap-requires-clause-a_in_bounds c =
+    omega (
+      arith,
+      c.loop-index.invariant.behind,
+      c.loop-index.invariant.long,
+      c.loop-index-test.true,
+      c.requires.within,
+      c.requires.place,
+    )
 
 pub loop-index-init : goal.loop-index-init
 loop-index-init c = record {
   behind = omega arith;
   long = refl;
   ahead = refl;
-  filtered = λ later is. record { front = refl; rest = refl; behind = omega arith; within = omega arith; long = refl };
+  filtered =
+      λ later is. record {
+        front = refl;
+        rest = refl;
+        behind = omega arith;
+        within =
+            omega arith;
+        long = refl;
+      };
 }
 
 pub loop-index-preserved : goal.loop-index-preserved
@@ -24,18 +41,24 @@ loop-index-preserved c =
     let index = c.loop-index.index in
     let count = c.loop-index.count in
     let h = c.loop-index.invariant in
-    let within : index < length entries = omega (arith, h.long, c.loop-index-test.true, c.requires.within, c.requires.place) in
+    let within : index < length entries =
+    omega (arith, h.long, c.loop-index-test.true, c.requires.within, c.requires.place) in
     let next = same_further entries old index (index + 1) (omega arith) h.ahead in
     elim c.if-overlaps.branch [
       | then-overlaps w ↦ rw (w.entries-is, w.count-is) (record {
         behind = omega (arith, h.behind);
         long = w.swap.ensures.len ∙ h.long;
-        ahead = swapped_rest entries w.swap.new.self count index w.swap.ensures.by_index h.behind within ∙ next;
+        ahead = swapped_rest entries w.swap.new.self count index w.swap.ensures.by_index h.behind
+            within ∙ next;
         filtered = λ later is.
             let one = get_or entries index later in
             let here = get_or_default entries index later one within in
-            let there = is ∙ sym (as_it_was old entries index c.args.place later h.ahead (omega (arith, c.loop-index-test.true, c.requires.within))) in
-            FiltersInPlace-more_swap (h.filtered later is) within (sym (c.overlaps.ensures later one there here) ∙ w.if-overlaps.true) here w.swap.ensures.by_index;
+            let there =
+            is ∙ sym (as_it_was old entries index c.args.place later h.ahead
+            (omega (arith, c.loop-index-test.true, c.requires.within))) in
+            FiltersInPlace-more_swap (h.filtered later is) within
+            (sym (c.overlaps.ensures later one there here)
+            ∙ w.if-overlaps.true) here w.swap.ensures.by_index;
       })
       | else-overlaps w ↦ rw (w.entries-is, w.count-is) (record {
         behind = omega (arith, h.behind);
@@ -44,17 +67,22 @@ loop-index-preserved c =
         filtered = λ later is.
             let one = get_or entries index later in
             let here = get_or_default entries index later one within in
-            let there = is ∙ sym (as_it_was old entries index c.args.place later h.ahead (omega (arith, c.loop-index-test.true, c.requires.within))) in
-            FiltersInPlace-more_no (h.filtered later is) within (sym (c.overlaps.ensures later one there here) ∙ w.if-overlaps.false) here;
+            let there =
+            is ∙ sym (as_it_was old entries index c.args.place later h.ahead
+            (omega (arith, c.loop-index-test.true, c.requires.within))) in
+            FiltersInPlace-more_no (h.filtered later is) within
+            (sym (c.overlaps.ensures later one there here) ∙ w.if-overlaps.false) here;
       })
     ]
 
 pub returns : goal.returns
 returns c =
     let h = c.loop-index.invariant in
-    let at : c.loop-index.index ≡ c.args.kept = omega (arith, c.loop-index-test.false, c.loop-index.auto.index-end) in
+    let at : c.loop-index.index ≡ c.args.kept =
+    omega (arith, c.loop-index-test.false, c.loop-index.auto.index-end) in
     record {
-      front = λ later is. (h.filtered later is).front ∙ ap (λ (n : ℕ). filter (overlaps later) (take n c.args.entries.now)) at;
+      front = λ later is. (h.filtered later is).front ∙ ap
+          (λ (n : ℕ). filter (overlaps later) (take n c.args.entries.now)) at;
       ahead = subst (λ (n : ℕ). drop n c.loop-index.entries ≡ drop n c.args.entries.now) at h.ahead;
       long = h.long;
       fewer = omega (arith, h.behind, at);

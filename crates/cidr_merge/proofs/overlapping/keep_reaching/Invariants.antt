@@ -9,5 +9,6 @@ invariant-loop-index l = record {
   behind : l.count ≤ l.index;
   long : length l.entries ≡ length l.initial.entries;
   ahead : drop l.index l.entries ≡ drop l.index l.initial.entries;
-  filtered : (later : Placed) → later ≡ get_or l.initial.entries l.place later → FiltersInPlace (overlaps later) l.initial.entries l.entries l.count l.index;
+  filtered : (later : Placed) → later ≡ get_or l.initial.entries l.place later
+      → FiltersInPlace (overlaps later) l.initial.entries l.entries l.count l.index;
 }

@@ -7,4 +7,5 @@ use Rattle.cidr_merge.proofs.overlapping.tell_with.Given as goal
 
 abbrev pub invariant-loop-index : goal.invariant-loop-index
 invariant-loop-index g l =
-    Tells l.initial.output l.output (concat (map (pair_text l.names (listed_as l.later)) (map listed_as (take l.index l.before))))
+    Tells l.initial.output l.output (concat (map (pair_text l.names (listed_as l.later))
+    (map listed_as (take l.index l.before))))

@@ -13,9 +13,36 @@ returns-in_ok-push c =
     let held = c.args.entries.now.items in
     let entry = c.in-Ok-Some.entry in (
       listed c.args.list c.args.number entry ∷ [],
-      inl (entry, subst (λ (s : Option Entry). LineSays c.args.line.now s) c.in-Ok-Some.field-0-is c.in-Ok-Some.ensures, refl),
+      inl (
+        entry,
+        subst
+            (λ (s : Option Entry). LineSays c.args.line.now s) c.in-Ok-Some.field-0-is
+            c.in-Ok-Some.ensures,
+        refl,
+      ),
       ap (map listed_as) c.in_ok-push.ensures.items ∙ map_push listed_as held _
-          ∙ ap (λ (first : IpAddr). map listed_as held ++ record { first = first; last = address_of c.key_of-in-Ok-Some.result; list = c.args.list; number = c.args.number } ∷ []) c.key_of.ensures
-          ∙ ap (λ (last : IpAddr). map listed_as held ++ record { first = c.ends_of-first.result.0; last = last; list = c.args.list; number = c.args.number } ∷ []) c.key_of-in-Ok-Some.ensures
-          ∙ ap (λ (ends : IpAddr × IpAddr). map listed_as held ++ record { first = ends.0; last = ends.1; list = c.args.list; number = c.args.number } ∷ []) c.ends_of-first.ensures,
+          ∙ ap (λ (first : IpAddr). map listed_as held ++ record {
+            first = first;
+            last =
+                address_of c.key_of-in-Ok-Some.result;
+            list = c.args.list;
+            number =
+                c.args.number;
+          } ∷ []) c.key_of.ensures
+          ∙ ap (λ (last : IpAddr). map listed_as held ++ record {
+            first =
+                c.ends_of-first.result.0;
+            last = last;
+            list = c.args.list;
+            number =
+                c.args.number;
+          } ∷ []) c.key_of-in-Ok-Some.ensures
+          ∙ ap (λ (ends : IpAddr × IpAddr). map listed_as held
+          ++ record {
+            first = ends.0;
+            last = ends.1;
+            list = c.args.list;
+            number =
+                c.args.number;
+          } ∷ []) c.ends_of-first.ensures,
     )

@@ -11,11 +11,19 @@ returns-in-Differ-clause-text g c =
     let operation = c.args.operation in
     let first = c.args.first.now in
     let second = c.args.second.now in
-    then_ok c.print_counts_left-in-Differ.result (AreCountsLeft operation (sign_of operation First) first second) (AreCountsLeft operation (sign_of operation Second) second first)
-    (AreCounts operation first second) output.holds between.holds after.holds output.waits between.waits after.waits
-    (counts_of_both operation c.in-Differ.is first second) c.in_ok-print_counts_left.ensures.text c.print_counts_left-in-Differ.ensures.text
+    then_ok c.print_counts_left-in-Differ.result (AreCountsLeft operation
+    (sign_of operation First) first second) (AreCountsLeft operation
+    (sign_of operation Second) second first)
+    (AreCounts operation first second) output.holds between.holds after.holds output.waits
+    between.waits after.waits
+    (counts_of_both operation c.in-Differ.is first second) c.in_ok-print_counts_left.ensures.text
+    c.print_counts_left-in-Differ.ensures.text
 
 pub returns-in_default-clause-text : goal.returns-in_default-clause-text
 returns-in_default-clause-text g c =
-    let h = c.in_ok-print_counts_left.ensures.text in
-    (h.0, counts_of_one c.args.operation c.in_default.not-Differ c.args.first.now c.args.second.now h.0 h.1, h.2)
+    let h = c.in_ok-print_counts_left.ensures.text in (
+      h.0,
+      counts_of_one c.args.operation c.in_default.not-Differ c.args.first.now c.args.second.now
+          h.0 h.1,
+      h.2,
+    )

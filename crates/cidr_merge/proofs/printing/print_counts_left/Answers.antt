@@ -13,8 +13,12 @@ returns-clause-text g c =
     let sign = c.sign_of-sign.result.now in
     let first = c.args.first.now in
     let second = c.args.second.now in
-    subst (λ (s : List ℕ). OnOk c.print_count_line-2.result ((text : List ℕ) × AreCountsLeft c.args.operation s first second text
+    subst (λ (s : List ℕ). OnOk c.print_count_line-2.result
+    ((text : List ℕ) × AreCountsLeft c.args.operation s first second text
     × Prints output after text)) c.sign_of-sign.ensures
-    (both_ok c.print_count_line-2.result (IsCountLine 32 (sign ++ codes "v4 ") (IsLeft c.args.operation 32 first.v4 second.v4))
-    (IsCountLine 128 (sign ++ codes "v6 ") (IsLeft c.args.operation 128 first.v6 second.v6)) output.holds between.holds after.holds
-    output.waits between.waits after.waits c.in_ok-print_count_line.ensures.text c.print_count_line-2.ensures.text)
+    (both_ok c.print_count_line-2.result (IsCountLine 32 (sign ++ codes "v4 ")
+    (IsLeft c.args.operation 32 first.v4 second.v4))
+    (IsCountLine 128 (sign ++ codes "v6 ")
+    (IsLeft c.args.operation 128 first.v6 second.v6)) output.holds between.holds after.holds
+    output.waits between.waits after.waits c.in_ok-print_count_line.ensures.text
+    c.print_count_line-2.ensures.text)

@@ -7,15 +7,23 @@ use Rattle.cidr_merge.proofs.reading.read_all.Goals as goal
 
 pub loop-place-init : goal.loop-place-init
 loop-place-init g c = record {
-  read = reads_none (source (g.L.OpenLists.known c.args.lists.now) c.args.shape) c.args.words.now c.args.from c.args.reader.now;
+  read = reads_none (source
+      (g.L.OpenLists.known c.args.lists.now) c.args.shape) c.args.words.now c.args.from
+      c.args.reader.now;
   memory = c.requires.memory;
 }
 
 pub loop-place-preserved : goal.loop-place-preserved
 loop-place-preserved g c = record {
-  read = reads_on (source (g.L.OpenLists.known c.args.lists.now) c.args.shape) c.args.words.now c.args.from c.loop-place.place c.index-words-place.result c.args.reader.now c.loop-place.reader
-      c.read_one.new.reader (omega arith) (omega arith) c.index-words-place.is c.loop-place.invariant.read
-      (subst (λ (n : List ℕ). ReadsOne (source (g.L.OpenLists.known c.args.lists.now) c.args.shape) c.loop-place.place n c.loop-place.reader c.read_one.new.reader) c.as_str.ensures.value c.in_ok-read_one.ensures.read);
+  read = reads_on (source
+      (g.L.OpenLists.known c.args.lists.now) c.args.shape) c.args.words.now c.args.from
+      c.loop-place.place c.index-words-place.result c.args.reader.now c.loop-place.reader
+      c.read_one.new.reader (omega arith)
+      (omega arith) c.index-words-place.is c.loop-place.invariant.read
+      (subst (λ (n : List ℕ). ReadsOne (source
+      (g.L.OpenLists.known c.args.lists.now) c.args.shape) c.loop-place.place n
+      c.loop-place.reader c.read_one.new.reader) c.as_str.ensures.value
+      c.in_ok-read_one.ensures.read);
   memory = c.in_ok-read_one.ensures.memory;
 }
 
@@ -23,7 +31,14 @@ pub returns-in_err-read_one-clause-stopped : goal.returns-in_err-read_one-clause
 returns-in_err-read_one-clause-stopped g c =
     let p = err_from_is_err_and c.from_residual.result c.from_residual.ensures.1 in
     rw (p.1, p.2)
-    (stops_in (source (g.L.OpenLists.known c.args.lists.now) c.args.shape) c.args.words.now c.args.from c.loop-place.place c.args.to c.index-words-place.result c.args.reader.now
-    c.loop-place.reader _ _ (omega arith) (omega arith) c.requires.within c.index-words-place.is c.loop-place.invariant.read c.loop-place.invariant.memory
-    (subst (λ (n : List ℕ). StopsOne (source (g.L.OpenLists.known c.args.lists.now) c.args.shape) c.loop-place.place n c.loop-place.reader c.in_err-read_one.field-0.0 c.read_one.new.reader.refused) c.as_str.ensures.value
+    (stops_in (source
+    (g.L.OpenLists.known c.args.lists.now) c.args.shape) c.args.words.now c.args.from
+    c.loop-place.place c.args.to c.index-words-place.result c.args.reader.now
+    c.loop-place.reader _ _ (omega arith)
+    (omega arith) c.requires.within c.index-words-place.is c.loop-place.invariant.read
+    c.loop-place.invariant.memory
+    (subst (λ (n : List ℕ). StopsOne (source
+    (g.L.OpenLists.known c.args.lists.now) c.args.shape) c.loop-place.place n
+    c.loop-place.reader c.in_err-read_one.field-0.0 c.read_one.new.reader.refused)
+    c.as_str.ensures.value
     c.in_err-read_one.ensures.stopped))

@@ -6,4 +6,5 @@ use Rattle.cidr_merge.proofs.repeating.tell_repetitions.Given as goal
 
 abbrev pub invariant-loop-place : goal.invariant-loop-place
 invariant-loop-place g l =
-    RepetitionsTold l.names (repetitions l.names (map listed_as l.entries)) l.previous l.furthest (drop l.place l.others) l.initial.output l.output l.found
+    RepetitionsTold l.names (repetitions l.names (map listed_as l.entries)) l.previous l.furthest
+    (drop l.place l.others) l.initial.output l.output l.found

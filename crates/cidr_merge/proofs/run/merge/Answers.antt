@@ -8,11 +8,17 @@ returns-in-Ok g c =
     let r = c.read_sides-first.result in
     let end = ending c.args.output.now c.answer.new.output
     c.args.errors.now c.answer.new.errors c.answer.result in
-    merged r.3 c.in-Ok.field-0 (g.L.OpenLists.known c.args.lists.now) c.args.words.now c.args.request r.0 r.1 r.2 c.is_empty.result end
-    c.tell_refusals.new.errors c.in-Ok.is c.read_sides-first.ensures.read c.tell_refusals.ensures c.is_empty.ensures c.answer.ensures
+    merged r.3 c.in-Ok.field-0
+    (g.L.OpenLists.known c.args.lists.now) c.args.words.now c.args.request r.0 r.1 r.2
+    c.is_empty.result end
+    c.tell_refusals.new.errors c.in-Ok.is c.read_sides-first.ensures.read c.tell_refusals.ensures
+    c.is_empty.ensures c.answer.ensures
 
 pub returns : goal.returns
 returns g c =
-    stopped c.read_sides-first.result.3 (g.L.OpenLists.known c.args.lists.now) c.args.words.now c.args.request c.read_sides-first.result.2 c.in-Err.fault
+    stopped c.read_sides-first.result.3
+    (g.L.OpenLists.known c.args.lists.now) c.args.words.now c.args.request
+    c.read_sides-first.result.2 c.in-Err.fault
     (ending c.args.output.now c.args.output.now c.args.errors.now c.tell_fault.new.errors 2)
-    c.tell_refusals.new.errors c.in-Err.is c.read_sides-first.ensures.stopped c.tell_refusals.ensures (refl, refl) c.tell_fault.ensures
+    c.tell_refusals.new.errors c.in-Err.is c.read_sides-first.ensures.stopped
+    c.tell_refusals.ensures (refl, refl) c.tell_fault.ensures

@@ -8,7 +8,8 @@ pub returns-in-Some : goal.returns-in-Some
 returns-in-Some g c =
     let end = ending c.args.output.now c.print_text.new.output
     c.args.errors.now c.print_text.new.errors c.print_text.result in
-    printed HELP.now VERSION.now c.args.words.now _ end c.in-Some.text.now c.in-Some.ensures c.print_text.ensures
+    printed HELP.now VERSION.now c.args.words.now _ end c.in-Some.text.now c.in-Some.ensures
+    c.print_text.ensures
 
 pub returns-then-stands : goal.returns-then-stands
 returns-then-stands g c =
@@ -29,4 +30,9 @@ returns g c =
     let end = ending c.args.output.now c.operate.new.output
     c.args.errors.now c.operate.new.errors c.operate.result in
     not_asked HELP.now VERSION.now c.args.words.now _ end c.in_default.ensures
-    (inr (inr (sym c.stands.ensures ∙ c.if-stands.false, sym c.stands-2.ensures ∙ c.if-stands-2.false, c.operate.ensures)))
+    (inr (inr (
+      sym c.stands.ensures ∙ c.if-stands.false,
+      sym c.stands-2.ensures
+          ∙ c.if-stands-2.false,
+      c.operate.ensures,
+    )))

@@ -12,5 +12,6 @@ returns-in-Err g c =
     let fault = c.in-Err.fault in
     let words = c.args.words.now in
     let same = ap (usage_text PROGRAM.now USAGE.now words fault.subject) c.text-problem.ensures in
-    let told = tells_same c.args.errors.now c.refuse_usage.new.errors _ _ same c.refuse_usage.ensures.told in
+    let told =
+    tells_same c.args.errors.now c.refuse_usage.new.errors _ _ same c.refuse_usage.ensures.told in
     inr (fault, c.in-Err.ensures.asked, ((refl, c.refuse_usage.ensures.status), told))

@@ -4,4 +4,6 @@ use Rattle.cidr_merge.proofs.split_words.split_request.Goals as goal
 
 pub returns-in-Err-clause-asked : goal.returns-in-Err-clause-asked
 returns-in-Err-clause-asked c =
-    no_length c.args.words.now c.after_skip-place.result c.in-Err.fault c.after_skip-place.ensures.after (sym c.stands.ensures ∙ c.if-not-stands.false) c.in-Err.ensures.said
+    no_length c.args.words.now c.after_skip-place.result c.in-Err.fault
+    c.after_skip-place.ensures.after (sym c.stands.ensures
+    ∙ c.if-not-stands.false) c.in-Err.ensures.said

@@ -8,18 +8,26 @@ pub loop-place-preserved : goal.loop-place-preserved
 loop-place-preserved g c =
     let known = g.L.OpenLists.known c.args.lists.now in
     let names = c.args.names.now in
-    subst (λ ts. AreTexts known (take (c.loop-place.place + 1) names) (map (λ text. text.items) ts)) (sym c.in-Ok-push.ensures.items)
-    (text_more (λ text. text.items) known names c.loop-place.place c.index-names-place.result c.as_str.result.now c.loop-place.texts.items c.in-Ok.text
-    (omega arith) c.index-names-place.is c.as_str.ensures.value c.loop-place.invariant c.in-Ok.ensures.ok)
+    subst (λ ts. AreTexts known (take (c.loop-place.place + 1) names) (map (λ text. text.items) ts))
+    (sym c.in-Ok-push.ensures.items)
+    (text_more
+    (λ text. text.items) known names c.loop-place.place c.index-names-place.result
+    c.as_str.result.now c.loop-place.texts.items c.in-Ok.text
+    (omega arith) c.index-names-place.is c.as_str.ensures.value c.loop-place.invariant
+    c.in-Ok.ensures.ok)
 
 pub returns-in-Err-clause-err : goal.returns-in-Err-clause-err
 returns-in-Err-clause-err g c =
     let known = g.L.OpenLists.known c.args.lists.now in
     let at = c.args.first + c.loop-place.place in
-    texts_stop known c.args.first c.loop-place.place at c.args.names.now c.index-names-place.result _ c.in-Err.fault (omega arith) c.index-names-place.is c.loop-place.invariant refl
-    (subst (λ (n : List ℕ). TextStops known at n c.in-Err.fault) c.as_str.ensures.value c.in-Err.ensures.err)
+    texts_stop known c.args.first c.loop-place.place at c.args.names.now
+    c.index-names-place.result _ c.in-Err.fault
+    (omega arith) c.index-names-place.is c.loop-place.invariant refl
+    (subst (λ (n : List ℕ). TextStops known at n c.in-Err.fault) c.as_str.ensures.value
+    c.in-Err.ensures.err)
 
 pub returns-in_default-clause-err : goal.returns-in_default-clause-err
 returns-in_default-clause-err g c =
-    texts_stop (g.L.OpenLists.known c.args.lists.now) c.args.first c.loop-place.place (c.args.first + c.loop-place.place) c.args.names.now c.index-names-place.result _ OutOfMemory
+    texts_stop (g.L.OpenLists.known c.args.lists.now) c.args.first c.loop-place.place
+    (c.args.first + c.loop-place.place) c.args.names.now c.index-names-place.result _ OutOfMemory
     (omega arith) c.index-names-place.is c.loop-place.invariant refl tt

@@ -3,4 +3,6 @@ use Rattle.cidr_merge.specs.Texts.{AreTexts}
 use Rattle.cidr_merge.proofs.texts.texts_of.Given as goal
 
 abbrev pub invariant-loop-place : goal.invariant-loop-place
-invariant-loop-place g l = AreTexts (g.L.OpenLists.known l.lists) (take l.place l.names) (map (λ text. text.items) l.texts.items)
+invariant-loop-place g l =
+    AreTexts (g.L.OpenLists.known l.lists) (take l.place l.names)
+    (map (λ text. text.items) l.texts.items)

@@ -1,4 +1,4 @@
-use Rattle.std.proofs.Common.{◌∷◌, ◌+◌, ◌-◌, ◌∙◌, drop, sym, ap, arith}
+use Rattle.std.proofs.Common.{◌∷◌, ◌+◌, ◌∙◌, drop, sym, ap, arith}
 use Rattle.std.proofs.lemmas.List.{take_rest}
 use Rattle.std.specs.Str.Lines.{lines}
 use Rattle.cidr_merge.proofs.TextLines.{line_before, last_alone, none_left}
@@ -8,10 +8,12 @@ pub returns-in-Some-clause-line : goal.returns-in-Some-clause-line
 returns-in-Some-clause-line c =
     let text = c.args.self.now.text.now in
     let at = c.in-Some.end in
-    line_before text at c.in-Some.ensures ∙ ap (λ l. l ∷ lines (drop (at + 1) text)) (sym c.without_return.ensures)
+    line_before text at c.in-Some.ensures ∙ ap (λ l. l ∷ lines (drop (at + 1) text))
+    (sym c.without_return.ensures)
     ∙ ap (λ t. c.without_return.result.now ∷ lines t) (sym (take_rest text (at + 1)))
 
 pub returns-in-None-clause-line : goal.returns-in-None-clause-line
 returns-in-None-clause-line c =
     let text = c.args.self.now.text.now in
-    last_alone text (grind (arith, c.if-is_empty.false, c.is_empty.ensures)) c.in-None.ensures ∙ ap (λ ls. text ∷ ls) (sym (none_left text))
+    last_alone text (grind (arith, c.if-is_empty.false, c.is_empty.ensures)) c.in-None.ensures
+    ∙ ap (λ ls. text ∷ ls) (sym (none_left text))
