@@ -57,8 +57,8 @@ put_both_ok
     z u front back e f p q r s is = (
       front ++ y ++ z ++ back,
       is,
-      puts_four held first second third holds waited after_first after_second after_third waits x y z
-          u front back e f p q r s,
+      puts_four held first second third holds waited after_first after_second after_third waits x y
+          z u front back e f p q r s,
     )
 put_both_ok
     (Err fault) P held first second third holds waited after_first after_second after_third waits x

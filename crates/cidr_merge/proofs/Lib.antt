@@ -8,6 +8,7 @@ pub mod OverlapExamples
 pub mod ExportExamples
 pub mod ExportTexts
 pub mod Faults
+pub mod FilledEntries
 pub mod Inspected
 pub mod KeptEntries
 pub mod LawExamples

@@ -111,8 +111,9 @@ pairs_told_more names entries now mid kept_ones kept place count later old betwe
     m ∙ ap (λ n. not (n == 0)) (sym (length-map (map listed_as kept_ones)
     (pair_text names (listed_as later)) ∙ length-map kept_ones listed_as)) in (
       h.0 ++ texts,
-      ap (λ l. l ++ texts) h.1 ∙ ap (λ l. pairs_after names [] (map listed_as (take place entries))
-          ++ l) pairs ∙ sym (pairs_more names [] (map listed_as (take place entries)) (listed_as later))
+      ap (λ l. l ++ texts) h.1
+          ∙ ap (λ l. pairs_after names [] (map listed_as (take place entries)) ++ l) pairs
+          ∙ sym (pairs_more names [] (map listed_as (take place entries)) (listed_as later))
           ∙ ap (pairs_after names []) (sym (map_push listed_as (take place entries) later)
           ∙ ap (map listed_as) (ap (λ y. take place entries ++ y ∷ []) is
           ∙ sym (take_more entries place later l))),
@@ -143,9 +144,8 @@ pairs_step names old now mid new kept place count later output between after fou
     let front = keeps.front later now_is in (
       swept_more overlaps old now mid new kept place count later
           (overlaps_falls old sorted) swept l is front ahead keeps.long keeps.fewer swapped len,
-      pairs_told_more names old now mid
-          (take count mid) kept place count later output between after found more both l swept old_is
-          front told tells m b,
+      pairs_told_more names old now mid (take count mid) kept place count later output between after
+          found more both l swept old_is front told tells m b,
     )
 
 pub pairs_next : {Z W : Type 0} (names : List (String Z)) (old now mid new : List Placed)

@@ -92,7 +92,8 @@ both : LinesAddWhatTheyName → AggregateHasUnion → (list : List (List ℕ)) (
 both adds has list text u =
     let answer = u.answer in
     let names : (a : IpAddr) → HasAddress u.read a ↔ LinesName list a = λ a.
-    let added = adds (at_list (nothing_read no_refusals) u.number) u.read list u.takes u.memory a in (
+    let added =
+    adds (at_list (nothing_read no_refusals) u.number) u.read list u.takes u.memory a in (
       (λ h. ⊎_elim (λ (b : HasAddress (at_list (nothing_read no_refusals) u.number) a). absurd
           (nothing_before u.number a b)) (λ (n : LinesName list a). n) (added.0 h)),
       (λ n. added.1 (inr n)),
