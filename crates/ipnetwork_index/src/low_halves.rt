@@ -45,8 +45,9 @@ impl LowHalves {
         })
     }
 
-    /// At which place the first of the numbers stands that is not less than this one.
-    #[inline(always)]
+    /// At which place the first of the numbers stands that is not less than this one. Not inlined,
+    /// since in a caller's loop the least of two numbers would be found by a branch.
+    #[inline(never)]
     pub(crate) fn place_of(&self, number: u32) -> usize
         requires { AreLowHalves self.now.lows.items self.now.starts.items self.now.shift }
         ensures { (w : ℕ) (numbers : List ℕ)
