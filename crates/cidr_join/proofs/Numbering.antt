@@ -1,5 +1,5 @@
 -- How the networks of a list are numbered, and what the number that is found stands for.
-use Rattle.std.proofs.Common.{◌≡◌, ℕ, zero, suc, ◌==◌, Bool, true, false, cond, List, [], ◌∷◌, ◌++◌, length, Option, None, Some, ◌⊎◌, inl, inr, refl, sym, ap, subst, ◌∙◌, arith, slice_get, is_some}
+use Rattle.std.proofs.Common.{◌≡◌, ℕ, zero, suc, ◌==◌, Bool, true, false, cond, List, [], ◌∷◌, ◌++◌, length, Option, None, Some, ◌⊎◌, inl, inr, refl, sym, ap, subst, ◌∙◌, slice_get, is_some}
 use Rattle.std.specs.Prelude.{IsSome, Result, Ok, Err, IfOk, vec_len}
 use Rattle.std.specs.FinMap.{FinMap, get, insert, empty, entries, get-empty, get-insert}
 use Rattle.std.specs.Ordering.{eq_by_cmp}

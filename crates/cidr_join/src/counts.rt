@@ -49,8 +49,8 @@ impl Counts {
         self.tally.count(alloc, text, 1)
     }
 
-    /// The counts and their texts, most first, and those of one count by the bytes of the texts. This
-    /// is what the numbers stand for.
+    /// The counts and their texts, most first, and those of one count by the bytes of the texts, if
+    /// these are what the numbers stand for.
     pub(crate) fn into_rows(
         self,
         alloc: Global,

@@ -39,11 +39,13 @@ pub(crate) fn tally_log<R: Read>(
     requires room { 1048578 ≤ length buffer.old }
     requires numbered { IsNumbering join.now.answers numbered.now }
     ensures ok { OnOk result
-        (ReadsAll (CountsLines numbered.now.founds.items join.now counts.old counts.new seen.old seen.new)
+        (ReadsAll (CountsLines numbered.now.founds.items join.now counts.old counts.new
+        seen.old seen.new)
         (R.remaining (device_of reader.old))
         (R.remaining (device_of reader.new))) }
     ensures err { IfErr result
-        (StopsReading (CountsLines numbered.now.founds.items join.now counts.old counts.new seen.old seen.new)
+        (StopsReading (CountsLines numbered.now.founds.items join.now counts.old counts.new
+        seen.old seen.new)
         (R.remaining (device_of reader.old))
         (R.remaining (device_of reader.new))
         (has_failed reader.new)) }
@@ -88,7 +90,8 @@ fn count_line(
 ) -> Result<(), AllocError>
     requires { IsNumbering join.now.answers numbered.now }
     ensures { OnOk result
-        (CountsLine numbered.now.founds.items join.now line.now counts.old counts.new seen.old seen.new) }
+        (CountsLine numbered.now.founds.items join.now line.now counts.old counts.new
+        seen.old seen.new) }
 {
     let address = join.address_in(line);
     seen.add(address.is_some());

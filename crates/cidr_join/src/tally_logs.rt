@@ -86,8 +86,8 @@ fn tally_each<L: OpenLists, E: Write>(
 ) -> bool
     requires room { 1048578 ≤ length buffer.old }
     requires numbered { IsNumbering join.now.answers numbered.now }
-    ensures all { result ≡ true → CountsNames numbered.now.founds.items join.now (L.known lists.now) (logs_of files.now)
-        counts.old counts.new errors.old errors.new }
+    ensures all { result ≡ true → CountsNames numbered.now.founds.items join.now
+        (L.known lists.now) (logs_of files.now) counts.old counts.new errors.old errors.new }
     ensures stopped { result ≡ false
         → TellsStop join.now (L.known lists.now) (logs_of files.now) errors.old errors.new }
 {
@@ -118,8 +118,8 @@ fn tally_one<L: OpenLists, E: Write>(
 ) -> bool
     requires room { 1048578 ≤ length buffer.old }
     requires numbered { IsNumbering join.now.answers numbered.now }
-    ensures all { result ≡ true → CountsNames numbered.now.founds.items join.now (L.known lists.now) (name.now ∷ [])
-        counts.old counts.new errors.old errors.new }
+    ensures all { result ≡ true → CountsNames numbered.now.founds.items join.now
+        (L.known lists.now) (name.now ∷ []) counts.old counts.new errors.old errors.new }
     ensures stopped { result ≡ false
         → TellsStop join.now (L.known lists.now) (name.now ∷ []) errors.old errors.new }
 {

@@ -1,5 +1,5 @@
 -- The numbers of the networks of a list.
-use Rattle.std.specs.Prelude.{◌≡◌, ℕ, Bool, true, false, List, [], ◌++◌, Option, None, Some, IsSome, slice_get, if◌then◌else◌}
+use Rattle.std.specs.Prelude.{◌≡◌, ℕ, Bool, true, false, List, [], ◌++◌, Option, None, Some, IsSome, slice_get}
 use Rattle.std.specs.FinMap.{FinMap, get}
 use Rattle.ipnetwork_addr.specs.declared.ip.IpAddr.{IpAddr}
 use Rattle.ipnetwork.specs.declared.ip_network.IpNetwork.{IpNetwork}

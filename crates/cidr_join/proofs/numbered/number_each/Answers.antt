@@ -1,4 +1,4 @@
-use Rattle.std.proofs.Common.{◌∙◌, ◌++◌, ◌∷◌, [], List, ℕ, length, subst, sym, ap, append_assoc, append-nil}
+use Rattle.std.proofs.Common.{◌∙◌, ◌++◌, ◌∷◌, [], List, ℕ, subst, sym, ap, append_assoc, append-nil}
 use Rattle.ipnetwork_table.specs.Table.{by_pair}
 use Rattle.cidr_join.specs.Private.Numbering.{found_by}
 use Rattle.cidr_join.specs.declared.found.Found.{Found}

@@ -1,4 +1,3 @@
-use Rattle.std.proofs.Common.{sym}
 use Rattle.cidr_join.proofs.Repeated.{rows_counted}
 use Rattle.cidr_join.proofs.counts.Counts.into_rows.Goals as goal
 

@@ -1,7 +1,3 @@
-use Rattle.std.proofs.Common.{ℕ, Some, subst, sym, slice_get}
-use Rattle.cidr_join.specs.Joins.{FindsBy}
-use Rattle.cidr_join.specs.Runs.{answers_by}
-use Rattle.cidr_join.specs.declared.found.Found.{Found}
 use Rattle.cidr_join.proofs.Numbering.{stands_v4, stands_v6}
 use Rattle.cidr_join.proofs.numbered.Numbered.number_at.Goals as goal
 
