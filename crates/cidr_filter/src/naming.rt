@@ -24,6 +24,7 @@ pub(crate) fn label_of(named: bool, name: &str) -> &[u8]
 }
 
 /// Writes what stands first before a line of this number.
+#[inline(always)]
 pub(crate) fn put_head<W: Write>(
     filter: &Filter,
     number: u64,
@@ -38,6 +39,7 @@ pub(crate) fn put_head<W: Write>(
 }
 
 // Writes what the log is called, and a colon, or nothing if it is not named.
+#[inline(always)]
 fn put_name<W: Write>(filter: &Filter, output: &mut Output<'_, W>) -> Result<(), RunFault>
     ensures ok { OnOk result (Prints output.old output.new (name_head filter.now.name)) }
     ensures failed { output.new.failed ≡ (output.old.failed || is_err result) }
@@ -51,6 +53,7 @@ fn put_name<W: Write>(filter: &Filter, output: &mut Output<'_, W>) -> Result<(),
 }
 
 // Writes the number of a line and a colon, if lines are numbered.
+#[inline(always)]
 fn put_number<W: Write>(
     numbered: bool,
     number: u64,
