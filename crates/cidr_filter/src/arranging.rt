@@ -64,7 +64,8 @@ fn put_word(
     all: &mut Vec<String>,
 ) -> Result<(), AllocError>
     ensures { OnOk result (map string_bytes all.new.items
-        ≡ (if belongs options mode word.now then map string_bytes all.old.items ++ words_at mode (string_bytes word.now)
+        ≡ (if belongs options mode word.now
+        then map string_bytes all.old.items ++ words_at mode (string_bytes word.now)
         else map string_bytes all.old.items)) }
 {
     if belongs(options, mode, word) {

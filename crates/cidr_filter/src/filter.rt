@@ -132,7 +132,8 @@ impl Filter<'_> {
     // What a line is to the list of which only this part is looked at.
     #[inline(always)]
     fn judge_part(&self, part: &[u8]) -> Verdict
-        ensures { IsVerdictOfAddresses self.now (asked_of self.now (of_part (Some part.now))) result }
+        ensures { IsVerdictOfAddresses self.now (asked_of self.now (of_part (Some part.now)))
+            result }
     {
         match address_of(part) {
             Some(address) => match self.told_of(address) {
@@ -145,7 +146,8 @@ impl Filter<'_> {
 
     // What a line is to the list of which the first address of this rest is looked at.
     fn judge_first(&self, rest: &[u8]) -> Verdict
-        ensures { IsVerdictOfAddresses self.now (asked_of self.now (of_rest (Some rest.now))) result }
+        ensures { IsVerdictOfAddresses self.now (asked_of self.now (of_rest (Some rest.now)))
+            result }
     {
         match next_address(rest, 0) {
             Some(found) => match self.told_of(found.address) {

@@ -21,7 +21,8 @@ pub(crate) fn put_words(alloc: Global, word: &str, all: &mut Vec<String>) -> Res
 
 /// Adds a text.
 pub(crate) fn put(alloc: Global, text: &str, all: &mut Vec<String>) -> Result<(), AllocError>
-    ensures { OnOk result (map string_bytes all.new.items ≡ map string_bytes all.old.items ++ text.now ∷ []) }
+    ensures { OnOk result (map string_bytes all.new.items
+        ≡ map string_bytes all.old.items ++ text.now ∷ []) }
 {
     let word = String::from_str(alloc, text)?;
     all.push(word)?;
@@ -41,7 +42,8 @@ pub(crate) fn awaits_value(word: &str) -> bool
 // What stands behind the `-` of a word, if options are joined there.
 fn joined_in(word: &str) -> Option<&str>
     ensures words { MatchOption result (words_in word.now ≡ word.now ∷ [])
-        (λ text. words_in word.now ≡ letter_words text.now ++ value_words (after_letters text.now)) }
+        (λ text. words_in word.now
+        ≡ letter_words text.now ++ value_words (after_letters text.now)) }
     ensures awaits { MatchOption result (awaits_value word.now ≡ false)
         (λ text. awaits_value word.now ≡ (length (after_letters text.now) == 1)) }
     ensures value { IfSome result (λ text. begins_with_value (after_letters text.now) ≡ true) }
@@ -113,7 +115,8 @@ fn without_letter(text: &str) -> Option<&str>
 
 // The first character of a text, if it is one of ASCII, and what follows it.
 fn split_letter(text: &str) -> Option<(u8, &str)>
-    ensures { MatchOption result ((letter : ℕ) (rest : List ℕ) → letter < 128 → text.now ≢ letter ∷ rest)
+    ensures { MatchOption result
+        ((letter : ℕ) (rest : List ℕ) → letter < 128 → text.now ≢ letter ∷ rest)
         (λ found. text.now ≡ found.0 ∷ found.1.now) }
 {
     let Some((first, _)) = text.as_bytes().split_first() else {

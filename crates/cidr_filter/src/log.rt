@@ -70,7 +70,8 @@ pub fn filter_log<R: Read, W: Write>(
         (stand output.new tally.new)) }
     // A device has failed exactly if it had failed before, or its failure ended the log. So nothing
     // is written after a read that failed.
-    ensures reader_failed { has_failed reader.new ≡ (has_failed reader.old || ended_by_read result) }
+    ensures reader_failed { has_failed reader.new
+        ≡ (has_failed reader.old || ended_by_read result) }
     ensures writer_failed { output.new.failed ≡ (output.old.failed || ended_by_write result) }
     ensures written { OnOk result (output.new.waits ≡ []) }
     ensures handed_on { result ≡ Err LogFault.Read → output.old.waits ≡ [] → output.new.waits ≡ [] }

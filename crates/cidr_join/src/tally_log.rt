@@ -49,7 +49,8 @@ pub(crate) fn tally_log<R: Read>(
         (R.remaining (device_of reader.old))
         (R.remaining (device_of reader.new))
         (has_failed reader.new)) }
-    ensures reader_failed { has_failed reader.new ≡ (has_failed reader.old || ended_by_read result) }
+    ensures reader_failed { has_failed reader.new
+        ≡ (has_failed reader.old || ended_by_read result) }
 {
     let mut lines = LineBuffer::new(buffer, LINE_MAX);
     let mut room = u64::MAX;

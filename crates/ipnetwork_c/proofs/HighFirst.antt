@@ -32,7 +32,7 @@ low_digits : (count n : ℕ) → digits_in 256 count (n % 256 ^ count) ≡ digit
 low_digits zero n = refl
 low_digits (suc count) n =
     let apart : n % 256 ^ suc count ≡ (n / 256 % 256 ^ count) * 256 + n % 256 =
-        ap (λ m. n % m) (pow-suc 256 count) ∙ mod-mul n (powers count) (lit≤ tt) in
+    ap (λ m. n % m) (pow-suc 256 count) ∙ mod-mul n (powers count) (lit≤ tt) in
     ap (digits_in 256 (suc count)) apart
     ∙ ap (λ q. digits_in 256 count q ++ ((n / 256 % 256 ^ count) * 256 + n % 256) % 256 ∷ []) (digits_div (n / 256 % 256 ^ count) (mod-lt n (lit≤ tt)))
     ∙ ap (λ r. digits_in 256 count (n / 256 % 256 ^ count) ++ r ∷ []) (digits_mod (n / 256 % 256 ^ count) (mod-lt n (lit≤ tt)))

@@ -40,7 +40,8 @@ pub(crate) fn contains(
     parts: Parts,
     address: &[u8; 16],
 ) -> Option<u8>
-    ensures { IfSome result (λ answer. EndFits 128 (map v6_in list.now) (number_of_octets address.now)
+    ensures { IfSome result
+        (λ answer. EndFits 128 (map v6_in list.now) (number_of_octets address.now)
         × FindsIn 128 (map v6_in list.now) (number_of_octets address.now) answer) }
 {
     laws::one_block();

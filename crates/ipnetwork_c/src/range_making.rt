@@ -126,8 +126,8 @@ fn put_places<N: AddressSpace, H: Guessed<N>>(blocks: &[H], ranges: &[H], places
     requires held { All H.holds blocks.now }
     requires room { length places.old ≡ length ranges.now }
     ensures size { length places.new ≡ length places.old }
-    ensures places { ArePlacesUpTo N.WIDTH (map H.held blocks.now) (firsts H.held ranges.now) places.new
-        (length ranges.now) }
+    ensures places { ArePlacesUpTo N.WIDTH (map H.held blocks.now) (firsts H.held ranges.now)
+        places.new (length ranges.now) }
 {
     for row in 0..ranges.len() {
         places[row] = place_of::<N, H>(blocks, ranges[row].own_address());
