@@ -2,6 +2,7 @@
 use Rattle.std.proofs.Common.{◌≡◌, ◌+◌, ◌-◌, ◌∙◌, ◌&&◌, ℕ, suc, Bool, true, false, List, [], ◌∷◌}
 use Rattle.std.proofs.Common.{◌++◌, refl, sym, ap, subst, arith, inl, inr, length, get_or}
 use Rattle.std.proofs.Common.{append_assoc, length-append, codes}
+use Rattle.std.proofs.lemmas.List.{append-nil}
 use Rattle.std.specs.Prelude.{◌⊎◌, if◌then◌else◌, String}
 use Rattle.std.specs.List.{Contains}
 use Rattle.std.specs.List.Sorted.{IsSorted}
@@ -353,17 +354,23 @@ first_of_all names entry behind sorted full = inr (lies, inl refl) where
 pub each_is_told : {Z : Type 0} (names : List (String Z)) (before : List Listed) (entry : Listed)
     (behind : List Listed) → IsSorted listed_cmp (before ++ entry ∷ behind)
     → ((one : Listed) → Contains (before ++ entry ∷ behind) one → IsFilled one)
-    → (own others : List (List ℕ)) × (repetitions names (before ++ entry ∷ behind)
-    ≡ repetitions names before ++ own ++ others) × IsToldWithin names before entry behind own
+    → (own others : List (List ℕ))
+    × (repetitions names (before ++ entry ∷ []) ≡ repetitions names before ++ own)
+    × (repetitions names (before ++ entry ∷ behind) ≡ repetitions names before ++ own ++ others)
+    × IsToldWithin names before entry behind own
 each_is_told names [] entry behind sorted filled = (
   [],
   repetitions_after names entry entry behind,
+  refl,
   refl,
   first_of_all names entry behind sorted (filled entry (contains_head entry behind)),
 )
 each_is_told names (first ∷ others) entry behind sorted filled = (
   overlap_with names entry (other_of (previous_of first others) (furthest_of first others) entry),
   repetitions_after names entry (further (furthest_of first others) entry) behind,
+  found_in_turn names first first others entry [] ∙ append-nil (repetitions names (first ∷ others)
+      ++ overlap_with names entry (other_of (previous_of first others)
+      (furthest_of first others) entry)),
   found_in_turn names first first others entry behind,
   behind_some names first others entry behind sorted filled,
 )

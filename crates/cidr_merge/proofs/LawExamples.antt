@@ -115,7 +115,7 @@ pub the_third_is_told : {Z : Type 0} (names : List (String Z)) → EachWithinAno
     × TellsWithin names (entry 0 9 1 ∷ entry 1 2 2 ∷ []) (entry 3 4 3) own
 the_third_is_told {Z} names law texts found h sorted =
     let r = law texts found (entry 0 9 1 ∷ entry 1 2 2 ∷ []) (entry 3 4 3) [] h sorted in
-    (r.0, r.1, r.2, within r.0 r.3)
+    (r.0, r.1, r.3, within r.0 r.4)
   where
     within : (own : List (List ℕ))
         → IsToldWithin names (entry 0 9 1 ∷ entry 1 2 2 ∷ []) (entry 3 4 3) [] own
@@ -137,7 +137,7 @@ pub the_first_of_two_is_not_told : {Z : Type 0} (names : List (String Z))
     ++ others) × TellsNotWithin names [] (entry 1 2 1) own
 the_first_of_two_is_not_told {Z} names law texts found h sorted =
     let r = law texts found [] (entry 1 2 1) (entry 1 2 2 ∷ []) h sorted in
-    (r.0, r.1, r.2, apart r.0 r.3)
+    (r.0, r.1, r.3, apart r.0 r.4)
   where
     same : (other : Listed) → ((entry 1 2 2 ≡ other) ⊎ Contains [] other)
         → HasAllOf (entry 1 2 1) other
@@ -152,3 +152,34 @@ the_first_of_two_is_not_told {Z} names law texts found h sorted =
         → TellsNotWithin names [] (entry 1 2 1) own
     apart own (inl k) = absurd (lies k.0)
     apart own (inr k) = k.1
+
+-- of two entries side by side the last is not told as lying in the first
+pub the_last_of_two_is_not_told : {Z : Type 0} (names : List (String Z))
+    → EachWithinAnotherIsTold names → (texts : List (List ℕ)) (found : List Listed)
+    → ListsEntries 0 texts found → IsInOrder found (entry 0 4 1 ∷ entry 5 9 2 ∷ [])
+    → TellsNotWithin names (entry 0 4 1 ∷ []) (entry 5 9 2)
+    (repetitions names (entry 0 4 1 ∷ entry 5 9 2 ∷ []))
+the_last_of_two_is_not_told {Z} names law texts found h sorted =
+    let r = law texts found (entry 0 4 1 ∷ []) (entry 5 9 2) [] h sorted in apart r.0 r.2 r.4
+  where
+    beyond : (other : Listed) → ((entry 0 4 1 ≡ other) ⊎ Contains [] other)
+        → ¬ (HasAllOf other (entry 5 9 2))
+    beyond other (inl e) all =
+        let last = (subst (λ (y : Listed). HasAllOf y (entry 5 9 2)) (sym e) all) (V4 9)
+        (omega arith, omega arith) in
+        let l = last.1 in omega (arith, l)
+    beyond other (inr c) all = contains_nil other c
+
+    lies : ¬ (LiesInAnother (entry 0 4 1 ∷ []) (entry 5 9 2) [])
+    lies (inl l) = beyond l.0 (contains_cons (entry 0 4 1) [] l.0 l.1) l.2
+    lies (inr l) = contains_nil l.0 l.1
+
+    apart : (own : List (List ℕ))
+        → repetitions names (entry 0 4 1 ∷ entry 5 9 2 ∷ []) ≡ own
+        → IsToldWithin names (entry 0 4 1 ∷ []) (entry 5 9 2) [] own
+        → TellsNotWithin names (entry 0 4 1 ∷ []) (entry 5 9 2)
+        (repetitions names (entry 0 4 1 ∷ entry 5 9 2 ∷ []))
+    apart own e (inl k) = absurd (lies k.0)
+    apart own e (inr k) =
+        subst (λ (o : List (List ℕ)). TellsNotWithin names (entry 0 4 1 ∷ []) (entry 5 9 2) o)
+        (sym e) k.1

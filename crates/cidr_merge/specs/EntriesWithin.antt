@@ -46,11 +46,12 @@ IsToldWithin names before entry behind own =
     ⊎ (¬ (LiesInAnother before entry behind) × TellsNotWithin names before entry own)
 
 -- of the entries of lists in order, a strict check tells what it finds of those before an entry,
--- then of that, and then of those behind it
+-- then what an entry more adds to that, and then what it finds of those behind it
 abbrev pub EachWithinAnotherIsTold : {Z : Type 0} → List (String Z) → Type 0
 EachWithinAnotherIsTold names =
     (texts : List (List ℕ)) (found before : List Listed) (entry : Listed) (behind : List Listed)
     → ListsEntries 0 texts found → IsInOrder found (before ++ entry ∷ behind)
-    → (own others : List (List ℕ)) × (repetitions names (before ++ entry ∷ behind)
-    ≡ repetitions names before ++ own ++ others)
+    → (own others : List (List ℕ))
+    × (repetitions names (before ++ entry ∷ []) ≡ repetitions names before ++ own)
+    × (repetitions names (before ++ entry ∷ behind) ≡ repetitions names before ++ own ++ others)
     × IsToldWithin names before entry behind own

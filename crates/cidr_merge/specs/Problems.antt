@@ -24,7 +24,7 @@ no_option_text operation =
     else if bytes_eq operation (codes "overlaps") then codes "not an option; overlaps takes none"
     else if bytes_eq operation (codes "find") then codes "not an option; find takes none"
     else if bytes_eq operation (codes "split")
-    then codes "not an option here; split takes --prefix N, --skip-bad, --json and --strict, in this order"
+    then codes "not an option here; split takes --prefix N, --skip-bad, --json and, behind it, --strict, in this order"
     else codes "not an option; union, common, minus, differ and list take --ranges, --count, --format FORM, --skip-bad, --json and --strict"
 
 -- a word that begins with a `-` among the lists of the operation of this name
@@ -33,7 +33,7 @@ among_lists_text operation =
     if bytes_eq operation (codes "overlaps") then codes "not a FILE, and overlaps takes no option"
     else if bytes_eq operation (codes "find") then codes "not a FILE, and find takes no option"
     else if bytes_eq operation (codes "split")
-    then codes "not a FILE; split takes --prefix N, --skip-bad, --json and --strict, in this order, before the first one"
+    then codes "not a FILE; split takes --prefix N, --skip-bad, --json and, behind it, --strict, in this order, before the first one"
     else codes "not a FILE; options stand before the first one"
 
 -- a `--` before all lists of the operation of this name, which takes one behind a list, or none

@@ -154,7 +154,8 @@ fn no_option_text(operation: &str) -> &'static str
     } else if operation == "find" {
         "not an option; find takes none"
     } else if operation == "split" {
-        "not an option here; split takes --prefix N, --skip-bad, --json and --strict, in this order"
+        "not an option here; split takes --prefix N, --skip-bad, --json and, behind it, --strict, \
+         in this order"
     } else {
         "not an option; union, common, minus, differ and list take --ranges, --count, \
          --format FORM, --skip-bad, --json and --strict"
@@ -170,8 +171,8 @@ fn among_lists_text(operation: &str) -> &'static str
     } else if operation == "find" {
         "not a FILE, and find takes no option"
     } else if operation == "split" {
-        "not a FILE; split takes --prefix N, --skip-bad, --json and --strict, in this order, \
-         before the first one"
+        "not a FILE; split takes --prefix N, --skip-bad, --json and, behind it, --strict, \
+         in this order, before the first one"
     } else {
         "not a FILE; options stand before the first one"
     }
