@@ -355,7 +355,8 @@ IPNETWORK_CHECKED_AT(5, 6) ipnetwork_fault ipnetwork_v6_index_find(const ipnetwo
     const uint32_t *index, size_t index_length, const uint8_t address[16], size_t *IPNETWORK_ALONE place);
 
 /* The same of many addresses in one call: answers[i], or places[i], and faults[i] are what the call for one address leaves
- * and returns of the address number i, so that a fault of one leaves its answer as it was, and stops nothing. There are
+ * and returns of the address number i, so that a fault of one leaves its answer as it was, and stops nothing. Of blocks
+ * that are not in ascending order another one may answer than in the call for one address. There are
  * address_count addresses, of 4 or 16 octets each, one after the other. What comes after the last of the answers, or
  * places, and faults is not written. IPNETWORK_SHORT_BUFFER if there is room for fewer answers, or places, or faults
  * than addresses: then nothing is written. */

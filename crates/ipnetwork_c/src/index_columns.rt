@@ -15,8 +15,9 @@ use crate::structs::{Ipv4InC, Ipv6InC, number_of_four};
 use ipnetwork::Ipv4Network;
 
 /// For each of these addresses whether it is in the set of a list, by an index of the list: answer i and fault i are what
-/// `ipnetwork_v4_index_contains` leaves and returns of address i, so that a refusal stops nothing. What comes after them
-/// stays as it is. `SHORT_BUFFER` if there are fewer answers or faults than addresses.
+/// `ipnetwork_v4_index_contains` leaves and returns of address i, so that a refusal stops nothing. Of a list that is not
+/// in ascending order another block may answer than there. What comes after them stays as it is. `SHORT_BUFFER` if there
+/// are fewer answers or faults than addresses.
 #[unsafe(no_mangle)]
 pub extern "C" fn ipnetwork_v4_index_contains_column(
     blocks: &[Ipv4InC],

@@ -93,8 +93,8 @@ fn put_found(found: usize, place: &mut usize) -> u32
 
 // Puts the number at `place` if one was found, and else beside it, by one store, so that no branch
 // depends on the address. Not inlined: a compiler that sees that nothing reads what is put beside
-// leaves that out, by a branch that is often guessed wrong. What is read at last is not compiled:
-// it tells the proof of which of the two `place` is how it ends.
+// leaves that out, by a branch that is often guessed wrong. The two reads at the end compile to
+// nothing: they tell the proof which of the two references is `place`.
 #[inline(never)]
 fn put_or_pass(is_found: bool, number: usize, place: &mut usize, beside: &mut usize) -> u32
     requires { IsTrue is_found ↔ (number < no_place) }

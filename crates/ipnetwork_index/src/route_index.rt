@@ -146,9 +146,9 @@ impl<N: IndexedNetwork, V: Copy> RouteIndex<N, V> {
     /// what a look-up finds is the same for all addresses of one. There are at most one more than
     /// twice the blocks (`laws::few_routed_ranges`). Beside what an `AddressIndex` has of so many
     /// ranges, the index has the table, and of each range a byte and a value. From 2^17 ranges on
-    /// it has fewer places of 4 bytes: at most one for each range, and no more than 2^20 of them.
-    /// In IPv4 it then has of each range 2 bytes in place of 4, if all but a 32nd of them reach over
-    /// a fourth of the addresses, and one place for two to eight ranges.
+    /// it has fewer places of 4 bytes: at most one for each range, and no more than 2^20 + 1. In
+    /// IPv4 it then has of each range 2 bytes in place of 4, if all but a 32nd of them reach over a
+    /// fourth of the addresses, and one place for two to eight ranges, or more from 2^23 ranges on.
     ///
     /// ```
     /// let mut table = PrefixTable::new(rt.alloc());
