@@ -174,21 +174,41 @@ void ipnetwork_go_find_each(const ipnetwork_v4 *fours, size_t four_count, const 
     }
 }
 
+/* So many rows are asked in one call of the library: the faults of its rows, which nobody reads, have room here. */
+enum { AT_ONCE = 1024 };
+
+static inline size_t at_most(size_t rows) { return rows < AT_ONCE ? rows : AT_ONCE; }
+
 void ipnetwork_go_contains_column(size_t width, const uint8_t *structs, size_t struct_count, const uint32_t *index,
                                   size_t index_length, const uint8_t *addresses, size_t count, uint8_t *answers) {
-    searched_list list = {width, structs, struct_count, index, index_length};
-    for (size_t row = 0; row < count; row++) {
-        uint8_t answer = 0;
-        (void)!list_contains(&list, addresses + row * width, &answer);
-        answers[row] = answer;
+    uint8_t faults[AT_ONCE];
+    memset(answers, 0, count);
+    for (size_t row = 0; row < count; row += AT_ONCE) {
+        size_t rows = at_most(count - row);
+        (void)!(width == 4
+                    ? ipnetwork_v4_index_contains_column((const ipnetwork_v4 *)structs, struct_count, index, index_length,
+                                                         addresses + row * 4, rows, answers + row, rows, faults, rows)
+                    : ipnetwork_v6_index_contains_column((const ipnetwork_v6 *)structs, struct_count, index, index_length,
+                                                         addresses + row * 16, rows, answers + row, rows, faults, rows));
     }
 }
 
+/* A row without a network keeps -1, which is IPNETWORK_NO_PLACE as a place. */
 void ipnetwork_go_find_column(size_t width, const uint8_t *structs, size_t struct_count, const uint32_t *index,
                               size_t index_length, const int64_t *numbers, const uint8_t *addresses, size_t count,
                               int64_t *told) {
-    searched_list list = {width, structs, struct_count, index, index_length};
-    for (size_t row = 0; row < count; row++) (void)!number_of(&list, numbers, addresses + row * width, &told[row]);
+    uint8_t faults[AT_ONCE];
+    memset(told, 0xff, count * sizeof *told);
+    for (size_t row = 0; row < count; row += AT_ONCE) {
+        size_t rows = at_most(count - row), *places = (size_t *)(told + row);
+        (void)!(width == 4
+                    ? ipnetwork_v4_ranges_find_column((const ipnetwork_v4 *)structs, struct_count, (const size_t *)numbers,
+                                                      struct_count, index, index_length, addresses + row * 4, rows, places,
+                                                      rows, faults, rows)
+                    : ipnetwork_v6_ranges_find_column((const ipnetwork_v6 *)structs, struct_count, (const size_t *)numbers,
+                                                      struct_count, index, index_length, addresses + row * 16, rows, places,
+                                                      rows, faults, rows));
+    }
 }
 
 ipnetwork_fault ipnetwork_go_table(size_t width, const uint8_t *networks, size_t count, uint8_t *blocks, size_t *places) {
