@@ -42,15 +42,15 @@ fn find_by<const N: usize>(text: &[u8], from: usize, byte: u8) -> Option<usize>
     ensures { MatchOption result (IsAbsent byte text.now from (length text.now))
         (IsNext byte text.now from) }
 {
+    let last = text.len() - N;
     let mut at = from;
-    while N <= text.len() - at {
+    while at <= last {
         let marks = marks_of::<N>(text, at, byte);
         if marks != 0 {
             return Some(at + marks.trailing_zeros() as usize);
         }
         at += N;
     }
-    let last = text.len() - N;
     let marks = marks_of::<N>(text, last, byte) >> (at - last);
     if marks == 0 {
         return None;

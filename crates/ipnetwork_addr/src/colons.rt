@@ -1,5 +1,5 @@
 //! Reads an IPv6 text: the groups to the left of a `::` and those to the right of it.
-ghost use Rattle.std.specs.Prelude.{◌≡◌, ◌^◌, ◌+◌, ◌-◌, ◌*◌, ◌<◌, ◌≤◌, MatchOption};
+ghost use Rattle.std.specs.Prelude.{◌≡◌, ◌^◌, ◌+◌, ◌-◌, ◌*◌, ◌<◌, ◌≤◌, IfSome, MatchOption};
 ghost use Rattle.std.specs.Option.{option_copied};
 ghost use Rattle.ipnetwork_addr.specs.Ipv6Text.{NamesV6};
 ghost use Rattle.ipnetwork_addr.specs.Private.NoAddress.{NamesNoV6};
@@ -7,25 +7,46 @@ ghost use Rattle.ipnetwork_addr.specs.Private.GroupFront.{BeginsWithLeft, NoLeft
 
 use crate::colons_at_once::read_at_once;
 use crate::group::read_part;
+use crate::segments::halves_of_number;
 
-/// The number of the address that a text names.
+/// The halves of the address that a text names, the high one first.
 ///
 /// Inlined, so that a short text pays for nothing of what long ones need.
 #[inline(always)]
-pub(crate) fn read_address(text: &[u8]) -> Option<u128>
-    ensures { MatchOption result (NamesNoV6 text.now) (λ address. NamesV6 text.now address) }
+pub(crate) fn read_address(text: &[u8]) -> Option<(u64, u64)>
+    ensures { MatchOption result (NamesNoV6 text.now)
+        (λ halves. NamesV6 text.now (halves.0 * 2 ^ 64 + halves.1)) }
 {
     if text.len() < 16 {
-        return read_from_left(text);
+        return read_one_by_one(text);
     }
-    match read_at_once(text) {
-        Some(address) => Some(address),
-        None => read_from_left(text),
+    match read_halves_at_once(text) {
+        Some(halves) => Some(halves),
+        None => read_one_by_one(text),
     }
+}
+
+/// The same, with all colons known. `None` says nothing.
+#[inline(never)]
+fn read_halves_at_once(text: &[u8]) -> Option<(u64, u64)>
+    ensures { IfSome result (λ halves. NamesV6 text.now (halves.0 * 2 ^ 64 + halves.1)) }
+{
+    let number = read_at_once(text)?;
+    Some(halves_of_number(number))
 }
 
 /// The same, one byte after the other.
 #[inline(never)]
+fn read_one_by_one(text: &[u8]) -> Option<(u64, u64)>
+    ensures { MatchOption result (NamesNoV6 text.now)
+        (λ halves. NamesV6 text.now (halves.0 * 2 ^ 64 + halves.1)) }
+{
+    let number = read_from_left(text)?;
+    Some(halves_of_number(number))
+}
+
+/// The number of the address that a text names, which is read one byte after the other.
+#[inline(always)]
 fn read_from_left(text: &[u8]) -> Option<u128>
     ensures { MatchOption result (NamesNoV6 text.now) (λ address. NamesV6 text.now address) }
 {

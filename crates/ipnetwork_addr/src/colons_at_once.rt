@@ -13,7 +13,7 @@ use crate::group::append;
 /// from left to right.
 ///
 /// No branch asks how many digits a group has: that would be guessed wrongly too often.
-#[inline(never)]
+#[inline(always)]
 pub(crate) fn read_at_once(text: &[u8]) -> Option<u128>
     ensures { IfSome result (NamesV6 text.now) }
 {

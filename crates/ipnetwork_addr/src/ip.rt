@@ -33,6 +33,7 @@ impl IpAddr {
     /// assert_eq!(rt; IpAddr::read_bytes(b"192.0.2.1"), Ok(IpAddr::V4(Ipv4Addr::new(192, 0, 2, 1))));
     /// assert_eq!(rt; IpAddr::read_bytes(b"192.0.2"), Err(AddrParseError::Ip));
     /// ```
+    #[inline(always)]
     pub fn read_bytes(text: &[u8]) -> Result<Self, AddrParseError>
         ensures { Reads NamesIp AddrParseError.Ip text.now result }
     {

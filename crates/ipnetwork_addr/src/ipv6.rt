@@ -104,7 +104,7 @@ impl Ipv6Addr {
         ensures { Reads NamesV6 AddrParseError.Ipv6 text.now result }
     {
         match read_address(text) {
-            Some(number) => Ok(Ipv6Addr::from(number)),
+            Some((high, low)) => Ok(Ipv6Addr::from_halves(high, low)),
             None => Err(AddrParseError::Ipv6),
         }
     }
@@ -124,6 +124,16 @@ impl Ipv6Addr {
         ensures short { length result.bytes ≤ 39 }
     {
         canonical_text(&self.segments())
+    }
+
+    /// The address of these halves.
+    #[inline(always)]
+    fn from_halves(high: u64, low: u64) -> Self
+        ensures { result ≡ high * 2 ^ 64 + low }
+    {
+        Ipv6Addr {
+            low_first: segments::low_first_of(high, low),
+        }
     }
 
     /// How the address compares with another: by the high half, then by the low one.
@@ -146,9 +156,6 @@ impl Ipv6Addr {
     }
 }
 
-/// What one of the high half counts for in the number of an address.
-const HALF: u128 = 0x1_0000_0000_0000_0000;
-
 /// The high half of a number, and the low one.
 // Not inlined: to a compiler the halves are then two numbers that it knows nothing of, and it stores each at once. If it
 // sees how they are made, it cuts and stores every segment by itself.
@@ -156,7 +163,7 @@ const HALF: u128 = 0x1_0000_0000_0000_0000;
 fn halves_of(number: u128) -> (u64, u64)
     ensures { number ≡ result.0 * 2 ^ 64 + result.1 }
 {
-    ((number / HALF) as u64, (number % HALF) as u64)
+    segments::halves_of_number(number)
 }
 
 impl From<u128> for Ipv6Addr {
@@ -165,9 +172,7 @@ impl From<u128> for Ipv6Addr {
     /// The address of this number.
     fn from(number: u128) -> Self {
         let (high, low) = halves_of(number);
-        Ipv6Addr {
-            low_first: segments::low_first_of(high, low),
-        }
+        Ipv6Addr::from_halves(high, low)
     }
 }
 
@@ -188,7 +193,7 @@ impl From<Ipv6Addr> for u128 {
     /// The number of the address.
     fn from(address: Ipv6Addr) -> Self {
         let (high, low) = segments::halves(&address.low_first);
-        u128::from(high) * HALF + u128::from(low)
+        segments::number_of_halves(high, low)
     }
 }
 

@@ -29,6 +29,24 @@ pub(crate) fn half(a: u16, b: u16, c: u16, d: u16) -> u64
     (two * 0x1_0000 + u64::from(c)) * 0x1_0000 + u64::from(d)
 }
 
+/// What one of the high half counts for in the number of an address.
+const HALF: u128 = 0x1_0000_0000_0000_0000;
+
+/// The high half of a number, and the low one.
+#[inline(always)]
+pub(crate) fn halves_of_number(number: u128) -> (u64, u64)
+    ensures { number ≡ result.0 * 2 ^ 64 + result.1 }
+{
+    ((number / HALF) as u64, (number % HALF) as u64)
+}
+
+/// The number of these halves.
+pub(crate) fn number_of_halves(high: u64, low: u64) -> u128
+    ensures { result ≡ high * 2 ^ 64 + low }
+{
+    u128::from(high) * HALF + u128::from(low)
+}
+
 /// The segments of the address of these two halves, the lowest first.
 pub(crate) fn low_first_of(high: u64, low: u64) -> [u16; 8]
     ensures { result ≡ reverse (segments_of (high * 2 ^ 64 + low)) }

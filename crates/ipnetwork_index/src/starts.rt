@@ -4,8 +4,8 @@ ghost use Rattle.ipnetwork_index.specs.Searches.{IsStart, AreStarts};
 
 use crate::key::Key;
 
-/// How many parts an index has for so many ranges, as a power of two: two to four for each range,
-/// and at most 2^20.
+/// How many parts an index has for so many ranges, as a power of two: two to four for each range, one
+/// or two from 2^14 ranges on, and at most 2^20.
 ///
 /// ```
 /// assert_eq!(rt; part_bits(1000), 11);
@@ -13,17 +13,20 @@ use crate::key::Key;
 pub fn part_bits(ranges: usize) -> u32
     ensures { result ≤ 20 }
 {
-    let bits = usize::BITS - ranges.leading_zeros() + 1;
+    let bits = usize::BITS - ranges.leading_zeros();
+    if bits < 15 {
+        return bits + 1;
+    }
     bits.min(20)
 }
 
-// The same, for the index of a table, which is small if it has many ranges: from 2^17 of them on
+// The same, for the index of a table, which is small if it has many ranges: from 2^16 of them on
 // it has one part for one or two of them.
 pub(crate) fn route_bits(ranges: usize) -> u32
     ensures { result ≤ 20 }
 {
     let bits = usize::BITS - ranges.leading_zeros();
-    if bits < 18 {
+    if bits < 17 {
         return bits + 1;
     }
     (bits - 1).min(20)

@@ -261,17 +261,33 @@ holds_more old new chunk pending h dropped limit more = record {
   bytes = ap (λ l. l ++ chunk) h.bytes ∙ append_assoc h.gone (waits old) chunk ∙ ap (λ l. h.gone ++ l) (sym more);
 }
 
+-- they are pending still where as many bytes wait as before, and the same ones
+pub holds_still : (old new : Buffered) (pending : List ℕ) → IsPending old pending → new.dropped ≡ old.dropped → new.limit ≡ old.limit → waits new ≡ waits old → IsPending new pending
+holds_still old new pending h dropped limit same = record {
+  gone = h.gone;
+  dropped = subst (λ n. IsDropped new.dropped n h.gone) (sym limit) (subst (λ v. IsDropped v old.limit h.gone) (sym dropped) h.dropped);
+  bytes = h.bytes ∙ ap (λ l. h.gone ++ l) (sym same);
+}
+
 take_past : (front text : List ℕ) (count all : ℕ) → all ≡ length front + count → take all (front ++ text) ≡ front ++ take count text
 take_past [] text count all e = ap (λ n. take n text) (omega (arith, e))
 take_past (x ∷ front) text count zero e = absurd (omega (arith, e))
 take_past (x ∷ front) text count (suc all) e = ap (λ t. x ∷ t) (take_past front text count all (omega (arith, e)))
 
 -- a read behind the bytes that wait
-pub waits_more : (start end count : ℕ) (buffer part : List ℕ) → start ≤ end → end ≤ length buffer → count ≤ length part
-    → drop start (take (end + count) (put_mid end (length buffer - end) buffer part)) ≡ drop start (take end buffer) ++ take count part
-waits_more start end count buffer part order within bound =
+pub waits_more : (start end count room : ℕ) (buffer part : List ℕ) → start ≤ end → end ≤ length buffer → count ≤ length part
+    → drop start (take (end + count) (put_mid end room buffer part)) ≡ drop start (take end buffer) ++ take count part
+waits_more start end count room buffer part order within bound =
     let front = take end buffer in
-    let past = post_of end (length buffer - end) buffer in
+    let past = post_of end room buffer in
     let size : length front ≡ end = length-take-le end buffer (omega (arith, within)) in
     ap (drop start) (take_past front (part ++ past) count (end + count) (omega (arith, size)) ∙ ap (λ t. front ++ t) (take-append-le count part past bound))
     ∙ drop-append-le start front (take count part) (omega (arith, size, order))
+
+-- a read that failed, whatever it wrote behind them
+pub waits_still : (start end room : ℕ) (buffer part : List ℕ) → end ≤ length buffer
+    → drop start (take end (put_mid end room buffer part)) ≡ drop start (take end buffer)
+waits_still start end room buffer part within =
+    let front = take end buffer in
+    let size : length front ≡ end = length-take-le end buffer within in
+    ap (drop start) (take_past front (part ++ post_of end room buffer) 0 end (omega (arith, size)) ∙ append-nil front)

@@ -92,11 +92,7 @@ pub record Receives (unread_before unread_after : Option (List ℕ)) (old new : 
   pub holds : (pending : List ℕ) → IsPending old pending → IsPending new (pending ++ chunk)
   pub at_end : count ≡ 0 → IsAtEnd unread_after
 
--- the bytes that wait stay where they are
-abbrev pub Stays : Buffered → Buffered → Type 0
-Stays old new = (new.start ≡ old.start) × (take old.end new.bytes ≡ take old.end old.bytes)
-
--- they do while there is room behind them; if there is none, they stand at the front of the buffer afterwards. So a byte
--- is moved at most once each time that the buffer is full
+-- the bytes that wait stand at the front of the buffer afterwards; if they stood there before, with room behind them,
+-- they are not moved. So a byte is moved at most once: those behind a line that was handed out came with the last read
 abbrev pub Settles : Buffered → Buffered → Type 0
-Settles old new = (old.end < length old.bytes → 0 < length (waits old) → Stays old new) × (length old.bytes ≤ old.end → new.start ≡ 0)
+Settles old new = (new.start ≡ 0) × (old.start ≡ 0 → old.end < length old.bytes → take old.end new.bytes ≡ take old.end old.bytes)

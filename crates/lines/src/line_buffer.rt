@@ -37,12 +37,15 @@ pub enum NextLine {
     End,
 }
 
+/// How many bytes a read asks for at most. What is read and answered then stays in the processor's nearer memory.
+const MOST_AT_ONCE: usize = 131_072;
+
 /// The lines of the bytes that are read into a buffer, which the caller lends.
 ///
 /// `next` hands out one line after the other and calls no device; if it needs more bytes, it says so, and `ask` makes
 /// one read. So between two reads the caller decides what is done. A line is lent from the buffer, where it was read: no
-/// byte of it is copied, and none is moved while its line feed is in the buffer. If the buffer is full, `ask` moves the
-/// bytes of a line that is not whole yet to its front. Nothing here allocates.
+/// byte of it is copied, and none is moved while its line feed is in the buffer. `ask` moves the bytes of a line that is
+/// not whole yet to the front of the buffer, unless they are there. Nothing here allocates.
 ///
 /// The lines, each with the bytes that end it, make up what was read, except for what is still pending. They are the
 /// lines of std's `str::lines`: a line ends with a line feed, and one carriage return before it is dropped; what follows
@@ -102,7 +105,7 @@ impl<'b> Model for LineBuffer<'b> {
 }
 
 impl<'b> LineBuffer<'b> {
-    ghost use Rattle.lines.specs.LineBuffers.{waits, HasNoFeed, IsPending, Gives, IsLess, Receives, Settles, Stays};
+    ghost use Rattle.lines.specs.LineBuffers.{waits, HasNoFeed, IsPending, Gives, IsLess, Receives, Settles};
     ghost use Rattle.lines.specs.Private.Cuts.{IsCut};
 
     /// No bytes yet. A line of more than `limit` bytes, not counting those that end it, is too long.
@@ -312,7 +315,8 @@ impl<'b> LineBuffer<'b> {
             return Err(RunFault::Read);
         }
         self.make_room();
-        let Ok(count) = reader.device.read(&mut self.buffer[self.end..]) else {
+        let most = self.buffer.len().min(self.end.saturating_add(MOST_AT_ONCE));
+        let Ok(count) = reader.device.read(&mut self.buffer[self.end..most]) else {
             return Err(RunFault::Read);
         };
         self.end += count;
@@ -320,32 +324,30 @@ impl<'b> LineBuffer<'b> {
         Ok(count)
     }
 
-    // Makes room for at least a byte behind those that wait. If the buffer is full, they are moved to its front, or
-    // dropped if they are all of it.
+    // Moves the bytes that wait to the front of the buffer, with room for at least a byte behind them. If they are all of
+    // it, they are dropped.
     fn make_room(&mut self)
         requires { HasNoFeed (waits self.old) }
         ensures holds { (pending : List ℕ) → IsPending self.old pending
             → IsPending self.new pending }
         ensures room { self.new.end < length self.new.bytes }
-        ensures stays { self.old.end < length self.old.bytes → 0 < length (waits self.old)
+        ensures stays { self.old.start ≡ 0 → self.old.end < length self.old.bytes
             → self.new ≡ self.old }
-        ensures front { length self.old.bytes ≤ self.old.end → self.new.start ≡ 0 }
+        ensures front { self.new.start ≡ 0 }
         ensures limit { self.new.limit ≡ self.old.limit }
         ensures ended { self.new.ended ≡ self.old.ended }
         ensures size { length self.new.bytes ≡ length self.old.bytes }
     {
-        let size = self.buffer.len();
-        if self.end < size && self.start < self.end {
+        if self.start == 0 {
+            if self.end == self.buffer.len() {
+                self.dropped = true;
+                self.searched = 0;
+                self.end = 0;
+            }
             return;
         }
         self.line_start = 0;
         self.line_end = 0;
-        if self.start == 0 && self.end == size {
-            self.dropped = true;
-            self.searched = 0;
-            self.end = 0;
-            return;
-        }
         move_to_front(self.buffer, self.start, self.end);
         self.searched -= self.start;
         self.end -= self.start;

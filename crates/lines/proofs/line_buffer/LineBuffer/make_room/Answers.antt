@@ -4,13 +4,13 @@ use Rattle.lines.specs.LineBuffers.{waits, HasNoFeed, IsPending}
 use Rattle.lines.proofs.HandingOut.{all_dropped}
 use Rattle.lines.proofs.line_buffer.LineBuffer.make_room.Goals as goal
 
-pub returns-then-self-size-2-clause-holds : goal.returns-then-self-size-2-clause-holds
-returns-then-self-size-2-clause-holds c = λ pending h.
+pub returns-then-self-clause-holds : goal.returns-then-self-clause-holds
+returns-then-self-clause-holds c = λ pending h.
     let inside = c.self.inside in
     let size : inside.limit + 2 ≤ length (drop inside.start (take inside.end inside.buffer.now)) = omega (
       arith,
       c.self.invariant.1,
-      c.if-self-size-2.true,
+      c.if-self.true,
       c.if-self-eq0.true,
       length-drop inside.start (take inside.end inside.buffer.now),
       length-take inside.end inside.buffer.now,
