@@ -8,9 +8,12 @@
 #   make wasm                             proves the library for C for WebAssembly, and builds its modules
 #   make js                               builds the package for JavaScript, of the module that make wasm makes
 #   make calculator                       does both, and writes the page web/out/subnets.html over the package
+#   make static                           links the programs that are built once more, with the C library in each, so that
+#                                         they need no file where they run; into bindings/out/static
 #   make install PREFIX=/usr DESTDIR=/tmp/package
 #                                         installs what is built: the programs, their manual pages and completions, the
-#                                         library for C with its header, and the extension of SQLite
+#                                         library for C with its header, and the extension of SQLite; with STATIC=1 the
+#                                         programs of make static
 #   make uninstall PREFIX=/usr DESTDIR=/tmp/package
 #   make deb                              Debian packages of what is built, in bindings/out/deb
 #   make check-install                    installs into a new folder, compiles the example of C there and removes it again
@@ -39,8 +42,12 @@ SHARED = $(OUT)/libipnetwork_c.so.$(VERSION)
 SONAME = libipnetwork_c.so.$(MAJOR)
 EXTENSION = $(OUT)/cidr.so
 PROGRAMS = cidr cidr_merge cidr_filter cidr_join
+# The folder of the kit, if the first rt of the PATH is that of a kit.
+KIT ?= $(shell command -v rt > /dev/null && dirname "$$(dirname "$$(readlink -f "$$(command -v rt)")")")
+# The file of a program that is installed.
+built = $(if $(STATIC),$(OUT)/static,crates/$(1)/out)/$(1)
 
-.PHONY: all example test try library shared sqlite wasm js calculator install install-library uninstall deb \
+.PHONY: all example test try library shared sqlite wasm js calculator static install install-library uninstall deb \
     check-install
 
 # Says by name what is not here, before anything is proved.
@@ -102,13 +109,30 @@ calculator:
 	$(MAKE) js
 	web/build
 
+# Of the object files that rt leaves beside the programs, and of the kit's archives.
+static:
+	$(call tools,$(if $(KIT),cc,rt cc))
+	@missing=; for file in "$(KIT)/c/libos_c.a" "$(KIT)/c/liblibc_c.a" "$$(cc -print-file-name=libc.a)"; do \
+	    [ -f "$$file" ] || missing="$$missing $$file"; done; \
+	[ -z "$$missing" ] || { echo "make static needs what is not here:$$missing (make static KIT=FOLDER, README)" >&2; exit 1; }
+	@mkdir -p $(OUT)/static; made=; for program in $(PROGRAMS); do \
+	    object=crates/$$program/out/$$program.o; \
+	    if [ -f $$object ]; then \
+	        cc -static -o $(OUT)/static/$$program $$object "$(KIT)/c/libos_c.a" "$(KIT)/c/liblibc_c.a" || exit 1; \
+	        made=yes; echo $(OUT)/static/$$program; \
+	    else \
+	        rm -f $(OUT)/static/$$program; \
+	        echo "make static: without $$program, since there is no $$object: run make first" >&2; \
+	    fi; \
+	done; [ "$$made" ]
+
 # Copies what is built, and builds nothing.
 install:
 	@built=; for program in $(PROGRAMS); do \
-	    if [ -f crates/$$program/out/$$program ]; then \
+	    if [ -f $(call built,$$program) ]; then \
 	        built=yes; \
 	        $(INSTALL) -d "$(DESTDIR)$(BINDIR)" "$(DESTDIR)$(MANDIR)/man1" && \
-	        $(INSTALL) -m 755 crates/$$program/out/$$program "$(DESTDIR)$(BINDIR)/$$program" && \
+	        $(INSTALL) -m 755 $(call built,$$program) "$(DESTDIR)$(BINDIR)/$$program" && \
 	        $(INSTALL) -m 644 docs/man/$$program.1 "$(DESTDIR)$(MANDIR)/man1/$$program.1" || exit 1; \
 	        if [ -f completions/$$program.bash ]; then \
 	            $(INSTALL) -d "$(DESTDIR)$(BASHDIR)" "$(DESTDIR)$(ZSHDIR)" "$(DESTDIR)$(FISHDIR)" && \
@@ -117,7 +141,7 @@ install:
 	            $(INSTALL) -m 644 completions/$$program.fish "$(DESTDIR)$(FISHDIR)/$$program.fish" || exit 1; \
 	        fi; \
 	    else \
-	        echo "make install: without $$program, which is not built" >&2; \
+	        echo "make install: without $$program, which is not $(if $(STATIC),linked by make static,built)" >&2; \
 	    fi; \
 	done; \
 	if [ -f $(EXTENSION) ]; then \

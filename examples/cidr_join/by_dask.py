@@ -1,0 +1,120 @@
+#!/usr/bin/env python3
+"""Joins a large log on the workers of dask, on one machine or on many: it is cut behind line feeds, and each part is
+joined by itself. What is printed is that of the whole log (the laws `outputs_of_parts_follow` and
+`tallies_of_parts_add_up` of `cidr_join`).
+
+    examples/cidr_join/by_dask.py [--scheduler ADDRESS] [--block BYTES] OPTION.. < LOG > JOINED
+
+The options are those of cidr_join. With --tally the counts of the parts are added up. The workers of the scheduler at
+ADDRESS need the program and the list at the same path; without a scheduler one is started here, with a worker for each
+processor. A part has about BYTES, 64 MB if that is not given. If a line is too long, it is reported with its number in
+its part, nothing behind it is printed, and the status is 2; with --tally nothing is printed then.
+"""
+
+import collections
+import pathlib
+import re
+import subprocess
+import sys
+
+from dask.distributed import Client, LocalCluster
+
+PROGRAM = pathlib.Path(__file__).resolve().parents[2] / "crates/cidr_join/out/cidr_join"
+
+
+def refuse(why):
+    print(f"by_dask.py: {why}", file=sys.stderr)
+    sys.exit(2)
+
+
+def options(words):
+    """Each option of these words, and its value. FILEs are refused, since the log is standard input."""
+    rest = iter(words)
+    for word in rest:
+        letters = re.fullmatch("-[aw]*([fkd])(.*)", word, re.S)
+        if letters:
+            yield "-" + letters[1], letters[2] or next(rest, "")
+        elif word in ("--after", "--group"):
+            yield word, next(rest, "")
+        elif word == "--" or not re.match("-.", word):
+            refuse(f"{word}: the log is standard input")
+        else:
+            yield word, ""
+
+
+def check(words):
+    """Whether a tally is asked for. The list is read once before the log, so that what is refused of it is told once."""
+    asked = list(options(words))
+    if ("-f", "-") in asked:
+        refuse("-f -: standard input is the log")
+    if subprocess.run([PROGRAM, *words], stdin=subprocess.DEVNULL, stdout=subprocess.DEVNULL).returncode:
+        sys.exit(2)
+    return ("--tally", "") in asked
+
+
+def parts(log, size):
+    """The log, cut behind line feeds: so many bytes, and the rest of a line."""
+    while block := log.read(size):
+        yield block + log.readline()
+
+
+def joined(command, part):
+    """The status of the program, run on a part, and what it prints and reports. A worker runs this."""
+    ran = subprocess.run(command, input=part, capture_output=True)
+    return ran.returncode, ran.stdout, ran.stderr
+
+
+def in_order(client, command, log, size):
+    """What `joined` gives of each part, in the order of the parts. At most two parts for each worker are in memory."""
+    waiting = collections.deque()
+    for part in parts(log, size):
+        waiting.append(client.submit(joined, command, client.scatter(part, hash=False), pure=False))
+        if len(waiting) >= 2 * len(client.ncores()):
+            yield waiting.popleft().result()
+    while waiting:
+        yield waiting.popleft().result()
+
+
+def add(counts, tally):
+    """Adds what a tally counts of each text."""
+    for row in tally.split(b"\n")[:-1]:
+        count, _, text = row.partition(b"\t")
+        counts[text] += int(count)
+
+
+def rows(counts):
+    """The tally of these counts: most first, and those of one count in the order of the bytes of their texts."""
+    for text, count in sorted(counts.items(), key=lambda row: (-row[1], row[0])):
+        yield b"%d\t%s\n" % (count, text)
+
+
+def join(client, words, size, is_tally):
+    """Prints what the program prints of the log, and gives the status."""
+    counts, output = collections.Counter(), sys.stdout.buffer
+    for status, printed, reported in in_order(client, [str(PROGRAM), *words], sys.stdin.buffer, size):
+        sys.stderr.buffer.write(reported)
+        if is_tally:
+            add(counts, printed)
+        else:
+            output.write(printed)
+        if status:
+            return 2
+    output.writelines(rows(counts))
+    return 0
+
+
+def main(words):
+    own = {"--scheduler": None, "--block": 1 << 26}
+    while len(words) > 1 and words[0] in own:
+        own[words[0]], words = words[1], words[2:]
+    is_tally, size = check(words), int(own["--block"])
+    if own["--scheduler"]:
+        with Client(own["--scheduler"]) as client:
+            return join(client, words, size, is_tally)
+    local = {"threads_per_worker": 1, "protocol": "tcp", "host": "127.0.0.1", "dashboard_address": None}
+    with LocalCluster(processes=True, **local) as cluster, Client(cluster) as client:
+        return join(client, words, size, is_tally)
+
+
+if __name__ == "__main__":
+    sys.exit(main(sys.argv[1:]))

@@ -1,0 +1,42 @@
+#!/usr/bin/env bash
+# Joins a large log by several processes: it is cut behind line feeds, and each part is joined by itself. What is printed
+# is that of the whole log (the laws `outputs_of_parts_follow` and `tallies_of_parts_add_up` of `cidr_join`).
+#
+# usage: examples/cidr_join/in_parts.sh OPTION .. < LOG > JOINED
+#
+# The options are those of cidr_join, also joined in one word. With `--tally` the counts of the parts are added up, of
+# each text, and printed most first, those of one count in the order of the bytes of the texts. Without GNU parallel, the
+# parts are joined one after the other. With PARALLEL='--sshlogin ONE,TWO' they go to these machines, which need the
+# program and the list at the same path.
+#
+# If a line is too long, the status is 2, and it is reported with its number in its part; with `--tally` nothing is printed
+# then, and otherwise, by GNU parallel, the parts behind its part all the same.
+set -eu -o pipefail
+top=$(cd "$(dirname "$0")/../.." && pwd)
+. "$top/examples/log_in_parts.sh"
+program=$top/crates/cidr_join/out/cidr_join
+valued=" -f -k -d --after --group "
+
+tally=
+option() {
+    case $1 in
+    -f) [ "$2" != - ] || refuse "-f -: standard input is the log" ;;
+    --tally) tally=1 ;;
+    esac
+}
+each_option "$@"
+check_lists "$@"
+
+if [ ! "$tally" ]; then
+    in_parts "$program" "$@" || exit 2
+    exit 0
+fi
+rows=$(mktemp)
+trap 'rm -f "$rows"' EXIT
+in_parts "$program" "$@" > "$rows" || exit 2
+# A row is a count, a tab and a text, which may have tabs too.
+export LC_ALL=C
+tab=$'\t'
+awk '{ tab = index($0, "\t"); counts[substr($0, tab + 1)] += substr($0, 1, tab - 1) }
+    END { for (text in counts) printf "%.0f\t%s\n", counts[text], text }' "$rows" |
+    sort -t "$tab" -k 1,1nr -k 2
