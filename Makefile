@@ -114,7 +114,7 @@ static:
 	$(call tools,$(if $(KIT),cc,rt cc))
 	@missing=; for file in "$(KIT)/c/libos_c.a" "$(KIT)/c/liblibc_c.a" "$$(cc -print-file-name=libc.a)"; do \
 	    [ -f "$$file" ] || missing="$$missing $$file"; done; \
-	[ -z "$$missing" ] || { echo "make static needs what is not here:$$missing (make static KIT=FOLDER, README)" >&2; exit 1; }
+	[ -z "$$missing" ] || { echo "make static needs what is not here:$$missing (make static KIT=FOLDER; docs/PROGRAMS.md)" >&2; exit 1; }
 	@mkdir -p $(OUT)/static; made=; for program in $(PROGRAMS); do \
 	    object=crates/$$program/out/$$program.o; \
 	    if [ -f $$object ]; then \
