@@ -4,6 +4,7 @@ pub mod Edging
 pub mod Eights
 pub mod Halving
 pub mod Inside
+pub mod LastValues
 pub mod LawExamples
 pub mod Lowering
 pub mod RangeCounts

@@ -1,5 +1,6 @@
 -- What the contracts of this crate cite.
 pub mod Columns
+pub mod Entries
 pub mod Halves
 pub mod Parts
 pub mod Private

@@ -1,6 +1,6 @@
 //! The index over a set of addresses.
 ghost use Rattle.std.specs.Prelude.{◌≡◌, ◌↔◌, IfOk, IsTrue, length, map};
-ghost use Rattle.ipnetwork_blocks.specs.Aggregate.{InUnion};
+ghost use Rattle.ipnetwork_blocks.specs.Aggregate.{InUnion, IsAggregate};
 ghost use Rattle.ipnetwork_index.specs.Columns.{AreTold};
 ghost use Rattle.ipnetwork_index.specs.Turns.{CutInto};
 
@@ -66,6 +66,22 @@ impl<N: IndexedNetwork> AddressIndex<N> {
             partition,
             first_is_in,
         })
+    }
+
+    /// The index over the addresses of networks, which may have host bits and stand in any order.
+    /// Sorts them in their list.
+    ///
+    /// ```
+    /// let networks = vec![in rt.alloc(); "192.0.2.9/25".parse::<Ipv4Network>()?]?;
+    /// let index = AddressIndex::from_networks(rt.alloc(), networks)?;
+    /// assert!(rt; index.contains(Ipv4Addr::new(192, 0, 2, 127)));
+    /// ```
+    pub fn from_networks(alloc: Global, networks: Vec<N>) -> Result<Self, AllocError>
+        ensures { IfOk result (λ index. IsAggregate N.WIDTH (map N.pair networks.items) index) }
+    {
+        let set = AddressSet::from_networks(networks);
+        let index = AddressIndex::from_set(alloc, &set)?;
+        Ok(index)
     }
 
     /// Whether the address is in the set. Takes a few reads if the blocks lie spread, and else about

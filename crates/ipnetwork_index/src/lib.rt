@@ -10,6 +10,7 @@ mod address_index;
 mod answers;
 mod cuts;
 mod edges;
+mod entries;
 mod fours;
 mod halves;
 mod indexed_network;

@@ -1,11 +1,13 @@
 //! The index over a table.
 ghost use Rattle.std.specs.Prelude.{◌≡◌, IfOk, length, map};
-ghost use Rattle.ipnetwork_table.specs.Table.{HasOnlyBlocks, Finds};
+ghost use Rattle.ipnetwork_table.specs.Table.{HasOnlyBlocks, Finds, by_pair};
 ghost use Rattle.ipnetwork_index.specs.Columns.{AreFound};
+ghost use Rattle.ipnetwork_index.specs.Entries.{HasLastValues};
 ghost use Rattle.ipnetwork_index.specs.Turns.{CutByBlocks};
 
 use crate::answers::{Answers, answers_of};
 use crate::edges::ranges_of;
+use crate::entries::table_of;
 use crate::indexed_network::IndexedNetwork;
 use crate::places::Places;
 use ipnetwork_table::PrefixTable;
@@ -73,6 +75,23 @@ impl<N: IndexedNetwork, V: Copy> RouteIndex<N, V> {
             places,
             answers,
         })
+    }
+
+    /// The index over networks with values, which may have host bits and stand in any order: over a
+    /// table of their blocks. Of several with the same block the last counts.
+    ///
+    /// ```
+    /// let entries = [("10.0.0.0/8".parse::<Ipv4Network>()?, 2), ("10.1.9.32/16".parse()?, 3)];
+    /// let index = RouteIndex::from_entries(rt.alloc(), &entries)?;
+    /// assert_eq!(rt; index.lookup(Ipv4Addr::new(10, 1, 2, 3)), Some(("10.1.0.0/16".parse()?, 3)));
+    /// ```
+    pub fn from_entries(alloc: Global, entries: &[(N, V)]) -> Result<Self, AllocError>
+        ensures { IfOk result
+            (λ index. HasLastValues N.WIDTH (by_pair N.pair entries.now) index) }
+    {
+        let table = table_of(alloc, entries)?;
+        let index = RouteIndex::from_table(alloc, table)?;
+        Ok(index)
     }
 
     /// The stored block of greatest prefix length whose set holds the address, with its value;

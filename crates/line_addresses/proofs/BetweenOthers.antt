@@ -68,3 +68,22 @@ found_between named bytes front text behind before after address names one two =
     ∙ ap (λ l. kept front ++ l) (part_first cuts address_in nothing_shown text (after ∷ behind) inside (ap not two)
     ∙ ap (cons_option (address_in text)) (behind_cut cuts address_in nothing_shown after behind (ap not two))
     ∙ ap (λ o. cons_option o (kept behind)) (found_alone text address ((named text address).0 names)))
+
+-- a line that is cut between runs
+pub cut_at : (front behind : List ℕ) (byte : ℕ) → is_run_byte byte ≡ false → addresses_of (front ++ byte ∷ behind) ≡ addresses_of front ++ addresses_of behind
+cut_at front behind byte is =
+    let cuts = λ (byte : ℕ). not (is_run_byte byte) in
+    ap (filter_map address_in) (split_at cuts front behind byte (ap not is)) ∙ filter_map-append address_in (slice_split cuts front) (slice_split cuts behind)
+
+-- a line without a cut is one run
+one_run : (cuts : ℕ → Bool) (text : List ℕ) → AllByRecursion (λ byte. cuts byte ≡ false) text → slice_split cuts text ≡ text ∷ []
+one_run cuts [] h = refl
+one_run cuts (byte ∷ text) h =
+    ap (λ parts. cond (cuts byte) ([] ∷ parts) (onto_first byte parts)) (one_run cuts text h.1) ∙ ap (λ b. cond b ([] ∷ text ∷ []) (onto_first byte (text ∷ []))) h.0
+
+-- a line that is an address text
+pub found_by_itself : ((text : List ℕ) (address : IpAddr) → NamesIp text address ↔ (address_of text ≡ Some address)) → ((text : List ℕ) (address : IpAddr) → NamesIp text address → AllByRecursion IsAddressByte text)
+    → (text : List ℕ) (address : IpAddr) → NamesIp text address → addresses_of text ≡ record { text = text; address = address } ∷ []
+found_by_itself named bytes text address names =
+    ap (filter_map address_in) (one_run (λ byte. not (is_run_byte byte)) text (all_in_run text (bytes text address names)))
+    ∙ ap (λ o. cons_option o []) (found_alone text address ((named text address).0 names))

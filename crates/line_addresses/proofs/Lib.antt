@@ -1,3 +1,4 @@
+pub mod BeforeMarks
 pub mod BetweenOthers
 pub mod ByteKinds
 pub mod Examples

@@ -1,10 +1,10 @@
 //! The laws of the addresses of lines. Each function's contract is a law. It takes nothing and does nothing, and a
 //! proof that calls it may use the law.
-ghost use Rattle.std.specs.Prelude.{◌≡◌, ◌↔◌, ◌∷◌, ◌++◌, ℕ, List, None, Some, true, false};
+ghost use Rattle.std.specs.Prelude.{◌≡◌, ◌↔◌, [], ◌∷◌, ◌++◌, ℕ, List, None, Some, true, false};
 ghost use Rattle.ipnetwork_addr.specs.Either.{NamesIp};
 ghost use Rattle.ipnetwork_addr.specs.Ipv4Text.{NamesV4};
 ghost use Rattle.ipnetwork_addr.specs.Texts.{IsAddressByte};
-ghost use Rattle.line_addresses.specs.Addresses.{Spelled, address_of, address_in, addresses_of, is_port};
+ghost use Rattle.line_addresses.specs.Addresses.{Spelled, address_of, address_in, addresses_of, is_mark, is_port};
 ghost use Rattle.line_addresses.specs.Runs.{is_run_byte};
 
 use ipnetwork_addr::IpAddr;
@@ -48,6 +48,32 @@ pub fn address_between_others()
     named_address();
     v4_text_bytes();
     v6_text_bytes();
+}
+
+/// The addresses of a line that is cut at a byte of which no run is made are those of both parts.
+pub fn cut_between_runs()
+    ensures { (front behind : List ℕ) (byte : ℕ) → is_run_byte byte ≡ false
+        → addresses_of (front ++ byte ∷ behind) ≡ addresses_of front ++ addresses_of behind }
+{}
+
+/// A line that is an address text has this address alone. So, by the law before, has an address text at the beginning
+/// or at the end of a line, next to a byte of which no run is made.
+pub fn address_by_itself()
+    ensures { (text : List ℕ) (address : IpAddr) → NamesIp text address
+        → addresses_of text ≡ record { text = text; address = address } ∷ [] }
+{
+    named_address();
+    v4_text_bytes();
+    v6_text_bytes();
+}
+
+/// An address text before a `.` or a `:` is found, unless it is one with that mark too.
+pub fn address_before_a_mark()
+    ensures { (text : List ℕ) (mark : ℕ) (address : IpAddr) → NamesIp text address
+        → is_mark mark ≡ true → ((other : IpAddr) → ¬ (NamesIp (text ++ mark ∷ []) other))
+        → address_in (text ++ mark ∷ []) ≡ Some (record { text = text; address = address }) }
+{
+    named_address();
 }
 
 /// An IPv4 text before a `:` and one to five digits is found.

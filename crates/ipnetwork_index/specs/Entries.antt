@@ -1,0 +1,22 @@
+-- Entries of a list: networks with values. Of those with the same block the last counts.
+use Rattle.std.specs.Prelude.{◌≡◌, ℕ, List, ◌∷◌, ◌++◌, MatchOption}
+use Rattle.std.specs.FinMap.{FinMap, get}
+use Rattle.std.specs.List.{Contains}
+use Rattle.ipnetwork_family.specs.Network.{Network, block_of, network_cmp}
+
+-- no entry has this block
+abbrev pub NoneHasBlock : {V : Type 0} → ℕ → Network → List (Network × V) → Type 0
+NoneHasBlock {V} w block entries = (entry : Network × V) → Contains entries entry → ¬ (block_of w entry.0 ≡ block)
+
+-- this is the value of the last entry with the block
+pub record IsLastValue {V : Type 0} (w : ℕ) (block : Network) (entries : List (Network × V)) (value : V) : Type 0 where
+  pub before : List (Network × V)
+  pub network : Network
+  pub behind : List (Network × V)
+  pub entries_are : entries ≡ before ++ (network, value) ∷ behind
+  pub has_block : block_of w network ≡ block
+  pub is_last : NoneHasBlock w block behind
+
+-- the keys of a table are the blocks of the entries, and each has the value of its last entry
+abbrev pub HasLastValues : {V : Type 0} → ℕ → List (Network × V) → FinMap network_cmp V → Type 0
+HasLastValues w entries table = (block : Network) → MatchOption (get table block) (NoneHasBlock w block entries) (IsLastValue w block entries)
