@@ -1,5 +1,5 @@
 -- Texts at which a misreading of the definitions would show. Each of these computes.
-use Rattle.std.proofs.Common.{◌≡◌, List, [], ◌∷◌, refl}
+use Rattle.std.proofs.Common.{◌≡◌, ℕ, List, [], ◌∷◌, ◌++◌, refl}
 use Rattle.std.specs.Prelude.{codes, map}
 use Rattle.std.specs.Fmt.{digits}
 use Rattle.ipnetwork_addr.specs.Computed.Ipv6Text.{v6_of, gap_below}
@@ -12,8 +12,12 @@ use Rattle.line_addresses.specs.Words.{words_of}
 abbrev ten : List Spelled
 ten = record { text = codes "10.1.1.1"; address = V4 0x0a010101 } ∷ []
 
-pub shapes : map addresses_of (codes "10.1.1.1:51234" ∷ codes "[10.1.1.1]" ∷ codes "SRC=10.1.1.1 x" ∷ codes "10.1.1.1," ∷ codes "to 10.1.1.1." ∷ codes "10.1.1.1: no" ∷ [])
-    ≡ ten ∷ ten ∷ ten ∷ ten ∷ ten ∷ ten ∷ []
+-- in quotation marks
+abbrev quoted : List ℕ
+quoted = 34 ∷ codes "10.1.1.1" ++ 34 ∷ []
+
+pub shapes : map addresses_of (codes "10.1.1.1:51234" ∷ codes "[10.1.1.1]" ∷ quoted ∷ codes "SRC=10.1.1.1 x" ∷ codes "10.1.1.1," ∷ codes "to 10.1.1.1." ∷ codes "10.1.1.1: no" ∷ [])
+    ≡ ten ∷ ten ∷ ten ∷ ten ∷ ten ∷ ten ∷ ten ∷ []
 unfolding address_in before_port address_of digits v6_of gap_below
 shapes = refl
 
