@@ -1,4 +1,5 @@
 pub mod Answering
+pub mod Chains
 pub mod Cutting
 pub mod Edging
 pub mod Eights
