@@ -7,6 +7,7 @@ pub mod Halving
 pub mod Inside
 pub mod LawExamples
 pub mod Lowering
+pub mod PartCounts
 pub mod RangeCounts
 pub mod Searching
 pub mod Starting
