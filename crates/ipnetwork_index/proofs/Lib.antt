@@ -1,4 +1,5 @@
 pub mod Answering
+pub mod Chains
 pub mod Cutting
 pub mod Edging
 pub mod Eights
@@ -7,6 +8,7 @@ pub mod Inside
 pub mod LastValues
 pub mod LawExamples
 pub mod Lowering
+pub mod PartCounts
 pub mod RangeCounts
 pub mod Searching
 pub mod Starting

@@ -1,7 +1,7 @@
 -- What is open tells what a look-up finds.
 use Rattle.std.proofs.Common.{◌≡◌, ◌≢◌, ◌↔◌, Bool, false, IsTrue, true≢false, ℕ, ◌+◌, ◌-◌, ◌<◌, ◌≤◌, List, [], ◌∷◌, ◌++◌, length, get_or, arith, sym, refl, ap, subst, ◌∙◌, ⊎_elim, Option, None, Some, is_some, slice_get, length-append}
 use Rattle.std.specs.List.{Contains}
-use Rattle.std.specs.Option.{unwrap_or, option_map, option_to_list}
+use Rattle.std.specs.Option.{option_map, option_to_list}
 use Rattle.std.specs.FinMap.{FinMap, get, entries}
 use Rattle.std.proofs.lemmas.Bool.{cases_lt, cases_eq}
 use Rattle.std.proofs.lemmas.List.{append-nil, length-map, get_or_append_left, get_or_default, get_or_push}
@@ -13,7 +13,8 @@ use Rattle.ipnetwork_blocks.proofs.LeastLists.{contains_cons, contains_nil}
 use Rattle.ipnetwork_table.specs.Laws.{ListedIsStored, StoredIsListed, EntriesAscend, WiderBlocksFirst}
 use Rattle.ipnetwork_table.specs.Table.{HasOnlyBlocks, IsLongest, NoneHolds, by_pair}
 use Rattle.ipnetwork_index.specs.Private.Answers.{Tells}
-use Rattle.ipnetwork_index.specs.Private.Sweeps.{AreOpen, ArePlaces, NextIsAfter, LastEndsFrom, IsInnermost}
+use Rattle.ipnetwork_index.specs.Private.Sweeps.{AreListed, AreOpen, ArePlaces, KeepsOpen, NextIsAfter, LastEndsFrom, IsInnermost}
+use Rattle.ipnetwork_index.proofs.Chains.{nested_more, same_item}
 use Rattle.ipnetwork_index.proofs.Edging.{some_value}
 use Rattle.ipnetwork_index.proofs.Answering.{told, none_told}
 
@@ -42,20 +43,11 @@ not_less b x y e h =
     ⊎_elim (λ (l : x < y). absurd (true≢false (sym (h.1 l) ∙ e))) (λ (g : y ≤ x). g) (cases_lt x y)
 
 -- numbers that are compared by others
-pub not_after : (u v a b c : ℕ) → v ≤ u → u ≡ a → v ≡ b → b ≡ c → c ≤ a
-not_after u v a b c l p q r = omega arith
-
 pub not_before : (u v a b c : ℕ) → v ≤ u → u ≡ a → a ≡ c → v ≡ b → b ≤ c
 not_before u v a b c l p q r = omega arith
 
 pub is_before : (u v a b c y : ℕ) → u < v → u ≡ a → a ≡ c → v ≡ b → b ≤ y → c < y
 is_before u v a b c y l p q r m = omega arith
-
--- what is read at one place is one thing
-same_item : {A : Type 0} (xs : List A) (i j : ℕ) (a b : A) → i ≡ j → slice_get xs i ≡ Some a
-    → slice_get xs j ≡ Some b → a ≡ b
-same_item xs i j a b e g h =
-    ap (λ o. unwrap_or o a) (sym g ∙ ap (slice_get xs) e ∙ h)
 
 module _ {V : Type 0} (w : ℕ) (es : List (Network × V)) where
   -- ---- the steps of the sweep
@@ -67,6 +59,7 @@ module _ {V : Type 0} (w : ℕ) (es : List (Network × V)) where
     each = λ k l. absurd (omega arith);
     ascending = λ k m l n. absurd (omega arith);
     kept = λ j e l g f. absurd (omega arith);
+    nested = λ k m d e l n q r. absurd (omega arith);
   }
 
   pub open_later : (count x y : ℕ) (opened : List ℕ) → AreOpen w es count x opened → x ≤ y
@@ -77,12 +70,14 @@ module _ {V : Type 0} (w : ℕ) (es : List (Network × V)) where
     each = h.each;
     ascending = h.ascending;
     kept = λ j e k g f. h.kept j e k g (omega arith);
+    nested = h.nested;
   }
 
-  pub opens : (count x : ℕ) (opened : List ℕ) (e : Network × V) → AreOpen w es count x opened
+  opens : (count x : ℕ) (opened : List ℕ) (e : Network × V) → AreListed w es
+      → AreOpen w es count x opened → LastEndsFrom w es (low w e.0) opened
       → slice_get es count ≡ Some e → low w e.0 ≤ x
       → AreOpen w es (count + 1) x (opened ++ count ∷ [])
-  opens count x opened e h g from =
+  opens count x opened e listed h ends g from =
       let size : length (opened ++ count ∷ []) ≡ length opened + 1
       = length-append opened (count ∷ []) in
       let left : (k : ℕ) → k < length opened → get_or (opened ++ count ∷ []) k 0 ≡ get_or opened k 0
@@ -125,7 +120,20 @@ module _ {V : Type 0} (w : ℕ) (es : List (Network × V)) where
             let same : count ≡ j = omega arith in
             subst (λ (i : ℕ). Contains (opened ++ count ∷ []) i) same (Contains-push opened count))
             (cases_lt j count);
+        nested = nested_more w es listed count x opened e h g ends;
       }
+
+  -- the next block begins at `first`, and those that end before that have been closed
+  pub opens_next : (count x first u v : ℕ) (before opened : List ℕ) (e : Network × V)
+      → AreListed w es → AreOpen w es count x before → KeepsOpen w es first before opened
+      → LastEndsFrom w es first opened → slice_get es count ≡ Some e → first ≡ low w e.0 → v ≤ u
+      → u ≡ x → v ≡ first
+      → AreOpen w es (count + 1) x (opened ++ count ∷ [])
+  opens_next count x first u v before opened e listed h keeps ends g begins le p q =
+      let from : first ≤ x = omega arith in
+      opens count x opened e listed (keeps count x from h)
+      (subst (λ (n : ℕ). LastEndsFrom w es n opened) begins ends) g
+      (subst (λ (n : ℕ). n ≤ x) begins from)
 
   pub closes : (count x j : ℕ) (opened rest : List ℕ) (e : Network × V)
       → AreOpen w es count x opened → opened ≡ rest ++ j ∷ [] → slice_get es j ≡ Some e
@@ -158,6 +166,9 @@ module _ {V : Type 0} (w : ℕ) (es : List (Network × V)) where
             (contains_cons j [] i in_last))
             (Contains-append_cases rest (j ∷ []) i (subst (λ (xs : List ℕ). Contains xs i) is
             (h.kept i d l f to)));
+        nested = λ k m d f l n q r. h.nested k m d f l (omega arith)
+            (ap (slice_get es) (left k (omega arith)) ∙ q)
+            (ap (slice_get es) (left m n) ∙ r);
       }
 
 -- ---- the last of the places
@@ -232,6 +243,15 @@ innermost_is {V} es opened j prefix n value top g is =
           ∙ ap (λ i. get_or opened i 0) here in
           (n, ap (slice_get es) (sym place) ∙ g, sym is);
     }
+
+-- the entries of a table are listed
+pub entries_listed : {V : Type 0} (w : ℕ) (t : FinMap network_cmp V) (es : List (Network × V))
+    → HasOnlyBlocks w t → ListedIsStored V → EntriesAscend V → es ≡ entries t → AreListed w es
+entries_listed {V} w t es blocks stored ascend is =
+    subst (λ (fs : List (Network × V)). AreListed w fs) (sym is) (record {
+      blocks = λ i e g. blocks e.0 (ap is_some (stored t i e.0 e.1 g));
+      ascending = λ i j d e g f l. ascend t i j d e g f l;
+    })
 
 -- ---- what is found
 

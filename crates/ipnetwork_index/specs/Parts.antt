@@ -1,6 +1,11 @@
 -- The numbers from one on, in parts of 2 ^ shift numbers each.
 use Rattle.std.specs.Prelude.{ℕ, ◌+◌, ◌*◌, ◌^◌, ◌<◌, ◌≤◌}
 
+-- there are 2 ^ bits parts, at most so many, and more than so many unless there are 2 ^ 20
+pub record HasParts (least most bits : ℕ) : Type 0 where
+  pub more : bits < 20 → least < 2 ^ bits
+  pub within : 2 ^ bits ≤ most
+
 -- x is in this part of those from `base` on, the last of which is `last`: of all numbers, the first
 -- part has those
 -- before it too, and the last part those after it

@@ -124,9 +124,9 @@ impl<N: IndexedNetwork> AddressIndex<N> {
 
     /// The number of ranges that the set cuts the addresses into: each is in it whole or not at
     /// all. There are at most one more than twice the set's blocks (`laws::few_ranges`). The index
-    /// has the last number of each range, of 4 bytes in IPv4 and 16 in IPv6, of which it may keep the
-    /// high half by itself, of 8, and two to four places of 4 bytes for each, but no more than 2^20
-    /// of them.
+    /// has the last number of each range, of 4 bytes in IPv4 and 16 in IPv6, of which it may keep
+    /// the high half by itself, of 8, and places of 4 bytes: two to four for each range, or one to
+    /// two from 2^14 ranges on (`part_bits`), but no more than 2^20 of them.
     ///
     /// ```
     /// let networks = vec![in rt.alloc(); "192.0.2.0/25".parse::<Ipv4Network>()?]?;

@@ -54,7 +54,8 @@ impl<N: IndexedNetwork, V: Copy> Model for RouteIndex<N, V> {
 
 impl<N: IndexedNetwork, V: Copy> RouteIndex<N, V> {
     /// The index over a table. Sorts where its blocks begin and end, and goes over the blocks and
-    /// the ranges between in their order. If memory runs out, the table is dropped.
+    /// the ranges between in their order. At most one block of each prefix length is open at once,
+    /// so no memory is asked for these. If memory runs out, the table is dropped.
     ///
     /// ```
     /// let mut table = PrefixTable::new(rt.alloc());
@@ -163,11 +164,12 @@ impl<N: IndexedNetwork, V: Copy> RouteIndex<N, V> {
 
     /// The number of ranges that the table's blocks cut the addresses into, where one begins or ends:
     /// what a look-up finds is the same for all addresses of one. There are at most one more than
-    /// twice the blocks (`laws::few_routed_ranges`). Beside what an `AddressIndex` has of so many
-    /// ranges, the index has the table, and of each range a byte and a value. From 2^17 ranges on
-    /// it has fewer places of 4 bytes: at most one for each range, and no more than 2^20 + 1. In
-    /// IPv4 it then has of each range 2 bytes in place of 4, if all but a 32nd of them reach over a
-    /// fourth of the addresses, and one place for two to eight ranges, or more from 2^23 ranges on.
+    /// twice the blocks (`laws::few_routed_ranges`). Beside the last numbers of the ranges, as an
+    /// `AddressIndex` has them, the index has the table, and of each range a byte and a value. It
+    /// has two to four places of 4 bytes for each range, or at most one from 2^16 ranges on, but no
+    /// more than 2^20. From 2^17 IPv4 ranges on it has of each range 2 bytes in place of 4, if all
+    /// but a 32nd of them reach over a fourth of the addresses, and one place for two to eight
+    /// ranges, or more from 2^23 ranges on, but no more than 2^20 and one.
     ///
     /// ```
     /// let mut table = PrefixTable::new(rt.alloc());

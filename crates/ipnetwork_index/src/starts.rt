@@ -1,17 +1,20 @@
 //! Where the search for a number begins.
-ghost use Rattle.std.specs.Prelude.{◌<◌, ◌≤◌, length, map};
+ghost use Rattle.std.specs.Prelude.{◌*◌, ◌/◌, ◌^◌, ◌<◌, ◌≤◌, length, map};
+ghost use Rattle.ipnetwork_index.specs.Parts.{HasParts};
 ghost use Rattle.ipnetwork_index.specs.Searches.{IsStart, AreStarts};
 
 use crate::key::Key;
 
 /// How many parts an index has for so many ranges, as a power of two: two to four for each range, one
-/// or two from 2^14 ranges on, and at most 2^20.
+/// to two from 2^14 ranges on, and at most 2^20.
 ///
 /// ```
 /// assert_eq!(rt; part_bits(1000), 11);
 /// ```
 pub fn part_bits(ranges: usize) -> u32
-    ensures { result ≤ 20 }
+    ensures most { result ≤ 20 }
+    ensures few { 1 ≤ ranges → ranges < 2 ^ 14 → HasParts (2 * ranges) (4 * ranges) result }
+    ensures many { 2 ^ 14 ≤ ranges → HasParts ranges (2 * ranges) result }
 {
     let bits = usize::BITS - ranges.leading_zeros();
     if bits < 15 {
@@ -23,7 +26,9 @@ pub fn part_bits(ranges: usize) -> u32
 // The same, for the index of a table, which is small if it has many ranges: from 2^16 of them on
 // it has one part for one or two of them.
 pub(crate) fn route_bits(ranges: usize) -> u32
-    ensures { result ≤ 20 }
+    ensures most { result ≤ 20 }
+    ensures few { 1 ≤ ranges → ranges < 2 ^ 16 → HasParts (2 * ranges) (4 * ranges) result }
+    ensures many { 2 ^ 16 ≤ ranges → HasParts (ranges / 2) ranges result }
 {
     let bits = usize::BITS - ranges.leading_zeros();
     if bits < 17 {
@@ -35,7 +40,10 @@ pub(crate) fn route_bits(ranges: usize) -> u32
 // How large the parts are, as a power of two, in which numbers of 32 bits that end ranges are known
 // by their low halves: from 2^17 ranges on a part has two to eight of them, up to 2^23.
 pub(crate) fn low_shift(ranges: usize) -> u32
-    ensures { result ≤ 16 }
+    ensures least { 12 ≤ result }
+    ensures most { result ≤ 16 }
+    ensures two { 2 ^ 17 ≤ ranges → 2 * 2 ^ 32 ≤ 2 ^ result * ranges }
+    ensures eight { ranges < 2 ^ 23 → 2 ^ result * ranges < 8 * 2 ^ 32 }
 {
     let bits = usize::BITS - ranges.leading_zeros();
     35u32.saturating_sub(bits).max(12).min(16)

@@ -1,16 +1,21 @@
 //! What a table finds in ranges, by one sweep over its blocks in their order. Those that are open
 //! are on a stack: the sweep has come to their first address, and not past their last one. Each is
-//! within the one below it, so that the last of them is the longest.
-ghost use Rattle.std.specs.Prelude.{◌≡◌, ◌<◌, ◌≤◌, IfOk, length, map};
+//! within the one below it and longer, so that the last of them is the longest, and there is at
+//! most one of each prefix length.
+ghost use Rattle.std.specs.Prelude.{◌≡◌, ◌+◌, ◌<◌, ◌≤◌, IfOk, length, map};
 ghost use Rattle.ipnetwork_table.specs.Table.{by_pair};
 ghost use Rattle.ipnetwork_index.specs.Private.Partitions.{IsPartition};
-ghost use Rattle.ipnetwork_index.specs.Private.Sweeps.{AreOpen, ArePlaces, AreSwept, IsInnermost, KeepsOpen, LastEndsFrom, NextIsAfter};
+ghost use Rattle.ipnetwork_index.specs.Private.Sweeps.{AreListed, AreOpen, ArePlaces, AreSwept, IsInnermost, KeepsOpen, LastEndsFrom, NextIsAfter};
 
 use crate::answers::{Answers, NO_BLOCK};
 use crate::indexed_network::IndexedNetwork;
 use crate::key::Key;
+use arrayvec::ArrayVec;
 use ipnetwork_table::laws;
 use std::alloc::{AllocError, Global};
+
+// How many blocks are open at once, at most: one of each prefix length from 0 to 128.
+const MOST_OPEN: usize = 129;
 
 /// What a table with these entries, at least one, finds for the last address of each range.
 pub(crate) fn answers_by_sweep<N: IndexedNetwork, V: Copy>(
@@ -19,6 +24,7 @@ pub(crate) fn answers_by_sweep<N: IndexedNetwork, V: Copy>(
     lasts: &[N::Addr],
 ) -> Result<Answers<V>, AllocError>
     requires some { 1 ≤ length entries.now }
+    requires listed { AreListed N.WIDTH (by_pair N.pair entries.now) }
     requires partition { IsPartition N.WIDTH (map N.number lasts.now) }
     ensures { IfOk result (λ answers. AreSwept N.WIDTH (by_pair N.pair entries.now)
         (map N.number lasts.now) answers.prefixes.items answers.values.items (length lasts.now)) }
@@ -26,10 +32,10 @@ pub(crate) fn answers_by_sweep<N: IndexedNetwork, V: Copy>(
     laws::listing::<V>();
     let mut prefixes = Vec::with_capacity(alloc, lasts.len())?;
     let mut values = Vec::with_capacity(alloc, lasts.len())?;
-    let mut opened = Vec::new(alloc);
+    let mut opened = ArrayVec::<usize, MOST_OPEN>::new();
     let mut count = 0;
     for last in lasts {
-        count = open_up_to(entries, count, &mut opened, *last)?;
+        count = open_up_to(entries, count, &mut opened, *last);
         close_before(entries, &mut opened, *last);
         let (prefix, value) = innermost(entries, opened.as_slice());
         prefixes.push(prefix)?;
@@ -43,32 +49,34 @@ pub(crate) fn answers_by_sweep<N: IndexedNetwork, V: Copy>(
 fn open_up_to<N: IndexedNetwork, V: Copy>(
     entries: &[(N, V)],
     count: usize,
-    opened: &mut Vec<usize>,
+    opened: &mut ArrayVec<usize, MOST_OPEN>,
     addr: N::Addr,
-) -> Result<usize, AllocError>
-    requires { AreOpen N.WIDTH (by_pair N.pair entries.now) count (N.number addr) opened.old.items }
-    ensures begun { IfOk result (λ more.
-        AreOpen N.WIDTH (by_pair N.pair entries.now) more (N.number addr) opened.new.items) }
-    ensures all { IfOk result
-        (λ more. NextIsAfter N.WIDTH (by_pair N.pair entries.now) more (N.number addr)) }
+) -> usize
+    requires listed { AreListed N.WIDTH (by_pair N.pair entries.now) }
+    requires open { AreOpen N.WIDTH (by_pair N.pair entries.now) count (N.number addr)
+        opened.old.items }
+    ensures begun { AreOpen N.WIDTH (by_pair N.pair entries.now) result (N.number addr)
+        opened.new.items }
+    ensures all { NextIsAfter N.WIDTH (by_pair N.pair entries.now) result (N.number addr) }
+    ensures few { length opened.new.items ≤ N.WIDTH + 1 }
 {
     let mut at = count;
     'opening: while at < entries.len() {
         let first = entries[at].0.network();
         if N::number_of(addr).is_less(N::number_of(first)) {
-            return Ok(at);
+            return at;
         }
         close_before(entries, opened, first);
-        opened.push(at)?;
+        opened.push(at);
         at += 1;
     }
-    Ok(at)
+    at
 }
 
 // Closes the last blocks that end before the address.
 fn close_before<N: IndexedNetwork, V: Copy>(
     entries: &[(N, V)],
-    opened: &mut Vec<usize>,
+    opened: &mut ArrayVec<usize, MOST_OPEN>,
     addr: N::Addr,
 )
     requires { ArePlaces (by_pair N.pair entries.now) opened.old.items }
@@ -77,7 +85,7 @@ fn close_before<N: IndexedNetwork, V: Copy>(
     ensures last { LastEndsFrom N.WIDTH (by_pair N.pair entries.now) (N.number addr)
         opened.new.items }
 {
-    'closing: while let Some(place) = opened.last().copied() {
+    'closing: while let Some(place) = opened.as_slice().last().copied() {
         let end = entries[place].0.broadcast();
         if !N::number_of(end).is_less(N::number_of(addr)) {
             return;

@@ -3,12 +3,29 @@ use Rattle.std.specs.Prelude.{◌≡◌, ℕ, ◌+◌, ◌<◌, ◌≤◌, List,
 use Rattle.std.proofs.Common.{get_or}
 use Rattle.std.specs.List.{Contains}
 use Rattle.std.specs.FinMap.{FinMap, entries}
-use Rattle.ipnetwork_family.specs.Network.{Network, low, high, network_cmp}
+use Rattle.ipnetwork_family.specs.Network.{Network, IsCidrBlock, IsNetworkBefore, Subnet, low, high, network_cmp}
 use Rattle.ipnetwork_table.specs.Table.{HasOnlyBlocks}
 use Rattle.ipnetwork_index.specs.Private.Answers.{AreAnswersUpTo}
 
+-- the entries of a table: each has a block, and they stand in the order of networks
+pub record AreListed {V : Type 0} (w : ℕ) (es : List (Network × V)) : Type 0 where
+  pub blocks : (i : ℕ) (e : Network × V) → slice_get es i ≡ Some e → IsCidrBlock w e.0
+  pub ascending : (i j : ℕ) (d e : Network × V) → slice_get es i ≡ Some d
+      → slice_get es j ≡ Some e → i < j → IsNetworkBefore d.0 e.0
+
+-- the second network lies in the first and is longer
+pub record IsLongerWithin (w : ℕ) (outer inner : Network) : Type 0 where
+  pub longer : outer.prefix < inner.prefix
+  pub within : Subnet w inner outer
+
+-- each of the blocks at these places lies in those before it and is longer
+abbrev pub AreNested : {V : Type 0} → ℕ → List (Network × V) → List ℕ → Type 0
+AreNested {V} w es opened = (k m : ℕ) (d e : Network × V) → k < m → m < length opened
+    → slice_get es (get_or opened k 0) ≡ Some d → slice_get es (get_or opened m 0) ≡ Some e
+    → IsLongerWithin w d.0 e.0
+
 -- the sweep has come to x, and the first `count` blocks begin there or before. Those of them that
--- end there or later are at the places of `opened`, which ascend
+-- end there or later are at the places of `opened`, which ascend, and the blocks there are nested
 pub record AreOpen {V : Type 0} (w : ℕ) (es : List (Network × V)) (count x : ℕ) (opened : List ℕ)
     : Type 0 where
   pub within : count ≤ length es
@@ -18,6 +35,7 @@ pub record AreOpen {V : Type 0} (w : ℕ) (es : List (Network × V)) (count x : 
       → get_or opened k 0 < get_or opened m 0
   pub kept : (j : ℕ) (e : Network × V) → j < count → slice_get es j ≡ Some e → x ≤ high w e.0
       → Contains opened j
+  pub nested : AreNested w es opened
 
 -- the block after the first `count` begins after x, if there is one
 abbrev pub NextIsAfter : {V : Type 0} → ℕ → List (Network × V) → ℕ → ℕ → Type 0

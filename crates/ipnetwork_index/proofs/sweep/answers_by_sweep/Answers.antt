@@ -8,8 +8,8 @@ use Rattle.ipnetwork_index.proofs.Searching.{read_number}
 use Rattle.ipnetwork_index.proofs.Sweeping.{open_later, open_places, swept_tells}
 use Rattle.ipnetwork_index.proofs.sweep.answers_by_sweep.Goals as goal
 
-pub open_up_to-requires : goal.open_up_to-requires
-open_up_to-requires g c =
+pub open_up_to-count-requires-clause-open : goal.open_up_to-count-requires-clause-open
+open_up_to-count-requires-clause-open g c =
     let f = g.N.CidrNetwork.number in
     let lasts : List ℕ = map f c.args.lasts.now in
     let at : ℕ = c.loop-last.last-index in
@@ -27,8 +27,8 @@ innermost-prefix-requires-clause-places g c =
     let es = by_pair g.N.CidrNetwork.pair c.args.entries.now in
     let x : ℕ = g.N.CidrNetwork.number c.last-item.result in
     rw c.as_slice.ensures.value
-    (open_places w es c.in_ok-count.count x c.close_before.new.opened.items
-    (c.close_before.ensures.kept c.in_ok-count.count x (omega arith) c.in_ok-count.ensures.begun))
+    (open_places w es c.open_up_to-count.result x c.close_before.new.opened.items
+    (c.close_before.ensures.kept c.open_up_to-count.result x (omega arith) c.open_up_to-count.ensures.begun))
 
 pub loop-last-preserved : goal.loop-last-preserved
 loop-last-preserved g c =
@@ -38,13 +38,13 @@ loop-last-preserved g c =
     let lasts : List ℕ = map f c.args.lasts.now in
     let at : ℕ = c.loop-last.last-index in
     let x : ℕ = f c.last-item.result in
-    let count : ℕ = c.in_ok-count.count in
+    let count : ℕ = c.open_up_to-count.result in
     let opened = c.close_before.new.opened.items in
     let here : get_or lasts at 0 ≡ x
     = read_number f c.args.lasts.now at c.last-item.result (omega (arith, c.loop-last-test.true))
     c.last-item.is in
     let now : AreOpen w es count x opened
-    = c.close_before.ensures.kept count x (omega arith) c.in_ok-count.ensures.begun in
+    = c.close_before.ensures.kept count x (omega arith) c.open_up_to-count.ensures.begun in
     record {
       from = λ y h. open_later w es count x y opened now
           (let a = h at (omega arith) in omega (arith, a, here));
@@ -55,7 +55,7 @@ loop-last-preserved g c =
           (rw here (swept_tells w t es blocks c.listing.ensures.stored c.listing.ensures.listed
           c.listing.ensures.ascending c.listing.ensures.wider_first is g.met.N.AddressSpace.few_bits
           count x opened c.innermost-prefix.result.0 c.innermost-prefix.result.1 now
-          c.in_ok-count.ensures.all c.close_before.ensures.last
+          c.open_up_to-count.ensures.all c.close_before.ensures.last
           (rw c.as_slice.ensures.value at c.innermost-prefix.ensures))));
     }
 

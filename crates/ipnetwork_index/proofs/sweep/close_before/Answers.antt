@@ -11,7 +11,7 @@ bounds-entries-place g c =
     let items = c.closing.opened.items in
     let place : ℕ = c.in-Some.place in
     let top : slice_get items (length items - 1) ≡ Some place
-    = top_read items c.deref.result.now c.copied.result _ place c.deref.ensures.value
+    = top_read items c.as_slice.result.now c.copied.result _ place c.as_slice.ensures.value
     c.last.ensures.value c.copied.ensures c.in-Some.is in
     let inside : place < length es = last_within es items place c.closing.invariant.places top in
     omega (arith, inside, entries_length pair c.args.entries.now)
@@ -25,7 +25,7 @@ closing-preserved g c =
     let place : ℕ = c.in-Some.place in
     let e = c.index-entries-place.result in
     let top : slice_get items (length items - 1) ≡ Some place
-    = top_read items c.deref.result.now c.copied.result _ place c.deref.ensures.value
+    = top_read items c.as_slice.result.now c.copied.result _ place c.as_slice.ensures.value
     c.last.ensures.value c.copied.ensures c.in-Some.is in
     let inside : place < length es = last_within es items place c.closing.invariant.places top in
     let own : place < length c.args.entries.now
@@ -57,7 +57,7 @@ returns-then-not-is_less-clause-last g c =
     let place : ℕ = c.in-Some.place in
     let e = c.index-entries-place.result in
     let top : slice_get items (length items - 1) ≡ Some place
-    = top_read items c.deref.result.now c.copied.result _ place c.deref.ensures.value
+    = top_read items c.as_slice.result.now c.copied.result _ place c.as_slice.ensures.value
     c.last.ensures.value c.copied.ensures c.in-Some.is in
     let inside : place < length es = last_within es items place c.closing.invariant.places top in
     let own : place < length c.args.entries.now

@@ -1,0 +1,122 @@
+-- How many parts there are for so many ranges.
+use Rattle.std.proofs.Common.{◌≡◌, ℕ, suc, ◌+◌, ◌-◌, ◌*◌, ◌/◌, ◌^◌, ◌<◌, ◌≤◌, arith, sym, subst, ⊎_elim, min}
+use Rattle.std.specs.Int.Count.{count_leading_zeros}
+use Rattle.std.proofs.lemmas.Bool.{cases_lt}
+use Rattle.std.proofs.lemmas.Nat.{leading_top, mul-le, pow-add, pow_pos}
+use Rattle.std.proofs.Math.Nat.{mul-suc, mul-zero, pow-le-pow_right, two-pow-succ}
+use Rattle.ipnetwork_index.specs.Parts.{HasParts}
+
+-- a number from 1 on has so many bits
+pub record HasBits (n bits : ℕ) : Type 0 where
+  pub some : 1 ≤ bits
+  pub from : 2 ^ bits ≤ 2 * n
+  pub to : n < 2 ^ bits
+
+pub has_bits : (n : ℕ) → 1 ≤ n → n < 2 ^ 64 → HasBits n (64 - count_leading_zeros 64 n)
+has_bits n l m =
+    let top = leading_top 64 n l m in
+    let j : ℕ = top.0 in
+    let is : 64 - count_leading_zeros 64 n ≡ suc j = omega (arith, top.1) in
+    subst (λ (k : ℕ). HasBits n k) (sym is) (record {
+      some = omega arith;
+      from = omega (arith, two-pow-succ j, top.2);
+      to = top.3;
+    })
+
+-- a number below 2 ^ k has at most k bits, and one from there on has more
+pub few_bits : (n bits k : ℕ) → HasBits n bits → n < 2 ^ k → bits ≤ k
+few_bits n bits k h l = ⊎_elim
+    (λ (more : k < bits).
+    let p : 2 ^ (suc k) ≤ 2 ^ bits = pow-le-pow_right (omega arith) (omega arith) in
+    absurd (omega (arith, p, two-pow-succ k, h.from)))
+    (λ (le : bits ≤ k). le)
+    (cases_lt k bits)
+
+pub many_bits : (n bits k : ℕ) → HasBits n bits → 2 ^ k ≤ n → k < bits
+many_bits n bits k h l = ⊎_elim
+    (λ (more : k < bits). more)
+    (λ (le : bits ≤ k).
+    let p : 2 ^ bits ≤ 2 ^ k = pow-le-pow_right (omega arith) le in
+    absurd (omega (arith, p, h.to)))
+    (cases_lt k bits)
+
+-- ---- the parts
+
+pub two_to_four : (n bits : ℕ) → HasBits n bits → HasParts (2 * n) (4 * n) (bits + 1)
+two_to_four n bits h =
+    let is : suc bits ≡ bits + 1 = omega arith in
+    let twice : 2 ^ (bits + 1) ≡ 2 ^ bits + 2 ^ bits
+    = subst (λ (k : ℕ). 2 ^ k ≡ 2 ^ bits + 2 ^ bits) is (two-pow-succ bits) in
+    record {
+      more = λ l. omega (arith, twice, h.to);
+      within = omega (arith, twice, h.from);
+    }
+
+pub one_to_two : (n bits : ℕ) → HasBits n bits → HasParts n (2 * n) (min bits 20)
+one_to_two n bits h = ⊎_elim
+    (λ (less : bits < 20).
+    let is : bits ≡ min bits 20 = omega arith in
+    subst (λ (k : ℕ). HasParts n (2 * n) k) is (record {
+      more = λ l. h.to;
+      within = h.from;
+    }))
+    (λ (most : 20 ≤ bits).
+    let p : 2 ^ 20 ≤ 2 ^ bits = pow-le-pow_right (omega arith) most in
+    let is : 20 ≡ min bits 20 = omega arith in
+    subst (λ (k : ℕ). HasParts n (2 * n) k) is (record {
+      more = λ (l : 20 < 20). absurd (omega arith);
+      within = omega (arith, p, h.from);
+    }))
+    (cases_lt bits 20)
+
+pub half_to_one : (n bits : ℕ) → HasBits n bits → HasParts (n / 2) n (min (bits - 1) 20)
+half_to_one n bits h =
+    let j : ℕ = bits - 1 in
+    let is : suc j ≡ bits = omega (arith, h.some) in
+    let twice : 2 ^ bits ≡ 2 ^ j + 2 ^ j
+    = subst (λ (k : ℕ). 2 ^ k ≡ 2 ^ j + 2 ^ j) is (two-pow-succ j) in
+    ⊎_elim
+    (λ (less : j < 20).
+    let same : j ≡ min (bits - 1) 20 = omega arith in
+    subst (λ (k : ℕ). HasParts (n / 2) n k) same (record {
+      more = λ l. omega (arith, twice, h.to);
+      within = omega (arith, twice, h.from);
+    }))
+    (λ (most : 20 ≤ j).
+    let p : 2 ^ 20 ≤ 2 ^ j = pow-le-pow_right (omega arith) most in
+    let same : 20 ≡ min (bits - 1) 20 = omega arith in
+    subst (λ (k : ℕ). HasParts (n / 2) n k) same (record {
+      more = λ (l : 20 < 20). absurd (omega arith);
+      within = omega (arith, p, twice, h.from);
+    }))
+    (cases_lt j 20)
+
+-- ---- the numbers of 32 bits in one of them
+
+pub two_in_each : (n bits shift : ℕ) → HasBits n bits → 34 ≤ shift + bits
+    → 2 * 2 ^ 32 ≤ 2 ^ shift * n
+two_in_each n bits shift h l =
+    let j : ℕ = bits - 1 in
+    let is : suc j ≡ bits = omega (arith, h.some) in
+    let twice : 2 ^ bits ≡ 2 ^ j + 2 ^ j
+    = subst (λ (k : ℕ). 2 ^ k ≡ 2 ^ j + 2 ^ j) is (two-pow-succ j) in
+    let wide : 33 ≤ shift + j = omega (arith, is, l) in
+    let low : 2 ^ 33 ≤ 2 ^ (shift + j) = pow-le-pow_right (omega arith) wide in
+    let all : 2 ^ shift * 2 ^ j ≤ 2 ^ shift * n
+    = mul-le (2 ^ shift) (2 ^ j) (2 ^ shift) n (omega arith) (omega (arith, twice, h.from)) in
+    let both = pow-add 2 shift j in
+    omega (arith, low, both, all)
+
+pub eight_in_each : (n bits shift : ℕ) → HasBits n bits → shift + bits ≤ 35
+    → 2 ^ shift * n < 8 * 2 ^ 32
+eight_in_each n bits shift h l =
+    let high : 2 ^ (shift + bits) ≤ 2 ^ 35 = pow-le-pow_right (omega arith) l in
+    let all : 2 ^ shift * suc n ≤ 2 ^ shift * 2 ^ bits
+    = mul-le (2 ^ shift) (suc n) (2 ^ shift) (2 ^ bits) (omega arith) (omega (arith, h.to)) in
+    let both = pow-add 2 shift bits in
+    omega (arith, high, all, both, mul-suc (2 ^ shift) n, pow_pos shift)
+
+pub eight_of_none : (n shift : ℕ) → n ≤ 0 → 2 ^ shift * n < 8 * 2 ^ 32
+eight_of_none n shift l =
+    let none : 0 ≡ n = omega arith in
+    subst (λ (k : ℕ). 2 ^ shift * k < 8 * 2 ^ 32) none (omega (arith, mul-zero (2 ^ shift)))
