@@ -35,6 +35,14 @@ pub extern "C" fn ipnetwork_read_with_cause(text: &[u8], network: &mut IpInC) ->
         *network = IpInC::of_v6(&read);
         return OK;
     }
+    read_either(text, network)
+}
+
+/// The same of any text. It stands apart, so that what it needs costs the other texts of a column nothing.
+#[inline(never)]
+fn read_either(text: &[u8], network: &mut IpInC) -> u32
+    ensures { ReadsInto ReadsWithCause HoldsIp text.now network.old network.new result }
+{
     match IpNetwork::read_bytes(text) {
         Ok(read) => {
             *network = IpInC::of(&read);
