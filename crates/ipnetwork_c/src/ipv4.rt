@@ -111,11 +111,13 @@ pub extern "C" fn ipnetwork_v4_broadcast(network: &Ipv4InC, address: &mut [u8; 4
         (Writes (λ octets. octets ≡ octets_of (high 32 (v4_in network.now)))) address.old
         address.new result }
 {
-    if network.prefix > 32 {
-        return PREFIX;
+    match network.network() {
+        Some(network) => {
+            *address = network.broadcast().octets();
+            OK
+        }
+        None => PREFIX,
     }
-    *address = network.greatest().octets();
-    OK
 }
 
 /// The mask: as many ones at the front as the prefix length says, and zeros after them. `PREFIX` if the prefix length

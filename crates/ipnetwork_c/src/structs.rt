@@ -1,7 +1,7 @@
 //! The structs of the header, and the networks that they stand for.
 ghost use Rattle.std.specs.Prelude.{◌≡◌, ◌↔◌, IsTrue, MatchOption};
 ghost use Rattle.ipnetwork_addr.specs.Digits.{octets_of_v6};
-ghost use Rattle.ipnetwork_family.specs.Network.{Member, high};
+ghost use Rattle.ipnetwork_family.specs.Network.{Member};
 ghost use Rattle.std.specs.Option.{SomeIff};
 ghost use Rattle.ipnetwork_c.specs.Held.{v4_in, v6_in, PrefixFits, HoldsV4, HoldsV6, number_of_octets};
 ghost use Rattle.ipnetwork_c.specs.Either.{HoldsIp};
@@ -37,17 +37,6 @@ impl Ipv4InC {
         ensures { SomeIff result (PrefixFits 32 (v4_in self.now)) (v4_in self.now) }
     {
         Ipv4Network::new_checked(Ipv4Addr::from(self.address), self.prefix)
-    }
-
-    /// The greatest member, of a struct whose prefix length was checked.
-    pub(crate) fn greatest(&self) -> Ipv4Addr
-        requires { PrefixFits 32 (v4_in self.now) }
-        ensures { result ≡ high 32 (v4_in self.now) }
-    {
-        match self.network() {
-            Some(network) => network.broadcast(),
-            None => unreachable!(),
-        }
     }
 
     /// Whether an address of 4 octets lies in the network's set, of a struct whose prefix length was checked.
