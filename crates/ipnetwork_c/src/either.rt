@@ -39,7 +39,8 @@ pub extern "C" fn ipnetwork_read_with_cause(text: &[u8], network: &mut IpInC) ->
     read_any(text, network)
 }
 
-/// The same of any text. It stands apart, so that what it needs costs the other texts of a column nothing.
+/// The same of any text. It stands apart, so that what it needs costs the other texts of a column
+/// nothing.
 #[inline(never)]
 fn read_any(text: &[u8], network: &mut IpInC) -> u32
     ensures { ReadsInto ReadsWithCause HoldsIp text.now network.old network.new result }
@@ -60,8 +61,8 @@ fn read_any(text: &[u8], network: &mut IpInC) -> u32
     }
 }
 
-/// The IPv6 network that a text names, if `slash_before_two` finds its `/`: most texts are so, and read in few steps.
-/// `None` says nothing.
+/// The IPv6 network that a text names, if `slash_before_two` finds its `/`: most texts are so, and
+/// read in few steps. `None` says nothing.
 #[inline(always)]
 fn v6_before_two_digits(text: &[u8]) -> Option<Ipv6Network>
     ensures { IfSome result (NamesV6Network text.now) }

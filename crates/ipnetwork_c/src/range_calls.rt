@@ -72,7 +72,8 @@ pub(crate) fn place_near<N: AddressSpace, H: Guessed<N>>(
     }
 }
 
-// The same where the guess is none. It stands apart, so that what it needs costs the others nothing.
+// The same where the guess is none. It stands apart, so that what it needs costs the others
+// nothing.
 #[inline(never)]
 fn place_by_halves<N: AddressSpace, H: Guessed<N>>(
     ranges: &[H],
