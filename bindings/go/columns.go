@@ -6,6 +6,7 @@ package ipnetwork
 import "C"
 
 import (
+	"bytes"
 	"net/netip"
 	"unsafe"
 )
@@ -47,7 +48,11 @@ func ReadColumn(texts []byte, offsets []uint32, networks []Network, faults []byt
 	if err := readInto(texts, offsets, networks, faults); err != nil {
 		return err
 	}
-	for row, fault := range faults[:rowsOf(offsets)] {
+	told := faults[:rowsOf(offsets)]
+	if bytes.Count(told, []byte{C.IPNETWORK_OK}) == len(told) {
+		return nil
+	}
+	for row, fault := range told {
 		if fault != C.IPNETWORK_OK {
 			networks[row] = Network{}
 		}

@@ -510,8 +510,10 @@ fn result(number: u32) -> Result<(), Fault> {
 
 /// Panics if a call about a network returns a fault. No call does, since a network of this crate has a prefix length of
 /// its family: a fault would be an error of the library that is linked.
+#[inline]
 fn answered(number: u32) {
-    assert_eq!(number, OK, "a question about a network has no fault");
+    // Not `assert_eq`: to print the fault, each caller would keep it in memory.
+    assert!(number == OK, "a question about a network has no fault");
 }
 
 /// How many numbers the index of so many blocks should have: four for each block, and at most 2^20. With fewer a search is

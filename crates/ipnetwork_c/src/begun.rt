@@ -19,29 +19,11 @@ pub(crate) fn begun<N: AddressSpace, H: Guessed<N>>(
     ensures within { result ≤ length list.now }
     ensures stands { StandsAt (map H.held list.now) (H.value number) result }
 {
-    begun_near::<N, H>(
-        list,
-        index,
-        number,
-        guess_by_last::<N, H>(list, index, number),
-    )
-}
-
-/// The same, with a guess of the result, which is it mostly.
-#[inline(always)]
-pub(crate) fn begun_near<N: AddressSpace, H: Guessed<N>>(
-    list: &[H],
-    index: &[u32],
-    number: H::Number,
-    guess: usize,
-) -> usize
-    ensures within { result ≤ length list.now }
-    ensures stands { StandsAt (map H.held list.now) (H.value number) result }
-{
-    if let Some(count) = begun_at_once::<N, H>(list, number, guess) {
-        return count;
+    let guess = guess_by_last::<N, H>(list, index, number);
+    match begun_at_once::<N, H>(list, number, guess) {
+        Some(count) => count,
+        None => begun_by_halves::<N, H>(list, index, number),
     }
-    begun_by_halves::<N, H>(list, index, number)
 }
 
 /// A guess of how many begin up to the number, by the last struct of its part: for lists of which a
@@ -160,7 +142,7 @@ fn part_of<N: AddressSpace, H: Numbered<N>>(list: &[H], index: &[u32], number: H
     ensures { result < length index.now }
 {
     let first = list[0];
-    let part = H::part_of(number, first.own_number(), index[0].min(H::half()));
+    let part = H::part_of(number, first.own_number(), index[0] & H::half());
     part.min(index.len() - 1)
 }
 
@@ -209,7 +191,7 @@ fn next_is_after<N: AddressSpace, H: Numbered<N>>(
     requires { place ≤ length list.now }
     ensures { IsTrue result ↔ NextAfter (map H.held list.now) (H.value number) place }
 {
-    if place == list.len() {
+    if place >= list.len() {
         return true;
     }
     !begins_up_to::<N, H>(list[place], number)
@@ -225,10 +207,11 @@ fn last_is_up_to<N: AddressSpace, H: Numbered<N>>(
     requires { place ≤ length list.now }
     ensures { IsTrue result ↔ LastUpTo (map H.held list.now) (H.value number) place }
 {
-    if place == 0 {
+    let last = place.wrapping_sub(1);
+    if last >= list.len() {
         return true;
     }
-    begins_up_to::<N, H>(list[place - 1], number)
+    begins_up_to::<N, H>(list[last], number)
 }
 
 // The start, or the end of the list if that comes first, unless the struct before begins after the

@@ -6,7 +6,7 @@ ghost use Rattle.ipnetwork_c.specs.Ranges.{RangeQuery, no_place, place_before};
 ghost use Rattle.ipnetwork_c.specs.Numbers.{no_member};
 ghost use Rattle.ipnetwork_c.specs.Outcomes.{IsFault, Unless, Writes};
 
-use crate::begun::{begun_near, guess_by_three};
+use crate::begun::{begun_at_once, begun_by_halves, guess_by_three};
 use crate::fault::{NO_MEMBER, OK};
 use crate::guessed::Guessed;
 use crate::range_making::NO_PLACE;
@@ -66,7 +66,25 @@ pub(crate) fn place_near<N: AddressSpace, H: Guessed<N>>(
 ) -> u32
     ensures { RangeQuery H.held ranges.now places.now (H.value number) place.old place.new result }
 {
-    let count = begun_near::<N, H>(ranges, index, number, guess);
+    match begun_at_once::<N, H>(ranges, number, guess) {
+        Some(count) => put_found(found_before(places, count), place),
+        None => place_by_halves::<N, H>(ranges, places, index, number, place),
+    }
+}
+
+// The same where the guess is none. It stands apart, so that what it needs costs the others
+// nothing.
+#[inline(never)]
+fn place_by_halves<N: AddressSpace, H: Guessed<N>>(
+    ranges: &[H],
+    places: &[usize],
+    index: &[u32],
+    number: H::Number,
+    place: &mut usize,
+) -> u32
+    ensures { RangeQuery H.held ranges.now places.now (H.value number) place.old place.new result }
+{
+    let count = begun_by_halves::<N, H>(ranges, index, number);
     put_found(found_before(places, count), place)
 }
 
@@ -75,10 +93,11 @@ pub(crate) fn place_near<N: AddressSpace, H: Guessed<N>>(
 fn found_before(places: &[usize], count: usize) -> usize
     ensures { result ≡ place_before places.now count }
 {
-    if count == 0 || count > places.len() {
+    let row = count.wrapping_sub(1);
+    if row >= places.len() {
         return NO_PLACE;
     }
-    places[count - 1]
+    places[row]
 }
 
 // Puts what was found, unless it is the place of no block.

@@ -1,6 +1,6 @@
 //! The structs of the header, and the networks that they stand for.
-ghost use Rattle.std.specs.Prelude.{◌≡◌, ◌↔◌, ◌++◌, IsTrue, MatchOption};
-ghost use Rattle.ipnetwork_addr.specs.Digits.{digits_in, octets_of_v6};
+ghost use Rattle.std.specs.Prelude.{◌≡◌, ◌↔◌, IsTrue, MatchOption};
+ghost use Rattle.ipnetwork_addr.specs.Digits.{octets_of_v6};
 ghost use Rattle.ipnetwork_family.specs.Network.{Member};
 ghost use Rattle.std.specs.Option.{SomeIff};
 ghost use Rattle.ipnetwork_c.specs.Held.{v4_in, v6_in, PrefixFits, HoldsV4, HoldsV6, number_of_octets};
@@ -9,6 +9,7 @@ ghost use Rattle.ipnetwork_c.specs.Private.Structs.{HeldNetwork};
 
 use crate::fault::{NO_FAMILY, PREFIX};
 use ipnetwork::{IpNetwork, Ipv4Addr, Ipv4Network, Ipv6Addr, Ipv6Network};
+use std::simd::prelude::*;
 
 /// An IPv4 network as C holds it. Nothing is known of its prefix length.
 #[repr(C)]
@@ -217,35 +218,14 @@ pub(crate) fn number_of_four(octets: &[u8; 4]) -> u32
     u32::from_be_bytes(*octets)
 }
 
-/// The 16 octets of an address.
+/// The 16 octets of an address, as one vector: so they are stored at once, and else one by one.
 #[inline(always)]
 fn octets_of(address: Ipv6Addr) -> [u8; 16]
     ensures { result ≡ octets_of_v6 address }
 {
     let number = u128::from(address);
-    let high = octets_of_half((number >> 64) as u64);
-    let low = octets_of_half((number % (1 << 64)) as u64);
-    joined(&high, &low)
-}
-
-/// The eight octets of half an address. In a function of their own they are stored at once, and
-/// else one by one.
-#[inline(never)]
-fn octets_of_half(half: u64) -> [u8; 8]
-    ensures { result ≡ digits_in 256 8 half }
-{
-    half.to_be_bytes()
-}
-
-/// Eight octets and eight after them.
-#[inline(always)]
-fn joined(front: &[u8; 8], back: &[u8; 8]) -> [u8; 16]
-    ensures { result ≡ front.now ++ back.now }
-{
-    let mut octets = [0; 16];
-    octets[8..].copy_from_slice(back);
-    octets[..8].copy_from_slice(front);
-    octets
+    let halves = [(number % (1 << 64)) as u64, (number >> 64) as u64];
+    u64x2::from_array(halves).to_le_bytes().reverse().to_array()
 }
 
 /// The number of 16 octets.

@@ -68,14 +68,19 @@ impl ReadsRow for AddressInC {
 fn are_offsets(texts: &[u8], offsets: &[u32]) -> bool
     ensures { IsTrue result ↔ AreOffsets texts.now offsets.now }
 {
+    // No branch leaves the loop, so that several offsets are compared at once.
     let mut last = 0;
+    let mut falls = false;
     for offset in offsets {
-        if *offset < last || *offset as usize > texts.len() {
-            return false;
+        if *offset < last {
+            falls = true;
         }
         last = *offset;
     }
-    true
+    if falls {
+        return false;
+    }
+    last as usize <= texts.len()
 }
 
 /// Reads each text into the row of its place, and its fault into the fault of that place.

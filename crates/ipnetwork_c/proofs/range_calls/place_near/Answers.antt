@@ -4,9 +4,9 @@ use Rattle.ipnetwork_c.specs.Outcomes.{IsFault, Unless, Writes}
 use Rattle.ipnetwork_c.specs.Ranges.{no_place}
 use Rattle.ipnetwork_c.proofs.range_calls.place_near.Goals as goal
 
-pub returns : goal.returns
-returns g c = (
-  c.begun_near-count.result,
-  c.begun_near-count.ensures.stands,
+pub returns-in-Some : goal.returns-in-Some
+returns-in-Some g c = (
+  c.in-Some.count,
+  c.in-Some.ensures,
   subst (λ (found : ℕ). Unless (IsFault no_member (found ≡ no_place)) (Writes (λ put. (put < no_place) × (put ≡ found))) c.args.place.now c.put_found.new.place c.put_found.result) c.found_before.ensures c.put_found.ensures,
 )

@@ -1,0 +1,7 @@
+use Rattle.std.proofs.Common.{refl}
+use Rattle.ipnetwork.specs.declared.ip_network.IpNetwork.TheVariants.{V6}
+use Rattle.ipnetwork_c.specs.Outcomes.Unless.{On}
+use Rattle.ipnetwork_c.proofs.either.read_any.Goals as goal
+
+pub returns-in-Some : goal.returns-in-Some
+returns-in-Some c = On (V6 c.in-Some.read, c.in-Some.ensures, (refl, c.of_v6.ensures))
