@@ -29,7 +29,7 @@ longer_line line command rest first more second last e f g =
     ap request_in (e ∙ ap (λ ws. command ∷ ws) (f ∙ ap (λ ws. first ∷ ws) (g ∙ ap (λ ws. second ∷ ws) h)))
 
 -- a function gives nothing where each of its values is ruled out
-pub gives_none : (o : Option ℕ) → ((x : ℕ) → ¬ (o ≡ Some x)) → o ≡ None
+pub gives_none : {A : Type 0} (o : Option A) → ((x : A) → ¬ (o ≡ Some x)) → o ≡ None
 gives_none None h = refl
 gives_none (Some x) h = absurd (h x refl)
 

@@ -1,5 +1,5 @@
 -- What each command answers, or asks of the routes.
-use Rattle.std.proofs.Common.{◌≡◌, ◌≢◌, ◌↔◌, ℕ, ◌+◌, ◌-◌, ◌*◌, ◌<◌, ◌≤◌, ◌^◌, Bool, true, false, cond, IsTrue, inl, inr, List, Option, None, Some, Result, Ok, Err, length, codes, refl, sym, ap, ap₂, ◌∙◌, arith}
+use Rattle.std.proofs.Common.{◌≡◌, ◌≢◌, ◌↔◌, ℕ, ◌+◌, ◌-◌, ◌*◌, ◌<◌, ◌≤◌, ◌^◌, Bool, true, false, cond, IsTrue, inl, inr, List, Option, Some, Result, Ok, Err, length, codes, refl, sym, ap, ap₂, ◌∙◌, arith}
 use Rattle.std.specs.Prelude.{nat_le}
 use Rattle.std.proofs.Math.Pow.{pow_mono, pow-add}
 use Rattle.std.proofs.lemmas.Nat.{pow_pos}
@@ -25,13 +25,9 @@ use Rattle.ipnetwork_family.specs.Laws.{SuffixIsRefused}
 use Rattle.cidr.specs.Laws.Commands.{AnswersRead, AnswersNetwork, TellsEnds, AnswersMembership}
 use Rattle.cidr.specs.Commands.{text_or_cause, text_or_refused, ends_text, membership}
 use Rattle.cidr.specs.Requests.{Plain, request_of}
+use Rattle.cidr.proofs.Answers.{gives_none}
 use Rattle.cidr.proofs.CommandLines.{answered}
 use Rattle.cidr.proofs.EitherAnswers.{value_from}
-
--- nothing is computed where nothing is meant
-pub nothing : {A : Type 0} (o : Option A) → ((x : A) → ¬ (o ≡ Some x)) → o ≡ None
-nothing None none = refl
-nothing (Some x) none = absurd (none x refl)
 
 -- reading refuses a text that names nothing
 pub refuses : {N E : Type 0} (r : Result N E) → ((n : N) → ¬ (Ok n ≡ r)) → (fault : E) × (r ≡ Err fault)
@@ -55,7 +51,7 @@ module _ (w : ℕ) (N S : List ℕ → ℕ → Type 0) (canonical : ℕ → List
         address = λ few none. answered line _ (
             asks ∙ ap (λ b. Plain (text_or_cause canonical (cond b (Err Format) parts))) (no_more (slashes text) few)
             ∙ ap (λ o. Plain (text_or_cause canonical (network_from o (prefix_given w length_of (suffix_of text)))))
-            (nothing (address_of (before_slash text)) (λ a is. none a ((addresses (before_slash text) a).1 is))));
+            (gives_none (address_of (before_slash text)) (λ a is. none a ((addresses (before_slash text) a).1 is))));
         prefix = λ few a names none. answered line _ (asks ∙ ap (λ r. Plain (text_or_cause canonical r)) (sym ((reading (Err Prefix)).0 ((few, (a, names), refused text a names none), none))));
       }
 
@@ -153,7 +149,7 @@ module _ {N A : Type 0} (Names : List ℕ → N → Type 0) (NamesAddress : List
         ∙ ap (λ b. Plain (cond b (codes "yes") (codes "no"))) (not_true (test n a) (λ is. out ((tested n a).0 is))));
     no_network = λ none. answered line _ (asks ∙ ap (λ x. Plain (membership test x o)) (refuses r (λ n is. none n ((reading n).1 is))).1);
     no_address = λ n network none. answered line _ (
-        asks ∙ ap₂ (λ x y. Plain (membership test x y)) (sym ((reading n).0 network)) (nothing o (λ a is. none a ((addresses a).1 is))));
+        asks ∙ ap₂ (λ x y. Plain (membership test x y)) (sym ((reading n).0 network)) (gives_none o (λ a is. none a ((addresses a).1 is))));
   }
 
 -- the address that a text names, by what reading answers

@@ -1,11 +1,8 @@
 -- What the words of a line make of it.
 use Rattle.std.proofs.Common.{◌≡◌, ℕ, Bool, false, cond, List, [], ◌∷◌, codes, refl, sym, ap, ◌∙◌, subst, arith, inl}
-use Rattle.ipnetwork_addr.specs.Computed.Either.{ip_of}
-use Rattle.ipnetwork.specs.Computed.IpNetworkText.{ip_network_of}
 use Rattle.cidr.specs.Laws.Commands.{HasWords, IsAnswered, IsCommand, UnknownLaw, LongLaw}
-use Rattle.cidr.specs.Commands.{read_answer, read4_answer, read6_answer, ends_answer, has_answer, has4_answer, rel_answer}
 use Rattle.cidr.specs.Output.{MayGet}
-use Rattle.cidr.specs.Requests.{Request, Plain, unknown, adding, dropping, finding, route_number_of, one_word_request, two_words_request, request_in, request_of}
+use Rattle.cidr.specs.Requests.{Request, Plain, unknown, one_word_request, two_words_request, request_in, request_of}
 use Rattle.cidr.specs.Words.{words}
 use Rattle.cidr.proofs.LongLines.{request_long, request_short}
 use Rattle.cidr.proofs.PlainLines.{differs, plain_gets}
@@ -17,50 +14,9 @@ answered line text asks before after answer = (
   λ is. subst (λ (q : Request). MayGet before q answer after) (sym asks) (inl is),
 )
 
--- ---- the ten commands
-
-asks : (line : List ℕ) (these : List (List ℕ)) → HasWords line these → request_of line ≡ request_in these
+-- what it asks computes from its words
+pub asks : (line : List ℕ) (these : List (List ℕ)) → HasWords line these → request_of line ≡ request_in these
 asks line these h = request_short line h.1 ∙ ap request_in h.0
-
-pub asks_read4 : (line text : List ℕ) → HasWords line (codes "read4" ∷ text ∷ []) → request_of line ≡ Plain (read4_answer text)
-unfolding request_in one_word_request
-asks_read4 line text h = asks line _ h
-
-pub asks_read6 : (line text : List ℕ) → HasWords line (codes "read6" ∷ text ∷ []) → request_of line ≡ Plain (read6_answer text)
-unfolding request_in one_word_request
-asks_read6 line text h = asks line _ h
-
-pub asks_read : (line text : List ℕ) → HasWords line (codes "read" ∷ text ∷ []) → request_of line ≡ Plain (read_answer text)
-unfolding request_in one_word_request
-asks_read line text h = asks line _ h
-
-pub asks_ends : (line text : List ℕ) → HasWords line (codes "ends" ∷ text ∷ []) → request_of line ≡ Plain (ends_answer text)
-unfolding request_in one_word_request
-asks_ends line text h = asks line _ h
-
-pub asks_has4 : (line text word : List ℕ) → HasWords line (codes "has4" ∷ text ∷ word ∷ []) → request_of line ≡ Plain (has4_answer text word)
-unfolding request_in two_words_request
-asks_has4 line text word h = asks line _ h
-
-pub asks_has : (line text word : List ℕ) → HasWords line (codes "has" ∷ text ∷ word ∷ []) → request_of line ≡ Plain (has_answer text word)
-unfolding request_in two_words_request
-asks_has line text word h = asks line _ h
-
-pub asks_rel : (line text other : List ℕ) → HasWords line (codes "rel" ∷ text ∷ other ∷ []) → request_of line ≡ Plain (rel_answer text other)
-unfolding request_in two_words_request
-asks_rel line text other h = asks line _ h
-
-pub asks_add : (line text word : List ℕ) → HasWords line (codes "add" ∷ text ∷ word ∷ []) → request_of line ≡ adding (ip_network_of text) (route_number_of word)
-unfolding request_in two_words_request
-asks_add line text word h = asks line _ h
-
-pub asks_drop : (line text : List ℕ) → HasWords line (codes "drop" ∷ text ∷ []) → request_of line ≡ dropping (ip_network_of text)
-unfolding request_in one_word_request
-asks_drop line text h = asks line _ h
-
-pub asks_find : (line word : List ℕ) → HasWords line (codes "find" ∷ word ∷ []) → request_of line ≡ finding (ip_of word)
-unfolding request_in one_word_request
-asks_find line word h = asks line _ h
 
 -- ---- all other lines
 

@@ -11,7 +11,8 @@ use Rattle.cidr.specs.Laws.Commands.{AnswersRelation, AsksAdd, AsksDrop, AsksFin
 use Rattle.cidr.specs.Commands.{refused, related, rel_answer}
 use Rattle.cidr.specs.Laws.Sets.{RelatesSets}
 use Rattle.cidr.specs.Requests.{Plain, adding, dropping, finding, route_number_of, request_of}
-use Rattle.cidr.proofs.CommandAnswers.{nothing, refuses}
+use Rattle.cidr.proofs.Answers.{gives_none}
+use Rattle.cidr.proofs.CommandAnswers.{refuses}
 use Rattle.cidr.proofs.CommandLines.{answered}
 use Rattle.cidr.proofs.Requests.{NumberIsComputed, number_is, number_is_none}
 
@@ -61,5 +62,5 @@ asks_to_drop line text reading asks = record {
 pub asks_to_find : (line word : List ℕ) → ((a : IpAddr) → NamesIp word a ↔ (ip_of word ≡ Some a)) → request_of line ≡ finding (ip_of word) → AsksFind line word
 asks_to_find line word addresses asks = record {
   asks = λ a names. asks ∙ ap finding ((addresses a).0 names);
-  no_address = λ none. answered line _ (asks ∙ ap finding (nothing (ip_of word) (λ a is. none a ((addresses a).1 is))));
+  no_address = λ none. answered line _ (asks ∙ ap finding (gives_none (ip_of word) (λ a is. none a ((addresses a).1 is))));
 }

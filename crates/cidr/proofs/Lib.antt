@@ -14,7 +14,6 @@ pub mod Keys
 mod LawExamples
 pub mod Membership
 pub mod PlainLines
-mod Relations
 pub mod Requests
 pub mod RouteLines
 pub mod Runs

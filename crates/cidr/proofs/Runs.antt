@@ -108,40 +108,32 @@ begins limit room held left holds now all h going same = record {
   answers = subst (λ (a : Standing). Answered (begun holds) a []) (sym same) (no_answers (begun holds));
 }
 
+-- one line more was handed out, and got an answer
+one_more : (limit room : ℕ) (old new : Buffered) (left rest : Option (List ℕ)) (start a b : Standing) (end : LineEnd) (line : List ℕ) → (s : RunSoFar limit room old left rest start a)
+    → HandsOut new s.pending line end → new.ended ≡ old.ended → Answered a b (line ∷ []) → RunSoFar limit room new left rest start b
+one_more limit room old new left rest start a b end line s hands same f = record {
+  read = s.read;
+  consumed = s.consumed;
+  counted = s.counted;
+  at_end = λ e. s.at_end (sym same ∙ e);
+  pending = hands.after;
+  holds = hands.holds;
+  asks = s.asks ++ line ∷ [];
+  first = handed old new s.read s.asks s.pending line end s.first same hands;
+  answers = answers_more start a b s.asks (line ∷ []) s.answers f;
+}
+
 pub after_line : (limit room : ℕ) (old new : Buffered) (left rest : Option (List ℕ)) (start a b : Standing) (end : LineEnd) (line : List ℕ) → RunSoFar limit room old left rest start a
     → ((pending : List ℕ) → IsPending old pending → Gives new pending (Line end)) → new.ended ≡ old.ended → line ≡ new.line → Answered a b (line ∷ []) → RunSoFar limit room new left rest start b
 after_line limit room old new left rest start a b end line s gives same is f =
-    let hands : HandsOut new s.pending line end = subst (λ l. HandsOut new s.pending l end) (sym is) (gives s.pending s.holds).0 in
-    record {
-      read = s.read;
-      consumed = s.consumed;
-      counted = s.counted;
-      at_end = λ e. s.at_end (sym same ∙ e);
-      pending = hands.after;
-      holds = hands.holds;
-      asks = s.asks ++ line ∷ [];
-      first = handed old new s.read s.asks s.pending line end s.first same hands;
-      answers = answers_more start a b s.asks (line ∷ []) s.answers f;
-    }
+    one_more limit room old new left rest start a b end line s (subst (λ l. HandsOut new s.pending l end) (sym is) (gives s.pending s.holds).0) same f
 
 pub after_long : (limit room max : ℕ) (old new : Buffered) (left rest : Option (List ℕ)) (start a b : Standing) → RunSoFar limit room old left rest start a
     → ((pending : List ℕ) → IsPending old pending → Gives new pending TooLong) → new.ended ≡ old.ended → new.limit ≡ max → ((line : List ℕ) → max < length line → Answered a b (line ∷ []))
     → RunSoFar limit room new left rest start b
 after_long limit room max old new left rest start a b s gives same is f =
     let given = gives s.pending s.holds in
-    let line = given.0 in
-    let hands = given.2 in
-    record {
-      read = s.read;
-      consumed = s.consumed;
-      counted = s.counted;
-      at_end = λ e. s.at_end (sym same ∙ e);
-      pending = hands.after;
-      holds = hands.holds;
-      asks = s.asks ++ line ∷ [];
-      first = handed old new s.read s.asks s.pending line given.1 s.first same hands;
-      answers = answers_more start a b s.asks (line ∷ []) s.answers (f line (omega (arith, given.3, is)));
-    }
+    one_more limit room old new left rest start a b given.1 given.0 s given.2 same (f given.0 (omega (arith, given.3, is)))
 
 -- what was read before a device is asked: nothing waits, no line is whole
 pub record Idle (limit room : ℕ) (held : Buffered) (left rest : Option (List ℕ)) (start now : Standing) : Type 0 where

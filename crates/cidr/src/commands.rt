@@ -3,6 +3,7 @@
 pub(crate) mod ends;
 pub(crate) mod has;
 pub(crate) mod read;
+mod reading;
 pub(crate) mod rel;
 pub(crate) mod routing;
 

@@ -40,6 +40,7 @@ pub(crate) fn answer(line: &[u8], routes: &mut RouteTables, replies: &mut Buffer
 }
 
 /// The answer of a command with one argument.
+#[tactic(auto, unfolding(crate::specs::Requests::one_word_request))]
 fn answer_one(command: &[u8], word: &[u8], routes: &mut RouteTables, replies: &mut Buffer<'_>)
     requires { HasRoom replies.old }
     ensures { RepliesTo (routes_of routes.old)
@@ -79,6 +80,7 @@ fn answer_routing_one(
 }
 
 /// The answer of a command with two arguments.
+#[tactic(auto, unfolding(crate::specs::Requests::two_words_request))]
 fn answer_two(
     command: &[u8],
     first: &[u8],

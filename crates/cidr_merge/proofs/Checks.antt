@@ -1,18 +1,20 @@
 -- What is found in lists, line by line and list by list.
 use Rattle.std.proofs.Common.{◌≡◌, ◌==◌, ◌+◌, ◌||◌, ◌<◌, ◌≤◌, ◌∙◌, ℕ, Bool, true, false, not, List}
 use Rattle.std.proofs.Common.{[], ◌∷◌, ◌++◌, refl, sym, ap, subst, arith, length, map, take, get_or}
-use Rattle.std.proofs.Common.{append_assoc, append-nil, length-append, length-take}
+use Rattle.std.proofs.Common.{append_assoc, append-nil, length-append}
 use Rattle.std.specs.Prelude.{String}
 use Rattle.std.specs.List.{concat}
 use Rattle.std.specs.String.{string_bytes}
 use Rattle.std.specs.Str.Lines.{lines}
 use Rattle.std.proofs.Math.Dec.{eqb-suc-zero}
-use Rattle.std.proofs.lemmas.List.{take_more, take_all, get_or-map, length-map}
+use Rattle.std.proofs.lemmas.List.{get_or-map, length-map}
 use Rattle.std.proofs.lemmas.List.Folds.{concat-append}
 use Rattle.lines.specs.Outputs.{Written}
 use Rattle.program.specs.Messages.{Tells}
 use Rattle.program.proofs.Told.{tells_more, tells_same, tells_nothing}
 use Rattle.cidr_merge.specs.Findings.{LineFindings, LinesFindings, ListsFindings, IsFound}
+use Rattle.cidr_merge.proofs.InTurn.{in_turn_more}
+use Rattle.cidr_merge.proofs.Places.{both_up_to_next, both_whole}
 
 -- more findings were told
 pub tells_findings : {W : Type 0} (old mid new : Written W) (found more : List (List ℕ))
@@ -39,29 +41,6 @@ nothing_left [] l = refl
 nothing_left (byte ∷ left) l = absurd (omega (arith, l))
 
 module _ (strictly : Bool) where
-  -- a line more
-  pub line_more : (name : List ℕ) (number at : ℕ) (first : List (List ℕ)) (line : List ℕ)
-      (found one : List (List ℕ)) → LinesFindings strictly name number first found
-      → at ≡ number + length first
-      → LineFindings strictly name at line one
-      → LinesFindings strictly name number (first ++ line ∷ []) (found ++ one)
-  line_more name number at [] line found one h e k =
-      let same : at ≡ number = omega (arith, e) in (
-        one,
-        [],
-        subst (λ (n : ℕ). LineFindings strictly name n line one) same k,
-        refl,
-        ap (λ l. l ++ one) h ∙ sym (append-nil one),
-      )
-  line_more name number at (next ∷ first) line found one h e k =
-      let same : at ≡ 1 + number + length first = omega (arith, e) in (
-        h.0,
-        h.1 ++ one,
-        h.2,
-        line_more name (1 + number) at first line h.1 one h.3 same k,
-        ap (λ l. l ++ one) h.4 ∙ append_assoc h.0 h.1 one,
-      )
-
   -- a list more
   lists_more : {Z : Type 0} (names : List (String Z)) (texts : List (List ℕ)) (name : String Z)
       (text : List ℕ) (found one : List (List ℕ)) → length texts ≡ length names
@@ -89,16 +68,9 @@ module _ (strictly : Bool) where
       → LinesFindings strictly (string_bytes name) 1 (lines text) one
       → ListsFindings strictly (take (place + 1) names) (take (place + 1) texts) (found ++ one)
   lists_on names texts place name text found one l e is are h k =
-      let within : place < length texts = omega (arith, l, e) in
-      let as_many : length (take place texts) ≡ length (take place names) =
-      omega (arith, l, within, length-take place names, length-take place texts) in
-      let more : take (place + 1) names ≡ take place names ++ name ∷ [] =
-      take_more names place name l ∙ ap (λ n. take place names ++ n ∷ []) (sym is) in
-      let many : take (place + 1) texts ≡ take place texts ++ text ∷ [] =
-      take_more texts place text within ∙ ap (λ t. take place texts ++ t ∷ []) (sym are) in
-      subst (λ ns. ListsFindings strictly ns (take (place + 1) texts) (found ++ one)) (sym more)
-      (subst (λ ts. ListsFindings strictly (take place names ++ name ∷ []) ts (found ++ one))
-      (sym many) (lists_more (take place names) (take place texts) name text found one as_many h k))
+      both_up_to_next (λ ns ts. ListsFindings strictly ns ts (found ++ one)) names texts place name
+      text l e is are
+      (λ many. lists_more (take place names) (take place texts) name text found one many h k)
 
   -- ---- what is told
 
@@ -126,7 +98,8 @@ module _ (strictly : Bool) where
     h.1 ++ k.0,
     h.2 ∙ ap (λ ls. h.0 ++ ls) e ∙ sym (append_assoc h.0 (line ∷ []) (lines after)),
     omega (arith, h.3, length-append h.0 (line ∷ [])),
-    line_more name 1 (number + 1) h.0 line h.1 k.0 h.4 (omega (arith, h.3)) k.1,
+    in_turn_more (LineFindings strictly name) 1 (number + 1) h.0 line h.1 k.0 h.4
+        (omega (arith, h.3)) k.1,
     tells_findings old mid new h.1 k.0 h.5 k.2,
     found_more h.1 k.0 found more both h.6 k.3 b,
   )
@@ -178,9 +151,7 @@ module _ (strictly : Bool) where
       × Tells old new (concat findings) × IsFound findings found
   all_lists_told names texts place old new found l e h = (
     h.0,
-    subst (λ ns. ListsFindings strictly ns texts h.0) (take_all place names l)
-        (subst (λ ts. ListsFindings strictly (take place names) ts h.0)
-        (take_all place texts (omega (arith, l, e))) h.1),
+    both_whole (λ ns ts. ListsFindings strictly ns ts h.0) names texts place l e h.1,
     h.2,
     h.3,
   )

@@ -3,10 +3,12 @@ use Rattle.std.proofs.Common.{◌≡◌, ◌+◌, ◌<◌, ◌≤◌, ◌∙◌,
 use Rattle.std.proofs.Common.{arith, length, map, take, get_or, append_assoc, append-nil}
 use Rattle.std.proofs.Common.{length-append, length-take}
 use Rattle.std.specs.Str.Lines.{lines}
-use Rattle.std.proofs.lemmas.List.{take_more, take_all, get_or-map, length-map}
+use Rattle.std.proofs.lemmas.List.{take_all, get_or-map, length-map}
 use Rattle.cidr_merge.specs.Overlaps.{Listed, LineEntries, LinesEntries, ListsEntries}
 use Rattle.cidr_merge.specs.Private.Entries.{listed_as, Adds}
 use Rattle.cidr_merge.specs.declared.placed.Placed.{Placed}
+use Rattle.cidr_merge.proofs.InTurn.{in_turn_more}
+use Rattle.cidr_merge.proofs.Places.{up_to_next}
 
 pub adds_nothing : (Part : List Listed → Type 0) (entries : List Placed) → Part []
     → Adds Part entries entries
@@ -29,28 +31,6 @@ adds_same Part Other old new same h = (h.0, same h.0 h.1, h.2)
 
 -- ---- the lines of a list
 
-line_more : (list number at : ℕ) (first : List (List ℕ)) (line : List ℕ) (found one : List Listed)
-    → LinesEntries list number first found → at ≡ number + length first
-    → LineEntries list at line one
-    → LinesEntries list number (first ++ line ∷ []) (found ++ one)
-line_more list number at [] line found one h e k =
-    let same : at ≡ number = omega (arith, e) in (
-      one,
-      [],
-      subst (λ (n : ℕ). LineEntries list n line one) same k,
-      refl,
-      ap (λ l. l ++ one) h
-          ∙ sym (append-nil one),
-    )
-line_more list number at (next ∷ first) line found one h e k =
-    let same : at ≡ 1 + number + length first = omega (arith, e) in (
-      h.0,
-      h.1 ++ one,
-      h.2,
-      line_more list (1 + number) at first line h.1 one h.3 same k,
-      ap (λ l. l ++ one) h.4 ∙ append_assoc h.0 h.1 one,
-    )
-
 -- the lines before the rest of a text were taken
 abbrev pub Taken : ℕ → List ℕ → List Placed → List Placed → ℕ → List ℕ → Type 0
 Taken list text old new number left =
@@ -71,7 +51,8 @@ taken_more list text left rest line old mid new number h e k = (
   omega (arith, h.2, length-append h.0 (line ∷ [])),
   adds_more (LinesEntries list 1 h.0) (LineEntries list (number + 1) line)
       (LinesEntries list 1 (h.0 ++ line ∷ [])) old mid new
-      (λ f o ls l. line_more list 1 (number + 1) h.0 line f o ls (omega (arith, h.2)) l) h.3 k,
+      (λ f o ls l. in_turn_more (LineEntries list) 1 (number + 1) h.0 line f o ls
+      (omega (arith, h.2)) l) h.3 k,
 )
 
 pub all_taken : (list : ℕ) (text left : List ℕ) (old new : List Placed) (number : ℕ)
@@ -83,26 +64,6 @@ all_taken list text left old new number h e =
     (h.1 ∙ ap (λ ls. h.0 ++ ls) e ∙ append-nil h.0)) k) h.3
 
 -- ---- lists
-
-list_more : (list at : ℕ) (texts : List (List ℕ)) (text : List ℕ) (found one : List Listed)
-    → ListsEntries list texts found → at ≡ list + length texts → LinesEntries at 1 (lines text) one
-    → ListsEntries list (texts ++ text ∷ []) (found ++ one)
-list_more list at [] text found one h e k =
-    let same : at ≡ list = omega (arith, e) in (
-      one,
-      [],
-      subst (λ (n : ℕ). LinesEntries n 1 (lines text) one) same k,
-      refl,
-      ap (λ l. l ++ one) h ∙ sym (append-nil one),
-    )
-list_more list at (next ∷ texts) text found one h e k =
-    let same : at ≡ 1 + list + length texts = omega (arith, e) in (
-      h.0,
-      h.1 ++ one,
-      h.2,
-      list_more (1 + list) at texts text h.1 one h.3 same k,
-      ap (λ l. l ++ one) h.4 ∙ append_assoc h.0 h.1 one,
-    )
 
 -- the list at a place
 pub list_on : {X : Type 0} (items : X → List ℕ) (texts : List X) (place : ℕ) (text : X)
@@ -116,12 +77,12 @@ list_on items texts place text bytes old mid new l is b h k =
     let within : place < length all = omega (arith, l, length-map texts items) in
     let at : items text ≡ get_or all place (items text) =
     ap items is ∙ sym (get_or-map items texts place text (items text) l) in
-    let more : take (place + 1) all ≡ take place all ++ items text ∷ [] =
-    take_more all place (items text) within ∙ ap (λ t. take place all ++ t ∷ []) (sym at) in
+    let more = up_to_next all place (items text) within at in
     adds_more (ListsEntries 0 (take place all)) (LinesEntries place 1 (lines bytes))
     (ListsEntries 0 (take (place + 1) all)) old mid new
     (λ f o ls m. subst (λ ts. ListsEntries 0 ts (f ++ o)) (sym more)
-    (list_more 0 place (take place all) (items text) f o ls
+    (in_turn_more (λ list text. LinesEntries list 1 (lines text)) 0 place (take place all)
+    (items text) f o ls
     (omega (arith, within, length-take place all))
     (subst (λ (t : List ℕ). LinesEntries place 1 (lines t) o) b m))) h k
 

@@ -127,26 +127,15 @@ one = record { v4 = ten ∷ []; v6 = [] }
 abbrev pub one6 : Sets
 one6 = record { v4 = []; v6 = ten ∷ [] }
 
-pub equal_sides : answer_status Differ false one one ≡ 0
-equal_sides = refl
+pub unequal_sides : (answer_status Differ false one one ≡ 0)
+    × (answer_status Differ false one none ≡ 1) × (answer_status Differ false none one6 ≡ 1)
+    × (answer_status Minus false one none ≡ 0)
+unequal_sides = (refl, refl, refl, refl)
 
-pub unequal_sides : answer_status Differ false one none ≡ 1
-unequal_sides = refl
-
-pub unequal_ipv6_sides : answer_status Differ false none one6 ≡ 1
-unequal_ipv6_sides = refl
-
-pub sides_of_minus : answer_status Minus false one none ≡ 0
-sides_of_minus = refl
-
-pub skipped_before_unequal : answer_status Differ true one none ≡ 3
-skipped_before_unequal = refl
-
-pub skipped_in_equal_sides : answer_status Differ true none none ≡ 3
-skipped_in_equal_sides = refl
-
-pub skipped_in_a_union : answer_status Union true one none ≡ 3
-skipped_in_a_union = refl
+-- that lines were skipped comes first, whatever the sides are
+pub skipped_lines : (answer_status Differ true one none ≡ 3)
+    × (answer_status Differ true none none ≡ 3) × (answer_status Union true one none ≡ 3)
+skipped_lines = (refl, refl, refl)
 
 -- ---- what is told
 
@@ -165,81 +154,55 @@ a_refused_line union list e = rw e
 
 -- ---- the command line
 
-pub standard_input_begins_with_no_dash : begins_dashed (codes "-") ≡ false
-standard_input_begins_with_no_dash = refl
+-- standard input begins with no dash
+pub dashes : (begins_dashed (codes "-") ≡ false) × (begins_dashed (codes "--") ≡ true)
+    × (begins_dashed (codes "a-b") ≡ false)
+dashes = (refl, refl, refl)
 
-pub two_dashes_begin_with_one : begins_dashed (codes "--") ≡ true
-two_dashes_begin_with_one = refl
+pub operations : {Z : Type 0} (word : String Z)
+    → (string_bytes word ≡ codes "differ" → operation_named word ≡ Some Differ)
+    × (string_bytes word ≡ codes "Union" → operation_named word ≡ None)
+operations word = (λ e. rw e, λ e. rw e)
 
-pub a_dash_within : begins_dashed (codes "a-b") ≡ false
-a_dash_within = refl
+-- a file behind a dot and standard input are names, an empty word and an option are not
+pub names : {Z : Type 0} (word : String Z)
+    → (string_bytes word ≡ codes "./-x" → is_name word ≡ true)
+    × (string_bytes word ≡ codes "-" → is_name word ≡ true)
+    × (string_bytes word ≡ [] → is_name word ≡ false)
+    × (string_bytes word ≡ codes "--count" → is_name word ≡ false)
+names word = (λ e. rw e, λ e. rw e, λ e. rw e, λ e. rw e)
 
-pub differ_is_an_operation : {Z : Type 0} (word : String Z) → string_bytes word ≡ codes "differ"
-    → operation_named word ≡ Some Differ
-differ_is_an_operation word e = rw e
+pub options : {Z : Type 0} (word : String Z)
+    → (string_bytes word ≡ codes "--skip-bad" → is_option word ≡ true)
+    × (string_bytes word ≡ codes "--help" → is_option word ≡ false)
+options word = (λ e. rw e, λ e. rw e)
 
-pub nothing_else_is : {Z : Type 0} (word : String Z) → string_bytes word ≡ codes "Union"
-    → operation_named word ≡ None
-nothing_else_is word e = rw e
-
-pub a_file_behind_a_dot : {Z : Type 0} (word : String Z) → string_bytes word ≡ codes "./-x"
-    → is_name word ≡ true
-a_file_behind_a_dot word e = rw e
-
-pub an_empty_name : {Z : Type 0} (word : String Z) → string_bytes word ≡ [] → is_name word ≡ false
-an_empty_name word e = rw e
-
-pub an_option_is_no_name : {Z : Type 0} (word : String Z) → string_bytes word ≡ codes "--count"
-    → is_name word ≡ false
-an_option_is_no_name word e = rw e
-
-pub lines_are_skipped : {Z : Type 0} (word : String Z) → string_bytes word ≡ codes "--skip-bad"
-    → is_option word ≡ true
-lines_are_skipped word e = rw e
-
-pub no_option_among_others : {Z : Type 0} (word : String Z) → string_bytes word ≡ codes "--help"
-    → is_option word ≡ false
-no_option_among_others word e = rw e
-
-pub standard_input_is_a_name : {Z : Type 0} (word : String Z) → string_bytes word ≡ codes "-"
-    → is_name word ≡ true
-standard_input_is_a_name word e = rw e
-
-pub two_ways_to_print : {Z : Type 0} (ranges count : String Z)
-    → string_bytes ranges ≡ codes "--ranges" → string_bytes count ≡ codes "--count"
-    → are_options (ranges ∷ count ∷ []) ≡ false
-two_ways_to_print ranges count r c = rw (r, c)
-
-pub one_way_twice : {Z : Type 0} (count again : String Z) → string_bytes count ≡ codes "--count"
-    → string_bytes again ≡ codes "--count" → are_options (count ∷ again ∷ []) ≡ true
-one_way_twice count again c a = rw (c, a)
+-- two ways to print, and one of them twice
+pub ways_to_print : {Z : Type 0} (word count : String Z) → string_bytes count ≡ codes "--count"
+    → (string_bytes word ≡ codes "--ranges" → are_options (word ∷ count ∷ []) ≡ false)
+    × (string_bytes word ≡ codes "--count" → are_options (word ∷ count ∷ []) ≡ true)
+ways_to_print word count c = (λ e. rw (e, c), λ e. rw (e, c))
 
 pub counts_are_printed : {Z : Type 0} (skip count : String Z)
     → string_bytes skip ≡ codes "--skip-bad" → string_bytes count ≡ codes "--count"
     → form_of Blocks (skip ∷ count ∷ []) ≡ Counts
 counts_are_printed skip count s c = simp (s, c)
 
-pub standard_input_twice : {Z : Type 0} (input dashes again : String Z)
-    → string_bytes input ≡ codes "-" → string_bytes dashes ≡ codes "--"
-    → string_bytes again ≡ codes "-" → are_lists (input ∷ dashes ∷ again ∷ []) ≡ false
-standard_input_twice input dashes again i d a = rw (i, d, a)
-
-pub a_list_twice : {Z : Type 0} (list dashes again : String Z) → string_bytes list ≡ codes "a"
-    → string_bytes dashes ≡ codes "--" → string_bytes again ≡ codes "a"
-    → are_lists (list ∷ dashes ∷ again ∷ []) ≡ true
-a_list_twice list dashes again l d a = rw (l, d, a)
+-- a file may be named twice, standard input may not
+pub named_twice : {Z : Type 0} (list dashes again : String Z) → string_bytes dashes ≡ codes "--"
+    → (string_bytes list ≡ codes "-" → string_bytes again ≡ codes "-"
+    → are_lists (list ∷ dashes ∷ again ∷ []) ≡ false)
+    × (string_bytes list ≡ codes "a" → string_bytes again ≡ codes "a"
+    → are_lists (list ∷ dashes ∷ again ∷ []) ≡ true)
+named_twice list dashes again d = (λ l a. rw (l, d, a), λ l a. rw (l, d, a))
 
 -- options end at the first word that is `-` or begins with none; what comes after it are lists,
 -- whatever it is
-pub options_before_a_list : {Z : Type 0} (minus option list other : String Z)
+pub options_before_lists : {Z : Type 0} (minus option list other : String Z)
     → is_dashed option ≡ true → is (codes "--format") option ≡ false → is_dashed list ≡ false
-    → options_of (minus ∷ option ∷ list ∷ other ∷ []) ≡ option ∷ []
-options_before_a_list minus option list other o f l = rw (o, f, l)
-
-pub lists_behind_the_options : {Z : Type 0} (minus option list other : String Z)
-    → is_dashed option ≡ true → is (codes "--format") option ≡ false → is_dashed list ≡ false
-    → lists_of (minus ∷ option ∷ list ∷ other ∷ []) ≡ list ∷ other ∷ []
-lists_behind_the_options minus option list other o f l = rw (o, f, l)
+    → (options_of (minus ∷ option ∷ list ∷ other ∷ []) ≡ option ∷ [])
+    × (lists_of (minus ∷ option ∷ list ∷ other ∷ []) ≡ list ∷ other ∷ [])
+options_before_lists minus option list other o f l = (rw (o, f, l), rw (o, f, l))
 
 -- the word after a `--format` is its value, whatever it begins with
 pub a_value_is_no_list : {Z : Type 0} (union format value list : String Z)
@@ -255,23 +218,13 @@ pub a_form_is_named : {Z : Type 0} (skip format value : String Z)
 a_form_is_named skip format value s f v = simp (s, f, v)
 
 -- the sides are cut at the first `--`, which is of neither
-pub lists_before_the_dashes : {Z : Type 0} (list dashes other : String Z)
+pub two_sides : {Z : Type 0} (list dashes other : String Z)
     → is (codes "--") list ≡ false → is (codes "--") dashes ≡ true
-    → before_dashes (list ∷ dashes ∷ other ∷ []) ≡ list ∷ []
-lists_before_the_dashes list dashes other l d = rw (l, d)
-
-pub lists_behind_the_dashes : {Z : Type 0} (list dashes other : String Z)
-    → is (codes "--") list ≡ false → is (codes "--") dashes ≡ true
-    → behind_dashes (list ∷ dashes ∷ other ∷ []) ≡ other ∷ []
-lists_behind_the_dashes list dashes other l d = rw (l, d)
-
-pub a_side_each : {Z : Type 0} (list dashes other : String Z) → is (codes "--") list ≡ false
-    → is (codes "--") dashes ≡ true → are_sides Minus (list ∷ dashes ∷ other ∷ []) ≡ true
-a_side_each list dashes other l d = rw (l, d)
-
-pub no_second_side : {Z : Type 0} (list dashes : String Z) → is (codes "--") list ≡ false
-    → is (codes "--") dashes ≡ true → are_sides Common (list ∷ dashes ∷ []) ≡ false
-no_second_side list dashes l d = rw (l, d)
+    → (before_dashes (list ∷ dashes ∷ other ∷ []) ≡ list ∷ [])
+    × (behind_dashes (list ∷ dashes ∷ other ∷ []) ≡ other ∷ [])
+    × (are_sides Minus (list ∷ dashes ∷ other ∷ []) ≡ true)
+    × (are_sides Common (list ∷ dashes ∷ []) ≡ false)
+two_sides list dashes other l d = (rw (l, d), rw (l, d), rw (l, d), rw (l, d))
 
 pub no_dashes : {Z : Type 0} (list other : String Z) → is (codes "--") list ≡ false
     → is (codes "--") other ≡ false → are_sides Differ (list ∷ other ∷ []) ≡ false

@@ -5,60 +5,43 @@ use Rattle.ipnetwork_family.specs.Network.{Network, count_up}
 use Rattle.cidr_merge.specs.Exports.{export_text}
 use Rattle.cidr_merge.specs.declared.exports.Export.TheVariants.{Netmask, Wildcard, Csv, Nft, Ipset}
 use Rattle.cidr_merge.specs.declared.exports.Export.TheVariants.{Json, Addresses}
+use Rattle.cidr_merge.proofs.Examples.{ten}
 
--- 10.0.0.0/8 and 192.0.2.7
-abbrev pub ten : Network
-ten = record { address = 167772160; prefix = 8 }
-
-abbrev pub one : Network
+-- 192.0.2.7/32, and ::/1
+abbrev one : Network
 one = record { address = 3221225991; prefix = 32 }
 
--- the whole of a family, and ::/1
-abbrev pub whole : Network
-whole = record { address = 0; prefix = 0 }
-
-abbrev pub half : Network
+abbrev half : Network
 half = record { address = 0; prefix = 1 }
 
-pub masks : export_text Netmask (ten ∷ one ∷ [])
-    (half ∷ []) ≡ codes "10.0.0.0 255.0.0.0\n192.0.2.7 255.255.255.255\n::/1\n"
+pub lines_with_masks : (export_text Netmask (ten ∷ one ∷ []) (half ∷ [])
+    ≡ codes "10.0.0.0 255.0.0.0\n192.0.2.7 255.255.255.255\n::/1\n")
+    × (export_text Wildcard (ten ∷ one ∷ []) []
+    ≡ codes "10.0.0.0 0.255.255.255\n192.0.2.7 0.0.0.0\n")
 unfolding digits
-masks = refl
+lines_with_masks = (refl, refl)
 
-pub wildcards : export_text Wildcard
-    (ten ∷ one ∷ []) [] ≡ codes "10.0.0.0 0.255.255.255\n192.0.2.7 0.0.0.0\n"
+pub values : (export_text Csv [] [] ≡ codes "family,network,first,last\n")
+    × (export_text Csv (ten ∷ []) (half ∷ [])
+    ≡ codes "family,network,first,last\nIPv4,10.0.0.0/8,10.0.0.0,10.255.255.255\nIPv6,::/1,::,7fff:ffff:ffff:ffff:ffff:ffff:ffff:ffff\n")
 unfolding digits
-wildcards = refl
+values = (refl, refl)
 
-pub values : export_text Csv (ten ∷ []) (half ∷ [])
-    ≡ codes "family,network,first,last\nIPv4,10.0.0.0/8,10.0.0.0,10.255.255.255\nIPv6,::/1,::,7fff:ffff:ffff:ffff:ffff:ffff:ffff:ffff\n"
+-- a table of nftables, and what `ipset restore` reads, with the whole of IPv6
+pub sets : (export_text Nft (ten ∷ one ∷ []) []
+    ≡ codes "table inet cidr_merge {\n\tset ipv4 {\n\t\ttype ipv4_addr\n\t\tflags interval\n\t\telements = {\n\t\t\t10.0.0.0/8,\n\t\t\t192.0.2.7/32\n\t\t}\n\t}\n\tset ipv6 {\n\t\ttype ipv6_addr\n\t\tflags interval\n\t}\n}\n")
+    × (export_text Ipset (ten ∷ []) (record { address = 0; prefix = 0 } ∷ [])
+    ≡ codes "create cidr_merge_ipv4 hash:net family inet maxelem 4294967295\nadd cidr_merge_ipv4 10.0.0.0/8\ncreate cidr_merge_ipv6 hash:net family inet6 maxelem 4294967295\nadd cidr_merge_ipv6 ::/1\nadd cidr_merge_ipv6 8000::/1\n")
 unfolding digits
-values = refl
+sets = (refl, refl)
 
-pub no_values : export_text Csv [] [] ≡ codes "family,network,first,last\n"
-no_values = refl
-
-pub a_table : export_text Nft (ten ∷ one ∷ []) []
-    ≡ codes "table inet cidr_merge {\n\tset ipv4 {\n\t\ttype ipv4_addr\n\t\tflags interval\n\t\telements = {\n\t\t\t10.0.0.0/8,\n\t\t\t192.0.2.7/32\n\t\t}\n\t}\n\tset ipv6 {\n\t\ttype ipv6_addr\n\t\tflags interval\n\t}\n}\n"
+-- of both families, of one, and of none
+pub arrays : (export_text Json (ten ∷ one ∷ []) (half ∷ [])
+    ≡ codes "[\n\"10.0.0.0/8\",\n\"192.0.2.7/32\",\n\"::/1\"\n]\n")
+    × (export_text Json [] (half ∷ []) ≡ codes "[\n\"::/1\"\n]\n")
+    × (export_text Json [] [] ≡ codes "[\n]\n")
 unfolding digits
-a_table = refl
-
-pub sets : export_text Ipset (ten ∷ []) (whole ∷ [])
-    ≡ codes "create cidr_merge_ipv4 hash:net family inet maxelem 4294967295\nadd cidr_merge_ipv4 10.0.0.0/8\ncreate cidr_merge_ipv6 hash:net family inet6 maxelem 4294967295\nadd cidr_merge_ipv6 ::/1\nadd cidr_merge_ipv6 8000::/1\n"
-unfolding digits
-sets = refl
-
-pub an_array : export_text Json (ten ∷ one ∷ [])
-    (half ∷ []) ≡ codes "[\n\"10.0.0.0/8\",\n\"192.0.2.7/32\",\n\"::/1\"\n]\n"
-unfolding digits
-an_array = refl
-
-pub an_array_of_one_family : export_text Json [] (half ∷ []) ≡ codes "[\n\"::/1\"\n]\n"
-unfolding digits
-an_array_of_one_family = refl
-
-pub an_empty_array : export_text Json [] [] ≡ codes "[\n]\n"
-an_empty_array = refl
+arrays = (refl, refl, refl)
 
 pub each_address : export_text Addresses (one ∷ record {
   address = 167772160;

@@ -14,6 +14,7 @@ use Rattle.lists.specs.declared.entry.Entry.{Entry}
 use Rattle.lists.specs.declared.entry.Entry.TheVariants.{Network, Range}
 use Rattle.cidr_merge.specs.EntriesWithin.{HasAllOf}
 use Rattle.cidr_merge.specs.Findings.{LineSays}
+use Rattle.cidr_merge.specs.InTurn.{InTurn}
 use Rattle.cidr_merge.specs.Overlaps.{Listed, ends_of, listed, LineEntries, LinesEntries}
 use Rattle.cidr_merge.specs.Overlaps.{ListsEntries, is_up_to}
 use Rattle.cidr_merge.proofs.ListedOrder.{of_le, le_of, up_to_all, up_to_itself}
@@ -94,20 +95,20 @@ either_filled : (one others : List Listed) (entry : Listed)
 either_filled one others entry f g (inl c) = f c
 either_filled one others entry f g (inr c) = g c
 
-lines_filled : (list number : ℕ) (text : List (List ℕ)) (found : List Listed)
-    → LinesEntries list number text found → (one : Listed) → Contains found one → IsFilled one
-lines_filled list number [] found h one c =
+in_turn_filled : {X : Type 0} (Of : ℕ → X → List Listed → Type 0)
+    → ((number : ℕ) (item : X) (found : List Listed) → Of number item found → (one : Listed)
+    → Contains found one → IsFilled one)
+    → (number : ℕ) (items : List X) (found : List Listed) → InTurn Of number items found
+    → (one : Listed) → Contains found one → IsFilled one
+in_turn_filled Of each number [] found h one c =
     absurd (contains_nil one (subst (λ (l : List Listed). Contains l one) h c))
-lines_filled list number (line ∷ text) found h one c =
-    either_filled h.0 h.1 one (line_filled list number line h.0 h.2 one)
-    (lines_filled list (1 + number) text h.1 h.3 one)
+in_turn_filled Of each number (item ∷ items) found h one c =
+    either_filled h.0 h.1 one (each number item h.0 h.2 one)
+    (in_turn_filled Of each (1 + number) items h.1 h.3 one)
     (Contains-append_cases h.0 h.1 one (subst (λ (l : List Listed). Contains l one) h.4 c))
 
 pub lists_filled : (list : ℕ) (texts : List (List ℕ)) (found : List Listed)
     → ListsEntries list texts found → (one : Listed) → Contains found one → IsFilled one
-lists_filled list [] found h one c =
-    absurd (contains_nil one (subst (λ (l : List Listed). Contains l one) h c))
-lists_filled list (text ∷ texts) found h one c =
-    either_filled h.0 h.1 one (lines_filled list 1 (lines text) h.0 h.2 one)
-    (lists_filled (1 + list) texts h.1 h.3 one)
-    (Contains-append_cases h.0 h.1 one (subst (λ (l : List Listed). Contains l one) h.4 c))
+lists_filled =
+    in_turn_filled (λ list text. LinesEntries list 1 (lines text))
+    (λ list text. in_turn_filled (LineEntries list) (line_filled list) 1 (lines text))

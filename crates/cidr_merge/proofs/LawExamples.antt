@@ -52,49 +52,35 @@ no_other_text law one other whole joined first second parts a b have short all p
 
 -- ---- names
 
-other : (text name : List ℕ) → bytes_eq text name ≡ false → text ≢ name
-other text name e same = true≢false (sym ((bytes_eq-Decides text name).1 same) ∙ e)
+no : {text name : List ℕ} → bytes_eq text name ≡ false → text ≢ name
+no {text} {name} e same = true≢false (sym ((bytes_eq-Decides text name).1 same) ∙ e)
 
 -- a word that is shorter than a name by a letter or two, and one that differs from it by a letter
-pub diff_is_no_operation : NoOtherOperation → operation_called (codes "diff") ≡ None
-diff_is_no_operation law =
-    law (codes "diff") (other _ _ refl) (other _ _ refl) (other _ _ refl) (other _ _ refl)
-    (other _ _ refl)
+pub no_operations : NoOtherOperation → (operation_called (codes "diff") ≡ None)
+    × (operation_called (codes "COMMON") ≡ None) × (operation_called [] ≡ None)
+no_operations law = (
+  law (codes "diff") (no refl) (no refl) (no refl) (no refl) (no refl),
+  law (codes "COMMON") (no refl) (no refl) (no refl) (no refl) (no refl),
+  law [] (no refl) (no refl) (no refl) (no refl) (no refl),
+)
 
-pub common_in_capitals_is_no_operation : NoOtherOperation → operation_called (codes "COMMON") ≡ None
-common_in_capitals_is_no_operation law =
-    law (codes "COMMON") (other _ _ refl) (other _ _ refl) (other _ _ refl) (other _ _ refl)
-    (other _ _ refl)
-
-pub an_empty_word_is_no_operation : NoOtherOperation → operation_called [] ≡ None
-an_empty_word_is_no_operation law =
-    law [] (other _ _ refl) (other _ _ refl) (other _ _ refl) (other _ _ refl) (other _ _ refl)
-
-pub skip_is_no_option : NoOtherOption → is_option_text (codes "--skip") ≡ false
-skip_is_no_option law =
-    law (codes "--skip") (other _ _ refl) (other _ _ refl) (other _ _ refl) (other _ _ refl)
-    (other _ _ refl) (other _ _ refl)
-
-pub dashes_are_no_option : NoOtherOption → is_option_text (codes "--") ≡ false
-dashes_are_no_option law =
-    law (codes "--") (other _ _ refl) (other _ _ refl) (other _ _ refl) (other _ _ refl)
-    (other _ _ refl) (other _ _ refl)
-
-pub counts_is_no_option : NoOtherOption → is_option_text (codes "--counts") ≡ false
-counts_is_no_option law =
-    law (codes "--counts") (other _ _ refl) (other _ _ refl) (other _ _ refl) (other _ _ refl)
-    (other _ _ refl) (other _ _ refl)
+pub no_options : NoOtherOption → (is_option_text (codes "--skip") ≡ false)
+    × (is_option_text (codes "--") ≡ false) × (is_option_text (codes "--counts") ≡ false)
+no_options law = (
+  law (codes "--skip") (no refl) (no refl) (no refl) (no refl) (no refl) (no refl),
+  law (codes "--") (no refl) (no refl) (no refl) (no refl) (no refl) (no refl),
+  law (codes "--counts") (no refl) (no refl) (no refl) (no refl) (no refl) (no refl),
+)
 
 pub ranges_are_no_form : NoOtherForm → form_called (codes "ranges") ≡ None
 ranges_are_no_form law =
-    law (codes "ranges") (other _ _ refl) (other _ _ refl) (other _ _ refl) (other _ _ refl)
-    (other _ _ refl) (other _ _ refl) (other _ _ refl) (other _ _ refl) (other _ _ refl)
+    law (codes "ranges") (no refl) (no refl) (no refl) (no refl) (no refl) (no refl) (no refl)
+    (no refl) (no refl)
 
-pub overlap_is_no_inspection : NoOtherInspection → inspection_called (codes "overlap") false ≡ None
-overlap_is_no_inspection law = law (codes "overlap") false (other _ _ refl) (other _ _ refl)
-
-pub union_is_no_inspection : NoOtherInspection → inspection_called (codes "union") true ≡ None
-union_is_no_inspection law = law (codes "union") true (other _ _ refl) (other _ _ refl)
+pub no_inspections : NoOtherInspection → (inspection_called (codes "overlap") false ≡ None)
+    × (inspection_called (codes "union") true ≡ None)
+no_inspections law =
+    (law (codes "overlap") false (no refl) (no refl), law (codes "union") true (no refl) (no refl))
 
 -- ---- entries that lie in another
 

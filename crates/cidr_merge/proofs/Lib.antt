@@ -9,6 +9,7 @@ pub mod ExportExamples
 pub mod ExportTexts
 pub mod Faults
 pub mod FilledEntries
+pub mod InTurn
 pub mod Inspected
 pub mod KeptEntries
 pub mod LawExamples
@@ -21,6 +22,8 @@ pub mod OverlapEnds
 pub mod OverlapPairs
 pub mod PartExamples
 pub mod Parts
+pub mod Places
+pub mod Printed
 pub mod Putting
 pub mod ReadInTurn
 pub mod RepeatedEntries

@@ -1,5 +1,5 @@
 -- The blocks of two sides.
-use Rattle.std.proofs.Common.{◌≡◌, ◌<◌, ◌↔◌, ℕ, List, [], ◌∷◌, sym, ap, subst, arith, length}
+use Rattle.std.proofs.Common.{◌≡◌, ◌<◌, ◌↔◌, ℕ, List, [], ◌∷◌, sym, ap, arith, length}
 use Rattle.std.specs.Prelude.{Option, None, Some, MatchOption}
 use Rattle.ipnetwork_family.specs.Network.{Network}
 use Rattle.ipnetwork_blocks.specs.LeastList.{IsLeastList}
@@ -8,7 +8,7 @@ use Rattle.ipnetwork_blocks.specs.Aggregate.{InUnion}
 use Rattle.ipnetwork_blocks.proofs.LeastLists.{contains_nil}
 use Rattle.ipnetwork_sets.specs.RangeLists.{IsRangeList}
 use Rattle.ipnetwork_sets.specs.Sets.{InFirstAlone}
-use Rattle.cidr_merge.specs.Answers.{IsLeft, IsLeftOfSecond}
+use Rattle.cidr_merge.specs.Answers.{IsLeftOfSecond}
 use Rattle.cidr_merge.specs.Private.Sweeps.{left_of_second, with_head}
 use Rattle.cidr_merge.specs.declared.command_line.Operation.{Operation}
 use Rattle.cidr_merge.specs.declared.command_line.Operation.TheVariants as operations
@@ -29,13 +29,6 @@ headed pair (Some block) old new h = sym h
 
 pub shorter : {X : Type 0} (xs ys : List X) (x : X) → xs ≡ x ∷ ys → length ys < length xs
 shorter xs ys x e = omega (arith, ap length e)
-
-pub least_by : (operation other : Operation) → operation ≡ other
-    → (w : ℕ) (first second blocks : List Network)
-    → IsLeastList w (IsLeft other w first second) blocks
-    → IsLeastList w (IsLeft operation w first second) blocks
-least_by operation other e w first second blocks h =
-    subst (λ (o : Operation). IsLeastList w (IsLeft o w first second) blocks) (sym e) h
 
 -- ---- ranges
 

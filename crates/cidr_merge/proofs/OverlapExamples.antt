@@ -6,17 +6,12 @@ use Rattle.std.specs.declared.cmp.Ordering.TheVariants.{Less}
 use Rattle.ipnetwork_addr.specs.declared.ip.IpAddr.TheVariants as addresses
 use Rattle.cidr_merge.specs.FindRuns.{search_status}
 use Rattle.cidr_merge.specs.Overlaps.{Listed, listed_cmp, reaches, relation}
+use Rattle.cidr_merge.proofs.CheckExamples.{entry}
 
 -- 10.0.0.0/8 and, in another list, again; the first /16 in it; a range that ends behind it; what
 -- comes right behind it
 abbrev wide : Listed
-wide = record {
-  first = addresses.V4 0x0a000000;
-  last = addresses.V4 0x0affffff;
-  list =
-      0;
-  number = 7;
-}
+wide = entry 0x0a000000 0x0affffff 7
 
 abbrev again : Listed
 again = record {
@@ -28,61 +23,29 @@ again = record {
 }
 
 abbrev narrow : Listed
-narrow = record {
-  first = addresses.V4 0x0a000000;
-  last = addresses.V4 0x0a00ffff;
-  list =
-      0;
-  number = 2;
-}
+narrow = entry 0x0a000000 0x0a00ffff 2
 
 abbrev across : Listed
-across = record {
-  first = addresses.V4 0x0affffff;
-  last = addresses.V4 0x0b000000;
-  list =
-      0;
-  number = 3;
-}
+across = entry 0x0affffff 0x0b000000 3
 
 abbrev behind : Listed
-behind = record {
-  first = addresses.V4 0x0b000000;
-  last = addresses.V4 0x0b000000;
-  list =
-      0;
-  number = 4;
-}
+behind = entry 0x0b000000 0x0b000000 4
 
-pub the_same_addresses : relation again wide ≡ codes "same as"
-the_same_addresses = refl
+-- the same addresses; within, from the first address on; some within and some not
+pub relations : (relation again wide ≡ codes "same as") × (relation narrow wide ≡ codes "in")
+    × (relation across wide ≡ codes "overlaps")
+relations = (refl, refl, refl)
 
-pub within_from_the_first_address_on : relation narrow wide ≡ codes "in"
-within_from_the_first_address_on = refl
-
-pub some_within_and_some_not : relation across wide ≡ codes "overlaps"
-some_within_and_some_not = refl
-
-pub the_last_address_is_common : reaches across wide ≡ true
-the_last_address_is_common = refl
-
-pub the_next_address_is_not : reaches behind wide ≡ false
-the_next_address_is_not = refl
+-- the last address is common, and the next is not
+pub up_to_the_last_address : (reaches across wide ≡ true) × (reaches behind wide ≡ false)
+up_to_the_last_address = (refl, refl)
 
 -- of those with one first address the widest comes first, and of equal ones that of the earlier
 -- list
-pub the_wider_comes_first : listed_cmp wide narrow ≡ Less
-the_wider_comes_first = refl
+pub which_comes_first : (listed_cmp wide narrow ≡ Less) × (listed_cmp wide again ≡ Less)
+which_comes_first = (refl, refl)
 
-pub the_earlier_list_comes_first : listed_cmp wide again ≡ Less
-the_earlier_list_comes_first = refl
-
--- a refused line counts more than a line that is found
-pub nothing_is_found : search_status [] [] ≡ 1
-nothing_is_found = refl
-
-pub a_line_is_found : search_status ([] ∷ []) [] ≡ 0
-a_line_is_found = refl
-
-pub a_line_is_refused : search_status ([] ∷ []) ([] ∷ []) ≡ 2
-a_line_is_refused = refl
+-- nothing is found; a line is found; a refused line counts more than a line that is found
+pub exit_statuses : (search_status [] [] ≡ 1) × (search_status ([] ∷ []) [] ≡ 0)
+    × (search_status ([] ∷ []) ([] ∷ []) ≡ 2)
+exit_statuses = (refl, refl, refl)

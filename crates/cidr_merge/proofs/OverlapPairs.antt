@@ -14,6 +14,7 @@ use Rattle.cidr_merge.specs.Overlaps.{Listed, reaches, pair_text, pairs_with, pa
 use Rattle.cidr_merge.specs.Overlaps.{listed_cmp}
 use Rattle.cidr_merge.specs.Private.Entries.{listed_as, overlaps, KeepsReaching}
 use Rattle.cidr_merge.specs.declared.placed.Placed.{Placed}
+use Rattle.cidr_merge.proofs.Places.{up_to_next}
 use Rattle.cidr_merge.proofs.Checks.{tells_findings, found_more}
 use Rattle.cidr_merge.proofs.KeptEntries.{Swept, swept_more, as_it_was, same_further}
 use Rattle.cidr_merge.proofs.ListedOrder.{overlaps_falls}
@@ -58,13 +59,11 @@ pairs_with_more : {Z W : Type 0} (names : List (String Z)) (later : Placed) (bef
 pairs_with_more names later before index one old mid new l is h k =
     let text = pair_text names (listed_as later) in
     let done = map listed_as (take index before) in
-    let more : take (index + 1) before ≡ take index before ++ one ∷ [] =
-    take_more before index one l ∙ ap (λ y. take index before ++ y ∷ []) (sym is) in
     tells_same old new (concat (map text done ++ text (listed_as one) ∷ []))
     (concat (map text (map listed_as (take (index + 1) before))))
     (ap concat (sym (map_push text done (listed_as one))
     ∙ ap (map text) (sym (map_push listed_as (take index before) one)
-    ∙ ap (map listed_as) (sym more))))
+    ∙ ap (map listed_as) (sym (up_to_next before index one l is)))))
     (tells_findings old mid new (map text done) (text (listed_as one) ∷ []) h
     (tells_same mid new (text (listed_as one)) (concat (text (listed_as one) ∷ []))
     (sym (append-nil (text (listed_as one)))) k))

@@ -1,41 +1,15 @@
 -- Texts that are written, one after the other.
-use Rattle.std.proofs.Common.{◌≡◌, ◌||◌, ℕ, Bool, true, false, List, [], ◌∷◌, ◌++◌, refl, sym, ap}
-use Rattle.std.proofs.Common.{◌∙◌, subst, arith, append_assoc, append-nil}
+use Rattle.std.proofs.Common.{◌≡◌, ℕ, List, ◌++◌, refl, ap}
+use Rattle.std.proofs.Common.{◌∙◌, subst, arith, append_assoc}
 use Rattle.std.specs.Prelude.{Option, Result, Ok, Err, OnOk, ◌≢◌}
-use Rattle.std.specs.List.{flat_map}
-use Rattle.std.proofs.lemmas.Grind.{flat_map-append}
 use Rattle.cidr_merge.specs.Answers.{sign_of, AreBoth, AreCountsLeft, AreCounts}
 use Rattle.lines.specs.Outputs.{Puts}
 use Rattle.lines.proofs.Putting.{puts_more}
-use Rattle.cidr_merge.specs.declared.command_line.Form.{Form}
 use Rattle.cidr_merge.specs.declared.command_line.Operation.{Operation}
 use Rattle.cidr_merge.specs.declared.command_line.Operation.TheVariants.{Union, Common, Minus}
 use Rattle.cidr_merge.specs.declared.command_line.Operation.TheVariants.{Differ}
 use Rattle.cidr_merge.specs.declared.reading.Sets.{Sets}
 use Rattle.cidr_merge.specs.declared.sides.Side.TheVariants.{First, Second}
-
--- a line more
-pub puts_line : {X : Type 0} (line : X → List ℕ) (held mid holds : Option (List ℕ))
-    (waited between waits : List ℕ) (done left after all : List X) (x : X)
-    → done ++ left ≡ all → left ≡ x ∷ after → Puts held waited mid between (flat_map line done)
-    → Puts mid between holds waits (line x)
-    → (more : List X) × (more ++ after ≡ all) × Puts held waited holds waits (flat_map line more)
-puts_line line held mid holds waited between waits done left after all x e f p q = (
-  done ++ x ∷ [],
-  append_assoc done (x ∷ []) after ∙ ap (λ t. done ++ t) (sym f) ∙ e,
-  subst (Puts held waited holds waits) (sym (flat_map-append line done (x ∷ [])
-      ∙ ap (λ t. flat_map line done ++ t) (append-nil (line x))))
-      (puts_more held mid holds waited between waits (flat_map line done) (line x) p q),
-)
-
--- the last line was written
-pub puts_all : {X : Type 0} (line : X → List ℕ) (held holds : Option (List ℕ))
-    (waited waits : List ℕ) (done left all : List X)
-    → done ++ left ≡ all → left ≡ [] → Puts held waited holds waits (flat_map line done)
-    → Puts held waited holds waits (flat_map line all)
-puts_all line held holds waited waits done left all e f p =
-    subst (λ t. Puts held waited holds waits (flat_map line t))
-    (sym (append-nil done) ∙ ap (λ t. done ++ t) (sym f) ∙ e) p
 
 pub put_three_ok : {T E : Type 0} (result : Result T E) (held first second holds : Option (List ℕ))
     (waited after_first after_second waits x y z front middle : List ℕ) → x ≡ front → y ≡ middle
@@ -125,16 +99,6 @@ pub both_ok : {T E : Type 0} (result : Result T E) (P Q : List ℕ → Type 0)
 both_ok result P Q held mid holds waited between waits p q =
     then_ok result P Q (AreBoth P Q) held mid holds waited between waits
     (λ x y h k. (x, y, h, k, refl)) p q
-
--- a form that is known
-pub by_form : {T E : Type 0} (result : Result T E) (form other : Form) (holds : Form → Type 0)
-    → form ≡ other → OnOk result (holds other) → OnOk result (holds form)
-by_form result form other holds e h = subst (λ f. OnOk result (holds f)) (sym e) h
-
--- a writer that has failed or not still has
-pub failed_same : (old mid new : Bool) → mid ≡ old → new ≡ (mid || false) → new ≡ old
-failed_same old false new e f = f ∙ e
-failed_same old true new e f = f ∙ e
 
 -- ---- counts
 

@@ -1,12 +1,12 @@
 -- What is printed and told of lists that are searched, line by line and list by list.
 use Rattle.std.proofs.Common.{◌≡◌, ◌+◌, ◌||◌, ◌<◌, ◌≤◌, ◌∙◌, ℕ, Bool, false, List, [], ◌∷◌, ◌++◌}
 use Rattle.std.proofs.Common.{refl, sym, ap, subst, arith, length, map, take, get_or, append_assoc}
-use Rattle.std.proofs.Common.{append-nil, length-append, length-take}
+use Rattle.std.proofs.Common.{append-nil, length-append}
 use Rattle.std.specs.Prelude.{String}
 use Rattle.std.specs.List.{concat}
 use Rattle.std.specs.String.{string_bytes}
 use Rattle.std.specs.Str.Lines.{lines}
-use Rattle.std.proofs.lemmas.List.{take_more, take_all, get_or-map, length-map}
+use Rattle.std.proofs.lemmas.List.{take_all, get_or-map, length-map}
 use Rattle.lines.specs.Outputs.{Written}
 use Rattle.ipnetwork_addr.specs.Either.{NamesIp}
 use Rattle.ipnetwork_addr.specs.declared.ip.IpAddr.{IpAddr}
@@ -19,6 +19,7 @@ use Rattle.cidr_merge.specs.Finds.{ListsReport}
 use Rattle.cidr_merge.specs.FindWords.{AreAddresses}
 use Rattle.cidr_merge.specs.Private.Reported.{Reports}
 use Rattle.cidr_merge.proofs.Checks.{tells_findings, found_more}
+use Rattle.cidr_merge.proofs.Places.{up_to_next, both_up_to_next, both_whole}
 use Rattle.cidr_merge.proofs.SoughtWords.{address_at}
 
 -- ---- what two parts wrote
@@ -109,7 +110,7 @@ matched_more name number line entry words addresses place word bytes address oth
     let one = subst (λ (t : List ℕ). AddressReport name number line entry t address k.0) b k.1 in (
       h.0 ++ k.0,
       subst (λ ws. AddressesReport name number line entry ws (h.0 ++ k.0))
-          (ap (λ w. take place words ++ w ∷ []) is ∙ sym (take_more words place word l))
+          (sym (up_to_next words place word l is))
           (address_more name number line entry
           (take place words) word address h.0 k.0 h.1 names one),
       tells_findings old mid new h.0 k.0 h.2 k.2,
@@ -250,19 +251,10 @@ list_on : {Z : Type 0} (words names : List (String Z)) (texts : List (List ℕ))
     → ListsReport words (take (place + 1) names) (take (place + 1) texts) (printed ++ one)
     (told ++ also)
 list_on words names texts place name text printed told one also l e is are h k =
-    let within : place < length texts = omega (arith, l, e) in
-    let as_many : length (take place texts) ≡ length (take place names) =
-    omega (arith, l, within, length-take place names, length-take place texts) in
-    let more : take (place + 1) names ≡ take place names ++ name ∷ [] =
-    take_more names place name l ∙ ap (λ n. take place names ++ n ∷ []) (sym is) in
-    let many : take (place + 1) texts ≡ take place texts ++ text ∷ [] =
-    take_more texts place text within ∙ ap (λ t. take place texts ++ t ∷ []) (sym are) in
-    subst (λ ns. ListsReport words ns (take (place + 1) texts) (printed ++ one) (told ++ also))
-    (sym more)
-    (subst (λ ts. ListsReport words (take place names ++ name ∷ []) ts (printed ++ one)
-    (told ++ also)) (sym many)
-    (lists_more words (take place names)
-    (take place texts) name text printed told one also as_many h k))
+    both_up_to_next (λ ns ts. ListsReport words ns ts (printed ++ one) (told ++ also)) names texts
+    place name text l e is are
+    (λ many. lists_more words (take place names) (take place texts) name text printed told one also
+    many h k)
 
 -- the lists before a place were searched
 pub lists_searched_more : {Z X W E : Type 0} (items : X → List ℕ) (words names : List (String Z))
@@ -301,6 +293,4 @@ pub all_lists_searched : {Z W E : Type 0} (words names : List (String Z)) (texts
 all_lists_searched words names texts place old new errors after printed told l e h =
     reports_same (ListsReport words (take place names) (take place texts))
     (ListsReport words names texts) old new errors after printed told
-    (λ p t k. subst (λ ns. ListsReport words ns texts p t) (take_all place names l)
-    (subst (λ ts. ListsReport words (take place names) ts p t)
-    (take_all place texts (omega (arith, l, e))) k)) h
+    (λ p t k. both_whole (λ ns ts. ListsReport words ns ts p t) names texts place l e k) h

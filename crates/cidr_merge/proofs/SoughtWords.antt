@@ -1,13 +1,14 @@
 -- The addresses that words name.
-use Rattle.std.proofs.Common.{◌≡◌, ◌+◌, ◌<◌, ◌≤◌, ◌∙◌, ℕ, zero, suc, List, [], ◌∷◌, ◌++◌, refl, sym}
-use Rattle.std.proofs.Common.{ap, subst, arith, length, take, drop, get_or, append_assoc}
+use Rattle.std.proofs.Common.{◌≡◌, ◌+◌, ◌<◌, ◌≤◌, ℕ, zero, suc, List, [], ◌∷◌, ◌++◌, refl, sym}
+use Rattle.std.proofs.Common.{subst, arith, length, take, drop, get_or}
 use Rattle.std.proofs.Common.{length-take}
 use Rattle.std.specs.Prelude.{String}
 use Rattle.std.specs.String.{string_bytes}
-use Rattle.std.proofs.lemmas.List.{take_more, take_all, take-append-drop}
+use Rattle.std.proofs.lemmas.List.{take_all}
 use Rattle.ipnetwork_addr.specs.Either.{NamesIp}
 use Rattle.ipnetwork_addr.specs.declared.ip.IpAddr.{IpAddr}
 use Rattle.cidr_merge.specs.FindWords.{AreAddresses, IsFirstWrong}
+use Rattle.cidr_merge.proofs.Places.{up_to_next, cut_at}
 
 -- there are as many addresses as words
 pub as_many_addresses : {Z : Type 0} (words : List (String Z)) (addresses : List IpAddr)
@@ -46,7 +47,7 @@ pub addresses_on : {Z : Type 0} (words : List (String Z)) (addresses : List IpAd
     → AreAddresses (take (place + 1) words) (addresses ++ address ∷ [])
 addresses_on words addresses place word bytes address l is b h k =
     subst (λ ws. AreAddresses ws (addresses ++ address ∷ []))
-    (ap (λ w. take place words ++ w ∷ []) is ∙ sym (take_more words place word l))
+    (sym (up_to_next words place word l is))
     (addresses_more (take place words) addresses word address h
     (subst (λ (t : List ℕ). NamesIp t address) b k))
 
@@ -68,9 +69,7 @@ first_wrong first words addresses place word bytes l is b h k = record {
   word = word;
   behind = drop (place + 1) words;
   addresses = addresses;
-  cut = sym (take-append-drop (place + 1) words) ∙ ap (λ ws. ws ++ drop (place + 1) words)
-      (take_more words place word l ∙ ap (λ w. take place words ++ w ∷ []) (sym is))
-      ∙ append_assoc (take place words) (word ∷ []) (drop (place + 1) words);
+  cut = cut_at words place word l is;
   count = omega (arith, l, length-take place words);
   right = h;
   wrong = subst (λ (t : List ℕ). (address : IpAddr) → ¬ (NamesIp t address)) b k;

@@ -16,7 +16,7 @@ use Rattle.cidr_merge.specs.declared.command_line.Operation.{Operation}
 
 -- the least list of a set is that of its own union, of which the blocks are fewer than the
 -- addresses
-pub adds_up : (w : ℕ) (set : ℕ → Type 0) (blocks : List Network) → IsLeastList w set blocks
+adds_up : (w : ℕ) (set : ℕ → Type 0) (blocks : List Network) → IsLeastList w set blocks
     → ((x : ℕ) → InUnion w blocks x ↔ set x) → SetHasFewerBlocks
     → HasCount set (total w blocks) → total w blocks ≤ 2 ^ w → AddUp w set blocks
 adds_up w set blocks h same fewer count within = record {
@@ -27,11 +27,20 @@ adds_up w set blocks h same fewer count within = record {
       (λ x. ((same x).1, (same x).0)) h);
 }
 
-pub add_up_by : (operation other : Operation) → operation ≡ other
-    → (w : ℕ) (first second blocks : List Network) → AddUp w (IsLeft other w first second) blocks
-    → AddUp w (IsLeft operation w first second) blocks
-add_up_by operation other e w first second blocks h =
-    subst (λ (o : Operation). AddUp w (IsLeft o w first second) blocks) (sym e) h
+-- what is left, by another name of the operation and of the blocks
+pub left_by : (operation other : Operation) → operation ≡ other
+    → (w : ℕ) (first second left blocks : List Network) → left ≡ blocks
+    → IsLeastList w (IsLeft other w first second) blocks
+    → ((x : ℕ) → InUnion w blocks x ↔ IsLeft other w first second x) → SetHasFewerBlocks
+    → HasCount (IsLeft other w first second) (total w blocks) → total w blocks ≤ 2 ^ w
+    → IsLeastList w (IsLeft operation w first second) left
+    × AddUp w (IsLeft operation w first second) left
+left_by operation other e w first second left blocks is h same fewer count within =
+    subst (λ (o : Operation). IsLeastList w (IsLeft o w first second) left
+    × AddUp w (IsLeft o w first second) left) (sym e)
+    (subst (λ (l : List Network). IsLeastList w (IsLeft other w first second) l
+    × AddUp w (IsLeft other w first second) l) (sym is)
+    (h, adds_up w (IsLeft other w first second) blocks h same fewer count within))
 
 -- ---- sums that are kept to a greatest number
 

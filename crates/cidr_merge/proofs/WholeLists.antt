@@ -1,16 +1,17 @@
 -- How whole lists are read.
 use Rattle.std.proofs.Common.{◌≡◌, ◌+◌, ◌<◌, ◌≤◌, ◌∙◌, ℕ, Bool, true, List, [], ◌∷◌, ◌++◌, refl}
 use Rattle.std.proofs.Common.{sym, ap, subst, arith, length, map, take, drop, get_or, append-nil}
-use Rattle.std.proofs.Common.{append_assoc, length-take}
+use Rattle.std.proofs.Common.{length-take}
 use Rattle.std.specs.Prelude.{Option, None, Some, Result, Ok, Err, IfOk, IfErr, IsTrue, String}
 use Rattle.std.specs.String.{string_bytes}
 use Rattle.std.specs.Io.KnownBytes.{Consumes, IsAtEnd}
-use Rattle.std.proofs.lemmas.List.{take_more, take_all, take-append-drop, map-append}
+use Rattle.std.proofs.lemmas.List.{take_all, map-append, length-map}
 use Rattle.lists.specs.KnownLists.{KnownLists}
 use Rattle.lists.specs.declared.named.ReadFault.{ReadFault}
 use Rattle.lists.specs.declared.named.ReadFault.TheVariants as faults
 use Rattle.cidr_merge.specs.Texts.{IsTextOf, AreTexts, TextStops, TextsStop}
 use Rattle.cidr_merge.specs.Private.Devices.{ReadsAll, StopsReading}
+use Rattle.cidr_merge.proofs.Places.{up_to_next, cut_at}
 
 -- ---- one list
 
@@ -31,7 +32,7 @@ read_all (Some was) (Some left) read input e h end =
 module _ (known : KnownLists) (name : List ℕ) (number : ℕ) (remained remains : Option (List ℕ))
     (has : (input : List ℕ) → known.bytes_of name ≡ Some input → remained ≡ Some input)
     (opened : known.may_open name true) where
-  pub text_read : {X : Type 0} (items : X → List ℕ) (result : Result X ReadFault)
+  text_read : {X : Type 0} (items : X → List ℕ) (result : Result X ReadFault)
       → IfOk result (λ t. ReadsAll remained remains (items t))
       → IfOk result (λ t. IsTextOf known name (items t))
   text_read items (Ok text) h =
@@ -46,11 +47,20 @@ module _ (known : KnownLists) (name : List ℕ) (number : ℕ) (remained remains
   stops_by failed (faults.NotJson place line) fails h = absurd h
   stops_by failed faults.OutOfMemory fails h = tt
 
-  pub text_stops : {X : Type 0} (failed : Bool) (result : Result X ReadFault)
+  text_stops : {X : Type 0} (failed : Bool) (result : Result X ReadFault)
       → (IsTrue failed → known.may_fail name) → IfErr result (StopsReading failed number)
       → IfErr result (TextStops known number name)
   text_stops failed (Ok text) fails h = tt
   text_stops failed (Err fault) fails h = stops_by failed fault fails h
+
+  pub text_ends : {X : Type 0} (items : X → List ℕ) (failed : Bool) (result : Result X ReadFault)
+      → (IsTrue failed → known.may_fail name)
+      → IfOk result (λ t. ReadsAll remained remains (items t))
+      → IfErr result (StopsReading failed number)
+      → IfOk result (λ t. IsTextOf known name (items t))
+      × IfErr result (TextStops known number name)
+  text_ends items failed result fails h k =
+      (text_read items result h, text_stops failed result fails k)
 
 -- ---- lists in turn
 
@@ -74,6 +84,12 @@ as_many known (name ∷ names) [] h = absurd h
 as_many known (name ∷ names) (text ∷ texts) h =
     let e = as_many known names texts h.1 in omega (arith, e)
 
+pub as_many_held : {Z X : Type 0} (known : KnownLists) (names : List (String Z))
+    (texts : List X) (items : X → List ℕ) (held : List X) → held ≡ texts
+    → AreTexts known names (map items texts) → length held ≡ length names
+as_many_held known names texts items held e h =
+    ap length e ∙ sym (length-map texts items) ∙ as_many known names (map items texts) h
+
 -- the list at a place was read
 pub texts_on : {Z : Type 0} (known : KnownLists) (names : List (String Z)) (place : ℕ)
     (name : String Z) (texts : List (List ℕ)) (text : List ℕ) → place < length names
@@ -82,7 +98,7 @@ pub texts_on : {Z : Type 0} (known : KnownLists) (names : List (String Z)) (plac
     → AreTexts known (take (place + 1) names) (texts ++ text ∷ [])
 texts_on known names place name texts text l is h k =
     subst (λ ns. AreTexts known ns (texts ++ text ∷ []))
-    (ap (λ n. take place names ++ n ∷ []) is ∙ sym (take_more names place name l))
+    (sym (up_to_next names place name l is))
     (texts_more known (take place names) texts name text h k)
 
 pub text_more : {Z X : Type 0} (items : X → List ℕ) (known : KnownLists) (names : List (String Z))
@@ -117,9 +133,7 @@ texts_stop known number place at names name texts fault l is h e stops =
       name = name;
       behind = drop (place + 1) names;
       texts = texts;
-      cut = sym (take-append-drop (place + 1) names) ∙ ap (λ l. l ++ drop (place + 1) names)
-          (take_more names place name l ∙ ap (λ n. take place names ++ n ∷ []) (sym is))
-          ∙ append_assoc (take place names) (name ∷ []) (drop (place + 1) names);
+      cut = cut_at names place name l is;
       reads = h;
       stops = subst (λ (n : ℕ). TextStops known n (string_bytes name) fault) count stops;
     }

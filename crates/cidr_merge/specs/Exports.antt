@@ -11,79 +11,50 @@ use Rattle.cidr_merge.specs.declared.exports.Export.TheVariants.{Json, Addresses
 use Rattle.cidr_merge.specs.declared.exports.Version.{Version}
 use Rattle.cidr_merge.specs.declared.exports.Version.TheVariants.{V4, V6}
 
--- ---- what stands around the blocks
+-- ---- what stands around the blocks: nothing, where a form is not named
 
 -- before everything else
 abbrev pub head : Export → List ℕ
-head Netmask = []
-head Wildcard = []
 head Csv = codes "family,network,first,last\n"
 head Nft = codes "table inet cidr_merge {\n"
-head Ipset = []
 head Json = codes "["
-head Addresses = []
+head _ = []
 
 -- after everything else
 abbrev pub foot : Export → List ℕ
-foot Netmask = []
-foot Wildcard = []
-foot Csv = []
 foot Nft = codes "}\n"
-foot Ipset = []
 foot Json = codes "\n]\n"
-foot Addresses = []
+foot _ = []
 
 -- before the blocks of a family, even if there is none: what makes its set
 abbrev pub family_head : Export → Version → List ℕ
-family_head Netmask version = []
-family_head Wildcard version = []
-family_head Csv version = []
 family_head Nft V4 = codes "\tset ipv4 {\n\t\ttype ipv4_addr\n\t\tflags interval\n"
 family_head Nft V6 = codes "\tset ipv6 {\n\t\ttype ipv6_addr\n\t\tflags interval\n"
 family_head Ipset V4 = codes "create cidr_merge_ipv4 hash:net family inet maxelem 4294967295\n"
 family_head Ipset V6 = codes "create cidr_merge_ipv6 hash:net family inet6 maxelem 4294967295\n"
-family_head Json version = []
-family_head Addresses version = []
+family_head _ _ = []
 
 -- after the blocks of a family, even if there is none
 abbrev pub family_foot : Export → List ℕ
-family_foot Netmask = []
-family_foot Wildcard = []
-family_foot Csv = []
 family_foot Nft = codes "\t}\n"
-family_foot Ipset = []
-family_foot Json = []
-family_foot Addresses = []
+family_foot _ = []
 
 -- before the first block of a family: in an array it may follow blocks of the other family
 abbrev pub opening : Export → Bool → List ℕ
-opening Netmask follows = []
-opening Wildcard follows = []
-opening Csv follows = []
 opening Nft follows = codes "\t\telements = {\n\t\t\t"
-opening Ipset follows = []
 opening Json follows = if follows then codes ",\n" else codes "\n"
-opening Addresses follows = []
+opening _ _ = []
 
 -- between two blocks of a family
 abbrev pub separator : Export → List ℕ
-separator Netmask = []
-separator Wildcard = []
-separator Csv = []
 separator Nft = codes ",\n\t\t\t"
-separator Ipset = []
 separator Json = codes ",\n"
-separator Addresses = []
+separator _ = []
 
 -- after the last block of a family
 abbrev pub closing : Export → List ℕ
-closing Netmask = []
-closing Wildcard = []
-closing Csv = []
 closing Nft = codes "\n\t\t}\n"
-closing Ipset = []
-closing Json = []
-closing Addresses = []
+closing _ = []
 
 -- ---- a block
 

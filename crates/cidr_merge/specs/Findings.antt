@@ -13,6 +13,7 @@ use Rattle.lists.specs.declared.entry.Entry.{Entry}
 use Rattle.lists.specs.declared.entry.Entry.TheVariants as entries
 use Rattle.lists.specs.declared.fault.LineFault.{LineFault}
 use Rattle.lists.specs.declared.fault.LineFault.TheVariants as faults
+use Rattle.cidr_merge.specs.InTurn.{InTurn}
 
 -- where a line stands: `FILE:LINE`
 abbrev pub place_text : List ℕ → ℕ → List ℕ
@@ -67,10 +68,7 @@ LineFindings strictly name number line findings =
 
 -- those of these lines, of which the first has this number
 abbrev pub LinesFindings : Bool → List ℕ → ℕ → List (List ℕ) → List (List ℕ) → Type 0
-LinesFindings strictly name number [] findings = findings ≡ []
-LinesFindings strictly name number (line ∷ lines) findings =
-    (one : List (List ℕ)) × (others : List (List ℕ)) × LineFindings strictly name number line one
-    × LinesFindings strictly name (1 + number) lines others × (findings ≡ one ++ others)
+LinesFindings strictly name = InTurn (LineFindings strictly name)
 
 -- those of the lists of these names, which have these bytes
 abbrev pub ListsFindings : {Z : Type 0} → Bool → List (String Z) → List (List ℕ) → List (List ℕ)

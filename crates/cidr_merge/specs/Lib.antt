@@ -9,6 +9,7 @@ pub mod FindWords
 pub mod Findings
 pub mod Finds
 pub mod InspectionRuns
+pub mod InTurn
 pub mod Inspections
 pub mod Laws
 pub mod Overlaps

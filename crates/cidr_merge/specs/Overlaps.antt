@@ -13,6 +13,7 @@ use Rattle.lists.specs.declared.entry.Entry.TheVariants as entries
 use Rattle.lists.specs.declared.fault.LineFault.{LineFault}
 use Rattle.program.specs.Told.{name_at}
 use Rattle.cidr_merge.specs.Findings.{place_text, IsWrong, LineSays}
+use Rattle.cidr_merge.specs.InTurn.{InTurn}
 
 -- an entry: its first and its last address, and the numbers of its list, from 0 on, and of its
 -- line, from 1 on
@@ -40,17 +41,11 @@ LineEntries list number line found =
 
 -- of these lines, of which the first has this number
 abbrev pub LinesEntries : ℕ → ℕ → List (List ℕ) → List Listed → Type 0
-LinesEntries list number [] found = found ≡ []
-LinesEntries list number (line ∷ lines) found =
-    (one others : List Listed) × LineEntries list number line one
-    × LinesEntries list (1 + number) lines others × (found ≡ one ++ others)
+LinesEntries list = InTurn (LineEntries list)
 
 -- of lists with these bytes, of which the first has this number
 abbrev pub ListsEntries : ℕ → List (List ℕ) → List Listed → Type 0
-ListsEntries list [] found = found ≡ []
-ListsEntries list (text ∷ texts) found =
-    (one others : List Listed) × LinesEntries list 1 (lines text) one
-    × ListsEntries (1 + list) texts others × (found ≡ one ++ others)
+ListsEntries = InTurn (λ list text. LinesEntries list 1 (lines text))
 
 -- the order of entries: by the first address, the last address from the greatest on, the list, the
 -- line

@@ -10,6 +10,7 @@ use lines::output::Output;
 use std::io::Write;
 
 /// Prints each of the addresses on a line.
+#[tactic(auto, using(crate::proofs::Printed::none_printed, crate::proofs::Printed::all_printed, crate::proofs::Merging::shorter))]
 pub(crate) fn print_addresses<A: Address, W: Write>(
     mut addresses: NetworkIterator<A>,
     output: &mut Output<'_, W>,

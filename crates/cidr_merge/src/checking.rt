@@ -1,12 +1,12 @@
 //! Tells the wrong entries of lists, and strictly those with host bits too.
-ghost use Rattle.std.specs.Prelude.{◌≡◌, ◌&&◌, ◌||◌, ℕ, List as Texts, length, map};
+ghost use Rattle.std.specs.Prelude.{◌≡◌, ◌&&◌, ℕ, List as Texts, length, map};
 ghost use Rattle.std.specs.List.{concat};
 ghost use Rattle.std.specs.Str.Lines.{lines};
 ghost use Rattle.program.specs.Messages.{Tells};
 ghost use Rattle.cidr_merge.specs.Findings.{LineFindings, LinesFindings, ListsFindings};
 ghost use Rattle.cidr_merge.specs.Findings.{IsFound, has_host_bits, host_findings};
 
-use crate::findings::{tell_host_bits, tell_wrong};
+use crate::findings::{either, tell_host_bits, tell_wrong};
 use crate::named::entry_of;
 use crate::overlapping::is_up_to;
 use crate::placed::key_of;
@@ -122,11 +122,4 @@ fn has_host_bits(said: Option<Entry>) -> bool
         Some(Entry::Range { .. }) => false,
         None => false,
     }
-}
-
-// Whether one of two is so.
-fn either(first: bool, second: bool) -> bool
-    ensures { result ≡ (first || second) }
-{
-    first || second
 }

@@ -15,6 +15,7 @@ use lines::output::Output;
 use std::io::Write;
 
 /// Prints the pieces of this prefix length of each block of a set.
+#[tactic(auto, using(crate::proofs::Printed::none_printed, crate::proofs::Printed::all_printed, crate::proofs::Merging::shorter))]
 pub(crate) fn print_pieces<A: Address, W: Write>(
     length: u8,
     set: &AddressSet<Network<A>>,
@@ -47,6 +48,7 @@ fn print_block<A: Address, W: Write>(
 }
 
 // Prints networks, each on a line.
+#[tactic(auto, using(crate::proofs::Printed::none_printed, crate::proofs::Printed::all_printed, crate::proofs::Merging::shorter))]
 fn print_networks<A: Address, W: Write>(
     mut networks: SubnetIterator<Network<A>>,
     output: &mut Output<'_, W>,

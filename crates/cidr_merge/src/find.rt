@@ -12,12 +12,12 @@ use crate::help::{PROGRAM, USAGE};
 use crate::searching::search_lists;
 use crate::sought::{Sought, SoughtFault, addresses_of};
 use crate::texts::texts_of;
+use crate::usage::{fault_of_word, refuse};
 use ipnetwork::IpAddr;
 use lines::output::Output;
 use lists::{OpenLists, ReadFault};
 use program::ending::{FAILED, end};
 use program::telling::tell_fault;
-use program::usage::{Subject, refuse_usage};
 use program::words::text_at;
 use std::alloc::Global;
 use std::io::Write;
@@ -43,8 +43,7 @@ pub(crate) fn find<L: OpenLists, W: Write, E: Write>(
 {
     let others = &words[1..];
     if let Some(fault) = find_fault(others) {
-        let problem = fault.problem.text(words);
-        return refuse_usage(PROGRAM, USAGE, words, fault.subject, problem, errors);
+        return refuse(words, fault, errors);
     }
     match addresses_of(alloc, before_dashes(others), 1) {
         Ok(addresses) => find_all(alloc, words, addresses.as_slice(), lists, output, errors),
@@ -60,8 +59,8 @@ fn refuse_sought<E: Write>(fault: SoughtFault, words: &[String], errors: &mut Ou
 {
     match fault {
         SoughtFault::NotAnAddress(place) => {
-            let problem = sought_problem(text_at(words, place)).text(words);
-            refuse_usage(PROGRAM, USAGE, words, Subject::Word(place), problem, errors)
+            let problem = sought_problem(text_at(words, place));
+            refuse(words, fault_of_word(place, problem), errors)
         }
         SoughtFault::OutOfMemory => {
             tell_fault(words, ReadFault::OutOfMemory, errors);

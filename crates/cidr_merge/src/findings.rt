@@ -1,5 +1,5 @@
 //! The lines that tell what was found in lists.
-ghost use Rattle.std.specs.Prelude.{◌≡◌};
+ghost use Rattle.std.specs.Prelude.{◌≡◌, ◌++◌, ◌||◌, codes};
 ghost use Rattle.program.specs.Messages.{Tells};
 ghost use Rattle.cidr_merge.specs.Findings.{place_text, refusal_text, host_bits_text};
 ghost use Rattle.cidr_merge.specs.Findings.{shown, separator};
@@ -20,12 +20,15 @@ pub(crate) fn tell_wrong<W: Write>(
     ensures { Tells output.old output.new (refusal_text name.now number fault line.now) }
 {
     let line = shown(fault, line);
-    tell_place(name, number, output);
-    tell(": refused ", output);
-    tell(fault.text(), output);
-    tell(separator(line), output);
-    tell_bytes(line, output);
-    tell("\n", output);
+    tell_line(
+        name,
+        number,
+        ": refused ",
+        fault.text(),
+        separator(line),
+        line,
+        output,
+    );
 }
 
 /// Tells that the entry of a line of the list of this name has host bits, and the line.
@@ -37,8 +40,27 @@ pub(crate) fn tell_host_bits<W: Write>(
 )
     ensures { Tells output.old output.new (host_bits_text name.now number line.now) }
 {
+    tell_line(name, number, ": host bits", "", ": ", line, output);
+}
+
+/// Tells where a line stands, what there is to say of it, in two parts, and behind a separator the
+/// line.
+pub(crate) fn tell_line<W: Write>(
+    name: &str,
+    number: usize,
+    what: &str,
+    about: &str,
+    separator: &str,
+    line: &[u8],
+    output: &mut Output<'_, W>,
+)
+    ensures { Tells output.old output.new (place_text name.now number ++ what.now ++ about.now
+        ++ separator.now ++ line.now ++ codes "\n") }
+{
     tell_place(name, number, output);
-    tell(": host bits: ", output);
+    tell(what, output);
+    tell(about, output);
+    tell(separator, output);
     tell_bytes(line, output);
     tell("\n", output);
 }
@@ -52,11 +74,18 @@ pub(crate) fn tell_place<W: Write>(name: &str, number: usize, output: &mut Outpu
     tell_number(number as u64, output);
 }
 
-/// Tells these bytes. If that fails, now or earlier, they are lost, and nothing else happens.
-pub(crate) fn tell_bytes<W: Write>(bytes: &[u8], output: &mut Output<'_, W>)
+// Tells these bytes. If that fails, now or earlier, they are lost, and nothing else happens.
+fn tell_bytes<W: Write>(bytes: &[u8], output: &mut Output<'_, W>)
     ensures { Tells output.old output.new bytes.now }
 {
     let _ = output.put(bytes);
+}
+
+/// Whether something was found here or there.
+pub(crate) fn either(here: bool, there: bool) -> bool
+    ensures { result ≡ (here || there) }
+{
+    here || there
 }
 
 // What is shown of a refused line: the line, unless it is too long.

@@ -1,5 +1,5 @@
 //! The run that looks lists over.
-ghost use Rattle.std.specs.Prelude.{◌≡◌, ◌<◌, ◌||◌, ℕ, List as Texts, length, map};
+ghost use Rattle.std.specs.Prelude.{◌≡◌, ◌<◌, ℕ, List as Texts, length, map};
 ghost use Rattle.std.specs.Prelude.{if◌then◌else◌};
 ghost use Rattle.std.specs.List.{concat};
 ghost use Rattle.std.specs.List.Sorted.{IsSorted};
@@ -13,19 +13,20 @@ ghost use Rattle.cidr_merge.specs.Private.Entries.{listed_as};
 ghost use Rattle.cidr_merge.specs.Repetitions.{found_among};
 
 use crate::checking::check_lists;
+use crate::findings::either;
 use crate::help::{PROGRAM, USAGE};
 use crate::inspections::{Inspection, inspection_fault};
 use crate::overlapping::tell_pairs;
 use crate::placed::{Placed, entries_of};
 use crate::repeating::tell_repetitions;
 use crate::texts::texts_of;
+use crate::usage::refuse;
 use crate::words::options_count;
 use lines::output::Output;
 use lists::OpenLists;
 use program::ending::{FAILED, end};
 use program::messages::tell;
 use program::telling::tell_fault;
-use program::usage::refuse_usage;
 use std::alloc::Global;
 use std::io::Write;
 
@@ -52,8 +53,7 @@ pub(crate) fn inspect<L: OpenLists, W: Write, E: Write>(
     let count = options_count(others);
     let names = &others[count..];
     if let Some(fault) = inspection_fault(inspection, &others[..count], names) {
-        let problem = fault.problem.text(words);
-        return refuse_usage(PROGRAM, USAGE, words, fault.subject, problem, errors);
+        return refuse(words, fault, errors);
     }
     match texts_of(alloc, lists, names, 1 + count) {
         Ok(texts) => answer(alloc, inspection, names, texts.as_slice(), output, errors),
@@ -146,13 +146,6 @@ fn tell_ordered<W: Write>(
     } else {
         tell_pairs(names, entries, output)
     }
-}
-
-// Whether one of two is so.
-fn either(first: bool, second: bool) -> bool
-    ensures { result ≡ (first || second) }
-{
-    first || second
 }
 
 // The exit status by whether something was found.

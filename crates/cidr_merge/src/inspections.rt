@@ -5,7 +5,7 @@ ghost use Rattle.cidr_merge.specs.Inspections.{inspection_called, inspection_of}
 ghost use Rattle.cidr_merge.specs.Inspections.{options_taken, options_problem, inspection_fault};
 
 use crate::problems::option_problem;
-use crate::usage::{UsageFault, fault_of_word, lists_fault, union_fault};
+use crate::usage::{UsageFault, fault_of_word, files_fault};
 use crate::words::stands;
 use program::words::text_at;
 
@@ -67,11 +67,7 @@ pub(crate) fn inspection_fault(
     if let Some(fault) = options_problem(options_taken(inspection), options) {
         return Some(fault);
     }
-    let first = 1 + options.len();
-    if let Some(fault) = lists_fault(names, first) {
-        return Some(fault);
-    }
-    union_fault(names, first)
+    files_fault(names, 1 + options.len())
 }
 
 // How many options an inspection takes.

@@ -1,5 +1,5 @@
 //! Tells which entries of lists overlap.
-ghost use Rattle.std.specs.Prelude.{◌≡◌, ◌≤◌, ◌<◌, ◌==◌, ◌||◌, ℕ, List as Texts, []};
+ghost use Rattle.std.specs.Prelude.{◌≡◌, ◌≤◌, ◌<◌, ◌==◌, ℕ, List as Texts, []};
 ghost use Rattle.std.specs.Prelude.{not, length, map};
 ghost use Rattle.std.specs.List.{concat};
 ghost use Rattle.std.specs.List.Sorted.{IsSorted};
@@ -8,7 +8,7 @@ ghost use Rattle.cidr_merge.specs.Findings.{IsFound};
 ghost use Rattle.cidr_merge.specs.Overlaps.{is_up_to, relation, pair_text, pairs_after, listed_cmp};
 ghost use Rattle.cidr_merge.specs.Private.Entries.{address_of, listed_as, KeepsReaching, Overlaps};
 
-use crate::findings::tell_place;
+use crate::findings::{either, tell_place};
 use crate::placed::{Key, Placed};
 use lines::output::Output;
 use program::messages::tell;
@@ -125,11 +125,4 @@ pub(crate) fn is_up_to(first: &Key, last: &Key) -> bool
     } else {
         last.0
     }
-}
-
-// Whether one of two is so.
-fn either(first: bool, second: bool) -> bool
-    ensures { result ≡ (first || second) }
-{
-    first || second
 }

@@ -80,6 +80,7 @@ fn print_ranges<A: Address, W: Write>(
 }
 
 // Prints the parts of the first side, and for `differ` among them those of the second.
+#[tactic(auto, using(crate::proofs::Printed::none_printed, crate::proofs::Printed::all_printed, crate::proofs::Merging::shorter))]
 fn print_parts<P: Parts, W: Write>(
     operation: Operation,
     firsts: P,

@@ -1,5 +1,5 @@
 //! Tells which entries of lists have addresses that another has.
-ghost use Rattle.std.specs.Prelude.{◌≡◌, ◌||◌, ℕ, List as Texts, map};
+ghost use Rattle.std.specs.Prelude.{◌≡◌, ℕ, List as Texts, map};
 ghost use Rattle.std.specs.List.{concat};
 ghost use Rattle.program.specs.Messages.{Tells};
 ghost use Rattle.cidr_merge.specs.Findings.{IsFound};
@@ -8,6 +8,7 @@ ghost use Rattle.cidr_merge.specs.Private.Entries.{listed_as};
 ghost use Rattle.cidr_merge.specs.Repetitions.{further, is_same, other_of};
 ghost use Rattle.cidr_merge.specs.Repetitions.{overlap_with, repetitions};
 
+use crate::findings::either;
 use crate::overlapping::{is_up_to, tell_pair};
 use crate::placed::Placed;
 use lines::output::Output;
@@ -103,11 +104,4 @@ fn further(earlier: &Placed, later: &Placed) -> Placed
     } else {
         *later
     }
-}
-
-// Whether one of two is so.
-fn either(first: bool, second: bool) -> bool
-    ensures { result ≡ (first || second) }
-{
-    first || second
 }

@@ -19,6 +19,7 @@ use crate::inspections::inspection_of;
 use crate::printing::print;
 use crate::reading::{Sets, read_side};
 use crate::split::split;
+use crate::usage::refuse;
 use crate::words::stands;
 use lines::fault::RunFault;
 use lines::output::Output;
@@ -26,7 +27,6 @@ use lists::{OpenLists, ReadFault, Refusals};
 use program::ending::{FAILED, end, print_text};
 use program::start::text_asked;
 use program::telling::{InLists, tell_fault, tell_refusals};
-use program::usage::refuse_usage;
 use std::alloc::Global;
 use std::io::Write;
 
@@ -78,10 +78,7 @@ fn operate<L: OpenLists, W: Write, E: Write>(
     }
     match request_of(words) {
         Ok(request) => merge(alloc, request, words, lists, output, errors),
-        Err(fault) => {
-            let problem = fault.problem.text(words);
-            refuse_usage(PROGRAM, USAGE, words, fault.subject, problem, errors)
-        }
+        Err(fault) => refuse(words, fault, errors),
     }
 }
 

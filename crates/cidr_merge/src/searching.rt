@@ -1,5 +1,5 @@
 //! Searches lists for addresses.
-ghost use Rattle.std.specs.Prelude.{◌≡◌, ◌||◌, ℕ, List as Texts, length, map};
+ghost use Rattle.std.specs.Prelude.{◌≡◌, ℕ, List as Texts, length, map};
 ghost use Rattle.std.specs.List.{concat};
 ghost use Rattle.std.specs.Str.Lines.{lines};
 ghost use Rattle.program.specs.Messages.{Tells};
@@ -9,14 +9,13 @@ ghost use Rattle.cidr_merge.specs.Finds.{has_text, AddressReport, AddressesRepor
 ghost use Rattle.cidr_merge.specs.Finds.{LineReport, LinesReport, ListsReport};
 ghost use Rattle.cidr_merge.specs.Private.Reported.{Reports};
 
-use crate::findings::{tell_bytes, tell_place, tell_wrong};
+use crate::findings::{either, tell_line, tell_wrong};
 use crate::named::{entry_of, has_address};
 use crate::sought::Sought;
 use crate::text_lines::TextLines;
 use ipnetwork::IpAddr;
 use lines::output::Output;
 use lists::Entry;
-use program::messages::tell;
 use std::io::Write;
 
 /// A line of a list.
@@ -188,17 +187,13 @@ fn print_line<W: Write>(word: &str, line: &Line<'_>, output: &mut Output<'_, W>)
     ensures { Tells output.old output.new
         (has_text line.now.name.now line.now.number word.now line.now.text.now) }
 {
-    tell_place(line.name, line.number, output);
-    tell(": has ", output);
-    tell(word, output);
-    tell(": ", output);
-    tell_bytes(line.text, output);
-    tell("\n", output);
-}
-
-// Whether one of two is so.
-fn either(first: bool, second: bool) -> bool
-    ensures { result ≡ (first || second) }
-{
-    first || second
+    tell_line(
+        line.name,
+        line.number,
+        ": has ",
+        word,
+        ": ",
+        line.text,
+        output,
+    );
 }

@@ -9,13 +9,13 @@ use crate::cutting::{count_pieces, print_pieces, too_many_text};
 use crate::help::{PROGRAM, USAGE};
 use crate::reading::{Sets, read_side};
 use crate::split_words::{SplitRequest, split_request};
+use crate::usage::refuse;
 use lines::fault::RunFault;
 use lines::output::Output;
 use lists::{OpenLists, Refusals};
 use program::ending::{FAILED, end};
 use program::messages::tell;
 use program::telling::{InLists, tell_fault, tell_refusals};
-use program::usage::refuse_usage;
 use std::alloc::Global;
 use std::io::Write;
 
@@ -36,10 +36,7 @@ pub(crate) fn split<L: OpenLists, W: Write, E: Write>(
 {
     match split_request(words) {
         Ok(request) => split_lists(alloc, request, words, lists, output, errors),
-        Err(fault) => {
-            let problem = fault.problem.text(words);
-            refuse_usage(PROGRAM, USAGE, words, fault.subject, problem, errors)
-        }
+        Err(fault) => refuse(words, fault, errors),
     }
 }
 

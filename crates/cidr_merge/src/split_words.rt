@@ -2,12 +2,12 @@
 ghost use Rattle.std.specs.Prelude.{◌≡◌, ◌≤◌, ◌+◌, ◌^◌, ◌<◌, length, IfOk, IfErr, IsTrue};
 ghost use Rattle.std.specs.Prelude.{MatchResult};
 ghost use Rattle.cidr_merge.specs.SplitWords.{after_shape, after_skip, shape_at, no_prefix};
-ghost use Rattle.cidr_merge.specs.SplitWords.{SaysLength, LengthFault, files_fault, SaysSplit};
+ghost use Rattle.cidr_merge.specs.SplitWords.{SaysLength, LengthFault, SaysSplit};
 ghost use Rattle.cidr_merge.specs.SplitWords.{SplitFault};
 
 use crate::problems::{Problem, option_problem};
 use crate::shapes::Shape;
-use crate::usage::{UsageFault, fault_of_word, lists_fault, union_fault};
+use crate::usage::{UsageFault, fault_of_word, files_fault};
 use crate::words::{begins_dashed, stands};
 use ipnetwork::parse::read_number;
 use program::words::text_at;
@@ -123,15 +123,4 @@ fn length_after(words: &[String], place: usize) -> Result<u8, UsageFault>
         Some(length) => Ok(length as u8),
         None => Err(fault_of_word(place + 1, Problem::NotALength)),
     }
-}
-
-// What is wrong with the names of the lists, of which the first is the word at the index `first`.
-fn files_fault(lists: &[String], first: usize) -> Option<UsageFault>
-    requires { first + length lists.now < 2 ^ 64 }
-    ensures { result ≡ files_fault first lists.now }
-{
-    if let Some(fault) = lists_fault(lists, first) {
-        return Some(fault);
-    }
-    union_fault(lists, first)
 }

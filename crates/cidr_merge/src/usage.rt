@@ -5,13 +5,20 @@ ghost use Rattle.cidr_merge.specs.CommandLines.{named_twice, is_strict_alone};
 ghost use Rattle.cidr_merge.specs.Usage.{no_operation, at_word, first_not, word_problem};
 ghost use Rattle.cidr_merge.specs.Usage.{wrong_option, options_fault, form_fault, lists_fault};
 ghost use Rattle.cidr_merge.specs.Usage.{name_problem, union_fault, no_second_side, sides_fault};
-ghost use Rattle.cidr_merge.specs.Usage.{fault_among};
+ghost use Rattle.cidr_merge.specs.Usage.{fault_among, first_of};
+ghost use Rattle.cidr_merge.specs.Problems.{problem_text};
+ghost use Rattle.program.specs.Messages.{Tells};
+ghost use Rattle.program.specs.Told.{name_at};
+ghost use Rattle.program.specs.Usage.{usage_text};
 
 use crate::command_line::{Form, Operation, form_called, form_of};
+use crate::help::{PROGRAM, USAGE};
 use crate::problems::{Problem, misplaced, option_problem};
 use crate::words::{has, is_dashed, is_repeated, place_of};
-use program::usage::Subject;
+use lines::output::Output;
+use program::usage::{Subject, refuse_usage};
 use program::words::{count_of, is, text_at};
+use std::io::Write;
 
 /// Why words are not a command.
 #[derive(Clone, Copy, Debug, PartialEq, Eq)]
@@ -40,6 +47,20 @@ pub(crate) fn fault_of_word(place: usize, problem: Problem) -> UsageFault
         subject: Subject::Word(place),
         problem,
     }
+}
+
+/// Reports what is wrong with these words, and returns the exit status.
+pub(crate) fn refuse<E: Write>(
+    words: &[String],
+    fault: UsageFault,
+    errors: &mut Output<'_, E>,
+) -> u8
+    ensures status { result ≡ 2 }
+    ensures told { Tells errors.old errors.new (usage_text PROGRAM.now USAGE.now words.now
+        fault.subject (problem_text (name_at words.now 0) fault.problem)) }
+{
+    let problem = fault.problem.text(words);
+    refuse_usage(PROGRAM, USAGE, words, fault.subject, problem, errors)
 }
 
 /// What is wrong with the options of an operation and its lists, which are all words after the
@@ -210,8 +231,19 @@ fn name_problem(text: &str) -> Problem
     }
 }
 
-/// What is wrong with the lists of the union, of which the first is the word at the index `first`.
-pub(crate) fn union_fault(lists: &[String], first: usize) -> Option<UsageFault>
+/// What is wrong with the names of lists of one side, of which the first is the word at the index `first`.
+pub(crate) fn files_fault(names: &[String], first: usize) -> Option<UsageFault>
+    requires { first + length names.now < 2 ^ 64 }
+    ensures { result ≡ first_of (lists_fault first names.now) (union_fault first names.now) }
+{
+    if let Some(fault) = lists_fault(names, first) {
+        return Some(fault);
+    }
+    union_fault(names, first)
+}
+
+// What is wrong with the lists of the union, of which the first is the word at the index `first`.
+fn union_fault(lists: &[String], first: usize) -> Option<UsageFault>
     requires { first + length lists.now < 2 ^ 64 }
     ensures { result ≡ union_fault first lists.now }
 {

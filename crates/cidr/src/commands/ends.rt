@@ -5,19 +5,19 @@ ghost use Rattle.cidr.specs.Private.Replies.{HasRoom, Adds};
 ghost use Rattle.cidr.specs.declared.replies.TheConstants.{ANSWER_MAX};
 
 use crate::commands::REFUSED;
+use crate::commands::reading::network_of;
 use crate::replies::{ANSWER_MAX, Answer, reply};
+use ipnetwork::IpNetwork;
 use ipnetwork::decimal::push_number;
-use ipnetwork::{IpNetwork, laws};
 use lines::buffer::Buffer;
 
 /// `ends`: the ends of a network, its mask and its size.
+#[tactic(auto, unfolding(crate::specs::Commands::ends_answer))]
 pub(crate) fn ends(word: &[u8], replies: &mut Buffer<'_>)
     requires { HasRoom replies.old }
     ensures { Adds replies.old replies.new (ends_answer word.now) }
 {
-    // Does nothing: the proof of this body needs the law.
-    laws::ip_network_reading_is_computed();
-    match IpNetwork::read_bytes(word) {
+    match network_of(word) {
         Ok(network) => {
             let mut text = Answer::new();
             push_ends(network, &mut text);

@@ -1,9 +1,11 @@
 //! `has` and `has4`: whether a network contains an address.
+ghost use Rattle.std.specs.Prelude.{codes, if◌then◌else◌};
 ghost use Rattle.cidr.specs.Commands.{has_answer, has4_answer};
 ghost use Rattle.cidr.specs.Private.Replies.{HasRoom, Adds};
 
+use crate::commands::reading::{address_of, network_of};
 use crate::replies::reply;
-use ipnetwork::{IpAddr, IpNetwork, Ipv4Addr, Ipv4Network, laws};
+use ipnetwork::{Ipv4Addr, Ipv4Network, laws};
 use lines::buffer::Buffer;
 
 /// The answers if a text names no network, or no address.
@@ -17,27 +19,22 @@ const YES: &str = "yes";
 const NO: &str = "no";
 
 /// `has`: whether a network contains an address, each of either family.
+#[tactic(auto, unfolding(crate::specs::Commands::has_answer))]
 pub(crate) fn has(network: &[u8], address: &[u8], replies: &mut Buffer<'_>)
     requires { HasRoom replies.old }
     ensures { Adds replies.old replies.new (has_answer network.now address.now) }
 {
-    // Does nothing: the proof of this body needs the laws.
-    laws::ip_network_reading_is_computed();
-    laws::ip_reading_is_computed();
+    // Does nothing: the proof of this body needs the law.
     laws::ip_membership_is_computed();
-    let Ok(network) = IpNetwork::read_bytes(network) else {
+    let Ok(network) = network_of(network) else {
         reply(replies, NO_NETWORK);
         return;
     };
-    let Ok(address) = IpAddr::read_bytes(address) else {
+    let Some(address) = address_of(address) else {
         reply(replies, NO_ADDRESS);
         return;
     };
-    if network.contains(address) {
-        reply(replies, YES);
-    } else {
-        reply(replies, NO);
-    }
+    reply_whether(network.contains(address), replies);
 }
 
 /// `has4`: whether an IPv4 network contains an IPv4 address.
@@ -56,7 +53,16 @@ pub(crate) fn has4(network: &[u8], address: &[u8], replies: &mut Buffer<'_>)
         reply(replies, NO_ADDRESS);
         return;
     };
-    if network.contains(address) {
+    reply_whether(network.contains(address), replies);
+}
+
+/// Adds the answer, by whether the network contains the address.
+#[inline(always)]
+fn reply_whether(contains: bool, replies: &mut Buffer<'_>)
+    requires { HasRoom replies.old }
+    ensures { Adds replies.old replies.new (if contains then codes "yes" else codes "no") }
+{
+    if contains {
         reply(replies, YES);
     } else {
         reply(replies, NO);

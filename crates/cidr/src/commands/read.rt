@@ -4,18 +4,18 @@ ghost use Rattle.cidr.specs.Commands.{read_answer, read4_answer, read6_answer, r
 ghost use Rattle.cidr.specs.Private.Replies.{HasRoom, Adds};
 
 use crate::commands::REFUSED;
+use crate::commands::reading::network_of;
 use crate::replies::reply;
-use ipnetwork::{CidrFault, IpNetwork, Ipv4Network, Ipv6Network, laws};
+use ipnetwork::{CidrFault, Ipv4Network, Ipv6Network, laws};
 use lines::buffer::Buffer;
 
 /// `read`: the canonical text of a network of either family.
+#[tactic(auto, unfolding(crate::specs::Commands::read_answer))]
 pub(crate) fn read(word: &[u8], replies: &mut Buffer<'_>)
     requires { HasRoom replies.old }
     ensures { Adds replies.old replies.new (read_answer word.now) }
 {
-    // Does nothing: the proof of this body needs the law.
-    laws::ip_network_reading_is_computed();
-    match IpNetwork::read_bytes(word) {
+    match network_of(word) {
         Ok(network) => reply(replies, network.canonical().as_str()),
         Err(_) => reply(replies, REFUSED),
     }
@@ -35,6 +35,7 @@ pub(crate) fn read4(word: &[u8], replies: &mut Buffer<'_>)
 }
 
 /// `read6`: the canonical text of an IPv6 network, or why the word names none.
+#[tactic(auto, unfolding(crate::specs::Commands::read6_answer))]
 pub(crate) fn read6(word: &[u8], replies: &mut Buffer<'_>)
     requires { HasRoom replies.old }
     ensures { Adds replies.old replies.new (read6_answer word.now) }

@@ -1,25 +1,26 @@
 //! `rel`: how the sets of two networks relate to each other.
 ghost use Rattle.std.specs.Prelude.{◌≡◌, ◌≤◌, length};
+ghost use Rattle.ipnetwork.specs.Computed.IpNetworks.{is_ip_subnet};
 ghost use Rattle.cidr.specs.Commands.{rel_answer, relation};
 ghost use Rattle.cidr.specs.Private.Replies.{HasRoom, Adds};
 
 use crate::commands::REFUSED;
+use crate::commands::reading::network_of;
 use crate::replies::reply;
 use ipnetwork::{IpNetwork, laws};
 use lines::buffer::Buffer;
 
 /// `rel`: how the sets of two networks relate to each other.
+#[tactic(auto, unfolding(crate::specs::Commands::rel_answer))]
 pub(crate) fn rel(first: &[u8], second: &[u8], replies: &mut Buffer<'_>)
     requires { HasRoom replies.old }
     ensures { Adds replies.old replies.new (rel_answer first.now second.now) }
 {
-    // Does nothing: the proof of this body needs the law.
-    laws::ip_network_reading_is_computed();
-    let Ok(first) = IpNetwork::read_bytes(first) else {
+    let Ok(first) = network_of(first) else {
         reply(replies, REFUSED);
         return;
     };
-    let Ok(second) = IpNetwork::read_bytes(second) else {
+    let Ok(second) = network_of(second) else {
         reply(replies, REFUSED);
         return;
     };
@@ -31,19 +32,26 @@ fn relation(first: IpNetwork, second: IpNetwork) -> &'static str
     ensures text { result.now ≡ relation first second }
     ensures short { length result.now ≤ 15 }
 {
-    // Does nothing: the proof of this body needs the law, and from the next two calls that these are networks.
-    laws::ip_subnet_is_computed();
-    let _ = first.prefix();
-    let _ = second.prefix();
-    if first.is_subnet_of(second) {
-        if second.is_subnet_of(first) {
+    if is_part(&first, &second) {
+        if is_part(&second, &first) {
             "same"
         } else {
             "inside"
         }
-    } else if second.is_subnet_of(first) {
+    } else if is_part(&second, &first) {
         "around"
     } else {
         "apart"
     }
+}
+
+/// Whether the set of a network is part of that of another.
+fn is_part(network: &IpNetwork, other: &IpNetwork) -> bool
+    ensures { result ≡ is_ip_subnet network.now other.now }
+{
+    // Does nothing: the proof of this body needs the law, and from the next two calls that these are networks.
+    laws::ip_subnet_is_computed();
+    let _ = network.prefix();
+    let _ = other.prefix();
+    network.is_subnet_of(*other)
 }

@@ -9,11 +9,12 @@ ghost use Rattle.cidr.specs.Requests.{Add, Drop, adding, dropping, finding, rout
 ghost use Rattle.cidr.specs.Words.{blank};
 
 use crate::commands::REFUSED;
+use crate::commands::reading::{address_of, network_of};
 use crate::replies::{Answer, reply};
 use crate::route_tables::RouteTables;
 use ipnetwork::decimal::push_number;
 use ipnetwork::parse::read_number;
-use ipnetwork::{IpAddr, IpNetwork, laws};
+use ipnetwork::{IpNetwork, laws};
 use lines::buffer::Buffer;
 
 /// The answer if no block holds the address.
@@ -30,10 +31,9 @@ pub(crate) fn add(network: &[u8], number: &[u8], routes: &mut RouteTables, repli
         (adding (ip_network_of network.now) (route_number_of number.now))
         replies.old replies.new (routes_of routes.new) }
 {
-    // Does nothing: the proof of this body needs the laws.
-    laws::ip_network_reading_is_computed();
+    // Does nothing: the proof of this body needs the law.
     laws::prefix_number_is_computed();
-    let Ok(network) = IpNetwork::read_bytes(network) else {
+    let Ok(network) = network_of(network) else {
         reply(replies, REFUSED);
         return;
     };
@@ -64,9 +64,7 @@ pub(crate) fn drop(network: &[u8], routes: &mut RouteTables, replies: &mut Buffe
     ensures { RepliesTo (routes_of routes.old)
         (dropping (ip_network_of network.now)) replies.old replies.new (routes_of routes.new) }
 {
-    // Does nothing: the proof of this body needs the law.
-    laws::ip_network_reading_is_computed();
-    let Ok(network) = IpNetwork::read_bytes(network) else {
+    let Ok(network) = network_of(network) else {
         reply(replies, REFUSED);
         return;
     };
@@ -91,9 +89,7 @@ pub(crate) fn find(address: &[u8], routes: &RouteTables, replies: &mut Buffer<'_
     ensures { RepliesTo (routes_of routes.now)
         (finding (ip_of address.now)) replies.old replies.new (routes_of routes.now) }
 {
-    // Does nothing: the proof of this body needs the law.
-    laws::ip_reading_is_computed();
-    let Ok(address) = IpAddr::read_bytes(address) else {
+    let Some(address) = address_of(address) else {
         reply(replies, REFUSED);
         return;
     };

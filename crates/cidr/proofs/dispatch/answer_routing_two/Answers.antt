@@ -1,11 +1,6 @@
 use Rattle.cidr.specs.Private.Routes.{routes_of}
-use Rattle.cidr.proofs.Requests.{plain_reply, chosen_reply, other_reply}
+use Rattle.cidr.proofs.Requests.{plain_reply, other_reply}
 use Rattle.cidr.proofs.dispatch.answer_routing_two.Goals as goal
-
-pub returns-then-is_add : goal.returns-then-is_add
-returns-then-is_add c =
-    let routes = routes_of c.args.routes.now in
-    chosen_reply routes (routes_of c.add.new.routes) _ _ _ _ _ _ c.is_add.ensures c.if-is_add.true c.add.ensures
 
 pub returns-else-is_add : goal.returns-else-is_add
 returns-else-is_add c =

@@ -1,18 +1,16 @@
-use Rattle.std.proofs.Common.{◌∙◌, length, map, refl, sym, ap, subst}
-use Rattle.std.proofs.lemmas.List.{take_rest, length-map}
+use Rattle.std.proofs.Common.{◌∙◌, map, refl, ap, subst}
+use Rattle.std.proofs.lemmas.List.{take_rest}
 use Rattle.program.specs.Endings.{ending}
 use Rattle.cidr_merge.specs.CommandLines.{before_dashes, behind_dashes}
 use Rattle.cidr_merge.specs.FindRuns.{EndsSearching}
 use Rattle.cidr_merge.proofs.SearchEnds.{searched, not_read}
-use Rattle.cidr_merge.proofs.WholeLists.{as_many}
+use Rattle.cidr_merge.proofs.WholeLists.{as_many_held}
 use Rattle.cidr_merge.proofs.find.find_all.Goals as goal
 
 pub search-requires-clause-texts : goal.search-requires-clause-texts
 search-requires-clause-texts g c =
-    let texts = c.in-Ok.texts.items in
-    ap length c.as_slice.ensures.value ∙ sym (length-map texts (λ text. text.items))
-    ∙ as_many (g.L.OpenLists.known c.args.lists.now) _ (map
-    (λ text. text.items) texts) c.in-Ok.ensures.ok
+    as_many_held (g.L.OpenLists.known c.args.lists.now) _ c.in-Ok.texts.items (λ text. text.items) _
+    c.as_slice.ensures.value c.in-Ok.ensures.ok
 
 pub returns-in-Ok : goal.returns-in-Ok
 returns-in-Ok g c =

@@ -1,20 +1,5 @@
-use Rattle.std.proofs.Common.{◌∙◌, ap}
-use Rattle.program.proofs.Told.{tells_more, tells_same}
-use Rattle.cidr_merge.specs.Findings.{separator}
 use Rattle.cidr_merge.proofs.findings.tell_wrong.Goals as goal
 
 pub returns : goal.returns
 returns g c =
-    let old = c.args.output.now in
-    tells_more old c.tell_bytes.new.output c.tell-4.new.errors _ _
-    (tells_more old c.tell-3.new.errors c.tell_bytes.new.output _ _
-    (tells_more old c.tell-2.new.errors c.tell-3.new.errors _ _
-    (tells_more old c.tell.new.errors c.tell-2.new.errors _ _
-    (tells_more old c.tell_place.new.output c.tell.new.errors _ _ c.tell_place.ensures
-    c.tell.ensures)
-    (tells_same c.tell.new.errors c.tell-2.new.errors _ _ c.text.ensures c.tell-2.ensures))
-    (tells_same c.tell-2.new.errors c.tell-3.new.errors _ _
-    (c.separator.ensures ∙ ap separator c.shown-line.ensures) c.tell-3.ensures))
-    (tells_same c.tell-3.new.errors c.tell_bytes.new.output _ _ c.shown-line.ensures
-    c.tell_bytes.ensures))
-    c.tell-4.ensures
+    rw (← c.text.ensures, ← c.shown-line.ensures, ← c.separator.ensures) c.tell_line.ensures

@@ -3,6 +3,7 @@ use Rattle.std.proofs.Common.{take, drop, filter}
 use Rattle.std.proofs.lemmas.List.{get_or_default}
 use Rattle.std.proofs.lemmas.List.Filters.{FiltersInPlace-more_swap, FiltersInPlace-more_no}
 use Rattle.cidr_merge.specs.Private.Entries.{overlaps}
+use Rattle.cidr_merge.specs.declared.placed.Placed.{Placed}
 use Rattle.cidr_merge.proofs.KeptEntries.{as_it_was, swapped_rest, same_further}
 use Rattle.cidr_merge.proofs.overlapping.keep_reaching.Goals.{then-overlaps, else-overlaps}
 use Rattle.cidr_merge.proofs.overlapping.keep_reaching.Goals as goal
@@ -44,34 +45,29 @@ loop-index-preserved c =
     let within : index < length entries =
     omega (arith, h.long, c.loop-index-test.true, c.requires.within, c.requires.place) in
     let next = same_further entries old index (index + 1) (omega arith) h.ahead in
+    let here : (later : Placed) → get_or entries index later
+    ≡ get_or entries index (get_or entries index later) =
+    λ later. get_or_default entries index later (get_or entries index later) within in
+    let tested : (later : Placed) → later ≡ get_or old c.args.place later
+    → overlaps later (get_or entries index later) ≡ c.overlaps.result =
+    λ later is. sym (c.overlaps.ensures later (get_or entries index later)
+    (is ∙ sym (as_it_was old entries index c.args.place later h.ahead
+    (omega (arith, c.loop-index-test.true, c.requires.within)))) (here later)) in
     elim c.if-overlaps.branch [
       | then-overlaps w ↦ rw (w.entries-is, w.count-is) (record {
         behind = omega (arith, h.behind);
         long = w.swap.ensures.len ∙ h.long;
         ahead = swapped_rest entries w.swap.new.self count index w.swap.ensures.by_index h.behind
             within ∙ next;
-        filtered = λ later is.
-            let one = get_or entries index later in
-            let here = get_or_default entries index later one within in
-            let there =
-            is ∙ sym (as_it_was old entries index c.args.place later h.ahead
-            (omega (arith, c.loop-index-test.true, c.requires.within))) in
-            FiltersInPlace-more_swap (h.filtered later is) within
-            (sym (c.overlaps.ensures later one there here)
-            ∙ w.if-overlaps.true) here w.swap.ensures.by_index;
+        filtered = λ later is. FiltersInPlace-more_swap (h.filtered later is) within
+            (tested later is ∙ w.if-overlaps.true) (here later) w.swap.ensures.by_index;
       })
       | else-overlaps w ↦ rw (w.entries-is, w.count-is) (record {
         behind = omega (arith, h.behind);
         long = h.long;
         ahead = next;
-        filtered = λ later is.
-            let one = get_or entries index later in
-            let here = get_or_default entries index later one within in
-            let there =
-            is ∙ sym (as_it_was old entries index c.args.place later h.ahead
-            (omega (arith, c.loop-index-test.true, c.requires.within))) in
-            FiltersInPlace-more_no (h.filtered later is) within
-            (sym (c.overlaps.ensures later one there here) ∙ w.if-overlaps.false) here;
+        filtered = λ later is. FiltersInPlace-more_no (h.filtered later is) within
+            (tested later is ∙ w.if-overlaps.false) (here later);
       })
     ]
 

@@ -1,20 +1,18 @@
-use Rattle.std.proofs.Common.{◌≡◌, ◌++◌, List, length}
-use Rattle.std.specs.List.{flat_map}
-use Rattle.cidr_merge.specs.Answers.{Sided, merged_by}
-use Rattle.lines.specs.Outputs.{Prints}
+use Rattle.std.proofs.Common.{length}
+use Rattle.cidr_merge.specs.Answers.{merged_by}
 use Rattle.cidr_merge.specs.Private.Sweeps.{with_head}
+use Rattle.cidr_merge.proofs.Printed.{Printed}
 use Rattle.cidr_merge.proofs.printing.print_parts.Given as goal
 
 abbrev pub invariant-loop-next : goal.invariant-loop-next
-invariant-loop-next g l = (done : List (Sided g.P.Parts.Seen))
-    × (done ++ merged_by g.P.Parts.begin (with_head g.P.Parts.seen l.parts.first
-    (g.P.Parts.left l.parts.firsts)) (with_head g.P.Parts.seen l.parts.second
-    (g.P.Parts.left l.parts.seconds))
-    ≡ merged_by g.P.Parts.begin (with_head g.P.Parts.seen l.initial.parts.first
+invariant-loop-next g l =
+    Printed (g.P.Parts.line l.operation)
+    (merged_by g.P.Parts.begin (with_head g.P.Parts.seen l.initial.parts.first
     (g.P.Parts.left l.initial.parts.firsts)) (with_head g.P.Parts.seen l.initial.parts.second
     (g.P.Parts.left l.initial.parts.seconds)))
-    × Prints l.initial.output l.output (flat_map (g.P.Parts.line l.operation) done)
-    × (l.output.failed ≡ l.initial.output.failed)
+    (merged_by g.P.Parts.begin (with_head g.P.Parts.seen l.parts.first
+    (g.P.Parts.left l.parts.firsts)) (with_head g.P.Parts.seen l.parts.second
+    (g.P.Parts.left l.parts.seconds))) l.initial.output l.output
 
 abbrev pub decreases-loop-next : goal.decreases-loop-next
 decreases-loop-next g l =

@@ -1,22 +1,15 @@
 use Rattle.std.proofs.Common.{◌∙◌, ap}
 use Rattle.lines.specs.Watched.{device_of, has_failed}
-use Rattle.cidr_merge.proofs.WholeLists.{text_read, text_stops}
+use Rattle.cidr_merge.proofs.WholeLists.{text_ends}
 use Rattle.cidr_merge.proofs.texts.text_of.Goals as goal
 
-pub returns-clause-ok : goal.returns-clause-ok
-returns-clause-ok g c =
+pub returns : goal.returns
+returns g c =
     let remaining = g.L.List.Read.remaining in
-    text_read (g.L.OpenLists.known c.args.lists.now) c.args.name.now c.args.place
+    let ends = text_ends (g.L.OpenLists.known c.args.lists.now) c.args.name.now c.args.place
     (remaining (device_of c.new-list.result)) (remaining (device_of c.read_all-text.new.reader))
     (λ input e. ap remaining c.new-list.ensures.device ∙ c.in-Ok.ensures.bytes input e)
-    c.in-Ok.ensures.opened (λ text. text.items) c.read_all-text.result c.read_all-text.ensures.ok
-
-pub returns-clause-err : goal.returns-clause-err
-returns-clause-err g c =
-    let remaining = g.L.List.Read.remaining in
-    text_stops (g.L.OpenLists.known c.args.lists.now) c.args.name.now c.args.place
-    (remaining (device_of c.new-list.result)) (remaining (device_of c.read_all-text.new.reader))
-    (λ input e. ap remaining c.new-list.ensures.device ∙ c.in-Ok.ensures.bytes input e)
-    c.in-Ok.ensures.opened
-    (has_failed c.read_all-text.new.reader) c.read_all-text.result c.close.ensures.failed
-    c.read_all-text.ensures.err
+    c.in-Ok.ensures.opened (λ text. text.items) (has_failed c.read_all-text.new.reader)
+    c.read_all-text.result c.close.ensures.failed
+    c.read_all-text.ensures.ok c.read_all-text.ensures.err in
+    record { ok = ends.0; err = ends.1 }

@@ -1,5 +1,5 @@
 use Rattle.program.proofs.Told.{tells_more}
-use Rattle.cidr_merge.proofs.searching.print_line.Goals as goal
+use Rattle.cidr_merge.proofs.findings.tell_line.Goals as goal
 
 pub returns : goal.returns
 returns g c =
