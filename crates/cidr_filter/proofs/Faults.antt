@@ -6,9 +6,10 @@ use Rattle.std.specs.String.{string_bytes}
 use Rattle.std.proofs.lemmas.Option.{none-some}
 use Rattle.program.specs.Words.{is}
 use Rattle.program.specs.declared.usage.Subject.TheVariants as about_this
-use Rattle.cidr_filter.specs.CommandLines.{Says, AsksNothing, is_plain, is_name, names_in, files_among, inputs_among, crossed_problem}
+use Rattle.log_programs.specs.Plain.{is_plain, is_name, begins}
+use Rattle.cidr_filter.specs.CommandLines.{Says, AsksNothing, names_in, files_among, inputs_among, crossed_problem}
 use Rattle.cidr_filter.specs.Laws.{is_option_word, OthersAreNoOptions, OthersAskForNothing, WordsHaveOneFault}
-use Rattle.cidr_filter.specs.Options.{begins, is_letter, option_of, said_by}
+use Rattle.cidr_filter.specs.Options.{is_letter, option_of, said_by}
 use Rattle.cidr_filter.specs.Private.Requests.{BeginsWith, behind_dashes}
 use Rattle.cidr_filter.specs.Usage.{about, names_fault, files_fault, rest_fault, together_by, together_problem, HasFault}
 use Rattle.cidr_filter.specs.declared.command_line.Request.{Request}

@@ -8,7 +8,7 @@ pub mod Failing
 pub mod Faults
 pub mod Filtering
 pub mod Heads
-pub mod JoinedWords
+pub mod JoinedLetters
 pub mod Judging
 pub mod LawExamples
 pub mod Left
@@ -29,4 +29,3 @@ pub mod Texts
 pub mod Told
 pub mod UsageExamples
 pub mod WholeLines
-pub mod WordOrder

@@ -4,15 +4,13 @@ use Rattle.std.specs.List.{list_all, list_any}
 use Rattle.std.specs.String.{string_bytes}
 use Rattle.std.specs.Char.{is_ascii_digit}
 use Rattle.program.specs.Words.{is}
+use Rattle.log_programs.specs.Plain.{begins}
+use Rattle.log_programs.specs.Syntax.{Syntax}
 use Rattle.cidr_filter.specs.declared.command_line.Request.{Request}
 use Rattle.cidr_filter.specs.declared.filter.WithoutAddress.TheVariants as without
 use Rattle.cidr_filter.specs.declared.options.Choice.{Choice}
 use Rattle.cidr_filter.specs.declared.options.Choice.TheVariants as choices
 use Rattle.cidr_filter.specs.declared.options.Letters.{Letters}
-
--- the second text begins with the first
-abbrev pub begins : List ℕ → List ℕ → Bool
-begins first text = bytes_eq (take (length first) text) first
 
 -- the number that digits name, in decimal
 abbrev pub number_of : List ℕ → ℕ
@@ -82,10 +80,25 @@ letters_in text = record {
 abbrev pub letters_option : List ℕ → Option Choice
 letters_option text = if nat_lt 0 (length text) && list_all is_letter text then Some (choices.Letters (letters_in text)) else None
 
--- the value of such an option is the next word
+-- the options of these letters take a value: `f`, `e`, `k`, `d` and `m`
+abbrev pub takes_value : ℕ → Bool
+takes_value letter = letter == 102 || letter == 101 || letter == 107 || letter == 100 || letter == 109
+
+-- any text behind `f` and `e` is their value, also where they are the first letter
+abbrev pub takes_rest : ℕ → Bool
+takes_rest letter = letter == 102 || letter == 101
+
+-- the value of an option of these names is the next word
+abbrev pub is_before_value : List ℕ → Bool
+is_before_value name = bytes_eq name (codes "-f") || bytes_eq name (codes "-e") || bytes_eq name (codes "-k") || bytes_eq name (codes "-d") || bytes_eq name (codes "-m") || bytes_eq name (codes "--bad")
+    || bytes_eq name (codes "--after")
+
 abbrev pub takes_next : {Z : Type 0} → String Z → Bool
-takes_next word = is (codes "-f") word || is (codes "-e") word || is (codes "-k") word || is (codes "-d") word || is (codes "-m") word || is (codes "--bad") word
-    || is (codes "--after") word
+takes_next word = is_before_value (string_bytes word)
+
+-- the options, as far as the order of words depends on them
+abbrev pub syntax_of_options : Syntax
+syntax_of_options = record { is_letter = is_letter; takes_value = takes_value; takes_rest = takes_rest; takes_next = is_before_value }
 
 abbrev pub in_two_words : {Z : Type 0} → String Z → List ℕ → Option Choice
 in_two_words name value =

@@ -4,8 +4,9 @@ use Rattle.std.specs.String.{string_bytes}
 use Rattle.program.specs.Words.{is}
 use Rattle.program.specs.declared.usage.Subject.{Subject}
 use Rattle.program.specs.declared.usage.Subject.TheVariants as about_this
-use Rattle.cidr_filter.specs.CommandLines.{Begin, is_plain, is_name, files_among, inputs_among, crossed_problem}
-use Rattle.cidr_filter.specs.Options.{begins, takes_next, option_of, said_by}
+use Rattle.log_programs.specs.Plain.{begins, is_plain, is_name}
+use Rattle.cidr_filter.specs.CommandLines.{Begin, files_among, inputs_among, crossed_problem}
+use Rattle.cidr_filter.specs.Options.{takes_next, option_of, said_by}
 use Rattle.cidr_filter.specs.declared.command_line.Request.{Request}
 use Rattle.cidr_filter.specs.declared.options.Choice.{Choice}
 use Rattle.cidr_filter.specs.declared.usage.Problem.{Problem}

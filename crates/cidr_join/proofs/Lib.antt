@@ -2,7 +2,7 @@ pub mod Addressed
 pub mod Examples
 pub mod Failing
 pub mod Faults
-pub mod JoinedWords
+pub mod JoinedLetters
 pub mod Joining
 pub mod LawExamples
 pub mod LogParts
@@ -24,4 +24,3 @@ pub mod TallyParts
 pub mod TallyRows
 pub mod Tallying
 pub mod Trims
-pub mod WordOrder

@@ -4,7 +4,8 @@ use Rattle.std.specs.List.{list_all}
 use Rattle.std.specs.Option.{is_some}
 use Rattle.std.specs.String.{string_bytes}
 use Rattle.program.specs.Words.{is, count}
-use Rattle.cidr_join.specs.Options.{begins, option_of, behind_option, said_by}
+use Rattle.log_programs.specs.Plain.{is_plain, is_name}
+use Rattle.cidr_join.specs.Options.{option_of, behind_option, said_by}
 use Rattle.cidr_join.specs.declared.options.Choice.{Choice}
 use Rattle.cidr_join.specs.declared.command_line.Request.{Request}
 use Rattle.cidr_join.specs.declared.usage.Problem.{Problem}
@@ -14,14 +15,6 @@ use Rattle.cidr_join.specs.declared.usage.Problem.TheVariants as problems
 abbrev pub Begin : {Z : Type 0} → List (String Z) → List Choice → List (String Z) → Type 0
 Begin words [] rest = words ≡ rest
 Begin words (choice ∷ choices) rest = (option_of words ≡ Some choice) × Begin (behind_option words) choices rest
-
--- a word is `-`, or does not begin with `-`
-abbrev pub is_plain : {Z : Type 0} → String Z → Bool
-is_plain word = is (codes "-") word || not (begins (codes "-") (string_bytes word))
-
--- a word is not empty
-abbrev pub is_name : {Z : Type 0} → String Z → Bool
-is_name word = not (length (string_bytes word) == 0)
 
 -- these words, which have to be names
 abbrev pub names_in : {Z : Type 0} → List (String Z) → Option (List (String Z))

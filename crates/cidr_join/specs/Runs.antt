@@ -8,13 +8,13 @@ use Rattle.lists.specs.KnownLists.{KnownLists}
 use Rattle.program.specs.Endings.{Ending, Refuses, HasTold, HasWritten}
 use Rattle.program.specs.Runs.{EndsRun}
 use Rattle.program.specs.Usage.{usage_text}
-use Rattle.cidr_join.specs.Arranged.{arranged}
+use Rattle.log_programs.specs.Arranged.{arranged}
 use Rattle.cidr_join.specs.CommandLines.{Says, AsksNothing}
 use Rattle.cidr_join.specs.Joins.{Joins}
 use Rattle.program.specs.LogLines.{LogLine}
 use Rattle.cidr_join.specs.Logs.{JoinsLogs, HaltsBy}
 use Rattle.program.specs.Logs.{logs_of, IsAllOf}
-use Rattle.cidr_join.specs.Options.{value_of}
+use Rattle.cidr_join.specs.Options.{syntax_of_options, value_of}
 use Rattle.cidr_join.specs.Routes.{no_networks}
 use Rattle.cidr_join.specs.TallyRuns.{EndsTally}
 use Rattle.cidr_join.specs.Takes.{TakesLines, StopsTaking}
@@ -156,4 +156,4 @@ abbrev pub EndsAs : {Z W E : Type 0} → List ℕ → List ℕ → List ℕ → 
     → List (String Z) → Ending W E → Type 0
 EndsAs {Z} program help version usage known words end = EndsRun help version words
     (Refuses (codes "out of memory\n") end
-    ⊎ ((asked : List (String Z)) × (map string_bytes asked ≡ arranged words) × EndsWords program usage known asked end)) end
+    ⊎ ((asked : List (String Z)) × (map string_bytes asked ≡ arranged syntax_of_options words) × EndsWords program usage known asked end)) end

@@ -6,8 +6,8 @@ ghost use Rattle.program.specs.Logs.{logs_of};
 ghost use Rattle.cidr_join.specs.Runs.{EndsRequest, EndsAs, EndsAsked, EndsWords, EndsFinding, EndsJoining, answers_by, place_of, list_name};
 
 use crate::answers::Answers;
-use crate::arranging::arranged;
 use crate::command_line::{Request, request_of};
+use crate::grammar::JoinOptions;
 use crate::help::{HELP, PROGRAM, USAGE, VERSION};
 use crate::join::{Join, LINE_MAX, Place, Text};
 use crate::list::networks_of;
@@ -19,6 +19,7 @@ use crate::telling::{tell_take_fault, tell_text_fault};
 use crate::text::text_of;
 use lines::output::Output;
 use lists::OpenLists;
+use log_programs::arranging::arranged;
 use program::ending::{FAILED, print_text};
 use program::messages::tell;
 use program::start::text_asked;
@@ -43,7 +44,7 @@ pub(crate) fn run<L: OpenLists, W: Write, E: Write>(
     if let Some(text) = text_asked(HELP, VERSION, words) {
         return print_text(text, output, errors);
     }
-    let Ok(asked) = arranged(alloc, words) else {
+    let Ok(asked) = arranged::<JoinOptions>(alloc, words) else {
         return refuse_memory(errors);
     };
     obey(alloc, asked.as_slice(), lists, output, errors)

@@ -1,9 +1,9 @@
 //! What is wrong with the words of a command line.
 ghost use Rattle.std.specs.Prelude.{◌≡◌, ◌<◌, ◌≤◌, drop, length};
-ghost use Rattle.cidr_join.specs.CommandLines.{is_plain, is_name};
 ghost use Rattle.cidr_join.specs.Usage.{about, problem_text, value_problem, word_problem, option_fault, names_fault, files_fault, rest_fault};
 
 use crate::options::takes_next;
+use log_programs::plain::{is_name, is_plain};
 use program::usage::Subject;
 use program::words::is;
 
@@ -191,18 +191,4 @@ fn files_fault(words: &[String], from: usize) -> Option<UsageFault>
         at += 1;
     }
     None
-}
-
-// Whether a word is not empty.
-fn is_name(word: &String) -> bool
-    ensures { result ≡ is_name word.now }
-{
-    !word.as_bytes().is_empty()
-}
-
-/// Whether a word is `-`, or does not begin with a `-`.
-pub(crate) fn is_plain(word: &String) -> bool
-    ensures { result ≡ is_plain word.now }
-{
-    is(word, "-") || !word.as_bytes().starts_with(b"-".as_slice())
 }

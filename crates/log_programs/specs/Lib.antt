@@ -1,0 +1,5 @@
+-- What the contracts of this crate cite.
+pub mod Arranged
+pub mod Joined
+pub mod Plain
+pub mod Syntax
