@@ -7,7 +7,7 @@ use Rattle.cidr_join.specs.Addressed.{lacking_by}
 use Rattle.cidr_join.specs.Groups.{block_in}
 use Rattle.log_programs.specs.Joined.{words_in, awaits_value}
 use Rattle.cidr_join.specs.Options.{syntax_of_options, group_option}
-use Rattle.cidr_join.specs.declared.join.Place.TheVariants as places
+use Rattle.line_addresses.specs.declared.place.Place.TheVariants as places
 use Rattle.cidr_join.specs.declared.options.Choice.TheVariants as choices
 
 -- ---- logs in which no line has an address

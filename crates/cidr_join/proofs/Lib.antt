@@ -11,7 +11,6 @@ pub mod Marks
 pub mod Numbering
 pub mod OneOutput
 pub mod OptionValues
-pub mod Parts
 pub mod Reading
 pub mod Repeated
 pub mod Requests

@@ -2,7 +2,6 @@
 pub mod Addressed
 pub mod CommandLines
 pub mod Entries
-pub mod Fields
 pub mod Groups
 pub mod Joins
 pub mod Laws

@@ -6,7 +6,7 @@ use Rattle.std.specs.Char.{is_ascii_digit}
 use Rattle.program.specs.Words.{is}
 use Rattle.log_programs.specs.Plain.{begins}
 use Rattle.log_programs.specs.Syntax.{Syntax}
-use Rattle.cidr_join.specs.Fields.{field_of}
+use Rattle.line_addresses.specs.Fields.{field_of}
 use Rattle.cidr_join.specs.declared.command_line.Request.{Request}
 use Rattle.cidr_join.specs.declared.options.Choice.{Choice}
 use Rattle.cidr_join.specs.declared.options.Choice.TheVariants as choices

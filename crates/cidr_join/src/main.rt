@@ -4,7 +4,6 @@
 mod answers;
 mod command_line;
 mod counts;
-mod field;
 mod found;
 mod grammar;
 mod help;

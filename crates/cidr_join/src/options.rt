@@ -4,8 +4,8 @@ ghost use Rattle.std.specs.List.{list_all};
 ghost use Rattle.std.specs.Char.{is_ascii_digit};
 ghost use Rattle.cidr_join.specs.Options.{is_letter, number_of, takes_next, behind_option, option_of, in_one_word, in_two_words, letters_option, letters_in, file_option, field_option, separator_option, after_option, group_option, length_of, lengths_by, value_of, said_at, or_last};
 
-use crate::field::field_of;
 use crate::lengths::Lengths;
+use line_addresses::field_of;
 use program::words::is;
 
 /// Which letters are among those of options.

@@ -1,2 +1,3 @@
 pub mod JoinedWords
+pub mod Lacking
 pub mod WordOrder

@@ -1,5 +1,6 @@
 -- What the contracts of this crate cite.
 pub mod Arranged
 pub mod Joined
+pub mod Lacking
 pub mod Plain
 pub mod Syntax

@@ -1,7 +1,7 @@
 use Rattle.std.proofs.Common.{sym, ap}
 use Rattle.program.proofs.Told.{tells_same}
-use Rattle.cidr_filter.specs.Addressed.{place_text}
-use Rattle.cidr_filter.proofs.telling.tell_where.Goals as goal
+use Rattle.log_programs.specs.Lacking.{place_text}
+use Rattle.log_programs.proofs.telling.tell_where.Goals as goal
 
 pub returns-in-Field : goal.returns-in-Field
 returns-in-Field g c = tells_same c.args.errors.now c.tell_nth.new.errors _ _ (sym (ap place_text c.in-Field.is)) c.tell_nth.ensures
