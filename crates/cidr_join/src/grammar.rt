@@ -10,13 +10,8 @@ pub struct JoinOptions;
 
 impl Grammar for JoinOptions {
     ghost use Rattle.cidr_join.specs.Options.{syntax_of_options};
-    ghost use Rattle.cidr_join.proofs.JoinedLetters.{small_letters, small_values};
 
     ghost syntax = { syntax_of_options };
-
-    ghost letters = { small_letters };
-
-    ghost values = { small_values };
 
     fn is_letter(letter: u8) -> bool {
         is_letter(letter)
@@ -33,6 +28,8 @@ impl Grammar for JoinOptions {
     fn takes_next(word: &String) -> bool {
         takes_next(word)
     }
+
+    fn law_letters() {}
 }
 
 // Whether this is the letter of an option that takes a value.

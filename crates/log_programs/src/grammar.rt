@@ -57,8 +57,9 @@ pub trait Grammar {
     fn takes_next(word: &String) -> bool
         ensures { result ≡ syntax.takes_next (string_bytes word.now) };
 
-    // All these letters are characters of ASCII.
-    ghost letters: { (letter : ℕ) → syntax.is_letter letter ≡ true → letter < 128 };
-
-    ghost values: { (letter : ℕ) → syntax.takes_value letter ≡ true → letter < 128 };
+    /// Does nothing. A proof learns from it that all these letters are characters of ASCII.
+    #[doc(hidden)]
+    fn law_letters()
+        ensures letters { (letter : ℕ) → syntax.is_letter letter ≡ true → letter < 128 }
+        ensures values { (letter : ℕ) → syntax.takes_value letter ≡ true → letter < 128 };
 }

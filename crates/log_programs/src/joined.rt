@@ -104,6 +104,7 @@ fn without_letter<G: Grammar>(text: &str) -> Option<&str>
     ensures same { MatchOption result (after_letters G.syntax text.now ≡ text.now)
         (λ rest. after_letters G.syntax text.now ≡ after_letters G.syntax rest.now) }
 {
+    G::law_letters();
     let Some((letter, rest)) = split_letter(text) else {
         return None;
     };
@@ -142,6 +143,7 @@ fn put_letters<G: Grammar>(
     ensures { OnOk result (map string_bytes all.new.items
         ≡ map string_bytes all.old.items ++ letter_words G.syntax text.now) }
 {
+    G::law_letters();
     for letter in text {
         if !G::is_letter(*letter) {
             return Ok(());
@@ -161,6 +163,7 @@ fn put_value<G: Grammar>(
         → map string_bytes all.new.items
         ≡ map string_bytes all.old.items ++ value_words text.now) }
 {
+    G::law_letters();
     let Some((letter, value)) = split_letter(text) else {
         return Ok(());
     };
