@@ -15,7 +15,7 @@ use Rattle.cidr_filter.specs.declared.filter.WithoutAddress.TheVariants as witho
 use Rattle.cidr_filter.specs.declared.options.Choice.TheVariants as choices
 use Rattle.program.specs.declared.log_fault.LogFault.TheVariants as faults
 use Rattle.cidr_filter.proofs.Examples.{ended, by}
-use Rattle.cidr_filter.proofs.Requests.{same_value}
+use Rattle.log_programs.proofs.Requests.{same_value}
 
 -- ---- the number of lines
 

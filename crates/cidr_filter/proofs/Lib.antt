@@ -1,5 +1,4 @@
 pub mod Addressed
-pub mod AfterTexts
 pub mod Among
 pub mod Enough
 pub mod EnoughExamples
@@ -19,7 +18,6 @@ pub mod NumberExamples
 pub mod OneOutput
 pub mod OptionExamples
 pub mod ReadInTurn
-pub mod Requests
 pub mod RunExamples
 pub mod Runs
 pub mod Spent

@@ -5,9 +5,10 @@ use Rattle.std.specs.List.{list_all}
 use Rattle.std.specs.Char.{is_ascii_digit}
 use Rattle.std.specs.String.{string_bytes}
 use Rattle.log_programs.specs.Plain.{is_plain, is_name, begins}
-use Rattle.cidr_filter.specs.CommandLines.{files_among, names_in, inputs_among}
+use Rattle.log_programs.specs.CommandLines.{files_among, names_in, inputs_among}
+use Rattle.cidr_filter.specs.CommandLines.{option_of, said_by}
 use Rattle.log_programs.specs.Joined.{words_in, awaits_value}
-use Rattle.cidr_filter.specs.Options.{syntax_of_options, number_of, field_option, separator_option, bad_option, letters_option, in_one_word, option_of, with_option, said_by, text_after}
+use Rattle.cidr_filter.specs.Options.{syntax_of_options, number_of, field_option, separator_option, bad_option, letters_option, in_one_word, with_option, text_after}
 use Rattle.cidr_filter.specs.declared.command_line.Request.{Request}
 use Rattle.cidr_filter.specs.declared.filter.WithoutAddress.{WithoutAddress}
 use Rattle.cidr_filter.specs.declared.filter.WithoutAddress.TheVariants as without

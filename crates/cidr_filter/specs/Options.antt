@@ -6,6 +6,7 @@ use Rattle.std.specs.Char.{is_ascii_digit}
 use Rattle.program.specs.Words.{is}
 use Rattle.log_programs.specs.Plain.{begins}
 use Rattle.log_programs.specs.Syntax.{Syntax}
+use Rattle.log_programs.specs.Values.{value_of}
 use Rattle.cidr_filter.specs.declared.command_line.Request.{Request}
 use Rattle.cidr_filter.specs.declared.filter.WithoutAddress.TheVariants as without
 use Rattle.cidr_filter.specs.declared.options.Choice.{Choice}
@@ -100,14 +101,14 @@ takes_next word = is_before_value (string_bytes word)
 abbrev pub syntax_of_options : Syntax
 syntax_of_options = record { is_letter = is_letter; takes_value = takes_value; takes_rest = takes_rest; takes_next = is_before_value }
 
-abbrev pub in_two_words : {Z : Type 0} → String Z → List ℕ → Option Choice
+abbrev pub in_two_words : List ℕ → List ℕ → Option Choice
 in_two_words name value =
-    if is (codes "-f") name then file_option value
-    else if is (codes "-e") name then text_option value
-    else if is (codes "-k") name then field_option value
-    else if is (codes "-d") name then separator_option value
-    else if is (codes "-m") name then most_option value
-    else if is (codes "--bad") name then bad_option value
+    if bytes_eq name (codes "-f") then file_option value
+    else if bytes_eq name (codes "-e") then text_option value
+    else if bytes_eq name (codes "-k") then field_option value
+    else if bytes_eq name (codes "-d") then separator_option value
+    else if bytes_eq name (codes "-m") then most_option value
+    else if bytes_eq name (codes "--bad") then bad_option value
     else after_option value
 
 -- others are one word, in which the value of `-k`, of `-d` and of `-m` may stand after the letter, and that of `--bad` after a
@@ -122,20 +123,6 @@ in_one_word word =
     else if bytes_eq word (codes "--mapped") then Some choices.Mapped
     else if begins (codes "-") word then letters_option (drop 1 word)
     else None
-
--- the option that words begin with, if they begin with one
-abbrev pub with_next : {Z : Type 0} → String Z → List (String Z) → Option Choice
-with_next name [] = None
-with_next name (value ∷ others) = in_two_words name (string_bytes value)
-
-abbrev pub option_of : {Z : Type 0} → List (String Z) → Option Choice
-option_of [] = None
-option_of (word ∷ others) = if takes_next word then with_next word others else in_one_word (string_bytes word)
-
--- the words after it
-abbrev pub behind_option : {Z : Type 0} → List (String Z) → List (String Z)
-behind_option [] = []
-behind_option (word ∷ others) = if takes_next word then drop 1 others else others
 
 -- the letters that are among the first or the second
 abbrev pub either : Letters → Letters → Letters
@@ -193,25 +180,9 @@ no_options = record {
   files = 0;
 }
 
--- what these options say
-abbrev pub said_by : List Choice → Request
-said_by options = fold with_option no_options options
-
--- the text of the last `--after` among options, or an empty one; the value of an option is none
-abbrev pub or_last : List ℕ → List ℕ → List ℕ
-or_last first [] = first
-or_last first (byte ∷ last) = byte ∷ last
-
-abbrev pub said_after : {Z : Type 0} → List (String Z) → List ℕ
-said_after [] = []
-said_after (word ∷ []) = []
-said_after (word ∷ value ∷ words) = if is (codes "--after") word then string_bytes value else []
-
+-- the text of the last `--after` among options, or an empty one
 abbrev pub text_after : {Z : Type 0} → List (String Z) → List ℕ
-text_after [] = []
-text_after (word ∷ []) = []
-text_after (word ∷ value ∷ words) =
-    or_last (said_after (word ∷ value ∷ words)) (if takes_next word then text_after words else text_after (value ∷ words))
+text_after words = value_of syntax_of_options (codes "--after") words
 
 -- whether an option is a list
 abbrev pub is_list : Choice → Bool

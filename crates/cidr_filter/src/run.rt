@@ -9,13 +9,14 @@ use crate::filter::{Filter, Shown};
 use crate::grammar::FilterOptions;
 use crate::help::{HELP, PROGRAM, USAGE, VERSION};
 use crate::logs::filter_logs;
-use crate::options::{Letters, text_after};
+use crate::options::Letters;
 use crate::reading::read_listed;
 use crate::telling::InOptions;
 use line_addresses::{Place, Text};
 use lines::output::Output;
 use lists::OpenLists;
 use log_programs::arranging::arranged;
+use log_programs::options::value_of;
 use program::ending::{FAILED, print_text};
 use program::log_reader::BUFFER_LEN;
 use program::messages::tell;
@@ -172,8 +173,8 @@ fn place_of(words: &[String], request: Request) -> Place<'_>
         return Place::Anywhere;
     }
     if request.after {
-        let text = text_after(&words[..request.files]);
-        return Place::After(Text::new(text));
+        let text = value_of::<FilterOptions>(&words[..request.files], "--after");
+        return Place::After(Text::new(text.as_bytes()));
     }
     let number = request.field.unwrap_or(1);
     if request.letters.words {

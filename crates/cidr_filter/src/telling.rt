@@ -6,9 +6,10 @@ ghost use Rattle.cidr_filter.specs.Addressed.{closed_text};
 ghost use Rattle.cidr_filter.specs.Filters.{one_if};
 ghost use Rattle.cidr_filter.specs.Told.{is_text, texts_in};
 
-use crate::options::behind;
+use crate::grammar::FilterOptions;
 use lines::output::Output;
 use lists::{OpenFault, Refusal};
+use log_programs::options::behind;
 use program::log_fault::tell_of;
 use program::telling::Places;
 use program::words::{is, text_at};
@@ -57,7 +58,7 @@ fn texts_in(options: &[String]) -> usize
     let mut at = 0;
     while at < options.len() {
         count += text_in(&options[at]);
-        at = behind(options, at);
+        at = behind::<FilterOptions>(options, at);
     }
     count
 }

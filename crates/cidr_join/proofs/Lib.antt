@@ -10,10 +10,8 @@ pub mod LogsInTurn
 pub mod Marks
 pub mod Numbering
 pub mod OneOutput
-pub mod OptionValues
 pub mod Reading
 pub mod Repeated
-pub mod Requests
 pub mod Runs
 pub mod Stopping
 pub mod Taking

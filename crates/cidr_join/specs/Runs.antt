@@ -9,18 +9,19 @@ use Rattle.program.specs.Endings.{Ending, Refuses, HasTold, HasWritten}
 use Rattle.program.specs.Runs.{EndsRun}
 use Rattle.program.specs.Usage.{usage_text}
 use Rattle.log_programs.specs.Arranged.{arranged}
-use Rattle.cidr_join.specs.CommandLines.{Says, AsksNothing}
+use Rattle.cidr_join.specs.CommandLines.{Says, AsksNothing, HasFault}
 use Rattle.cidr_join.specs.Joins.{Joins}
 use Rattle.program.specs.LogLines.{LogLine}
 use Rattle.cidr_join.specs.Logs.{JoinsLogs, HaltsBy}
 use Rattle.program.specs.Logs.{logs_of, IsAllOf}
-use Rattle.cidr_join.specs.Options.{syntax_of_options, value_of}
+use Rattle.cidr_join.specs.Options.{syntax_of_options}
 use Rattle.cidr_join.specs.Routes.{no_networks}
 use Rattle.cidr_join.specs.TallyRuns.{EndsTally}
 use Rattle.cidr_join.specs.Takes.{TakesLines, StopsTaking}
 use Rattle.cidr_join.specs.Texts.{TextStops}
 use Rattle.cidr_join.specs.Told.{text_fault_text, take_fault_text, log_fault_text}
-use Rattle.cidr_join.specs.Usage.{problem_text, HasFault}
+use Rattle.log_programs.specs.Values.{value_of}
+use Rattle.log_programs.specs.Usage.{problem_text}
 use Rattle.cidr_join.specs.declared.answers.Answers.{Answers}
 use Rattle.cidr_join.specs.declared.answers.Answers.TheVariants as answers
 use Rattle.cidr_join.specs.declared.command_line.Request.{Request}
@@ -34,7 +35,7 @@ use Rattle.cidr_join.specs.declared.log.LogFault.TheVariants as faults
 use Rattle.cidr_join.specs.declared.routes.Networks.{Networks}
 use Rattle.cidr_join.specs.declared.routes.Routes.{Routes}
 use Rattle.cidr_join.specs.declared.text.TextFault.{TextFault}
-use Rattle.cidr_join.specs.declared.usage.UsageFault.{UsageFault}
+use Rattle.log_programs.specs.declared.usage.UsageFault.{UsageFault}
 
 -- the writer failed, and took a beginning of what waited and the text
 abbrev pub FailsWriting : {W E : Type 0} → Ending W E → List ℕ → Type 0

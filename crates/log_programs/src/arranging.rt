@@ -40,7 +40,7 @@ pub enum Mode {
 /// }
 /// ```
 pub fn arranged<G: Grammar>(alloc: Global, words: &[String]) -> Result<Vec<String>, AllocError>
-    ensures { IfOk result (λ all. map string_bytes all.items ≡ arranged G.syntax words.now) }
+    ensures { IfOk result (λ all. map string_bytes all.items ≡ arranged G.options.syntax words.now) }
 {
     let mut all = Vec::new(alloc);
     let mode = put_part::<G>(alloc, words, true, &mut all)?;
@@ -61,8 +61,8 @@ fn put_part<G: Grammar>(
     all: &mut Vec<String>,
 ) -> Result<Mode, AllocError>
     ensures part { OnOk result (map string_bytes all.new.items
-        ≡ map string_bytes all.old.items ++ part_in G.syntax options Mode.Free words.now) }
-    ensures mode { IfOk result (λ mode. mode ≡ mode_after G.syntax Mode.Free words.now) }
+        ≡ map string_bytes all.old.items ++ part_in G.options.syntax options Mode.Free words.now) }
+    ensures mode { IfOk result (λ mode. mode ≡ mode_after G.options.syntax Mode.Free words.now) }
 {
     let mut mode = Mode::Free;
     for word in words {
@@ -82,7 +82,7 @@ fn put_word<G: Grammar>(
 ) -> Result<(), AllocError>
     ensures { OnOk result (map string_bytes all.new.items
         ≡ (if belongs options mode word.now
-        then map string_bytes all.old.items ++ words_at G.syntax mode (string_bytes word.now)
+        then map string_bytes all.old.items ++ words_at G.options.syntax mode (string_bytes word.now)
         else map string_bytes all.old.items)) }
 {
     if belongs(options, mode, word) {
@@ -99,7 +99,7 @@ fn put_at<G: Grammar>(
     all: &mut Vec<String>,
 ) -> Result<(), AllocError>
     ensures { OnOk result (map string_bytes all.new.items
-        ≡ map string_bytes all.old.items ++ words_at G.syntax mode word.now) }
+        ≡ map string_bytes all.old.items ++ words_at G.options.syntax mode word.now) }
 {
     match mode {
         Mode::Free => put_words::<G>(alloc, word, all),
@@ -126,7 +126,7 @@ fn belongs(options: bool, mode: Mode, word: &String) -> bool
 
 // Where the word behind this one stands.
 fn next_mode<G: Grammar>(mode: Mode, word: &String) -> Mode
-    ensures { result ≡ next_mode G.syntax mode word.now }
+    ensures { result ≡ next_mode G.options.syntax mode word.now }
 {
     match mode {
         Mode::Free => {
@@ -145,7 +145,7 @@ fn next_mode<G: Grammar>(mode: Mode, word: &String) -> Mode
 
 // Whether the value of the last option in a word is the next word.
 fn awaits<G: Grammar>(word: &String) -> bool
-    ensures { result ≡ awaits G.syntax word.now }
+    ensures { result ≡ awaits G.options.syntax word.now }
 {
     G::takes_next(word) || awaits_value::<G>(word.as_str())
 }

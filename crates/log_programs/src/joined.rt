@@ -13,7 +13,7 @@ pub(crate) fn put_words<G: Grammar>(
     all: &mut Vec<String>,
 ) -> Result<(), AllocError>
     ensures { OnOk result (map string_bytes all.new.items
-        ≡ map string_bytes all.old.items ++ words_in G.syntax word.now) }
+        ≡ map string_bytes all.old.items ++ words_in G.options.syntax word.now) }
 {
     let Some(text) = joined_in::<G>(word) else {
         return put(alloc, word, all);
@@ -34,7 +34,7 @@ pub(crate) fn put(alloc: Global, text: &str, all: &mut Vec<String>) -> Result<()
 
 /// Whether the value of the last option that is joined in a word is the next word.
 pub(crate) fn awaits_value<G: Grammar>(word: &str) -> bool
-    ensures { result ≡ awaits_value G.syntax word.now }
+    ensures { result ≡ awaits_value G.options.syntax word.now }
 {
     match joined_in::<G>(word) {
         Some(text) => after_letters::<G>(text).len() == 1,
@@ -44,14 +44,14 @@ pub(crate) fn awaits_value<G: Grammar>(word: &str) -> bool
 
 // What stands behind the `-` of a word, if options are joined there.
 fn joined_in<G: Grammar>(word: &str) -> Option<&str>
-    ensures words { MatchOption result (words_in G.syntax word.now ≡ word.now ∷ [])
-        (λ text. words_in G.syntax word.now
-        ≡ letter_words G.syntax text.now ++ value_words (after_letters G.syntax text.now)) }
-    ensures awaits { MatchOption result (awaits_value G.syntax word.now ≡ false)
-        (λ text. awaits_value G.syntax word.now
-        ≡ (length (after_letters G.syntax text.now) == 1)) }
+    ensures words { MatchOption result (words_in G.options.syntax word.now ≡ word.now ∷ [])
+        (λ text. words_in G.options.syntax word.now
+        ≡ letter_words G.options.syntax text.now ++ value_words (after_letters G.options.syntax text.now)) }
+    ensures awaits { MatchOption result (awaits_value G.options.syntax word.now ≡ false)
+        (λ text. awaits_value G.options.syntax word.now
+        ≡ (length (after_letters G.options.syntax text.now) == 1)) }
     ensures value { IfSome result
-        (λ text. begins_with_value G.syntax (after_letters G.syntax text.now) ≡ true) }
+        (λ text. begins_with_value G.options.syntax (after_letters G.options.syntax text.now) ≡ true) }
 {
     let Some((first, text)) = split_letter(word) else {
         return None;
@@ -65,7 +65,7 @@ fn joined_in<G: Grammar>(word: &str) -> Option<&str>
 
 // Whether options are joined in this text.
 fn is_joined<G: Grammar>(text: &str) -> bool
-    ensures { result ≡ is_joined G.syntax text.now }
+    ensures { result ≡ is_joined G.options.syntax text.now }
 {
     match text.as_bytes() {
         [] => false,
@@ -78,7 +78,7 @@ fn is_joined<G: Grammar>(text: &str) -> bool
 
 // Whether a text begins with the letter of an option that takes a value.
 fn begins_with_value<G: Grammar>(text: &[u8]) -> bool
-    ensures { result ≡ begins_with_value G.syntax text.now }
+    ensures { result ≡ begins_with_value G.options.syntax text.now }
 {
     match text {
         [] => false,
@@ -88,7 +88,7 @@ fn begins_with_value<G: Grammar>(text: &[u8]) -> bool
 
 // What stands behind the letters at the head of a text.
 fn after_letters<G: Grammar>(text: &str) -> &str
-    ensures { result.now ≡ after_letters G.syntax text.now }
+    ensures { result.now ≡ after_letters G.options.syntax text.now }
 {
     let mut rest = text;
     'letters: while let Some(more) = without_letter::<G>(rest) {
@@ -99,10 +99,10 @@ fn after_letters<G: Grammar>(text: &str) -> &str
 
 // A text without the letter at its head, if it begins with one.
 fn without_letter<G: Grammar>(text: &str) -> Option<&str>
-    ensures shorter { MatchOption result (after_letters G.syntax text.now ≡ text.now)
+    ensures shorter { MatchOption result (after_letters G.options.syntax text.now ≡ text.now)
         (λ rest. length rest.now < length text.now) }
-    ensures same { MatchOption result (after_letters G.syntax text.now ≡ text.now)
-        (λ rest. after_letters G.syntax text.now ≡ after_letters G.syntax rest.now) }
+    ensures same { MatchOption result (after_letters G.options.syntax text.now ≡ text.now)
+        (λ rest. after_letters G.options.syntax text.now ≡ after_letters G.options.syntax rest.now) }
 {
     G::law_letters();
     let Some((letter, rest)) = split_letter(text) else {
@@ -141,7 +141,7 @@ fn put_letters<G: Grammar>(
     all: &mut Vec<String>,
 ) -> Result<(), AllocError>
     ensures { OnOk result (map string_bytes all.new.items
-        ≡ map string_bytes all.old.items ++ letter_words G.syntax text.now) }
+        ≡ map string_bytes all.old.items ++ letter_words G.options.syntax text.now) }
 {
     G::law_letters();
     for letter in text {
@@ -159,7 +159,7 @@ fn put_value<G: Grammar>(
     text: &str,
     all: &mut Vec<String>,
 ) -> Result<(), AllocError>
-    ensures { OnOk result (begins_with_value G.syntax text.now ≡ true
+    ensures { OnOk result (begins_with_value G.options.syntax text.now ≡ true
         → map string_bytes all.new.items
         ≡ map string_bytes all.old.items ++ value_words text.now) }
 {

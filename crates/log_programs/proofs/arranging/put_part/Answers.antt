@@ -7,7 +7,7 @@ loop-word-init g c = record { part = refl; mode = refl }
 
 pub loop-word-preserved : goal.loop-word-preserved
 loop-word-preserved g c =
-    let syntax = g.G.Grammar.syntax in
+    let syntax = g.G.Grammar.options.syntax in
     let words = c.args.words.now in
     let at = c.loop-word.word-index in
     let word = c.word-item.result in
@@ -19,7 +19,7 @@ loop-word-preserved g c =
 
 pub returns-clause-part : goal.returns-clause-part
 returns-clause-part g c =
-    part_all g.G.Grammar.syntax c.args.words.now c.loop-word.word-index c.loop-word.mode (omega arith) c.args.options _ _ c.loop-word.invariant.part
+    part_all g.G.Grammar.options.syntax c.args.words.now c.loop-word.word-index c.loop-word.mode (omega arith) c.args.options _ _ c.loop-word.invariant.part
 
 pub returns-clause-mode : goal.returns-clause-mode
-returns-clause-mode g c = mode_all g.G.Grammar.syntax c.args.words.now c.loop-word.word-index c.loop-word.mode (omega arith) _ c.loop-word.invariant.mode
+returns-clause-mode g c = mode_all g.G.Grammar.options.syntax c.args.words.now c.loop-word.word-index c.loop-word.mode (omega arith) _ c.loop-word.invariant.mode

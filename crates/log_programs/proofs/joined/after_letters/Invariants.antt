@@ -7,7 +7,7 @@ use Rattle.log_programs.proofs.joined.after_letters.Given as goal
 abbrev pub invariant-letters : goal.invariant-letters
 invariant-letters g l = record {
   text : shadow (Utf8 l.rest);
-  same : after_letters g.G.Grammar.syntax l.text ≡ after_letters g.G.Grammar.syntax l.rest;
+  same : after_letters g.G.Grammar.options.syntax l.text ≡ after_letters g.G.Grammar.options.syntax l.rest;
 }
 
 abbrev pub decreases-letters : goal.decreases-letters

@@ -16,7 +16,7 @@ two syntax (Err fault) old mid new rest text words e same begins first last = tt
 
 pub returns : goal.returns
 returns g c =
-    let syntax = g.G.Grammar.syntax in
+    let syntax = g.G.Grammar.options.syntax in
     let text = c.in-Some.text.now in
     two syntax c.put_value.result _ _ _ c.after_letters.result.now text _ c.in-Some.ensures.words c.after_letters.ensures c.in-Some.ensures.value
     (c.in_ok-put_letters.ensures ∙ ap (λ (t : List ℕ). map string_bytes c.args.all.now.items ++ letter_words syntax t) c.as_bytes.ensures.value) c.put_value.ensures
