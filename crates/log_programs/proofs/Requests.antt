@@ -25,18 +25,18 @@ pub behind_two : {Z : Type 0} (syntax : Syntax) (words : List (String Z)) (word 
     → syntax.takes_next (string_bytes word) ≡ true → drop place words ≡ behind_option syntax (drop at words)
 behind_two syntax words word at place here_is within is takes =
     here ∙ sym (ap (behind_option syntax) e ∙ ap (λ b. cond b (drop 1 (drop (at + 1) words)) (drop (at + 1) words)) takes ∙ drop-drop 1 (at + 1) words) where
-  next : suc at ≡ at + 1
-  next = omega arith
+      next : suc at ≡ at + 1
+      next = omega arith
 
-  e : drop at words ≡ word ∷ drop (at + 1) words
-  e = drop-cons words at word within ∙ ap (λ w. w ∷ drop (suc at) words) (sym here_is) ∙ ap (λ n. word ∷ drop n words) next
+      e : drop at words ≡ word ∷ drop (at + 1) words
+      e = drop-cons words at word within ∙ ap (λ w. w ∷ drop (suc at) words) (sym here_is) ∙ ap (λ n. word ∷ drop n words) next
 
-  by : ((at + 2 < length words) ⊎ (length words ≤ at + 2)) → drop place words ≡ drop (at + 1 + 1) words
-  by (inl more) = let f : place ≡ at + 1 + 1 = omega (arith, is, more) in ap (λ n. drop n words) f
-  by (inr past) = drop_all place words (omega (arith, is, past)) ∙ sym (drop_all (at + 1 + 1) words (omega (arith, past)))
+      by : ((at + 2 < length words) ⊎ (length words ≤ at + 2)) → drop place words ≡ drop (at + 1 + 1) words
+      by (inl more) = let f : place ≡ at + 1 + 1 = omega (arith, is, more) in ap (λ n. drop n words) f
+      by (inr past) = drop_all place words (omega (arith, is, past)) ∙ sym (drop_all (at + 1 + 1) words (omega (arith, past)))
 
-  here : drop place words ≡ drop (at + 1 + 1) words
-  here = by (cases_lt (at + 2) (length words))
+      here : drop place words ≡ drop (at + 1 + 1) words
+      here = by (cases_lt (at + 2) (length words))
 
 pub fold_more : {A B : Type 0} (f : B → A → B) (start before : B) (items : List A) (item : A) → before ≡ fold f start items → f before item ≡ fold f start (items ++ item ∷ [])
 fold_more f start before items item e = ap (λ b. f b item) e ∙ sym (fold-append f start items (item ∷ []))
