@@ -4,7 +4,13 @@ use Rattle.program.specs.Words.{is}
 use Rattle.log_programs.specs.CommandLines.{Begin, option_of, said_by}
 use Rattle.log_programs.specs.Options.{Options}
 
--- the options that words begin with, all of them, and what they say; behind them is this place
+-- the options that words begin with up to a place, and what they say
+pub record BeginsUpTo {Choice Request Z : Type 0} (options : Options Choice Request) (words : List (String Z)) (said : Request) (place : ℕ) : Type 0 where
+  pub choices : List Choice
+  pub begin : Begin options words choices (drop place words)
+  pub is_said : said ≡ said_by options choices
+
+-- all of them, with which the words begin; behind them is this place
 pub record BeginsWith {Choice Request Z : Type 0} (options : Options Choice Request) (words : List (String Z)) (said : Request) (place : ℕ) : Type 0 where
   pub choices : List Choice
   pub within : place ≤ length words
