@@ -44,7 +44,10 @@ pub(crate) fn request_of(words: &[String]) -> Result<Request, UsageFault>
     ensures wrong { IfErr result (HasFault words.now) }
 {
     match command_line::request_of::<FilterOptions>(words) {
-        Ok((said, files)) => Ok(Request { files, ..said }),
+        Ok(asked) => Ok(Request {
+            files: asked.1,
+            ..asked.0
+        }),
         Err(fault) => Err(fault),
     }
 }

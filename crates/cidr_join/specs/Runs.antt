@@ -88,13 +88,13 @@ EndsLogs join known names end = JoinsAll join known names end ⊎ StopsAtLog joi
 abbrev pub place_of : {Z : Type 0} → List (String Z) → Request → Place
 place_of words request =
     if request.letters.anywhere then places.Anywhere
-    else if request.after then places.After (value_of (codes "--after") (take request.files words))
+    else if request.after then places.After (value_of syntax_of_options (codes "--after") (take request.files words))
     else if request.letters.words then places.Word (unwrap_or request.field 1)
     else places.Field (unwrap_or request.field 1) (unwrap_or request.separator 32)
 
 -- the name of its list
 abbrev pub list_name : {Z : Type 0} → List (String Z) → Request → List ℕ
-list_name words request = value_of (codes "-f") (take request.files words)
+list_name words request = value_of syntax_of_options (codes "-f") (take request.files words)
 
 -- what is printed of addresses by the routes of a list: networks or values
 abbrev pub answers_by : Bool → Routes → Answers
