@@ -54,4 +54,3 @@ addressed_more filter first next verdict old mid new judges e f =
     f ∙ ap (λ (b : Bool). b || is_addressed_by verdict) e ∙ or_assoc old (any_addressed filter first) (is_addressed_by verdict)
     ∙ ap (λ (b : Bool). old || (any_addressed filter first || b)) (or_none (is_addressed filter (content next)) (is_addressed_by verdict) (addressed_by filter (content next) verdict judges))
     ∙ ap (λ (b : Bool). old || b) (sym (list_any-append (λ line. is_addressed filter (content line)) first (next ∷ [])))
-

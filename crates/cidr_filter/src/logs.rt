@@ -154,7 +154,14 @@ fn filter_one<'a, L: OpenLists, W: Write, E: Write>(
     lists.close(name, log);
     match end {
         Ok(Reached::End) => {
-            tell_lacking(PROGRAM, &filter.place, name, tally.lines, tally.is_addressed, errors);
+            tell_lacking(
+                PROGRAM,
+                &filter.place,
+                name,
+                tally.lines,
+                tally.is_addressed,
+                errors,
+            );
             Some(false)
         }
         Ok(Reached::Last) => Some(false),

@@ -101,7 +101,14 @@ fn join_one<L: OpenLists, W: Write, E: Write>(
     lists.close(name, log);
     match end {
         Ok(()) => {
-            tell_lacking(PROGRAM, &join.place, name, seen.lines, seen.is_addressed, errors);
+            tell_lacking(
+                PROGRAM,
+                &join.place,
+                name,
+                seen.lines,
+                seen.is_addressed,
+                errors,
+            );
             true
         }
         Err(fault) => {

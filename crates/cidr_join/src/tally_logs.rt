@@ -143,7 +143,14 @@ fn tally_one<L: OpenLists, E: Write>(
     lists.close(name, log);
     match end {
         Ok(()) => {
-            tell_lacking(PROGRAM, &join.place, name, seen.lines, seen.is_addressed, errors);
+            tell_lacking(
+                PROGRAM,
+                &join.place,
+                name,
+                seen.lines,
+                seen.is_addressed,
+                errors,
+            );
             true
         }
         Err(fault) => {

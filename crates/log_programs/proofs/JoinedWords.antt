@@ -4,7 +4,6 @@ use Rattle.std.specs.Prelude.{if◌then◌else◌}
 use Rattle.log_programs.specs.Joined.{after_letters, begins_with_value, is_joined}
 use Rattle.log_programs.specs.Syntax.{Syntax}
 
-
 -- a text that begins with no letter
 pub not_begun : (syntax : Syntax) (text : List ℕ) → ((letter : ℕ) → syntax.is_letter letter ≡ true → letter < 128)
     → ((letter : ℕ) (rest : List ℕ) → letter < 128 → text ≢ letter ∷ rest) → after_letters syntax text ≡ text

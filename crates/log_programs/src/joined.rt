@@ -154,11 +154,7 @@ fn put_letters<G: Grammar>(
 }
 
 // Adds an option with its value, if that follows its letter.
-fn put_value<G: Grammar>(
-    alloc: Global,
-    text: &str,
-    all: &mut Vec<String>,
-) -> Result<(), AllocError>
+fn put_value<G: Grammar>(alloc: Global, text: &str, all: &mut Vec<String>) -> Result<(), AllocError>
     ensures { OnOk result (begins_with_value G.syntax text.now ≡ true
         → map string_bytes all.new.items
         ≡ map string_bytes all.old.items ++ value_words text.now) }

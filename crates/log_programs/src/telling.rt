@@ -47,12 +47,7 @@ fn lacks(lines: u64, is_addressed: bool) -> bool
 }
 
 // Reports that no line of the log of this name has an address at this place.
-fn tell_place<E: Write>(
-    program: &str,
-    place: &Place<'_>,
-    name: &str,
-    errors: &mut Output<'_, E>,
-)
+fn tell_place<E: Write>(program: &str, place: &Place<'_>, name: &str, errors: &mut Output<'_, E>)
     ensures { Tells errors.old errors.new (no_address_text program.now place.now name.now) }
 {
     tell(program, errors);
