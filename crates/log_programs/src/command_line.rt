@@ -64,15 +64,16 @@ fn together_problem(
 ) -> Option<Problem>
     ensures { result ≡ together_by crossed lacking is_read_once }
 {
-    match (crossed, lacking) {
-        (Some(problem), _) | (None, Some(problem)) => Some(problem),
-        (None, None) => {
-            if is_read_once {
-                None
-            } else {
-                Some(Problem::InputTwice)
-            }
-        }
+    if let Some(problem) = crossed {
+        return Some(problem);
+    }
+    if let Some(problem) = lacking {
+        return Some(problem);
+    }
+    if is_read_once {
+        None
+    } else {
+        Some(Problem::InputTwice)
     }
 }
 
