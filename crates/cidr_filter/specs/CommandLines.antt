@@ -1,5 +1,5 @@
 -- What the words of a command line ask for.
-use Rattle.std.specs.Prelude.{◌≡◌, ℕ, ◌||◌, ◌&&◌, Bool, List, Option, None, Some, if◌then◌else◌, String}
+use Rattle.std.specs.Prelude.{◌≡◌, ◌||◌, ◌&&◌, Bool, List, Option, None, Some, if◌then◌else◌, String}
 use Rattle.std.specs.Option.{is_some}
 use Rattle.log_programs.specs.CommandLines as lines
 use Rattle.log_programs.specs.Options.{Options}

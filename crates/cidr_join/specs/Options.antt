@@ -1,9 +1,8 @@
 -- What an option of the command line says.
-use Rattle.std.specs.Prelude.{ℕ, ◌+◌, ◌-◌, ◌*◌, ◌==◌, ◌||◌, ◌&&◌, Bool, true, false, not, List, [], ◌∷◌, Option, None, Some, take, drop, length, nat_lt, nat_le, if◌then◌else◌, codes, bytes_eq, fold, String}
+use Rattle.std.specs.Prelude.{ℕ, ◌+◌, ◌-◌, ◌*◌, ◌==◌, ◌||◌, ◌&&◌, Bool, true, false, not, List, [], ◌∷◌, Option, None, Some, drop, length, nat_lt, nat_le, if◌then◌else◌, codes, bytes_eq, fold, String}
 use Rattle.std.specs.List.{list_all, list_any}
 use Rattle.std.specs.String.{string_bytes}
 use Rattle.std.specs.Char.{is_ascii_digit}
-use Rattle.program.specs.Words.{is}
 use Rattle.log_programs.specs.Plain.{begins}
 use Rattle.log_programs.specs.Syntax.{Syntax}
 use Rattle.line_addresses.specs.Fields.{field_of}
