@@ -1,17 +1,17 @@
 -- Lines that have an address, and logs in which none does.
-use Rattle.std.proofs.Common.{◌≡◌, ℕ, zero, suc, ◌-◌, ◌^◌, ◌<◌, ◌≤◌, ◌||◌, ◌&&◌, Bool, true, false, not, List, [], ◌∷◌, ◌++◌, length, min, refl, sym, ap, ◌∙◌, arith}
-use Rattle.std.specs.Prelude.{Option, nat_le, nat_lt, if◌then◌else◌}
+use Rattle.std.proofs.Common.{◌≡◌, ℕ, ◌<◌, ◌≤◌, ◌||◌, ◌&&◌, Bool, true, false, List, [], ◌∷◌, ◌++◌, length, refl, sym, ap, ◌∙◌, arith}
+use Rattle.std.specs.Prelude.{Option, nat_le, nat_lt}
 use Rattle.std.proofs.lemmas.Bool.Decides.{nat_tests}
 use Rattle.std.proofs.lemmas.List.Folds.{list_any-append}
 use Rattle.ipnetwork_addr.specs.declared.ip.IpAddr.{IpAddr}
 use Rattle.ipnetwork.specs.declared.ip_network.IpNetwork.{IpNetwork}
-use Rattle.cidr_filter.specs.Addressed.{is_addressed, any_addressed, is_addressed_by, no_address_text, lacking_by}
+use Rattle.cidr_filter.specs.Addressed.{is_addressed, any_addressed, is_addressed_by}
 use Rattle.cidr_filter.specs.Filters.{FirstListed, IsVerdict, addresses_in}
 use Rattle.program.specs.LogLines.{LogLine, content}
 use Rattle.cidr_filter.specs.declared.filter.Filter.{Filter}
-use Rattle.line_addresses.specs.declared.place.Place.{Place}
 use Rattle.cidr_filter.specs.declared.filter.Verdict.{Verdict}
 use Rattle.cidr_filter.specs.declared.filter.Verdict.TheVariants as verdicts
+use Rattle.log_programs.proofs.Lacking.{positive}
 use Rattle.cidr_filter.proofs.Failing.{or_none, or_assoc}
 
 at_most : (a b : ℕ) → a ≤ b → nat_le a b ≡ true
@@ -19,9 +19,6 @@ at_most a b le = grind (arith, nat_tests)
 
 more_than : (a b : ℕ) → b < a → nat_le a b ≡ false
 more_than a b less = grind (arith, nat_tests)
-
-pub positive : (number : ℕ) → 0 < number → nat_lt 0 number ≡ true
-positive number some = grind (arith, nat_tests)
 
 both_true : (a b : Bool) → a ≡ true → b ≡ true → true ≡ (a && b)
 both_true a b e f = sym (ap (λ (x : Bool). x && b) e ∙ f)
@@ -57,15 +54,3 @@ addressed_more filter first next verdict old mid new judges e f =
     f ∙ ap (λ (b : Bool). b || is_addressed_by verdict) e ∙ or_assoc old (any_addressed filter first) (is_addressed_by verdict)
     ∙ ap (λ (b : Bool). old || (any_addressed filter first || b)) (or_none (is_addressed filter (content next)) (is_addressed_by verdict) (addressed_by filter (content next) verdict judges))
     ∙ ap (λ (b : Bool). old || b) (sym (list_any-append (λ line. is_addressed filter (content line)) first (next ∷ [])))
-
--- a count that stops at the greatest number of 64 bits
-pub same_test : (told count : ℕ) → told ≡ min count (2 ^ 64 - 1) → nat_lt 0 told ≡ nat_lt 0 count
-same_test zero zero e = refl
-same_test zero (suc count) e = absurd (omega (arith, e))
-same_test (suc told) zero e = absurd (omega (arith, e))
-same_test (suc told) (suc count) e = positive (suc told) (omega arith) ∙ sym (positive (suc count) (omega arith))
-
-pub lacking_same : (place : Place) (name : List ℕ) (lines count : ℕ) (one other : Bool) → lines ≡ min count (2 ^ 64 - 1) → one ≡ other → lacking_by place name lines one ≡ lacking_by place name count other
-lacking_same place name lines count one other e f =
-    ap (λ (b : Bool). if b && not one then no_address_text place name else []) (same_test lines count e)
-    ∙ ap (λ (b : Bool). if nat_lt 0 count && not b then no_address_text place name else []) f

@@ -5,7 +5,7 @@ use Rattle.std.proofs.lemmas.Bool.Decides.{nat_tests}
 use Rattle.cidr_filter.specs.Filters.{is_silent}
 use Rattle.cidr_filter.specs.Logs.{is_enough, NoLogs, GoesOn}
 use Rattle.cidr_filter.specs.declared.filter.Shown.{Shown}
-use Rattle.cidr_filter.proofs.Addressed.{same_test}
+use Rattle.log_programs.proofs.Lacking.{same_test}
 
 pub is_none : (count : ℕ) → nat_lt 0 count ≡ false → count ≡ 0
 is_none count e = grind (arith, nat_tests)

@@ -17,7 +17,7 @@ use Rattle.program.specs.LogLines.{LogLine, log_lines, ended_lines, content, pri
 use Rattle.cidr_filter.specs.Listed.{IsStored, IsLongestBlock}
 use Rattle.program.specs.LogFaults.{log_fault_text}
 use Rattle.cidr_filter.specs.Logs.{label_of}
-use Rattle.cidr_filter.specs.Options.{no_options, said_by}
+use Rattle.cidr_filter.specs.Options.{no_options}
 use Rattle.cidr_filter.specs.Addressed.{closed_text, lacking_by}
 use Rattle.cidr_filter.specs.Runs.{status_by, place_of}
 use Rattle.lists.specs.declared.refusals.Refusal.{Refusal}
@@ -36,6 +36,7 @@ use Rattle.program.specs.declared.log_fault.LogFault.TheVariants as faults
 use Rattle.lists.specs.declared.opening.OpenFault.TheVariants as causes
 use Rattle.cidr_filter.specs.declared.options.Choice.TheVariants as choices
 use Rattle.cidr_filter.proofs.OptionExamples.{letters}
+use Rattle.cidr_filter.specs.CommandLines.{said_by}
 
 -- ---- fields, cut at each comma (44) or blank (32)
 

@@ -5,18 +5,17 @@ use Rattle.std.specs.List.{list_all, list_any}
 use Rattle.std.specs.String.{string_bytes}
 use Rattle.ipnetwork.specs.declared.ip_network.IpNetwork.TheVariants.{V4, V6}
 use Rattle.program.specs.declared.usage.Subject.TheVariants as subjects
-use Rattle.cidr_filter.specs.CommandLines.{AsksNothing}
+use Rattle.cidr_filter.specs.CommandLines.{AsksNothing, option_of, HasFault}
 use Rattle.cidr_filter.specs.Filters.{IsVerdict, Filters}
 use Rattle.cidr_filter.specs.Laws.{LinesHaveOneVerdict, LogsHaveOneOutput, OutputsOfPartsFollow, NumbersAreNotShown, LinesThatEndRunsAreWhole, is_one_of, begins_with, is_option_word, OthersAreNoOptions, OthersAskForNothing, WordsHaveOneFault}
 use Rattle.program.specs.LogLines.{LogLine, log_lines, content}
-use Rattle.cidr_filter.specs.Options.{option_of}
-use Rattle.cidr_filter.specs.Usage.{about, HasFault}
+use Rattle.log_programs.specs.Usage.{about}
 use Rattle.cidr_filter.specs.declared.filter.Filter.{Filter}
 use Rattle.cidr_filter.specs.declared.filter.Verdict.{Verdict}
 use Rattle.cidr_filter.specs.declared.filter.Verdict.TheVariants as verdicts
 use Rattle.cidr_filter.specs.declared.options.Choice.TheVariants as choices
-use Rattle.cidr_filter.specs.declared.usage.Problem.TheVariants as problems
-use Rattle.cidr_filter.specs.declared.usage.UsageFault.{UsageFault}
+use Rattle.log_programs.specs.declared.usage.Problem.TheVariants as problems
+use Rattle.log_programs.specs.declared.usage.UsageFault.{UsageFault}
 use Rattle.program.specs.LogLines.{ended}
 use Rattle.cidr_filter.proofs.OptionExamples.{letters}
 

@@ -6,16 +6,16 @@ use Rattle.lists.specs.KnownLists.{KnownLists}
 use Rattle.program.specs.LogLines.{LogLine}
 use Rattle.program.specs.Logs.{IsFirstOf}
 use Rattle.cidr_filter.specs.Filters.{IsVerdict, is_below, AreAll}
-use Rattle.cidr_filter.specs.Joined.{words_in}
+use Rattle.log_programs.specs.Joined.{words_in}
 use Rattle.cidr_filter.specs.Logs.{LeavesLog, is_short}
-use Rattle.cidr_filter.specs.Options.{most_option, in_one_word}
+use Rattle.cidr_filter.specs.Options.{syntax_of_options, most_option, in_one_word}
 use Rattle.cidr_filter.specs.declared.filter.Filter.{Filter}
 use Rattle.cidr_filter.specs.declared.filter.Verdict.TheVariants as verdicts
 use Rattle.cidr_filter.specs.declared.filter.WithoutAddress.TheVariants as without
 use Rattle.cidr_filter.specs.declared.options.Choice.TheVariants as choices
 use Rattle.program.specs.declared.log_fault.LogFault.TheVariants as faults
 use Rattle.cidr_filter.proofs.Examples.{ended, by}
-use Rattle.cidr_filter.proofs.Requests.{same_value}
+use Rattle.log_programs.proofs.Requests.{same_value}
 
 -- ---- the number of lines
 
@@ -38,7 +38,7 @@ no_number_of_lines = refl
 pub number_in_one_word : in_one_word (codes "-m7") ≡ Some (choices.Most 7)
 number_in_one_word = refl
 
-pub number_behind_letters : words_in (codes "-cm7") ≡ codes "-c" ∷ codes "-m" ∷ codes "7" ∷ []
+pub number_behind_letters : words_in syntax_of_options (codes "-cm7") ≡ codes "-c" ∷ codes "-m" ∷ codes "7" ∷ []
 number_behind_letters = refl
 
 -- ---- how many may be selected

@@ -1,5 +1,4 @@
 pub mod Addressed
-pub mod AfterTexts
 pub mod Among
 pub mod Enough
 pub mod EnoughExamples
@@ -8,7 +7,7 @@ pub mod Failing
 pub mod Faults
 pub mod Filtering
 pub mod Heads
-pub mod JoinedWords
+pub mod JoinedLetters
 pub mod Judging
 pub mod LawExamples
 pub mod Left
@@ -19,7 +18,6 @@ pub mod NumberExamples
 pub mod OneOutput
 pub mod OptionExamples
 pub mod ReadInTurn
-pub mod Requests
 pub mod RunExamples
 pub mod Runs
 pub mod Spent
@@ -29,4 +27,3 @@ pub mod Texts
 pub mod Told
 pub mod UsageExamples
 pub mod WholeLines
-pub mod WordOrder

@@ -1,5 +1,5 @@
 -- Logs that are filtered in turn.
-use Rattle.std.proofs.Common.{◌≡◌, ◌+◌, ◌-◌, ◌^◌, ◌++◌, ◌∷◌, ◌∙◌, ◌||◌, [], ℕ, Bool, List, true, false, inl, inr, refl, sym, ap, subst, arith, length, min, append_assoc, append-nil}
+use Rattle.std.proofs.Common.{◌≡◌, ◌+◌, ◌-◌, ◌^◌, ◌++◌, ◌∷◌, ◌∙◌, ◌||◌, [], ℕ, Bool, List, true, false, inl, inr, refl, sym, ap, subst, arith, length, min, append_assoc, append-nil, codes}
 use Rattle.std.specs.Prelude.{Option, Some, IsTrue}
 use Rattle.std.specs.Io.KnownBytes.{Consumes, IsAtEnd}
 use Rattle.lines.specs.Outputs.{Written, Puts, AppendsBeginning}
@@ -23,7 +23,7 @@ use Rattle.cidr_filter.specs.declared.filter.Verdict.{Verdict}
 use Rattle.program.specs.declared.log_fault.LogFault.{LogFault}
 use Rattle.program.specs.declared.log_fault.LogFault.TheVariants as faults
 use Rattle.lists.specs.declared.opening.OpenFault.{OpenFault}
-use Rattle.cidr_filter.proofs.Addressed.{lacking_same}
+use Rattle.log_programs.proofs.Lacking.{lacking_same}
 use Rattle.cidr_filter.proofs.Enough.{few_first, few_second, enough_behind, not_enough, enough_same, goes_nowhere, went_on, goes_on, goes_so}
 use Rattle.cidr_filter.proofs.Failing.{or_assoc}
 
@@ -82,7 +82,7 @@ module _ (filter : Filter) (known : KnownLists) where
             refl,
           );
           tells = tells_same errors told (lacking_by filter.place name new.lines new.addressed) text
-              (lacking_same filter.place name new.lines (length lines) new.addressed (any_addressed filter lines) (counts_from_none 0 new.lines (length lines) refl ends.goes.2) ends.addressed) tells;
+              (lacking_same (codes "cidr_filter") filter.place name new.lines (length lines) new.addressed (any_addressed filter lines) (counts_from_none 0 new.lines (length lines) refl ends.goes.2) ends.addressed) tells;
           puts = ends.goes.0;
           counted = ends.goes.1;
         }

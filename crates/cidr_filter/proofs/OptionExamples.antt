@@ -4,9 +4,11 @@ use Rattle.std.specs.Prelude.{codes, bytes_eq, nat_le, nat_lt, if◌then◌else�
 use Rattle.std.specs.List.{list_all}
 use Rattle.std.specs.Char.{is_ascii_digit}
 use Rattle.std.specs.String.{string_bytes}
-use Rattle.cidr_filter.specs.CommandLines.{files_among, names_in, inputs_among, is_plain, is_name}
-use Rattle.cidr_filter.specs.Joined.{words_in, awaits_value}
-use Rattle.cidr_filter.specs.Options.{number_of, field_option, separator_option, bad_option, letters_option, begins, in_one_word, option_of, with_option, said_by, text_after}
+use Rattle.log_programs.specs.Plain.{is_plain, is_name, begins}
+use Rattle.log_programs.specs.CommandLines.{files_among, names_in, inputs_among}
+use Rattle.cidr_filter.specs.CommandLines.{option_of, said_by}
+use Rattle.log_programs.specs.Joined.{words_in, awaits_value}
+use Rattle.cidr_filter.specs.Options.{syntax_of_options, number_of, field_option, separator_option, bad_option, letters_option, in_one_word, with_option, text_after}
 use Rattle.cidr_filter.specs.declared.command_line.Request.{Request}
 use Rattle.cidr_filter.specs.declared.filter.WithoutAddress.{WithoutAddress}
 use Rattle.cidr_filter.specs.declared.filter.WithoutAddress.TheVariants as without
@@ -240,37 +242,37 @@ standard_input_twice = refl
 
 -- ---- words in which options are joined
 
-pub letters_and_a_value : words_in (codes "-vcaok1") ≡ codes "-v" ∷ codes "-c" ∷ codes "-a" ∷ codes "-o" ∷ codes "-k" ∷ codes "1" ∷ []
+pub letters_and_a_value : words_in syntax_of_options (codes "-vcaok1") ≡ codes "-v" ∷ codes "-c" ∷ codes "-a" ∷ codes "-o" ∷ codes "-k" ∷ codes "1" ∷ []
 letters_and_a_value = refl
 
-pub letters_and_a_value_behind : words_in (codes "-wd") ≡ codes "-w" ∷ codes "-d" ∷ []
+pub letters_and_a_value_behind : words_in syntax_of_options (codes "-wd") ≡ codes "-w" ∷ codes "-d" ∷ []
 letters_and_a_value_behind = refl
 
 -- whatever the value is
-pub text_joined : (byte : ℕ) (text : List ℕ) → words_in (45 ∷ 101 ∷ byte ∷ text) ≡ codes "-e" ∷ (byte ∷ text) ∷ []
+pub text_joined : (byte : ℕ) (text : List ℕ) → words_in syntax_of_options (45 ∷ 101 ∷ byte ∷ text) ≡ codes "-e" ∷ (byte ∷ text) ∷ []
 text_joined byte text = refl
 
-pub list_joined : (byte : ℕ) (text : List ℕ) → words_in (45 ∷ 118 ∷ 102 ∷ byte ∷ text) ≡ codes "-v" ∷ codes "-f" ∷ (byte ∷ text) ∷ []
+pub list_joined : (byte : ℕ) (text : List ℕ) → words_in syntax_of_options (45 ∷ 118 ∷ 102 ∷ byte ∷ text) ≡ codes "-v" ∷ codes "-f" ∷ (byte ∷ text) ∷ []
 list_joined byte text = refl
 
-pub field_in_its_word : words_in (codes "-k1v") ≡ codes "-k1v" ∷ []
+pub field_in_its_word : words_in syntax_of_options (codes "-k1v") ≡ codes "-k1v" ∷ []
 field_in_its_word = refl
 
-pub letters_alone : words_in (codes "-vc") ≡ codes "-vc" ∷ []
+pub letters_alone : words_in syntax_of_options (codes "-vc") ≡ codes "-vc" ∷ []
 letters_alone = refl
 
-pub no_letter_among_letters : words_in (codes "-vxk1") ≡ codes "-vxk1" ∷ []
+pub no_letter_among_letters : words_in syntax_of_options (codes "-vxk1") ≡ codes "-vxk1" ∷ []
 no_letter_among_letters = refl
 
-pub long_name : words_in (codes "--vk1") ≡ codes "--vk1" ∷ []
+pub long_name : words_in syntax_of_options (codes "--vk1") ≡ codes "--vk1" ∷ []
 long_name = refl
 
 -- a word that does not begin with a `-` stays as it is
-pub plain_word_alone : (byte : ℕ) (bytes : List ℕ) → (byte == 45) ≡ false → words_in (byte ∷ bytes) ≡ (byte ∷ bytes) ∷ []
+pub plain_word_alone : (byte : ℕ) (bytes : List ℕ) → (byte == 45) ≡ false → words_in syntax_of_options (byte ∷ bytes) ≡ (byte ∷ bytes) ∷ []
 plain_word_alone byte bytes other = rw other
 
-pub value_in_the_next_word : awaits_value (codes "-vk") ≡ true
+pub value_in_the_next_word : awaits_value syntax_of_options (codes "-vk") ≡ true
 value_in_the_next_word = refl
 
-pub value_in_the_word : awaits_value (codes "-vk1") ≡ false
+pub value_in_the_word : awaits_value syntax_of_options (codes "-vk1") ≡ false
 value_in_the_word = refl

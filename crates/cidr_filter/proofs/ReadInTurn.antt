@@ -15,9 +15,10 @@ use Rattle.lists.specs.KnownLists.{KnownLists}
 use Rattle.lists.specs.Reading.{ReadsList, StopsAt, StopsAtText}
 use Rattle.lists.specs.declared.named.ReadFault.{ReadFault}
 use Rattle.program.proofs.Told.{name_within}
-use Rattle.cidr_filter.specs.CommandLines.{Begin}
+use Rattle.log_programs.specs.Plain.{begins}
+use Rattle.cidr_filter.specs.CommandLines.{Begin, option_of, behind_option}
 use Rattle.cidr_filter.specs.Listed.{HasBlocksOf}
-use Rattle.cidr_filter.specs.Options.{option_of, behind_option, takes_next, in_one_word, field_option, separator_option, most_option, bad_option, letters_option, letters_in, is_field, is_separator, is_letter, number_of, begins, is_list}
+use Rattle.cidr_filter.specs.Options.{takes_next, in_one_word, field_option, separator_option, most_option, bad_option, letters_option, letters_in, is_field, is_separator, is_letter, number_of, is_list}
 use Rattle.cidr_filter.specs.Reading.{ReadsOption, next_place, ReadsOptions, ReadsLists, StopsAtOption, Stops, HoldsRead}
 use Rattle.program.specs.Told.{name_at}
 use Rattle.cidr_filter.specs.Private.Reading.{ReadsAll, HasSets, HasBlocks}

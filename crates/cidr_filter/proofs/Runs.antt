@@ -38,7 +38,7 @@ use Rattle.program.proofs.LogReading.{failed_now}
 use Rattle.program.proofs.LogStops.{told_log, puts_then_all, written_behind, failed_behind, wrote_behind, wrote_same}
 use Rattle.cidr_filter.proofs.Enough.{none_few, few_both}
 use Rattle.cidr_filter.proofs.LogsInTurn.{PutsBy, NameStops, names_both, names_enough, enough_by, logs_both}
-use Rattle.cidr_filter.proofs.Addressed.{same_test}
+use Rattle.log_programs.proofs.Lacking.{same_test}
 use Rattle.cidr_filter.proofs.Spent.{below_within}
 
 -- ---- a log that stops

@@ -5,8 +5,9 @@ use Rattle.std.proofs.lemmas.List.{take_all, drop_all}
 use Rattle.std.proofs.lemmas.Bool.{cases_lt}
 use Rattle.program.specs.Words.{is}
 use Rattle.cidr_filter.specs.Filters.{one_if}
-use Rattle.cidr_filter.specs.Options.{takes_next, behind_option}
+use Rattle.cidr_filter.specs.Options.{takes_next}
 use Rattle.cidr_filter.specs.Told.{texts_in}
+use Rattle.cidr_filter.specs.CommandLines.{behind_option}
 
 -- ---- how many `-e`
 

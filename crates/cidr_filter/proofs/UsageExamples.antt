@@ -3,10 +3,12 @@ use Rattle.std.proofs.Common.{◌≡◌, [], ◌∷◌, true, false, inl, inr, r
 use Rattle.std.specs.Prelude.{codes, String, Some, None}
 use Rattle.std.specs.String.{string_bytes}
 use Rattle.program.specs.declared.usage.Subject.TheVariants as subjects
-use Rattle.cidr_filter.specs.Usage.{about, value_problem, word_problem, option_fault, rest_fault, together_by, HasFault}
+use Rattle.cidr_filter.specs.Usage.{value_problem, word_problem}
 use Rattle.cidr_filter.specs.declared.options.Choice.TheVariants as choices
-use Rattle.cidr_filter.specs.declared.usage.Problem.TheVariants as problems
+use Rattle.log_programs.specs.declared.usage.Problem.TheVariants as problems
 use Rattle.cidr_filter.proofs.OptionExamples.{letters}
+use Rattle.log_programs.specs.Usage.{about, option_fault, rest_fault, together_by}
+use Rattle.cidr_filter.specs.CommandLines.{filter_options, HasFault}
 
 -- ---- a word by itself
 
@@ -36,67 +38,67 @@ letter_and_another = refl
 
 -- ---- an option and its value
 
-pub value_of_a_list : {Z : Type 0} (name : String Z) → string_bytes name ≡ codes "-f" → value_problem name ≡ problems.Name
+pub value_of_a_list : {Z : Type 0} (name : String Z) → string_bytes name ≡ codes "-f" → value_problem (string_bytes name) ≡ problems.Name
 value_of_a_list name n = rw n
 
-pub value_of_a_text : {Z : Type 0} (name : String Z) → string_bytes name ≡ codes "-e" → value_problem name ≡ problems.Text
+pub value_of_a_text : {Z : Type 0} (name : String Z) → string_bytes name ≡ codes "-e" → value_problem (string_bytes name) ≡ problems.Text
 value_of_a_text name n = rw n
 
-pub value_of_a_field : {Z : Type 0} (name : String Z) → string_bytes name ≡ codes "-k" → value_problem name ≡ problems.Field
+pub value_of_a_field : {Z : Type 0} (name : String Z) → string_bytes name ≡ codes "-k" → value_problem (string_bytes name) ≡ problems.Field
 value_of_a_field name n = rw n
 
-pub value_of_a_separator : {Z : Type 0} (name : String Z) → string_bytes name ≡ codes "-d" → value_problem name ≡ problems.Separator
+pub value_of_a_separator : {Z : Type 0} (name : String Z) → string_bytes name ≡ codes "-d" → value_problem (string_bytes name) ≡ problems.Separator
 value_of_a_separator name n = rw n
 
-pub value_of_bad : {Z : Type 0} (name : String Z) → string_bytes name ≡ codes "--bad" → value_problem name ≡ problems.WithoutAddress
+pub value_of_bad : {Z : Type 0} (name : String Z) → string_bytes name ≡ codes "--bad" → value_problem (string_bytes name) ≡ problems.WithoutAddress
 value_of_bad name n = rw n
 
-pub value_of_after : {Z : Type 0} (name : String Z) → string_bytes name ≡ codes "--after" → value_problem name ≡ problems.Empty
+pub value_of_after : {Z : Type 0} (name : String Z) → string_bytes name ≡ codes "--after" → value_problem (string_bytes name) ≡ problems.Empty
 value_of_after name n = rw n
 
-pub option_and_value : {Z : Type 0} (name value : String Z) → string_bytes name ≡ codes "-d" → option_fault 7 (name ∷ value ∷ []) ≡ about (subjects.Value 7 8) problems.Separator
+pub option_and_value : {Z : Type 0} (name value : String Z) → string_bytes name ≡ codes "-d" → option_fault filter_options 7 (name ∷ value ∷ []) ≡ about (subjects.Value 7 8) problems.Separator
 option_and_value name value n = rw n
 
-pub option_and_no_value : {Z : Type 0} (name : String Z) → string_bytes name ≡ codes "--bad" → option_fault 7 (name ∷ []) ≡ about (subjects.Word 7) problems.NoValue
+pub option_and_no_value : {Z : Type 0} (name : String Z) → string_bytes name ≡ codes "--bad" → option_fault filter_options 7 (name ∷ []) ≡ about (subjects.Word 7) problems.NoValue
 option_and_no_value name n = rw n
 
-pub word_and_another : {Z : Type 0} (word other : String Z) → string_bytes word ≡ codes "-k0" → option_fault 7 (word ∷ other ∷ []) ≡ about (subjects.Word 7) problems.Field
+pub word_and_another : {Z : Type 0} (word other : String Z) → string_bytes word ≡ codes "-k0" → option_fault filter_options 7 (word ∷ other ∷ []) ≡ about (subjects.Word 7) problems.Field
 word_and_another word other w = rw w
 
 -- ---- FILEs
 
-pub option_after_a_file : {Z : Type 0} (file option empty : String Z) → string_bytes file ≡ codes "a" → string_bytes option ≡ codes "-v" → rest_fault 3 (file ∷ option ∷ empty ∷ []) ≡ Some (about (subjects.Word 4) problems.AfterFile)
+pub option_after_a_file : {Z : Type 0} (file option empty : String Z) → string_bytes file ≡ codes "a" → string_bytes option ≡ codes "-v" → rest_fault filter_options 3 (file ∷ option ∷ empty ∷ []) ≡ Some (about (subjects.Word 4) problems.AfterFile)
 option_after_a_file file option empty f o = rw (f, o)
 
-pub dashes_after_a_file : {Z : Type 0} (file dashes : String Z) → string_bytes file ≡ codes "-" → string_bytes dashes ≡ codes "--" → rest_fault 3 (file ∷ dashes ∷ []) ≡ Some (about (subjects.Word 4) problems.AfterFile)
+pub dashes_after_a_file : {Z : Type 0} (file dashes : String Z) → string_bytes file ≡ codes "-" → string_bytes dashes ≡ codes "--" → rest_fault filter_options 3 (file ∷ dashes ∷ []) ≡ Some (about (subjects.Word 4) problems.AfterFile)
 dashes_after_a_file file dashes f d = rw (f, d)
 
 -- the first of two faults
-pub empty_file_before_an_option : {Z : Type 0} (empty option : String Z) → string_bytes empty ≡ [] → rest_fault 3 (empty ∷ option ∷ []) ≡ Some (about (subjects.Word 3) problems.Name)
+pub empty_file_before_an_option : {Z : Type 0} (empty option : String Z) → string_bytes empty ≡ [] → rest_fault filter_options 3 (empty ∷ option ∷ []) ≡ Some (about (subjects.Word 3) problems.Name)
 empty_file_before_an_option empty option e = rw e
 
 pub empty_file_behind_dashes : {Z : Type 0} (dashes option empty : String Z) → string_bytes dashes ≡ codes "--" → string_bytes option ≡ codes "-v" → string_bytes empty ≡ []
-    → rest_fault 3 (dashes ∷ option ∷ empty ∷ []) ≡ Some (about (subjects.Word 5) problems.Name)
+    → rest_fault filter_options 3 (dashes ∷ option ∷ empty ∷ []) ≡ Some (about (subjects.Word 5) problems.Name)
 empty_file_behind_dashes dashes option empty d o e = rw (d, o, e)
 
-pub right_files : {Z : Type 0} (one two : String Z) → string_bytes one ≡ codes "-" → string_bytes two ≡ codes "a" → rest_fault 3 (one ∷ two ∷ []) ≡ None
+pub right_files : {Z : Type 0} (one two : String Z) → string_bytes one ≡ codes "-" → string_bytes two ≡ codes "a" → rest_fault filter_options 3 (one ∷ two ∷ []) ≡ None
 right_files one two o t = rw (o, t)
 
-pub no_files : (Z : Type 0) → rest_fault {Z = Z} 3 [] ≡ None
+pub no_files : (Z : Type 0) → rest_fault {Z = Z} filter_options 3 [] ≡ None
 no_files Z = refl
 
 -- ---- right words that are wrong together
 
-pub longest_counted : together_by (Some problems.Crossed) false false ≡ Some problems.Crossed
+pub longest_counted : together_by (Some problems.Crossed) (Some problems.NoList) false ≡ Some problems.Crossed
 longest_counted = refl
 
-pub nothing_listed : together_by None false false ≡ Some problems.NoList
+pub nothing_listed : together_by None (Some problems.NoList) false ≡ Some problems.NoList
 nothing_listed = refl
 
-pub input_read_twice : together_by None true false ≡ Some problems.InputTwice
+pub input_read_twice : together_by None None false ≡ Some problems.InputTwice
 input_read_twice = refl
 
-pub nothing_wrong : together_by None true true ≡ None
+pub nothing_wrong : together_by None None true ≡ None
 nothing_wrong = refl
 
 -- ---- whole command lines
@@ -104,7 +106,7 @@ nothing_wrong = refl
 pub a_zero : {Z : Type 0} (flag name value : String Z) → string_bytes flag ≡ codes "-v" → string_bytes name ≡ codes "-k" → string_bytes value ≡ codes "0"
     → HasFault (flag ∷ name ∷ value ∷ []) (about (subjects.Value 1 2) problems.Field)
 a_zero flag name value f n v = record {
-  options = choices.Letters (letters true false false false) ∷ [];
+  choices = choices.Letters (letters true false false false) ∷ [];
   rest = name ∷ value ∷ [];
   begin = (rw f, rw f);
   no_more = rw (n, v);
@@ -114,7 +116,7 @@ a_zero flag name value f n v = record {
 -- nothing is asked for
 pub no_words : (Z : Type 0) → HasFault {Z = Z} [] (about subjects.CommandLine problems.NoList)
 no_words Z = record {
-  options = [];
+  choices = [];
   rest = [];
   begin = refl;
   no_more = refl;
@@ -124,7 +126,7 @@ no_words Z = record {
 -- the list and the log are standard input
 pub list_and_log : {Z : Type 0} (name dash : String Z) → string_bytes name ≡ codes "-f" → string_bytes dash ≡ codes "-" → HasFault (name ∷ dash ∷ []) (about subjects.CommandLine problems.InputTwice)
 list_and_log name dash n d = record {
-  options = choices.Input ∷ [];
+  choices = choices.Input ∷ [];
   rest = [];
   begin = (rw (n, d), rw n);
   no_more = refl;
@@ -133,7 +135,7 @@ list_and_log name dash n d = record {
 
 pub longest_and_v : {Z : Type 0} (one two : String Z) → string_bytes one ≡ codes "--longest" → string_bytes two ≡ codes "-v" → HasFault (one ∷ two ∷ []) (about subjects.CommandLine problems.Crossed)
 longest_and_v one two o t = record {
-  options = choices.Longest ∷ choices.Letters (letters true false false false) ∷ [];
+  choices = choices.Longest ∷ choices.Letters (letters true false false false) ∷ [];
   rest = [];
   begin = (rw o, (rw (o, t), rw (o, t)));
   no_more = refl;
@@ -142,7 +144,7 @@ longest_and_v one two o t = record {
 
 pub anywhere_and_a_field : {Z : Type 0} (one two : String Z) → string_bytes one ≡ codes "-a" → string_bytes two ≡ codes "-k1" → HasFault (one ∷ two ∷ []) (about subjects.CommandLine problems.Anywhere)
 anywhere_and_a_field one two o t = record {
-  options = choices.Letters (letters false false true false) ∷ choices.Field 1 ∷ [];
+  choices = choices.Letters (letters false false true false) ∷ choices.Field 1 ∷ [];
   rest = [];
   begin = (rw o, (rw (o, t), rw (o, t)));
   no_more = refl;
@@ -151,7 +153,7 @@ anywhere_and_a_field one two o t = record {
 
 pub words_and_a_separator : {Z : Type 0} (one two : String Z) → string_bytes one ≡ codes "-w" → string_bytes two ≡ codes "-d," → HasFault (one ∷ two ∷ []) (about subjects.CommandLine problems.Words)
 words_and_a_separator one two o t = record {
-  options = choices.Letters (letters false false false true) ∷ choices.Separator 44 ∷ [];
+  choices = choices.Letters (letters false false false true) ∷ choices.Separator 44 ∷ [];
   rest = [];
   begin = (rw o, (rw (o, t), rw (o, t)));
   no_more = refl;
@@ -160,7 +162,7 @@ words_and_a_separator one two o t = record {
 
 pub addresses_and_v : {Z : Type 0} (one : String Z) → string_bytes one ≡ codes "-ov" → HasFault (one ∷ []) (about subjects.CommandLine problems.Only)
 addresses_and_v one o = record {
-  options = choices.Letters (record (letters true false false false) { only = true }) ∷ [];
+  choices = choices.Letters (record (letters true false false false) { only = true }) ∷ [];
   rest = [];
   begin = (rw o, rw o);
   no_more = refl;
@@ -170,7 +172,7 @@ addresses_and_v one o = record {
 pub after_and_anywhere : {Z : Type 0} (name value flag : String Z) → string_bytes name ≡ codes "--after" → string_bytes value ≡ codes "x" → string_bytes flag ≡ codes "-a"
     → HasFault (name ∷ value ∷ flag ∷ []) (about subjects.CommandLine problems.After)
 after_and_anywhere name value flag n v f = record {
-  options = choices.After ∷ choices.Letters (letters false false true false) ∷ [];
+  choices = choices.After ∷ choices.Letters (letters false false true false) ∷ [];
   rest = [];
   begin = (rw (n, v), (rw (n, f), rw (n, f)));
   no_more = refl;

@@ -1,11 +1,11 @@
 -- Logs in which no line has an address, and logs that cannot be opened, and what is reported of them.
-use Rattle.std.specs.Prelude.{ℕ, ◌&&◌, Bool, true, false, not, List, [], ◌++◌, length, nat_le, nat_lt, codes, decimal, if◌then◌else◌}
+use Rattle.std.specs.Prelude.{ℕ, ◌&&◌, Bool, true, false, List, ◌++◌, length, nat_le, nat_lt, codes}
 use Rattle.std.specs.List.{list_any}
 use Rattle.cidr_filter.specs.Filters.{addresses_in}
 use Rattle.program.specs.LogLines.{LogLine, content}
+use Rattle.log_programs.specs.Lacking.{lacking_told}
 use Rattle.cidr_filter.specs.declared.filter.Filter.{Filter}
 use Rattle.line_addresses.specs.declared.place.Place.{Place}
-use Rattle.line_addresses.specs.declared.place.Place.TheVariants as places
 use Rattle.cidr_filter.specs.declared.filter.Verdict.{Verdict}
 use Rattle.cidr_filter.specs.declared.filter.Verdict.TheVariants as verdicts
 use Rattle.lists.specs.Opening.{open_fault_text}
@@ -26,20 +26,9 @@ is_addressed_by verdicts.Outside = true
 is_addressed_by verdicts.NoAddress = false
 is_addressed_by verdicts.TooLong = false
 
--- where an address is looked for
-abbrev pub place_text : Place → List ℕ
-place_text (places.Field number separator) = codes "in field " ++ decimal number
-place_text (places.Word number) = codes "in word " ++ decimal number
-place_text places.Anywhere = codes "anywhere in it"
-place_text (places.After text) = codes "after " ++ text
-
--- what is reported of a log of this name in which no line has an address there
-abbrev pub no_address_text : Place → List ℕ → List ℕ
-no_address_text place name = codes "cidr_filter: " ++ name ++ codes ": no line has an address " ++ place_text place ++ codes "\n"
-
--- that is reported if there are lines, as many as this, and none has one
+-- what is reported of a log of this name with lines, as many as this, if none has one
 abbrev pub lacking_by : Place → List ℕ → ℕ → Bool → List ℕ
-lacking_by place name lines addressed = if nat_lt 0 lines && not addressed then no_address_text place name else []
+lacking_by place name lines addressed = lacking_told (codes "cidr_filter") place name lines addressed
 
 abbrev pub lacking_text : Filter → List ℕ → List LogLine → List ℕ
 lacking_text filter name lines = lacking_by filter.place name (length lines) (any_addressed filter lines)

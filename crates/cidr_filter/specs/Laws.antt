@@ -2,15 +2,13 @@
 use Rattle.std.specs.Prelude.{◌≡◌, ℕ, ◌+◌, ◌==◌, ◌||◌, ◌&&◌, Bool, true, false, List, [], ◌∷◌, ◌++◌, None, take, drop, length, nat_lt, codes, bytes_eq, String}
 use Rattle.std.specs.List.{list_all, list_any}
 use Rattle.std.specs.String.{string_bytes}
-use Rattle.cidr_filter.specs.CommandLines.{Begin, AsksNothing}
+use Rattle.cidr_filter.specs.CommandLines.{Begin, AsksNothing, option_of, HasFault}
 use Rattle.cidr_filter.specs.Filters.{IsVerdict, Filters}
 use Rattle.program.specs.LogLines.{LogLine, log_lines, content, IsWhole}
-use Rattle.cidr_filter.specs.Options.{option_of}
-use Rattle.cidr_filter.specs.Usage.{HasFault}
 use Rattle.cidr_filter.specs.declared.filter.Filter.{Filter}
 use Rattle.cidr_filter.specs.declared.filter.Verdict.{Verdict}
 use Rattle.cidr_filter.specs.declared.options.Choice.{Choice}
-use Rattle.cidr_filter.specs.declared.usage.UsageFault.{UsageFault}
+use Rattle.log_programs.specs.declared.usage.UsageFault.{UsageFault}
 
 -- a line has at most one verdict
 abbrev pub LinesHaveOneVerdict : Type 0

@@ -1,9 +1,7 @@
 -- What the contracts of this crate cite.
 pub mod Addressed
-pub mod Arranged
 pub mod CommandLines
 pub mod Filters
-pub mod Joined
 pub mod Laws
 pub mod Listed
 pub mod Logs

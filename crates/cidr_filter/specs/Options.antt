@@ -1,18 +1,16 @@
 -- What an option of the command line says.
-use Rattle.std.specs.Prelude.{ℕ, ◌+◌, ◌-◌, ◌*◌, ◌^◌, min, ◌==◌, ◌||◌, ◌&&◌, Bool, true, false, not, List, [], ◌∷◌, Option, None, Some, take, drop, length, nat_lt, nat_le, if◌then◌else◌, codes, bytes_eq, fold, String}
+use Rattle.std.specs.Prelude.{ℕ, ◌+◌, ◌-◌, ◌*◌, ◌^◌, min, ◌==◌, ◌||◌, ◌&&◌, Bool, true, false, not, List, [], ◌∷◌, Option, None, Some, drop, length, nat_lt, nat_le, if◌then◌else◌, codes, bytes_eq, fold, String}
 use Rattle.std.specs.List.{list_all, list_any}
 use Rattle.std.specs.String.{string_bytes}
 use Rattle.std.specs.Char.{is_ascii_digit}
-use Rattle.program.specs.Words.{is}
+use Rattle.log_programs.specs.Plain.{begins}
+use Rattle.log_programs.specs.Syntax.{Syntax}
+use Rattle.log_programs.specs.Values.{value_of}
 use Rattle.cidr_filter.specs.declared.command_line.Request.{Request}
 use Rattle.cidr_filter.specs.declared.filter.WithoutAddress.TheVariants as without
 use Rattle.cidr_filter.specs.declared.options.Choice.{Choice}
 use Rattle.cidr_filter.specs.declared.options.Choice.TheVariants as choices
 use Rattle.cidr_filter.specs.declared.options.Letters.{Letters}
-
--- the second text begins with the first
-abbrev pub begins : List ℕ → List ℕ → Bool
-begins first text = bytes_eq (take (length first) text) first
 
 -- the number that digits name, in decimal
 abbrev pub number_of : List ℕ → ℕ
@@ -82,19 +80,34 @@ letters_in text = record {
 abbrev pub letters_option : List ℕ → Option Choice
 letters_option text = if nat_lt 0 (length text) && list_all is_letter text then Some (choices.Letters (letters_in text)) else None
 
--- the value of such an option is the next word
-abbrev pub takes_next : {Z : Type 0} → String Z → Bool
-takes_next word = is (codes "-f") word || is (codes "-e") word || is (codes "-k") word || is (codes "-d") word || is (codes "-m") word || is (codes "--bad") word
-    || is (codes "--after") word
+-- the options of these letters take a value: `f`, `e`, `k`, `d` and `m`
+abbrev pub takes_value : ℕ → Bool
+takes_value letter = letter == 102 || letter == 101 || letter == 107 || letter == 100 || letter == 109
 
-abbrev pub in_two_words : {Z : Type 0} → String Z → List ℕ → Option Choice
+-- any text behind `f` and `e` is their value, also where they are the first letter
+abbrev pub takes_rest : ℕ → Bool
+takes_rest letter = letter == 102 || letter == 101
+
+-- the value of an option of these names is the next word
+abbrev pub is_before_value : List ℕ → Bool
+is_before_value name = bytes_eq name (codes "-f") || bytes_eq name (codes "-e") || bytes_eq name (codes "-k") || bytes_eq name (codes "-d") || bytes_eq name (codes "-m") || bytes_eq name (codes "--bad")
+    || bytes_eq name (codes "--after")
+
+abbrev pub takes_next : {Z : Type 0} → String Z → Bool
+takes_next word = is_before_value (string_bytes word)
+
+-- the options, as far as the order of words depends on them
+abbrev pub syntax_of_options : Syntax
+syntax_of_options = record { is_letter = is_letter; takes_value = takes_value; takes_rest = takes_rest; takes_next = is_before_value }
+
+abbrev pub in_two_words : List ℕ → List ℕ → Option Choice
 in_two_words name value =
-    if is (codes "-f") name then file_option value
-    else if is (codes "-e") name then text_option value
-    else if is (codes "-k") name then field_option value
-    else if is (codes "-d") name then separator_option value
-    else if is (codes "-m") name then most_option value
-    else if is (codes "--bad") name then bad_option value
+    if bytes_eq name (codes "-f") then file_option value
+    else if bytes_eq name (codes "-e") then text_option value
+    else if bytes_eq name (codes "-k") then field_option value
+    else if bytes_eq name (codes "-d") then separator_option value
+    else if bytes_eq name (codes "-m") then most_option value
+    else if bytes_eq name (codes "--bad") then bad_option value
     else after_option value
 
 -- others are one word, in which the value of `-k`, of `-d` and of `-m` may stand after the letter, and that of `--bad` after a
@@ -109,20 +122,6 @@ in_one_word word =
     else if bytes_eq word (codes "--mapped") then Some choices.Mapped
     else if begins (codes "-") word then letters_option (drop 1 word)
     else None
-
--- the option that words begin with, if they begin with one
-abbrev pub with_next : {Z : Type 0} → String Z → List (String Z) → Option Choice
-with_next name [] = None
-with_next name (value ∷ others) = in_two_words name (string_bytes value)
-
-abbrev pub option_of : {Z : Type 0} → List (String Z) → Option Choice
-option_of [] = None
-option_of (word ∷ others) = if takes_next word then with_next word others else in_one_word (string_bytes word)
-
--- the words after it
-abbrev pub behind_option : {Z : Type 0} → List (String Z) → List (String Z)
-behind_option [] = []
-behind_option (word ∷ others) = if takes_next word then drop 1 others else others
 
 -- the letters that are among the first or the second
 abbrev pub either : Letters → Letters → Letters
@@ -180,25 +179,9 @@ no_options = record {
   files = 0;
 }
 
--- what these options say
-abbrev pub said_by : List Choice → Request
-said_by options = fold with_option no_options options
-
--- the text of the last `--after` among options, or an empty one; the value of an option is none
-abbrev pub or_last : List ℕ → List ℕ → List ℕ
-or_last first [] = first
-or_last first (byte ∷ last) = byte ∷ last
-
-abbrev pub said_after : {Z : Type 0} → List (String Z) → List ℕ
-said_after [] = []
-said_after (word ∷ []) = []
-said_after (word ∷ value ∷ words) = if is (codes "--after") word then string_bytes value else []
-
+-- the text of the last `--after` among options, or an empty one
 abbrev pub text_after : {Z : Type 0} → List (String Z) → List ℕ
-text_after [] = []
-text_after (word ∷ []) = []
-text_after (word ∷ value ∷ words) =
-    or_last (said_after (word ∷ value ∷ words)) (if takes_next word then text_after words else text_after (value ∷ words))
+text_after words = value_of syntax_of_options (codes "--after") words
 
 -- whether an option is a list
 abbrev pub is_list : Choice → Bool

@@ -3,5 +3,4 @@ pub mod Judging
 pub mod Leaving
 pub mod Progress
 pub mod Reading
-pub mod Requests
 pub mod Runs

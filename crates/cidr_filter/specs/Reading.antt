@@ -8,9 +8,8 @@ use Rattle.lists.specs.KnownLists.{KnownLists}
 use Rattle.lists.specs.Reading.{ReadsList, StopsAt, StopsAtText}
 use Rattle.program.specs.Told.{name_at}
 use Rattle.lists.specs.declared.named.ReadFault.{ReadFault}
-use Rattle.cidr_filter.specs.CommandLines.{Begin}
+use Rattle.cidr_filter.specs.CommandLines.{Begin, option_of, behind_option}
 use Rattle.cidr_filter.specs.Listed.{HasBlocksOf}
-use Rattle.cidr_filter.specs.Options.{option_of, behind_option}
 use Rattle.cidr_filter.specs.declared.listed.Listed.{Listed}
 use Rattle.cidr_filter.specs.declared.listed.Listed.TheVariants.{Addresses, Blocks}
 use Rattle.cidr_filter.specs.declared.options.Choice.{Choice}

@@ -12,17 +12,17 @@ use Rattle.program.specs.Told.{was_refused, fault_text, refusals_text}
 use Rattle.lists.specs.declared.named.ReadFault.{ReadFault}
 use Rattle.lists.specs.KnownLists.{KnownLists}
 use Rattle.program.specs.Usage.{usage_text}
-use Rattle.cidr_filter.specs.Arranged.{arranged}
-use Rattle.cidr_filter.specs.CommandLines.{Says, AsksNothing}
+use Rattle.log_programs.specs.Arranged.{arranged}
+use Rattle.cidr_filter.specs.CommandLines.{Says, AsksNothing, HasFault}
 use Rattle.cidr_filter.specs.Filters.{Filters, is_count}
 use Rattle.program.specs.LogFaults.{log_fault_text, FailsWriting, Wrote}
 use Rattle.program.specs.Logs.{logs_of, HaltsBy}
 use Rattle.cidr_filter.specs.Logs.{FiltersLogs, is_enough, EndsRunBy, is_short, filter_for}
 use Rattle.cidr_filter.specs.Reading.{IsReadOf, Stops, HoldsRead}
 use Rattle.program.specs.LogLines.{LogLine}
-use Rattle.cidr_filter.specs.Options.{text_after}
+use Rattle.cidr_filter.specs.Options.{syntax_of_options, text_after}
 use Rattle.cidr_filter.specs.Told.{in_option}
-use Rattle.cidr_filter.specs.Usage.{problem_text, HasFault}
+use Rattle.log_programs.specs.Usage.{problem_text}
 use Rattle.cidr_filter.specs.declared.command_line.Request.{Request}
 use Rattle.cidr_filter.specs.declared.filter.Filter.{Filter}
 use Rattle.cidr_filter.specs.declared.filter.Shown.{Shown}
@@ -32,7 +32,7 @@ use Rattle.line_addresses.specs.declared.place.Place.{Place}
 use Rattle.line_addresses.specs.declared.place.Place.TheVariants as places
 use Rattle.cidr_filter.specs.declared.listed.Listed.{Listed}
 use Rattle.program.specs.declared.log_fault.LogFault.{LogFault}
-use Rattle.cidr_filter.specs.declared.usage.UsageFault.{UsageFault}
+use Rattle.log_programs.specs.declared.usage.UsageFault.{UsageFault}
 
 -- a log that was opened was not filtered to its end, and ended the run: those before it were filtered, and its first
 -- lines; their outputs were written, the cause was reported after what there is to report of them, and the status is 2
@@ -163,4 +163,4 @@ abbrev pub EndsAs : {Z W E : Type 0} → List ℕ → List ℕ → List ℕ → 
     → List (String Z) → Ending W E → Type 0
 EndsAs {Z} program help version usage known words end = EndsRun help version words
     (Refuses (codes "out of memory\n") end
-    ⊎ ((asked : List (String Z)) × (map string_bytes asked ≡ arranged words) × EndsAsked program usage known asked end)) end
+    ⊎ ((asked : List (String Z)) × (map string_bytes asked ≡ arranged syntax_of_options words) × EndsAsked program usage known asked end)) end

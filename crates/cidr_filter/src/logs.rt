@@ -9,14 +9,16 @@ ghost use Rattle.cidr_filter.specs.Stands.{stand};
 ghost use Rattle.cidr_filter.specs.Private.Runs.{FiltersNames};
 
 use crate::filter::{Filter, Verdict};
+use crate::help::PROGRAM;
 use crate::log::{Reached, Tally, filter_log};
 use crate::naming::label_of;
-use crate::telling::{tell_closed, tell_lacking};
+use crate::telling::tell_closed;
 use line_addresses::Text;
 use lines::fault::RunFault;
 use lines::output::Output;
 use lines::watched::Watched;
 use lists::{OpenFault, OpenLists};
+use log_programs::telling::tell_lacking;
 use program::ending::{FAILED, end};
 use program::log_fault::stop;
 use program::log_reader::LogReader;
@@ -152,7 +154,14 @@ fn filter_one<'a, L: OpenLists, W: Write, E: Write>(
     lists.close(name, log);
     match end {
         Ok(Reached::End) => {
-            tell_lacking(&filter.place, name, tally.lines, tally.is_addressed, errors);
+            tell_lacking(
+                PROGRAM,
+                &filter.place,
+                name,
+                tally.lines,
+                tally.is_addressed,
+                errors,
+            );
             Some(false)
         }
         Ok(Reached::Last) => Some(false),

@@ -1,11 +1,10 @@
 //! The lines of logs whose address is in a list of networks.
 #![tactic(auto)]
 
-mod arranging;
 mod command_line;
 mod filter;
+mod grammar;
 mod help;
-mod joined;
 mod laws;
 mod leaving;
 mod listed;

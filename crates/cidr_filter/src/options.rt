@@ -1,8 +1,9 @@
 //! The options of a command line, one at a time.
-ghost use Rattle.std.specs.Prelude.{[], ◌≡◌, ◌==◌, ◌-◌, ◌^◌, ◌<◌, ◌≤◌, drop, length, min};
+ghost use Rattle.std.specs.Prelude.{◌≡◌, ◌==◌, ◌-◌, ◌^◌, min};
 ghost use Rattle.std.specs.List.{list_all, list_any};
 ghost use Rattle.std.specs.Char.{is_ascii_digit};
-ghost use Rattle.cidr_filter.specs.Options.{is_letter, number_of, takes_next, behind_option, option_of, in_one_word, in_two_words, is_list, letters_option, letters_in, file_option, text_option, field_option, separator_option, most_option, bad_option, after_option, text_after, said_after, or_last};
+ghost use Rattle.std.specs.String.{string_bytes};
+ghost use Rattle.cidr_filter.specs.Options.{is_letter, number_of, takes_next, in_one_word, in_two_words, is_list, letters_option, letters_in, file_option, text_option, field_option, separator_option, most_option, bad_option, after_option};
 
 use crate::filter::WithoutAddress;
 use program::words::is;
@@ -59,38 +60,6 @@ pub enum Choice {
     Text,
 }
 
-/// The index after the option at an index: an option may take the next word too.
-pub(crate) fn behind(words: &[String], at: usize) -> usize
-    requires { at ≤ length words.now }
-    ensures within { result ≤ length words.now }
-    ensures behind { at < length words.now → at < result }
-    ensures rest { drop result words.now ≡ behind_option (drop at words.now) }
-{
-    if at < words.len() && takes_next(&words[at]) {
-        words.len().min(at + 2)
-    } else {
-        words.len().min(at.saturating_add(1))
-    }
-}
-
-/// The option at an index, if there is one.
-pub(crate) fn choice_at(words: &[String], at: usize) -> Option<Choice>
-    requires { at ≤ length words.now }
-    ensures { result ≡ option_of (drop at words.now) }
-{
-    if at >= words.len() {
-        return None;
-    }
-    let word = &words[at];
-    if !takes_next(word) {
-        return choice_in(word.as_bytes());
-    }
-    if at + 1 >= words.len() {
-        return None;
-    }
-    choice_with(word, words[at + 1].as_bytes())
-}
-
 /// Whether the value of an option is the next word.
 pub(crate) fn takes_next(word: &String) -> bool
     ensures { result ≡ takes_next word.now }
@@ -104,9 +73,9 @@ pub(crate) fn takes_next(word: &String) -> bool
         || is(word, "--after")
 }
 
-// The option of this name with this value.
-fn choice_with(name: &String, value: &[u8]) -> Option<Choice>
-    ensures { result ≡ in_two_words name.now value.now }
+/// The option of this name with this value.
+pub(crate) fn choice_with(name: &String, value: &[u8]) -> Option<Choice>
+    ensures { result ≡ in_two_words (string_bytes name.now) value.now }
 {
     if is(name, "-f") {
         file_choice(value)
@@ -125,8 +94,8 @@ fn choice_with(name: &String, value: &[u8]) -> Option<Choice>
     }
 }
 
-// The option in one word.
-fn choice_in(word: &[u8]) -> Option<Choice>
+/// The option in one word.
+pub(crate) fn choice_in(word: &[u8]) -> Option<Choice>
     ensures { result ≡ in_one_word word.now }
 {
     if let Some(value) = word.strip_prefix(b"-k".as_slice()) {
@@ -331,51 +300,6 @@ fn after_choice(value: &[u8]) -> Option<Choice>
         return None;
     }
     Some(Choice::After)
-}
-
-/// The text of the last `--after` among options, or an empty one if there is none.
-pub(crate) fn text_after(options: &[String]) -> &[u8]
-    ensures { result.now ≡ text_after options.now }
-{
-    let mut text = no_text();
-    let mut at = 0;
-    'options: while at < options.len() {
-        text = or_last(text, said_after(options, at));
-        at = behind(options, at);
-    }
-    text
-}
-
-// The text that the option at an index says, if it is `--after`.
-fn said_after(options: &[String], at: usize) -> &[u8]
-    requires { at ≤ length options.now }
-    ensures { result.now ≡ said_after (drop at options.now) }
-{
-    let left = options.len() - at;
-    if left < 2 {
-        return no_text();
-    }
-    if !is(&options[at], "--after") {
-        return no_text();
-    }
-    options[at + 1].as_bytes()
-}
-
-// An empty text.
-fn no_text<'a>() -> &'a [u8]
-    ensures { result.now ≡ [] }
-{
-    b"".as_slice()
-}
-
-// The last of two texts that is not empty.
-fn or_last<'a>(first: &'a [u8], last: &'a [u8]) -> &'a [u8]
-    ensures { result.now ≡ or_last first.now last.now }
-{
-    if last.is_empty() {
-        return first;
-    }
-    last
 }
 
 /// Whether an option names a list, or is one.

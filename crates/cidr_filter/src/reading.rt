@@ -3,15 +3,17 @@ ghost use Rattle.std.specs.Prelude.{◌≡◌, ◌+◌, ◌≤◌, false, true, 
 ghost use Rattle.lists.specs.Lists.{nothing_read};
 ghost use Rattle.lists.specs.Refusals.{no_refusals};
 ghost use Rattle.program.specs.Told.{name_at};
-ghost use Rattle.cidr_filter.specs.Options.{option_of};
+ghost use Rattle.cidr_filter.specs.CommandLines.{option_of};
 ghost use Rattle.cidr_filter.specs.Reading.{ReadsOption, ReadsLists, StopsAtOption, Stops, HoldsRead};
 ghost use Rattle.cidr_filter.specs.Private.Reading.{ReadsAll, HasSets, HasBlocks};
 
+use crate::grammar::FilterOptions;
 use crate::listed::{Listed, Sets, Tables};
-use crate::options::{Choice, behind, choice_at, is_list};
+use crate::options::{Choice, is_list};
 use ipnetwork::{Ipv4Network, Ipv6Network};
 use ipnetwork_sets::AddressSet;
 use lists::{ListReader, OpenLists, ReadFault, Refusals, read_named, read_text};
+use log_programs::options::{behind, choice_at};
 use std::alloc::{AllocError, Global};
 
 /// Reads the lists that the options name, in their order. Returns the networks (as blocks if `longest`, and else as a
@@ -64,9 +66,9 @@ fn read_lists<L: OpenLists>(
         (λ fault. Stops (L.known lists.now) words.now reader.old fault reader.new.refused) }
 {
     let mut at = 0;
-    'options: while let Some(choice) = choice_at(words, at) {
+    'options: while let Some(choice) = choice_at::<FilterOptions>(words, at) {
         read_option(lists, words, at, choice, reader)?;
-        at = behind(words, at);
+        at = behind::<FilterOptions>(words, at);
     }
     Ok(())
 }

@@ -4,17 +4,19 @@ ghost use Rattle.program.specs.Endings.{ending};
 ghost use Rattle.program.specs.Messages.{Tells};
 ghost use Rattle.cidr_filter.specs.Runs.{EndsRequest, EndsAsked, EndsAs, place_of, most_of, up_to_one, shows_of, is_named};
 
-use crate::arranging::arranged;
 use crate::command_line::{Request, request_of};
 use crate::filter::{Filter, Shown};
+use crate::grammar::FilterOptions;
 use crate::help::{HELP, PROGRAM, USAGE, VERSION};
 use crate::logs::filter_logs;
-use crate::options::{Letters, text_after};
+use crate::options::Letters;
 use crate::reading::read_listed;
 use crate::telling::InOptions;
 use line_addresses::{Place, Text};
 use lines::output::Output;
 use lists::OpenLists;
+use log_programs::arranging::arranged;
+use log_programs::options::value_of;
 use program::ending::{FAILED, print_text};
 use program::log_reader::BUFFER_LEN;
 use program::messages::tell;
@@ -38,7 +40,7 @@ pub(crate) fn run<L: OpenLists, W: Write, E: Write>(
     if let Some(text) = text_asked(HELP, VERSION, words) {
         return print_text(text, output, errors);
     }
-    let Ok(asked) = arranged(alloc, words) else {
+    let Ok(asked) = arranged::<FilterOptions>(alloc, words) else {
         return refuse_memory(errors);
     };
     obey(alloc, asked.as_slice(), lists, output, errors)
@@ -171,8 +173,8 @@ fn place_of(words: &[String], request: Request) -> Place<'_>
         return Place::Anywhere;
     }
     if request.after {
-        let text = text_after(&words[..request.files]);
-        return Place::After(Text::new(text));
+        let text = value_of::<FilterOptions>(&words[..request.files], "--after");
+        return Place::After(Text::new(text.as_bytes()));
     }
     let number = request.field.unwrap_or(1);
     if request.letters.words {

@@ -5,9 +5,9 @@ use Rattle.ipnetwork_addr.specs.declared.ip.IpAddr.TheVariants as addresses
 use Rattle.ipnetwork.specs.declared.ip_network.IpNetwork.TheVariants as families
 use Rattle.cidr_join.specs.Addressed.{lacking_by}
 use Rattle.cidr_join.specs.Groups.{block_in}
-use Rattle.cidr_join.specs.Joined.{words_in, awaits_value}
-use Rattle.cidr_join.specs.Options.{group_option}
-use Rattle.cidr_join.specs.declared.join.Place.TheVariants as places
+use Rattle.log_programs.specs.Joined.{words_in, awaits_value}
+use Rattle.cidr_join.specs.Options.{syntax_of_options, group_option}
+use Rattle.line_addresses.specs.declared.place.Place.TheVariants as places
 use Rattle.cidr_join.specs.declared.options.Choice.TheVariants as choices
 
 -- ---- logs in which no line has an address
@@ -33,32 +33,32 @@ one_address = refl
 
 -- ---- joined words
 
-pub letter_and_value : words_in (codes "-wk1") ≡ codes "-w" ∷ codes "-k" ∷ codes "1" ∷ []
+pub letter_and_value : words_in syntax_of_options (codes "-wk1") ≡ codes "-w" ∷ codes "-k" ∷ codes "1" ∷ []
 letter_and_value = refl
 
-pub list_and_name : words_in (codes "-flist") ≡ codes "-f" ∷ codes "list" ∷ []
+pub list_and_name : words_in syntax_of_options (codes "-flist") ≡ codes "-f" ∷ codes "list" ∷ []
 list_and_name = refl
 
-pub value_in_the_next_word : words_in (codes "-awd") ≡ codes "-a" ∷ codes "-w" ∷ codes "-d" ∷ []
+pub value_in_the_next_word : words_in syntax_of_options (codes "-awd") ≡ codes "-a" ∷ codes "-w" ∷ codes "-d" ∷ []
 value_in_the_next_word = refl
 
 -- what was an option before, and what is none, stays as it is
-pub one_option : words_in (codes "-k1") ≡ codes "-k1" ∷ []
+pub one_option : words_in syntax_of_options (codes "-k1") ≡ codes "-k1" ∷ []
 one_option = refl
 
-pub two_letters : words_in (codes "-aw") ≡ codes "-aw" ∷ []
+pub two_letters : words_in syntax_of_options (codes "-aw") ≡ codes "-aw" ∷ []
 two_letters = refl
 
-pub other_letter : words_in (codes "-wxk1") ≡ codes "-wxk1" ∷ []
+pub other_letter : words_in syntax_of_options (codes "-wxk1") ≡ codes "-wxk1" ∷ []
 other_letter = refl
 
-pub long_name : words_in (codes "--tally") ≡ codes "--tally" ∷ []
+pub long_name : words_in syntax_of_options (codes "--tally") ≡ codes "--tally" ∷ []
 long_name = refl
 
-pub waits_for_its_value : awaits_value (codes "-wf") ≡ true
+pub waits_for_its_value : awaits_value syntax_of_options (codes "-wf") ≡ true
 waits_for_its_value = refl
 
-pub has_its_value : awaits_value (codes "-wf1") ≡ false
+pub has_its_value : awaits_value syntax_of_options (codes "-wf1") ≡ false
 has_its_value = refl
 
 -- ---- blocks of two lengths

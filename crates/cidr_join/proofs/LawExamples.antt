@@ -4,18 +4,17 @@ use Rattle.std.specs.Prelude.{codes, None, String}
 use Rattle.std.specs.List.{list_all, list_any}
 use Rattle.std.specs.String.{string_bytes}
 use Rattle.program.specs.declared.usage.Subject.TheVariants as subjects
-use Rattle.cidr_join.specs.CommandLines.{AsksNothing}
+use Rattle.cidr_join.specs.CommandLines.{AsksNothing, option_of, HasFault}
 use Rattle.cidr_join.specs.Joins.{Joins}
 use Rattle.cidr_join.specs.Laws.{LogsHaveOneOutput, OutputsOfPartsFollow, Tallies, TalliesOfPartsAddUp, is_one_of, begins_with, is_option_word, OthersAreNoOptions, OthersAskForNothing, WordsHaveOneFault}
 use Rattle.program.specs.LogLines.{log_lines}
-use Rattle.cidr_join.specs.Options.{option_of}
+use Rattle.log_programs.specs.Usage.{about}
 use Rattle.cidr_join.specs.Tallies.{Row, counted_by}
-use Rattle.cidr_join.specs.Usage.{about, HasFault}
 use Rattle.cidr_join.specs.declared.join.Join.{Join}
 use Rattle.cidr_join.specs.declared.options.Choice.TheVariants as choices
 use Rattle.cidr_join.specs.declared.options.Letters.{Letters}
-use Rattle.cidr_join.specs.declared.usage.Problem.TheVariants as problems
-use Rattle.cidr_join.specs.declared.usage.UsageFault.{UsageFault}
+use Rattle.log_programs.specs.declared.usage.Problem.TheVariants as problems
+use Rattle.log_programs.specs.declared.usage.UsageFault.{UsageFault}
 
 -- ---- one output
 

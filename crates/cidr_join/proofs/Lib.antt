@@ -2,7 +2,7 @@ pub mod Addressed
 pub mod Examples
 pub mod Failing
 pub mod Faults
-pub mod JoinedWords
+pub mod JoinedLetters
 pub mod Joining
 pub mod LawExamples
 pub mod LogParts
@@ -10,11 +10,8 @@ pub mod LogsInTurn
 pub mod Marks
 pub mod Numbering
 pub mod OneOutput
-pub mod OptionValues
-pub mod Parts
 pub mod Reading
 pub mod Repeated
-pub mod Requests
 pub mod Runs
 pub mod Stopping
 pub mod Taking
@@ -24,4 +21,3 @@ pub mod TallyParts
 pub mod TallyRows
 pub mod Tallying
 pub mod Trims
-pub mod WordOrder

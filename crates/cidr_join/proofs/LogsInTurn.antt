@@ -1,5 +1,5 @@
 -- Logs that are joined in turn.
-use Rattle.std.proofs.Common.{◌≡◌, ◌-◌, ◌^◌, ◌++◌, ◌∷◌, ◌∙◌, ◌==◌, [], ℕ, Bool, List, true, false, cond, inl, inr, refl, sym, ap, subst, arith, length, min, append_assoc, append-nil}
+use Rattle.std.proofs.Common.{◌≡◌, ◌-◌, ◌^◌, ◌++◌, ◌∷◌, ◌∙◌, ◌==◌, [], ℕ, Bool, List, true, false, cond, inl, inr, refl, sym, ap, subst, arith, length, min, append_assoc, append-nil, codes}
 use Rattle.std.specs.Prelude.{Option, None, Some, IsTrue, filter}
 use Rattle.std.specs.List.{slice_split}
 use Rattle.std.specs.Io.KnownBytes.{Appends, Consumes, IsAtEnd}
@@ -25,7 +25,8 @@ use Rattle.cidr_join.specs.declared.join.Join.{Join}
 use Rattle.cidr_join.specs.declared.log.LogFault.{LogFault}
 use Rattle.cidr_join.specs.declared.log.LogFault.TheVariants as faults
 use Rattle.cidr_join.specs.declared.seen.Seen.{Seen}
-use Rattle.cidr_join.proofs.Addressed.{nothing_seen, lacking_same}
+use Rattle.log_programs.proofs.Lacking.{lacking_same}
+use Rattle.cidr_join.proofs.Addressed.{nothing_seen}
 
 -- ---- what was read of a log
 
@@ -201,7 +202,7 @@ module _ (join : Join) (known : KnownLists) where
     text = lacking_text join name (log_lines h.read) ++ [];
     joins = (h.read, h.added, [], [], all_of name remained remains has opened h.read h.reads h.end, h.joins, (refl, refl), refl, refl);
     tells = tells_same errors told _ _
-        (lacking_same join.place name seen.lines (length (log_lines h.read)) seen.is_addressed (any_addressed join (log_lines h.read)) (counts_from_none 0 seen.lines _ refl h.goes.1.0) h.goes.1.1
+        (lacking_same (codes "cidr_join") join.place name seen.lines (length (log_lines h.read)) seen.is_addressed (any_addressed join (log_lines h.read)) (counts_from_none 0 seen.lines _ refl h.goes.1.0) h.goes.1.1
         ∙ sym (append-nil (lacking_text join name (log_lines h.read)))) tells;
     puts = subst (λ (t : List ℕ). Prints old new t) (sym (append-nil h.added)) h.goes.0;
   }

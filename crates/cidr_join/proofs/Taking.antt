@@ -25,7 +25,7 @@ use Rattle.cidr_join.specs.declared.text.TextFault.{TextFault}
 use Rattle.cidr_join.specs.declared.text.TextFault.TheVariants as faults
 use Rattle.cidr_join.specs.declared.value.Value.{Value}
 use Rattle.cidr_join.proofs.LogsInTurn.{known_first, known_all}
-use Rattle.cidr_join.proofs.Parts.{parts_from, part_from}
+use Rattle.line_addresses.proofs.Parts.{parts_from, part_from}
 
 -- one network more got the value
 pub sets_more : (w : ℕ) (last_wins : Bool) (before between after : Values) (done : List Network) (n : Network) (value : Value) → SetsAll w last_wins before done value between

@@ -25,7 +25,8 @@ use Rattle.cidr_join.specs.declared.tally_log.TallyFault.TheVariants as tallies
 use Rattle.cidr_join.proofs.LogsInTurn.{known_first, known_all}
 use Rattle.program.proofs.Counts.{counts_from_none}
 use Rattle.program.proofs.Told.{tells_more, tells_nothing, tells_same}
-use Rattle.cidr_join.proofs.Addressed.{nothing_seen, lacking_same}
+use Rattle.log_programs.proofs.Lacking.{lacking_same}
+use Rattle.cidr_join.proofs.Addressed.{nothing_seen}
 use Rattle.cidr_join.proofs.Runs.{told_log, logs_some, logs_none, names_apart}
 use Rattle.cidr_join.proofs.TallyLines.{counts_nothing, counts_both}
 
@@ -78,7 +79,7 @@ module _ (join : Join) (known : KnownLists) where
           (h.read, d.0, [], [], all_of h.read h.reads h.end, d.1, (refl, refl), sym (append-nil d.0), refl),
           d.2,
           tells_same errors told _ _
-              (lacking_same join.place name seen.lines (length (log_lines h.read)) seen.is_addressed (any_addressed join (log_lines h.read)) (counts_from_none 0 seen.lines _ refl d.3.0) d.3.1
+              (lacking_same (codes "cidr_join") join.place name seen.lines (length (log_lines h.read)) seen.is_addressed (any_addressed join (log_lines h.read)) (counts_from_none 0 seen.lines _ refl d.3.0) d.3.1
               ∙ sym (append-nil (lacking_text join name (log_lines h.read)))) tells,
         )
 

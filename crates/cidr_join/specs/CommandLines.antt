@@ -1,41 +1,16 @@
 -- What the words of a command line ask for.
-use Rattle.std.specs.Prelude.{◌≡◌, ℕ, ◌+◌, ◌==◌, ◌||◌, ◌&&◌, Bool, true, not, List, [], ◌∷◌, Option, None, Some, drop, length, nat_le, if◌then◌else◌, codes, String}
-use Rattle.std.specs.List.{list_all}
+use Rattle.std.specs.Prelude.{◌≡◌, ◌||◌, ◌&&◌, Bool, List, Option, None, Some, if◌then◌else◌, String}
 use Rattle.std.specs.Option.{is_some}
-use Rattle.std.specs.String.{string_bytes}
-use Rattle.program.specs.Words.{is, count}
-use Rattle.cidr_join.specs.Options.{begins, option_of, behind_option, said_by}
-use Rattle.cidr_join.specs.declared.options.Choice.{Choice}
+use Rattle.log_programs.specs.CommandLines as lines
+use Rattle.log_programs.specs.Options.{Options}
+use Rattle.log_programs.specs.Usage as usage
+use Rattle.log_programs.specs.declared.usage.Problem.{Problem}
+use Rattle.log_programs.specs.declared.usage.Problem.TheVariants as problems
+use Rattle.log_programs.specs.declared.usage.UsageFault.{UsageFault}
+use Rattle.cidr_join.specs.Options.{syntax_of_options, in_one_word, in_two_words, no_options, with_option}
+use Rattle.cidr_join.specs.Usage.{value_problem, word_problem}
 use Rattle.cidr_join.specs.declared.command_line.Request.{Request}
-use Rattle.cidr_join.specs.declared.usage.Problem.{Problem}
-use Rattle.cidr_join.specs.declared.usage.Problem.TheVariants as problems
-
--- the words are these options and then the rest
-abbrev pub Begin : {Z : Type 0} → List (String Z) → List Choice → List (String Z) → Type 0
-Begin words [] rest = words ≡ rest
-Begin words (choice ∷ choices) rest = (option_of words ≡ Some choice) × Begin (behind_option words) choices rest
-
--- a word is `-`, or does not begin with `-`
-abbrev pub is_plain : {Z : Type 0} → String Z → Bool
-is_plain word = is (codes "-") word || not (begins (codes "-") (string_bytes word))
-
--- a word is not empty
-abbrev pub is_name : {Z : Type 0} → String Z → Bool
-is_name word = not (length (string_bytes word) == 0)
-
--- these words, which have to be names
-abbrev pub names_in : {Z : Type 0} → List (String Z) → Option (List (String Z))
-names_in words = if list_all is_name words then Some words else None
-
--- the FILEs among the words after the options: all words after a `--`, and without it all words, which have to be plain
-abbrev pub files_among : {Z : Type 0} → List (String Z) → Option (List (String Z))
-files_among [] = Some []
-files_among (word ∷ words) = if is (codes "--") word then names_in words else if list_all is_plain (word ∷ words) then names_in (word ∷ words) else None
-
--- how often the FILEs name standard input, which is named once if there is no FILE
-abbrev pub inputs_among : {Z : Type 0} → List (String Z) → ℕ
-inputs_among [] = 1
-inputs_among (file ∷ files) = count (codes "-") (file ∷ files)
+use Rattle.cidr_join.specs.declared.options.Choice.{Choice}
 
 -- an option says which field a line's address is, or how fields are separated
 abbrev pub is_placed : Request → Bool
@@ -61,22 +36,45 @@ crossed_problem request =
     else if is_some request.group && asks_of_list request then Some problems.Group
     else None
 
--- the words are options, as many as there are, and FILEs. There is a list or `--group`, standard input is named at most once, and
--- all options go together. The request is what the options say, and its FILEs begin after
--- the options
-pub record Says {Z : Type 0} (words : List (String Z)) (request : Request) : Type 0 where
-  pub options : List Choice
-  pub rest : List (String Z)
-  pub files : List (String Z)
-  pub begin : Begin words options rest
-  pub no_more : option_of rest ≡ None
-  pub follow : files_among rest ≡ Some files
-  pub said : request ≡ record (said_by options) { files = request.files }
-  pub source : has_source request ≡ true
-  pub inputs : nat_le (request.inputs + inputs_among files) 1 ≡ true
-  pub together : crossed_problem request ≡ None
-  pub place : drop request.files words ≡ files
+-- what is wrong if no list and no lengths are among the options
+abbrev pub lacking_problem : Request → Option Problem
+lacking_problem request = if has_source request then None else Some problems.NoSource
 
--- the words ask for nothing that a request says
+-- the options of the program, and what they say
+abbrev pub join_options : Options Choice Request
+join_options = record {
+  syntax = syntax_of_options;
+  in_one_word = in_one_word;
+  in_two_words = in_two_words;
+  word_problem = word_problem;
+  value_problem = value_problem;
+  no_options = no_options;
+  with_option = with_option;
+  inputs = λ (request : Request). request.inputs;
+  crossed_problem = crossed_problem;
+  lacking_problem = lacking_problem;
+}
+
+-- the option that words begin with, the words after it, what options say, and that words are options and then a rest
+abbrev pub option_of : {Z : Type 0} → List (String Z) → Option Choice
+option_of words = lines.option_of join_options words
+
+abbrev pub behind_option : {Z : Type 0} → List (String Z) → List (String Z)
+behind_option words = lines.behind_option syntax_of_options words
+
+abbrev pub said_by : List Choice → Request
+said_by options = lines.said_by join_options options
+
+abbrev pub Begin : {Z : Type 0} → List (String Z) → List Choice → List (String Z) → Type 0
+Begin words options rest = lines.Begin join_options words options rest
+
+-- the words ask for this request: for what its options say, with the FILEs behind them
+abbrev pub Says : {Z : Type 0} → List (String Z) → Request → Type 0
+Says words request = (said : Request) × lines.Says join_options words said request.files × (request ≡ record said { files = request.files })
+
+-- they ask for nothing, and this is wrong with them
 abbrev pub AsksNothing : {Z : Type 0} → List (String Z) → Type 0
-AsksNothing words = (request : Request) → ¬ (Says words request)
+AsksNothing words = lines.AsksNothing join_options words
+
+abbrev pub HasFault : {Z : Type 0} → List (String Z) → UsageFault → Type 0
+HasFault words fault = usage.HasFault join_options words fault

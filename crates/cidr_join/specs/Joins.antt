@@ -7,7 +7,7 @@ use Rattle.line_addresses.specs.Addresses.{Spelled, address_of, addresses_of}
 use Rattle.line_addresses.specs.Following.{following}
 use Rattle.line_addresses.specs.Mapped.{unmapped}
 use Rattle.line_addresses.specs.Words.{words_of}
-use Rattle.cidr_join.specs.Fields.{field_of}
+use Rattle.line_addresses.specs.Fields.{field_of}
 use Rattle.program.specs.LogLines.{LogLine, content, printed}
 use Rattle.cidr_join.specs.Groups.{block_in}
 use Rattle.cidr_join.specs.Routes.{IsLongestRoute, NoRouteHolds}
@@ -16,8 +16,8 @@ use Rattle.cidr_join.specs.declared.answers.Answers.TheVariants as answers
 use Rattle.cidr_join.specs.declared.found.Found.{Found}
 use Rattle.cidr_join.specs.declared.found.Found.TheVariants as founds
 use Rattle.cidr_join.specs.declared.join.Join.{Join}
-use Rattle.cidr_join.specs.declared.join.Place.{Place}
-use Rattle.cidr_join.specs.declared.join.Place.TheVariants as places
+use Rattle.line_addresses.specs.declared.place.Place.{Place}
+use Rattle.line_addresses.specs.declared.place.Place.TheVariants as places
 use Rattle.cidr_join.specs.declared.value.Value.{Value}
 
 -- the address that a part of a line is, if there is such a part and it is one

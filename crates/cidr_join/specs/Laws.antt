@@ -2,16 +2,14 @@
 use Rattle.std.specs.Prelude.{◌≡◌, ℕ, ◌+◌, ◌-◌, ◌^◌, min, ◌==◌, ◌||◌, ◌&&◌, Bool, true, false, List, [], ◌∷◌, ◌++◌, None, take, drop, length, nat_lt, codes, bytes_eq, String}
 use Rattle.std.specs.List.{list_all, list_any}
 use Rattle.std.specs.String.{string_bytes}
-use Rattle.cidr_join.specs.CommandLines.{Begin, AsksNothing}
+use Rattle.cidr_join.specs.CommandLines.{Begin, AsksNothing, option_of, HasFault}
 use Rattle.cidr_join.specs.Joins.{Joins}
 use Rattle.program.specs.LogLines.{LogLine, log_lines}
-use Rattle.cidr_join.specs.Options.{option_of}
 use Rattle.cidr_join.specs.Tallies.{Row, counted_by, IsTally}
 use Rattle.cidr_join.specs.TallyRuns.{Marks}
-use Rattle.cidr_join.specs.Usage.{HasFault}
 use Rattle.cidr_join.specs.declared.join.Join.{Join}
 use Rattle.cidr_join.specs.declared.options.Choice.{Choice}
-use Rattle.cidr_join.specs.declared.usage.UsageFault.{UsageFault}
+use Rattle.log_programs.specs.declared.usage.UsageFault.{UsageFault}
 
 -- for the lines of a log at most one output is written
 abbrev pub LogsHaveOneOutput : Type 0

@@ -1,11 +1,8 @@
 -- What the contracts of this crate cite.
 pub mod Addressed
-pub mod Arranged
 pub mod CommandLines
 pub mod Entries
-pub mod Fields
 pub mod Groups
-pub mod Joined
 pub mod Joins
 pub mod Laws
 pub mod Logs

@@ -1,18 +1,15 @@
 -- What an option of the command line says.
-use Rattle.std.specs.Prelude.{ℕ, ◌+◌, ◌-◌, ◌*◌, ◌==◌, ◌||◌, ◌&&◌, Bool, true, false, not, List, [], ◌∷◌, Option, None, Some, take, drop, length, nat_lt, nat_le, if◌then◌else◌, codes, bytes_eq, fold, String}
+use Rattle.std.specs.Prelude.{ℕ, ◌+◌, ◌-◌, ◌*◌, ◌==◌, ◌||◌, ◌&&◌, Bool, true, false, not, List, [], ◌∷◌, Option, None, Some, drop, length, nat_lt, nat_le, if◌then◌else◌, codes, bytes_eq, fold, String}
 use Rattle.std.specs.List.{list_all, list_any}
 use Rattle.std.specs.String.{string_bytes}
 use Rattle.std.specs.Char.{is_ascii_digit}
-use Rattle.program.specs.Words.{is}
-use Rattle.cidr_join.specs.Fields.{field_of}
+use Rattle.log_programs.specs.Plain.{begins}
+use Rattle.log_programs.specs.Syntax.{Syntax}
+use Rattle.line_addresses.specs.Fields.{field_of}
 use Rattle.cidr_join.specs.declared.command_line.Request.{Request}
 use Rattle.cidr_join.specs.declared.options.Choice.{Choice}
 use Rattle.cidr_join.specs.declared.options.Choice.TheVariants as choices
 use Rattle.cidr_join.specs.declared.options.Letters.{Letters}
-
--- the second text begins with the first
-abbrev pub begins : List ℕ → List ℕ → Bool
-begins first text = bytes_eq (take (length first) text) first
 
 -- the number that digits name, in decimal
 abbrev pub number_of : List ℕ → ℕ
@@ -77,16 +74,31 @@ letters_in text = record {
 abbrev pub letters_option : List ℕ → Option Choice
 letters_option text = if nat_lt 0 (length text) && list_all is_letter text then Some (choices.Letters (letters_in text)) else None
 
--- the value of such an option is the next word
-abbrev pub takes_next : {Z : Type 0} → String Z → Bool
-takes_next word = is (codes "-f") word || is (codes "-k") word || is (codes "-d") word || is (codes "--after") word || is (codes "--group") word
+-- the options of these letters take a value: `f`, `k` and `d`
+abbrev pub takes_value : ℕ → Bool
+takes_value letter = letter == 102 || letter == 107 || letter == 100
 
-abbrev pub in_two_words : {Z : Type 0} → String Z → List ℕ → Option Choice
+-- any text behind `f` is its value, also where it is the first letter
+abbrev pub takes_rest : ℕ → Bool
+takes_rest letter = letter == 102
+
+-- the value of an option of these names is the next word
+abbrev pub is_before_value : List ℕ → Bool
+is_before_value name = bytes_eq name (codes "-f") || bytes_eq name (codes "-k") || bytes_eq name (codes "-d") || bytes_eq name (codes "--after") || bytes_eq name (codes "--group")
+
+abbrev pub takes_next : {Z : Type 0} → String Z → Bool
+takes_next word = is_before_value (string_bytes word)
+
+-- the options, as far as the order of words depends on them
+abbrev pub syntax_of_options : Syntax
+syntax_of_options = record { is_letter = is_letter; takes_value = takes_value; takes_rest = takes_rest; takes_next = is_before_value }
+
+abbrev pub in_two_words : List ℕ → List ℕ → Option Choice
 in_two_words name value =
-    if is (codes "-f") name then file_option value
-    else if is (codes "-k") name then field_option value
-    else if is (codes "-d") name then separator_option value
-    else if is (codes "--group") name then group_option value
+    if bytes_eq name (codes "-f") then file_option value
+    else if bytes_eq name (codes "-k") then field_option value
+    else if bytes_eq name (codes "-d") then separator_option value
+    else if bytes_eq name (codes "--group") then group_option value
     else after_option value
 
 -- others are one word, in which the value of `-k` and of `-d` may stand after the letter
@@ -101,20 +113,6 @@ in_one_word word =
     else if bytes_eq word (codes "--tally") then Some choices.Tally
     else if begins (codes "-") word then letters_option (drop 1 word)
     else None
-
--- the option that words begin with, if they begin with one
-abbrev pub with_next : {Z : Type 0} → String Z → List (String Z) → Option Choice
-with_next name [] = None
-with_next name (value ∷ others) = in_two_words name (string_bytes value)
-
-abbrev pub option_of : {Z : Type 0} → List (String Z) → Option Choice
-option_of [] = None
-option_of (word ∷ others) = if takes_next word then with_next word others else in_one_word (string_bytes word)
-
--- the words after it
-abbrev pub behind_option : {Z : Type 0} → List (String Z) → List (String Z)
-behind_option [] = []
-behind_option (word ∷ others) = if takes_next word then drop 1 others else others
 
 -- the letters that are among the first or the second
 abbrev pub either : Letters → Letters → Letters
@@ -156,23 +154,3 @@ no_options = record {
   inputs = 0;
   files = 0;
 }
-
--- what these options say
-abbrev pub said_by : List Choice → Request
-said_by options = fold with_option no_options options
-
--- the value of the last option of this name among options, or an empty text; the value of an option is none
-abbrev pub or_last : List ℕ → List ℕ → List ℕ
-or_last first [] = first
-or_last first (byte ∷ last) = byte ∷ last
-
-abbrev pub said_at : {Z : Type 0} → List ℕ → List (String Z) → List ℕ
-said_at name [] = []
-said_at name (word ∷ []) = []
-said_at name (word ∷ value ∷ words) = if is name word then string_bytes value else []
-
-abbrev pub value_of : {Z : Type 0} → List ℕ → List (String Z) → List ℕ
-value_of name [] = []
-value_of name (word ∷ []) = []
-value_of name (word ∷ value ∷ words) =
-    or_last (said_at name (word ∷ value ∷ words)) (if takes_next word then value_of name words else value_of name (value ∷ words))

@@ -2,6 +2,5 @@
 pub mod Counting
 pub mod Numbering
 pub mod Progress
-pub mod Requests
 pub mod Runs
 pub mod TallyProgress

@@ -8,25 +8,26 @@ use Rattle.lists.specs.KnownLists.{KnownLists}
 use Rattle.program.specs.Endings.{Ending, Refuses, HasTold, HasWritten}
 use Rattle.program.specs.Runs.{EndsRun}
 use Rattle.program.specs.Usage.{usage_text}
-use Rattle.cidr_join.specs.Arranged.{arranged}
-use Rattle.cidr_join.specs.CommandLines.{Says, AsksNothing}
+use Rattle.log_programs.specs.Arranged.{arranged}
+use Rattle.cidr_join.specs.CommandLines.{Says, AsksNothing, HasFault}
 use Rattle.cidr_join.specs.Joins.{Joins}
 use Rattle.program.specs.LogLines.{LogLine}
 use Rattle.cidr_join.specs.Logs.{JoinsLogs, HaltsBy}
 use Rattle.program.specs.Logs.{logs_of, IsAllOf}
-use Rattle.cidr_join.specs.Options.{value_of}
+use Rattle.cidr_join.specs.Options.{syntax_of_options}
 use Rattle.cidr_join.specs.Routes.{no_networks}
 use Rattle.cidr_join.specs.TallyRuns.{EndsTally}
 use Rattle.cidr_join.specs.Takes.{TakesLines, StopsTaking}
 use Rattle.cidr_join.specs.Texts.{TextStops}
 use Rattle.cidr_join.specs.Told.{text_fault_text, take_fault_text, log_fault_text}
-use Rattle.cidr_join.specs.Usage.{problem_text, HasFault}
+use Rattle.log_programs.specs.Values.{value_of}
+use Rattle.log_programs.specs.Usage.{problem_text}
 use Rattle.cidr_join.specs.declared.answers.Answers.{Answers}
 use Rattle.cidr_join.specs.declared.answers.Answers.TheVariants as answers
 use Rattle.cidr_join.specs.declared.command_line.Request.{Request}
 use Rattle.cidr_join.specs.declared.join.Join.{Join}
-use Rattle.cidr_join.specs.declared.join.Place.{Place}
-use Rattle.cidr_join.specs.declared.join.Place.TheVariants as places
+use Rattle.line_addresses.specs.declared.place.Place.{Place}
+use Rattle.line_addresses.specs.declared.place.Place.TheVariants as places
 use Rattle.cidr_join.specs.declared.lengths.Lengths.{Lengths}
 use Rattle.cidr_join.specs.declared.list.TakeFault.{TakeFault}
 use Rattle.cidr_join.specs.declared.log.LogFault.{LogFault}
@@ -34,7 +35,7 @@ use Rattle.cidr_join.specs.declared.log.LogFault.TheVariants as faults
 use Rattle.cidr_join.specs.declared.routes.Networks.{Networks}
 use Rattle.cidr_join.specs.declared.routes.Routes.{Routes}
 use Rattle.cidr_join.specs.declared.text.TextFault.{TextFault}
-use Rattle.cidr_join.specs.declared.usage.UsageFault.{UsageFault}
+use Rattle.log_programs.specs.declared.usage.UsageFault.{UsageFault}
 
 -- the writer failed, and took a beginning of what waited and the text
 abbrev pub FailsWriting : {W E : Type 0} → Ending W E → List ℕ → Type 0
@@ -87,13 +88,13 @@ EndsLogs join known names end = JoinsAll join known names end ⊎ StopsAtLog joi
 abbrev pub place_of : {Z : Type 0} → List (String Z) → Request → Place
 place_of words request =
     if request.letters.anywhere then places.Anywhere
-    else if request.after then places.After (value_of (codes "--after") (take request.files words))
+    else if request.after then places.After (value_of syntax_of_options (codes "--after") (take request.files words))
     else if request.letters.words then places.Word (unwrap_or request.field 1)
     else places.Field (unwrap_or request.field 1) (unwrap_or request.separator 32)
 
 -- the name of its list
 abbrev pub list_name : {Z : Type 0} → List (String Z) → Request → List ℕ
-list_name words request = value_of (codes "-f") (take request.files words)
+list_name words request = value_of syntax_of_options (codes "-f") (take request.files words)
 
 -- what is printed of addresses by the routes of a list: networks or values
 abbrev pub answers_by : Bool → Routes → Answers
@@ -156,4 +157,4 @@ abbrev pub EndsAs : {Z W E : Type 0} → List ℕ → List ℕ → List ℕ → 
     → List (String Z) → Ending W E → Type 0
 EndsAs {Z} program help version usage known words end = EndsRun help version words
     (Refuses (codes "out of memory\n") end
-    ⊎ ((asked : List (String Z)) × (map string_bytes asked ≡ arranged words) × EndsWords program usage known asked end)) end
+    ⊎ ((asked : List (String Z)) × (map string_bytes asked ≡ arranged syntax_of_options words) × EndsWords program usage known asked end)) end

@@ -1,15 +1,13 @@
 //! What the arguments ask for.
-ghost use Rattle.std.specs.Prelude.{◌≡◌, ◌+◌, ◌^◌, ◌<◌, ◌≤◌, drop, length, nat_le, IfOk, IfErr};
-ghost use Rattle.cidr_join.specs.CommandLines.{crossed_problem, is_placed, asks_of_list, has_source, inputs_among, Says, AsksNothing};
-ghost use Rattle.cidr_join.specs.Options.{with_option, either};
-ghost use Rattle.cidr_join.specs.Private.Requests.{BeginsWith, behind_dashes};
-ghost use Rattle.cidr_join.specs.Usage.{HasFault, together_by};
+ghost use Rattle.std.specs.Prelude.{◌≡◌, ◌+◌, ◌^◌, ◌<◌, ◌≤◌, length, IfOk, IfErr};
+ghost use Rattle.cidr_join.specs.CommandLines.{crossed_problem, is_placed, asks_of_list, has_source, lacking_problem, Says, AsksNothing, HasFault};
+ghost use Rattle.cidr_join.specs.Options.{with_option, no_options, either};
 
+use crate::grammar::JoinOptions;
 use crate::lengths::Lengths;
-use crate::options::{Choice, Letters, behind, choice_at};
-use crate::usage::{Problem, UsageFault, about, rest_fault};
-use program::usage::Subject;
-use program::words::{count_of, is};
+use crate::options::{Choice, Letters};
+use log_programs::command_line;
+use log_programs::usage::{Problem, UsageFault};
 
 /// What a run is asked for. Its options are the words before `files`, and the FILEs those from there on.
 #[derive(Clone, Copy, Debug, PartialEq, Eq)]
@@ -51,23 +49,20 @@ pub(crate) fn request_of(words: &[String]) -> Result<Request, UsageFault>
     ensures nothing { IfErr result (λ _. AsksNothing words.now) }
     ensures wrong { IfErr result (HasFault words.now) }
 {
-    let said = options_of(words);
-    if let Some(fault) = rest_fault(words, said.files) {
-        return Err(fault);
-    }
-    let files = files_from(words, said.files);
-    let is_read_once = at_most_one(said.inputs, inputs_among(&words[files..]));
-    match together_problem(crossed_problem(said), has_source(said), is_read_once) {
-        Some(problem) => Err(about(Subject::CommandLine, problem)),
-        None => Ok(Request { files, ..said }),
+    match command_line::request_of::<JoinOptions>(words) {
+        Ok(asked) => Ok(Request {
+            files: asked.1,
+            ..asked.0
+        }),
+        Err(fault) => Err(fault),
     }
 }
 
-// What the options say. The index after them stands for that of the first FILE.
-fn options_of(words: &[String]) -> Request
-    ensures { BeginsWith words.now result }
+/// What no options say.
+pub(crate) fn no_options() -> Request
+    ensures { result ≡ no_options }
 {
-    let mut request = Request {
+    Request {
         letters: Letters {
             anywhere: false,
             words: false,
@@ -85,43 +80,22 @@ fn options_of(words: &[String]) -> Request
         has_lists: false,
         inputs: 0,
         files: 0,
-    };
-    let mut at = 0;
-    'options: while let Some(choice) = choice_at(words, at) {
-        request = with_choice(request, choice);
-        at = behind(words, at);
-    }
-    Request {
-        files: at,
-        ..request
     }
 }
 
-// What is wrong with words that are right by themselves, by which options do not go together, whether
-// an option says what is printed of addresses, and whether standard input is read once at the most.
-fn together_problem(
-    crossed: Option<Problem>,
-    has_source: bool,
-    is_read_once: bool,
-) -> Option<Problem>
-    ensures { result ≡ together_by crossed has_source is_read_once }
+/// What is wrong if no list and no lengths are among the options.
+pub(crate) fn lacking_problem(request: Request) -> Option<Problem>
+    ensures { result ≡ lacking_problem request }
 {
-    match crossed {
-        Some(problem) => Some(problem),
-        None => {
-            if !has_source {
-                Some(Problem::NoList)
-            } else if !is_read_once {
-                Some(Problem::InputTwice)
-            } else {
-                None
-            }
-        }
+    if has_source(request) {
+        None
+    } else {
+        Some(Problem::NoSource)
     }
 }
 
-// Which options are given that do not go together.
-fn crossed_problem(request: Request) -> Option<Problem>
+/// Which options are given that do not go together.
+pub(crate) fn crossed_problem(request: Request) -> Option<Problem>
     ensures { result ≡ crossed_problem request }
 {
     if request.letters.anywhere && is_placed(request) {
@@ -162,8 +136,8 @@ fn is_placed(request: Request) -> bool
     request.letters.words || request.field.is_some() || request.separator.is_some()
 }
 
-// The request with an option added.
-fn with_choice(request: Request, choice: Choice) -> Request
+/// The request with an option added.
+pub(crate) fn with_choice(request: Request, choice: Choice) -> Request
     requires { request.inputs + 1 < 2 ^ 64 }
     ensures request { result ≡ with_option request choice }
     ensures inputs { result.inputs ≤ request.inputs + 1 }
@@ -230,36 +204,5 @@ fn either(first: Letters, second: Letters) -> Letters
     Letters {
         anywhere: first.anywhere || second.anywhere,
         words: first.words || second.words,
-    }
-}
-
-// Whether the sum is at most one.
-fn at_most_one(first: usize, second: usize) -> bool
-    ensures { result ≡ nat_le (first + second) 1 }
-{
-    first <= 1 && second <= 1 - first
-}
-
-// How often the FILEs name standard input, which is named once if there is no FILE.
-fn inputs_among(files: &[String]) -> usize
-    ensures { result ≡ inputs_among files.now }
-{
-    if files.is_empty() {
-        1
-    } else {
-        count_of(files, "-")
-    }
-}
-
-// The index of the first FILE, which may stand after a `--`.
-fn files_from(words: &[String], at: usize) -> usize
-    requires { at ≤ length words.now }
-    ensures within { result ≤ length words.now }
-    ensures files { drop result words.now ≡ behind_dashes (drop at words.now) }
-{
-    if at < words.len() && is(&words[at], "--") {
-        at + 1
-    } else {
-        at
     }
 }

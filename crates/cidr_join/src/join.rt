@@ -3,63 +3,12 @@ ghost use Rattle.std.specs.Prelude.{◌≡◌, None, Some};
 ghost use Rattle.cidr_join.specs.Joins.{Finds, asked, first_in, found_in, address_in};
 
 use crate::answers::Answers;
-use crate::field::field_of;
 use crate::found::Found;
 use ipnetwork::IpAddr;
-use line_addresses::{address_of, following, next_address, unmapped, word_of};
-use std::marker::Model;
+use line_addresses::{Place, address_of, field_of, following, next_address, unmapped, word_of};
 
 /// The most bytes of a line, not counting its line end.
 pub(crate) const LINE_MAX: usize = 1_048_576;
-
-/// Where the address of a line stands.
-#[derive(Debug, Drop)]
-pub enum Place<'a> {
-    /// The field is it.
-    Field {
-        /// Its number.
-        number: u32,
-        /// The byte at which fields are cut.
-        separator: u8,
-    },
-    /// The word of this number is it.
-    Word(u32),
-    /// It is the first that stands anywhere.
-    Anywhere,
-    /// It is the first that follows a text.
-    After(Text<'a>),
-}
-
-/// A text of a command line.
-#[derive(Debug, Drop)]
-pub struct Text<'a> {
-    bytes: &'a [u8],
-}
-
-// A contract sees its bytes.
-impl<'a> Model for Text<'a> {
-    ghost use Rattle.std.specs.Prelude.{ℕ, List};
-
-    ghost Value = { List ℕ };
-
-    ghost view = { λ text. text.bytes.now };
-}
-
-impl<'a> Text<'a> {
-    /// This text.
-    pub(crate) fn new(bytes: &'a [u8]) -> Text<'a>
-        ensures { result ≡ bytes.now }
-    {
-        Text { bytes }
-    }
-
-    /// Its bytes.
-    pub(crate) fn bytes(&self) -> &[u8]
-        ensures { result.now ≡ self.now }
-    {
-        self.bytes
-    }
-}
 
 /// What decides what is printed of a line.
 #[derive(Drop)]

@@ -5,13 +5,15 @@ ghost use Rattle.program.specs.Endings.{ending};
 ghost use Rattle.cidr_join.specs.Runs.{EndsLogs, StopsAtLog};
 ghost use Rattle.cidr_join.specs.Private.Runs.{JoinsNames, StopsBy};
 
+use crate::help::PROGRAM;
 use crate::join::Join;
 use crate::log::{LogFault, join_log};
 use crate::seen::Seen;
-use crate::telling::{tell_lacking, tell_log_fault};
+use crate::telling::tell_log_fault;
 use lines::output::Output;
 use lines::watched::Watched;
 use lists::{OpenFault, OpenLists};
+use log_programs::telling::tell_lacking;
 use program::ending::{FAILED, end};
 use std::io::Write;
 
@@ -99,7 +101,14 @@ fn join_one<L: OpenLists, W: Write, E: Write>(
     lists.close(name, log);
     match end {
         Ok(()) => {
-            tell_lacking(&join.place, name, seen.lines, seen.is_addressed, errors);
+            tell_lacking(
+                PROGRAM,
+                &join.place,
+                name,
+                seen.lines,
+                seen.is_addressed,
+                errors,
+            );
             true
         }
         Err(fault) => {

@@ -2,14 +2,12 @@
 #![tactic(auto)]
 
 mod answers;
-mod arranging;
 mod command_line;
 mod counts;
-mod field;
 mod found;
+mod grammar;
 mod help;
 mod join;
-mod joined;
 mod laws;
 mod lengths;
 mod line;

@@ -1,11 +1,12 @@
 //! The options of a command line, one at a time.
-ghost use Rattle.std.specs.Prelude.{◌≡◌, ◌-◌, ◌^◌, ◌<◌, ◌≤◌, drop, length, min};
+ghost use Rattle.std.specs.Prelude.{◌≡◌, ◌-◌, ◌^◌, min};
 ghost use Rattle.std.specs.List.{list_all};
 ghost use Rattle.std.specs.Char.{is_ascii_digit};
-ghost use Rattle.cidr_join.specs.Options.{is_letter, number_of, takes_next, behind_option, option_of, in_one_word, in_two_words, letters_option, letters_in, file_option, field_option, separator_option, after_option, group_option, length_of, lengths_by, value_of, said_at, or_last};
+ghost use Rattle.std.specs.String.{string_bytes};
+ghost use Rattle.cidr_join.specs.Options.{is_letter, number_of, takes_next, in_one_word, in_two_words, letters_option, letters_in, file_option, field_option, separator_option, after_option, group_option, length_of, lengths_by};
 
-use crate::field::field_of;
 use crate::lengths::Lengths;
+use line_addresses::field_of;
 use program::words::is;
 
 /// Which letters are among those of options.
@@ -46,38 +47,6 @@ pub enum Choice {
     Input,
 }
 
-/// The index after the option at an index: an option may take the next word too.
-pub(crate) fn behind(words: &[String], at: usize) -> usize
-    requires { at ≤ length words.now }
-    ensures within { result ≤ length words.now }
-    ensures behind { at < length words.now → at < result }
-    ensures rest { drop result words.now ≡ behind_option (drop at words.now) }
-{
-    if at < words.len() && takes_next(&words[at]) {
-        words.len().min(at + 2)
-    } else {
-        words.len().min(at.saturating_add(1))
-    }
-}
-
-/// The option at an index, if there is one.
-pub(crate) fn choice_at(words: &[String], at: usize) -> Option<Choice>
-    requires { at ≤ length words.now }
-    ensures { result ≡ option_of (drop at words.now) }
-{
-    if at >= words.len() {
-        return None;
-    }
-    let word = &words[at];
-    if !takes_next(word) {
-        return choice_in(word.as_bytes());
-    }
-    if at + 1 >= words.len() {
-        return None;
-    }
-    choice_with(word, words[at + 1].as_bytes())
-}
-
 /// Whether the value of an option is the next word.
 pub(crate) fn takes_next(word: &String) -> bool
     ensures { result ≡ takes_next word.now }
@@ -85,9 +54,9 @@ pub(crate) fn takes_next(word: &String) -> bool
     is(word, "-f") || is(word, "-k") || is(word, "-d") || is(word, "--after") || is(word, "--group")
 }
 
-// The option of this name with this value.
-fn choice_with(name: &String, value: &[u8]) -> Option<Choice>
-    ensures { result ≡ in_two_words name.now value.now }
+/// The option of this name with this value.
+pub(crate) fn choice_with(name: &String, value: &[u8]) -> Option<Choice>
+    ensures { result ≡ in_two_words (string_bytes name.now) value.now }
 {
     if is(name, "-f") {
         file_choice(value)
@@ -102,8 +71,8 @@ fn choice_with(name: &String, value: &[u8]) -> Option<Choice>
     }
 }
 
-// The option in one word.
-fn choice_in(word: &[u8]) -> Option<Choice>
+/// The option in one word.
+pub(crate) fn choice_in(word: &[u8]) -> Option<Choice>
     ensures { result ≡ in_one_word word.now }
 {
     if let Some(value) = word.strip_prefix(b"-k".as_slice()) {
@@ -295,42 +264,4 @@ fn lengths_choice(v4: Option<u8>, v6: Option<u8>) -> Option<Choice>
         (Some(v4), Some(v6)) => Some(Choice::Group(Lengths { v4, v6 })),
         _ => None,
     }
-}
-
-/// The value of the last option of this name among options, or an empty text if there is none.
-pub(crate) fn value_of<'a>(options: &'a [String], name: &str) -> &'a str
-    ensures { result.now ≡ value_of name.now options.now }
-{
-    let mut text = "";
-    let mut at = 0;
-    'options: while at < options.len() {
-        text = or_last(text, said_at(options, at, name));
-        at = behind(options, at);
-    }
-    text
-}
-
-// The value of the option at an index, if it has this name.
-fn said_at<'a>(options: &'a [String], at: usize, name: &str) -> &'a str
-    requires { at ≤ length options.now }
-    ensures { result.now ≡ said_at name.now (drop at options.now) }
-{
-    let left = options.len() - at;
-    if left < 2 {
-        return "";
-    }
-    if !is(&options[at], name) {
-        return "";
-    }
-    options[at + 1].as_str()
-}
-
-// The last of two texts that is not empty.
-fn or_last<'a>(first: &'a str, last: &'a str) -> &'a str
-    ensures { result.now ≡ or_last first.now last.now }
-{
-    if last.is_empty() {
-        return first;
-    }
-    last
 }

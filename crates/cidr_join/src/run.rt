@@ -6,19 +6,21 @@ ghost use Rattle.program.specs.Logs.{logs_of};
 ghost use Rattle.cidr_join.specs.Runs.{EndsRequest, EndsAs, EndsAsked, EndsWords, EndsFinding, EndsJoining, answers_by, place_of, list_name};
 
 use crate::answers::Answers;
-use crate::arranging::arranged;
 use crate::command_line::{Request, request_of};
+use crate::grammar::JoinOptions;
 use crate::help::{HELP, PROGRAM, USAGE, VERSION};
-use crate::join::{Join, LINE_MAX, Place, Text};
+use crate::join::{Join, LINE_MAX};
 use crate::list::networks_of;
 use crate::logs::join_logs;
-use crate::options::value_of;
 use crate::routes::Routes;
 use crate::tally_logs::tally_logs;
 use crate::telling::{tell_take_fault, tell_text_fault};
 use crate::text::text_of;
+use line_addresses::{Place, Text};
 use lines::output::Output;
 use lists::OpenLists;
+use log_programs::arranging::arranged;
+use log_programs::options::value_of;
 use program::ending::{FAILED, print_text};
 use program::messages::tell;
 use program::start::text_asked;
@@ -43,7 +45,7 @@ pub(crate) fn run<L: OpenLists, W: Write, E: Write>(
     if let Some(text) = text_asked(HELP, VERSION, words) {
         return print_text(text, output, errors);
     }
-    let Ok(asked) = arranged(alloc, words) else {
+    let Ok(asked) = arranged::<JoinOptions>(alloc, words) else {
         return refuse_memory(errors);
     };
     obey(alloc, asked.as_slice(), lists, output, errors)
@@ -86,7 +88,7 @@ fn join<L: OpenLists, W: Write, E: Write>(
         let answers = Answers::Blocks(lengths);
         return join_by(alloc, request, words, answers, lists, output, errors);
     }
-    let name = value_of(&words[..request.files], "-f");
+    let name = value_of::<JoinOptions>(&words[..request.files], "-f");
     match text_of(alloc, lists, name) {
         Ok(text) => join_to(
             alloc,
@@ -212,7 +214,7 @@ fn place_of(words: &[String], request: Request) -> Place<'_>
         return Place::Anywhere;
     }
     if request.after {
-        let text = value_of(&words[..request.files], "--after");
+        let text = value_of::<JoinOptions>(&words[..request.files], "--after");
         return Place::After(Text::new(text.as_bytes()));
     }
     let number = request.field.unwrap_or(1);

@@ -11,6 +11,7 @@ ghost use Rattle.cidr_join.specs.Private.Numbering.{IsNumbering};
 ghost use Rattle.cidr_join.specs.Private.TallyProgress.{CountsNames, TellsStop, tally_fault_text};
 
 use crate::counts::Counts;
+use crate::help::PROGRAM;
 use crate::join::Join;
 use crate::log::LogFault;
 use crate::numbered::Numbered;
@@ -18,11 +19,12 @@ use crate::printing::put_both;
 use crate::seen::Seen;
 use crate::tally::Row;
 use crate::tally_log::{TallyFault, tally_log};
-use crate::telling::{tell_lacking, tell_log_fault};
+use crate::telling::tell_log_fault;
 use lines::fault::RunFault;
 use lines::output::Output;
 use lines::watched::Watched;
 use lists::{OpenFault, OpenLists};
+use log_programs::telling::tell_lacking;
 use program::ending::{FAILED, end};
 use program::messages::{number_text, tell};
 use std::alloc::Global;
@@ -141,7 +143,14 @@ fn tally_one<L: OpenLists, E: Write>(
     lists.close(name, log);
     match end {
         Ok(()) => {
-            tell_lacking(&join.place, name, seen.lines, seen.is_addressed, errors);
+            tell_lacking(
+                PROGRAM,
+                &join.place,
+                name,
+                seen.lines,
+                seen.is_addressed,
+                errors,
+            );
             true
         }
         Err(fault) => {

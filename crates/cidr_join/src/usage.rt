@@ -1,135 +1,14 @@
-//! What is wrong with the words of a command line.
-ghost use Rattle.std.specs.Prelude.{◌≡◌, ◌<◌, ◌≤◌, drop, length};
-ghost use Rattle.cidr_join.specs.CommandLines.{is_plain, is_name};
-ghost use Rattle.cidr_join.specs.Usage.{about, problem_text, value_problem, word_problem, option_fault, names_fault, files_fault, rest_fault};
+//! What is wrong with words that are no options.
+ghost use Rattle.std.specs.Prelude.{◌≡◌};
+ghost use Rattle.std.specs.String.{string_bytes};
+ghost use Rattle.cidr_join.specs.Usage.{value_problem, word_problem};
 
-use crate::options::takes_next;
-use program::usage::Subject;
+use log_programs::usage::Problem;
 use program::words::is;
 
-/// What is wrong with a word, with the value of an option, or with a command line.
-#[derive(Clone, Copy, Debug, PartialEq, Eq)]
-pub enum Problem {
-    /// An option has no value behind it.
-    NoValue,
-    /// Not the number of a field.
-    Field,
-    /// Not a byte that separates fields.
-    Separator,
-    /// Not the name of a file: empty.
-    Name,
-    /// Not a text: empty.
-    Empty,
-    /// Not the lengths of blocks.
-    Lengths,
-    /// `--help` or `--version` beside other words.
-    NotAlone,
-    /// Not an option, though it begins with a `-`.
-    NoOption,
-    /// An option, or a `--`, after a FILE.
-    AfterFile,
-    /// `-a` together with `-k`, `-d` or `-w`.
-    Anywhere,
-    /// `--after` together with `-a`, `-k`, `-d` or `-w`.
-    After,
-    /// `-w` together with `-d`.
-    Words,
-    /// `--last` together with `--tally`.
-    Tally,
-    /// More than one list.
-    Lists,
-    /// `--group` together with `-f`, `--network` or `--last-wins`.
-    Group,
-    /// Neither a list nor `--group`.
-    NoList,
-    /// Standard input is to be read twice.
-    InputTwice,
-}
-
-impl Problem {
-    /// What is told of it, after the words that it is about.
-    pub(crate) fn text(self) -> &'static str
-        ensures { result.now ≡ problem_text self }
-    {
-        match self {
-            Problem::NoValue => "has no value",
-            Problem::Field => "is no field number",
-            Problem::Separator => "is not one ASCII byte other than LF, CR and NUL",
-            Problem::Name => "is no file name",
-            Problem::Empty => "is no text",
-            Problem::Lengths => "is not N,M with N up to 32 and M up to 128",
-            Problem::NotAlone => "is not the only argument",
-            Problem::NoOption => "is no option",
-            Problem::AfterFile => "comes after a FILE",
-            Problem::Anywhere => "-a goes with none of -k, -d and -w",
-            Problem::After => "--after goes with none of -a, -k, -d and -w",
-            Problem::Words => "-w does not go with -d",
-            Problem::Tally => "--last does not go with --tally",
-            Problem::Lists => "-f is given more than once",
-            Problem::Group => "--group goes with none of -f, --network and --last-wins",
-            Problem::NoList => "neither -f nor --group is given",
-            Problem::InputTwice => "-: standard input can be read only once",
-        }
-    }
-}
-
-/// What is wrong with the words of a command line, and which words it is about.
-#[derive(Clone, Copy, Debug, PartialEq, Eq)]
-pub struct UsageFault {
-    /// The words.
-    pub subject: Subject,
-    /// What is wrong.
-    pub problem: Problem,
-}
-
-/// What is wrong with the words from an index on, which begin with no option: nothing if they are FILEs, or a `--` and
-/// FILEs.
-pub(crate) fn rest_fault(words: &[String], at: usize) -> Option<UsageFault>
-    requires { at ≤ length words.now }
-    ensures { result ≡ rest_fault at (drop at words.now) }
-{
-    if at >= words.len() {
-        return None;
-    }
-    let word = &words[at];
-    if is(word, "--") {
-        names_fault(words, at + 1)
-    } else if is_plain(word) {
-        files_fault(words, at)
-    } else {
-        Some(option_fault(words, at))
-    }
-}
-
-// What is wrong with the option at an index, which is none.
-fn option_fault(words: &[String], at: usize) -> UsageFault
-    requires { at < length words.now }
-    ensures { result ≡ option_fault at (drop at words.now) }
-{
-    let word = &words[at];
-    if !takes_next(word) {
-        about(Subject::Word(at), word_problem(word.as_bytes()))
-    } else if at + 1 < words.len() {
-        let value = Subject::Value {
-            option: at,
-            value: at + 1,
-        };
-        about(value, value_problem(word))
-    } else {
-        about(Subject::Word(at), Problem::NoValue)
-    }
-}
-
-/// This fault.
-pub(crate) fn about(subject: Subject, problem: Problem) -> UsageFault
-    ensures { result ≡ about subject problem }
-{
-    UsageFault { subject, problem }
-}
-
-// What is wrong with a value of this option that is none.
-fn value_problem(name: &String) -> Problem
-    ensures { result ≡ value_problem name.now }
+/// What is wrong with a value of this option that is none.
+pub(crate) fn value_problem(name: &String) -> Problem
+    ensures { result ≡ value_problem (string_bytes name.now) }
 {
     if is(name, "-f") {
         Problem::Name
@@ -144,8 +23,8 @@ fn value_problem(name: &String) -> Problem
     }
 }
 
-// What is wrong with a word that is no option by itself.
-fn word_problem(word: &[u8]) -> Problem
+/// What is wrong with a word that is no option by itself.
+pub(crate) fn word_problem(word: &[u8]) -> Problem
     ensures { result ≡ word_problem word.now }
 {
     if word.starts_with(b"-k".as_slice()) {
@@ -157,52 +36,4 @@ fn word_problem(word: &[u8]) -> Problem
     } else {
         Problem::NoOption
     }
-}
-
-// What is wrong with the FILEs from an index on, which follow a `--`.
-fn names_fault(words: &[String], from: usize) -> Option<UsageFault>
-    requires { from ≤ length words.now }
-    ensures { result ≡ names_fault from (drop from words.now) }
-{
-    let mut at = from;
-    while at < words.len() {
-        if !is_name(&words[at]) {
-            return Some(about(Subject::Word(at), Problem::Name));
-        }
-        at += 1;
-    }
-    None
-}
-
-// What is wrong with the FILEs from an index on.
-fn files_fault(words: &[String], from: usize) -> Option<UsageFault>
-    requires { from ≤ length words.now }
-    ensures { result ≡ files_fault from (drop from words.now) }
-{
-    let mut at = from;
-    while at < words.len() {
-        let word = &words[at];
-        if !is_plain(word) {
-            return Some(about(Subject::Word(at), Problem::AfterFile));
-        }
-        if !is_name(word) {
-            return Some(about(Subject::Word(at), Problem::Name));
-        }
-        at += 1;
-    }
-    None
-}
-
-// Whether a word is not empty.
-fn is_name(word: &String) -> bool
-    ensures { result ≡ is_name word.now }
-{
-    !word.as_bytes().is_empty()
-}
-
-/// Whether a word is `-`, or does not begin with a `-`.
-pub(crate) fn is_plain(word: &String) -> bool
-    ensures { result ≡ is_plain word.now }
-{
-    is(word, "-") || !word.as_bytes().starts_with(b"-".as_slice())
 }

@@ -1,5 +1,0 @@
-use Rattle.program.proofs.Told.{tells_more, tells_same}
-use Rattle.cidr_filter.proofs.telling.tell_after.Goals as goal
-
-pub returns : goal.returns
-returns g c = tells_more c.args.errors.now c.tell.new.errors c.tell_bytes.new.errors _ _ c.tell.ensures (tells_same c.tell.new.errors c.tell_bytes.new.errors _ _ c.bytes.ensures c.tell_bytes.ensures)

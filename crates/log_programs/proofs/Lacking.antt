@@ -1,0 +1,21 @@
+-- What is reported of logs whose lines are counted up to the greatest number of 64 bits.
+use Rattle.std.proofs.Common.{◌≡◌, ℕ, zero, suc, ◌-◌, ◌^◌, ◌<◌, ◌&&◌, Bool, true, not, List, [], min, sym, refl, ap, ◌∙◌, arith}
+use Rattle.std.specs.Prelude.{nat_lt, if◌then◌else◌}
+use Rattle.std.proofs.lemmas.Bool.Decides.{nat_tests}
+use Rattle.line_addresses.specs.declared.place.Place.{Place}
+use Rattle.log_programs.specs.Lacking.{no_address_text, lacking_told}
+
+pub positive : (number : ℕ) → 0 < number → nat_lt 0 number ≡ true
+positive number some = grind (arith, nat_tests)
+
+pub same_test : (told count : ℕ) → told ≡ min count (2 ^ 64 - 1) → nat_lt 0 told ≡ nat_lt 0 count
+same_test zero zero e = refl
+same_test zero (suc count) e = absurd (omega (arith, e))
+same_test (suc told) zero e = absurd (omega (arith, e))
+same_test (suc told) (suc count) e = positive (suc told) (omega arith) ∙ sym (positive (suc count) (omega arith))
+
+pub lacking_same : (program : List ℕ) (place : Place) (name : List ℕ) (lines count : ℕ) (one other : Bool) → lines ≡ min count (2 ^ 64 - 1) → one ≡ other
+    → lacking_told program place name lines one ≡ lacking_told program place name count other
+lacking_same program place name lines count one other e f =
+    ap (λ (b : Bool). if b && not one then no_address_text program place name else []) (same_test lines count e)
+    ∙ ap (λ (b : Bool). if nat_lt 0 count && not b then no_address_text program place name else []) f

@@ -1,0 +1,12 @@
+use Rattle.program.proofs.Told.{tells_more}
+use Rattle.log_programs.proofs.telling.tell_place.Goals as goal
+
+pub returns : goal.returns
+returns g c =
+    let old = c.args.errors.now in
+    tells_more old c.tell_where.new.errors c.tell-5.new.errors _ _
+    (tells_more old c.tell-4.new.errors c.tell_where.new.errors _ _
+    (tells_more old c.tell-3.new.errors c.tell-4.new.errors _ _
+    (tells_more old c.tell-2.new.errors c.tell-3.new.errors _ _
+    (tells_more old c.tell.new.errors c.tell-2.new.errors _ _ c.tell.ensures c.tell-2.ensures)
+    c.tell-3.ensures) c.tell-4.ensures) c.tell_where.ensures) c.tell-5.ensures

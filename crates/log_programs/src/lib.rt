@@ -1,0 +1,12 @@
+//! What the programs that read logs share: how the words of a command line are put in order and read, what is
+//! wrong with them, and what is reported of logs without addresses.
+#![tactic(auto)]
+
+pub mod arranging;
+pub mod command_line;
+pub mod grammar;
+mod joined;
+pub mod options;
+pub mod plain;
+pub mod telling;
+pub mod usage;
