@@ -45,11 +45,11 @@ Prints the lines of logs whose address is in a list of IP networks.
     --version       print the version
 
 Options may stand behind FILEs; what follows a -- are FILEs. Options of one letter may be one word,
-with the value of the last behind it: -vk1, -e10.0.0.0/8. A FILE is a name, or - for standard input,
-as is no FILE at all. A line is printed as it was; a last line without a line feed gets one. A line
-has at most 1,048,576 bytes; a longer one has no address, and ends the program unless such lines are
-dropped. A FILE that cannot be opened is reported, and the others are read. So is a FILE with lines
-of which none has an address where it is looked for.
+with the value of the last behind it: -vk1, -e10.0.0.0/8; and so may --bad=keep. A FILE is a name,
+or - for standard input, as is no FILE at all. A line is printed as it was; a last line without a
+line feed gets one. A line has at most 1,048,576 bytes; a longer one has no address, and ends the
+program unless such lines are dropped. A FILE that cannot be opened is reported, and the others are
+read. So is a FILE with lines of which none has an address where it is looked for.
 
 Status: 0 if a line was selected, 1 if none was, 2 on wrong usage, a refused line, a file
 that cannot be opened or read, a failed write or out of memory, 141 if standard output is a pipe
