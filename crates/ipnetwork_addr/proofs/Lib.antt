@@ -20,6 +20,7 @@ pub mod Ipv4Lemmas
 pub mod Ipv6Bytes
 pub mod Ipv6Names
 pub mod Ipv6Printed
+pub mod LawExamples
 pub mod MappedGroups
 pub mod OctetFronts
 mod OctetLanes

@@ -5,5 +5,6 @@ pub mod Colons
 pub mod Digits
 pub mod Dotted
 pub mod HexText
+pub mod LawExamples
 pub mod PrintedV6
 pub mod SameAddresses
