@@ -161,20 +161,21 @@ def filter_lines(run):
     write_log(log, rng, 300_000 if run.quick else 1_000_000)
     has_grepcidr = here(run, "grepcidr", "grepcidr")
     every, rows = networks(rng, 50_000, 12), []
-    for count in (1, 1_000, 50_000):
-        path = run.folder / f"list{count}"
-        path.write_text("".join(every[:count]))
+    half = ["128.0.0.0/1\n"]
+    for name, listed in (("1", every[:1]), ("1, of half the addresses", half), ("1,000", every[:1_000]), ("50,000", every)):
+        path = run.folder / f"list{len(rows)}"
+        path.write_text("".join(listed))
         commands = {"own": [program, "-f", path, log], "longest": [program, "--longest", "-f", path, log]}
         commands["any"] = [program, "-a", "-f", path, log]
         if join.exists():
-            commands["join"] = [join, "-f", with_values(path, every[:count]), log]
+            commands["join"] = [join, "-f", with_values(path, listed), log]
         if has_grepcidr:
             commands["grepcidr"] = ["grepcidr", "-x", "-f", path, log]
             commands["grepcidr any"] = ["grepcidr", "-f", path, log]
         times, counts = least(run, commands)
         if has_grepcidr and (counts["own"], counts["any"]) != (counts["grepcidr"], counts["grepcidr any"]):
             raise Differs(f"cidr_filter and grepcidr do not print the same: {counts}")
-        rows.append([f"{count:,}", f"{counts['own']:,}", times["own"], beside(times["own"], times.get("grepcidr")),
+        rows.append([name, f"{counts['own']:,}", times["own"], beside(times["own"], times.get("grepcidr")),
                      times["longest"], times["any"], beside(times["any"], times.get("grepcidr any")), times.get("join")])
     megabytes = os.path.getsize(log) >> 20
     head = ["Networks", "Lines printed", "`cidr_filter`", "`grepcidr -x`", "`--longest`", "`-a`", "`grepcidr`", "`cidr_join`"]

@@ -100,7 +100,8 @@ impl<N: IndexedNetwork> Partition<N> {
     ) -> Result<Self, AllocError>
         requires parts { bits ≤ 20 }
         requires padded { IsPadded N.WIDTH (map N.Number.value lasts.items) }
-        requires halves { map N.High.value highs.items ≡ map N.high (map N.Number.value lasts.items) }
+        requires halves { map N.High.value highs.items
+            ≡ map N.high (map N.Number.value lasts.items) }
         ensures { IfOk result (λ partition. partition ≡ unpadded (map N.Number.value lasts.items)) }
     {
         let (high_base, shift) = span_of::<N::High>(highs.as_slice(), bits);

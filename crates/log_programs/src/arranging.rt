@@ -40,7 +40,8 @@ pub enum Mode {
 /// }
 /// ```
 pub fn arranged<G: Grammar>(alloc: Global, words: &[String]) -> Result<Vec<String>, AllocError>
-    ensures { IfOk result (λ all. map string_bytes all.items ≡ arranged G.options.syntax words.now) }
+    ensures { IfOk result
+        (λ all. map string_bytes all.items ≡ arranged G.options.syntax words.now) }
 {
     let mut all = Vec::new(alloc);
     let mode = put_part::<G>(alloc, words, true, &mut all)?;
@@ -82,7 +83,8 @@ fn put_word<G: Grammar>(
 ) -> Result<(), AllocError>
     ensures { OnOk result (map string_bytes all.new.items
         ≡ (if belongs options mode word.now
-        then map string_bytes all.old.items ++ words_at G.options.syntax mode (string_bytes word.now)
+        then map string_bytes all.old.items
+            ++ words_at G.options.syntax mode (string_bytes word.now)
         else map string_bytes all.old.items)) }
 {
     if belongs(options, mode, word) {
