@@ -1,8 +1,7 @@
 -- Blocks put into a list one after the other.
-use Rattle.std.proofs.Common.{◌≡◌, ℕ, ◌+◌, ◌-◌, ◌^◌, ◌<◌, ◌≤◌, List, [], ◌∷◌, ◌++◌, length, map, drop, get_or, slice_set, ⊎_elim, refl, sym, subst, ap, ◌∙◌, arith, min, add-one, append_assoc, drop-cons}
-use Rattle.std.proofs.Math.Nat.{min-le_left, min-eq_left, min-eq_right, le-min}
+use Rattle.std.proofs.Common.{◌≡◌, ℕ, ◌+◌, ◌-◌, ◌^◌, ◌<◌, ◌≤◌, List, [], ◌∷◌, ◌++◌, length, map, drop, get_or, slice_set, refl, sym, subst, ap, ◌∙◌, arith, min, add-one, append_assoc, drop-cons}
+use Rattle.std.proofs.Math.Nat.{min-le_left, min-eq_left}
 use Rattle.std.proofs.Math.Seq.{set-append_seam}
-use Rattle.std.proofs.lemmas.Bool.{cases_lt}
 use Rattle.std.proofs.lemmas.List.{length-map, length-append, length-set, map-append}
 use Rattle.std.specs.Iterator.{YieldsFirstBy}
 use Rattle.std.proofs.lemmas.Iterator.{items_from_drains}
@@ -25,14 +24,7 @@ nothing_put held list = record {
 
 -- a number that is kept to the greatest one, and what is added
 kept_sum : (a b m : ℕ) → min (min a m + b) m ≡ min (a + b) m
-kept_sum a b m =
-    ⊎_elim
-    (λ (l : a < m). let le : a ≤ m = omega arith in ap (λ k. min (k + b) m) (min-eq_left le))
-    (λ (l : m ≤ a).
-    let over : m ≤ m + b = omega arith in
-    let more : m ≤ a + b = omega arith in
-    ap (λ k. min (k + b) m) (min-eq_right l) ∙ min-eq_right over ∙ sym (min-eq_right more))
-    (cases_lt a m)
+kept_sum a b m = omega arith
 
 one_more : (blocks : List Network) (n : Network) → length (blocks ++ n ∷ []) ≡ length blocks + 1
 one_more blocks n = length-append blocks (n ∷ [])
@@ -47,11 +39,7 @@ pub block_put : {C : Type 0} (held : C → Network) (blocks : List Network) (bef
 block_put {C} held blocks before list count next c n h room few is told =
     let rows = h.rows in
     let counted = h.counted in
-    let size : count ≡ length blocks =
-    ⊎_elim
-    (λ (l : length blocks < 2 ^ 128 - 1). let le : length blocks ≤ 2 ^ 128 - 1 = omega arith in counted ∙ min-eq_left le)
-    (λ (l : 2 ^ 128 - 1 ≤ length blocks). let e : count ≡ 2 ^ 128 - 1 = counted ∙ min-eq_right l in let r : count ≡ length blocks = absurd (omega arith) in r)
-    (cases_lt (length blocks) (2 ^ 128 - 1)) in
+    let size : count ≡ length blocks = omega (arith, counted, room, few) in
     record {
       counted = counts_on blocks n count next counted told;
       rows = length-set list count c ∙ rows;
@@ -99,21 +87,10 @@ given pair held blocks before after count h =
 -- ---- what the caller is told
 
 kept_is : (n kept m : ℕ) → kept ≡ min n m → kept < m → kept ≡ n
-kept_is n kept m is below =
-    ⊎_elim
-    (λ (l : n < m). let le : n ≤ m = omega arith in is ∙ min-eq_left le)
-    (λ (l : m ≤ n). let e : kept ≡ m = is ∙ min-eq_right l in let r : kept ≡ n = absurd (omega arith) in r)
-    (cases_lt n m)
+kept_is n kept m is below = omega (arith, is, below)
 
 twice_kept : (n wanted told : ℕ) → wanted ≡ min n (2 ^ 128 - 1) → told ≡ min wanted (2 ^ 64 - 1) → told ≡ min n (2 ^ 64 - 1)
-twice_kept n wanted told is told_is =
-    ⊎_elim
-    (λ (l : n < 2 ^ 64 - 1). let le : n ≤ 2 ^ 128 - 1 = omega arith in told_is ∙ ap (λ k. min k (2 ^ 64 - 1)) (is ∙ min-eq_left le))
-    (λ (l : 2 ^ 64 - 1 ≤ n).
-    let room : 2 ^ 64 - 1 ≤ 2 ^ 128 - 1 = omega arith in
-    let over : 2 ^ 64 - 1 ≤ wanted = subst (λ (k : ℕ). 2 ^ 64 - 1 ≤ k) (sym is) (le-min l room) in
-    told_is ∙ min-eq_right over ∙ sym (min-eq_right l))
-    (cases_lt n (2 ^ 64 - 1))
+twice_kept n wanted told is told_is = omega (arith, is, told_is)
 
 -- there are more than the list has room for
 pub too_many : {C : Type 0} (w : ℕ) (held : C → Network) (S : ℕ → Type 0) (before : List C) (blocks : List Network) (told_before wanted told : ℕ) → IsLeastList w S blocks → wanted ≡ min (length blocks) (2 ^ 128 - 1)

@@ -138,12 +138,12 @@ last_does_not_fit w ns i b some within is not h = not (h b some (slice_get_read 
 pub none_fits : (w : ℕ) (ns : List Network) (i : ℕ) → i ≡ 0 → LastFits w ns i
 none_fits w ns i none n some got = absurd (omega arith)
 
--- what a search tells of an address, whichever way its number is written
-pub set_answered : {C : Type 0} (w : ℕ) (held : C → Network) (list : List C) (y x before after : ℕ) → y ≡ x → EndFits w (map held list) y → FindsIn w (map held list) y after → SetQuery w held list x before after 0
-set_answered w held list y x before after is ends finds = subst (λ (z : ℕ). SetQuery w held list z before after 0) is (ends.0, ends.1, On (ends.2, (refl, finds)))
+-- what a search tells of an address
+pub set_answered : {C : Type 0} (w : ℕ) (held : C → Network) (list : List C) (x before after : ℕ) → EndFits w (map held list) x → FindsIn w (map held list) x after → SetQuery w held list x before after 0
+set_answered w held list x before after ends finds = (ends.0, ends.1, On (ends.2, (refl, finds)))
 
-pub set_refused : {C : Type 0} (w : ℕ) (held : C → Network) (list : List C) (y x before : ℕ) → y ≡ x → EndDoesNotFit w (map held list) y → SetQuery w held list x before before 3
-set_refused w held list y x before is ends = subst (λ (z : ℕ). SetQuery w held list z before before 3) is (ends.0, ends.1, Nothing (ends.2, refl) refl)
+pub set_refused : {C : Type 0} (w : ℕ) (held : C → Network) (list : List C) (x before : ℕ) → EndDoesNotFit w (map held list) x → SetQuery w held list x before before 3
+set_refused w held list x before ends = (ends.0, ends.1, Nothing (ends.2, refl) refl)
 
 -- the number of a fault that a search returns is that of a byte
 pub set_fault_is_byte : {C : Type 0} {before after code : ℕ} (w : ℕ) (held : C → Network) (list : List C) (x : ℕ) → SetQuery w held list x before after code → code < 256

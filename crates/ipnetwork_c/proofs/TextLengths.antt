@@ -111,21 +111,22 @@ address_texts (addresses.V6 a) fits = let most = v6_length a in omega (arith, mo
 
 -- ---- networks
 
+-- a text and, behind a slash, a number of so many digits at the most
+suffixed : (text : List ℕ) (most digits p : ℕ) → length text ≤ most → 0 < digits → p < 10 ^ digits → p < 2 ^ 64 → length (text ++ slash ∷ decimal p) ≤ most + 1 + digits
+suffixed text most digits p short some fits small =
+    let suffix = length-decimal-le digits p some fits small in
+    let whole = length-append text (slash ∷ decimal p) in
+    omega (arith, short, suffix, whole)
+
 pub v4_texts : V4TextsFit
 v4_texts n is =
-    let most = v4_length n.address in
     let fits = is.prefix_fits in
-    let suffix = length-decimal-le 2 n.prefix (omega arith) (omega (arith, fits)) (omega (arith, fits)) in
-    let whole = length-append (canonical_v4 n.address) (slash ∷ decimal n.prefix) in
-    omega (arith, most, suffix, whole)
+    let most = suffixed (canonical_v4 n.address) 15 2 n.prefix (v4_length n.address) (omega arith) (omega (arith, fits)) (omega (arith, fits)) in omega (arith, most)
 
 pub v6_texts : V6TextsFit
 v6_texts n is =
-    let most = v6_length n.address in
     let fits = is.prefix_fits in
-    let suffix = length-decimal-le 3 n.prefix (omega arith) (omega (arith, fits)) (omega (arith, fits)) in
-    let whole = length-append (canonical_v6 n.address) (slash ∷ decimal n.prefix) in
-    omega (arith, most, suffix, whole)
+    let most = suffixed (canonical_v6 n.address) 39 3 n.prefix (v6_length n.address) (omega arith) (omega (arith, fits)) (omega (arith, fits)) in omega (arith, most)
 
 pub ip_texts : IpTextsFit
 ip_texts (V4 n) is = let most = v4_texts n is in omega (arith, most)

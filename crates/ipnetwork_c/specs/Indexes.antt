@@ -1,10 +1,9 @@
 -- Indexes of lists of networks, in the caller's memory: numbers of 32 bits that say where the search for an address begins.
 use Rattle.std.specs.Prelude.{◌≡◌, ℕ, ◌+◌, ◌-◌, ◌*◌, ◌/◌, ◌^◌, ◌<◌, ◌≤◌, min, List, [], length, map, get_or, slice_get, Some}
 use Rattle.ipnetwork_family.specs.Network.{Network}
-use Rattle.ipnetwork_c.specs.Numbers.{short_buffer}
 use Rattle.ipnetwork_c.specs.Held.{number_of_octets}
-use Rattle.ipnetwork_c.specs.Outcomes.{Writes, Needs}
-use Rattle.ipnetwork_c.specs.Columns.{AnswersEach}
+use Rattle.ipnetwork_c.specs.Outcomes.{Writes}
+use Rattle.ipnetwork_c.specs.Columns.{AsksEach}
 use Rattle.ipnetwork_c.specs.Lists.{SetQuery}
 
 -- the address of the network at a place, and 0 if there is none
@@ -40,6 +39,4 @@ MakesIndex held list before = Writes (λ index. (length index ≡ length before)
 
 -- each address is asked as the call for one asks it, with an answer and a fault of its own, if there is room for these
 abbrev pub SetRows : {C : Type 0} → ℕ → (C → Network) → List C → List (List ℕ) → List ℕ × List ℕ → List ℕ × List ℕ → ℕ → Type 0
-SetRows w held list addresses before =
-    Needs ((length addresses ≤ length before.0) × (length addresses ≤ length before.1)) short_buffer
-    (Writes (λ after. AnswersEach (λ i. SetQuery w held list (number_of_octets (get_or addresses i []))) (length addresses) before.0 after.0 before.1 after.1)) before
+SetRows w held list = AsksEach [] (λ octets. SetQuery w held list (number_of_octets octets))

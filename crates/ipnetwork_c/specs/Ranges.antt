@@ -8,7 +8,7 @@ use Rattle.ipnetwork_c.specs.Numbers.{short_buffer, no_member}
 use Rattle.ipnetwork_c.specs.Held.{PrefixFits, number_of_octets}
 use Rattle.ipnetwork_c.specs.Outcomes.{Writes, Unless, IsFault, Needs}
 use Rattle.ipnetwork_c.specs.Answers.{IfFit}
-use Rattle.ipnetwork_c.specs.Columns.{AnswersEach}
+use Rattle.ipnetwork_c.specs.Columns.{AsksEach}
 use Rattle.ipnetwork_c.specs.Searches.{StandsAt}
 use Rattle.ipnetwork_c.specs.Tables.{IsTable, FindsLongest}
 
@@ -63,9 +63,7 @@ RangeQuery held ranges places x before after code =
 
 -- each address is asked as the call for one asks it, with a place and a fault of its own, if there is room for these
 abbrev pub RangeRows : {C : Type 0} → (C → Network) → List C → List ℕ → List (List ℕ) → List ℕ × List ℕ → List ℕ × List ℕ → ℕ → Type 0
-RangeRows held ranges places addresses before =
-    Needs ((length addresses ≤ length before.0) × (length addresses ≤ length before.1)) short_buffer
-    (Writes (λ after. AnswersEach (λ i. RangeQuery held ranges places (number_of_octets (get_or addresses i []))) (length addresses) before.0 after.0 before.1 after.1)) before
+RangeRows held ranges places = AsksEach [] (λ octets. RangeQuery held ranges places (number_of_octets octets))
 
 -- what is found by the ranges of a list is the longest network of the list
 abbrev pub RangesFindTheLongest : {C : Type 0} → ℕ → (C → Network) → Type 0

@@ -1,5 +1,5 @@
 -- Tables of blocks in the caller's memory.
-use Rattle.std.specs.Prelude.{◌≡◌, ℕ, ◌+◌, ◌<◌, ◌≤◌, List, [], ◌++◌, drop, get_or, length, map, slice_index, slice_index_or}
+use Rattle.std.specs.Prelude.{◌≡◌, ℕ, ◌+◌, ◌<◌, ◌≤◌, List, [], ◌++◌, drop, length, map, slice_index, slice_index_or}
 use Rattle.std.specs.List.{All, AllPairs, range_with_len}
 use Rattle.std.specs.List.Sorted.{IsPermutation}
 use Rattle.ipnetwork_family.specs.Network.{Network, IsCidrBlock, IsNetworkAtMost, Member, block_of}
@@ -8,7 +8,7 @@ use Rattle.ipnetwork_c.specs.Numbers.{short_buffer, no_member}
 use Rattle.ipnetwork_c.specs.Held.{PrefixFits, number_of_octets}
 use Rattle.ipnetwork_c.specs.Outcomes.{Writes, Unless, IsFault, Needs}
 use Rattle.ipnetwork_c.specs.Answers.{IfFit}
-use Rattle.ipnetwork_c.specs.Columns.{AnswersEach}
+use Rattle.ipnetwork_c.specs.Columns.{AsksEach}
 use Rattle.ipnetwork_c.specs.Searches.{ComesTo, LastFits}
 
 -- blocks in ascending order, by address and then by prefix length: some may lie in others
@@ -34,9 +34,7 @@ TableQuery w held list x before after code =
 
 -- each address is asked as the call for one asks it, with an index and a fault of its own, if there is room for these
 abbrev pub TableRows : {C : Type 0} → ℕ → (C → Network) → List C → List (List ℕ) → List ℕ × List ℕ → List ℕ × List ℕ → ℕ → Type 0
-TableRows w held list addresses before =
-    Needs ((length addresses ≤ length before.0) × (length addresses ≤ length before.1)) short_buffer
-    (Writes (λ after. AnswersEach (λ i. TableQuery w held list (number_of_octets (get_or addresses i []))) (length addresses) before.0 after.0 before.1 after.1)) before
+TableRows w held list = AsksEach [] (λ octets. TableQuery w held list (number_of_octets octets))
 
 -- the block of the network at a place; of a place past the last that of all addresses
 abbrev pub row_block : ℕ → List Network → ℕ → Network

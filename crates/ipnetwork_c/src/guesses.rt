@@ -3,8 +3,8 @@
 ghost use Rattle.std.specs.Prelude.{◌<◌, length};
 
 use crate::begun::guess_by_three;
-use crate::structs::{Ipv4InC, Ipv6InC, number_of, number_of_four};
-use ipnetwork::{Ipv4Network, Ipv6Network};
+use crate::guessed::Guessed;
+use ipnetwork_blocks::AddressSpace;
 
 // For how many rows guesses are made at once.
 const ROWS: usize = 64;
@@ -24,34 +24,17 @@ impl Guesses {
 
     /// The guess for a row. Of the rows in order, the first of each `ROWS` has them made for all.
     #[inline(always)]
-    pub(crate) fn v4(
+    pub(crate) fn of_row<N: AddressSpace, H: Guessed<N>>(
         &mut self,
-        list: &[Ipv4InC],
+        list: &[H],
         index: &[u32],
-        addresses: &[[u8; 4]],
+        addresses: &[H::Octets],
         row: usize,
     ) -> usize
         requires { row < length addresses.now }
     {
         if row % ROWS == 0 {
-            guess_v4_rows(list, index, &addresses[row..], &mut self.rows);
-        }
-        self.rows[row % ROWS]
-    }
-
-    /// The same for IPv6.
-    #[inline(always)]
-    pub(crate) fn v6(
-        &mut self,
-        list: &[Ipv6InC],
-        index: &[u32],
-        addresses: &[[u8; 16]],
-        row: usize,
-    ) -> usize
-        requires { row < length addresses.now }
-    {
-        if row % ROWS == 0 {
-            guess_v6_rows(list, index, &addresses[row..], &mut self.rows);
+            guess_rows::<N, H>(list, index, &addresses[row..], &mut self.rows);
         }
         self.rows[row % ROWS]
     }
@@ -59,26 +42,13 @@ impl Guesses {
 
 // Guesses for the first of these addresses.
 #[inline(never)]
-fn guess_v4_rows(
-    list: &[Ipv4InC],
+fn guess_rows<N: AddressSpace, H: Guessed<N>>(
+    list: &[H],
     index: &[u32],
-    addresses: &[[u8; 4]],
+    addresses: &[H::Octets],
     guesses: &mut [usize; ROWS],
 ) {
     for (row, address) in addresses.iter().take(ROWS).enumerate() {
-        guesses[row] = guess_by_three::<Ipv4Network, Ipv4InC>(list, index, number_of_four(address));
-    }
-}
-
-// The same for IPv6.
-#[inline(never)]
-fn guess_v6_rows(
-    list: &[Ipv6InC],
-    index: &[u32],
-    addresses: &[[u8; 16]],
-    guesses: &mut [usize; ROWS],
-) {
-    for (row, address) in addresses.iter().take(ROWS).enumerate() {
-        guesses[row] = guess_by_three::<Ipv6Network, Ipv6InC>(list, index, number_of(address));
+        guesses[row] = guess_by_three::<N, H>(list, index, H::number_in(address));
     }
 }

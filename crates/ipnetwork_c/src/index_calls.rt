@@ -3,8 +3,7 @@ ghost use Rattle.ipnetwork_c.specs.Held.{v4_in, v6_in, number_of_octets};
 ghost use Rattle.ipnetwork_c.specs.Lists.{SetQuery};
 ghost use Rattle.ipnetwork_c.specs.Tables.{TableQuery};
 
-use crate::fault::{OK, PREFIX};
-use crate::structs::{Ipv4InC, Ipv6InC, address_of, number_of, number_of_four};
+use crate::structs::{Ipv4InC, Ipv6InC, address_of};
 use crate::{sets, tables};
 use ipnetwork::{Ipv4Addr, Ipv4Network, Ipv6Network};
 
@@ -22,13 +21,7 @@ pub extern "C" fn ipnetwork_v4_index_contains(
     ensures { SetQuery 32 v4_in blocks.now
         (number_of_octets address.now) answer.old answer.new result }
 {
-    match sets::contains::<Ipv4Network, Ipv4InC>(blocks, index, number_of_four(address)) {
-        Some(found) => {
-            *answer = found;
-            OK
-        }
-        None => PREFIX,
-    }
+    sets::contains::<Ipv4Network, Ipv4InC>(blocks, index, address, answer)
 }
 
 /// The same for IPv6, of `ipnetwork_v6_set_contains`.
@@ -43,13 +36,7 @@ pub extern "C" fn ipnetwork_v6_index_contains(
     ensures { SetQuery 128 v6_in blocks.now
         (number_of_octets address.now) answer.old answer.new result }
 {
-    match sets::contains::<Ipv6Network, Ipv6InC>(blocks, index, number_of(address)) {
-        Some(found) => {
-            *answer = found;
-            OK
-        }
-        None => PREFIX,
-    }
+    sets::contains::<Ipv6Network, Ipv6InC>(blocks, index, address, answer)
 }
 
 /// What `ipnetwork_v4_table_find` finds, by an index of the blocks, as `ipnetwork_v4_index_make` makes it. Whatever the

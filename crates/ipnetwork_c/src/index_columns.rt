@@ -2,17 +2,15 @@
 ghost use Rattle.ipnetwork_c.specs.Held.{v4_in, v6_in, number_of_octets};
 ghost use Rattle.ipnetwork_c.specs.Indexes.{SetRows};
 ghost use Rattle.ipnetwork_c.specs.Lists.{SetQuery};
-ghost use Rattle.ipnetwork_c.specs.Tables.{TableQuery, TableRows};
+ghost use Rattle.ipnetwork_c.specs.Tables.{TableRows};
 
-use crate::fault::{OK, PREFIX, SHORT_BUFFER};
+use crate::fault::{OK, SHORT_BUFFER};
 use crate::guesses::Guesses;
 use crate::halves::{self, Parts};
-use crate::index_calls::{
-    ipnetwork_v4_index_find, ipnetwork_v6_index_contains, ipnetwork_v6_index_find,
-};
 use crate::sets;
 use crate::structs::{Ipv4InC, Ipv6InC, number_of_four};
-use ipnetwork::Ipv4Network;
+use crate::table_columns::find_each;
+use ipnetwork::{Ipv4Network, Ipv6Network};
 
 /// For each of these addresses whether it is in the set of a list, by an index of the list: answer i and fault i are what
 /// `ipnetwork_v4_index_contains` leaves and returns of address i, so that a refusal stops nothing. Of a list that is not
@@ -34,7 +32,7 @@ pub extern "C" fn ipnetwork_v4_index_contains_column(
     }
     let mut guesses = Guesses::new();
     for (row, address) in addresses.iter().enumerate() {
-        let guess = guesses.v4(blocks, index, addresses, row);
+        let guess = guesses.of_row::<Ipv4Network, Ipv4InC>(blocks, index, addresses, row);
         faults[row] = v4_contains(blocks, index, address, guess, &mut answers[row]);
     }
     OK
@@ -53,13 +51,7 @@ fn v4_contains(
         (number_of_octets address.now) answer.old answer.new result }
 {
     let number = number_of_four(address);
-    match sets::contains_near::<Ipv4Network, Ipv4InC>(blocks, index, number, guess) {
-        Some(found) => {
-            *answer = found;
-            OK as u8
-        }
-        None => PREFIX as u8,
-    }
+    sets::contains_near::<Ipv4Network, Ipv4InC>(blocks, index, number, guess, answer) as u8
 }
 
 /// The same of IPv6, as `ipnetwork_v6_index_contains` answers.
@@ -101,7 +93,7 @@ fn v6_contains(
             return OK as u8;
         }
     }
-    ipnetwork_v6_index_contains(blocks, index, address, answer) as u8
+    sets::contains::<Ipv6Network, Ipv6InC>(blocks, index, address, answer) as u8
 }
 
 /// For each of these addresses the place of the longest block of a table that has it, by an index of the table: place i
@@ -119,22 +111,7 @@ pub extern "C" fn ipnetwork_v4_index_find_column(
     ensures { TableRows 32 v4_in blocks.now addresses.now (places.old, faults.old)
         (places.new, faults.new) result }
 {
-    if places.len() < addresses.len() || faults.len() < addresses.len() {
-        return SHORT_BUFFER;
-    }
-    for (row, address) in addresses.iter().enumerate() {
-        faults[row] = v4_find(blocks, index, address, &mut places[row]);
-    }
-    OK
-}
-
-// The fault of the call for one address, as a byte.
-#[inline(always)]
-fn v4_find(blocks: &[Ipv4InC], index: &[u32], address: &[u8; 4], place: &mut usize) -> u8
-    ensures { TableQuery 32 v4_in blocks.now
-        (number_of_octets address.now) place.old place.new result }
-{
-    ipnetwork_v4_index_find(blocks, index, address, place) as u8
+    find_each::<Ipv4Network, Ipv4InC>(blocks, index, addresses, places, faults)
 }
 
 /// The same of IPv6, as `ipnetwork_v6_index_find` finds blocks.
@@ -149,20 +126,5 @@ pub extern "C" fn ipnetwork_v6_index_find_column(
     ensures { TableRows 128 v6_in blocks.now addresses.now (places.old, faults.old)
         (places.new, faults.new) result }
 {
-    if places.len() < addresses.len() || faults.len() < addresses.len() {
-        return SHORT_BUFFER;
-    }
-    for (row, address) in addresses.iter().enumerate() {
-        faults[row] = v6_find(blocks, index, address, &mut places[row]);
-    }
-    OK
-}
-
-// The fault of the call for one address, as a byte.
-#[inline(always)]
-fn v6_find(blocks: &[Ipv6InC], index: &[u32], address: &[u8; 16], place: &mut usize) -> u8
-    ensures { TableQuery 128 v6_in blocks.now
-        (number_of_octets address.now) place.old place.new result }
-{
-    ipnetwork_v6_index_find(blocks, index, address, place) as u8
+    find_each::<Ipv6Network, Ipv6InC>(blocks, index, addresses, places, faults)
 }

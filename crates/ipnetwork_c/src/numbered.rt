@@ -1,9 +1,10 @@
 //! The addresses of the structs of C as bare numbers, so that a search compares several without a branch.
-ghost use Rattle.std.specs.Prelude.{◌≡◌, ◌↔◌, ◌+◌, ◌-◌, ◌/◌, ◌^◌, ◌<◌, ◌≤◌, IsTrue, min};
+ghost use Rattle.std.specs.Prelude.{◌≡◌, ◌↔◌, ◌+◌, ◌-◌, ◌/◌, ◌^◌, ◌<◌, ◌≤◌, [], IsTrue, min};
 ghost use Rattle.ipnetwork_family.specs.Network.{Member};
+ghost use Rattle.ipnetwork_c.specs.Held.{number_of_octets};
 
 use crate::listed::Listed;
-use crate::structs::{Ipv4InC, Ipv6InC, number_of, number_of_four};
+use crate::structs::{Ipv4InC, Ipv6InC, address_of, number_of, number_of_four};
 use ipnetwork::{Ipv4Addr, Ipv4Network, Ipv6Addr, Ipv6Network};
 use ipnetwork_blocks::AddressSpace;
 
@@ -14,8 +15,17 @@ pub(crate) trait Numbered<N: AddressSpace>: Listed<N> {
     /// The bare numbers of the family.
     type Number: Copy;
 
+    /// The octets of an address, as C passes it.
+    type Octets;
+
     // What a bare number means.
     ghost value: { Self.Number → ℕ };
+
+    // The number that octets mean.
+    ghost meant: { Self.Octets → ℕ };
+
+    // What stands behind the last of some octets.
+    ghost no_octets: { Self.Octets };
 
     /// The number of the address as it stands, whatever the prefix length is.
     fn own_number(&self) -> Self::Number
@@ -25,6 +35,14 @@ pub(crate) trait Numbered<N: AddressSpace>: Listed<N> {
     /// The number of an address.
     fn number_of(addr: N::Addr) -> Self::Number
         ensures { value result ≡ N.number addr };
+
+    /// The number of octets.
+    fn number_in(octets: &Self::Octets) -> Self::Number
+        ensures { value result ≡ meant octets.now };
+
+    /// The address of octets.
+    fn address_in(octets: &Self::Octets) -> N::Addr
+        ensures { N.number result ≡ meant octets.now };
 
     /// Whether the first number is the second one, or comes before it.
     fn is_up_to(first: Self::Number, second: Self::Number) -> bool
@@ -49,7 +67,13 @@ pub(crate) trait Numbered<N: AddressSpace>: Listed<N> {
 impl Numbered<Ipv4Network> for Ipv4InC {
     type Number = u32;
 
+    type Octets = [u8; 4];
+
     ghost value = { λ number. number };
+
+    ghost meant = { λ octets. number_of_octets octets };
+
+    ghost no_octets = { [] };
 
     fn own_number(&self) -> u32 {
         number_of_four(&self.address)
@@ -57,6 +81,16 @@ impl Numbered<Ipv4Network> for Ipv4InC {
 
     fn number_of(addr: Ipv4Addr) -> u32 {
         u32::from(addr)
+    }
+
+    #[inline(always)]
+    fn number_in(octets: &[u8; 4]) -> u32 {
+        number_of_four(octets)
+    }
+
+    #[inline(always)]
+    fn address_in(octets: &[u8; 4]) -> Ipv4Addr {
+        Ipv4Addr::from(*octets)
     }
 
     fn is_up_to(first: u32, second: u32) -> bool {
@@ -80,7 +114,13 @@ impl Numbered<Ipv4Network> for Ipv4InC {
 impl Numbered<Ipv6Network> for Ipv6InC {
     type Number = u128;
 
+    type Octets = [u8; 16];
+
     ghost value = { λ number. number };
+
+    ghost meant = { λ octets. number_of_octets octets };
+
+    ghost no_octets = { [] };
 
     fn own_number(&self) -> u128 {
         number_of(&self.address)
@@ -88,6 +128,16 @@ impl Numbered<Ipv6Network> for Ipv6InC {
 
     fn number_of(addr: Ipv6Addr) -> u128 {
         u128::from(addr)
+    }
+
+    #[inline(always)]
+    fn number_in(octets: &[u8; 16]) -> u128 {
+        number_of(octets)
+    }
+
+    #[inline(always)]
+    fn address_in(octets: &[u8; 16]) -> Ipv6Addr {
+        address_of(octets)
     }
 
     fn is_up_to(first: u128, second: u128) -> bool {

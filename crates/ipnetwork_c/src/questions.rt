@@ -13,6 +13,47 @@ use crate::fault::OK;
 use crate::order::number_between;
 use crate::structs::IpInC;
 use crate::text;
+use ipnetwork::IpNetwork;
+
+// Writes what is told of the network that a struct stands for.
+#[inline(always)]
+fn tell<T: Copy, F: FnOnce(IpNetwork) -> T>(held: &IpInC, place: &mut T, told: F) -> u32
+    requires { F.IsAlwaysCallable told }
+    ensures { OfNetwork held.now (λ n. Writes (F.post told n)) place.old place.new result }
+{
+    match held.network() {
+        Ok(network) => {
+            *place = told(network);
+            OK
+        }
+        Err(fault) => fault,
+    }
+}
+
+// The same of two.
+#[inline(always)]
+fn tell_both<T: Copy, F: FnOnce(IpNetwork, IpNetwork) -> T>(
+    one: &IpInC,
+    other: &IpInC,
+    place: &mut T,
+    told: F,
+) -> u32
+    requires { F.IsAlwaysCallable told }
+    ensures { OfNetwork one.now
+        (λ a. OfNetwork other.now (λ b. Writes (F.post told a b))) place.old place.new result }
+{
+    let one = match one.network() {
+        Ok(network) => network,
+        Err(fault) => return fault,
+    };
+    match other.network() {
+        Ok(other) => {
+            *place = told(one, other);
+            OK
+        }
+        Err(fault) => fault,
+    }
+}
 
 /// Writes the canonical text and a zero byte after it to `buffer`, of which 44 bytes are enough, and the length of the
 /// text, without the zero byte, to `length`. `SHORT_BUFFER` if the buffer has no room for both: then only the length is
@@ -34,13 +75,7 @@ pub extern "C" fn ipnetwork_network(network: &IpInC, address: &mut AddressInC) -
     ensures { OfNetwork network.now
         (λ n. Writes (λ held. HoldsAddress held (ip_low n))) address.old address.new result }
 {
-    match network.network() {
-        Ok(network) => {
-            *address = AddressInC::of(network.network());
-            OK
-        }
-        Err(fault) => fault,
-    }
+    tell(network, address, |n| AddressInC::of(n.network()))
 }
 
 /// The greatest member: the address with its host bits set.
@@ -49,13 +84,7 @@ pub extern "C" fn ipnetwork_broadcast(network: &IpInC, address: &mut AddressInC)
     ensures { OfNetwork network.now
         (λ n. Writes (λ held. HoldsAddress held (ip_high n))) address.old address.new result }
 {
-    match network.network() {
-        Ok(network) => {
-            *address = AddressInC::of(network.broadcast());
-            OK
-        }
-        Err(fault) => fault,
-    }
+    tell(network, address, |n| AddressInC::of(n.broadcast()))
 }
 
 /// The mask, in the network's family.
@@ -64,13 +93,7 @@ pub extern "C" fn ipnetwork_mask(network: &IpInC, mask: &mut AddressInC) -> u32
     ensures { OfNetwork network.now
         (λ n. Writes (λ held. HoldsAddress held (ip_mask_of n))) mask.old mask.new result }
 {
-    match network.network() {
-        Ok(network) => {
-            *mask = AddressInC::of(network.mask());
-            OK
-        }
-        Err(fault) => fault,
-    }
+    tell(network, mask, |n| AddressInC::of(n.mask()))
 }
 
 /// Whether each member of the first network is a member of the second, as 1 or 0: 0 if they are of different families.
@@ -81,17 +104,7 @@ pub extern "C" fn ipnetwork_is_subnet_of(inner: &IpInC, outer: &IpInC, answer: &
         (λ a. OfNetwork outer.now
         (λ b. Writes (IsFlag (IpSubnet a b)))) answer.old answer.new result }
 {
-    let inner = match inner.network() {
-        Ok(network) => network,
-        Err(fault) => return fault,
-    };
-    match outer.network() {
-        Ok(outer) => {
-            *answer = u8::from(inner.is_subnet_of(outer));
-            OK
-        }
-        Err(fault) => fault,
-    }
+    tell_both(inner, outer, answer, |a, b| u8::from(a.is_subnet_of(b)))
 }
 
 /// Whether some address is a member of both, as 1 or 0. The first struct is checked first.
@@ -101,17 +114,7 @@ pub extern "C" fn ipnetwork_overlaps(one: &IpInC, other: &IpInC, answer: &mut u8
         (λ a. OfNetwork other.now
         (λ b. Writes (IsFlag (IpOverlap a b)))) answer.old answer.new result }
 {
-    let one = match one.network() {
-        Ok(network) => network,
-        Err(fault) => return fault,
-    };
-    match other.network() {
-        Ok(other) => {
-            *answer = u8::from(one.overlaps(other));
-            OK
-        }
-        Err(fault) => fault,
-    }
+    tell_both(one, other, answer, |a, b| u8::from(a.overlaps(b)))
 }
 
 /// Which of two networks comes first: -1 the first, 1 the second, 0 if they are equal. Each IPv4 network is before each
@@ -123,15 +126,5 @@ pub extern "C" fn ipnetwork_compare(one: &IpInC, other: &IpInC, order: &mut i32)
         (λ b. Writes (λ told. told ≡ order_number (ip_network_cmp a b)))) order.old order.new
         result }
 {
-    let one = match one.network() {
-        Ok(network) => network,
-        Err(fault) => return fault,
-    };
-    match other.network() {
-        Ok(other) => {
-            *order = number_between(one, other);
-            OK
-        }
-        Err(fault) => fault,
-    }
+    tell_both(one, other, order, |a, b| number_between(a, b))
 }

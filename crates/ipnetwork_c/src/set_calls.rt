@@ -2,9 +2,8 @@
 ghost use Rattle.ipnetwork_c.specs.Held.{v4_in, v6_in, number_of_octets};
 ghost use Rattle.ipnetwork_c.specs.Lists.{SetQuery};
 
-use crate::fault::{OK, PREFIX};
 use crate::sets;
-use crate::structs::{Ipv4InC, Ipv6InC, number_of, number_of_four};
+use crate::structs::{Ipv4InC, Ipv6InC};
 use ipnetwork::{Ipv4Network, Ipv6Network};
 
 /// Whether an address lies in the set of a list that is that of a set, as `ipnetwork_v4_aggregate` leaves it: 1 or 0.
@@ -20,13 +19,7 @@ pub extern "C" fn ipnetwork_v4_set_contains(
     ensures { SetQuery 32 v4_in blocks.now
         (number_of_octets address.now) answer.old answer.new result }
 {
-    match sets::contains::<Ipv4Network, Ipv4InC>(blocks, &[], number_of_four(address)) {
-        Some(found) => {
-            *answer = found;
-            OK
-        }
-        None => PREFIX,
-    }
+    sets::contains::<Ipv4Network, Ipv4InC>(blocks, &[], address, answer)
 }
 
 /// The same for IPv6, for prefix lengths up to 128.
@@ -39,11 +32,5 @@ pub extern "C" fn ipnetwork_v6_set_contains(
     ensures { SetQuery 128 v6_in blocks.now
         (number_of_octets address.now) answer.old answer.new result }
 {
-    match sets::contains::<Ipv6Network, Ipv6InC>(blocks, &[], number_of(address)) {
-        Some(found) => {
-            *answer = found;
-            OK
-        }
-        None => PREFIX,
-    }
+    sets::contains::<Ipv6Network, Ipv6InC>(blocks, &[], address, answer)
 }

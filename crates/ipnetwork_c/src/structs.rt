@@ -38,17 +38,6 @@ impl Ipv4InC {
     {
         Ipv4Network::new_checked(Ipv4Addr::from(self.address), self.prefix)
     }
-
-    /// Whether an address of 4 octets lies in the network's set, of a struct whose prefix length was checked.
-    pub(crate) fn has(&self, address: &[u8; 4]) -> bool
-        requires { PrefixFits 32 (v4_in self.now) }
-        ensures { IsTrue result ↔ Member 32 (v4_in self.now) (number_of_octets address.now) }
-    {
-        match self.network() {
-            Some(network) => network.contains(Ipv4Addr::from(*address)),
-            None => unreachable!(),
-        }
-    }
 }
 
 /// An IPv6 network as C holds it. Nothing is known of its prefix length.

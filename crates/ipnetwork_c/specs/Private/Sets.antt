@@ -1,6 +1,7 @@
 -- Where a search of a list of networks stands, and where it ends.
-use Rattle.std.specs.Prelude.{◌≡◌, ℕ, ◌-◌, ◌<◌, ◌≤◌, List, slice_get, Some}
+use Rattle.std.specs.Prelude.{◌≡◌, ℕ, ◌-◌, ◌<◌, ◌≤◌, List, MatchOption, Option, slice_get, Some}
 use Rattle.ipnetwork_family.specs.Network.{Network}
+use Rattle.ipnetwork_c.specs.Lists.{FindsIn}
 use Rattle.ipnetwork_c.specs.Searches.{StandsAt, LastFits}
 
 -- the search for x ends at a network whose prefix length fits, or at none
@@ -10,6 +11,11 @@ EndFits w networks x = (i : ℕ) × StandsAt networks x i × LastFits w networks
 -- it ends at one whose prefix length does not fit
 abbrev pub EndDoesNotFit : ℕ → List Network → ℕ → Type 0
 EndDoesNotFit w networks x = (i : ℕ) × StandsAt networks x i × ¬ (LastFits w networks i)
+
+-- the byte says whether x lies in the set of the networks, if the search for x ends at a prefix length that fits; there is
+-- none if it does not
+abbrev pub SetAnswer : ℕ → List Network → ℕ → Option ℕ → Type 0
+SetAnswer w networks x found = MatchOption found (EndDoesNotFit w networks x) (λ byte. EndFits w networks x × FindsIn w networks x byte)
 
 -- the last of the first i networks, if there is one, begins at x or before it
 abbrev pub LastUpTo : List Network → ℕ → ℕ → Type 0

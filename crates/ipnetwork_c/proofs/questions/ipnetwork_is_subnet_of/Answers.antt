@@ -1,13 +1,10 @@
-use Rattle.std.proofs.Common.{refl}
+use Rattle.std.proofs.Common.{rules}
 use Rattle.ipnetwork_c.specs.Outcomes.Unless.{On, Nothing}
 use Rattle.ipnetwork_c.proofs.Truths.{says}
 use Rattle.ipnetwork_c.proofs.questions.ipnetwork_is_subnet_of.Goals as goal
 
-pub returns-in-Ok-network : goal.returns-in-Ok-network
-returns-in-Ok-network c = On (_, c.in-Ok.ensures, On (_, c.in-Ok-network.ensures, (refl, says _ _ _ c.from.ensures c.is_subnet_of.ensures)))
-
-pub returns-in-Err : goal.returns-in-Err
-returns-in-Err c = Nothing c.in-Err.ensures refl
-
-pub returns-in-Err-network : goal.returns-in-Err-network
-returns-in-Err-network c = On (_, c.in-Ok.ensures, Nothing c.in-Err-network.ensures refl)
+pub returns : goal.returns
+returns c = elim c.tell_both.ensures [
+  | On h ↦ On (h.0, h.1, elim h.2 [ On k ↦ On (k.0, k.1, (k.2.0, search (rules, says, k.2.1))) | Nothing r e ↦ Nothing r e ])
+  | Nothing r e ↦ Nothing r e
+]

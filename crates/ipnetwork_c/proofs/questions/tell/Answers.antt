@@ -1,0 +1,6 @@
+use Rattle.std.proofs.Common.{refl}
+use Rattle.ipnetwork_c.specs.Outcomes.Unless.{Nothing}
+use Rattle.ipnetwork_c.proofs.questions.tell.Goals as goal
+
+pub returns-in-Err : goal.returns-in-Err
+returns-in-Err g c = Nothing c.in-Err.ensures refl

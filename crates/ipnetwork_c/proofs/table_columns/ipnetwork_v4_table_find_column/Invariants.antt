@@ -1,8 +1,0 @@
-use Rattle.std.proofs.Common.{[], get_or}
-use Rattle.ipnetwork_c.specs.Columns.{AnswersEach}
-use Rattle.ipnetwork_c.specs.Held.{v4_in, number_of_octets}
-use Rattle.ipnetwork_c.specs.Tables.{TableQuery}
-use Rattle.ipnetwork_c.proofs.table_columns.ipnetwork_v4_table_find_column.Given as goal
-
-abbrev pub invariant-loop-row : goal.invariant-loop-row
-invariant-loop-row l = AnswersEach (λ i. TableQuery 32 v4_in l.blocks (number_of_octets (get_or l.addresses i []))) l.row l.initial.indexes l.indexes l.initial.faults l.faults

@@ -1,7 +1,0 @@
-use Rattle.std.proofs.Common.{arith}
-use Rattle.ipnetwork_c.specs.Held.{v4_in}
-use Rattle.ipnetwork_c.proofs.TableFinding.{fault_is_byte}
-use Rattle.ipnetwork_c.proofs.table_columns.v4_find.Goals as goal
-
-pub overflow_cast-result : goal.overflow_cast-result
-overflow_cast-result c = let small = fault_is_byte 32 v4_in c.args.blocks.now _ c.ipnetwork_v4_table_find.ensures in omega arith
