@@ -16,6 +16,7 @@ pub mod ExcludedCounts
 pub mod ExcludedParts
 pub mod FollowingBlock
 pub mod HalfBlocks
+pub mod HalfParts
 pub mod HostLaws
 pub mod HostLists
 pub mod IpLawExamples

@@ -1,6 +1,6 @@
 -- How many blocks a range has.
-use Rattle.std.proofs.Common.{◌≡◌, ℕ, zero, suc, ◌+◌, ◌-◌, ◌*◌, ◌^◌, ◌<◌, ◌≤◌, ◌⊎◌, inl, inr, refl, ap, ◌∙◌, arith, ⊎_elim, List, [], ◌∷◌, ◌++◌, length, Bool, true, false, leb, ◌&&◌, cond}
-use Rattle.std.proofs.lemmas.Bool.{cases_lt, leb-true, le-leb, and_parts}
+use Rattle.std.proofs.Common.{◌≡◌, ℕ, zero, suc, ◌+◌, ◌-◌, ◌*◌, ◌^◌, ◌<◌, ◌≤◌, ◌⊎◌, inl, inr, refl, ap, ◌∙◌, arith, ⊎_elim, List, [], ◌∷◌, ◌++◌, length, Bool, true, false, leb, cond}
+use Rattle.std.proofs.lemmas.Bool.{cases_lt, leb-true, and_parts}
 use Rattle.std.proofs.lemmas.List.{length-append}
 use Rattle.std.proofs.lemmas.Nat.{pow_pos}
 use Rattle.std.proofs.Math.Pow.{pow_mono}
@@ -9,15 +9,13 @@ use Rattle.ipnetwork_blocks.specs.LeastListLaws.{RangeHasAtMost, AllButTheEndsHa
 use Rattle.ipnetwork_blocks.specs.Private.RangeList.{has_all, blocks_within, blocks_from_to}
 use Rattle.ipnetwork_blocks.specs.Ranges.{FromTo}
 use Rattle.ipnetwork_blocks.proofs.BlocksFrom.{block_from, Begins, twice, lower_begins, upper_begins}
+use Rattle.ipnetwork_blocks.proofs.HalfParts.{PartOf, whole_part}
 use Rattle.ipnetwork_blocks.proofs.LeastLists.{least_unique, least_of_none}
-use Rattle.ipnetwork_blocks.proofs.RangeLists.{Part, whole_part, least_within, least_from_to}
+use Rattle.ipnetwork_blocks.proofs.RangeLists.{least_within, least_from_to}
 
 -- how many blocks of the range lie in the block with k host bits
 abbrev count : ℕ → ℕ → ℕ → ℕ → ℕ → ℕ
 count w k base first last = length (blocks_within w k base first last)
-
-has : (base size first last : ℕ) → first ≤ base → base + size ≤ last + 1 → has_all base size first last ≡ true
-has base size first last h k = ap (λ t. t && leb (base + size) (last + 1)) (le-leb first base h) ∙ le-leb (base + size) (last + 1) k
 
 has_not : (base size first last : ℕ) → (first ≤ base → base + size ≤ last + 1 → ⊥) → has_all base size first last ≡ false
 has_not base size first last fails = go (has_all base size first last) (λ t.
@@ -31,14 +29,14 @@ has_not base size first last fails = go (has_all base size first last) (λ t.
 -- one for a block that lies in the range, none for a block outside it, and else those of the halves
 whole : (w k base first last : ℕ) → Begins w k base → first ≤ base → base + 2 ^ k ≤ last + 1 → count w k base first last ≡ 1
 whole w k base first last h from to =
-    ap length (least_unique w (Part k base first last) (blocks_within w k base first last) (block_from w k base ∷ [])
-    (least_within w k base first last h) (whole_part w k base first last h (has base (2 ^ k) first last from to)))
+    ap length (least_unique w (PartOf (FromTo first last) k base) (blocks_within w k base first last) (block_from w k base ∷ [])
+    (least_within w k base first last h) (whole_part (FromTo first last) w k base h (λ x l m. (omega arith, omega arith))))
 
 outside : (w k base first last : ℕ) → Begins w k base → (last < base) ⊎ (base + 2 ^ k ≤ first) → count w k base first last ≡ 0
 outside w k base first last h o =
-    ap length (least_unique w (Part k base first last) (blocks_within w k base first last) []
+    ap length (least_unique w (PartOf (FromTo first last) k base) (blocks_within w k base first last) []
     (least_within w k base first last h)
-    (least_of_none w (Part k base first last) (λ x p.
+    (least_of_none w (PartOf (FromTo first last) k base) (λ x p.
     let a = p.0.0 in
     let b = p.0.1 in
     let c = p.1.0 in

@@ -1,5 +1,5 @@
 -- The blocks of a range are its least list.
-use Rattle.std.proofs.Common.{◌≡◌, ◌↔◌, ℕ, zero, suc, ◌+◌, ◌-◌, ◌^◌, ◌<◌, ◌≤◌, ◌⊎◌, inl, inr, sym, refl, ap, subst, ◌∙◌, arith, ⊎_elim, List, [], ◌∷◌, ◌++◌, length, Some, Bool, true, false, leb, ◌&&◌, cond}
+use Rattle.std.proofs.Common.{◌≡◌, ℕ, zero, suc, ◌+◌, ◌-◌, ◌^◌, ◌<◌, ◌≤◌, ◌⊎◌, inl, inr, sym, refl, ap, subst, ◌∙◌, arith, ⊎_elim, List, [], ◌∷◌, ◌++◌, length, Some, Bool, true, false, leb, ◌&&◌, cond}
 use Rattle.std.proofs.lemmas.Bool.{cases_lt, leb-true, le-leb, and_parts}
 use Rattle.std.proofs.lemmas.Nat.{pow_pos}
 use Rattle.std.specs.Iterator.{MakesProgress, item_count}
@@ -9,14 +9,11 @@ use Rattle.ipnetwork_family.proofs.BlocksAt.{block_at_network, block_at_holds, b
 use Rattle.ipnetwork_blocks.specs.LeastList.{LiesIn, IsMaximalIn, IsLeastList}
 use Rattle.ipnetwork_blocks.specs.Ranges.{FromTo}
 use Rattle.ipnetwork_blocks.specs.Private.RangeList.{blocks_within, blocks_from_to}
-use Rattle.ipnetwork_blocks.proofs.BlocksFrom.{block_from, Begins, from_network, from_block, in_from, from_in, twice, lower_begins, upper_begins}
-use Rattle.ipnetwork_blocks.proofs.LeastLists.{own_address, least_of_same, least_unique, least_of_none, least_of_one, least_of_two}
+use Rattle.ipnetwork_blocks.proofs.BlocksFrom.{block_from, Begins, lower_begins, upper_begins}
+use Rattle.ipnetwork_blocks.proofs.HalfParts.{PartOf, HasAll, whole_part, no_part, least_of_halves}
+use Rattle.ipnetwork_blocks.proofs.LeastLists.{least_of_same, least_unique, least_of_none, least_of_one, least_of_two}
 
 -- ---- the list by halves
-
--- the addresses from first to last that lie in a block with k host bits
-abbrev pub Part : ℕ → ℕ → ℕ → ℕ → ℕ → Type 0
-Part k base first last x = ((first ≤ x) × (x ≤ last)) × ((base ≤ x) × (x < base + 2 ^ k))
 
 pub cond_by : {X : Type 0} (P : X → Type 0) (t : Bool) (x y : X) → (t ≡ true → P x) → (t ≡ false → P y) → P (cond t x y)
 cond_by P true x y f g = f refl
@@ -25,101 +22,41 @@ cond_by P false x y f g = g refl
 not_both : (a b c d : ℕ) → leb a b && leb c d ≡ false → a ≤ b → c ≤ d → ⊥
 not_both a b c d e h k = let t : leb a b && leb c d ≡ true = ap (λ x. x && leb c d) (le-leb a b h) ∙ le-leb c d k in cc
 
--- the whole block lies in the range
-pub whole_part : (w k base first last : ℕ) → Begins w k base → leb first base && leb (base + 2 ^ k) (last + 1) ≡ true
-    → IsLeastList w (Part k base first last) (block_from w k base ∷ [])
-whole_part w k base first last h t =
+-- not each address of a block lies in the range
+not_all : (k base first last : ℕ) → leb first base && leb (base + 2 ^ k) (last + 1) ≡ false → ¬ (HasAll (FromTo first last) k base)
+not_all k base first last t all =
+    let pos = pow_pos k in
+    let a = all base (omega arith) (omega arith) in
+    let b = all (base + 2 ^ k - 1) (omega arith) (omega arith) in
+    not_both first base (base + 2 ^ k) (last + 1) t a.0 (omega (arith, b.1))
+
+-- or each does
+whole_lies : (w k base first last : ℕ) → Begins w k base → leb first base && leb (base + 2 ^ k) (last + 1) ≡ true
+    → IsLeastList w (PartOf (FromTo first last) k base) (block_from w k base ∷ [])
+whole_lies w k base first last h t =
     let both = and_parts (leb first base) (leb (base + 2 ^ k) (last + 1)) t in
     let from : first ≤ base = leb-true first base both.0 in
     let to : base + 2 ^ k ≤ last + 1 = leb-true (base + 2 ^ k) (last + 1) both.1 in
-    least_of_same w (Member w (block_from w k base)) (Part k base first last) (block_from w k base ∷ [])
-    (λ x. (
-      (λ m. let i = in_from w k base x h m in ((omega arith, omega arith), (i.0, i.1))),
-      (λ p. from_in w k base x h p.1.0 p.1.1),
-    ))
-    (least_of_one w (block_from w k base) (from_network w k base h) (from_block w k base h))
+    whole_part (FromTo first last) w k base h (λ x l m. (omega arith, omega arith))
 
--- one address that does not
-no_part : (w base first last : ℕ) → leb first base && leb (base + 2 ^ 0) (last + 1) ≡ false → IsLeastList w (Part 0 base first last) []
-no_part w base first last t =
-    least_of_none w (Part 0 base first last)
-    (λ x p. let a = p.0.0 in let b = p.0.1 in let c = p.1.0 in let d = p.1.1 in not_both first base (base + 2 ^ 0) (last + 1) t (omega arith) (omega arith))
-
--- a network of the range within a block that does not lie in the range: it lies in one of the halves
-in_a_half : (w k base first last : ℕ) → Begins w (suc k) base → leb first base && leb (base + 2 ^ suc k) (last + 1) ≡ false
-    → (n : Network) → IsNetwork w n → LiesIn w (Part (suc k) base first last) n
-    → LiesIn w (Part k base first last) n ⊎ LiesIn w (Part k (base + 2 ^ k) first last) n
-in_a_half w k base first last h t n nn lies =
-    let own : Member w n n.address = own_address w n nn in
-    let at : Part (suc k) base first last n.address = lies n.address own in
-    let wide : Network = block_from w (suc k) base in
-    let wn : IsNetwork w wide = from_network w (suc k) base h in
-    let bits = h.bits in
-    let two = twice k in
-    let pos = pow_pos k in
-    let from = at.1.0 in
-    let to = at.1.1 in
-    let lower = lower_begins w k base h in
-    let upper = upper_begins w k base h in
-    let Goal : Type 0 = LiesIn w (Part k base first last) n ⊎ LiesIn w (Part k (base + 2 ^ k) first last) n in
-    ⊎_elim
-    (λ (short : n.prefix < w - k).
-    let inside : Member w wide n.address = from_in w (suc k) base n.address h from to in
-    let sub : Subnet w wide n = subnet_from w wide n wn (omega arith) (shares_address w wide n n.address (omega arith) wn nn inside own) in
-    let first_in = lies base (sub base (from_in w (suc k) base base h (omega arith) (omega arith))) in
-    let end : ℕ = base + 2 ^ suc k - 1 in
-    let last_in = lies end (sub end (from_in w (suc k) base end h (omega arith) (omega arith))) in
-    let a = first_in.0.0 in
-    let b = last_in.0.1 in
-    let r : Goal = absurd (not_both first base (base + 2 ^ suc k) (last + 1) t a (omega arith)) in r)
-    (λ (long : w - k ≤ n.prefix). ⊎_elim
-    (λ (l : n.address < base + 2 ^ k).
-    let sub : Subnet w n (block_from w k base) = subnet_from w n (block_from w k base) nn long (from_in w k base n.address lower from l) in
-    inl (λ x m. let p = lies x m in (p.0, in_from w k base x lower (sub x m))))
-    (λ (l : base + 2 ^ k ≤ n.address).
-    let sub : Subnet w n (block_from w k (base + 2 ^ k)) = subnet_from w n (block_from w k (base + 2 ^ k)) nn long (from_in w k (base + 2 ^ k) n.address upper l (omega arith)) in
-    inr (λ x m. let p = lies x m in (p.0, in_from w k (base + 2 ^ k) x upper (sub x m))))
-    (cases_lt n.address (base + 2 ^ k)))
-    (cases_lt n.prefix (w - k))
-
-halves : (k base first last x : ℕ) → Part (suc k) base first last x ↔ (Part k base first last x ⊎ Part k (base + 2 ^ k) first last x)
-halves k base first last x =
-    let two = twice k in (
-      (λ p.
-          let from = p.1.0 in
-          let to = p.1.1 in
-          ⊎_elim
-          (λ (l : x < base + 2 ^ k). inl (p.0, (from, l)))
-          (λ (l : base + 2 ^ k ≤ x). inr (p.0, (l, omega arith)))
-          (cases_lt x (base + 2 ^ k))),
-      (λ o. ⊎_elim
-          (λ (p : Part k base first last x). let a = p.1.0 in let b = p.1.1 in (p.0, (a, omega arith)))
-          (λ (p : Part k (base + 2 ^ k) first last x). let a = p.1.0 in let b = p.1.1 in (p.0, (omega arith, omega arith)))
-          o),
-    )
-
-pub least_within : (w k base first last : ℕ) → Begins w k base → IsLeastList w (Part k base first last) (blocks_within w k base first last)
+pub least_within : (w k base first last : ℕ) → Begins w k base → IsLeastList w (PartOf (FromTo first last) k base) (blocks_within w k base first last)
 unfolding blocks_within
 least_within w zero base first last h =
     let none : w - 0 ≡ w = omega arith in
-    cond_by (IsLeastList w (Part 0 base first last)) (leb first base && leb (base + 1) (last + 1)) (record { address = base; prefix = w } ∷ []) []
-    (λ t. subst (λ (p : ℕ). IsLeastList w (Part 0 base first last) (record { address = base; prefix = p } ∷ [])) none (whole_part w 0 base first last h t))
-    (λ t. no_part w base first last t)
+    cond_by (IsLeastList w (PartOf (FromTo first last) 0 base)) (leb first base && leb (base + 1) (last + 1)) (record { address = base; prefix = w } ∷ []) []
+    (λ t. subst (λ (p : ℕ). IsLeastList w (PartOf (FromTo first last) 0 base) (record { address = base; prefix = p } ∷ [])) none (whole_lies w 0 base first last h t))
+    (λ t. no_part (FromTo first last) w base (λ f. not_all 0 base first last t (λ x l m. let is : base ≡ x = omega arith in subst (FromTo first last) is f)))
 least_within w (suc k) base first last h =
-    cond_by (IsLeastList w (Part (suc k) base first last)) (leb first base && leb (base + 2 ^ suc k) (last + 1)) (block_from w (suc k) base ∷ [])
+    cond_by (IsLeastList w (PartOf (FromTo first last) (suc k) base)) (leb first base && leb (base + 2 ^ suc k) (last + 1)) (block_from w (suc k) base ∷ [])
     (blocks_within w k base first last ++ blocks_within w k (base + 2 ^ k) first last)
-    (λ t. whole_part w (suc k) base first last h t)
-    (λ t. least_of_two w (Part (suc k) base first last) (Part k base first last) (Part k (base + 2 ^ k) first last)
-    (blocks_within w k base first last) (blocks_within w k (base + 2 ^ k) first last)
-    (halves k base first last)
-    (λ x y p q. let a = p.1.1 in let b = q.1.0 in omega arith)
-    (in_a_half w k base first last h t)
+    (λ t. whole_lies w (suc k) base first last h t)
+    (λ t. least_of_halves (FromTo first last) w k base (blocks_within w k base first last) (blocks_within w k (base + 2 ^ k) first last) h (not_all (suc k) base first last t)
     (least_within w k base first last (lower_begins w k base h))
     (least_within w k (base + 2 ^ k) first last (upper_begins w k base h)))
 
 pub least_from_to : (w first last : ℕ) → last < 2 ^ w → IsLeastList w (FromTo first last) (blocks_from_to w first last)
 least_from_to w first last fits =
-    least_of_same w (Part w 0 first last) (FromTo first last) (blocks_from_to w first last)
+    least_of_same w (PartOf (FromTo first last) w 0) (FromTo first last) (blocks_from_to w first last)
     (λ x. ((λ p. p.0), (λ p. let l = p.1 in (p, (omega arith, omega arith)))))
     (least_within w w 0 first last (record { times = 0; multiple = omega arith; bits = omega arith; fits = omega arith }))
 

@@ -180,40 +180,41 @@ pub record IsHalf (w : ℕ) (n b : Network) (end last p : ℕ) : Type 0 where
   pub end_is : end ≡ high w b
   pub last_is : last ≡ high w n
 
--- where the network does not end with its parent, the other half is the upper one
-pub upper_answer : (w : ℕ) (n b : Network) {X : Type 0} (pair : X → Network) (answer : Option X) (end last p : ℕ) → IsHalf w n b end last p → end < 2 ^ w → last ≢ end
-    → MatchOption answer (w < p) (λ m. (p ≤ w) × (pair m ≡ block_of w (record { address = end; prefix = p })))
-    → MatchOption answer (n.prefix ≡ 0) (λ m. (0 < n.prefix) × IsSibling w n (pair m))
-upper_answer w n b pair answer end last p half_is fits differ h =
-    let net = half_is.network in
-    let s : ℕ = block_size w n.prefix in
-    let base : ℕ = low w (parent w n) in
-    let longer : 0 < n.prefix = omega (arith, half_is.some, half_is.as_long) in
-    let half : block_size w (n.prefix - 1) ≡ s + s = parent_size w n net longer in
-    let s_pos : 0 < s = size_pos w n.prefix in
-    let at : end + 1 ≡ base + s + s = ap (λ k. k + 1) (half_is.end_is ∙ ap (high w) half_is.parent_is) ∙ high_after w (parent w n) ∙ (omega (arith, half)) in
-    let own : last + 1 ≡ low w n + s = ap (λ k. k + 1) half_is.last_is ∙ high_after w n in
-    let Goal : Type 0 = IsSibling w n (block_of w (record { address = end; prefix = n.prefix })) in
-    sibling_answer w n pair answer end p net half_is.as_long longer
-    (⊎_elim (λ (e : low w n ≡ base). sibling_at w end n net longer fits (inl (e, omega (arith, at, s_pos), omega (arith, at))))
-    (λ (e : low w n ≡ base + s). let r : Goal = absurd (differ (omega (arith, at, own, e))) in r) (half_begins w n net longer)) h
+module _ (w : ℕ) (n b : Network) (end last p : ℕ) (half_is : IsHalf w n b end last p) where
+  longer : 0 < n.prefix
+  longer = omega (arith, half_is.some, half_is.as_long)
 
--- and where it does, the lower one
-pub lower_answer : (w : ℕ) (n b : Network) {X : Type 0} (pair : X → Network) (answer : Option X) (end last first p : ℕ) → IsHalf w n b end last p → first < 2 ^ w
-    → first ≡ low w b → last ≡ end
-    → MatchOption answer (w < p) (λ m. (p ≤ w) × (pair m ≡ block_of w (record { address = first; prefix = p })))
-    → MatchOption answer (n.prefix ≡ 0) (λ m. (0 < n.prefix) × IsSibling w n (pair m))
-lower_answer w n b pair answer end last first p half_is fits first_is same h =
-    let net = half_is.network in
-    let s : ℕ = block_size w n.prefix in
-    let base : ℕ = low w (parent w n) in
-    let longer : 0 < n.prefix = omega (arith, half_is.some, half_is.as_long) in
-    let half : block_size w (n.prefix - 1) ≡ s + s = parent_size w n net longer in
-    let s_pos : 0 < s = size_pos w n.prefix in
-    let at : end + 1 ≡ base + s + s = ap (λ k. k + 1) (half_is.end_is ∙ ap (high w) half_is.parent_is) ∙ high_after w (parent w n) ∙ (omega (arith, half)) in
-    let own : last + 1 ≡ low w n + s = ap (λ k. k + 1) half_is.last_is ∙ high_after w n in
-    let from : first ≡ base = first_is ∙ ap (low w) half_is.parent_is in
-    let Goal : Type 0 = IsSibling w n (block_of w (record { address = first; prefix = n.prefix })) in
-    sibling_answer w n pair answer first p net half_is.as_long longer
-    (⊎_elim (λ (e : low w n ≡ base). let r : Goal = absurd (omega (arith, at, own, e, same, s_pos)) in r)
-    (λ (e : low w n ≡ base + s). sibling_at w first n net longer fits (inr (e, omega (arith, from), omega (arith, from, s_pos)))) (half_begins w n net longer)) h
+  at_end : end + 1 ≡ low w (parent w n) + block_size w n.prefix + block_size w n.prefix
+  at_end =
+      let half : block_size w (n.prefix - 1) ≡ block_size w n.prefix + block_size w n.prefix = parent_size w n half_is.network longer in
+      ap (λ k. k + 1) (half_is.end_is ∙ ap (high w) half_is.parent_is) ∙ high_after w (parent w n) ∙ (omega (arith, half))
+
+  own_end : last + 1 ≡ low w n + block_size w n.prefix
+  own_end = ap (λ k. k + 1) half_is.last_is ∙ high_after w n
+
+  -- where the network does not end with its parent, the other half is the upper one
+  pub upper_answer : {X : Type 0} (pair : X → Network) (answer : Option X) → end < 2 ^ w → last ≢ end
+      → MatchOption answer (w < p) (λ m. (p ≤ w) × (pair m ≡ block_of w (record { address = end; prefix = p })))
+      → MatchOption answer (n.prefix ≡ 0) (λ m. (0 < n.prefix) × IsSibling w n (pair m))
+  upper_answer pair answer fits differ h =
+      let s : ℕ = block_size w n.prefix in
+      let base : ℕ = low w (parent w n) in
+      let s_pos : 0 < s = size_pos w n.prefix in
+      let Goal : Type 0 = IsSibling w n (block_of w (record { address = end; prefix = n.prefix })) in
+      sibling_answer w n pair answer end p half_is.network half_is.as_long longer
+      (⊎_elim (λ (e : low w n ≡ base). sibling_at w end n half_is.network longer fits (inl (e, omega (arith, at_end, s_pos), omega (arith, at_end))))
+      (λ (e : low w n ≡ base + s). let r : Goal = absurd (differ (omega (arith, at_end, own_end, e))) in r) (half_begins w n half_is.network longer)) h
+
+  -- and where it does, the lower one
+  pub lower_answer : {X : Type 0} (pair : X → Network) (answer : Option X) (first : ℕ) → first < 2 ^ w → first ≡ low w b → last ≡ end
+      → MatchOption answer (w < p) (λ m. (p ≤ w) × (pair m ≡ block_of w (record { address = first; prefix = p })))
+      → MatchOption answer (n.prefix ≡ 0) (λ m. (0 < n.prefix) × IsSibling w n (pair m))
+  lower_answer pair answer first fits first_is same h =
+      let s : ℕ = block_size w n.prefix in
+      let base : ℕ = low w (parent w n) in
+      let s_pos : 0 < s = size_pos w n.prefix in
+      let from : first ≡ base = first_is ∙ ap (low w) half_is.parent_is in
+      let Goal : Type 0 = IsSibling w n (block_of w (record { address = first; prefix = n.prefix })) in
+      sibling_answer w n pair answer first p half_is.network half_is.as_long longer
+      (⊎_elim (λ (e : low w n ≡ base). let r : Goal = absurd (omega (arith, at_end, own_end, e, same, s_pos)) in r)
+      (λ (e : low w n ≡ base + s). sibling_at w first n half_is.network longer fits (inr (e, omega (arith, from), omega (arith, from, s_pos)))) (half_begins w n half_is.network longer)) h

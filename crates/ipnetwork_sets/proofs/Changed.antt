@@ -1,12 +1,14 @@
 -- What a change of a set makes of its list, and when the list is longer afterwards.
-use Rattle.std.proofs.Common.{◌≡◌, ℕ, ◌+◌, ◌<◌, ◌≤◌, ◌⊎◌, inl, ap, arith, ⊎_elim, List, [], ◌∷◌, ◌++◌, length, take, drop}
-use Rattle.std.proofs.lemmas.List.{length-append, length-take-le, length-drop}
+use Rattle.std.proofs.Common.{◌≡◌, ℕ, ◌+◌, ◌<◌, ◌≤◌, ◌⊎◌, ◌∙◌, inl, sym, ap, subst, arith, ⊎_elim, List, [], ◌∷◌, ◌++◌, length, map, take, drop}
+use Rattle.std.proofs.lemmas.List.{length-append, length-map, length-take-le, length-drop}
 use Rattle.ipnetwork_family.specs.Network.{Network}
 use Rattle.ipnetwork_blocks.specs.Aggregate.{InUnion, LiesInUnion}
 use Rattle.ipnetwork_blocks.specs.LeastList.{IsLeastList}
 use Rattle.ipnetwork_blocks.proofs.LeastLists.{least_of_same, least_unique}
 use Rattle.ipnetwork_sets.specs.Sets.{IsAddressSet, MeetsUnion, InEither, InFirstAlone}
+use Rattle.ipnetwork_sets.specs.Private.Places.{HasRoom}
 use Rattle.ipnetwork_sets.proofs.JoinedAround.{union_of_one_network}
+use Rattle.ipnetwork_sets.proofs.RoomMade.{many_written, written_back}
 use Rattle.ipnetwork_sets.proofs.SetLaws.{union_is_shortest, difference_is_shortest, least_is_set}
 
 -- a network that lies in the set adds nothing
@@ -40,9 +42,29 @@ grew_by_one w S bs r first behind b le fits h k full =
     let same : length (take first bs ++ b ∷ drop behind bs) ≡ length r = ap length (least_unique w S (take first bs ++ b ∷ drop behind bs) r h k) in
     omega (arith, same, length-append (take first bs) (b ∷ drop behind bs), length-take-le first bs (omega arith), length-drop behind bs)
 
--- or fewer places than blocks that are left
-pub grew_by_more : (w : ℕ) (S : ℕ → Type 0) (bs r left : List Network) (from to count : ℕ) → from ≤ to → to ≤ length bs → length left ≡ count
-    → IsLeastList w S (take from bs ++ left ++ drop to bs) → IsLeastList w S r → to < from + count → length bs < length r
-grew_by_more w S bs r left from to count le fits long h k full =
-    let same : length (take from bs ++ left ++ drop to bs) ≡ length r = ap length (least_unique w S (take from bs ++ left ++ drop to bs) r h k) in
-    omega (arith, same, long, length-append (take from bs ++ left) (drop to bs), length-append (take from bs) left, length-take-le from bs (omega arith), length-drop to bs)
+-- ---- where a network meets the set, so many blocks are left, and with them the list is that of the set without it
+
+pub record IsLeft (w : ℕ) (bs : List Network) (n : Network) (from to count : ℕ) (left : List Network) : Type 0 where
+  pub ordered : from ≤ to
+  pub within : to ≤ length bs
+  pub long : length left ≡ count
+  pub meets : MeetsUnion w n bs
+  pub least : IsLeastList w (InFirstAlone w bs (n ∷ [])) (take from bs ++ left ++ drop to bs)
+
+-- the list grew if there were fewer places
+pub grew_by_more : (w : ℕ) (bs r left : List Network) (n : Network) (from to count : ℕ) → IsLeft w bs n from to count left → IsLeastList w (InFirstAlone w bs (n ∷ [])) r
+    → to < from + count → length bs < length r
+grew_by_more w bs r left n from to count h k full =
+    let same : length (take from bs ++ left ++ drop to bs) ≡ length r = ap length (least_unique w (InFirstAlone w bs (n ∷ [])) (take from bs ++ left ++ drop to bs) r h.least k) in
+    let le = h.ordered in
+    let fits = h.within in
+    omega (arith, same, h.long, length-append (take from bs ++ left) (drop to bs), length-append (take from bs) left, length-take-le from bs (omega arith), length-drop to bs)
+
+-- or they are written to as many
+pub left_written : {X : Type 0} (pair : X → Network) (w : ℕ) (n : Network) (items made written : List X) (from to count len : ℕ) (left : List Network) → IsLeft w (map pair items) n from to count left
+    → HasRoom items from to count made → len ≡ length made → map pair written ≡ take from (map pair made) ++ left ++ drop (from + length left) (map pair made)
+    → IsLeastList w (InFirstAlone w (map pair items) (n ∷ [])) (map pair (take len (written ++ drop (length written) made)))
+left_written pair w n items made written from to count len left h room all is =
+    let fits = h.within in
+    let back = written_back pair made written from len left all (omega (arith, h.long, room.size, length-map items pair)) is in
+    subst (IsLeastList w (InFirstAlone w (map pair items) (n ∷ []))) (sym (ap (map pair) back ∙ many_written pair items made written from to count left room h.long is)) h.least

@@ -19,15 +19,19 @@ common_none_first w second =
     least_unique w (InBoth w [] second) (common_blocks w [] second) [] (common_is_least w [] second)
     (least_of_none w (InBoth w [] second) (λ x s. union_nil w x s.0))
 
+-- the order of the two changes nothing
+common_swaps : (w : ℕ) (first second : List Network) → common_blocks w first second ≡ common_blocks w second first
+common_swaps w first second =
+    same_list w (InBoth w first second) (InBoth w second first) (common_blocks w first second) (common_blocks w second first) (common_is_least w first second) (common_is_least w second first)
+    (λ x. ((λ s. (s.1, s.0)), (λ s. (s.1, s.0))))
+
 pub common_none_second : (w : ℕ) (first : List Network) → common_blocks w first [] ≡ []
-common_none_second w first =
-    least_unique w (InBoth w first []) (common_blocks w first []) [] (common_is_least w first [])
-    (least_of_none w (InBoth w first []) (λ x s. union_nil w x s.1))
+common_none_second w first = common_swaps w first [] ∙ common_none_first w first
 
 module _ (w : ℕ) (a b : Network) (others rest : List Network) (apart : AggregateIsApart) (ha : IsAddressSet w (a ∷ others)) (hb : IsAddressSet w (b ∷ rest)) where
   -- ---- a block that ends before the other begins
 
-  pub common_past_first : high w a < b.address → common_blocks w (a ∷ others) (b ∷ rest) ≡ common_blocks w others (b ∷ rest)
+  common_past_first : high w a < b.address → common_blocks w (a ∷ others) (b ∷ rest) ≡ common_blocks w others (b ∷ rest)
   common_past_first l =
       same_list w (InBoth w (a ∷ others) (b ∷ rest)) (InBoth w others (b ∷ rest)) (common_blocks w (a ∷ others) (b ∷ rest)) (common_blocks w others (b ∷ rest))
       (common_is_least w (a ∷ others) (b ∷ rest)) (common_is_least w others (b ∷ rest))
@@ -42,24 +46,9 @@ module _ (w : ℕ) (a b : Network) (others rest : List Network) (apart : Aggrega
         (λ s. ((union_cons w a others x).1 (inr s.0), s.1)),
       ))
 
-  pub common_past_second : high w b < a.address → common_blocks w (a ∷ others) (b ∷ rest) ≡ common_blocks w (a ∷ others) rest
-  common_past_second l =
-      same_list w (InBoth w (a ∷ others) (b ∷ rest)) (InBoth w (a ∷ others) rest) (common_blocks w (a ∷ others) (b ∷ rest)) (common_blocks w (a ∷ others) rest)
-      (common_is_least w (a ∷ others) (b ∷ rest)) (common_is_least w (a ∷ others) rest)
-      (λ x. (
-        (λ s. ⊎_elim
-            (λ (m : Member w b x).
-            let i = within_member w b x m in
-            let from = union_from w a others apart ha x s.0 in
-            let r : InBoth w (a ∷ others) rest x = absurd (omega (arith, i.1)) in r)
-            (λ (c : InUnion w rest x). (s.0, c))
-            ((union_cons w b rest x).0 s.1)),
-        (λ s. (s.0, (union_cons w b rest x).1 (inr s.1))),
-      ))
-
   -- ---- a block that lies in the other
 
-  pub common_gives_first : Subnet w a b → common_blocks w (a ∷ others) (b ∷ rest) ≡ a ∷ common_blocks w others (b ∷ rest)
+  common_gives_first : Subnet w a b → common_blocks w (a ∷ others) (b ∷ rest) ≡ a ∷ common_blocks w others (b ∷ rest)
   common_gives_first sub =
       let inside : LiesIn w (InBoth w (a ∷ others) (b ∷ rest)) a = λ x m. ((union_cons w a others x).1 (inl m), (union_cons w b rest x).1 (inl (sub x m))) in
       first_and_rest w (InBoth w (a ∷ others) (b ∷ rest)) (InBoth w others (b ∷ rest)) a (common_blocks w (a ∷ others) (b ∷ rest)) (common_blocks w others (b ∷ rest))
@@ -71,19 +60,6 @@ module _ (w : ℕ) (a b : Network) (others rest : List Network) (apart : Aggrega
       ))
       (λ x s. union_behind w a others apart ha x s.0)
       (common_is_least w others (b ∷ rest))
-
-  pub common_gives_second : Subnet w b a → common_blocks w (a ∷ others) (b ∷ rest) ≡ b ∷ common_blocks w (a ∷ others) rest
-  common_gives_second sub =
-      let inside : LiesIn w (InBoth w (a ∷ others) (b ∷ rest)) b = λ x m. ((union_cons w a others x).1 (inl (sub x m)), (union_cons w b rest x).1 (inl m)) in
-      first_and_rest w (InBoth w (a ∷ others) (b ∷ rest)) (InBoth w (a ∷ others) rest) b (common_blocks w (a ∷ others) (b ∷ rest)) (common_blocks w (a ∷ others) rest)
-      (common_is_least w (a ∷ others) (b ∷ rest))
-      (maximal_in_part w (InUnion w (b ∷ rest)) (InBoth w (a ∷ others) (b ∷ rest)) b (first_is_maximal w b rest hb) (λ x s. s.1) inside)
-      (λ x. (
-        (λ s. ⊎_elim (λ (m : Member w b x). inl m) (λ (c : InUnion w rest x). inr (s.0, c)) ((union_cons w b rest x).0 s.1)),
-        (λ o. ⊎_elim (λ (m : Member w b x). inside x m) (λ (s : InBoth w (a ∷ others) rest x). (s.0, (union_cons w b rest x).1 (inr s.1))) o),
-      ))
-      (λ x s. union_behind w b rest apart hb x s.1)
-      (common_is_least w (a ∷ others) rest)
 
 -- ---- the steps, at lists that are a first block and others
 
@@ -98,26 +74,28 @@ module _ (w : ℕ) (a b : Network) (first second others rest : List Network) (ap
   both : common_blocks w first second ≡ common_blocks w (a ∷ others) (b ∷ rest)
   both = ap (λ t. common_blocks w t second) e ∙ ap (λ t. common_blocks w (a ∷ others) t) f
 
-  pub others_are_set : IsAddressSet w others
+  others_are_set : IsAddressSet w others
   others_are_set = tail_is_set w a others apart ha
 
-  pub rest_is_set : IsAddressSet w rest
-  rest_is_set = tail_is_set w b rest apart hb
+  pub past_first : high w a < b.address → IsAddressSet w others × (common_blocks w first second ≡ common_blocks w others second)
+  past_first l = (others_are_set, both ∙ common_past_first w a b others rest apart ha hb l ∙ ap (λ t. common_blocks w others t) (sym f))
 
-  pub past_first : high w a < b.address → common_blocks w first second ≡ common_blocks w others second
-  past_first l = both ∙ common_past_first w a b others rest apart ha hb l ∙ ap (λ t. common_blocks w others t) (sym f)
+  pub gives_first : (high w a < b.address → ⊥) → (high w b < a.address → ⊥) → b.prefix ≤ a.prefix → IsAddressSet w others × (common_blocks w first second ≡ a ∷ common_blocks w others second)
+  gives_first not_before not_behind le = (
+    others_are_set,
+    both ∙ common_gives_first w a b others rest apart ha hb
+        (smaller_inside w a b (set_block w (a ∷ others) a ha (contains_head a others)) (set_block w (b ∷ rest) b hb (contains_head b rest)) not_before not_behind le)
+        ∙ ap (λ t. a ∷ common_blocks w others t) (sym f),
+  )
 
-  pub past_second : high w b < a.address → common_blocks w first second ≡ common_blocks w first rest
-  past_second l = both ∙ common_past_second w a b others rest apart ha hb l ∙ ap (λ t. common_blocks w t rest) (sym e)
+-- and where the two change places
 
-  pub gives_first : (high w a < b.address → ⊥) → (high w b < a.address → ⊥) → b.prefix ≤ a.prefix → common_blocks w first second ≡ a ∷ common_blocks w others second
-  gives_first not_before not_behind le =
-      both ∙ common_gives_first w a b others rest apart ha hb
-      (smaller_inside w a b (set_block w (a ∷ others) a ha (contains_head a others)) (set_block w (b ∷ rest) b hb (contains_head b rest)) not_before not_behind le)
-      ∙ ap (λ t. a ∷ common_blocks w others t) (sym f)
+module _ (w : ℕ) (a b : Network) (first second others rest : List Network) (apart : AggregateIsApart) (e : first ≡ a ∷ others) (f : second ≡ b ∷ rest)
+    (hf : IsAddressSet w first) (hs : IsAddressSet w second) where
+  pub past_second : high w b < a.address → IsAddressSet w rest × (common_blocks w first second ≡ common_blocks w first rest)
+  past_second l = let past = past_first w b a second first rest others apart f e hs hf l in (past.0, common_swaps w first second ∙ past.1 ∙ common_swaps w rest first)
 
-  pub gives_second : (high w a < b.address → ⊥) → (high w b < a.address → ⊥) → a.prefix ≤ b.prefix → common_blocks w first second ≡ b ∷ common_blocks w first rest
+  pub gives_second : (high w a < b.address → ⊥) → (high w b < a.address → ⊥) → a.prefix ≤ b.prefix → IsAddressSet w rest × (common_blocks w first second ≡ b ∷ common_blocks w first rest)
   gives_second not_before not_behind le =
-      both ∙ common_gives_second w a b others rest apart ha hb
-      (smaller_inside w b a (set_block w (b ∷ rest) b hb (contains_head b rest)) (set_block w (a ∷ others) a ha (contains_head a others)) not_behind not_before le)
-      ∙ ap (λ t. b ∷ common_blocks w t rest) (sym e)
+      let gives = gives_first w b a second first rest others apart f e hs hf not_behind not_before le in
+      (gives.0, common_swaps w first second ∙ gives.1 ∙ ap (λ t. b ∷ t) (common_swaps w rest first))

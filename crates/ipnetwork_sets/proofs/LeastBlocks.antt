@@ -1,16 +1,16 @@
 -- The list by halves is the least list of the set that the test tells.
 use Rattle.std.proofs.Common.{◌≡◌, ◌↔◌, ℕ, zero, suc, ◌+◌, ◌-◌, ◌^◌, ◌<◌, ◌≤◌, ◌⊎◌, inl, inr, sym, refl, ap, subst, ◌∙◌, arith, ⊎_elim, List, [], ◌∷◌, ◌++◌, Bool, true, false, ◌&&◌, ◌||◌, not, leb, Option, None, Some}
 use Rattle.std.proofs.lemmas.Bool.{cases_lt, and_parts, true≢false, leb-true, le-leb}
-use Rattle.std.proofs.lemmas.Nat.{pow_pos}
 use Rattle.std.proofs.lemmas.List.Folds.{Any-from_list_any, list_any-from_Any}
-use Rattle.ipnetwork_family.specs.Network.{Network, IsNetwork, Member, Subnet}
+use Rattle.ipnetwork_family.specs.Network.{Network}
 use Rattle.ipnetwork_family.specs.Computed.Network.{is_member}
-use Rattle.ipnetwork_family.proofs.Blocks.{subnet_from, shares_address, membership_computed}
-use Rattle.ipnetwork_blocks.specs.LeastList.{LiesIn, IsLeastList}
+use Rattle.ipnetwork_family.proofs.Blocks.{membership_computed}
+use Rattle.ipnetwork_blocks.specs.LeastList.{IsLeastList}
 use Rattle.ipnetwork_blocks.specs.Aggregate.{InUnion}
-use Rattle.ipnetwork_blocks.proofs.BlocksFrom.{block_from, Begins, from_network, from_block, in_from, from_in, twice, lower_begins, upper_begins}
+use Rattle.ipnetwork_blocks.proofs.BlocksFrom.{block_from, Begins, lower_begins, upper_begins}
+use Rattle.ipnetwork_blocks.proofs.HalfParts.{PartOf, whole_part, no_part, least_of_halves}
 use Rattle.ipnetwork_blocks.proofs.RangeLists.{cond_by}
-use Rattle.ipnetwork_blocks.proofs.LeastLists.{own_address, least_of_same, least_of_none, least_of_one, least_of_two}
+use Rattle.ipnetwork_blocks.proofs.LeastLists.{least_of_same}
 use Rattle.ipnetwork_sets.specs.Sets.{InBoth, InEither}
 use Rattle.ipnetwork_sets.specs.Private.LeastBlocks.{all_from, least_within, least_blocks, in_union, common_blocks, either_blocks, is_from, left_blocks}
 use Rattle.ipnetwork_sets.specs.Private.Left.{IsFrom, InLeft}
@@ -36,96 +36,23 @@ true_all_from test start (suc count) all =
 
 -- ---- the list by halves
 
--- the addresses that pass the test, in a block with k host bits
-abbrev Part : (ℕ → Bool) → ℕ → ℕ → ℕ → Type 0
-Part test k base x = (test x ≡ true) × ((base ≤ x) × (x < base + 2 ^ k))
+-- the addresses that pass the test
+abbrev Passes : (ℕ → Bool) → ℕ → Type 0
+Passes test x = test x ≡ true
 
--- the whole block passes
-whole_part : (test : ℕ → Bool) (w k base : ℕ) → Begins w k base → all_from test base (2 ^ k) ≡ true → IsLeastList w (Part test k base) (block_from w k base ∷ [])
-whole_part test w k base h t =
-    least_of_same w (Member w (block_from w k base)) (Part test k base) (block_from w k base ∷ [])
-    (λ x. (
-      (λ m. let i = in_from w k base x h m in (all_from_true test base (2 ^ k) t x i.0 i.1, i)),
-      (λ p. from_in w k base x h p.1.0 p.1.1),
-    ))
-    (least_of_one w (block_from w k base) (from_network w k base h) (from_block w k base h))
-
--- one address that does not
-no_part : (test : ℕ → Bool) (w base : ℕ) → all_from test base (2 ^ 0) ≡ false → IsLeastList w (Part test 0 base) []
-no_part test w base t =
-    least_of_none w (Part test 0 base)
-    (λ x p.
-    let a = p.1.0 in
-    let b = p.1.1 in
-    let e : x ≡ base = omega arith in
-    true≢false (sym (true_all_from test base (2 ^ 0) (λ y l m. let f : x ≡ y = omega arith in subst (λ (z : ℕ). test z ≡ true) f p.0)) ∙ t))
-
--- a network of the set within a block that does not pass: it lies in one of the halves
-in_a_half : (test : ℕ → Bool) (w k base : ℕ) → Begins w (suc k) base → all_from test base (2 ^ suc k) ≡ false
-    → (n : Network) → IsNetwork w n → LiesIn w (Part test (suc k) base) n
-    → LiesIn w (Part test k base) n ⊎ LiesIn w (Part test k (base + 2 ^ k)) n
-in_a_half test w k base h t n nn lies =
-    let own : Member w n n.address = own_address w n nn in
-    let at : Part test (suc k) base n.address = lies n.address own in
-    let wide : Network = block_from w (suc k) base in
-    let wn : IsNetwork w wide = from_network w (suc k) base h in
-    let bits = h.bits in
-    let two = twice k in
-    let pos = pow_pos k in
-    let from = at.1.0 in
-    let to = at.1.1 in
-    let lower = lower_begins w k base h in
-    let upper = upper_begins w k base h in
-    let Goal : Type 0 = LiesIn w (Part test k base) n ⊎ LiesIn w (Part test k (base + 2 ^ k)) n in
-    ⊎_elim
-    (λ (short : n.prefix < w - k).
-    let inside : Member w wide n.address = from_in w (suc k) base n.address h from to in
-    let sub : Subnet w wide n = subnet_from w wide n wn (omega arith) (shares_address w wide n n.address (omega arith) wn nn inside own) in
-    let all : all_from test base (2 ^ suc k) ≡ true =
-    true_all_from test base (2 ^ suc k) (λ x l m. (lies x (sub x (from_in w (suc k) base x h l m))).0) in
-    let r : Goal = absurd (true≢false (sym all ∙ t)) in r)
-    (λ (long : w - k ≤ n.prefix). ⊎_elim
-    (λ (l : n.address < base + 2 ^ k).
-    let sub : Subnet w n (block_from w k base) = subnet_from w n (block_from w k base) nn long (from_in w k base n.address lower from l) in
-    inl (λ x m. let p = lies x m in (p.0, in_from w k base x lower (sub x m))))
-    (λ (l : base + 2 ^ k ≤ n.address).
-    let sub : Subnet w n (block_from w k (base + 2 ^ k)) = subnet_from w n (block_from w k (base + 2 ^ k)) nn long (from_in w k (base + 2 ^ k) n.address upper l (omega arith)) in
-    inr (λ x m. let p = lies x m in (p.0, in_from w k (base + 2 ^ k) x upper (sub x m))))
-    (cases_lt n.address (base + 2 ^ k)))
-    (cases_lt n.prefix (w - k))
-
-halves : (test : ℕ → Bool) (k base x : ℕ) → Part test (suc k) base x ↔ (Part test k base x ⊎ Part test k (base + 2 ^ k) x)
-halves test k base x =
-    let two = twice k in (
-      (λ p.
-          let from = p.1.0 in
-          let to = p.1.1 in
-          ⊎_elim
-          (λ (l : x < base + 2 ^ k). inl (p.0, (from, l)))
-          (λ (l : base + 2 ^ k ≤ x). inr (p.0, (l, omega arith)))
-          (cases_lt x (base + 2 ^ k))),
-      (λ o. ⊎_elim
-          (λ (p : Part test k base x). let a = p.1.0 in let b = p.1.1 in (p.0, (a, omega arith)))
-          (λ (p : Part test k (base + 2 ^ k) x). let a = p.1.0 in let b = p.1.1 in (p.0, (omega arith, omega arith)))
-          o),
-    )
-
-within_is_least : (test : ℕ → Bool) (w k base : ℕ) → Begins w k base → IsLeastList w (Part test k base) (least_within test w k base)
+within_is_least : (test : ℕ → Bool) (w k base : ℕ) → Begins w k base → IsLeastList w (PartOf (Passes test) k base) (least_within test w k base)
 unfolding least_within
 within_is_least test w zero base h =
     let none : w - 0 ≡ w = omega arith in
-    cond_by (IsLeastList w (Part test 0 base)) (all_from test base (2 ^ 0)) (record { address = base; prefix = w } ∷ []) []
-    (λ t. subst (λ (p : ℕ). IsLeastList w (Part test 0 base) (record { address = base; prefix = p } ∷ [])) none (whole_part test w 0 base h t))
-    (λ t. no_part test w base t)
+    cond_by (IsLeastList w (PartOf (Passes test) 0 base)) (all_from test base (2 ^ 0)) (record { address = base; prefix = w } ∷ []) []
+    (λ t. subst (λ (p : ℕ). IsLeastList w (PartOf (Passes test) 0 base) (record { address = base; prefix = p } ∷ [])) none
+    (whole_part (Passes test) w 0 base h (all_from_true test base (2 ^ 0) t)))
+    (λ t. no_part (Passes test) w base (λ pass. true≢false (sym (true_all_from test base (2 ^ 0) (λ x l m. let is : base ≡ x = omega arith in subst (Passes test) is pass)) ∙ t)))
 within_is_least test w (suc k) base h =
-    cond_by (IsLeastList w (Part test (suc k) base)) (all_from test base (2 ^ suc k)) (block_from w (suc k) base ∷ [])
+    cond_by (IsLeastList w (PartOf (Passes test) (suc k) base)) (all_from test base (2 ^ suc k)) (block_from w (suc k) base ∷ [])
     (least_within test w k base ++ least_within test w k (base + 2 ^ k))
-    (λ t. whole_part test w (suc k) base h t)
-    (λ t. least_of_two w (Part test (suc k) base) (Part test k base) (Part test k (base + 2 ^ k))
-    (least_within test w k base) (least_within test w k (base + 2 ^ k))
-    (halves test k base)
-    (λ x y p q. let a = p.1.1 in let b = q.1.0 in omega arith)
-    (in_a_half test w k base h t)
+    (λ t. whole_part (Passes test) w (suc k) base h (all_from_true test base (2 ^ suc k) t))
+    (λ t. least_of_halves (Passes test) w k base (least_within test w k base) (least_within test w k (base + 2 ^ k)) h (λ all. true≢false (sym (true_all_from test base (2 ^ suc k) all) ∙ t))
     (within_is_least test w k base (lower_begins w k base h))
     (within_is_least test w k (base + 2 ^ k) (upper_begins w k base h)))
 
@@ -134,7 +61,7 @@ pub least_blocks_of : (w : ℕ) (test : ℕ → Bool) (S : ℕ → Type 0) → (
     → IsLeastList w S (least_blocks w test)
 unfolding least_blocks
 least_blocks_of w test S fits tells =
-    least_of_same w (Part test w 0) S (least_within test w w 0)
+    least_of_same w (PartOf (Passes test) w 0) S (least_within test w w 0)
     (λ x. (
       (λ p. let l = p.1.1 in (tells x (omega arith)).0 p.0),
       (λ s. let l = fits x s in ((tells x l).1 s, (omega arith, omega arith))),

@@ -14,7 +14,8 @@ use Rattle.ipnetwork_blocks.proofs.WiderBlocks.{half_begins}
 use Rattle.ipnetwork_blocks.proofs.LeastLists.{own_address, contains_head}
 use Rattle.ipnetwork_sets.specs.Sets.{IsAddressSet}
 use Rattle.ipnetwork_sets.specs.Private.Left.{IsPiece, IsLeftIn, IsWidest, IsBehind, Skips}
-use Rattle.ipnetwork_sets.proofs.Steps.{smaller_inside, union_cons, union_nil, union_from}
+use Rattle.ipnetwork_sets.proofs.Lists.{set_block}
+use Rattle.ipnetwork_sets.proofs.Steps.{smaller_inside, tail_is_set, union_cons, union_nil, union_from}
 
 -- the block of one bit less around a network
 parent_network : (w : ℕ) (n : Network) → IsNetwork w n → IsNetwork w (parent w n)
@@ -30,7 +31,7 @@ skips_nothing w whole from cut = record {
 }
 
 -- a block of the cut set that ends before what is left
-pub skips_first : (w : ℕ) (whole b : Network) (from : ℕ) (cut : List Network) (next : ℕ) (bs : List Network) → Skips w whole from cut next (b ∷ bs) → high w b < next
+skips_first : (w : ℕ) (whole b : Network) (from : ℕ) (cut : List Network) (next : ℕ) (bs : List Network) → Skips w whole from cut next (b ∷ bs) → high w b < next
     → Skips w whole from cut next bs
 skips_first w whole b from cut next bs h l = record {
   forward = h.forward;
@@ -45,7 +46,7 @@ skips_first w whole b from cut next bs h l = record {
 }
 
 -- a piece that lies in a block of the cut set
-pub skips_piece : (w : ℕ) (whole piece b : Network) (from : ℕ) (cut : List Network) (next : ℕ) (bs : List Network) → IsPiece w whole piece
+skips_piece : (w : ℕ) (whole piece b : Network) (from : ℕ) (cut : List Network) (next : ℕ) (bs : List Network) → IsPiece w whole piece
     → Skips w whole from cut piece.address (b ∷ bs) → Subnet w piece b → next ≡ high w piece + 1 → Skips w whole from cut next (b ∷ bs)
 skips_piece w whole piece b from cut next bs p h sub is =
     let pos = size_pos w piece.prefix in
@@ -70,7 +71,7 @@ skips_to w whole from cut next left at h e = subst (λ (k : ℕ). Skips w whole 
 pub widest_whole : (w : ℕ) (whole piece : Network) (cut : List Network) → piece ≡ whole → IsWidest w whole piece cut
 widest_whole w whole piece cut e = inl (ap (λ n. n.prefix) e)
 
-pub widest_first : (w : ℕ) (whole piece b : Network) (bs : List Network) → high w b < piece.address → IsWidest w whole piece (b ∷ bs) → IsWidest w whole piece bs
+widest_first : (w : ℕ) (whole piece b : Network) (bs : List Network) → high w b < piece.address → IsWidest w whole piece (b ∷ bs) → IsWidest w whole piece bs
 widest_first w whole piece b bs l h =
     ⊎_elim
     (λ (e : piece.prefix ≡ whole.prefix). inl e)
@@ -127,7 +128,7 @@ half_is w whole piece half p l is =
     )
 
 -- the lower half of a piece that has an address of the cut set
-pub widest_half : (w : ℕ) (whole piece half b : Network) (bs : List Network) → IsPiece w whole piece → half.address ≡ piece.address → half.prefix ≡ piece.prefix + 1
+widest_half : (w : ℕ) (whole piece half b : Network) (bs : List Network) → IsPiece w whole piece → half.address ≡ piece.address → half.prefix ≡ piece.prefix + 1
     → IsNetwork w b → Member w piece b.address → IsWidest w whole half (b ∷ bs)
 widest_half w whole piece half b bs p at long nb inside =
     let of : ℕ → ℕ → Network = λ address prefix. record { address = address; prefix = prefix } in
@@ -251,7 +252,7 @@ module _ (w : ℕ) (whole piece ended around_it : Network) (h : EndsWith w whole
 pub free_of_none : (w : ℕ) (piece : Network) (x : ℕ) → Member w piece x → ¬ (InUnion w [] x)
 free_of_none w piece x m = union_nil w x
 
-pub free_before : (w : ℕ) (piece b : Network) (bs : List Network) → AggregateIsApart → IsAddressSet w (b ∷ bs) → high w piece < b.address
+free_before : (w : ℕ) (piece b : Network) (bs : List Network) → AggregateIsApart → IsAddressSet w (b ∷ bs) → high w piece < b.address
     → (x : ℕ) → Member w piece x → ¬ (InUnion w (b ∷ bs) x)
 free_before w piece b bs law h l x m c =
     let i = within_member w piece x m in
@@ -281,11 +282,49 @@ longer_falls w piece next at long fits =
     omega (arith, same)
 
 -- a block of the cut set that neither ends before the piece nor begins behind it: it holds the piece, or lies in it
-pub piece_in_first : (w : ℕ) (piece b : Network) → IsCidrBlock w piece → IsCidrBlock w b → (high w b < piece.address → ⊥) → (high w piece < b.address → ⊥)
+piece_in_first : (w : ℕ) (piece b : Network) → IsCidrBlock w piece → IsCidrBlock w b → (high w b < piece.address → ⊥) → (high w piece < b.address → ⊥)
     → b.prefix ≤ piece.prefix → Subnet w piece b
 piece_in_first w piece b hp hb not_before not_behind le = smaller_inside w piece b hp hb not_behind not_before le
 
-pub first_in_piece : (w : ℕ) (piece b : Network) → IsCidrBlock w piece → IsCidrBlock w b → (high w b < piece.address → ⊥) → (high w piece < b.address → ⊥)
+first_in_piece : (w : ℕ) (piece b : Network) → IsCidrBlock w piece → IsCidrBlock w b → (high w b < piece.address → ⊥) → (high w piece < b.address → ⊥)
     → piece.prefix < b.prefix → Member w piece b.address
 first_in_piece w piece b hp hb not_before not_behind lt =
     smaller_inside w b piece hb hp not_before not_behind (omega arith) b.address (own_address w b hb.network)
+
+-- ---- a piece, and the first of the cut blocks that are left
+
+module _ (w : ℕ) (whole piece b : Network) (from : ℕ) (cut left after : List Network) (apart : AggregateIsApart) (opened : left ≡ b ∷ after) (part : IsPiece w whole piece)
+    (set : IsAddressSet w left) (skips : Skips w whole from cut piece.address left) where
+  opened_set : IsAddressSet w (b ∷ after)
+  opened_set = subst (IsAddressSet w) opened set
+
+  opened_skips : Skips w whole from cut piece.address (b ∷ after)
+  opened_skips = subst (Skips w whole from cut piece.address) opened skips
+
+  block : IsCidrBlock w b
+  block = set_block w (b ∷ after) b opened_set (contains_head b after)
+
+  -- the block ends before the piece
+  pub goes_past : IsWidest w whole piece left → high w b < piece.address → IsWidest w whole piece after × IsAddressSet w after × Skips w whole from cut piece.address after
+  goes_past widest l = (
+    widest_first w whole piece b after l (subst (IsWidest w whole piece) opened widest),
+    tail_is_set w b after apart opened_set,
+    skips_first w whole b from cut piece.address after opened_skips l,
+  )
+
+  -- or begins after it
+  pub is_free : high w piece < b.address → (x : ℕ) → Member w piece x → ¬ (InUnion w left x)
+  is_free l = subst (λ (t : List Network). (x : ℕ) → Member w piece x → ¬ (InUnion w t x)) (sym opened) (free_before w piece b after apart opened_set l)
+
+  module _ (not_before : high w b < piece.address → ⊥) (not_behind : high w piece < b.address → ⊥) where
+    -- or has the piece in it
+    pub goes_behind : b.prefix ≤ piece.prefix → (next : ℕ) → next ≡ high w piece + 1 → Skips w whole from cut next left
+    goes_behind le next is =
+        subst (Skips w whole from cut next) (sym opened)
+        (skips_piece w whole piece b from cut next after part opened_skips (piece_in_first w piece b part.piece_is block not_before not_behind le) is)
+
+    -- or lies in it
+    pub goes_within : piece.prefix < b.prefix → (half : Network) → half.address ≡ piece.address → half.prefix ≡ piece.prefix + 1 → IsWidest w whole half left
+    goes_within lt half at long =
+        subst (IsWidest w whole half) (sym opened)
+        (widest_half w whole piece half b after part at long block.network (first_in_piece w piece b part.piece_is block not_before not_behind lt))

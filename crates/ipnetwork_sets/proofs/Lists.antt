@@ -1,5 +1,5 @@
 -- What a set's list of blocks tells: it has no two halves, its tail is a set, and a network reads the same mapped.
-use Rattle.std.proofs.Common.{◌≡◌, ℕ, ◌-◌, ◌<◌, ◌≤◌, inl, sym, refl, ap, ◌∙◌, arith, ⊎_elim, List, [], ◌∷◌, length, get_or, map}
+use Rattle.std.proofs.Common.{◌≡◌, ◌↔◌, ℕ, false, true≢false, IsTrue, ◌-◌, ◌<◌, ◌≤◌, inl, sym, refl, ap, ◌∙◌, arith, ⊎_elim, List, [], ◌∷◌, length, get_or, map}
 use Rattle.std.proofs.lemmas.Bool.{cases_lt}
 use Rattle.std.proofs.lemmas.List.{get_or-map}
 use Rattle.std.specs.List.{Contains}
@@ -30,6 +30,10 @@ no_items pair (x ∷ xs) e = absurd (omega arith)
 
 pub not_below : (a b : ℕ) → (a ≤ b → ⊥) → b < a
 not_below a b not = ⊎_elim (λ (l : b < a). l) (λ (le : a ≤ b). let r : b < a = absurd (not le) in r) (cases_lt b a)
+
+-- what is not so is told by false
+pub refused : {P : Type 0} → ¬ P → IsTrue false ↔ P
+refused none = ((λ t. absurd (true≢false (sym t))), (λ p. absurd (none p)))
 
 -- an aggregate is a set
 pub set_of_aggregate : (w : ℕ) (ns r : List Network) → AggregateHasUnion → IsAggregate w ns r → IsAddressSet w r

@@ -59,17 +59,6 @@ either_first w b others rest x =
           (λ (e : InEither w others rest x). ⊎_elim (λ (c : InUnion w others x). inl (split.1 (inr c))) (λ (c : InUnion w rest x). inr c) e) o),
     )
 
-either_second : (w : ℕ) (b : Network) (others rest : List Network) (x : ℕ) → InEither w others (b ∷ rest) x ↔ (Member w b x ⊎ InEither w others rest x)
-either_second w b others rest x =
-    let split = union_cons w b rest x in (
-      (λ o. ⊎_elim
-          (λ (c : InUnion w others x). inr (inl c))
-          (λ (c : InUnion w (b ∷ rest) x). ⊎_elim (λ (m : Member w b x). inl m) (λ (d : InUnion w rest x). inr (inr d)) (split.0 c)) o),
-      (λ o. ⊎_elim
-          (λ (m : Member w b x). inr (split.1 (inl m)))
-          (λ (e : InEither w others rest x). ⊎_elim (λ (c : InUnion w others x). inl c) (λ (c : InUnion w rest x). inr (split.1 (inr c))) e) o),
-    )
-
 -- the block that begins first
 pub first_is_block : (w : ℕ) (first second : List Network) (b : Network) (others rest : List Network) → IsAddressSet w first → IsAddressSet w second → IsFirst first second b others rest → IsCidrBlock w b
 first_is_block w first second b others rest hf hs is =
@@ -86,6 +75,24 @@ pub record IsGrowing (w : ℕ) (first second : List Network) (start last : ℕ) 
   pub rest_is_set : IsAddressSet w rest
   pub parts : (x : ℕ) → InEither w first second x ↔ (FromTo start last x ⊎ InEither w others rest x)
   pub from : (x : ℕ) → InEither w others rest x → start ≤ x
+
+-- so it is if the two sets change places
+growing_swaps : (w : ℕ) (first second : List Network) (start last : ℕ) (others rest : List Network) → IsGrowing w first second start last others rest
+    → IsGrowing w second first start last rest others
+growing_swaps w first second start last others rest h = record {
+  ordered = h.ordered;
+  fits = h.fits;
+  others_are_set = h.rest_is_set;
+  rest_is_set = h.others_are_set;
+  parts = λ x. (
+    (λ e. ⊎_elim (λ (f : FromTo start last x). inl f) (λ (o : InEither w others rest x). inr (swap others rest x o)) ((h.parts x).0 (swap second first x e))),
+    (λ o. swap first second x ((h.parts x).1 (⊎_elim (λ (f : FromTo start last x). inl f) (λ (e : InEither w rest others x). inr (swap rest others x e)) o))),
+  );
+  from = λ x e. h.from x (swap rest others x e);
+}
+  where
+    swap : (a c : List Network) (x : ℕ) → InEither w a c x → InEither w c a x
+    swap a c x o = ⊎_elim (λ (m : InUnion w a x). inr m) (λ (m : InUnion w c x). inl m) o
 
 one_block : (w : ℕ) (b : Network) → IsCidrBlock w b → (x : ℕ) → Member w b x ↔ FromTo (low w b) (high w b) x
 one_block w b hb x =
@@ -108,24 +115,22 @@ begin w S R b hb split x =
     )
 
 module _ (w : ℕ) (apart : AggregateIsApart) where
-  starts : (b : Network) (others rest : List Network) (S : ℕ → Type 0) → IsCidrBlock w b → IsAddressSet w others → IsAddressSet w rest
-      → ((x : ℕ) → S x ↔ (Member w b x ⊎ InEither w others rest x))
-      → ((x : ℕ) → InUnion w others x → b.address ≤ x) → ((x : ℕ) → InUnion w rest x → b.address ≤ x)
-      → (first second : List Network) → ((x : ℕ) → InEither w first second x ↔ S x) → IsGrowing w first second (low w b) (high w b) others rest
-  starts b others rest S hb ho hr split after_others after_rest first second same =
+  starts : (b : Network) (others rest : List Network) → IsAddressSet w (b ∷ others) → IsAddressSet w rest → ((c : Network) (more : List Network) → rest ≡ c ∷ more → b.address ≤ c.address)
+      → IsGrowing w (b ∷ others) rest (low w b) (high w b) others rest
+  starts b others rest set hr lowest =
+      let hb : IsCidrBlock w b = set_block w (b ∷ others) b set (contains_head b others) in
       let pos = size_pos w b.prefix in
       let block = hb.block in
       let top = high_fits w b hb.network in
       record {
         ordered = omega arith;
         fits = omega (arith, top, pos);
-        others_are_set = ho;
+        others_are_set = tail_is_set w b others apart set;
         rest_is_set = hr;
-        parts = begin w (InEither w first second) (InEither w others rest) b hb
-            (λ x. ((λ e. (split x).0 ((same x).0 e)), (λ o. (same x).1 ((split x).1 o))));
+        parts = begin w (InEither w (b ∷ others) rest) (InEither w others rest) b hb (either_first w b others rest);
         from = λ x e. ⊎_elim
-            (λ (c : InUnion w others x). let l = after_others x c in let r : low w b ≤ x = omega arith in r)
-            (λ (c : InUnion w rest x). let l = after_rest x c in let r : low w b ≤ x = omega arith in r) e;
+            (λ (c : InUnion w others x). let l = union_behind w b others apart set x c in let r : low w b ≤ x = omega arith in r)
+            (λ (c : InUnion w rest x). let l = not_before w rest b.address apart hr lowest x c in let r : low w b ≤ x = omega arith in r) e;
       }
 
   pub growing_starts : (first second : List Network) (b : Network) (others rest : List Network) → IsAddressSet w first → IsAddressSet w second → IsFirst first second b others rest
@@ -133,29 +138,10 @@ module _ (w : ℕ) (apart : AggregateIsApart) where
   growing_starts first second b others rest hf hs is =
       ⊎_elim
       (λ (p : (first ≡ b ∷ others) × (second ≡ rest)).
-      let set : IsAddressSet w (b ∷ others) = subst (IsAddressSet w) p.0 hf in
-      let hr : IsAddressSet w rest = subst (IsAddressSet w) p.1 hs in
-      let hb : IsCidrBlock w b = set_block w (b ∷ others) b set (contains_head b others) in
-      starts b others rest (InEither w (b ∷ others) rest) hb (tail_is_set w b others apart set) hr (either_first w b others rest)
-      (λ x c. let l = union_behind w b others apart set x c in let pos = size_pos w b.prefix in omega (arith, l, hb.block, pos))
-      (not_before w rest b.address apart hr (λ c more e. is.lowest c more (inr (p.1 ∙ e))))
-      first second
-      (λ x. (
-        (λ e. subst (λ (l : List Network). InEither w (b ∷ others) l x) p.1 (subst (λ (l : List Network). InEither w l second x) p.0 e)),
-        (λ e. subst (λ (l : List Network). InEither w l second x) (sym p.0) (subst (λ (l : List Network). InEither w (b ∷ others) l x) (sym p.1) e)),
-      )))
+      rw (p.0, p.1) (starts b others rest (rw p.0 at hf) (rw p.1 at hs) (λ c more e. is.lowest c more (inr (p.1 ∙ e)))))
       (λ (p : (first ≡ others) × (second ≡ b ∷ rest)).
-      let set : IsAddressSet w (b ∷ rest) = subst (IsAddressSet w) p.1 hs in
-      let ho : IsAddressSet w others = subst (IsAddressSet w) p.0 hf in
-      let hb : IsCidrBlock w b = set_block w (b ∷ rest) b set (contains_head b rest) in
-      starts b others rest (InEither w others (b ∷ rest)) hb ho (tail_is_set w b rest apart set) (either_second w b others rest)
-      (not_before w others b.address apart ho (λ c more e. is.lowest c more (inl (p.0 ∙ e))))
-      (λ x c. let l = union_behind w b rest apart set x c in let pos = size_pos w b.prefix in omega (arith, l, hb.block, pos))
-      first second
-      (λ x. (
-        (λ e. subst (λ (l : List Network). InEither w others l x) p.1 (subst (λ (l : List Network). InEither w l second x) p.0 e)),
-        (λ e. subst (λ (l : List Network). InEither w l second x) (sym p.0) (subst (λ (l : List Network). InEither w others l x) (sym p.1) e)),
-      )))
+      rw (p.0, p.1) (growing_swaps w (b ∷ rest) others (low w b) (high w b) rest others
+      (starts b rest others (rw p.1 at hs) (rw p.0 at hf) (λ c more e. is.lowest c more (inl (p.0 ∙ e))))))
       is.one
 
   module _ (first second : List Network) (start last next : ℕ) (b : Network) (others rest : List Network) (h : IsGrowing w first second start last others rest)
@@ -184,29 +170,11 @@ module _ (w : ℕ) (apart : AggregateIsApart) where
           from = λ x k. h.from x (subst (λ (l : List Network). InEither w l rest x) (sym e) ((either_first w b after rest x).1 (inr k)));
         }
 
-    pub grows_by_second : (after : List Network) → rest ≡ b ∷ after → IsGrowing w first second start next others after
-    grows_by_second after e =
-        let set : IsAddressSet w (b ∷ after) = subst (IsAddressSet w) e h.rest_is_set in
-        let hb : IsCidrBlock w b = set_block w (b ∷ after) b set (contains_head b after) in
-        let own : Member w b b.address = own_address w b hb.network in
-        let here : InEither w others rest b.address = inr (subst (λ (l : List Network). InUnion w l b.address) (sym e) ((union_cons w b after b.address).1 (inl own))) in
-        let top = high_fits w b hb.network in
-        let pos = size_pos w b.prefix in
-        let begins = h.ordered in
-        let fits = h.fits in
-        let up = later.first in record {
-          ordered = omega arith;
-          fits = ⊎_elim (λ (is : next ≡ last). let r : next < 2 ^ w = omega arith in r) (λ (is : next ≡ high w b). let r : next < 2 ^ w = omega (arith, top, pos) in r) later.one;
-          others_are_set = h.others_are_set;
-          rest_is_set = tail_is_set w b after apart set;
-          parts = run_grows w (InEither w first second) (InEither w others rest) (InEither w others after) start last next b hb
-              (λ x. (
-                (λ k. (either_second w b others after x).0 (subst (λ (l : List Network). InEither w others l x) e k)),
-                (λ k. subst (λ (l : List Network). InEither w others l x) (sym e) ((either_second w b others after x).1 k)),
-              ))
-              (h.from b.address here) near later h.parts;
-          from = λ x k. h.from x (subst (λ (l : List Network). InEither w others l x) (sym e) ((either_second w b others after x).1 (inr k)));
-        }
+  pub grows_by_second : (first second : List Network) (start last next : ℕ) (b : Network) (others rest : List Network) → IsGrowing w first second start last others rest
+      → b.address ≤ last + 1 → IsLater last (high w b) next → (after : List Network) → rest ≡ b ∷ after → IsGrowing w first second start next others after
+  grows_by_second first second start last next b others rest h near later after e =
+      growing_swaps w second first start next after others
+      (grows_by_first second first start last next b rest others (growing_swaps w first second start last others rest h) near later after e)
 
   behind_end : (last : ℕ) (list : List Network) → IsAddressSet w list → EndsAt w last list → (x : ℕ) → InUnion w list x → last + 1 < x
   behind_end last [] h e x c = absurd (union_nil w x c)
@@ -336,6 +304,12 @@ range_of w a start last next e h = subst (λ (k : ℕ). MatchOption next (last <
 
 -- ---- the block that begins first
 
+first_swaps : (first second : List Network) (b : Network) (others rest : List Network) → IsFirst first second b others rest → IsFirst second first b rest others
+first_swaps first second b others rest is = record {
+  one = ⊎_elim (λ (p : (first ≡ b ∷ others) × (second ≡ rest)). inr (p.1, p.0)) (λ (p : (first ≡ others) × (second ≡ b ∷ rest)). inl (p.1, p.0)) is.one;
+  lowest = λ c more k. is.lowest c more (⊎_elim (λ (e : second ≡ c ∷ more). inr e) (λ (e : first ≡ c ∷ more). inl e) k);
+}
+
 -- of two lists, by their first blocks
 pub first_begins : (first second others rest : List Network) (a b : Network) → first ≡ a ∷ others → second ≡ b ∷ rest → a.address ≤ b.address → IsFirst first second a others second
 first_begins first second others rest a b e f h = record {
@@ -347,13 +321,7 @@ first_begins first second others rest a b e f h = record {
 }
 
 pub second_begins : (first second others rest : List Network) (a b : Network) → first ≡ a ∷ others → second ≡ b ∷ rest → b.address ≤ a.address → IsFirst first second b first rest
-second_begins first second others rest a b e f h = record {
-  one = inr (refl, f);
-  lowest = λ c more k. ⊎_elim
-      (λ (p : first ≡ c ∷ more). let is : a ≡ c = cc in omega (arith, ap (λ (n : Network). n.address) is))
-      (λ (p : second ≡ c ∷ more). let is : b ≡ c = cc in omega (arith, ap (λ (n : Network). n.address) is))
-      k;
-}
+second_begins first second others rest a b e f h = first_swaps second first b rest first (first_begins second first rest others b a f e h)
 
 -- of a list and none
 pub first_alone : (first second others : List Network) (a : Network) → first ≡ a ∷ others → second ≡ [] → IsFirst first second a others second
@@ -366,10 +334,4 @@ first_alone first second others a e f = record {
 }
 
 pub second_alone : (first second rest : List Network) (b : Network) → first ≡ [] → second ≡ b ∷ rest → IsFirst first second b first rest
-second_alone first second rest b e f = record {
-  one = inr (refl, f);
-  lowest = λ c more k. ⊎_elim
-      (λ (p : first ≡ c ∷ more). absurd (cc))
-      (λ (p : second ≡ c ∷ more). let is : b ≡ c = cc in omega (arith, ap (λ (n : Network). n.address) is))
-      k;
-}
+second_alone first second rest b e f = first_swaps second first b rest first (first_alone second first rest b f e)

@@ -9,8 +9,14 @@ use crate::union::Union;
 use ipnetwork_blocks::AddressSpace;
 use std::alloc::AllocError;
 
-// The set of the blocks that are still to come, with its list in `memory`.
-fn collected<N: AddressSpace, B: SetBlocks<N>>(
+/// The set of the blocks that are still to come. The list is put into `memory`, whose content is dropped first.
+/// `AllocError` means that it had to grow and memory ran out.
+///
+/// ```
+/// let set = AddressSet::from_networks(vec![in rt.alloc(); "192.0.2.0/25".parse::<Ipv4Network>()?]?);
+/// assert!(rt; collected(set.iter(), Vec::new(rt.alloc()))? == set);
+/// ```
+pub fn collected<N: AddressSpace, B: SetBlocks<N>>(
     mut blocks: B,
     mut memory: Vec<N>,
 ) -> Result<AddressSet<N>, AllocError>

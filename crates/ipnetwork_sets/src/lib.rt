@@ -35,6 +35,7 @@ pub use address_set::AddressSet;
 pub use address_slice::AddressSlice;
 pub use blocks::{Blocks, SetBlocks};
 pub use check::is_address_set;
+pub use collecting::collected;
 pub use common::Intersection;
 pub use difference::Difference;
 pub use from_ranges::push_range;

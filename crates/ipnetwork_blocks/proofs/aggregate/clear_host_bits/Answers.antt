@@ -25,22 +25,13 @@ loop-value-preserved g c =
           (clearing_more (g.H.HoldsNetwork.held c.value-item.result) v c.loop-value.invariant.1 (omega arith) (omega arith) is one is_block),
     )
 
-pub returns-clause-blocks : goal.returns-clause-blocks
-returns-clause-blocks g c =
-    let size_x = length-map c.args.values.now g.H.HoldsNetwork.held in
-    let size_y = length-map c.loop-value.values g.H.HoldsNetwork.held in
-    (cleared g.N.CidrNetwork.WIDTH (map g.H.HoldsNetwork.held c.args.values.now) (map g.H.HoldsNetwork.held c.loop-value.values)
-    c.loop-value.value-index c.loop-value.invariant.1 (omega arith) (omega arith)).1
-
 pub loop-value-init : goal.loop-value-init
 loop-value-init g c = (c.requires, clearing_starts g.N.CidrNetwork.WIDTH (map g.H.HoldsNetwork.held c.args.values.now))
 
-pub returns-clause-cleared : goal.returns-clause-cleared
-returns-clause-cleared g c =
+pub returns : goal.returns
+returns g c =
     let size_x = length-map c.args.values.now g.H.HoldsNetwork.held in
     let size_y = length-map c.loop-value.values g.H.HoldsNetwork.held in
-    (cleared g.N.CidrNetwork.WIDTH (map g.H.HoldsNetwork.held c.args.values.now) (map g.H.HoldsNetwork.held c.loop-value.values)
-    c.loop-value.value-index c.loop-value.invariant.1 (omega arith) (omega arith)).0
-
-pub returns-clause-held : goal.returns-clause-held
-returns-clause-held g c = c.loop-value.invariant.0
+    let done = cleared g.N.CidrNetwork.WIDTH (map g.H.HoldsNetwork.held c.args.values.now) (map g.H.HoldsNetwork.held c.loop-value.values)
+    c.loop-value.value-index c.loop-value.invariant.1 (omega arith) (omega arith) in
+    record { cleared = done.0; blocks = done.1; held = c.loop-value.invariant.0 }

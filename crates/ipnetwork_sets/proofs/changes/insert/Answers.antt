@@ -1,10 +1,11 @@
-use Rattle.std.proofs.Common.{ℕ, List, [], ◌∷◌, map, sym, refl, subst, true≢false, arith}
+use Rattle.std.proofs.Common.{ℕ, List, [], ◌∷◌, map, sym, refl, subst, arith}
 use Rattle.std.proofs.lemmas.List.{length-map}
 use Rattle.ipnetwork_family.specs.Network.{Network}
 use Rattle.ipnetwork_blocks.specs.LeastList.{IsLeastList}
 use Rattle.ipnetwork_sets.specs.Sets.{InEither}
 use Rattle.ipnetwork_sets.proofs.Changed.{nothing_added, added_is_set, grew_by_one}
 use Rattle.ipnetwork_sets.proofs.CollectedBlocks.{failed}
+use Rattle.ipnetwork_sets.proofs.Lists.{refused}
 use Rattle.ipnetwork_sets.proofs.RoomMade.{one_written}
 use Rattle.ipnetwork_sets.proofs.changes.insert.Goals as goal
 
@@ -16,7 +17,7 @@ returns-in_default-clause-set g c =
 pub returns-in_default-clause-added : goal.returns-in_default-clause-added
 returns-in_default-clause-added g c =
     let lies = rw c.as_slice.ensures.value at c.in_default.ensures in
-    ((λ t. absurd (true≢false (sym t))), (λ other. absurd (other lies)))
+    refused (λ other. other lies)
 
 pub returns-in_err-make_room-clause-room : goal.returns-in_err-make_room-clause-room
 returns-in_err-make_room-clause-room g c = λ list h.

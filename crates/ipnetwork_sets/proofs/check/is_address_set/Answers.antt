@@ -1,9 +1,10 @@
-use Rattle.std.proofs.Common.{◌≡◌, ◌-◌, ℕ, List, map, sym, refl, subst, ◌∙◌, true≢false, arith}
+use Rattle.std.proofs.Common.{◌≡◌, ◌-◌, ℕ, List, map, sym, refl, subst, ◌∙◌, arith}
 use Rattle.std.proofs.lemmas.Bool.{iff_false}
 use Rattle.std.proofs.lemmas.List.{length-map, get_or_default}
 use Rattle.ipnetwork_family.specs.Network.{Network}
 use Rattle.ipnetwork_blocks.specs.Private.Joining.{Follows}
 use Rattle.ipnetwork_sets.proofs.Checked.{check_goes_on, checked, set_has_block, set_follows}
+use Rattle.ipnetwork_sets.proofs.Lists.{refused}
 use Rattle.ipnetwork_blocks.proofs.AggregateMapped.{read_held}
 use Rattle.ipnetwork_sets.proofs.check.is_address_set.Goals as goal
 use Rattle.ipnetwork_sets.proofs.check.is_address_set.Goals.{else-next-gt0-via-then-next-gt0+else-not-follows, else-next-gt0-via-else-next-gt0}
@@ -15,11 +16,8 @@ returns-then-not-has_no_host_bits g c =
     let size = length-map c.args.list.now g.H.HoldsNetwork.held in
     let i : ℕ = c.loop-next.next in
     let b : Network = g.N.CidrNetwork.pair c.held_network-block.result in
-    let is = read_held g.H.HoldsNetwork.held c.args.list.now i c.index-list-next.result b (omega arith) c.index-list-next.is c.held_network-block.ensures in (
-      (λ t. absurd (true≢false (sym t))),
-      (λ h. absurd (iff_false c.has_no_host_bits.ensures.told c.if-not-has_no_host_bits.true
-          (set_has_block w ns i b c.one_block.ensures.apart h (omega arith) is))),
-    )
+    let is = read_held g.H.HoldsNetwork.held c.args.list.now i c.index-list-next.result b (omega arith) c.index-list-next.is c.held_network-block.ensures in
+    refused (λ h. iff_false c.has_no_host_bits.ensures.told c.if-not-has_no_host_bits.true (set_has_block w ns i b c.one_block.ensures.apart h (omega arith) is))
 
 pub overflow_sub-next : goal.overflow_sub-next
 overflow_sub-next g c = omega arith
@@ -47,11 +45,8 @@ returns-then-not-follows g c =
     let b : Network = g.N.CidrNetwork.pair c.held_network-block.result in
     let a : Network = g.N.CidrNetwork.pair c.held_network.result in
     let is = read_held g.H.HoldsNetwork.held c.args.list.now i c.index-list-next.result b (omega arith) c.index-list-next.is c.held_network-block.ensures in
-    let at = read_held g.H.HoldsNetwork.held c.args.list.now (i - 1) c.index-list-next-then-next-gt0.result a (omega arith) c.index-list-next-then-next-gt0.is c.held_network.ensures in (
-      (λ t. absurd (true≢false (sym t))),
-      (λ h. absurd (iff_false c.follows.ensures c.if-not-follows.true
-          (set_follows w ns i a b c.one_block.ensures.apart h (omega arith) (omega arith) at is))),
-    )
+    let at = read_held g.H.HoldsNetwork.held c.args.list.now (i - 1) c.index-list-next-then-next-gt0.result a (omega arith) c.index-list-next-then-next-gt0.is c.held_network.ensures in
+    refused (λ h. iff_false c.follows.ensures c.if-not-follows.true (set_follows w ns i a b c.one_block.ensures.apart h (omega arith) (omega arith) at is))
 
 pub loop-next-preserved : goal.loop-next-preserved
 loop-next-preserved g c =

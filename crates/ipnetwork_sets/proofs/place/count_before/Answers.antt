@@ -1,43 +1,30 @@
-use Rattle.std.proofs.Common.{◌-◌, ℕ, List, map, subst, arith}
+use Rattle.std.proofs.Common.{◌-◌, ℕ, map, arith}
 use Rattle.std.proofs.lemmas.Bool.{iff_false}
 use Rattle.std.proofs.lemmas.List.{length-map}
-use Rattle.ipnetwork_family.specs.Network.{Network}
-use Rattle.ipnetwork_sets.specs.Private.Search.{IsSplit}
 use Rattle.ipnetwork_sets.proofs.Lists.{read_pair}
 use Rattle.ipnetwork_sets.proofs.Placed.{before_none, before_last, before_all}
 use Rattle.ipnetwork_sets.proofs.place.count_before.Goals as goal
 
 pub returns-then-begun-eq0 : goal.returns-then-begun-eq0
-returns-then-begun-eq0 g c =
-    let w : ℕ = g.N.CidrNetwork.WIDTH in
-    let bs : List Network = map g.N.CidrNetwork.pair c.args.blocks.now in
-    let begun : ℕ = c.count_up_to-begun.result in
-    let split = subst (λ (x : ℕ). IsSplit bs x begun begun) c.network.ensures c.count_up_to-begun.ensures in
-    before_none w bs (g.N.CidrNetwork.pair c.args.network) c.one_block.ensures.apart c.requires c.ip.ensures.network begun split (omega arith)
+returns-then-begun-eq0 g c = before_none g.N.CidrNetwork.WIDTH (map g.N.CidrNetwork.pair c.args.blocks.now) (g.N.CidrNetwork.pair c.args.network) c.one_block.ensures.apart c.requires c.ip.ensures.network _ (rw c.network.ensures at c.count_up_to-begun.ensures) (omega arith)
 
 pub bounds-blocks-begun : goal.bounds-blocks-begun
 bounds-blocks-begun g c = omega (arith, length-map c.args.blocks.now g.N.CidrNetwork.pair, c.count_up_to-begun.ensures.within)
 
 pub returns-then-overlaps : goal.returns-then-overlaps
 returns-then-overlaps g c =
-    let w : ℕ = g.N.CidrNetwork.WIDTH in
-    let bs : List Network = map g.N.CidrNetwork.pair c.args.blocks.now in
     let begun : ℕ = c.count_up_to-begun.result in
-    let split = subst (λ (x : ℕ). IsSplit bs x begun begun) c.network.ensures c.count_up_to-begun.ensures in
-    let size = length-map c.args.blocks.now g.N.CidrNetwork.pair in
-    let within = c.count_up_to-begun.ensures.within in
-    let b : Network = g.N.CidrNetwork.pair c.index-blocks-begun.result in
-    let is = read_pair g.N.CidrNetwork.pair c.args.blocks.now (begun - 1) c.index-blocks-begun.result (omega (arith, size, within)) c.index-blocks-begun.is in
-    before_last w bs (g.N.CidrNetwork.pair c.args.network) c.one_block.ensures.apart c.requires c.ip.ensures.network begun b split (omega arith) is (c.overlaps.ensures.0 c.if-overlaps.true)
+    let split = rw c.network.ensures at c.count_up_to-begun.ensures in
+    let is = read_pair g.N.CidrNetwork.pair c.args.blocks.now (begun - 1) c.index-blocks-begun.result
+    (omega (arith, length-map c.args.blocks.now g.N.CidrNetwork.pair, c.count_up_to-begun.ensures.within)) c.index-blocks-begun.is in
+    before_last g.N.CidrNetwork.WIDTH (map g.N.CidrNetwork.pair c.args.blocks.now) (g.N.CidrNetwork.pair c.args.network) c.one_block.ensures.apart c.requires c.ip.ensures.network
+    begun _ split (omega arith) is (c.overlaps.ensures.0 c.if-overlaps.true)
 
 pub returns : goal.returns
 returns g c =
-    let w : ℕ = g.N.CidrNetwork.WIDTH in
-    let bs : List Network = map g.N.CidrNetwork.pair c.args.blocks.now in
     let begun : ℕ = c.count_up_to-begun.result in
-    let split = subst (λ (x : ℕ). IsSplit bs x begun begun) c.network.ensures c.count_up_to-begun.ensures in
-    let size = length-map c.args.blocks.now g.N.CidrNetwork.pair in
-    let within = c.count_up_to-begun.ensures.within in
-    let b : Network = g.N.CidrNetwork.pair c.index-blocks-begun.result in
-    let is = read_pair g.N.CidrNetwork.pair c.args.blocks.now (begun - 1) c.index-blocks-begun.result (omega (arith, size, within)) c.index-blocks-begun.is in
-    before_all w bs (g.N.CidrNetwork.pair c.args.network) c.one_block.ensures.apart c.requires c.ip.ensures.network begun b split (omega arith) is (iff_false c.overlaps.ensures c.if-overlaps.false)
+    let split = rw c.network.ensures at c.count_up_to-begun.ensures in
+    let is = read_pair g.N.CidrNetwork.pair c.args.blocks.now (begun - 1) c.index-blocks-begun.result
+    (omega (arith, length-map c.args.blocks.now g.N.CidrNetwork.pair, c.count_up_to-begun.ensures.within)) c.index-blocks-begun.is in
+    before_all g.N.CidrNetwork.WIDTH (map g.N.CidrNetwork.pair c.args.blocks.now) (g.N.CidrNetwork.pair c.args.network) c.one_block.ensures.apart c.requires c.ip.ensures.network
+    begun _ split (omega arith) is (iff_false c.overlaps.ensures c.if-overlaps.false)

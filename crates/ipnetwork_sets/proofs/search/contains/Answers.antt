@@ -1,4 +1,5 @@
-use Rattle.std.proofs.Common.{ℕ, map, sym, true≢false, arith}
+use Rattle.std.proofs.Common.{ℕ, map, arith}
+use Rattle.ipnetwork_sets.proofs.Lists.{refused}
 use Rattle.ipnetwork_sets.proofs.Searched.{holds_by_last, none_holds}
 use Rattle.ipnetwork_sets.proofs.search.contains.Goals as goal
 
@@ -10,8 +11,5 @@ returns-in-Some g c =
 
 pub returns-in-None : goal.returns-in-None
 returns-in-None g c =
-    let x : ℕ = g.N.CidrNetwork.number c.args.addr in (
-      (λ t. absurd (true≢false (sym t))),
-      (λ u. absurd (none_holds g.N.CidrNetwork.WIDTH (map g.N.CidrNetwork.pair c.args.blocks.now) c.one_block.ensures.one c.requires x x
-          c.in-None.ensures (omega arith) u)),
-    )
+    let x : ℕ = g.N.CidrNetwork.number c.args.addr in
+    refused (none_holds g.N.CidrNetwork.WIDTH (map g.N.CidrNetwork.pair c.args.blocks.now) c.one_block.ensures.one c.requires x x c.in-None.ensures (omega arith))
